@@ -1,0 +1,66 @@
+-- The counts of the men on the first squares, which grow by one man's own attacks at a time.
+use Rattle.std.proofs.Common.{◌≡◌, ℕ, suc, ◌+◌, ◌<◌, ◌≤◌, ◌&&◌, Some, None, refl, sym, ap, ◌∙◌, arith, add-one}
+use Rattle.chess_types.specs.declared.man.Colour.{Colour}
+use Rattle.chess_types.specs.declared.man.Man.{Man}
+use Rattle.chess_types.specs.Board.{Board, Look, man_at}
+use Rattle.chess_types.specs.Men.{same_colour}
+use Rattle.chess_types.specs.Attack.{attacks_as, attacks_for}
+use Rattle.chess_attack.specs.declared.change.Change.TheVariants.{Raise}
+use Rattle.chess_attack.specs.KeptCounts.{KeptCounts, AreZero, AreCounts, count_in}
+use Rattle.chess_attack.specs.Marks.{Moves, HasRoomFor, own}
+use Rattle.chess_attack.proofs.Counting.{bit_small, total, total-none, total-more, total-small, weight, count_is_total}
+
+-- how many men on the first squares attack s
+abbrev pub count_below : Look → ℕ → Colour → ℕ → ℕ
+count_below look n c s = total (weight look c s) 0 n
+
+-- each count is that of the men on the first squares
+pub record AreCountsBelow (kept : KeptCounts) (look : Look) (n : ℕ) : Type 0 where
+  pub each : (c : Colour) (s : ℕ) → s < 64 → count_in kept c s ≡ count_below look n c s
+
+pub below_start : (kept : KeptCounts) (look : Look) → AreZero kept → AreCountsBelow kept look 0
+below_start kept look zero' = record { each = λ c s hs. omega (arith, zero' c s hs, total-none (weight look c s) 0) }
+
+weight_small : (look : Look) (c : Colour) (s a : ℕ) → weight look c s a ≤ 1
+weight_small look c s a = bit_small (attacks_for (look a) c look a s)
+
+-- there is room for one man's attacks more
+pub below_room :
+    (kept : KeptCounts) (look : Look) (n : ℕ) (man : Man) → n < 64 → AreCountsBelow kept look n → HasRoomFor Raise kept (own man look n)
+below_room kept look n man lt below c s hs =
+    omega (
+      arith,
+      below.each c s hs,
+      total-small (weight look c s) 0 n (weight_small look c s),
+      bit_small (same_colour man.colour c && attacks_as man look n s),
+    )
+
+count_below-more : (look : Look) (n : ℕ) (c : Colour) (s : ℕ) → count_below look (n + 1) c s ≡ count_below look n c s + weight look c s n
+count_below-more look n c s =
+    let more : total (weight look c s) 0 (suc n) ≡ total (weight look c s) 0 n + weight look c s (0 + n) = total-more (weight look c s) 0 n in
+    let next : n + 1 ≡ suc n = add-one n in
+    let here : weight look c s (0 + n) ≡ weight look c s n = ap (weight look c s) (omega arith) in
+    ap (total (weight look c s) 0) next ∙ more ∙ ap (λ x. total (weight look c s) 0 n + x) here
+
+-- one square more, with a man
+pub below_man :
+    (old new : KeptCounts) (look : Look) (n : ℕ) (man : Man) → AreCountsBelow old look n → look n ≡ Some man →
+    Moves Raise old new (own man look n) → AreCountsBelow new look (n + 1)
+below_man old new look n man below here more = record {
+  each = λ c s hs.
+      let e : weight look c s n ≡ own man look n c s = rw here refl in
+      omega (arith, below.each c s hs, more c s hs, count_below-more look n c s);
+}
+
+-- one square more, empty
+pub below_none :
+    (kept : KeptCounts) (look : Look) (n : ℕ) → AreCountsBelow kept look n → look n ≡ None → AreCountsBelow kept look (n + 1)
+below_none kept look n below here = record {
+  each = λ c s hs.
+      let e : weight look c s n ≡ 0 = rw here refl in
+      omega (arith, below.each c s hs, count_below-more look n c s);
+}
+
+-- after the whole board
+pub below_all : (kept : KeptCounts) (board : Board) → AreCountsBelow kept (man_at board) 64 → AreCounts kept board
+below_all kept board below = record { each = λ c s hs. below.each c s hs ∙ sym (count_is_total (man_at board) c s) }

@@ -1,0 +1,94 @@
+-- The first man on one half decides what is opened or closed on the other.
+use Rattle.std.proofs.Common.{◌≡◌, ℕ, true, false, ◌&&◌, Some, None, is_some, refl, sym, ap, ◌∙◌, inl, inr}
+use Rattle.std.proofs.Math.Bool.{and-true, and-false}
+use Rattle.std.proofs.lemmas.Bool.{and_from, cases_Bool, cases_eq, true≢false}
+use Rattle.chess_types.specs.declared.axis.Axis.{Axis}
+use Rattle.chess_types.specs.declared.man.Colour.{Colour}
+use Rattle.chess_types.specs.declared.man.Man.{Man}
+use Rattle.chess_types.specs.Board.{Look}
+use Rattle.chess_types.specs.Men.{same_colour}
+use Rattle.chess_types.specs.Squares.{line_of}
+use Rattle.chess_types.specs.Attack.{slides}
+use Rattle.chess_attack.specs.declared.way.Way.{Way}
+use Rattle.chess_attack.specs.Halves.{opposite}
+use Rattle.chess_attack.specs.Marks.{swept}
+use Rattle.chess_attack.specs.Through.{IsFirstAt, IsBare, is_seen, cut_on}
+use Rattle.chess_attack.proofs.Axes.{between_from, Towards, half_parts}
+use Rattle.chess_attack.proofs.Clear.{clear_at}
+use Rattle.chess_attack.proofs.Cuts.{IsSeen, seen_from, seen_parts}
+use Rattle.chess_attack.proofs.Runs.{same_test}
+use Rattle.chess_attack.proofs.Through.{order_nearer}
+
+some_not_none : (look : Look) (f : ℕ) → is_some (look f) ≡ true → look f ≡ None → ⊥
+some_not_none look f h e = true≢false (sym h ∙ ap is_some e)
+
+-- there is one first man
+first_once :
+    (look : Look) (axis : Axis) (way : Way) (at f g : ℕ) → IsFirstAt look axis way at f → IsFirstAt look axis way at g → f ≡ g
+first_once look axis way at f g hf hg =
+    let pf : (line_of axis at ≡ line_of axis f) × Towards way at f = half_parts axis way at f hf.half in
+    let pg : (line_of axis at ≡ line_of axis g) × Towards way at g = half_parts axis way at g hg.half in
+    elim (cases_eq f g) [
+      | inl same ↦ same
+      | inr other ↦ absurd (
+          elim (order_nearer way at f g pf.1 pg.1 other) [
+            | inl near ↦ some_not_none look f hf.holds (clear_at look at g f hg.clear hf.on_board
+                (between_from axis at g f (record { from_a = pf.0; from_b = sym pg.0 ∙ pf.0; order = near })))
+            | inr far ↦ some_not_none look g hg.holds (clear_at look at f g hf.clear hg.on_board
+                (between_from axis at f g (record { from_a = pg.0; from_b = sym pf.0 ∙ pg.0; order = far })))
+          ])
+    ]
+
+-- so what is seen is decided by it
+pub seen_is :
+    (look : Look) (axis : Axis) (way : Way) (at f : ℕ) (m : Man) (c : Colour) → IsFirstAt look axis way at f → look f ≡ Some m →
+    is_seen look axis way at c ≡ (same_colour m.colour c && slides m.kind axis)
+seen_is look axis way at f m c first holds = same_test _ _
+    (λ h.
+    let (g, n, seen) : (g : ℕ) × (n : Man) × IsSeen look axis way at c g n = seen_parts look axis way at c h in
+    let other : IsFirstAt look axis way at g = record {
+      on_board = seen.first.on_board;
+      half = seen.first.half;
+      clear = seen.first.clear;
+      holds = rw seen.first.holds refl;
+    } in
+    let same : f ≡ g = first_once look axis way at f g first other in
+    let man : Some m ≡ Some n = sym holds ∙ ap look same ∙ seen.first.holds in
+    let e : m ≡ n = cc in
+    rw e (and_from _ _ seen.mine seen.moves))
+    (λ h. seen_from look axis way at c f first.on_board (and_from _ _ first.half first.clear) (rw holds h))
+
+-- and on a bare half nothing is seen
+pub seen_bare :
+    (look : Look) (axis : Axis) (way : Way) (at : ℕ) (c : Colour) → IsBare look axis way at → is_seen look axis way at c ≡ false
+seen_bare look axis way at c b =
+    elim (cases_Bool (is_seen look axis way at c)) [
+      | inl h ↦
+          let (g, n, seen) : (g : ℕ) × (n : Man) × IsSeen look axis way at c g n = seen_parts look axis way at c h in
+          let e : look g ≡ None = b.bare g seen.first.on_board seen.first.half in
+          let h' : look g ≡ Some n = seen.first.holds in cc
+      | inr h ↦ h
+    ]
+
+-- the attack that goes through `at` is what he sweeps from there, if he moves along the axis
+pub relit :
+    (look : Look) (axis : Axis) (way : Way) (at f : ℕ) (m : Man) → IsFirstAt look axis (opposite way) at f → look f ≡ Some m →
+    slides m.kind axis ≡ true → (c : Colour) (s : ℕ) → swept m.colour look axis way at c s ≡ cut_on look axis way at c s
+relit look axis way at f m first holds moves c s =
+    let e : is_seen look axis (opposite way) at c ≡ (same_colour m.colour c && slides m.kind axis) =
+    seen_is look axis (opposite way) at f m c first holds in
+    rw (e, moves, and-true) refl
+
+-- and else there is none
+pub unlit :
+    (look : Look) (axis : Axis) (way : Way) (at f : ℕ) (m : Man) → IsFirstAt look axis (opposite way) at f → look f ≡ Some m →
+    slides m.kind axis ≡ false → (c : Colour) (s : ℕ) → cut_on look axis way at c s ≡ 0
+unlit look axis way at f m first holds still c s =
+    let e : is_seen look axis (opposite way) at c ≡ (same_colour m.colour c && slides m.kind axis) =
+    seen_is look axis (opposite way) at f m c first holds in
+    rw (e, still, and-false) refl
+
+-- nor is there one from a bare half
+pub unlit_bare :
+    (look : Look) (axis : Axis) (way : Way) (at : ℕ) → IsBare look axis (opposite way) at → (c : Colour) (s : ℕ) → cut_on look axis way at c s ≡ 0
+unlit_bare look axis way at b c s = rw (seen_bare look axis (opposite way) at c b) refl

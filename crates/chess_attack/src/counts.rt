@@ -1,0 +1,111 @@
+ghost use Rattle.std.specs.Prelude.{◌≡◌, ◌+◌, ◌*◌, ◌<◌, ◌≤◌, None, IsSome};
+ghost use Rattle.std.specs.FinMap as map;
+ghost use Rattle.chess_types.specs.Board.{man_at};
+ghost use Rattle.chess_types.specs.Men.{men_of};
+ghost use Rattle.chess_attack.specs.KeptCounts.{AreCounts, changed_of};
+
+use crate::change::Change;
+use crate::follow::{clear_in, put_in};
+use crate::follower::Follower;
+use crate::mark::mark;
+use crate::tally::Tally;
+use chess_types::{Colour, Man, Placement, Square};
+use std::marker::Model;
+
+/// How many men of each colour attack each square (FIDE Laws 3.1 to 3.9), and the ticks: how many changes of one were
+/// made to the counts. Contracts read the counts by `count_in`.
+#[derive(Drop)]
+pub struct Counts {
+    tally: Tally,
+}
+
+impl Model for Counts {
+    ghost use Rattle.chess_attack.specs.KeptCounts.{KeptCounts};
+
+    ghost Value = { KeptCounts };
+
+    ghost view = { λ c. c.tally };
+}
+
+impl Counts {
+    ghost use Rattle.chess_types.specs.Board.{Board};
+    ghost use Rattle.chess_attack.specs.KeptCounts.{count_in, AreZero};
+
+    /// Every count 0, as on the empty board, and no tick.
+    pub fn empty() -> Counts
+        ensures zero { AreZero result }
+        ensures agrees { AreCounts result map.empty }
+        ensures ticks { result.ticks ≡ 0 }
+    {
+        Counts {
+            tally: Tally::zero(),
+        }
+    }
+
+    /// The attack counts of the placement, by changes of one from those of the empty board: the ticks show them.
+    pub fn of(placement: &Placement) -> Counts
+        ensures agrees { AreCounts result placement.now }
+        ensures at_most { result.ticks ≤ 64 * 27 }
+        ensures at_least { changed_of (man_at map.empty) (man_at placement.now) ≤ result.ticks }
+    {
+        let mut tally = Tally::zero();
+        for number in 0..64u8 {
+            let square = Square::from_index(number);
+            if let Some(man) = placement.get(square) {
+                mark(&mut tally, placement, man, square, Change::Raise);
+            }
+        }
+        Counts { tally }
+    }
+
+    /// How many men of the colour attack the square.
+    pub fn count(&self, colour: Colour, square: Square) -> u8
+        ensures { result ≡ count_in self.now colour square }
+    {
+        self.tally.at(colour, square)
+    }
+
+    /// Counts the ticks from 0 again. The counts stay.
+    pub fn begin(&mut self)
+        ensures value { self.new ≡ record self.old { ticks = 0 } }
+        ensures agrees { (board : Board) → AreCounts self.old board → AreCounts self.new board }
+    {
+        self.tally.begin();
+    }
+
+    /// How many changes of one were made to the counts since the beginning, up to `u32::MAX`.
+    pub fn ticks(&self) -> u32
+        ensures { result ≡ self.now.ticks }
+    {
+        self.tally.ticks()
+    }
+}
+
+impl Follower for Counts {
+    ghost agrees = { λ counts board. AreCounts counts board };
+
+    /// Counts the man's attacks, and closes those that went through the square. At most 54 ticks and, while they have not
+    /// reached `u32::MAX`, at least as many as the counts change by.
+    fn put(&mut self, before: &Placement, at: Square, man: Man)
+        requires empty { map.get before.now at ≡ None }
+        requires room { men_of before.now man.colour < 16 }
+        requires agrees { AreCounts self.old before.now }
+        ensures agrees { AreCounts self.new (map.insert before.now at man) }
+        ensures at_most { self.new.ticks ≤ self.old.ticks + 54 }
+        ensures at_least { self.new.ticks < u32.MAX → self.old.ticks + changed_of (man_at before.now) (man_at (map.insert before.now at man)) ≤ self.new.ticks }
+    {
+        put_in(&mut self.tally, before, at, man);
+    }
+
+    /// Takes the man's attacks away, and opens those that go through the square. At most 54 ticks and, while they have not
+    /// reached `u32::MAX`, at least as many as the counts change by.
+    fn clear(&mut self, before: &Placement, at: Square)
+        requires occupied { IsSome (map.get before.now at) }
+        requires agrees { AreCounts self.old before.now }
+        ensures agrees { AreCounts self.new (map.remove before.now at) }
+        ensures at_most { self.new.ticks ≤ self.old.ticks + 54 }
+        ensures at_least { self.new.ticks < u32.MAX → self.old.ticks + changed_of (man_at before.now) (man_at (map.remove before.now at)) ≤ self.new.ticks }
+    {
+        clear_in(&mut self.tally, before, at);
+    }
+}

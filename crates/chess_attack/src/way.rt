@@ -1,0 +1,8 @@
+/// Along an axis, to one side or the other.
+#[derive(Clone, Copy, Debug, PartialEq, Eq)]
+pub enum Way {
+    /// To the squares of greater number.
+    Up,
+    /// To the squares of smaller number.
+    Down,
+}
