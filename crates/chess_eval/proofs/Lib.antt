@@ -1,0 +1,4 @@
+pub mod Sums
+pub mod SmallWorths
+pub mod Evaluations
+pub mod Armies

@@ -1,0 +1,3 @@
+-- What men are worth, and the evaluation of a board.
+pub mod Worth
+pub mod Evaluation
