@@ -1,0 +1,2 @@
+-- Keys of boards.
+pub mod Keys
