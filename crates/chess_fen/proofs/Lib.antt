@@ -1,0 +1,4 @@
+pub mod CountLemmas
+pub mod RankLemmas
+pub mod BoardLemmas
+pub mod SetupLemmas

@@ -1,0 +1,130 @@
+-- What is read without a fault makes a setup of a position.
+use Rattle.std.proofs.Common.{◌≡◌, ℕ, zero, suc, ◌+◌, ◌<◌, ◌≤◌, ◌==◌, nat_le, Bool, true, false, not, ◌&&◌, ◌||◌, List, Option, Some, None, Ok, refl, sym, ap, subst, ◌∙◌, inl, inr, arith}
+use Rattle.std.specs.Prelude.{ok_or}
+use Rattle.std.specs.List.{range_with_len, list_any}
+use Rattle.std.proofs.lemmas.Grind.{common_steps}
+use Rattle.std.proofs.lemmas.Bool.{and_parts, cases_eq, true≢false, eqb-true, leb-true}
+use Rattle.std.proofs.lemmas.Bool.Decides.{nat_tests}
+use Rattle.chess_types.specs.declared.man.Colour.{Colour}
+use Rattle.chess_types.specs.declared.man.Colour.TheVariants.{White, Black}
+use Rattle.chess_types.specs.declared.man.Kind.{Kind}
+use Rattle.chess_types.specs.declared.man.Kind.TheVariants.{King, Rook}
+use Rattle.chess_types.specs.declared.man.Man.{Man}
+use Rattle.chess_types.specs.declared.position.Rights.{Rights}
+use Rattle.chess_types.specs.declared.position.Wing.{Wing}
+use Rattle.chess_types.specs.declared.position.Wing.TheVariants.{KingSide, QueenSide}
+use Rattle.chess_types.specs.Squares.{rank_of, squares}
+use Rattle.chess_types.specs.Board.{Board, Look, man_at}
+use Rattle.chess_types.specs.Cells.{board_of}
+use Rattle.chess_types.specs.ManCode.{kind_number, kind_of, kind_of-number}
+use Rattle.chess_types.specs.Men.{same_colour, holds_pawn, men_of, kings_of}
+use Rattle.chess_types.specs.Position.{IsSetup, holds}
+use Rattle.chess_fen.specs.declared.fault.FenFault.TheVariants.{Placement, Kings, PawnRank, TooManyMen}
+use Rattle.chess_fen.specs.Ranks.{board_cells}
+use Rattle.chess_fen.specs.Reading.{◌>>=◌, demand, has_one_king_each, is_edge, has_pawn_on_edge, has_at_most_16_each, board_in, is_man, is_home, kept_rights, target_in, clock_in, number_in}
+
+-- what the demands on the men leave
+pub record HasGoodMen (board : Board) : Type 0 where
+  pub kings : has_one_king_each board ≡ true
+  pub pawns : has_pawn_on_edge (man_at board) ≡ false
+  pub few : has_at_most_16_each board ≡ true
+
+demands_met : (kings pawns few : Bool) (was board : Board) → Ok board ≡ (do
+  _ ← demand kings Kings
+  _ ← demand (not pawns) PawnRank
+  _ ← demand few TooManyMen
+  Ok was) → (kings ≡ true) × (pawns ≡ false) × (few ≡ true) × (was ≡ board)
+demands_met false pawns few was board h = absurd (cc)
+demands_met true true few was board h = absurd (cc)
+demands_met true false false was board h = absurd (cc)
+demands_met true false true was board h = (refl, refl, refl, cc)
+
+good_men_if_read : (cells : Option (List (Option Man))) (board : Board) → Ok board ≡ (do
+  found ← ok_or cells Placement
+  _ ← demand (has_one_king_each (board_of found)) Kings
+  _ ← demand (not (has_pawn_on_edge (man_at (board_of found)))) PawnRank
+  _ ← demand (has_at_most_16_each (board_of found)) TooManyMen
+  Ok (board_of found)) → HasGoodMen board
+good_men_if_read None board h = absurd (cc)
+good_men_if_read (Some cells) board h =
+    let met = demands_met (has_one_king_each (board_of cells)) (has_pawn_on_edge (man_at (board_of cells))) (has_at_most_16_each (board_of cells)) (board_of cells) board h in
+    subst HasGoodMen met.3 (record { kings = met.0; pawns = met.1; few = met.2 })
+
+pub good_men : (field : List ℕ) (board : Board) → Ok board ≡ board_in field → HasGoodMen board
+unfolding board_in
+good_men field board h = good_men_if_read (board_cells field) board h
+
+one_king_each : (board : Board) → HasGoodMen board → (c : Colour) → kings_of board c ≡ 1
+one_king_each board good White = let both : (kings_of board White == 1) ≡ true × (kings_of board Black == 1) ≡ true = and_parts _ _ good.kings in eqb-true _ _ both.0
+one_king_each board good Black = let both : (kings_of board White == 1) ≡ true × (kings_of board Black == 1) ≡ true = and_parts _ _ good.kings in eqb-true _ _ both.1
+
+few_each : (board : Board) → HasGoodMen board → (c : Colour) → men_of board c ≤ 16
+few_each board good White = let both : (nat_le (men_of board White) 16 ≡ true) × (nat_le (men_of board Black) 16 ≡ true) = and_parts _ _ good.few in leb-true _ _ both.0
+few_each board good Black = let both : (nat_le (men_of board White) 16 ≡ true) × (nat_le (men_of board Black) 16 ≡ true) = and_parts _ _ good.few in leb-true _ _ both.1
+
+or_false : (a b : Bool) → (a || b) ≡ false → (a ≡ false) × (b ≡ false)
+or_false true b h = absurd (true≢false h)
+or_false false b h = (refl, h)
+
+list_any_at : (p : ℕ → Bool) (a n t : ℕ) → list_any p (range_with_len a n) ≡ false → a ≤ t → t < a + n → p t ≡ false
+list_any_at p a zero t h low high = absurd (omega arith)
+list_any_at p a (suc n) t h low high =
+    let parts : (p a ≡ false) × (list_any p (range_with_len (a + 1) n) ≡ false) = or_false _ _ h in
+    elim (cases_eq a t) [
+      | inl same ↦ ap p (sym same) ∙ parts.0
+      | inr other ↦ list_any_at p (a + 1) n t parts.1 (omega arith) (omega arith)
+    ]
+
+inner_pawns : (look : Look) → has_pawn_on_edge look ≡ false → (s : ℕ) → s < 64 → holds_pawn (look s) ≡ true → (0 < rank_of s) × (rank_of s < 7)
+unfolding squares
+inner_pawns look none s inside pawn =
+    let here : (is_edge s && holds_pawn (look s)) ≡ false = list_any_at (λ x. is_edge x && holds_pawn (look x)) 0 64 s none (omega arith) (omega arith) in
+    (grind (arith, nat_tests), grind (arith, nat_tests))
+
+same_is : (a b : Colour) → same_colour a b ≡ true → a ≡ b
+same_is White White h = refl
+same_is White Black h = absurd (true≢false (sym h))
+same_is Black White h = absurd (true≢false (sym h))
+same_is Black Black h = refl
+
+kind_is : (k l : Kind) → kind_number k ≡ kind_number l → k ≡ l
+kind_is k l e = sym (kind_of-number k) ∙ ap kind_of e ∙ kind_of-number l
+
+is_man_is : (cell : Option Man) (c : Colour) (k : Kind) → is_man cell c k ≡ true → cell ≡ Some (record { colour = c; kind = k })
+is_man_is None c k h = absurd (true≢false (sym h))
+is_man_is (Some man) c k h =
+    let both = and_parts _ _ h in
+    let colour : man.colour ≡ c = same_is man.colour c both.0 in
+    let kind : man.kind ≡ k = kind_is man.kind k (eqb-true _ _ both.1) in
+    λ i. Some (record { colour = colour i; kind = kind i })
+
+kept_home : (look : Look) (rights : Rights) (c : Colour) (w : Wing) → holds (kept_rights look rights) c w ≡ true → is_home look c w ≡ true
+unfolding kept_rights
+kept_home look rights White KingSide h = (and_parts _ _ h).1
+kept_home look rights White QueenSide h = (and_parts _ _ h).1
+kept_home look rights Black KingSide h = (and_parts _ _ h).1
+kept_home look rights Black QueenSide h = (and_parts _ _ h).1
+
+pub no_target : (field : List ℕ) (target : Option ℕ) → Ok target ≡ target_in field → target ≡ None
+unfolding target_in
+no_target field target h = grind (arith, common_steps)
+
+pub number_one : (field : List ℕ) (number : ℕ) → Ok number ≡ number_in field → number ≡ 1
+unfolding number_in
+number_one field number h = grind (arith, common_steps)
+
+pub clock_zero : (field : List ℕ) (clock : ℕ) → Ok clock ≡ clock_in field → clock ≡ 0
+unfolding clock_in
+clock_zero field clock h = grind (arith, common_steps)
+
+pub setup_read : (board : Board) (side : Colour) (written : Rights) (target : Option ℕ) (clock number : ℕ) → HasGoodMen board → target ≡ None → number ≡ 1 →
+    IsSetup (record { placement = board; side = side; rights = kept_rights (man_at board) written; target = target; clock = clock; number = number })
+setup_read board side written target clock number good none one = record {
+  kings = one_king_each board good;
+  few = few_each board good;
+  pawns = inner_pawns (man_at board) good.pawns;
+  king_at_home = λ c w h. is_man_is _ c King (and_parts _ _ (kept_home (man_at board) written c w h)).0;
+  rook_at_home = λ c w h. is_man_is _ c Rook (and_parts _ _ (kept_home (man_at board) written c w h)).1;
+  target = λ t is. absurd (cc);
+  number = omega arith;
+}

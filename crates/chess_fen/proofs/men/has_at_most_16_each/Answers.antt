@@ -1,0 +1,17 @@
+use Rattle.std.proofs.Common.{arith}
+use Rattle.std.proofs.lemmas.Grind.{common_steps}
+use Rattle.chess_types.specs.declared.man.Colour.TheVariants.{White, Black}
+use Rattle.chess_types.specs.Men.{is_of}
+use Rattle.chess_types.proofs.MenLemmas.{census-board_of}
+use Rattle.chess_fen.proofs.men.has_at_most_16_each.Goals as goal
+
+pub returns-then-men_in-le16 : goal.returns-then-men_in-le16
+returns-then-men_in-le16 c =
+    let white = census-board_of (is_of White) c.args.cells.now c.told-cells in
+    let black = census-board_of (is_of Black) c.args.cells.now c.told-cells in
+    grind (arith, common_steps, white, black)
+
+pub returns-else-men_in-le16 : goal.returns-else-men_in-le16
+returns-else-men_in-le16 c =
+    let white = census-board_of (is_of White) c.args.cells.now c.told-cells in
+    grind (arith, common_steps, white)

@@ -1,0 +1,4 @@
+-- What a FEN says, and which fault a text that is none has.
+pub mod Ranks
+pub mod Faults
+pub mod Reading

@@ -1,0 +1,66 @@
+use thiserror::Error;
+
+/// Why a text is no FEN. Where several apply, the first in this order is reported.
+#[derive(Clone, Copy, Debug, PartialEq, Eq, Error)]
+pub enum FenFault {
+    /// Not six fields between spaces (PGN 16.1.3).
+    #[error("a FEN has six fields")]
+    Fields = 1,
+    /// The first field isn't eight ranks of eight squares each in letters and digits (PGN 16.1.3.1).
+    #[error("the men are not eight ranks of eight squares")]
+    Placement = 2,
+    /// Not exactly one king a side (FIDE Laws 2.2).
+    #[error("each side has one king")]
+    Kings = 3,
+    /// A pawn stands on rank 1 or rank 8 (FIDE Laws 3.7).
+    #[error("no pawn stands on the first or the last rank")]
+    PawnRank = 4,
+    /// A side has more than 16 men (FIDE Laws 2.2).
+    #[error("a side has at most 16 men")]
+    TooManyMen = 5,
+    /// The side to move is neither `w` nor `b` (PGN 16.1.3.2).
+    #[error("the side to move is w or b")]
+    Side = 6,
+    /// The castling field is neither `KQkq` nor `-` (PGN 16.1.3.3).
+    #[error("the castling field is KQkq or -")]
+    Castling = 7,
+    /// The en passant field is not `-` (PGN 16.1.3.4).
+    #[error("the en passant field is -")]
+    Target = 8,
+    /// The halfmove clock is not `0`, or the fullmove number not `1` (PGN 16.1.3.5 and 16.1.3.6).
+    #[error("the clock is 0 and the number 1")]
+    Counter = 9,
+    /// The side not to move is in check (FIDE Laws 3.9).
+    #[error("the side not to move is in check")]
+    InCheck = 10,
+}
+
+impl FenFault {
+    ghost use Rattle.std.specs.Prelude.{◌≡◌};
+    ghost use Rattle.chess_fen.specs.Faults.{number_of, name_of};
+
+    /// The fault's number, 1 to 10.
+    pub fn number(self) -> u8
+        ensures { result ≡ number_of self }
+    {
+        self as u8
+    }
+
+    /// The fault's name, as `InCheck`.
+    pub fn name(self) -> &'static str
+        ensures { result.now ≡ name_of self }
+    {
+        match self {
+            FenFault::Fields => "Fields",
+            FenFault::Placement => "Placement",
+            FenFault::Kings => "Kings",
+            FenFault::PawnRank => "PawnRank",
+            FenFault::TooManyMen => "TooManyMen",
+            FenFault::Side => "Side",
+            FenFault::Castling => "Castling",
+            FenFault::Target => "Target",
+            FenFault::Counter => "Counter",
+            FenFault::InCheck => "InCheck",
+        }
+    }
+}

@@ -1,0 +1,63 @@
+ghost use Rattle.std.specs.Prelude.{◌≡◌, count_by};
+ghost use Rattle.chess_types.specs.Board.{man_at};
+ghost use Rattle.chess_types.specs.Cells.{board_of};
+ghost use Rattle.chess_types.specs.Men.{is_king_of};
+ghost use Rattle.chess_fen.specs.Reading.{board_in, has_one_king_each, is_edge, has_pawn_on_edge, has_at_most_16_each};
+
+use super::fault::FenFault;
+use super::ranks::read_cells;
+use chess_types::{Colour, Man, Placement, holds_pawn, is_king_of, men_in};
+
+fn kings(cells: &[Option<Man>], colour: Colour) -> usize
+    ensures { result ≡ count_by (is_king_of colour) cells.now }
+{
+    cells
+        .iter()
+        .filter(|cell| is_king_of(colour, **cell))
+        .count()
+}
+
+fn has_one_king_each(cells: &[Option<Man>; 64]) -> bool
+    ensures { result ≡ has_one_king_each (board_of cells.now) }
+{
+    kings(cells, Colour::White) == 1 && kings(cells, Colour::Black) == 1
+}
+
+fn is_edge(square: usize) -> bool
+    ensures { result ≡ is_edge square }
+{
+    square / 8 == 0 || square / 8 == 7
+}
+
+fn has_pawn_on_edge(cells: &[Option<Man>; 64]) -> bool
+    ensures { result ≡ has_pawn_on_edge (man_at (board_of cells.now)) }
+{
+    cells
+        .iter()
+        .enumerate()
+        .any(|(square, cell)| is_edge(square) && holds_pawn(*cell))
+}
+
+fn has_at_most_16_each(cells: &[Option<Man>; 64]) -> bool
+    ensures { result ≡ has_at_most_16_each (board_of cells.now) }
+{
+    men_in(cells, Colour::White) <= 16 && men_in(cells, Colour::Black) <= 16
+}
+
+/// The men of the first field.
+#[tactic(auto, unfolding(crate::specs::Reading::board_in))]
+pub fn read_placement(field: &[u8]) -> Result<Placement, FenFault>
+    ensures { result ≡ board_in field.now }
+{
+    let cells = read_cells(field).ok_or(FenFault::Placement)?;
+    if !has_one_king_each(&cells) {
+        return Err(FenFault::Kings);
+    }
+    if has_pawn_on_edge(&cells) {
+        return Err(FenFault::PawnRank);
+    }
+    if !has_at_most_16_each(&cells) {
+        return Err(FenFault::TooManyMen);
+    }
+    Ok(Placement::from_cells(cells))
+}

@@ -1,0 +1,126 @@
+use super::{FenFault, read};
+use chess_types::{Colour, Kind, Man, Rights, Square};
+use std::test::Fail;
+
+const START: &[u8] = b"rnbqkbnr/pppppppp/8/8/8/8/PPPPPPPP/RNBQKBNR w KQkq - 0 1";
+
+fn man(colour: Colour, kind: Kind) -> Option<Man> {
+    Some(Man { colour, kind })
+}
+
+#[test]
+fn reads_the_start(rt: HostRuntime) -> Result<(), Fail> {
+    let position = read(START)?;
+    let setup = position.setup();
+    assert_eq!(rt; setup.side, Colour::White);
+    assert_eq!(rt;
+        setup.rights,
+        Rights {
+            white_king: true,
+            white_queen: true,
+            black_king: true,
+            black_queen: true
+        }
+    );
+    assert_eq!(rt; setup.target, None);
+    assert_eq!(rt; (setup.clock, setup.number), (0, 1));
+    let a1 = setup.placement.get(Square::from_index(0));
+    assert_eq!(rt; a1, man(Colour::White, Kind::Rook));
+    let d1 = setup.placement.get(Square::from_index(3));
+    assert_eq!(rt; d1, man(Colour::White, Kind::Queen));
+    let e8 = setup.placement.get(Square::from_index(60));
+    assert_eq!(rt; e8, man(Colour::Black, Kind::King));
+    let h7 = setup.placement.get(Square::from_index(55));
+    assert_eq!(rt; h7, man(Colour::Black, Kind::Pawn));
+    assert_eq!(rt; setup.placement.get(Square::from_index(20)), None);
+    assert_eq!(rt; setup.placement.men(Colour::Black), 16);
+    Ok(())
+}
+
+#[test]
+fn skips_spaces(rt: HostRuntime) -> Result<(), Fail> {
+    let position = read(b"  4k3/8/8/8/8/8/8/R3K3   b KQkq -  0 1 ")?;
+    let setup = position.setup();
+    assert_eq!(rt; setup.side, Colour::Black);
+    assert_eq!(rt;
+        setup.rights,
+        Rights {
+            white_king: false,
+            white_queen: true,
+            black_king: false,
+            black_queen: false
+        }
+    );
+    Ok(())
+}
+
+#[test]
+fn drops_a_right_whose_rook_is_away(rt: HostRuntime) -> Result<(), Fail> {
+    let position = read(b"4k3/8/8/8/8/8/8/3K3R w KQkq - 0 1")?;
+    assert_eq!(rt;
+        position.setup().rights,
+        Rights {
+            white_king: false,
+            white_queen: false,
+            black_king: false,
+            black_queen: false
+        }
+    );
+    Ok(())
+}
+
+#[test]
+fn reports_the_first_fault(rt: HostRuntime) {
+    let cases: [(&[u8], FenFault); 21] = [
+        (b"", FenFault::Fields),
+        (b"4k3/8/8/8/8/8/8/4K3 w - - 0", FenFault::Fields),
+        (b"4k3/8/8/8/8/8/8/4K3 w - - 0 1 1", FenFault::Fields),
+        (
+            b"rnbqkbnrr/pppppppp/8/8/8/8/PPPPPPPP/RNBQKBNR w KQkq - 0 1",
+            FenFault::Placement,
+        ),
+        (b"4k3/8/8/8/8/8/44/4K3 w - - 0 1", FenFault::Placement),
+        (b"4k3/8/8/8/8/8/08/4K3 w - - 0 1", FenFault::Placement),
+        (b"4k3/8/8/8/8/8/9/4K3 w - - 0 1", FenFault::Placement),
+        (b"4k3/8/8/8/8/8/x7/4K3 w - - 0 1", FenFault::Placement),
+        (b"4k3/8/8/8/8/8/4K3 w - - 0 1", FenFault::Placement),
+        (b"4k3/8/8/8/8/8/8/8/4K3 w - - 0 1", FenFault::Placement),
+        (b"4k3/8/8/8/8/8/8/4K2 w - - 0 1", FenFault::Placement),
+        (b"8/8/8/8/8/8/8/K7 w - - 0 1", FenFault::Kings),
+        (b"8/8/8/8/8/8/8/4K3 x KK z9 a b", FenFault::Kings),
+        (b"P3k3/8/8/8/8/8/8/4K3 w - - 0 1", FenFault::PawnRank),
+        (
+            b"rnbqkbnr/pppppppp/8/8/8/P7/PPPPPPPP/RNBQKBNR w KQkq - 0 1",
+            FenFault::TooManyMen,
+        ),
+        (b"4k3/8/8/8/8/8/8/4K3 x - - 0 1", FenFault::Side),
+        (b"4k3/8/8/8/8/8/8/4K3 w KK - 0 1", FenFault::Castling),
+        (b"4k3/8/8/8/8/8/8/4K3 w - e3 0 1", FenFault::Target),
+        (b"4k3/8/8/8/8/8/8/4K3 w - - x 1", FenFault::Counter),
+        (b"4k3/8/8/8/8/8/8/4K3 w - - 0 2", FenFault::Counter),
+        (b"4k3/8/8/8/8/8/8/4R1K1 w - - 0 1", FenFault::InCheck),
+    ];
+    for (text, fault) in cases {
+        assert_eq!(rt; read(text).err(), Some(fault));
+    }
+}
+
+#[test]
+fn numbers_and_names_the_faults(rt: HostRuntime) {
+    let faults = [
+        (FenFault::Fields, 1, "Fields"),
+        (FenFault::Placement, 2, "Placement"),
+        (FenFault::Kings, 3, "Kings"),
+        (FenFault::PawnRank, 4, "PawnRank"),
+        (FenFault::TooManyMen, 5, "TooManyMen"),
+        (FenFault::Side, 6, "Side"),
+        (FenFault::Castling, 7, "Castling"),
+        (FenFault::Target, 8, "Target"),
+        (FenFault::Counter, 9, "Counter"),
+        (FenFault::InCheck, 10, "InCheck"),
+    ];
+    for (fault, number, name) in faults {
+        assert_eq!(rt; fault.number(), number);
+        assert!(rt; fault.name() == name);
+    }
+}
