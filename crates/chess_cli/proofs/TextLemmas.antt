@@ -1,0 +1,55 @@
+-- Texts that are parted by a gap, as far as they are written.
+use Rattle.std.proofs.Common.{◌≡◌, ℕ, zero, suc, ◌+◌, ◌*◌, ◌-◌, ◌<◌, ◌≤◌, List, ◌++◌, map, refl, sym, ap, ◌∙◌, append_assoc, append-nil, arith}
+use Rattle.std.specs.Prelude.{codes, decimal}
+use Rattle.std.specs.List.{range_with_len}
+use Rattle.chess_cli.specs.Answers.{gapped, parted_by, rank_text, counts_text}
+
+-- the texts of the numbers from a on, n of them, each behind a gap
+abbrev pub run : List ℕ → (ℕ → List ℕ) → ℕ → ℕ → List ℕ
+run gap text a n = gapped gap (map text (range_with_len a n))
+
+-- one more
+pub run-more : (gap : List ℕ) (text : ℕ → List ℕ) (a n : ℕ) → run gap text a (suc n) ≡ run gap text a n ++ (gap ++ text (a + n))
+run-more gap text a zero =
+    let here : text a ≡ text (a + 0) = ap text (omega arith) in
+    append-nil (gap ++ text a) ∙ ap (λ (t : List ℕ). gap ++ t) here
+run-more gap text a (suc n) =
+    let again : run gap text (a + 1) (suc n) ≡ run gap text (a + 1) n ++ (gap ++ text (a + 1 + n)) = run-more gap text (a + 1) n in
+    let here : text (a + 1 + n) ≡ text (a + suc n) = ap text (omega arith) in
+    ap (λ (t : List ℕ). gap ++ text a ++ t) again ∙ rw here (sym (append_assoc (gap ++ text a) (run gap text (a + 1) n) (gap ++ text (a + suc n))))
+
+-- after the next text is written
+pub run-next : (gap : List ℕ) (text : ℕ → List ℕ) (k : ℕ) (before old mid new next : List ℕ) → 1 ≤ k
+    → old ≡ before ++ run gap text 1 (k - 1) → mid ≡ old ++ gap → new ≡ mid ++ next → next ≡ text k
+    → new ≡ before ++ run gap text 1 (k + 1 - 1)
+run-next gap text k before old mid new next some o m n t =
+    let one : run gap text 1 (suc (k - 1)) ≡ run gap text 1 (k - 1) ++ (gap ++ text (1 + (k - 1))) = run-more gap text 1 (k - 1) in
+    let count : suc (k - 1) ≡ k + 1 - 1 = omega arith in
+    let here : 1 + (k - 1) ≡ k = omega arith in
+    let all : run gap text 1 (k + 1 - 1) ≡ run gap text 1 (k - 1) ++ (gap ++ text k) =
+    ap (run gap text 1) (sym count) ∙ one ∙ ap (λ (x : ℕ). run gap text 1 (k - 1) ++ (gap ++ text x)) here in
+    rw (n, m, o, t, all) (append_assoc (before ++ run gap text 1 (k - 1)) gap (text k) ∙ append_assoc before (run gap text 1 (k - 1)) (gap ++ text k))
+
+-- after all eight
+pub run-whole : (gap : List ℕ) (text : ℕ → List ℕ) (k : ℕ) (start before old : List ℕ) → k ≡ 8 → before ≡ start ++ text 0
+    → old ≡ before ++ run gap text 1 (k - 1) → old ≡ start ++ parted_by gap (map text (range_with_len 0 8))
+run-whole gap text k start before old eight b o =
+    rw (o, b, eight) (append_assoc start (text 0) (run gap text 1 7))
+
+map-range-agree : {X : Type 0} (f g : ℕ → X) (a n : ℕ) → ((x : ℕ) → a ≤ x → x < a + n → f x ≡ g x) → map f (range_with_len a n) ≡ map g (range_with_len a n)
+map-range-agree f g a zero same = refl
+map-range-agree f g a (suc n) same =
+    let here : f a ≡ g a = same a (omega arith) (omega arith) in
+    let rest : map f (range_with_len (a + 1) n) ≡ map g (range_with_len (a + 1) n) =
+    map-range-agree f g (a + 1) n (λ x low high. same x (omega arith) (omega arith)) in
+    cc
+
+-- numbers that agree on the board have the same text
+pub counts_text-agree : (f g : ℕ → ℕ) → ((s : ℕ) → s < 64 → f s ≡ g s) → counts_text f ≡ counts_text g
+unfolding counts_text rank_text
+counts_text-agree f g same =
+    ap (parted_by (codes " / "))
+    (map-range-agree (rank_text f) (rank_text g) 0 8 (λ rank low high.
+    ap (parted_by (codes " "))
+    (map-range-agree (λ file. decimal (f (8 * rank + file))) (λ file. decimal (g (8 * rank + file))) 0 8 (λ file l h.
+    ap decimal (same (8 * rank + file) (omega arith))))))

@@ -1,0 +1,23 @@
+//! The engines over a reader and a writer: lines in, answers out.
+//!
+//! `board` keeps a position by the Laws of Chess and answers a line at a time. Its contract is the whole of it, from bytes to
+//! bytes: what the writer takes is what the written machine of `specs/Answers.antt` answers to the lines read.
+#![tactic(auto)]
+
+mod answer;
+mod command;
+mod ended;
+mod machine;
+mod over_bytes;
+mod run;
+mod texts;
+mod unfinished;
+mod write;
+
+pub use ended::Ended;
+pub use over_bytes::board_over_bytes;
+pub use run::board;
+pub use texts::{Kept, counts_text};
+
+#[cfg(test)]
+mod tests;

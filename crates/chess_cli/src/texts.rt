@@ -1,0 +1,67 @@
+ghost use Rattle.std.specs.Prelude.{◌≡◌, ℕ, ◌+◌, ◌*◌, ◌<◌, ◌≤◌, ◌++◌, codes, decimal};
+ghost use Rattle.chess_attack.specs.KeptCounts.{count_in};
+ghost use Rattle.arrayvec.specs.ArrayString.{array_string_len};
+ghost use Rattle.chess_cli.specs.Answers.{rank_text, counts_text};
+
+use arrayvec::ArrayString;
+use chess_attack::Counts;
+use chess_types::{Colour, Square};
+use itoa::Buffer;
+
+/// Numbers that are kept for a position.
+pub trait Kept {
+    ghost use Rattle.chess_types.specs.declared.man.Colour.{Colour};
+
+    /// The attack count of a colour on a square.
+    ghost counts: { Self → Colour → ℕ → ℕ };
+
+    /// How many men of the colour attack the square.
+    fn count(&self, colour: Colour, square: Square) -> u8
+        ensures { result ≡ counts self.now colour square };
+}
+
+fn push_number(text: &mut ArrayString<320>, number: u8)
+    requires { array_string_len text.old + 3 ≤ 320 }
+    ensures bytes { text.new.bytes ≡ text.old.bytes ++ decimal number }
+    ensures len { array_string_len text.new ≤ array_string_len text.old + 3 }
+{
+    text.push_str(Buffer::new().format(number));
+}
+
+// The numbers of files a to h on a rank.
+fn push_rank<K: Kept>(text: &mut ArrayString<320>, kept: &K, colour: Colour, rank: u8)
+    requires on_board { rank < 8 }
+    requires room { array_string_len text.old + 31 ≤ 320 }
+    ensures bytes { text.new.bytes ≡ text.old.bytes ++ rank_text (K.counts kept.now colour) rank }
+    ensures len { array_string_len text.new ≤ array_string_len text.old + 31 }
+{
+    push_number(text, kept.count(colour, Square::from_index(8 * rank)));
+    for file in 1..8 {
+        text.push_str(" ");
+        push_number(
+            text,
+            kept.count(colour, Square::from_index(8 * rank + file)),
+        );
+    }
+}
+
+/// The attack counts of a colour: ranks 1 to 8 parted by ` / `, in each the counts of files a to h parted by one space.
+pub fn counts_text<K: Kept>(kept: &K, colour: Colour) -> ArrayString<320>
+    ensures { result.bytes ≡ counts_text (K.counts kept.now colour) }
+{
+    let mut text = ArrayString::new();
+    push_rank(&mut text, kept, colour, 0);
+    for rank in 1..8 {
+        text.push_str(" / ");
+        push_rank(&mut text, kept, colour, rank);
+    }
+    text
+}
+
+impl Kept for Counts {
+    ghost counts = { count_in };
+
+    fn count(&self, colour: Colour, square: Square) -> u8 {
+        Counts::count(self, colour, square)
+    }
+}
