@@ -1,0 +1,35 @@
+//! A chess board over the standard streams: `chess board` answers the lines of the standard input on the standard output.
+#![tactic(auto)]
+
+#[cfg(test)]
+mod tests;
+mod words;
+
+use chess_cli::{Ended, board};
+use chess_types::{FromRead, ToWrite};
+use std::process::ExitCode;
+use words::{Asked, Refused, read_words};
+
+/// The status where the words behind the program's name are refused.
+const WORDS_REFUSED: u8 = 1;
+
+fn main(rt: HostRuntime) -> ExitCode {
+    let ended = match read_words(&rt) {
+        Ok(Asked::Board) => board(
+            rt.alloc(),
+            &mut FromRead::new(rt.stdin()),
+            &mut ToWrite::new(rt.stdout()),
+        ),
+        Err(Refused::Words(message)) => {
+            // A fault of the standard error is ignored, here and below.
+            let _ = eprint!(rt; "{message}");
+            return ExitCode::from(WORDS_REFUSED);
+        }
+        Err(Refused::Memory) => Ended::Memory,
+    };
+    let message = ended.message();
+    if !message.is_empty() {
+        let _ = eprintln!(rt; "{message}");
+    }
+    ExitCode::from(ended.status())
+}

@@ -1,0 +1,25 @@
+use crate::words::{Asked, Refused, parse_words};
+
+fn is_refused(asked: Result<Asked, Refused>) -> bool {
+    matches!(asked, Err(Refused::Words(_)))
+}
+
+#[test]
+fn one_engine_is_asked_for(rt: HostRuntime) {
+    assert!(rt;
+        matches!(
+            parse_words(rt.alloc(), &["chess", "board"]),
+            Ok(Asked::Board)
+        )
+    );
+}
+
+#[test]
+fn other_words_are_refused(rt: HostRuntime) {
+    assert!(rt; is_refused(parse_words(rt.alloc(), &["chess"])));
+    assert!(rt; is_refused(parse_words(rt.alloc(), &["chess", "board", "board"])));
+    assert!(rt; is_refused(parse_words(rt.alloc(), &["chess", "boards"])));
+    assert!(rt; is_refused(parse_words(rt.alloc(), &["chess", ""])));
+    assert!(rt; is_refused(parse_words(rt.alloc(), &["chess", "--help"])));
+    assert!(rt; is_refused(parse_words(rt.alloc(), &["chess", "board", "--version"])));
+}
