@@ -1,5 +1,5 @@
 use crate::run::run;
-use crate::{Ended, board};
+use crate::{Ended, board, board_over_bytes};
 use chess_types::{Failed, FromBytes, Refusal, Source, ToBytes};
 use linked_list_allocator::LocalHeap;
 use std::test::Fail;
@@ -39,6 +39,19 @@ fn answers_in_pieces_of_any_size(rt: HostRuntime) -> Result<(), Fail> {
         assert_eq!(rt; board(rt.alloc(), &mut reader, &mut writer), Ended::Good);
         assert_eq!(rt; writer.taken(), OUTPUT, "in pieces of {piece}");
     }
+    Ok(())
+}
+
+#[test]
+fn answers_over_bytes(rt: HostRuntime) -> Result<(), Fail> {
+    let mut reader = FromBytes::new(b"counts w", 100);
+    let mut room = [0; 200];
+    let mut writer = ToBytes::new(&mut room, 100);
+    assert_eq!(rt;
+        board_over_bytes(rt.alloc(), &mut reader, &mut writer),
+        Ended::Good
+    );
+    assert_eq!(rt; writer.taken(), &OUTPUT[..ONE_LINE]);
     Ok(())
 }
 
