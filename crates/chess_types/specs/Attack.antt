@@ -6,6 +6,7 @@
 --   count         how many men of a colour attack a square: the attack count
 --   is_attacked   one or more do
 --   in_check      the king of a colour is attacked by the other side (3.9.1)
+--   checks_from   by the man on this square
 use Rattle.std.specs.Prelude.{ℕ, ◌+◌, ◌-◌, ◌==◌, nat_le, Bool, true, false, not, ◌&&◌, ◌||◌, Option, Some, None, is_none, count_by}
 use Rattle.std.specs.List.{list_all, list_any}
 use Rattle.chess_types.specs.declared.axis.Axis.{Axis}
@@ -76,3 +77,7 @@ is_attacked look colour s = nat_le 1 (count look colour s)
 -- the king of the colour is attacked by the other side
 unfoldable pub in_check : Look → Colour → Bool
 in_check look colour = list_any (λ s. is_king_of colour (look s) && is_attacked look (opponent colour) s) squares
+
+-- the man on a is the other side's, and attacks the king of the colour (3.9.1)
+unfoldable pub checks_from : Look → Colour → ℕ → Bool
+checks_from look colour a = list_any (λ s. is_king_of colour (look s) && attacks_for (look a) (opponent colour) look a s) squares

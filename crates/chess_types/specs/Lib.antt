@@ -10,6 +10,9 @@ pub mod MoveParts
 pub mod Texts
 pub mod Position
 pub mod StateCode
+pub mod Pseudo
+pub mod After
+pub mod Legal
 pub mod Words
 pub mod Calls
 pub mod Lent

@@ -68,6 +68,13 @@ impl Placement {
         self.cells[at.index()]
     }
 
+    /// What stands on the 64 squares, in their order from a1 to h8.
+    pub fn cells(&self) -> &[Option<Man>; 64]
+        ensures { self.now ≡ board_of result.now }
+    {
+        &self.cells
+    }
+
     /// How many men of the colour stand on the board, at most 16.
     pub fn men(&self, colour: Colour) -> usize
         ensures value { result ≡ men_of self.now colour }

@@ -1,6 +1,7 @@
 ghost use Rattle.std.specs.Prelude.{◌≡◌, replicate, ⊤};
 ghost use Rattle.chess_types.specs.declared.man.Kind.TheVariants.{Pawn};
-ghost use Rattle.chess_types.specs.Position.{IsQuiet, back_rank, cell_of, start, start_cells};
+ghost use Rattle.chess_types.specs.Position.{IsQuiet, back_rank, cell_of, holds, king_home, rook_home, start, start_cells};
+ghost use Rattle.chess_types.specs.Pseudo.{crossed, reached};
 
 use super::man::{Colour, Kind, Man};
 use super::placement::Placement;
@@ -15,6 +16,56 @@ pub enum Wing {
     QueenSide,
 }
 
+impl Colour {
+    /// Where the king stands as a game begins: e1 or e8.
+    pub fn king_home(self) -> Square
+        ensures { result ≡ king_home self }
+    {
+        Square::from_index(match self {
+            Colour::White => 4,
+            Colour::Black => 60,
+        })
+    }
+}
+
+impl Wing {
+    /// Where that wing's rook stands as a game begins: h1, a1, h8 or a8.
+    pub fn rook_home(self, colour: Colour) -> Square
+        ensures { result ≡ rook_home colour self }
+    {
+        Square::from_index(match (colour, self) {
+            (Colour::White, Wing::KingSide) => 7,
+            (Colour::White, Wing::QueenSide) => 0,
+            (Colour::Black, Wing::KingSide) => 63,
+            (Colour::Black, Wing::QueenSide) => 56,
+        })
+    }
+
+    /// The square that the king crosses when it castles to that wing, and that the rook comes to: f1, d1, f8 or d8.
+    pub fn crossed(self, colour: Colour) -> Square
+        ensures { result ≡ crossed colour self }
+    {
+        Square::from_index(match (colour, self) {
+            (Colour::White, Wing::KingSide) => 5,
+            (Colour::White, Wing::QueenSide) => 3,
+            (Colour::Black, Wing::KingSide) => 61,
+            (Colour::Black, Wing::QueenSide) => 59,
+        })
+    }
+
+    /// The square that the king reaches when it castles to that wing: g1, c1, g8 or c8.
+    pub fn reached(self, colour: Colour) -> Square
+        ensures { result ≡ reached colour self }
+    {
+        Square::from_index(match (colour, self) {
+            (Colour::White, Wing::KingSide) => 6,
+            (Colour::White, Wing::QueenSide) => 2,
+            (Colour::Black, Wing::KingSide) => 62,
+            (Colour::Black, Wing::QueenSide) => 58,
+        })
+    }
+}
+
 /// The castling rights, one for each colour and wing.
 #[derive(Clone, Copy, Debug, PartialEq, Eq)]
 pub struct Rights {
@@ -22,6 +73,20 @@ pub struct Rights {
     pub white_queen: bool,
     pub black_king: bool,
     pub black_queen: bool,
+}
+
+impl Rights {
+    /// Whether the colour may still castle to that wing.
+    pub fn holds(self, colour: Colour, wing: Wing) -> bool
+        ensures { result ≡ holds self colour wing }
+    {
+        match (colour, wing) {
+            (Colour::White, Wing::KingSide) => self.white_king,
+            (Colour::White, Wing::QueenSide) => self.white_queen,
+            (Colour::Black, Wing::KingSide) => self.black_king,
+            (Colour::Black, Wing::QueenSide) => self.black_queen,
+        }
+    }
 }
 
 /// The six fields of a position, with every part of 'well formed' but the last: the side not to move may be in check.
@@ -185,5 +250,14 @@ impl Position {
         ensures quiet { IsQuiet self.now }
     {
         &self.setup
+    }
+
+    /// The fields, for whom the position is no longer needed.
+    pub fn into_setup(self) -> Setup
+        ensures value { result ≡ self }
+        ensures quiet { IsQuiet self }
+    {
+        let Position { setup } = self;
+        setup
     }
 }

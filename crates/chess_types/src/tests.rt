@@ -61,6 +61,7 @@ fn a_board_gives_back_what_was_put(rt: HostRuntime) {
     assert!(rt; board.men(man.colour) == 0);
     board.put(at, man);
     assert_eq!(rt; board.get(at), Some(man));
+    assert_eq!(rt; board.cells()[12], Some(man));
     assert_eq!(rt; board.men(Colour::White), 1);
     assert_eq!(rt; board.men(Colour::White.opponent()), 0);
     let copy = board.clone().expect(&rt, "a copy");
