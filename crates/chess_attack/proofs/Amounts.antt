@@ -9,7 +9,7 @@ use Rattle.chess_attack.specs.declared.change.Change.TheVariants.{Raise, Lower}
 use Rattle.chess_attack.specs.KeptCounts.{KeptCounts, count_in}
 use Rattle.chess_attack.specs.Marks.{Moved, HasRoom, Moves, HasRoomFor, one_if}
 
-same_self : (colour : Colour) → same_colour colour colour ≡ true
+pub same_self : (colour : Colour) → same_colour colour colour ≡ true
 same_self White = refl
 same_self Black = refl
 

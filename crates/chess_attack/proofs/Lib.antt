@@ -9,8 +9,11 @@ pub mod Walks
 pub mod Work
 pub mod Sweeps
 pub mod Slides
-pub mod Leaps
+pub mod Leaping
 pub mod OwnAttacks
+pub mod Reached
+pub mod Sighted
+pub mod Kings
 pub mod FirstSquares
 pub mod Added
 pub mod Through

@@ -7,11 +7,11 @@ use Rattle.chess_types.specs.declared.man.Man.{Man}
 use Rattle.chess_types.specs.Board.{Look}
 use Rattle.chess_types.specs.Attack.{slides, slides_to, attacks_as}
 use Rattle.chess_attack.specs.Marks.{own, slide, leap}
-use Rattle.chess_attack.proofs.Leaps.{IsSlider, IsLeaper, slider_leaps}
+use Rattle.chess_attack.proofs.Leaping.{IsSlider, IsLeaper, slider_leaps}
 use Rattle.chess_attack.proofs.Slides.{slide_is_own}
 
 -- a leaper does not slide
-leaper_slides : (kind : Kind) (a b : ℕ) → IsLeaper kind → slides_to kind a b ≡ false
+pub leaper_slides : (kind : Kind) (a b : ℕ) → IsLeaper kind → slides_to kind a b ≡ false
 unfolding slides_to slides
 leaper_slides k a b (inl e) = rw (e, and-false) refl
 leaper_slides k a b (inr (inl e)) = rw (e, and-false) refl

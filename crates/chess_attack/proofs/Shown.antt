@@ -6,7 +6,7 @@ use Rattle.chess_types.specs.Board.{Board, Look, man_at}
 use Rattle.chess_types.specs.Squares.{squares}
 use Rattle.chess_types.specs.Attack.{gap, count}
 use Rattle.chess_attack.specs.KeptCounts.{KeptCounts, count_in, AreZero, AreCounts, changed_of, changed, Worked}
-use Rattle.chess_attack.proofs.Counting.{total, total-agree, total-le, total-add, sum_by-range, count_none}
+use Rattle.chess_attack.proofs.Counting.{total, total-zero, total-agree, total-le, total-add, sum_by-range, count_none}
 use Rattle.chess_attack.proofs.Work.{changed_is_total}
 
 -- by how much the two attack counts of a square differ
@@ -23,6 +23,10 @@ changed_of-trans a b c =
     let both : total (gap_of a c) 0 64 ≤ total (λ s. gap_of a b s + gap_of b c s) 0 64 =
     total-le (gap_of a c) (λ s. gap_of a b s + gap_of b c s) 0 64 (λ s low high. omega arith) in
     omega (arith, total-add (gap_of a b) (gap_of b c) 0 64, changed_of_is_total a c, changed_of_is_total a b, changed_of_is_total b c)
+
+-- a board is no way from itself
+pub changed_of-same : (look : Look) → changed_of look look ≡ 0
+changed_of-same look = changed_of_is_total look look ∙ total-zero (gap_of look look) 0 64 (λ s. omega arith)
 
 -- what changed in the kept counts is what changed between the boards
 pub changed_is :

@@ -67,7 +67,7 @@ slides_to_on kind axis a b ha hb ne e = same_test _ _
     (λ h. slides_to_from kind axis a b (ne_eqb a b ne) (and_from _ _ h (eq-eqb _ _ e)))
 
 -- where s is on no half through `at`, nobody slides there
-slides_off : (kind : Kind) (at s : ℕ) → ((axis : Axis) (way : Way) → on_half axis way at s ≡ false) → slides_to kind at s ≡ false
+pub slides_off : (kind : Kind) (at s : ℕ) → ((axis : Axis) (way : Way) → on_half axis way at s ≡ false) → slides_to kind at s ≡ false
 slides_off kind at s off =
     elim (cases_Bool (slides_to kind at s)) [
       | inr e ↦ e

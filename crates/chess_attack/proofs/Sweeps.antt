@@ -26,7 +26,7 @@ swept_to colour axis way at here c s = one_if colour c (passed axis way at here 
 not_passed : (axis : Axis) (way : Way) (at here s : ℕ) → on_half axis way here s ≡ true → passed axis way at here s ≡ false
 not_passed axis way at here s h = rw (h, and-false) refl
 
-and_not : (b : Bool) → (b && not b) ≡ false
+pub and_not : (b : Bool) → (b && not b) ≡ false
 and_not true = refl
 and_not false = refl
 
@@ -60,7 +60,7 @@ swept_room look axis way at here t change colour old mid w n sofar room =
     (subst (λ x. HasRoom change (count_in old colour t) x) one (room colour t n.on_board))
 
 -- the squares passed after one step more
-passed_next :
+pub passed_next :
     (look : Look) (axis : Axis) (way : Way) (at here t s : ℕ) (colour c : Colour) → Walked look axis way at here → IsNext axis way here t → s < 64 →
     swept_to colour axis way at here c s + one_at colour t c s ≡ swept_to colour axis way at t c s
 passed_next look axis way at here t s colour c w n hs =

@@ -4,3 +4,5 @@ pub mod Halves
 pub mod Marks
 pub mod Leaps
 pub mod Through
+pub mod Targets
+pub mod OwnSide

@@ -1,4 +1,4 @@
-ghost use Rattle.std.specs.Prelude.{◌≡◌, ℕ, ◌<◌, true, false, IfSome, IfNone};
+ghost use Rattle.std.specs.Prelude.{◌≡◌, ℕ, ◌<◌, ◌==◌, true, false, IfSome, IfNone};
 ghost use Rattle.chess_attack.specs.KeptCounts.{Worked};
 ghost use Rattle.chess_attack.specs.Marks.{HasRoomFor, Moves, leap};
 ghost use Rattle.chess_attack.specs.Leaps.{is_off, lands, forward as forward_of, leap_on, leap_sides, leap_corners, leap_knight, leap_king, leap_pawn};
@@ -25,11 +25,23 @@ fn off(line: u8, way: Way, by: u8) -> Option<u8>
 
 /// So many files across and so many ranks along.
 #[derive(Clone, Copy, Debug)]
-struct Leap {
-    across: Way,
-    files: u8,
-    along: Way,
-    ranks: u8,
+pub struct Leap {
+    pub across: Way,
+    pub files: u8,
+    pub along: Way,
+    pub ranks: u8,
+}
+
+/// The square where the leap ends; `None` off the board.
+pub fn land(from: Square, leap: Leap) -> Option<Square>
+    requires near_files { leap.files < 8 }
+    requires near_ranks { leap.ranks < 8 }
+    ensures there { IfSome result (λ to. (s : ℕ) → s < 64 → lands leap.across leap.files leap.along leap.ranks from s ≡ (to == s)) }
+    ensures nowhere { IfNone result ((s : ℕ) → s < 64 → lands leap.across leap.files leap.along leap.ranks from s ≡ false) }
+{
+    let file = off(from.file(), leap.across, leap.files)?;
+    let rank = off(from.rank(), leap.along, leap.ranks)?;
+    Some(Square::from_index(rank * 8 + file))
 }
 
 /// Changes the count of the colour on the square where the leap ends, where the board has it.
@@ -40,13 +52,9 @@ fn mark_leap(tally: &mut Tally, colour: Colour, from: Square, leap: Leap, change
     ensures counts { Moves change tally.old tally.new (leap_on colour leap.across leap.files leap.along leap.ranks from) }
     ensures worked { Worked tally.old tally.new 1 }
 {
-    let Some(file) = off(from.file(), leap.across, leap.files) else {
-        return;
-    };
-    let Some(rank) = off(from.rank(), leap.along, leap.ranks) else {
-        return;
-    };
-    tally.change(change, colour, Square::from_index(rank * 8 + file));
+    if let Some(to) = land(from, leap) {
+        tally.change(change, colour, to);
+    }
 }
 
 /// The same to both sides.
@@ -99,7 +107,7 @@ fn mark_corners(
 }
 
 /// The way that a colour's pawns go.
-fn forward(colour: Colour) -> Way
+pub fn forward(colour: Colour) -> Way
     ensures { result ≡ forward_of colour }
 {
     match colour {

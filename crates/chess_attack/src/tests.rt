@@ -1,3 +1,4 @@
+mod attacking;
 mod following;
 
 use crate::{Counts, in_check};

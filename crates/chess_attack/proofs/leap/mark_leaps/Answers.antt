@@ -4,7 +4,7 @@ use Rattle.chess_attack.specs.KeptCounts.{count_in}
 use Rattle.chess_attack.specs.Marks.{leap}
 use Rattle.chess_attack.specs.Leaps.{leap_knight, leap_king, leap_pawn}
 use Rattle.chess_attack.proofs.Amounts.{one_if-false, moved_none, moves_by, room_by}
-use Rattle.chess_attack.proofs.Leaps.{knight_own, king_own, pawn_own, slider_leaps}
+use Rattle.chess_attack.proofs.Leaping.{knight_own, king_own, pawn_own, slider_leaps}
 use Rattle.chess_attack.proofs.Work.{worked_start, worked_within}
 use Rattle.chess_attack.proofs.leap.mark_leaps.Goals as goal
 

@@ -1,0 +1,125 @@
+-- The only king of a colour, and the men that attack it.
+use Rattle.std.proofs.Common.{◌≡◌, ℕ, zero, suc, ◌+◌, ◌-◌, ◌<◌, ◌≤◌, Bool, true, false, ◌&&◌, nat_lt, refl, sym, ap, subst, ◌∙◌, arith, inl, inr}
+use Rattle.std.specs.Ordering.{nat_cmp}
+use Rattle.std.specs.FinSet.{FinSet, contains, insert, empty, contains-empty}
+use Rattle.std.proofs.lemmas.Bool.{and_parts, and_from, cases_eq, cases_order}
+use Rattle.std.proofs.lemmas.Bool.Decides.{nat_tests}
+use Rattle.chess_types.specs.declared.man.Colour.{Colour}
+use Rattle.chess_types.specs.declared.man.Colour.TheVariants.{White, Black}
+use Rattle.chess_types.specs.Board.{Board, man_at}
+use Rattle.chess_types.specs.Squares.{squares}
+use Rattle.chess_types.specs.Men.{census, is_king_of, kings_of, opponent}
+use Rattle.chess_types.specs.Attack.{attacks_for, checks_from, is_attacked, in_check}
+use Rattle.chess_attack.specs.OwnSide.{counted_from}
+use Rattle.chess_attack.proofs.Counting.{bit, total, sum_by-range, total-at, total-agree, total-zero}
+use Rattle.chess_attack.proofs.Reached.{inserted}
+use Rattle.chess_attack.proofs.Runs.{list_any_at, list_any_from, same_test}
+
+-- two values are at most the sum
+total-pair : (f : ℕ → ℕ) (i j a n : ℕ) → a ≤ i → i < j → j < a + n → f i + f j ≤ total f a n
+unfolding total
+total-pair f i j a zero low order high = absurd (omega arith)
+total-pair f i j a (suc n) low order high =
+    elim (cases_eq a i) [
+      | inl same ↦
+          let e : f a ≡ f i = ap f same in
+          let rest : f j ≤ total f (a + 1) n = total-at f j (a + 1) n (omega arith) (omega arith) in
+          omega arith
+      | inr other ↦ omega (arith, total-pair f i j (a + 1) n (omega arith) order (omega arith))
+    ]
+
+kings_total : (board : Board) (colour : Colour) → kings_of board colour ≡ total (λ s. bit (is_king_of colour (man_at board s))) 0 64
+unfolding census squares
+kings_total board colour = sum_by-range (λ s. bit (is_king_of colour (man_at board s))) 0 64
+
+-- a board with one king has one
+pub no_king :
+    (board : Board) (colour : Colour) → kings_of board colour ≡ 1 → ((s : ℕ) → s < 64 → is_king_of colour (man_at board s) ≡ false) → ⊥
+no_king board colour one none =
+    let zeros : total (λ s. bit (is_king_of colour (man_at board s))) 0 64 ≡ total (λ s. 0) 0 64 =
+    total-agree (λ s. bit (is_king_of colour (man_at board s))) (λ s. 0) 0 64 (λ s low high. ap bit (none s high)) in
+    omega (arith, kings_total board colour, total-zero (λ s. 0) 0 64 (λ s. refl))
+
+-- whichever way the squares are gone through
+pub no_king_counted :
+    (board : Board) (colour : Colour) → kings_of board colour ≡ 1 →
+    ((n : ℕ) → n < 64 → is_king_of colour (man_at board (counted_from colour n)) ≡ false) → ⊥
+no_king_counted board White one none = no_king board White one none
+no_king_counted board Black one none =
+    no_king board Black one (λ s hs.
+    let back : 63 - (63 - s) ≡ s = omega arith in
+    ap (λ t. is_king_of Black (man_at board t)) (sym back) ∙ none (63 - s) (omega arith))
+
+-- and no other
+ordered_kings :
+    (board : Board) (colour : Colour) (s t : ℕ) → kings_of board colour ≡ 1 → s < t → t < 64 → is_king_of colour (man_at board s) ≡ true →
+    is_king_of colour (man_at board t) ≡ true → ⊥
+ordered_kings board colour s t one order ht hs' ht' =
+    let f : ℕ → ℕ = λ x. bit (is_king_of colour (man_at board x)) in
+    let at_s : f s ≡ 1 = ap bit hs' in
+    let at_t : f t ≡ 1 = ap bit ht' in
+    omega (arith, kings_total board colour, total-pair f s t 0 64 (omega arith) order ht)
+
+pub one_king :
+    (board : Board) (colour : Colour) (s t : ℕ) → kings_of board colour ≡ 1 → s < 64 → t < 64 → is_king_of colour (man_at board s) ≡ true →
+    is_king_of colour (man_at board t) ≡ true → s ≡ t
+one_king board colour s t one hs ht at_s at_t =
+    elim (cases_order s t) [
+      | inl same ↦ same
+      | inr other ↦
+          absurd (elim other [
+            | inl up ↦ ordered_kings board colour s t one up ht at_s at_t
+            | inr down ↦ ordered_kings board colour t s one down hs at_t at_s
+          ])
+    ]
+
+-- a man checks the king where it attacks its square
+pub checks_at :
+    (board : Board) (colour : Colour) (king a : ℕ) → kings_of board colour ≡ 1 → king < 64 → is_king_of colour (man_at board king) ≡ true →
+    attacks_for (man_at board a) (opponent colour) (man_at board) a king ≡ checks_from (man_at board) colour a
+unfolding checks_from squares
+checks_at board colour king a one hk here =
+    let test : ℕ → Bool = λ s. is_king_of colour (man_at board s) && attacks_for (man_at board a) (opponent colour) (man_at board) a s in
+    same_test _ _ (λ h. list_any_from test 0 64 king (omega arith) hk (and_from _ _ here h)) (λ h.
+    let (s, low, high, p) : (s : ℕ) × (0 ≤ s) × (s < 0 + 64) × (test s ≡ true) = list_any_at test 0 64 h in
+    let q : (is_king_of colour (man_at board s) ≡ true) × (attacks_for (man_at board a) (opponent colour) (man_at board) a s ≡ true) = and_parts _ _ p in
+    subst (λ x. attacks_for (man_at board a) (opponent colour) (man_at board) a x ≡ true) (one_king board colour s king one (omega arith) hk q.0 here) q.1)
+
+-- the king is in check where its square is attacked
+pub checked_at :
+    (board : Board) (colour : Colour) (king : ℕ) → kings_of board colour ≡ 1 → king < 64 → is_king_of colour (man_at board king) ≡ true →
+    is_attacked (man_at board) (opponent colour) king ≡ in_check (man_at board) colour
+unfolding in_check squares
+checked_at board colour king one hk here =
+    let test : ℕ → Bool = λ s. is_king_of colour (man_at board s) && is_attacked (man_at board) (opponent colour) s in
+    same_test _ _ (λ h. list_any_from test 0 64 king (omega arith) hk (and_from _ _ here h)) (λ h.
+    let (s, low, high, p) : (s : ℕ) × (0 ≤ s) × (s < 0 + 64) × (test s ≡ true) = list_any_at test 0 64 h in
+    let q : (is_king_of colour (man_at board s) ≡ true) × (is_attacked (man_at board) (opponent colour) s ≡ true) = and_parts _ _ p in
+    subst (λ x. is_attacked (man_at board) (opponent colour) x ≡ true) (one_king board colour s king one (omega arith) hk q.0 here) q.1)
+
+-- the squares below n that pass a test, gathered one by one
+abbrev pub Gathered : FinSet nat_cmp → (ℕ → Bool) → ℕ → Type 0
+Gathered set test n = (s : ℕ) → s < 64 → contains set s ≡ (nat_lt s n && test s)
+
+pub gathered_none : (set : FinSet nat_cmp) (test : ℕ → Bool) → set ≡ empty → Gathered set test 0
+gathered_none set test e s hs = ap (λ x. contains x s) e ∙ contains-empty nat_cmp s ∙ grind (arith, nat_tests)
+
+pub gathered_one :
+    (old new : FinSet nat_cmp) (test : ℕ → Bool) (n : ℕ) → Gathered old test n → new ≡ insert old n → test n ≡ true → Gathered new test (n + 1)
+gathered_one old new test n sofar more passes s hs =
+    let here : contains new s ≡ _ = ap (λ x. contains x s) more ∙ inserted old n s in
+    elim (cases_eq n s) [
+      | inl same ↦ let e : test s ≡ true = ap test (sym same) ∙ passes in grind (arith, nat_tests, here, sofar s hs, e, same)
+      | inr other ↦ grind (arith, nat_tests, here, sofar s hs, other)
+    ]
+
+pub gathered_else :
+    (set : FinSet nat_cmp) (test : ℕ → Bool) (n : ℕ) → Gathered set test n → test n ≡ false → Gathered set test (n + 1)
+gathered_else set test n sofar fails s hs =
+    elim (cases_eq n s) [
+      | inl same ↦ let e : test s ≡ false = ap test (sym same) ∙ fails in grind (arith, nat_tests, sofar s hs, e, same)
+      | inr other ↦ grind (arith, nat_tests, sofar s hs, other)
+    ]
+
+pub gathered_all : (set : FinSet nat_cmp) (test : ℕ → Bool) (s : ℕ) → Gathered set test 64 → s < 64 → contains set s ≡ test s
+gathered_all set test s all hs = all s hs ∙ grind (arith, nat_tests)

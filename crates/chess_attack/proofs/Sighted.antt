@@ -1,0 +1,66 @@
+-- A walk from `at` towards a square that lies on its half: whether a man stands between the two.
+use Rattle.std.proofs.Common.{◌≡◌, ℕ, ◌<◌, ◌≢◌, true, false, is_some, sym, ap, ◌∙◌, arith, inl, inr}
+use Rattle.std.proofs.lemmas.Bool.{and_parts, cases_Bool, true≢false}
+use Rattle.chess_types.specs.declared.axis.Axis.{Axis}
+use Rattle.chess_types.specs.declared.man.Kind.{Kind}
+use Rattle.chess_types.specs.Board.{Look}
+use Rattle.chess_types.specs.Squares.{line_of}
+use Rattle.chess_types.specs.Attack.{is_clear, slides, slides_to}
+use Rattle.chess_attack.specs.declared.way.Way.{Way}
+use Rattle.chess_attack.specs.declared.way.Way.TheVariants.{Up, Down}
+use Rattle.chess_attack.specs.Halves.{on_half, IsNext, IsEnd}
+use Rattle.chess_attack.proofs.Axes.{BetweenOn, Towards, apart_from, between_parts, half_parts, half_from}
+use Rattle.chess_attack.proofs.Clear.{clear_at, clear_from}
+use Rattle.chess_attack.proofs.Slides.{slides_to_on}
+use Rattle.chess_attack.proofs.Walks.{Walked, walked_reaches, between_of}
+
+-- the next square isn't it, so it lies beyond
+pub still_ahead :
+    (axis : Axis) (way : Way) (here t to : ℕ) → IsNext axis way here t → to < 64 → t ≢ to → on_half axis way here to ≡ true →
+    on_half axis way t to ≡ true
+still_ahead axis way here t to n hto other ahead =
+    elim (n.nearest to hto ahead) [
+      | inl same ↦ absurd (other (sym same))
+      | inr beyond ↦ beyond
+    ]
+
+-- the half doesn't end before it
+pub not_ended : (axis : Axis) (way : Way) (here to : ℕ) → IsEnd axis way here → to < 64 → on_half axis way here to ≡ true → ⊥
+not_ended axis way here to e hto ahead = true≢false (sym ahead ∙ e.none to hto)
+
+-- the walk comes to it past no man
+pub clear_to :
+    (look : Look) (axis : Axis) (way : Way) (at here t : ℕ) → Walked look axis way at here → IsNext axis way here t → is_clear look at t ≡ true
+clear_to look axis way at here t w n = (and_parts _ _ (walked_reaches look axis way at here t w n)).1
+
+-- or a man stands before it
+pub barred :
+    (look : Look) (axis : Axis) (way : Way) (at here t to : ℕ) → Walked look axis way at here → IsNext axis way here t → to < 64 →
+    t ≢ to → on_half axis way here to ≡ true → is_some (look t) ≡ true → is_clear look at to ≡ false
+barred look axis way at here t to w n hto other ahead man =
+    elim (cases_Bool (is_clear look at to)) [
+      | inr e ↦ e
+      | inl clear ↦
+          let beyond : on_half axis way t to ≡ true = still_ahead axis way here t to n hto other ahead in
+          let half : on_half axis way at t ≡ true = w.beyond t n.on_board n.next in
+          absurd (true≢false (sym man ∙ ap is_some (clear_at look at to t clear n.on_board (between_of axis way at t to half beyond))))
+    ]
+
+-- between two squares on no common half there is no square
+pub clear_off :
+    (look : Look) (a b : ℕ) → ((axis : Axis) (way : Way) → on_half axis way a b ≡ false) → is_clear look a b ≡ true
+clear_off look a b off =
+    clear_from look a b (λ t ht between.
+    let (j, h) : (j : Axis) × BetweenOn j a b t = between_parts a b t between in
+    let same : line_of j a ≡ line_of j b = h.from_a ∙ sym h.from_b in
+    absurd (elim h.order [
+      | inl up ↦ true≢false (sym (half_from j Up a b same (omega arith)) ∙ off j Up)
+      | inr down ↦ true≢false (sym (half_from j Down a b same (omega arith)) ∙ off j Down)
+    ]))
+
+-- a kind slides to a square of a half exactly where it moves along that axis
+pub slides_half :
+    (kind : Kind) (axis : Axis) (way : Way) (a b : ℕ) → a < 64 → b < 64 → on_half axis way a b ≡ true → slides_to kind a b ≡ slides kind axis
+slides_half kind axis way a b ha hb half =
+    let p : (line_of axis a ≡ line_of axis b) × Towards way a b = half_parts axis way a b half in
+    slides_to_on kind axis a b ha hb (apart_from way a b p.1) p.0
