@@ -1,0 +1,232 @@
+-- What a pseudo-legal move in a well-formed setup does, whatever man makes it.
+use Rattle.std.proofs.Common.{◌≡◌, ◌≢◌, ℕ, ◌+◌, ◌*◌, ◌<◌, true, false, ◌&&◌, ◌||◌, Option, Some, None, is_none, refl, sym, ap, subst, ◌∙◌, arith, inl, inr}
+use Rattle.std.proofs.lemmas.Bool.{and_parts, or_cases, true≢false, eqb-true, not-true, eq-eqb}
+use Rattle.std.proofs.lemmas.Bool.Decides.{nat_tests}
+use Rattle.chess_types.specs.declared.man.Colour.{Colour}
+use Rattle.chess_types.specs.declared.man.Colour.TheVariants.{White, Black}
+use Rattle.chess_types.specs.declared.man.Kind.{Kind}
+use Rattle.chess_types.specs.declared.man.Kind.TheVariants.{Pawn, Knight, Bishop, Rook, Queen, King}
+use Rattle.chess_types.specs.declared.man.Man.{Man}
+use Rattle.chess_types.specs.declared.position.Wing.{Wing}
+use Rattle.chess_types.specs.declared.position.Wing.TheVariants.{KingSide, QueenSide}
+use Rattle.chess_types.specs.Board.{Look}
+use Rattle.chess_types.specs.Squares.{file_of, rank_of}
+use Rattle.chess_types.specs.MoveParts.{MoveParts}
+use Rattle.chess_types.specs.Men.{is_king, is_pawn}
+use Rattle.chess_types.specs.Attack.{leaps, slides, slides_to, attacks_as}
+use Rattle.chess_types.specs.Position.{State, IsSetup, look, king_home}
+use Rattle.chess_types.specs.Pseudo.{may_enter, reached, castles, goes, moves_as, moves_man, is_pseudo}
+use Rattle.chess_types.specs.After.{is_en_passant, arriving, is_castling, is_advance}
+use Rattle.chess_play.specs.Undo.{mover}
+use Rattle.chess_play.proofs.Pawns.{same_is, target_is, Two, pawn_moves, Further, further, further_apart, pawn_enters, Passed, passes, advances}
+use Rattle.chess_play.proofs.Promotions.{stays, mover_pawn, mover_plain, pawn_king, pawn_stays, two_plain}
+use Rattle.chess_play.proofs.CastlingSquares.{apart, same_wing, castles_where, castling_parts, reached_free}
+
+leaps_self : (c : Colour) (k : Kind) (a : ℕ) → leaps c k a a ≡ false
+unfolding leaps
+leaps_self c Knight a = grind (arith, nat_tests)
+leaps_self c King a = grind (arith, nat_tests)
+leaps_self White Pawn a = grind (arith, nat_tests)
+leaps_self Black Pawn a = grind (arith, nat_tests)
+leaps_self c Bishop a = refl
+leaps_self c Rook a = refl
+leaps_self c Queen a = refl
+
+slides_self : (k : Kind) (a : ℕ) → slides_to k a a ≡ false
+unfolding slides_to
+slides_self k a = rw (eq-eqb a a refl) refl
+
+attacks_self : (man : Man) (men : Look) (a : ℕ) → attacks_as man men a a ≡ false
+unfolding attacks_as
+attacks_self man men a = rw (leaps_self man.colour man.kind a, slides_self man.kind a) refl
+
+-- no man attacks the square on which it stands
+pub attacks_apart : (man : Man) (men : Look) (a b : ℕ) → attacks_as man men a b ≡ true → a ≢ b
+attacks_apart man men a b h = λ e. true≢false (sym h ∙ ap (attacks_as man men a) (sym e) ∙ attacks_self man men a)
+
+-- The facts of a pseudo-legal move:
+--   here       the man stands on the first square
+--   mine       it is of the side to move
+--   apart      it leaves that square
+--   enter      the square that it comes to is empty, or holds a man that may be captured
+--   king       what arrives is a king exactly if the mover is
+--   pawn       what arrives is no pawn on rank 1 or 8
+--   passing    en passant, the captured pawn stands beside the mover
+--   advance    an advance of two squares begins where the pawns began, over an empty square
+--   plain      and is made by a pawn that stays one
+--   onward     a pawn goes further on
+--   same       another man stays what it is
+--   mover      the mover is told from what arrives and the promotion
+--   castling   a king that goes where castling takes it castles
+pub record Facts (p : State) (man : Man) (m : MoveParts) : Type 0 where
+  pub here : look p m.from ≡ Some man
+  pub mine : man.colour ≡ p.side
+  pub apart : m.from ≢ m.to
+  pub enter : may_enter p.side (look p m.to) ≡ true
+  pub king : is_king (arriving man m.promo).kind ≡ is_king man.kind
+  pub pawn : is_pawn (arriving man m.promo).kind ≡ true → (0 < rank_of m.to) × (rank_of m.to < 7)
+  pub passing : is_en_passant p.target man m ≡ true → Passed p.side (look p) m.from m.to (8 * rank_of m.from + file_of m.to)
+  pub advance : is_advance man m ≡ true → Two p.side (look p) m.from m.to
+  pub plain : is_advance man m ≡ true → arriving man m.promo ≡ record { colour = p.side; kind = Pawn }
+  pub onward : is_pawn man.kind ≡ true → Further p.side m.from m.to
+  pub same : is_pawn man.kind ≡ false → arriving man m.promo ≡ man
+  pub mover : mover m.promo (arriving man m.promo) ≡ man
+  pub castling : (w : Wing) → is_castling man w m ≡ true → castles p w m ≡ true
+
+-- the man of the side to move
+abbrev mine : State → Kind → Man
+mine p kind = record { colour = p.side; kind = kind }
+
+-- a test that holds and fails proves anything
+abbrev pub never : {A : Type 0} → false ≡ true → A
+never h = absurd (true≢false (sym h))
+
+-- no king's ordinary move goes as far as castling
+home_leap : (c : Colour) (w : Wing) → leaps c King (king_home c) (reached c w) ≡ false
+unfolding leaps
+home_leap White KingSide = refl
+home_leap White QueenSide = refl
+home_leap Black KingSide = refl
+home_leap Black QueenSide = refl
+
+king_slides : (c : Colour) (men : Look) (a b : ℕ) → attacks_as (record { colour = c; kind = King }) men a b ≡ leaps c King a b
+unfolding attacks_as slides_to slides
+king_slides c men a b = grind (arith, nat_tests)
+
+module _ (p : State) (m : MoveParts) (setup : IsSetup p) (from : m.from < 64) (to : m.to < 64) where
+  abbrev Does : Kind → Type 0
+  Does kind = look p m.from ≡ Some (mine p kind) → moves_as p kind m ≡ true → Facts p (mine p kind) m
+
+  -- knight, bishop, rook and queen
+  piece : (kind : Kind) → is_king kind ≡ false → is_pawn kind ≡ false → look p m.from ≡ Some (mine p kind) →
+      (goes p kind m && is_none m.promo) ≡ true → Facts p (mine p kind) m
+  piece kind not_king not_pawn here h =
+      let a = and_parts _ _ h in
+      let b = and_parts _ _ a.0 in
+      let same : arriving (mine p kind) m.promo ≡ mine p kind = stays (mine p kind) m.promo a.1 in
+      record {
+        here = here;
+        mine = refl;
+        apart = attacks_apart (mine p kind) (look p) m.from m.to b.0;
+        enter = b.1;
+        king = ap (λ x. is_king x.kind) same;
+        pawn = λ e. never (sym not_pawn ∙ ap (λ x. is_pawn x.kind) (sym same) ∙ e);
+        passing = λ e. never (rw not_pawn at e);
+        advance = λ e. never (rw not_pawn at e);
+        plain = λ e. never (rw not_pawn at e);
+        castling = λ w e. never (rw not_king at e);
+        onward = λ e. never (sym not_pawn ∙ e);
+        same = λ e. same;
+        mover = mover_plain (mine p kind) m.promo a.1;
+      }
+
+  pawn : Does Pawn
+  unfolding moves_as
+  pawn here h =
+      let a = and_parts _ _ h in
+      let moves = pawn_moves p.side (look p) p.target m a.0 in
+      let on = further p.side (look p) p.target m.from m.to moves in
+      let far : is_advance (mine p Pawn) m ≡ true → Two p.side (look p) m.from m.to =
+      λ e. advances p.side (look p) p.target m.from m.to moves (elim (or_cases _ _ e) [ inl x ↦ inl (eqb-true _ _ x) | inr x ↦ inr (eqb-true _ _ x) ]) in
+      let inner : (0 < rank_of m.from) × (rank_of m.from < 7) = setup.pawns m.from from (rw here refl) in
+      record {
+        here = here;
+        mine = refl;
+        apart = further_apart p.side m.from m.to on;
+        enter = pawn_enters p.side (look p) p.target setup.target m.from m.to moves;
+        king = pawn_king p.side m a.1;
+        pawn = pawn_stays p.side m to inner on a.1;
+        passing = λ e.
+            let b = and_parts _ _ e in
+            let t : p.target ≡ Some m.to = target_is p.target m.to b.0 in
+            passes p.side (look p) p.target m.from m.to to moves (setup.target m.to t) (λ f. true≢false (sym (eq-eqb _ _ f) ∙ not-true _ b.1));
+        advance = far;
+        plain = λ e. rw (two_plain p.side (look p) m (far e) a.1) refl;
+        castling = λ w e. never e;
+        onward = λ e. on;
+        same = λ e. never (sym e);
+        mover = mover_pawn p.side m.promo;
+      }
+
+  castled : (w : Wing) → look p m.from ≡ Some (mine p King) → castles p w m ≡ true → is_none m.promo ≡ true → Facts p (mine p King) m
+  castled w here h plain =
+      let c = castling_parts p w m h in
+      let same : arriving (mine p King) m.promo ≡ mine p King = stays (mine p King) m.promo plain in
+      record {
+        here = here;
+        mine = refl;
+        apart = λ e. (apart p.side w).king_reached (sym c.from ∙ e ∙ c.to);
+        enter = rw (c.to, reached_free p w m c) refl;
+        king = ap (λ x. is_king x.kind) same;
+        pawn = λ e. never (ap (λ x. is_pawn x.kind) (sym same) ∙ e);
+        passing = λ e. never e;
+        advance = λ e. never e;
+        plain = λ e. never e;
+        onward = λ e. never e;
+        same = λ e. same;
+        mover = mover_plain (mine p King) m.promo plain;
+        castling = λ v e.
+            let v_is = castles_where p.side v m e in
+            let wings : w ≡ v = same_wing p.side w v (sym c.to ∙ v_is.1) in
+            subst (λ x. castles p x m ≡ true) wings h;
+      }
+
+  walked : look p m.from ≡ Some (mine p King) → goes p King m ≡ true → is_none m.promo ≡ true → Facts p (mine p King) m
+  walked here h plain =
+      let b = and_parts _ _ h in
+      let same : arriving (mine p King) m.promo ≡ mine p King = stays (mine p King) m.promo plain in
+      record {
+        here = here;
+        mine = refl;
+        apart = attacks_apart (mine p King) (look p) m.from m.to b.0;
+        enter = b.1;
+        king = ap (λ y. is_king y.kind) same;
+        pawn = λ e. never (ap (λ y. is_pawn y.kind) (sym same) ∙ e);
+        passing = λ e. never e;
+        advance = λ e. never e;
+        plain = λ e. never e;
+        onward = λ e. never e;
+        same = λ e. same;
+        mover = mover_plain (mine p King) m.promo plain;
+        castling = λ w e.
+            let q = castles_where p.side w m e in
+            let leap : leaps p.side King m.from m.to ≡ true = sym (king_slides p.side (look p) m.from m.to) ∙ b.0 in
+            never (sym (home_leap p.side w) ∙ (λ i. leaps p.side King (sym q.0 i) (sym q.1 i)) ∙ leap);
+      }
+
+  king : Does King
+  unfolding moves_as
+  king here h =
+      let a = and_parts _ _ h in
+      elim (or_cases (goes p King m || castles p KingSide m) (castles p QueenSide m) a.0) [
+        | inl x ↦ elim (or_cases (goes p King m) (castles p KingSide m) x) [
+          | inl y ↦ walked here y a.1
+          | inr y ↦ castled KingSide here y a.1
+        ]
+        | inr x ↦ castled QueenSide here x a.1
+      ]
+
+  of_kind : (kind : Kind) → Does kind
+  unfolding moves_as
+  of_kind Pawn here h = pawn here h
+  of_kind Knight here h = piece Knight refl refl here h
+  of_kind Bishop here h = piece Bishop refl refl here h
+  of_kind Rook here h = piece Rook refl refl here h
+  of_kind Queen here h = piece Queen refl refl here h
+  of_kind King here h = king here h
+
+  -- the facts hold of a pseudo-legal move
+  pub facts : (man : Man) → look p m.from ≡ Some man → is_pseudo p m ≡ true → Facts p man m
+  facts man here h =
+      let a = and_parts _ _ (rw here at h) in
+      let colour : p.side ≡ man.colour = sym (same_is man.colour p.side a.0) in
+      let is : mine p man.kind ≡ man = λ i. record { colour = colour i; kind = man.kind } in
+      subst (λ x. Facts p x m) is (of_kind man.kind (here ∙ ap (λ x. Some x) (sym is)) a.1)
+
+moved_by : (p : State) (o : Option Man) (m : MoveParts) → moves_man p o m ≡ true → (man : Man) × (o ≡ Some man)
+moved_by p None m h = never h
+moved_by p (Some man) m h = (man, refl)
+
+-- a man stands on the first square of a pseudo-legal move
+pub pseudo_man : (p : State) (m : MoveParts) → is_pseudo p m ≡ true → (man : Man) × (look p m.from ≡ Some man)
+pseudo_man p m h = moved_by p (look p m.from) m h

@@ -1,0 +1,14 @@
+pub mod Pawns
+pub mod Promotions
+pub mod NamedWrongly
+pub mod CastlingSquares
+pub mod Facts
+pub mod Census
+pub mod Carried
+pub mod Castled
+pub mod Setups
+pub mod MakeSteps
+pub mod BackSteps
+pub mod MoveLemmas
+pub mod UndoLemmas
+pub mod FollowLemmas

@@ -1,0 +1,128 @@
+-- A move made and taken back: the men stand so that each step can be done, and the steps lead where the definitions say.
+use Rattle.std.proofs.Common.{◌≡◌, ℕ, ◌<◌, true, false, Option, Some, None, IsSome, IfSome, refl, sym, ap, subst, ◌∙◌, inl, inr}
+use Rattle.std.proofs.lemmas.Bool.{and_parts, cases_Bool}
+use Rattle.std.specs.FinMap.{remove}
+use Rattle.chess_types.specs.declared.man.Colour.{Colour}
+use Rattle.chess_types.specs.declared.man.Kind.{Kind}
+use Rattle.chess_types.specs.declared.man.Kind.TheVariants.{Pawn, Knight, Bishop, Rook, Queen, King}
+use Rattle.chess_types.specs.declared.man.Man.{Man}
+use Rattle.chess_types.specs.declared.position.Rights.{Rights}
+use Rattle.chess_types.specs.declared.position.Wing.{Wing}
+use Rattle.chess_types.specs.declared.position.Wing.TheVariants.{KingSide, QueenSide}
+use Rattle.chess_types.specs.Board.{Board, man_at}
+use Rattle.chess_types.specs.MoveParts.{MoveParts}
+use Rattle.chess_types.specs.Men.{men_of, opponent, is_king, is_pawn}
+use Rattle.chess_types.specs.Position.{State, IsSetup, look}
+use Rattle.chess_types.specs.After.{captured_at, arriving, carried, is_castling, placement_after, rights_after, target_after, clock_after, number_after, after_by, rook_of}
+use Rattle.chess_play.specs.Boards.{CanShift, CanMake, CanTakeBack, carried_back, given, moved, with_castled_back, without_rook}
+use Rattle.chess_play.proofs.CastlingSquares.{castling_parts, reached_free}
+use Rattle.chess_play.proofs.Facts.{Facts, never}
+use Rattle.chess_play.proofs.MakeSteps.{Steps, steps_by_facts}
+use Rattle.chess_play.proofs.BackSteps.{Back, back_by_facts}
+
+some_is : (o : Option Man) (man : Man) → o ≡ Some man → IsSome o
+some_is o man e = rw e refl
+
+king_is_no_pawn : (kind : Kind) → is_king kind ≡ true → is_pawn kind ≡ false
+king_is_no_pawn Pawn h = never h
+king_is_no_pawn Knight h = refl
+king_is_no_pawn Bishop h = refl
+king_is_no_pawn Rook h = refl
+king_is_no_pawn Queen h = refl
+king_is_no_pawn King h = refl
+
+king_side_back : (man : Man) (m : MoveParts) (board : Board) → is_castling man KingSide m ≡ true →
+    with_castled_back man m board ≡ without_rook man.colour KingSide board
+king_side_back man m board h = rw h refl
+
+queen_side_back : (man : Man) (m : MoveParts) (board : Board) → is_castling man KingSide m ≡ false → is_castling man QueenSide m ≡ true →
+    with_castled_back man m board ≡ without_rook man.colour QueenSide board
+queen_side_back man m board h k = rw (h, k) refl
+
+plain_back : (man : Man) (m : MoveParts) (board : Board) → is_castling man KingSide m ≡ false → is_castling man QueenSide m ≡ false →
+    with_castled_back man m board ≡ board
+plain_back man m board h k = rw (h, k) refl
+
+module _ (p : State) (man : Man) (m : MoveParts) (setup : IsSetup p) (from : m.from < 64) (to : m.to < 64) (facts : Facts p man m) where
+  abbrev at : ℕ
+  at = captured_at p.target man m
+
+  abbrev there : Board
+  there = placement_after p man m
+
+  steps : Steps p man m
+  steps = steps_by_facts p man m setup from to facts
+
+  back : Back p man m
+  back = back_by_facts p man m setup from to facts
+
+  -- castling captures nothing
+  castling_takes_none : (wing : Wing) → is_castling man wing m ≡ true → look p at ≡ None
+  castling_takes_none wing h =
+      let a = and_parts _ _ h in
+      let no_pawn : is_pawn man.kind ≡ false = king_is_no_pawn man.kind a.0 in
+      let c = castling_parts p wing m (facts.castling wing h) in
+      let on : at ≡ m.to = rw no_pawn refl in
+      ap (look p) (on ∙ c.to) ∙ reached_free p wing m c
+
+  pub can_make : CanMake p.target man m p.placement
+  can_make = record {
+    man_goes = record { here = some_is _ man steps.here; free = steps.free; room = steps.room_arriving };
+    rook_goes = λ wing h. record {
+      here = some_is _ (rook_of man.colour) (steps.rook wing h);
+      free = steps.crossed_free wing h;
+      room = steps.crossed_room wing h;
+    };
+    either = castling_takes_none;
+  }
+
+  -- the rook goes back, where it castled
+  rook_is_back : with_castled_back man m there ≡ carried p man m
+  rook_is_back =
+      elim (cases_Bool (is_castling man KingSide m)) [
+        | inl x ↦ king_side_back man m there x ∙ back.rook_back KingSide x
+        | inr x ↦ elim (cases_Bool (is_castling man QueenSide m)) [
+          | inl y ↦ queen_side_back man m there x y ∙ back.rook_back QueenSide y
+          | inr y ↦ plain_back man m there x y ∙ back.plain x y
+        ]
+      ]
+
+  -- and the man with him
+  man_is_back : moved m.to m.from man (with_castled_back man m there) ≡ remove p.placement at
+  man_is_back = ap (λ (b : Board). moved m.to m.from man b) rook_is_back ∙ back.man_back
+
+  room_for : (taken : Option Man) → look p at ≡ taken → IfSome taken (λ other. men_of (remove p.placement at) other.colour < 16)
+  room_for None h = tt
+  room_for (Some other) h = back.taken_room other h
+
+  pub can_take_back : CanTakeBack p.target man m (look p at) there
+  can_take_back = record {
+    rook_goes = λ wing h. record {
+      here = some_is _ (rook_of man.colour) (back.rook wing h);
+      free = back.home_free wing h;
+      room = back.home_room wing h;
+    };
+    man_goes = subst (λ (b : Board). CanShift b m.to m.from man) (sym rook_is_back)
+        (record { here = some_is _ (arriving man m.promo) back.arrived; free = back.from_free; room = back.from_room });
+    free = ap (λ (b : Board). man_at b at) man_is_back ∙ back.taken_free;
+    room = subst (λ (b : Board). IfSome (look p at) (λ other. men_of b other.colour < 16)) (sym man_is_back) (room_for (look p at) refl);
+    either = castling_takes_none;
+  }
+
+  given_back : (taken : Option Man) → look p at ≡ taken → given at taken (remove p.placement at) ≡ p.placement
+  given_back None h = back.none_back h
+  given_back (Some other) h = back.taken_back other h
+
+  -- the board is that before the move again
+  pub all_is_back : carried_back p.target man m (look p at) there ≡ p.placement
+  all_is_back = ap (λ (b : Board). given at (look p at) b) man_is_back ∙ given_back (look p at) refl
+
+-- the position after the move, field by field
+pub after_is :
+    (p : State) (man : Man) (m : MoveParts) (placement : Board) (side : Colour) (rights : Rights) (target : Option ℕ) (clock number : ℕ) →
+    placement ≡ placement_after p man m → side ≡ opponent p.side → rights ≡ rights_after p.rights m → target ≡ target_after man m →
+    clock ≡ clock_after p man m → number ≡ number_after p.side p.number →
+    after_by p (Some man) m
+    ≡ record { placement = placement; side = side; rights = rights; target = target; clock = clock; number = number }
+after_is p man m placement side rights target clock number a b c d e f = λ i.
+    record { placement = sym a i; side = sym b i; rights = sym c i; target = sym d i; clock = sym e i; number = sym f i }

@@ -1,0 +1,219 @@
+-- What a pawn's pseudo-legal move says in numbers: one square forward, two, or diagonally (FIDE Laws, article 3.7).
+use Rattle.std.proofs.Common.{◌≡◌, ◌≢◌, ℕ, ◌+◌, ◌*◌, ◌-◌, ◌/◌, ◌<◌, ◌==◌, Bool, true, ◌&&◌, ◌||◌, Option, Some, None, is_none, refl, sym, ap, ◌∙◌, arith, ◌⊎◌, inl, inr}
+use Rattle.std.proofs.lemmas.Bool.{and_parts, or_cases, true≢false, eqb-true}
+use Rattle.std.proofs.lemmas.Bool.Decides.{nat_tests}
+use Rattle.chess_types.specs.declared.man.Colour.{Colour}
+use Rattle.chess_types.specs.declared.man.Colour.TheVariants.{White, Black}
+use Rattle.chess_types.specs.declared.man.Kind.TheVariants.{Pawn}
+use Rattle.chess_types.specs.declared.man.Man.{Man}
+use Rattle.chess_types.specs.Board.{Look}
+use Rattle.chess_types.specs.Squares.{file_of, rank_of}
+use Rattle.chess_types.specs.MoveParts.{MoveParts}
+use Rattle.chess_types.specs.Men.{opponent, same_colour}
+use Rattle.chess_types.specs.Attack.{gap, leaps}
+use Rattle.chess_types.specs.Position.{IsExplained}
+use Rattle.chess_types.specs.Pseudo.{is_prey, may_enter, is_target, is_ahead, pawn_rank, midway}
+
+-- two colours that pass the test are one
+pub same_is : (a b : Colour) → same_colour a b ≡ true → a ≡ b
+same_is White White h = refl
+same_is White Black h = absurd (true≢false (sym h))
+same_is Black White h = absurd (true≢false (sym h))
+same_is Black Black h = refl
+
+-- an option that tests as empty is None
+pub none_is : {A : Type 0} (o : Option A) → is_none o ≡ true → o ≡ None
+none_is None h = refl
+none_is (Some x) h = absurd (true≢false (sym h))
+
+-- a square that tests as the target is the target
+pub target_is : (target : Option ℕ) (s : ℕ) → is_target target s ≡ true → target ≡ Some s
+target_is None s h = absurd (true≢false (sym h))
+target_is (Some t) s h = ap (λ x. Some x) (eqb-true t s h)
+
+-- b is one square forward of a
+abbrev pub Ahead : Colour → ℕ → ℕ → Type 0
+Ahead White a b = b ≡ a + 8
+Ahead Black a b = a ≡ b + 8
+
+ahead_is : (c : Colour) (a b : ℕ) → is_ahead c a b ≡ true → Ahead c a b
+ahead_is White a b h = eqb-true b (a + 8) h
+ahead_is Black a b h = eqb-true a (b + 8) h
+
+-- b is on the next rank forward of a, on another file
+abbrev pub Aside : Colour → ℕ → ℕ → Type 0
+Aside White a b = (file_of a ≢ file_of b) × (rank_of b ≡ rank_of a + 1)
+Aside Black a b = (file_of a ≢ file_of b) × (rank_of a ≡ rank_of b + 1)
+
+aside_is : (c : Colour) (a b : ℕ) → leaps c Pawn a b ≡ true → Aside c a b
+unfolding leaps
+aside_is White a b h = let p = and_parts (gap (file_of a) (file_of b) == 1) (rank_of b == rank_of a + 1) h in (grind (arith, nat_tests), eqb-true _ _ p.1)
+aside_is Black a b h = let p = and_parts (gap (file_of a) (file_of b) == 1) (rank_of a == rank_of b + 1) h in (grind (arith, nat_tests), eqb-true _ _ p.1)
+
+-- one square forward, to an empty square
+pub record One (c : Colour) (look : Look) (a b : ℕ) : Type 0 where
+  pub ahead : Ahead c a b
+  pub free : look b ≡ None
+
+-- two squares forward from the rank where it began, over an empty square to another
+pub record Two (c : Colour) (look : Look) (a b : ℕ) : Type 0 where
+  pub first : rank_of a ≡ pawn_rank c
+  pub over : Ahead c a ((a + b) / 2)
+  pub on : Ahead c ((a + b) / 2) b
+  pub free_over : look ((a + b) / 2) ≡ None
+  pub free : look b ≡ None
+
+-- diagonally forward, to a man that may be captured there or to the en passant target
+pub record Takes (c : Colour) (look : Look) (target : Option ℕ) (a b : ℕ) : Type 0 where
+  pub aside : Aside c a b
+  pub prey : (is_prey c (look b) ≡ true) ⊎ (target ≡ Some b)
+
+module _ (c : Colour) (look : Look) (target : Option ℕ) (m : MoveParts) where
+  abbrev one : Bool
+  one = is_ahead c m.from m.to && is_none (look m.to)
+
+  abbrev two : Bool
+  two =
+      rank_of m.from == pawn_rank c && is_ahead c m.from (midway m) && is_ahead c (midway m) m.to && is_none (look (midway m))
+      && is_none (look m.to)
+
+  abbrev takes : Bool
+  takes = leaps c Pawn m.from m.to && (is_prey c (look m.to) || is_target target m.to)
+
+  -- the tests of a pawn's moves, read
+  pub pawn_moves : ((one || two) || takes) ≡ true → One c look m.from m.to ⊎ (Two c look m.from m.to ⊎ Takes c look target m.from m.to)
+  pawn_moves h =
+      elim (or_cases (one || two) takes h) [
+        | inl steps ↦ elim (or_cases one two steps) [
+          | inl x ↦
+              let p = and_parts _ _ x in
+              inl (record { ahead = ahead_is c m.from m.to p.0; free = none_is _ p.1 })
+          | inr x ↦
+              let p = and_parts _ _ x in
+              let q = and_parts _ _ p.0 in
+              let r = and_parts _ _ q.0 in
+              let s = and_parts _ _ r.0 in
+              inr (inl (record {
+                first = eqb-true _ _ s.0;
+                over = ahead_is c m.from (midway m) s.1;
+                on = ahead_is c (midway m) m.to r.1;
+                free_over = none_is _ q.1;
+                free = none_is _ p.1;
+              }))
+        ]
+        | inr x ↦
+            let p = and_parts _ _ x in
+            inr (inr (record {
+              aside = aside_is c m.from m.to p.0;
+              prey = elim (or_cases _ _ p.1) [ inl y ↦ inl y | inr y ↦ inr (target_is target m.to y) ];
+            }))
+      ]
+
+-- one of the three
+abbrev pub PawnMove : Colour → Look → Option ℕ → ℕ → ℕ → Type 0
+PawnMove c look target a b = One c look a b ⊎ (Two c look a b ⊎ Takes c look target a b)
+
+-- b lies further on than a
+abbrev pub Further : Colour → ℕ → ℕ → Type 0
+Further White a b = rank_of a < rank_of b
+Further Black a b = rank_of b < rank_of a
+
+one_further : (c : Colour) (look : Look) (a b : ℕ) → One c look a b → Further c a b
+one_further White look a b x = omega arith
+one_further Black look a b x = omega arith
+
+two_further : (c : Colour) (look : Look) (a b : ℕ) → Two c look a b → Further c a b
+two_further White look a b x = omega arith
+two_further Black look a b x = omega arith
+
+aside_further : (c : Colour) (a b : ℕ) → Aside c a b → Further c a b
+aside_further White a b x = omega arith
+aside_further Black a b x = omega arith
+
+-- a pawn only goes further on
+pub further : (c : Colour) (look : Look) (target : Option ℕ) (a b : ℕ) → PawnMove c look target a b → Further c a b
+further c look target a b moves =
+    elim moves [
+      | inl x ↦ one_further c look a b x
+      | inr y ↦ elim y [ inl x ↦ two_further c look a b x | inr x ↦ aside_further c a b x.aside ]
+    ]
+
+-- so it does not stay where it stood
+pub further_apart : (c : Colour) (a b : ℕ) → Further c a b → a ≢ b
+further_apart White a b h = λ e. omega arith
+further_apart Black a b h = λ e. omega arith
+
+explained_free : (c : Colour) (look : Look) (t : ℕ) → IsExplained c look t → look t ≡ None
+explained_free White look t h = h.1
+explained_free Black look t h = h.1
+
+free_enters : (c : Colour) (o : Option Man) → o ≡ None → may_enter c o ≡ true
+free_enters c o h = rw h refl
+
+prey_enters : (c : Colour) (o : Option Man) → is_prey c o ≡ true → may_enter c o ≡ true
+prey_enters c None h = refl
+prey_enters c (Some man) h = h
+
+module _ (c : Colour) (look : Look) (target : Option ℕ) (explained : (t : ℕ) → target ≡ Some t → IsExplained c look t) where
+  -- it comes to an empty square, or to a man that may be captured
+  pub pawn_enters : (a b : ℕ) → PawnMove c look target a b → may_enter c (look b) ≡ true
+  pawn_enters a b moves =
+      elim moves [
+        | inl x ↦ free_enters c (look b) x.free
+        | inr y ↦ elim y [
+          | inl x ↦ free_enters c (look b) x.free
+          | inr x ↦ elim x.prey [
+            | inl p ↦ prey_enters c (look b) p
+            | inr e ↦ free_enters c (look b) (explained_free c look b (explained b e))
+          ]
+        ]
+      ]
+
+-- The pawn that is captured en passant stands on s: on an inner rank, on neither of the mover's squares, and the mover comes to
+-- an empty square.
+pub record Passed (c : Colour) (look : Look) (a b s : ℕ) : Type 0 where
+  pub inside : (0 < rank_of s) × (rank_of s < 7)
+  pub away : s ≢ a
+  pub aside : s ≢ b
+  pub free : look b ≡ None
+  pub man : look s ≡ Some (record { colour = opponent c; kind = Pawn })
+
+ahead_file : (c : Colour) (a b : ℕ) → Ahead c a b → file_of a ≡ file_of b
+ahead_file White a b h = omega arith
+ahead_file Black a b h = omega arith
+
+passed_at : (c : Colour) (look : Look) (a b : ℕ) → IsExplained c look b → Aside c a b → b < 64 → Passed c look a b (8 * rank_of a + file_of b)
+passed_at White look a b e h inside =
+    let at : 8 * rank_of a + file_of b ≡ b - 8 = omega arith in
+    record { inside = (omega arith, omega arith); away = λ s. omega arith; aside = λ s. omega arith; free = e.1; man = rw at e.3 }
+passed_at Black look a b e h inside =
+    let at : 8 * rank_of a + file_of b ≡ b + 8 = omega arith in
+    record { inside = (omega arith, omega arith); away = λ s. omega arith; aside = λ s. omega arith; free = e.1; man = rw at e.3 }
+
+two_file : (c : Colour) (look : Look) (a b : ℕ) → Two c look a b → file_of a ≡ file_of b
+two_file c look a b x = ahead_file c a ((a + b) / 2) x.over ∙ ahead_file c ((a + b) / 2) b x.on
+
+-- where a pawn goes to another file and the target, the pawn that it captures stands beside it
+pub passes : (c : Colour) (look : Look) (target : Option ℕ) (a b : ℕ) → b < 64 → PawnMove c look target a b → IsExplained c look b →
+    file_of a ≢ file_of b → Passed c look a b (8 * rank_of a + file_of b)
+passes c look target a b inside moves e other =
+    elim moves [
+      | inl x ↦ absurd (other (ahead_file c a b x.ahead))
+      | inr y ↦ elim y [ inl x ↦ absurd (other (two_file c look a b x)) | inr x ↦ passed_at c look a b e x.aside inside ]
+    ]
+
+one_short : (c : Colour) (look : Look) (a b : ℕ) → One c look a b → (b ≡ a + 16) ⊎ (a ≡ b + 16) → ⊥
+one_short White look a b x far = elim far [ inl e ↦ omega arith | inr e ↦ omega arith ]
+one_short Black look a b x far = elim far [ inl e ↦ omega arith | inr e ↦ omega arith ]
+
+aside_short : (c : Colour) (a b : ℕ) → Aside c a b → (b ≡ a + 16) ⊎ (a ≡ b + 16) → ⊥
+aside_short White a b x far = elim far [ inl e ↦ omega arith | inr e ↦ omega arith ]
+aside_short Black a b x far = elim far [ inl e ↦ omega arith | inr e ↦ omega arith ]
+
+-- a pawn that goes 16 squares on or back advances by two squares
+pub advances : (c : Colour) (look : Look) (target : Option ℕ) (a b : ℕ) → PawnMove c look target a b → (b ≡ a + 16) ⊎ (a ≡ b + 16) → Two c look a b
+advances c look target a b moves far =
+    elim moves [
+      | inl x ↦ absurd (one_short c look a b x far)
+      | inr y ↦ elim y [ inl x ↦ x | inr x ↦ absurd (aside_short c a b x.aside far) ]
+    ]

@@ -1,0 +1,175 @@
+ghost use Rattle.std.specs.Prelude.{◌≡◌, ◌&&◌, is_none};
+ghost use Rattle.chess_types.specs.Attack.{is_attacked, leaps};
+ghost use Rattle.chess_types.specs.Position.{look};
+ghost use Rattle.chess_types.specs.Pseudo.{castles, castles_to, goes, is_ahead, is_pseudo, is_target, last_rank, midway, moves_as, names_rightly, pawn_rank, pawn_takes, steps_one, steps_two};
+ghost use Rattle.chess_types.specs.declared.man.Kind.TheVariants.{Pawn};
+ghost use Rattle.chess_attack.specs.KeptCounts.{AreCounts};
+
+use crate::men::{is_prey, may_enter, names_promotion, same_colour};
+use chess_attack::{Counts, attacks_square, is_clear, leaps};
+use chess_types::{Colour, Kind, Man, Move, Setup, Square, Wing};
+
+/// Whether the square is the en passant target.
+pub(crate) fn is_target(target: Option<Square>, s: Square) -> bool
+    ensures { result ≡ is_target target s }
+{
+    match target {
+        None => false,
+        Some(t) => t == s,
+    }
+}
+
+/// Whether the second square is one square forward of the first.
+fn is_ahead(side: Colour, a: Square, b: Square) -> bool
+    ensures { result ≡ is_ahead side a b }
+{
+    match side {
+        Colour::White => b.index() == a.index() + 8,
+        Colour::Black => a.index() == b.index() + 8,
+    }
+}
+
+/// The rank on which the pawns of a colour begin.
+fn pawn_rank(side: Colour) -> u8
+    ensures { result ≡ pawn_rank side }
+{
+    match side {
+        Colour::White => 1,
+        Colour::Black => 6,
+    }
+}
+
+/// The rank on which the pawns of a colour are promoted, 7 or 0 (FIDE Laws 3.7.3.3).
+pub fn last_rank(side: Colour) -> u8
+    ensures { result ≡ last_rank side }
+{
+    match side {
+        Colour::White => 7,
+        Colour::Black => 0,
+    }
+}
+
+/// The square halfway, which a pawn passes over when it advances two squares (FIDE Laws 3.7.2).
+pub(crate) fn midway(m: Move) -> Square
+    ensures { result ≡ midway m }
+{
+    Square::from_index((m.from.index() + m.to.index()) as u8 / 2)
+}
+
+/// Whether the move goes one square forward, to an empty square (FIDE Laws 3.7.1).
+fn steps_one(setup: &Setup, m: Move) -> bool
+    ensures { result ≡ steps_one setup.now m }
+{
+    is_ahead(setup.side, m.from, m.to) && setup.placement.get(m.to).is_none()
+}
+
+/// Whether it goes two squares forward from the rank where the pawn began, over an empty square to another (FIDE Laws 3.7.2).
+fn steps_two(setup: &Setup, m: Move) -> bool
+    ensures { result ≡ steps_two setup.now m }
+{
+    let from = m.from;
+    let to = m.to;
+    let middle = midway(m);
+    from.rank() == pawn_rank(setup.side)
+        && is_ahead(setup.side, from, middle)
+        && is_ahead(setup.side, middle, to)
+        && setup.placement.get(middle).is_none()
+        && setup.placement.get(to).is_none()
+}
+
+/// Whether a pawn that goes so captures: a man there (FIDE Laws 3.7.3), or the pawn that has just passed over that square
+/// (FIDE Laws 3.7.3.1).
+fn pawn_takes(setup: &Setup, m: Move) -> bool
+    ensures { result ≡ pawn_takes setup.now m }
+{
+    leaps(setup.side, Kind::Pawn, m.from, m.to)
+        && (is_prey(setup.side, setup.placement.get(m.to)) || is_target(setup.target, m.to))
+}
+
+/// Whether a pawn's move names what it becomes exactly where it reaches the last rank (FIDE Laws 3.7.3.3).
+fn names_rightly(side: Colour, m: Move) -> bool
+    ensures { result ≡ names_rightly side m }
+{
+    if m.to.rank() == last_rank(side) {
+        m.promo.is_some() && names_promotion(m.promo)
+    } else {
+        m.promo.is_none()
+    }
+}
+
+/// Whether the move goes from the king's home to the square that castling to that wing reaches (FIDE Laws 3.8.2).
+pub(crate) fn castles_to(side: Colour, wing: Wing, m: Move) -> bool
+    ensures { result ≡ castles_to side wing m }
+{
+    m.from == side.king_home() && m.to == wing.reached(side)
+}
+
+/// Whether a man of the colour attacks the square, by the kept counts.
+fn is_attacked(setup: &Setup, counts: &Counts, colour: Colour, s: Square) -> bool
+    requires { AreCounts counts.now setup.now.placement }
+    ensures { result ≡ is_attacked (look setup.now) colour s }
+{
+    counts.count(colour, s) >= 1
+}
+
+/// Whether the king castles to that wing (FIDE Laws 3.8.2).
+fn castles(setup: &Setup, counts: &Counts, wing: Wing, m: Move) -> bool
+    requires { AreCounts counts.now setup.now.placement }
+    ensures { result ≡ castles setup.now wing m }
+{
+    let side = setup.side;
+    let other = side.opponent();
+    castles_to(side, wing, m)
+        && setup.rights.holds(side, wing)
+        && is_clear(&setup.placement, side.king_home(), wing.rook_home(side))
+        && !is_attacked(setup, counts, other, side.king_home())
+        && !is_attacked(setup, counts, other, wing.crossed(side))
+        && !is_attacked(setup, counts, other, wing.reached(side))
+}
+
+/// Whether the man of the side goes to a square that it attacks and may enter (FIDE Laws 3.2 to 3.6, 3.8.1).
+fn goes(setup: &Setup, kind: Kind, m: Move) -> bool
+    ensures { result ≡ goes setup.now kind m }
+{
+    let man = Man {
+        colour: setup.side,
+        kind,
+    };
+    may_enter(setup.side, setup.placement.get(m.to))
+        && attacks_square(&setup.placement, man, m.from, m.to)
+}
+
+/// Whether a man of the side to move goes so, by its kind.
+#[tactic(auto, unfolding(chess_types::specs::Pseudo::moves_as))]
+fn moves_as(setup: &Setup, counts: &Counts, kind: Kind, m: Move) -> bool
+    requires { AreCounts counts.now setup.now.placement }
+    ensures { result ≡ moves_as setup.now kind m }
+{
+    match kind {
+        Kind::Pawn => {
+            names_rightly(setup.side, m)
+                && (steps_one(setup, m) || steps_two(setup, m) || pawn_takes(setup, m))
+        }
+        Kind::King => {
+            m.promo.is_none()
+                && (goes(setup, kind, m)
+                    || castles(setup, counts, Wing::KingSide, m)
+                    || castles(setup, counts, Wing::QueenSide, m))
+        }
+        Kind::Knight | Kind::Bishop | Kind::Rook | Kind::Queen => {
+            m.promo.is_none() && goes(setup, kind, m)
+        }
+    }
+}
+
+/// Whether the move is pseudo-legal: legal but perhaps for the mover's own king (FIDE Laws 3.1 to 3.8). The counts are those of
+/// the position; nothing is counted anew, and the board is walked along one line at most.
+pub(crate) fn is_pseudo(setup: &Setup, counts: &Counts, m: Move) -> bool
+    requires { AreCounts counts.now setup.now.placement }
+    ensures { result ≡ is_pseudo setup.now m }
+{
+    match setup.placement.get(m.from) {
+        None => false,
+        Some(man) => { same_colour(man.colour, setup.side) && moves_as(setup, counts, man.kind, m) }
+    }
+}

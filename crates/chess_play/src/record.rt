@@ -1,0 +1,52 @@
+ghost use Rattle.std.specs.Prelude.{◌≡◌};
+
+use chess_types::{Man, Move, Rights, Square};
+use std::marker::Model;
+
+/// What is kept of a move made, to take it back with `Live::take_back`.
+#[derive(Clone, Copy, Debug)]
+pub struct Record {
+    /// The move.
+    pub(crate) played: Move,
+    /// The man that it captured.
+    pub(crate) captured: Option<Man>,
+    /// The castling rights before it.
+    pub(crate) rights: Rights,
+    /// The en passant target before it.
+    pub(crate) target: Option<Square>,
+    /// The halfmove clock before it.
+    pub(crate) clock: u32,
+}
+
+impl Model for Record {
+    ghost use Rattle.chess_play.specs.Records.{RecordParts};
+
+    ghost Value = { RecordParts };
+
+    ghost view = { λ r. record { played = r.played; captured = r.captured; rights = r.rights; target = r.target; clock = r.clock } };
+
+    ghost inverse = { λ r. record { played = r.played; captured = r.captured; rights = r.rights; target = r.target; clock = r.clock } };
+}
+
+/// What is kept of the move just made. It must be spent: by `Live::undo`, or by `keep`.
+pub struct Made {
+    pub(crate) record: Record,
+}
+
+impl Model for Made {
+    ghost use Rattle.chess_play.specs.Records.{RecordParts};
+
+    ghost Value = { RecordParts };
+
+    ghost view = { λ m. m.record };
+}
+
+impl Made {
+    /// The same as a plain value, for `Live::take_back`.
+    pub fn keep(self) -> Record
+        ensures { result ≡ self }
+    {
+        let Made { record } = self;
+        record
+    }
+}

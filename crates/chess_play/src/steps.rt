@@ -1,0 +1,171 @@
+ghost use Rattle.std.specs.Prelude.{◌≡◌, ◌+◌, ◌<◌, None, IfSome, IsSome};
+ghost use Rattle.std.specs.FinMap as map;
+ghost use Rattle.chess_types.specs.Men.{men_of};
+ghost use Rattle.chess_types.specs.After.{captured_at, rook_of};
+ghost use Rattle.chess_play.specs.Followed.{AreKept, Follows};
+ghost use Rattle.chess_play.specs.Boards.{CanCastle, CanCastleBack, CanMake, CanTakeBack, carried_back, carried_on, castling_ticks, given, moved, ticks_of, with_castled, with_castled_back};
+
+use crate::after::{arriving, captured_at, castled};
+use crate::followers::Followers;
+use chess_attack::Follower;
+use chess_types::{Colour, Kind, Man, Move, Placement, Square};
+
+/// Puts a man on an empty square, and the followers follow.
+fn put(placement: &mut Placement, kept: &mut Followers, at: Square, man: Man)
+    requires empty { map.get placement.old at ≡ None }
+    requires room { men_of placement.old man.colour < 16 }
+    requires agrees { AreKept kept.old placement.old }
+    ensures placement { placement.new ≡ map.insert placement.old at man }
+    ensures follows { Follows kept.old kept.new placement.old placement.new 54 }
+{
+    kept.put(placement, at, man);
+    placement.put(at, man);
+}
+
+/// Takes the man from an occupied square, and the followers follow.
+fn clear(placement: &mut Placement, kept: &mut Followers, at: Square)
+    requires occupied { IsSome (map.get placement.old at) }
+    requires agrees { AreKept kept.old placement.old }
+    ensures placement { placement.new ≡ map.remove placement.old at }
+    ensures follows { Follows kept.old kept.new placement.old placement.new 54 }
+{
+    kept.clear(placement, at);
+    placement.clear(at);
+}
+
+/// Takes the man that stands on the square, if one does, and answers it.
+#[tactic(auto, using(crate::proofs::FollowLemmas::follows_none))]
+fn take(placement: &mut Placement, kept: &mut Followers, at: Square) -> Option<Man>
+    requires { AreKept kept.old placement.old }
+    ensures taken { result ≡ map.get placement.old at }
+    ensures placement { placement.new ≡ map.remove placement.old at }
+    ensures follows { Follows kept.old kept.new placement.old placement.new (ticks_of result) }
+{
+    let taken = placement.get(at);
+    if taken.is_some() {
+        clear(placement, kept, at);
+    }
+    taken
+}
+
+/// Puts back the man that was taken from the square, if one was.
+#[tactic(auto, using(crate::proofs::FollowLemmas::follows_none))]
+fn give_back(placement: &mut Placement, kept: &mut Followers, at: Square, taken: Option<Man>)
+    requires empty { map.get placement.old at ≡ None }
+    requires room { IfSome taken (λ man. men_of placement.old man.colour < 16) }
+    requires agrees { AreKept kept.old placement.old }
+    ensures placement { placement.new ≡ given at taken placement.old }
+    ensures follows { Follows kept.old kept.new placement.old placement.new (ticks_of taken) }
+{
+    if let Some(man) = taken {
+        put(placement, kept, at, man);
+    }
+}
+
+/// Clears one square and puts a man on another.
+fn shift(placement: &mut Placement, kept: &mut Followers, from: Square, to: Square, man: Man)
+    requires here { IsSome (map.get placement.old from) }
+    requires free { map.get (map.remove placement.old from) to ≡ None }
+    requires room { men_of (map.remove placement.old from) man.colour < 16 }
+    requires agrees { AreKept kept.old placement.old }
+    ensures placement { placement.new ≡ moved from to man placement.old }
+    ensures follows { Follows kept.old kept.new placement.old placement.new 108 }
+{
+    clear(placement, kept, from);
+    put(placement, kept, to, man);
+}
+
+fn rook_of(colour: Colour) -> Man
+    ensures { result ≡ rook_of colour }
+{
+    Man {
+        colour,
+        kind: Kind::Rook,
+    }
+}
+
+/// Where the move is castling, the rook goes from its home to the square that the king crossed (FIDE Laws 3.8.2).
+#[tactic(auto, using(crate::proofs::FollowLemmas::follows_none))]
+fn castle(placement: &mut Placement, kept: &mut Followers, man: Man, m: Move)
+    requires rook { CanCastle man m placement.old }
+    requires agrees { AreKept kept.old placement.old }
+    ensures placement { placement.new ≡ with_castled man m placement.old }
+    ensures follows { Follows kept.old kept.new placement.old placement.new (castling_ticks man m) }
+{
+    if let Some(wing) = castled(man, m) {
+        let colour = man.colour;
+        shift(
+            placement,
+            kept,
+            wing.rook_home(colour),
+            wing.crossed(colour),
+            rook_of(colour),
+        );
+    }
+}
+
+/// Where the move was castling, the rook goes back to its home.
+#[tactic(auto, using(crate::proofs::FollowLemmas::follows_none))]
+fn castle_back(placement: &mut Placement, kept: &mut Followers, man: Man, m: Move)
+    requires rook { CanCastleBack man m placement.old }
+    requires agrees { AreKept kept.old placement.old }
+    ensures placement { placement.new ≡ with_castled_back man m placement.old }
+    ensures follows { Follows kept.old kept.new placement.old placement.new (castling_ticks man m) }
+{
+    if let Some(wing) = castled(man, m) {
+        let colour = man.colour;
+        shift(
+            placement,
+            kept,
+            wing.crossed(colour),
+            wing.rook_home(colour),
+            rook_of(colour),
+        );
+    }
+}
+
+/// Makes the man's move on the board, by at most four puts and clears, and answers the man that it captures. The target is
+/// that before the move.
+pub fn carry_on(
+    placement: &mut Placement,
+    kept: &mut Followers,
+    target: Option<Square>,
+    man: Man,
+    m: Move,
+) -> Option<Man>
+    requires can { CanMake target man m placement.old }
+    requires agrees { AreKept kept.old placement.old }
+    ensures taken { result ≡ map.get placement.old (captured_at target man m) }
+    ensures placement { placement.new ≡ carried_on target man m placement.old }
+    ensures follows { Follows kept.old kept.new placement.old placement.new 216 }
+{
+    let from = m.from;
+    let to = m.to;
+    let promo = m.promo;
+    let taken = take(placement, kept, captured_at(target, man, m));
+    shift(placement, kept, from, to, arriving(man, promo));
+    castle(placement, kept, man, m);
+    taken
+}
+
+/// Takes the man's move back on the board, and puts the man that it captured on his square again. The target is that
+/// before the move.
+pub fn carry_back(
+    placement: &mut Placement,
+    kept: &mut Followers,
+    target: Option<Square>,
+    man: Man,
+    m: Move,
+    taken: Option<Man>,
+)
+    requires can { CanTakeBack target man m taken placement.old }
+    requires agrees { AreKept kept.old placement.old }
+    ensures placement { placement.new ≡ carried_back target man m taken placement.old }
+    ensures follows { Follows kept.old kept.new placement.old placement.new 216 }
+{
+    let from = m.from;
+    let to = m.to;
+    castle_back(placement, kept, man, m);
+    shift(placement, kept, to, from, man);
+    give_back(placement, kept, captured_at(target, man, m), taken);
+}
