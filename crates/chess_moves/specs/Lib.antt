@@ -1,0 +1,2 @@
+-- Where the men of the side to move might go.
+pub mod Targets
