@@ -1,14 +1,14 @@
 -- What is read without a fault makes a setup of a position.
 use Rattle.std.proofs.Common.{◌≡◌, ℕ, zero, suc, ◌+◌, ◌<◌, ◌≤◌, ◌==◌, nat_le, Bool, true, false, not, ◌&&◌, ◌||◌, List, Option, Some, None, Ok, refl, sym, ap, subst, ◌∙◌, inl, inr, arith}
-use Rattle.std.specs.Prelude.{ok_or}
+use Rattle.std.specs.Prelude.{ok_or, is_none}
 use Rattle.std.specs.List.{range_with_len, list_any}
-use Rattle.std.proofs.lemmas.Grind.{common_steps}
 use Rattle.std.proofs.lemmas.Bool.{and_parts, cases_eq, true≢false, eqb-true, leb-true}
 use Rattle.std.proofs.lemmas.Bool.Decides.{nat_tests}
+use Rattle.std.proofs.lemmas.Option.{cond_some}
 use Rattle.chess_types.specs.declared.man.Colour.{Colour}
 use Rattle.chess_types.specs.declared.man.Colour.TheVariants.{White, Black}
 use Rattle.chess_types.specs.declared.man.Kind.{Kind}
-use Rattle.chess_types.specs.declared.man.Kind.TheVariants.{King, Rook}
+use Rattle.chess_types.specs.declared.man.Kind.TheVariants.{Pawn, King, Rook}
 use Rattle.chess_types.specs.declared.man.Man.{Man}
 use Rattle.chess_types.specs.declared.position.Rights.{Rights}
 use Rattle.chess_types.specs.declared.position.Wing.{Wing}
@@ -18,10 +18,10 @@ use Rattle.chess_types.specs.Board.{Board, Look, man_at}
 use Rattle.chess_types.specs.Cells.{board_of}
 use Rattle.chess_types.specs.ManCode.{kind_number, kind_of, kind_of-number}
 use Rattle.chess_types.specs.Men.{same_colour, holds_pawn, men_of, kings_of}
-use Rattle.chess_types.specs.Position.{IsSetup, holds}
+use Rattle.chess_types.specs.Position.{IsSetup, IsExplained, holds}
 use Rattle.chess_fen.specs.declared.fault.FenFault.TheVariants.{Placement, Kings, PawnRank, TooManyMen}
 use Rattle.chess_fen.specs.Ranks.{board_cells}
-use Rattle.chess_fen.specs.Reading.{◌>>=◌, demand, has_one_king_each, is_edge, has_pawn_on_edge, has_at_most_16_each, board_in, is_man, is_home, kept_rights, target_in, clock_in, number_in}
+use Rattle.chess_fen.specs.Reading.{◌>>=◌, demand, has_one_king_each, is_edge, has_pawn_on_edge, has_at_most_16_each, board_in, is_man, is_home, kept_rights, is_explained, kept_target}
 
 -- what the demands on the men leave
 pub record HasGoodMen (board : Board) : Type 0 where
@@ -105,26 +105,37 @@ kept_home look rights White QueenSide h = (and_parts _ _ h).1
 kept_home look rights Black KingSide h = (and_parts _ _ h).1
 kept_home look rights Black QueenSide h = (and_parts _ _ h).1
 
-pub no_target : (field : List ℕ) (target : Option ℕ) → Ok target ≡ target_in field → target ≡ None
-unfolding target_in
-no_target field target h = grind (arith, common_steps)
+is_none_is : {A : Type 0} (o : Option A) → is_none o ≡ true → o ≡ None
+is_none_is None h = refl
+is_none_is (Some x) h = absurd (true≢false (sym h))
 
-pub number_one : (field : List ℕ) (number : ℕ) → Ok number ≡ number_in field → number ≡ 1
-unfolding number_in
-number_one field number h = grind (arith, common_steps)
+explained_is : (side : Colour) (look : Look) (t : ℕ) → is_explained side look t ≡ true → IsExplained side look t
+explained_is White look t h =
+    let last = and_parts _ _ h in
+    let third = and_parts _ _ last.0 in
+    let first = and_parts _ _ third.0 in
+    (eqb-true _ _ first.0, is_none_is _ first.1, is_none_is _ third.1, is_man_is _ Black Pawn last.1)
+explained_is Black look t h =
+    let last = and_parts _ _ h in
+    let third = and_parts _ _ last.0 in
+    let first = and_parts _ _ third.0 in
+    (eqb-true _ _ first.0, is_none_is _ first.1, is_none_is _ third.1, is_man_is _ White Pawn last.1)
 
-pub clock_zero : (field : List ℕ) (clock : ℕ) → Ok clock ≡ clock_in field → clock ≡ 0
-unfolding clock_in
-clock_zero field clock h = grind (arith, common_steps)
+kept_explained : (side : Colour) (look : Look) (written : Option ℕ) (t : ℕ) → kept_target side look written ≡ Some t → IsExplained side look t
+unfolding kept_target
+kept_explained side look None t h = absurd (cc)
+kept_explained side look (Some s) t h =
+    let kept = cond_some _ _ _ h in
+    explained_is side look t (ap (is_explained side look) (sym kept.1) ∙ kept.0)
 
-pub setup_read : (board : Board) (side : Colour) (written : Rights) (target : Option ℕ) (clock number : ℕ) → HasGoodMen board → target ≡ None → number ≡ 1 →
-    IsSetup (record { placement = board; side = side; rights = kept_rights (man_at board) written; target = target; clock = clock; number = number })
-setup_read board side written target clock number good none one = record {
+pub setup_read : (board : Board) (side : Colour) (rights : Rights) (target : Option ℕ) (clock number : ℕ) → HasGoodMen board → 1 ≤ number →
+    IsSetup (record { placement = board; side = side; rights = kept_rights (man_at board) rights; target = kept_target side (man_at board) target; clock = clock; number = number })
+setup_read board side rights target clock number good one = record {
   kings = one_king_each board good;
   few = few_each board good;
   pawns = inner_pawns (man_at board) good.pawns;
-  king_at_home = λ c w h. is_man_is _ c King (and_parts _ _ (kept_home (man_at board) written c w h)).0;
-  rook_at_home = λ c w h. is_man_is _ c Rook (and_parts _ _ (kept_home (man_at board) written c w h)).1;
-  target = λ t is. absurd (cc);
-  number = omega arith;
+  king_at_home = λ c w h. is_man_is _ c King (and_parts _ _ (kept_home (man_at board) rights c w h)).0;
+  rook_at_home = λ c w h. is_man_is _ c Rook (and_parts _ _ (kept_home (man_at board) rights c w h)).1;
+  target = kept_explained side (man_at board) target;
+  number = one;
 }

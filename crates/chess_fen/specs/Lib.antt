@@ -2,3 +2,4 @@
 pub mod Ranks
 pub mod Faults
 pub mod Reading
+pub mod Writing

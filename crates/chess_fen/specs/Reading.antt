@@ -1,21 +1,22 @@
--- The position that a FEN spells, or the first fault of a text that is none (PGN 16.1.3). A text is read as six fields, the
--- words between spaces. So far the castling field is KQkq or -, the target field -, the halfmove clock 0, the fullmove
--- number 1.
---   fields_in      the texts of the six fields
+-- The position that a FEN spells, or the first fault of a text that is none (PGN 16.1.3). A text is read as its words between
+-- spaces: four fields, or six with the two counters.
+--   fields_in      the texts of the six fields; without counters, 0 and 1 stand for them
 --   board_in       the men (PGN 16.1.3.1): one king a side, no pawn on ranks 1 and 8, at most 16 men a side
 --   side_in        the side to move (PGN 16.1.3.2)
 --   castling_in    the castling rights that are written (PGN 16.1.3.3)
 --   kept_rights    those whose king and rook stand at home
---   target_in      the en passant target (PGN 16.1.3.4)
---   clock_in       the halfmove clock (PGN 16.1.3.5)
---   number_in      the fullmove number (PGN 16.1.3.6)
+--   target_in      the en passant target that is written (PGN 16.1.3.4)
+--   kept_target    that target, where a pawn's advance just made explains it
+--   counter_in     the halfmove clock or the fullmove number (PGN 16.1.3.5 and 16.1.3.6), at most 99,999
 --   reading        the position, in which the side not to move isn't in check, or the fault
-use Rattle.std.specs.Prelude.{ℕ, ◌==◌, nat_le, Bool, true, false, not, ◌&&◌, ◌||◌, if◌then◌else◌, List, [], ◌∷◌, Option, Some, None, Result, Ok, Err, ok_or, codes, bytes_eq}
-use Rattle.std.specs.List.{list_any}
+use Rattle.std.specs.Prelude.{ℕ, ◌+◌, ◌-◌, ◌==◌, nat_le, max, Bool, true, false, not, ◌&&◌, ◌||◌, if◌then◌else◌, List, [], ◌∷◌, length, count_by, Option, Some, None, is_none, option_map, Result, Ok, Err, ok_or, codes, bytes_eq}
+use Rattle.std.specs.List.{list_any, list_all, find}
+use Rattle.std.specs.Char.{is_ascii_digit}
+use Rattle.std.specs.Str.Parse.{digits_value}
 use Rattle.chess_types.specs.declared.man.Colour.{Colour}
 use Rattle.chess_types.specs.declared.man.Colour.TheVariants.{White, Black}
 use Rattle.chess_types.specs.declared.man.Kind.{Kind}
-use Rattle.chess_types.specs.declared.man.Kind.TheVariants.{Rook, King}
+use Rattle.chess_types.specs.declared.man.Kind.TheVariants.{Pawn, Rook, King}
 use Rattle.chess_types.specs.declared.man.Man.{Man}
 use Rattle.chess_types.specs.declared.position.Rights.{Rights}
 use Rattle.chess_types.specs.declared.position.Wing.{Wing}
@@ -27,6 +28,7 @@ use Rattle.chess_types.specs.ManCode.{kind_number}
 use Rattle.chess_types.specs.Men.{same_colour, opponent, holds_pawn, men_of, kings_of}
 use Rattle.chess_types.specs.Attack.{in_check}
 use Rattle.chess_types.specs.Position.{State, king_home, rook_home}
+use Rattle.chess_types.specs.Texts.{square_text}
 use Rattle.chess_types.specs.Words.{words}
 use Rattle.chess_fen.specs.declared.fault.FenFault.{FenFault}
 use Rattle.chess_fen.specs.declared.fault.FenFault.TheVariants.{Fields, Placement, Kings, PawnRank, TooManyMen, Side, Castling, Target, Counter, InCheck}
@@ -51,14 +53,22 @@ pub record FieldTexts : Type 0 where
   pub clock : List ℕ
   pub number : List ℕ
 
-abbrev pub six_fields : List (List ℕ) → Result FieldTexts FenFault
-six_fields (placement ∷ side ∷ castling ∷ target ∷ clock ∷ number ∷ []) =
-    Ok (record { placement = placement; side = side; castling = castling; target = target; clock = clock; number = number })
-six_fields _ = Err Fields
+-- the texts of the two counters: both, or none, for which 0 and 1 stand
+abbrev pub counters_in : List (List ℕ) → Result (List ℕ × List ℕ) FenFault
+counters_in [] = Ok (codes "0", codes "1")
+counters_in (clock ∷ number ∷ []) = Ok (clock, number)
+counters_in _ = Err Fields
+
+-- four words, behind which the counters may stand
+abbrev pub fields_of : List (List ℕ) → Result FieldTexts FenFault
+fields_of (placement ∷ side ∷ castling ∷ target ∷ counters) = do
+  texts ← counters_in counters
+  Ok (record { placement = placement; side = side; castling = castling; target = target; clock = texts.0; number = texts.1 })
+fields_of _ = Err Fields
 
 -- the words that spaces part
 unfoldable pub fields_in : List ℕ → Result FieldTexts FenFault
-fields_in text = six_fields (words (32 ∷ []) text)
+fields_in text = fields_of (words (32 ∷ []) text)
 
 abbrev pub has_one_king_each : Board → Bool
 has_one_king_each board = kings_of board White == 1 && kings_of board Black == 1
@@ -84,15 +94,33 @@ board_in field = do
 unfoldable pub side_in : List ℕ → Result Colour FenFault
 side_in field = if bytes_eq field (codes "w") then Ok White else (if bytes_eq field (codes "b") then Ok Black else Err Side)
 
-abbrev pub all_rights : Rights
-all_rights = record { white_king = true; white_queen = true; black_king = true; black_queen = true }
-
 abbrev pub no_rights : Rights
 no_rights = record { white_king = false; white_queen = false; black_king = false; black_queen = false }
 
+-- the letter stands among these
+abbrev pub has_letter : List ℕ → ℕ → Bool
+has_letter letters letter = list_any (λ l. l == letter) letters
+
+-- a letter of KQkq that stands there once
+abbrev pub is_castling_letter : List ℕ → ℕ → Bool
+is_castling_letter field letter = has_letter (codes "KQkq") letter && count_by (λ l. l == letter) field == 1
+
+-- one letter of KQkq or more, none twice, in any order
+abbrev pub is_castling : List ℕ → Bool
+is_castling field = nat_le 1 (length field) && list_all (is_castling_letter field) field
+
+-- K, Q, k and q are 75, 81, 107 and 113; an upper-case letter is White's, K and k are of the king's wing
+abbrev pub rights_of : List ℕ → Rights
+rights_of field = record {
+  white_king = has_letter field 75;
+  white_queen = has_letter field 81;
+  black_king = has_letter field 107;
+  black_queen = has_letter field 113;
+}
+
 unfoldable pub castling_in : List ℕ → Result Rights FenFault
 castling_in field =
-    if bytes_eq field (codes "KQkq") then Ok all_rights else (if bytes_eq field (codes "-") then Ok no_rights else Err Castling)
+    if bytes_eq field (codes "-") then Ok no_rights else (if is_castling field then Ok (rights_of field) else Err Castling)
 
 -- that man stands there
 abbrev pub is_man : Option Man → Colour → Kind → Bool
@@ -111,15 +139,32 @@ kept_rights look rights = record {
   black_queen = rights.black_queen && is_home look Black QueenSide;
 }
 
+-- the square of that name
+unfoldable pub square_in : List ℕ → Option ℕ
+square_in field = find (λ s. bytes_eq field (square_text s)) squares
+
 unfoldable pub target_in : List ℕ → Result (Option ℕ) FenFault
-target_in field = if bytes_eq field (codes "-") then Ok None else Err Target
+target_in field = if bytes_eq field (codes "-") then Ok None else ok_or (option_map (λ s. Some s) (square_in field)) Target
 
-unfoldable pub clock_in : List ℕ → Result ℕ FenFault
-clock_in field = if bytes_eq field (codes "0") then Ok 0 else Err Counter
+-- With White to move the target is on rank 6, it and the square behind it are empty, and a black pawn stands on rank 5
+-- before it; mirrored for Black.
+abbrev pub is_explained : Colour → Look → ℕ → Bool
+is_explained White look t = rank_of t == 5 && is_none (look t) && is_none (look (t + 8)) && is_man (look (t - 8)) Black Pawn
+is_explained Black look t = rank_of t == 2 && is_none (look t) && is_none (look (t - 8)) && is_man (look (t + 8)) White Pawn
 
-unfoldable pub number_in : List ℕ → Result ℕ FenFault
-number_in field = if bytes_eq field (codes "1") then Ok 1 else Err Counter
+-- the target, where it is explained
+unfoldable pub kept_target : Colour → Look → Option ℕ → Option ℕ
+kept_target side look None = None
+kept_target side look (Some t) = if is_explained side look t then Some t else None
 
+-- decimal digits, one or more, that write at most 99,999; zeros may stand first
+abbrev pub is_counter : List ℕ → Bool
+is_counter field = nat_le 1 (length field) && list_all is_ascii_digit field && nat_le (digits_value 10 field) 99999
+
+unfoldable pub counter_in : List ℕ → Result ℕ FenFault
+counter_in field = if is_counter field then Ok (digits_value 10 field) else Err Counter
+
+-- a fullmove number of 0 is read as 1
 unfoldable pub reading : List ℕ → Result State FenFault
 reading text = do
   fields ← fields_in text
@@ -127,7 +172,14 @@ reading text = do
   side ← side_in fields.side
   rights ← castling_in fields.castling
   target ← target_in fields.target
-  clock ← clock_in fields.clock
-  number ← number_in fields.number
+  clock ← counter_in fields.clock
+  number ← counter_in fields.number
   _ ← demand (not (in_check (man_at placement) (opponent side))) InCheck
-  Ok (record { placement = placement; side = side; rights = kept_rights (man_at placement) rights; target = target; clock = clock; number = number })
+  Ok (record {
+    placement = placement;
+    side = side;
+    rights = kept_rights (man_at placement) rights;
+    target = kept_target side (man_at placement) target;
+    clock = clock;
+    number = max number 1;
+  })

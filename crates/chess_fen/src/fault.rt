@@ -3,8 +3,8 @@ use thiserror::Error;
 /// Why a text is no FEN. Where several apply, the first in this order is reported.
 #[derive(Clone, Copy, Debug, PartialEq, Eq, Error)]
 pub enum FenFault {
-    /// Not six fields between spaces (PGN 16.1.3).
-    #[error("a FEN has six fields")]
+    /// Neither four nor six fields between spaces (PGN 16.1.3).
+    #[error("a FEN has six fields, or the first four of them")]
     Fields = 1,
     /// The first field isn't eight ranks of eight squares each in letters and digits (PGN 16.1.3.1).
     #[error("the men are not eight ranks of eight squares")]
@@ -21,14 +21,14 @@ pub enum FenFault {
     /// The side to move is neither `w` nor `b` (PGN 16.1.3.2).
     #[error("the side to move is w or b")]
     Side = 6,
-    /// The castling field is neither `KQkq` nor `-` (PGN 16.1.3.3).
-    #[error("the castling field is KQkq or -")]
+    /// The castling field is neither `-` nor one to four different letters of `KQkq` (PGN 16.1.3.3).
+    #[error("the castling field is - or different letters of KQkq")]
     Castling = 7,
-    /// The en passant field is not `-` (PGN 16.1.3.4).
-    #[error("the en passant field is -")]
+    /// The en passant field is neither `-` nor a square, `a1` to `h8` (PGN 16.1.3.4).
+    #[error("the en passant field is - or a square")]
     Target = 8,
-    /// The halfmove clock is not `0`, or the fullmove number not `1` (PGN 16.1.3.5 and 16.1.3.6).
-    #[error("the clock is 0 and the number 1")]
+    /// The halfmove clock or the fullmove number isn't decimal digits alone, or is over 99,999 (PGN 16.1.3.5 and 16.1.3.6).
+    #[error("the clock and the number are decimal numbers of at most 99999")]
     Counter = 9,
     /// The side not to move is in check (FIDE Laws 3.9).
     #[error("the side not to move is in check")]

@@ -1,9 +1,9 @@
 ghost use Rattle.std.specs.Prelude.{◌≡◌, ◌∷◌, [], IfOk, IfErr, OnErr};
 ghost use Rattle.chess_types.specs.Words.{words};
-ghost use Rattle.chess_fen.specs.Reading.{fields_in, side_in, target_in, clock_in, number_in};
+ghost use Rattle.chess_fen.specs.Reading.{counters_in, fields_in, side_in};
 
 use super::fault::FenFault;
-use chess_types::{Colour, Square, split_word};
+use chess_types::{Colour, split_word};
 
 /// The texts of the six fields.
 #[derive(Drop)]
@@ -27,7 +27,22 @@ fn next_field(text: &[u8]) -> Result<(&[u8], &[u8]), FenFault>
     split_word(text, SPACE).ok_or(FenFault::Fields)
 }
 
-/// The six words of the text; spaces may repeat, and stand at its ends.
+// The texts of the two counters, behind the other fields: both words, or none, for which 0 and 1 stand.
+fn split_counters(text: &[u8]) -> Result<(&[u8], &[u8]), FenFault>
+    ensures counters { IfOk result (λ r. counters_in (words (32 ∷ []) text.now) ≡ Ok (r.0.now, r.1.now)) }
+    ensures fault { IfErr result (λ fault. counters_in (words (32 ∷ []) text.now) ≡ Err fault) }
+{
+    let Some((clock, rest)) = split_word(text, SPACE) else {
+        return Ok((b"0", b"1"));
+    };
+    let (number, rest) = next_field(rest)?;
+    if split_word(rest, SPACE).is_some() {
+        return Err(FenFault::Fields);
+    }
+    Ok((clock, number))
+}
+
+/// The texts of the fields, four words or six; spaces may repeat, and stand at the ends.
 #[tactic(auto, unfolding(crate::specs::Reading::fields_in))]
 pub fn split_fields(text: &[u8]) -> Result<Fields<'_>, FenFault>
     ensures fields { IfOk result (λ f. fields_in text.now ≡ Ok (record {
@@ -44,11 +59,7 @@ pub fn split_fields(text: &[u8]) -> Result<Fields<'_>, FenFault>
     let (side, rest) = next_field(rest)?;
     let (castling, rest) = next_field(rest)?;
     let (target, rest) = next_field(rest)?;
-    let (clock, rest) = next_field(rest)?;
-    let (number, rest) = next_field(rest)?;
-    if split_word(rest, SPACE).is_some() {
-        return Err(FenFault::Fields);
-    }
+    let (clock, number) = split_counters(rest)?;
     Ok(Fields {
         placement,
         side,
@@ -70,41 +81,5 @@ pub fn read_side(field: &[u8]) -> Result<Colour, FenFault>
         Ok(Colour::Black)
     } else {
         Err(FenFault::Side)
-    }
-}
-
-/// The en passant target.
-#[tactic(auto, unfolding(crate::specs::Reading::target_in))]
-pub fn read_target(field: &[u8]) -> Result<Option<Square>, FenFault>
-    ensures { result ≡ target_in field.now }
-{
-    if field == b"-".as_slice() {
-        Ok(None)
-    } else {
-        Err(FenFault::Target)
-    }
-}
-
-/// The halfmove clock.
-#[tactic(auto, unfolding(crate::specs::Reading::clock_in))]
-pub fn read_clock(field: &[u8]) -> Result<u32, FenFault>
-    ensures { result ≡ clock_in field.now }
-{
-    if field == b"0".as_slice() {
-        Ok(0)
-    } else {
-        Err(FenFault::Counter)
-    }
-}
-
-/// The fullmove number.
-#[tactic(auto, unfolding(crate::specs::Reading::number_in))]
-pub fn read_number(field: &[u8]) -> Result<u32, FenFault>
-    ensures { result ≡ number_in field.now }
-{
-    if field == b"1".as_slice() {
-        Ok(1)
-    } else {
-        Err(FenFault::Counter)
     }
 }

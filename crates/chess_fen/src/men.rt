@@ -2,11 +2,21 @@ ghost use Rattle.std.specs.Prelude.{◌≡◌, count_by};
 ghost use Rattle.chess_types.specs.Board.{man_at};
 ghost use Rattle.chess_types.specs.Cells.{board_of};
 ghost use Rattle.chess_types.specs.Men.{is_king_of};
-ghost use Rattle.chess_fen.specs.Reading.{board_in, has_one_king_each, is_edge, has_pawn_on_edge, has_at_most_16_each};
+ghost use Rattle.chess_fen.specs.Reading.{is_man, board_in, has_one_king_each, is_edge, has_pawn_on_edge, has_at_most_16_each};
 
 use super::fault::FenFault;
 use super::ranks::read_cells;
-use chess_types::{Colour, Man, Placement, holds_pawn, is_king_of, men_in};
+use chess_types::{Colour, Kind, Man, Placement, holds_pawn, is_king_of, men_in};
+
+/// Whether that man stands on a square that holds this.
+pub fn is_man(cell: Option<Man>, colour: Colour, kind: Kind) -> bool
+    ensures { result ≡ is_man cell colour kind }
+{
+    match cell {
+        None => false,
+        Some(man) => man.colour == colour && man.kind == kind,
+    }
+}
 
 fn kings(cells: &[Option<Man>], colour: Colour) -> usize
     ensures { result ≡ count_by (is_king_of colour) cells.now }

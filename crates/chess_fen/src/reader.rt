@@ -2,16 +2,19 @@ ghost use Rattle.std.specs.Prelude.{◌≡◌, ◌≤◌, IfOk};
 ghost use Rattle.chess_types.specs.Position.{IsWellFormed};
 ghost use Rattle.chess_fen.specs.Reading.{reading};
 
+use super::counters::read_counter;
 use super::fault::FenFault;
-use super::fields::{read_clock, read_number, read_side, read_target, split_fields};
+use super::fields::{read_side, split_fields};
 use super::men::read_placement;
 use super::rights::{kept_rights, read_castling};
+use super::target::{kept_target, read_target};
 use chess_attack::in_check;
 use chess_types::{Position, Setup};
 
-/// The position that a FEN spells (PGN 16.1.3). Spaces may repeat between the six fields and stand at the ends; a castling
-/// right whose king or rook isn't at home is dropped. So far the castling field is read as `KQkq` or `-`, the target as `-`,
-/// the halfmove clock as `0` and the fullmove number as `1`.
+/// The position that a FEN spells (PGN 16.1.3). Spaces may repeat between the fields and stand at the ends; without the two
+/// counters the halfmove clock is 0 and the fullmove number 1, and a fullmove number of 0 is read as 1. The letters of the
+/// castling rights may stand in any order. A right whose king or rook isn't at home is dropped, and so is a target that no
+/// pawn's advance just made explains. Both counters are at most 99,999.
 ///
 /// # Errors
 ///
@@ -27,18 +30,19 @@ pub fn read(text: &[u8]) -> Result<Position, FenFault>
     let side = read_side(fields.side)?;
     let rights = read_castling(fields.castling)?;
     let target = read_target(fields.target)?;
-    let clock = read_clock(fields.clock)?;
-    let number = read_number(fields.number)?;
+    let clock = read_counter(fields.clock)?;
+    let number = read_counter(fields.number)?;
     if in_check(&placement, side.opponent()) {
         return Err(FenFault::InCheck);
     }
     let rights = kept_rights(&placement, rights);
+    let target = kept_target(side, &placement, target);
     Ok(Position::new(Setup {
         placement,
         side,
         rights,
         target,
         clock,
-        number,
+        number: number.max(1),
     }))
 }

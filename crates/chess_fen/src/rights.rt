@@ -1,69 +1,74 @@
-ghost use Rattle.std.specs.Prelude.{◌≡◌};
+ghost use Rattle.std.specs.Prelude.{◌≡◌, count_by, ◌==◌};
+ghost use Rattle.std.specs.List.{list_all};
 ghost use Rattle.chess_types.specs.Board.{man_at};
-ghost use Rattle.chess_types.specs.Position.{king_home, rook_home};
-ghost use Rattle.chess_fen.specs.Reading.{castling_in, is_man, is_home, kept_rights};
+ghost use Rattle.chess_fen.specs.Reading.{has_letter, is_castling_letter, rights_of, castling_in, is_home, kept_rights};
 
 use super::fault::FenFault;
-use chess_types::{Colour, Kind, Man, Placement, Rights, Square, Wing};
+use super::men::is_man;
+use chess_types::{Colour, Kind, Placement, Rights, Wing};
+
+fn has_letter(letters: &[u8], letter: u8) -> bool
+    ensures { result ≡ has_letter letters.now letter }
+{
+    letters.contains(&letter)
+}
+
+fn count_of(letter: u8, letters: &[u8]) -> usize
+    ensures { result ≡ count_by (λ l. l == letter) letters.now }
+{
+    letters.iter().filter(|l| **l == letter).count()
+}
+
+// A letter of `KQkq` that stands in the field once.
+fn is_castling_letter(field: &[u8], letter: u8) -> bool
+    ensures { result ≡ is_castling_letter field.now letter }
+{
+    has_letter(b"KQkq", letter) && count_of(letter, field) == 1
+}
+
+fn are_castling_letters(field: &[u8]) -> bool
+    ensures { result ≡ list_all (is_castling_letter field.now) field.now }
+{
+    field
+        .iter()
+        .all(|letter| is_castling_letter(field, *letter))
+}
+
+fn rights_of(field: &[u8]) -> Rights
+    ensures { result ≡ rights_of field.now }
+{
+    Rights {
+        white_king: has_letter(field, b'K'),
+        white_queen: has_letter(field, b'Q'),
+        black_king: has_letter(field, b'k'),
+        black_queen: has_letter(field, b'q'),
+    }
+}
 
 /// The castling rights that are written.
 #[tactic(auto, unfolding(crate::specs::Reading::castling_in))]
 pub fn read_castling(field: &[u8]) -> Result<Rights, FenFault>
     ensures { result ≡ castling_in field.now }
 {
-    if field == b"KQkq".as_slice() {
-        Ok(Rights {
-            white_king: true,
-            white_queen: true,
-            black_king: true,
-            black_queen: true,
-        })
-    } else if field == b"-".as_slice() {
+    if field == b"-".as_slice() {
         Ok(Rights {
             white_king: false,
             white_queen: false,
             black_king: false,
             black_queen: false,
         })
+    } else if !field.is_empty() && are_castling_letters(field) {
+        Ok(rights_of(field))
     } else {
         Err(FenFault::Castling)
     }
 }
 
-fn is_man(cell: Option<Man>, colour: Colour, kind: Kind) -> bool
-    ensures { result ≡ is_man cell colour kind }
-{
-    match cell {
-        None => false,
-        Some(man) => man.colour == colour && man.kind == kind,
-    }
-}
-
-fn king_home(colour: Colour) -> Square
-    ensures { result ≡ king_home colour }
-{
-    Square::from_index(match colour {
-        Colour::White => 4,
-        Colour::Black => 60,
-    })
-}
-
-fn rook_home(colour: Colour, wing: Wing) -> Square
-    ensures { result ≡ rook_home colour wing }
-{
-    Square::from_index(match (colour, wing) {
-        (Colour::White, Wing::KingSide) => 7,
-        (Colour::White, Wing::QueenSide) => 0,
-        (Colour::Black, Wing::KingSide) => 63,
-        (Colour::Black, Wing::QueenSide) => 56,
-    })
-}
-
 fn is_home(placement: &Placement, colour: Colour, wing: Wing) -> bool
     ensures { result ≡ is_home (man_at placement.now) colour wing }
 {
-    is_man(placement.get(king_home(colour)), colour, Kind::King)
-        && is_man(placement.get(rook_home(colour, wing)), colour, Kind::Rook)
+    is_man(placement.get(colour.king_home()), colour, Kind::King)
+        && is_man(placement.get(wing.rook_home(colour)), colour, Kind::Rook)
 }
 
 /// The rights whose king and rook stand at home.

@@ -1,5 +1,5 @@
-use super::{FenFault, read};
-use chess_types::{Colour, Kind, Man, Rights, Square};
+use super::{FenFault, read, write};
+use chess_types::{Colour, Kind, Man, Position, Rights, Square};
 use std::test::Fail;
 
 const START: &[u8] = b"rnbqkbnr/pppppppp/8/8/8/8/PPPPPPPP/RNBQKBNR w KQkq - 0 1";
@@ -71,10 +71,13 @@ fn drops_a_right_whose_rook_is_away(rt: HostRuntime) -> Result<(), Fail> {
 
 #[test]
 fn reports_the_first_fault(rt: HostRuntime) {
-    let cases: [(&[u8], FenFault); 21] = [
+    let cases: [(&[u8], FenFault); 30] = [
         (b"", FenFault::Fields),
         (b"4k3/8/8/8/8/8/8/4K3 w - - 0", FenFault::Fields),
         (b"4k3/8/8/8/8/8/8/4K3 w - - 0 1 1", FenFault::Fields),
+        (b"4k3/8/8/8/8/8/8/4K3 w -", FenFault::Fields),
+        (b"4k3/8/8/8/8/8/8/4K3\tw - - 0 1", FenFault::Fields),
+        (b"4k3/8/8/8/8/8/8/4K3 w - -\t0 1", FenFault::Fields),
         (
             b"rnbqkbnrr/pppppppp/8/8/8/8/PPPPPPPP/RNBQKBNR w KQkq - 0 1",
             FenFault::Placement,
@@ -95,9 +98,18 @@ fn reports_the_first_fault(rt: HostRuntime) {
         ),
         (b"4k3/8/8/8/8/8/8/4K3 x - - 0 1", FenFault::Side),
         (b"4k3/8/8/8/8/8/8/4K3 w KK - 0 1", FenFault::Castling),
-        (b"4k3/8/8/8/8/8/8/4K3 w - e3 0 1", FenFault::Target),
+        (b"4k3/8/8/8/8/8/8/4K3 w KQkqK - 0 1", FenFault::Castling),
+        (b"4k3/8/8/8/8/8/8/4K3 w Kx - 0 1", FenFault::Castling),
+        (b"4k3/8/8/8/8/8/8/4K3 w - z9 0 1", FenFault::Target),
+        (b"4k3/8/8/8/8/8/8/4K3 w - e9 0 1", FenFault::Target),
+        (b"4k3/8/8/8/8/8/8/4K3 w - e 0 1", FenFault::Target),
         (b"4k3/8/8/8/8/8/8/4K3 w - - x 1", FenFault::Counter),
-        (b"4k3/8/8/8/8/8/8/4K3 w - - 0 2", FenFault::Counter),
+        (b"4k3/8/8/8/8/8/8/4K3 w - - +1 1", FenFault::Counter),
+        (b"4k3/8/8/8/8/8/8/4K3 w - - 0 100000", FenFault::Counter),
+        (
+            b"4k3/8/8/8/8/8/8/4K3 w - - 9999999999999 1",
+            FenFault::Counter,
+        ),
         (b"4k3/8/8/8/8/8/8/4R1K1 w - - 0 1", FenFault::InCheck),
     ];
     for (text, fault) in cases {
@@ -123,4 +135,51 @@ fn numbers_and_names_the_faults(rt: HostRuntime) {
         assert_eq!(rt; fault.number(), number);
         assert!(rt; fault.name() == name);
     }
+}
+
+#[test]
+fn writes_the_start(rt: HostRuntime) {
+    assert_eq!(rt; write(&Position::start()).as_str().as_bytes(), START);
+}
+
+#[test]
+fn writes_what_it_reads(rt: HostRuntime) -> Result<(), Fail> {
+    let cases: [(&[u8], &str); 8] = [
+        (
+            b"rnbqkbnr/pppppppp/8/8/8/8/PPPPPPPP/RNBQKBNR  w qkQK -",
+            "rnbqkbnr/pppppppp/8/8/8/8/PPPPPPPP/RNBQKBNR w KQkq - 0 1",
+        ),
+        (
+            b"4k3/8/8/8/8/8/8/3K3R w KQ - 0 1",
+            "4k3/8/8/8/8/8/8/3K3R w - - 0 1",
+        ),
+        (
+            b"4k3/8/8/8/8/8/8/4K3 w - e6 0 0",
+            "4k3/8/8/8/8/8/8/4K3 w - - 0 1",
+        ),
+        (
+            b"4k3/8/8/8/8/8/8/4K3 w - - 0100 00",
+            "4k3/8/8/8/8/8/8/4K3 w - - 100 1",
+        ),
+        (
+            b"8/8/8/K1pP3r/8/8/8/4k3 w - c6 0 2",
+            "8/8/8/K1pP3r/8/8/8/4k3 w - c6 0 2",
+        ),
+        (
+            b"r3k2r/8/8/8/4Pp2/8/8/R3K2R b Qk e3 0 99999",
+            "r3k2r/8/8/8/4Pp2/8/8/R3K2R b Qk e3 0 99999",
+        ),
+        (
+            b"4k3/8/8/8/4Pp2/8/8/4K3 b - - 0 1",
+            "4k3/8/8/8/4Pp2/8/8/4K3 b - - 0 1",
+        ),
+        (
+            b"4k3/8/8/3pP3/8/8/8/4K3 b - d6 0 1",
+            "4k3/8/8/3pP3/8/8/8/4K3 b - - 0 1",
+        ),
+    ];
+    for (text, written) in cases {
+        assert!(rt; write(&read(text)?).as_str() == written);
+    }
+    Ok(())
 }

@@ -1,0 +1,58 @@
+-- Texts as far as they are written.
+use Rattle.std.proofs.Common.{◌≡◌, ℕ, zero, suc, ◌+◌, ◌-◌, ◌*◌, ◌<◌, ◌≤◌, List, [], ◌∷◌, ◌++◌, length, map, take, drop, get_or, Option, None, refl, ap, ◌∙◌, append-nil, append_assoc, arith}
+use Rattle.std.specs.List.{range_with_len, join_with_byte}
+use Rattle.std.proofs.lemmas.List.{drop_more}
+use Rattle.std.proofs.lemmas.Grind.{common_steps}
+use Rattle.chess_types.specs.declared.man.Man.{Man}
+use Rattle.chess_types.specs.Board.{Look, man_at}
+use Rattle.chess_types.specs.Cells.{board_of}
+use Rattle.chess_types.proofs.CellLemmas.{get-board_of}
+use Rattle.chess_fen.specs.Writing.{cells_text, rank_text, placement_text}
+
+-- the ranks below, each behind a slash
+abbrev pub below : (ℕ → List ℕ) → ℕ → List ℕ
+below text zero = []
+below text (suc rank) = 47 ∷ text rank ++ below text rank
+
+pub placement_text-ranks : (look : Look) → rank_text look 7 ++ below (rank_text look) 7 ≡ placement_text look
+unfolding placement_text
+placement_text-ranks look = simp append-nil
+
+-- what stands on squares that follow one another
+map-board_of : (cells : List (Option Man)) (from n : ℕ) → from + n ≤ length cells → map (man_at (board_of cells)) (range_with_len from n) ≡ take n (drop from cells)
+map-board_of cells from zero within = refl
+map-board_of cells from (suc n) within =
+    let here : man_at (board_of cells) from ≡ get_or cells from None = get-board_of cells from in
+    let others = map-board_of cells (from + 1) n (omega arith) in
+    let cut : drop from cells ≡ get_or cells from None ∷ drop (from + 1) cells = drop_more cells from None (omega arith) in
+    rw (cut, here, others) refl
+
+module _ (cells : List (Option Man)) (len : length cells ≡ 64) where
+  rank_text-cells : (rank : ℕ) → rank < 8 → rank_text (man_at (board_of cells)) rank ≡ cells_text 0 (take 8 (drop (8 * rank) cells))
+  unfolding rank_text
+  rank_text-cells rank low = ap (cells_text 0) (map-board_of cells (8 * rank) 8 (omega arith))
+
+  pub off_board : (s : ℕ) → 64 ≤ s → man_at (board_of cells) s ≡ None
+  off_board s high = get-board_of cells s ∙ grind (arith, common_steps)
+
+  pub begun : (old new : List ℕ) → old ≡ [] → new ≡ old ++ cells_text 0 (take 8 (drop 56 cells)) →
+      new ++ below (rank_text (man_at (board_of cells))) 7 ≡ placement_text (man_at (board_of cells))
+  begun old new empty is =
+      rw (is, empty, ← rank_text-cells 7 (omega arith)) (placement_text-ranks (man_at (board_of cells)))
+
+  pub one_more : (rank from n : ℕ) (old mid new : List ℕ) → 0 < rank → rank ≤ 7 → from ≡ 8 * (rank - 1) → n ≡ 8 →
+      old ++ below (rank_text (man_at (board_of cells))) rank ≡ placement_text (man_at (board_of cells)) → mid ≡ old ++ 47 ∷ [] → new ≡ mid ++ cells_text 0 (take n (drop from cells)) →
+      new ++ below (rank_text (man_at (board_of cells))) (rank - 1) ≡ placement_text (man_at (board_of cells))
+  one_more zero from n old mid new some low start eight so_far slash is = absurd (omega arith)
+  one_more (suc rank) from n old mid new some low start eight so_far slash is =
+      let here : suc rank - 1 ≡ rank = omega arith in
+      let first : from ≡ 8 * rank = omega arith in
+      rw (here, is, slash, eight, first, ← rank_text-cells rank (omega arith))
+      (simp append_assoc so_far)
+
+-- the fields behind one another
+pub six_fields : (t0 t1 t2 t3 t4 t5 t6 t7 t8 t9 t10 t11 a b c d e f : List ℕ) → t0 ≡ [] → t1 ≡ t0 ++ a → t2 ≡ t1 ++ 32 ∷ [] → t3 ≡ t2 ++ b → t4 ≡ t3 ++ 32 ∷ [] → t5 ≡ t4 ++ c → t6 ≡ t5 ++ 32 ∷ []
+    → t7 ≡ t6 ++ d → t8 ≡ t7 ++ 32 ∷ [] → t9 ≡ t8 ++ e → t10 ≡ t9 ++ 32 ∷ [] → t11 ≡ t10 ++ f
+    → t11 ≡ join_with_byte 32 (a ∷ b ∷ c ∷ d ∷ e ∷ f ∷ [])
+six_fields t0 t1 t2 t3 t4 t5 t6 t7 t8 t9 t10 t11 a b c d e f e0 e1 e2 e3 e4 e5 e6 e7 e8 e9 e10 e11 =
+    rw (e11, e10, e9, e8, e7, e6, e5, e4, e3, e2, e1, e0) (simp append_assoc)

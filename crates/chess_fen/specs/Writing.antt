@@ -1,0 +1,71 @@
+-- The one text of a position, its FEN (PGN 16.1.3): six fields parted by one space.
+--   placement_text   the men (PGN 16.1.3.1): rank 8 first, in each rank file a first
+--   side_text        the side to move (PGN 16.1.3.2)
+--   rights_text      the castling rights held (PGN 16.1.3.3)
+--   target_text      the en passant target (PGN 16.1.3.4)
+--   written          the whole text, with the halfmove clock and the fullmove number (PGN 16.1.3.5 and 16.1.3.6)
+use Rattle.std.specs.Prelude.{ℕ, ◌+◌, ◌*◌, ◌==◌, Bool, if◌then◌else◌, List, [], ◌∷◌, ◌++◌, map, Option, Some, None, codes, decimal}
+use Rattle.std.specs.Char.{to_ascii_uppercase}
+use Rattle.std.specs.List.{range_with_len, join_with_byte}
+use Rattle.chess_types.specs.declared.man.Colour.{Colour}
+use Rattle.chess_types.specs.declared.man.Colour.TheVariants.{White, Black}
+use Rattle.chess_types.specs.declared.man.Man.{Man}
+use Rattle.chess_types.specs.declared.position.Rights.{Rights}
+use Rattle.chess_types.specs.Board.{Look}
+use Rattle.chess_types.specs.Position.{State, look}
+use Rattle.chess_types.specs.Texts.{kind_letter, square_text}
+
+-- White's letters are upper-case, Black's lower-case.
+abbrev pub letter_in_case : Colour → ℕ → ℕ
+letter_in_case White letter = to_ascii_uppercase letter
+letter_in_case Black letter = letter
+
+abbrev pub letter_of : Man → ℕ
+letter_of man = letter_in_case man.colour (kind_letter man.kind)
+
+-- the digit of so many empty squares, up to eight; nothing for none
+abbrev pub run_text : ℕ → List ℕ
+run_text run = if run == 0 then [] else (48 + run) ∷ []
+
+-- what stands on some squares, one behind the other, before the first of which stand so many empty ones
+abbrev pub cells_text : ℕ → List (Option Man) → List ℕ
+cells_text run [] = run_text run
+cells_text run (None ∷ cells) = cells_text (run + 1) cells
+cells_text run (Some man ∷ cells) = run_text run ++ letter_of man ∷ cells_text 0 cells
+
+-- the squares of a rank, from file a
+abbrev pub rank_squares : ℕ → List ℕ
+rank_squares rank = range_with_len (8 * rank) 8
+
+unfoldable pub rank_text : Look → ℕ → List ℕ
+rank_text look rank = cells_text 0 (map look (rank_squares rank))
+
+-- the ranks, parted by slashes
+unfoldable pub placement_text : Look → List ℕ
+placement_text look = join_with_byte 47 (map (rank_text look) (7 ∷ 6 ∷ 5 ∷ 4 ∷ 3 ∷ 2 ∷ 1 ∷ 0 ∷ []))
+
+abbrev pub side_text : Colour → List ℕ
+side_text White = codes "w"
+side_text Black = codes "b"
+
+-- the letter, where the right is held
+abbrev pub right_text : Bool → ℕ → List ℕ
+right_text held letter = if held then letter ∷ [] else []
+
+-- the text, and a dash for none
+abbrev pub or_dash : List ℕ → List ℕ
+or_dash [] = codes "-"
+or_dash (letter ∷ letters) = letter ∷ letters
+
+-- the letters of the rights held, in the order KQkq, which are 75, 81, 107 and 113
+unfoldable pub rights_text : Rights → List ℕ
+rights_text rights =
+    or_dash (right_text rights.white_king 75 ++ right_text rights.white_queen 81 ++ right_text rights.black_king 107 ++ right_text rights.black_queen 113)
+
+unfoldable pub target_text : Option ℕ → List ℕ
+target_text None = codes "-"
+target_text (Some square) = square_text square
+
+unfoldable pub written : State → List ℕ
+written p =
+    join_with_byte 32 (placement_text (look p) ∷ side_text p.side ∷ rights_text p.rights ∷ target_text p.target ∷ decimal p.clock ∷ decimal p.number ∷ [])

@@ -1,0 +1,160 @@
+ghost use Rattle.std.specs.Prelude.{◌≡◌, ◌≤◌, ◌<◌, ◌+◌, if◌then◌else◌, List, [], ◌∷◌, ◌++◌, Option, None, Ok, length, ℕ};
+ghost use Rattle.arrayvec.specs.ArrayString.{array_string_len};
+ghost use Rattle.chess_types.specs.declared.man.Man.{Man};
+ghost use Rattle.chess_types.specs.Board.{man_at};
+ghost use Rattle.chess_types.specs.Cells.{board_of};
+ghost use Rattle.chess_fen.specs.Reading.{reading};
+ghost use Rattle.chess_fen.specs.Writing.{letter_of, run_text, cells_text, placement_text, side_text, right_text, rights_text, target_text, written};
+
+use arrayvec::ArrayString;
+use chess_types::{Colour, Kind, Man, Position, Rights, Square};
+use itoa::Buffer;
+
+fn letter_of(man: Man) -> char
+    ensures value { result ≡ letter_of man }
+    ensures ascii { result < 128 }
+{
+    let letter = match man.kind {
+        Kind::Pawn => 'p',
+        Kind::Knight => 'n',
+        Kind::Bishop => 'b',
+        Kind::Rook => 'r',
+        Kind::Queen => 'q',
+        Kind::King => 'k',
+    };
+    match man.colour {
+        Colour::White => letter.to_ascii_uppercase(),
+        Colour::Black => letter,
+    }
+}
+
+// The digit of a run of empty squares, where there is one.
+fn push_run(text: &mut ArrayString<71>, run: u8)
+    requires few { run ≤ 8 }
+    requires room { array_string_len text.old + run ≤ 71 }
+    ensures bytes { text.new.bytes ≡ text.old.bytes ++ run_text run }
+    ensures len { array_string_len text.new ≤ array_string_len text.old + run }
+{
+    if run > 0 {
+        text.push(char::from(b'0' + run));
+    }
+}
+
+// What stands on the next square, behind a run of empty squares that isn't written yet; how long the run is then.
+fn push_cell(text: &mut ArrayString<71>, run: u8, cell: Option<Man>) -> u8
+    requires few { run < 8 }
+    requires room { array_string_len text.old + run + 1 ≤ 71 }
+    ensures bytes { (cells : List (Option Man)) → text.new.bytes ++ cells_text result cells ≡ text.old.bytes ++ cells_text run (cell ∷ cells) }
+    ensures len { array_string_len text.new + result ≤ array_string_len text.old + run + 1 }
+    ensures grows { result ≤ run + 1 }
+{
+    match cell {
+        None => run + 1,
+        Some(man) => {
+            push_run(text, run);
+            text.push(letter_of(man));
+            0
+        }
+    }
+}
+
+// A rank, from file a.
+fn push_rank(text: &mut ArrayString<71>, cells: &[Option<Man>])
+    requires eight { length cells.now ≡ 8 }
+    requires room { array_string_len text.old + 8 ≤ 71 }
+    ensures bytes { text.new.bytes ≡ text.old.bytes ++ cells_text 0 cells.now }
+    ensures len { array_string_len text.new ≤ array_string_len text.old + 8 }
+{
+    let mut run = 0;
+    for cell in cells {
+        run = push_cell(text, run, *cell);
+    }
+    push_run(text, run);
+}
+
+// The men, the eighth rank first.
+fn placement_text(cells: &[Option<Man>; 64]) -> ArrayString<71>
+    ensures bytes { result.bytes ≡ placement_text (man_at (board_of cells.now)) }
+    ensures on_board { (s : ℕ) → 64 ≤ s → man_at (board_of cells.now) s ≡ None }
+{
+    let mut text = ArrayString::new();
+    push_rank(&mut text, &cells[56..]);
+    for rank in (0..7).rev() {
+        text.push_str("/");
+        push_rank(&mut text, &cells[8 * rank..8 * rank + 8]);
+    }
+    text
+}
+
+fn side_text(side: Colour) -> &'static str
+    ensures { result.now ≡ side_text side }
+{
+    match side {
+        Colour::White => "w",
+        Colour::Black => "b",
+    }
+}
+
+fn push_right(text: &mut ArrayString<4>, held: bool, letter: &str)
+    requires room { array_string_len text.old + length letter.now ≤ 4 }
+    ensures bytes { text.new.bytes ≡ text.old.bytes ++ (if held then letter.now else []) }
+    ensures len { array_string_len text.new ≤ array_string_len text.old + length letter.now }
+{
+    if held {
+        text.push_str(letter);
+    }
+}
+
+// The letters of the rights held, in the order `KQkq`.
+#[tactic(auto, unfolding(crate::specs::Writing::rights_text))]
+fn rights_text(rights: Rights) -> ArrayString<4>
+    ensures { result.bytes ≡ rights_text rights }
+{
+    let mut text = ArrayString::new();
+    push_right(&mut text, rights.white_king, "K");
+    push_right(&mut text, rights.white_queen, "Q");
+    push_right(&mut text, rights.black_king, "k");
+    push_right(&mut text, rights.black_queen, "q");
+    if text.is_empty() {
+        text.push_str("-");
+    }
+    text
+}
+
+#[tactic(auto, unfolding(crate::specs::Writing::target_text))]
+fn target_text(target: Option<Square>) -> ArrayString<2>
+    ensures { result.bytes ≡ target_text target }
+{
+    match target {
+        Some(square) => square.text(),
+        None => {
+            let mut text = ArrayString::new();
+            text.push_str("-");
+            text
+        }
+    }
+}
+
+/// The FEN of a position (PGN 16.1.3), 128 bytes at most: six fields parted by one space. The rights that are held stand in
+/// the order `KQkq`, and a target is written whenever the position has one. `read` reads the position back from it where both
+/// counters are at most 99,999.
+#[tactic(auto, unfolding(crate::specs::Writing::written))]
+pub fn write(position: &Position) -> ArrayString<128>
+    ensures bytes { result.bytes ≡ written position.now }
+    ensures read_back { position.now.clock ≤ 99999 → position.now.number ≤ 99999 → reading result.bytes ≡ Ok position.now }
+{
+    let setup = position.setup();
+    let mut text = ArrayString::new();
+    text.push_str(&placement_text(setup.placement.cells()));
+    text.push_str(" ");
+    text.push_str(side_text(setup.side));
+    text.push_str(" ");
+    text.push_str(&rights_text(setup.rights));
+    text.push_str(" ");
+    text.push_str(&target_text(setup.target));
+    text.push_str(" ");
+    text.push_str(Buffer::new().format(setup.clock));
+    text.push_str(" ");
+    text.push_str(Buffer::new().format(setup.number));
+    text
+}
