@@ -29,7 +29,7 @@ impl From<AllocError> for Refused {
 const ABOUT: &str = "A chess board that answers by the Laws of Chess, line by line.";
 
 const ENGINE: &str =
-    "board: answers the lines of the standard input: new, set FEN, counts w, counts b";
+    "board: answers the lines of the standard input: new, set FEN, fen, counts w, counts b, eval, moves, checks";
 
 fn matched<S: AsStr>(alloc: Global, words: &[S]) -> Result<Option<Asked>, Error> {
     let engine = Arg::new(alloc, "engine")

@@ -6,3 +6,4 @@ pub mod AnswerLemmas
 pub mod TextLemmas
 pub mod FeedLemmas
 pub mod EndLemmas
+pub mod ListLemmas

@@ -1,8 +1,7 @@
 -- Texts that are parted by a gap, as far as they are written.
-use Rattle.std.proofs.Common.{◌≡◌, ℕ, zero, suc, ◌+◌, ◌*◌, ◌-◌, ◌<◌, ◌≤◌, List, ◌++◌, map, refl, sym, ap, ◌∙◌, append_assoc, append-nil, arith}
-use Rattle.std.specs.Prelude.{codes, decimal}
+use Rattle.std.proofs.Common.{◌≡◌, ℕ, zero, suc, ◌+◌, ◌-◌, ◌≤◌, List, ◌++◌, map, sym, ap, ◌∙◌, append_assoc, append-nil, arith}
 use Rattle.std.specs.List.{range_with_len}
-use Rattle.chess_cli.specs.Answers.{gapped, parted_by, rank_text, counts_text}
+use Rattle.chess_cli.specs.Answers.{gapped, parted_by}
 
 -- the texts of the numbers from a on, n of them, each behind a gap
 abbrev pub run : List ℕ → (ℕ → List ℕ) → ℕ → ℕ → List ℕ
@@ -35,21 +34,3 @@ pub run-whole : (gap : List ℕ) (text : ℕ → List ℕ) (k : ℕ) (start befo
     → old ≡ before ++ run gap text 1 (k - 1) → old ≡ start ++ parted_by gap (map text (range_with_len 0 8))
 run-whole gap text k start before old eight b o =
     rw (o, b, eight) (append_assoc start (text 0) (run gap text 1 7))
-
-map-range-agree : {X : Type 0} (f g : ℕ → X) (a n : ℕ) → ((x : ℕ) → a ≤ x → x < a + n → f x ≡ g x) → map f (range_with_len a n) ≡ map g (range_with_len a n)
-map-range-agree f g a zero same = refl
-map-range-agree f g a (suc n) same =
-    let here : f a ≡ g a = same a (omega arith) (omega arith) in
-    let rest : map f (range_with_len (a + 1) n) ≡ map g (range_with_len (a + 1) n) =
-    map-range-agree f g (a + 1) n (λ x low high. same x (omega arith) (omega arith)) in
-    cc
-
--- numbers that agree on the board have the same text
-pub counts_text-agree : (f g : ℕ → ℕ) → ((s : ℕ) → s < 64 → f s ≡ g s) → counts_text f ≡ counts_text g
-unfolding counts_text rank_text
-counts_text-agree f g same =
-    ap (parted_by (codes " / "))
-    (map-range-agree (rank_text f) (rank_text g) 0 8 (λ rank low high.
-    ap (parted_by (codes " "))
-    (map-range-agree (λ file. decimal (f (8 * rank + file))) (λ file. decimal (g (8 * rank + file))) 0 8 (λ file l h.
-    ap decimal (same (8 * rank + file) (omega arith))))))

@@ -1,13 +1,19 @@
--- What the board answers to a line, and its position afterwards. Nothing here keeps a count: the counts are those that
--- the Laws give afresh for the position.
-use Rattle.std.specs.Prelude.{◌≡◌, ℕ, ◌+◌, ◌*◌, ◌<◌, nat_le, if◌then◌else◌, ◌⊎◌, List, [], ◌∷◌, ◌++◌, length, map, Result, Ok, Err, codes, decimal}
+-- What the board answers to a line, and its position afterwards. Nothing here keeps a number: the counts and the evaluation
+-- are those that the definitions give afresh for the position.
+use Rattle.std.specs.Prelude.{◌≡◌, ℕ, ◌+◌, ◌*◌, ◌<◌, nat_le, if◌then◌else◌, ◌⊎◌, List, [], ◌∷◌, ◌++◌, length, map, filter, Result, Ok, Err, codes, decimal}
+use Rattle.std.specs.Fmt.{signed_decimal}
 use Rattle.std.specs.List.{range_with_len}
-use Rattle.chess_types.specs.Attack.{count}
+use Rattle.chess_types.specs.Squares.{squares}
+use Rattle.chess_types.specs.Attack.{count, checks_from}
+use Rattle.chess_types.specs.Texts.{move_text, square_text}
+use Rattle.chess_types.specs.Legal.{legal_moves}
 use Rattle.chess_types.specs.Position.{State, look, start}
+use Rattle.chess_eval.specs.Evaluation.{evaluation}
 use Rattle.chess_fen.specs.declared.fault.FenFault.{FenFault}
 use Rattle.chess_fen.specs.Faults.{number_of, name_of}
 use Rattle.chess_fen.specs.Reading.{reading}
-use Rattle.chess_cli.specs.Requests.{Request, Blank, New, Set, Counts, Unknown, Malformed, request}
+use Rattle.chess_fen.specs.Writing.{written}
+use Rattle.chess_cli.specs.Requests.{Request, Blank, New, Set, Counts, Eval, Fen, Moves, Checks, Unknown, Malformed, request}
 
 abbrev pub ok : List ℕ
 ok = codes "ok\n"
@@ -25,6 +31,15 @@ gapped gap (text ∷ texts) = gap ++ text ++ gapped gap texts
 abbrev pub parted_by : List ℕ → List (List ℕ) → List ℕ
 parted_by gap [] = []
 parted_by gap (text ∷ texts) = text ++ gapped gap texts
+
+-- the text, and `none` for no text
+abbrev pub or_none : List ℕ → List ℕ
+or_none [] = codes "none"
+or_none (byte ∷ bytes) = byte ∷ bytes
+
+-- the texts, parted by one space, and `none` where there are none
+abbrev pub list_text : List (List ℕ) → List ℕ
+list_text texts = or_none (parted_by (codes " ") texts)
 
 -- the numbers of files a to h on a rank, parted by one space
 unfoldable pub rank_text : (ℕ → ℕ) → ℕ → List ℕ
@@ -49,6 +64,10 @@ answer p Blank = []
 answer p New = ok
 answer p (Set fen) = set_answer (reading fen)
 answer p (Counts colour) = counts_text (count (look p) colour) ++ 10 ∷ []
+answer p Eval = signed_decimal (evaluation (look p)) ++ 10 ∷ []
+answer p Fen = written p ++ 10 ∷ []
+answer p Moves = list_text (map move_text (legal_moves p)) ++ 10 ∷ []
+answer p Checks = list_text (map square_text (filter (checks_from (look p) p.side) squares)) ++ 10 ∷ []
 answer p Unknown = refused 6 (codes "Command")
 answer p Malformed = refused 7 (codes "Argument")
 
@@ -58,6 +77,10 @@ after p Blank = p
 after p New = start
 after p (Set fen) = set_state p (reading fen)
 after p (Counts colour) = p
+after p Eval = p
+after p Fen = p
+after p Moves = p
+after p Checks = p
 after p Unknown = p
 after p Malformed = p
 

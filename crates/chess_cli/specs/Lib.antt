@@ -8,3 +8,5 @@ pub mod LineSoFar
 pub mod Reads
 pub mod Ends
 pub mod Endings
+pub mod Boards
+pub mod Lists

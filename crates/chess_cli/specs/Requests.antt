@@ -14,6 +14,14 @@ pub data Request : Type 0 where
   Set : List ℕ → Request
   -- `counts w`, `counts b`: the attack counts of a colour
   Counts : Colour → Request
+  -- `eval`: the evaluation
+  Eval : Request
+  -- `fen`: the FEN
+  Fen : Request
+  -- `moves`: the legal moves
+  Moves : Request
+  -- `checks`: the squares of the men that check the side to move
+  Checks : Request
   -- another first word
   Unknown : Request
   -- a command with the wrong words behind it
@@ -50,6 +58,10 @@ asked line (word ∷ others) =
     if bytes_eq word (codes "new") then alone New others
     else if bytes_eq word (codes "set") then Set (trimmed gaps (rest_of line))
     else if bytes_eq word (codes "counts") then with_colour Counts others
+    else if bytes_eq word (codes "eval") then alone Eval others
+    else if bytes_eq word (codes "fen") then alone Fen others
+    else if bytes_eq word (codes "moves") then alone Moves others
+    else if bytes_eq word (codes "checks") then alone Checks others
     else Unknown
 
 abbrev pub request : List ℕ → Request

@@ -18,6 +18,13 @@ pub enum Command<'a> {
     Set(&'a [u8]),
     /// The attack counts of a colour.
     Counts(Colour),
+    /// The evaluation.
+    Eval,
+    Fen,
+    /// The legal moves.
+    Moves,
+    /// The squares of the men that check the side to move.
+    Checks,
     /// Another first word.
     Unknown,
     /// Wrong words behind a command.
@@ -68,10 +75,21 @@ pub fn asked(line: &[u8]) -> Command<'_>
     let Some((word, rest)) = split_word(without_return(line), GAPS) else {
         return Command::Blank;
     };
-    match word {
-        b"new" => alone(Command::New, rest),
-        b"set" => Command::Set(trim(rest, GAPS)),
-        b"counts" => counts(rest),
-        _ => Command::Unknown,
+    if word == b"new".as_slice() {
+        alone(Command::New, rest)
+    } else if word == b"set".as_slice() {
+        Command::Set(trim(rest, GAPS))
+    } else if word == b"counts".as_slice() {
+        counts(rest)
+    } else if word == b"eval".as_slice() {
+        alone(Command::Eval, rest)
+    } else if word == b"fen".as_slice() {
+        alone(Command::Fen, rest)
+    } else if word == b"moves".as_slice() {
+        alone(Command::Moves, rest)
+    } else if word == b"checks".as_slice() {
+        alone(Command::Checks, rest)
+    } else {
+        Command::Unknown
     }
 }

@@ -7,6 +7,8 @@
 mod answer;
 mod command;
 mod ended;
+mod keys;
+mod lists;
 mod machine;
 mod over_bytes;
 mod run;
@@ -17,7 +19,7 @@ mod write;
 pub use ended::Ended;
 pub use over_bytes::board_over_bytes;
 pub use run::board;
-pub use texts::{Kept, counts_text};
+pub use texts::{Kept, counts_text, eval_text};
 
 #[cfg(test)]
 mod tests;

@@ -1,26 +1,35 @@
-ghost use Rattle.std.specs.Prelude.{◌≡◌, ◌++◌, ◌∷◌, []};
-ghost use Rattle.chess_types.specs.Attack.{count};
-ghost use Rattle.chess_attack.specs.KeptCounts.{AreCounts};
+ghost use Rattle.std.specs.Prelude.{◌≡◌, ◌++◌, ◌∷◌, [], filter, map};
+ghost use Rattle.std.specs.Fmt.{signed_decimal};
+ghost use Rattle.chess_types.specs.Squares.{squares};
+ghost use Rattle.chess_types.specs.Attack.{checks_from, count};
+ghost use Rattle.chess_types.specs.Texts.{move_text, square_text};
+ghost use Rattle.chess_types.specs.Legal.{legal_moves};
 ghost use Rattle.chess_types.specs.Position.{start, look};
-ghost use Rattle.chess_cli.specs.Answers.{answer, after, set_answer, set_state, counts_text};
+ghost use Rattle.chess_eval.specs.Evaluation.{evaluation};
+ghost use Rattle.chess_cli.specs.Answers.{answer, after, set_answer, set_state, counts_text, list_text};
+ghost use Rattle.chess_cli.specs.Boards.{IsKept};
 ghost use Rattle.chess_cli.specs.Requests.{request};
 ghost use Rattle.chess_fen.specs.Reading.{reading};
+ghost use Rattle.chess_fen.specs.Writing.{written};
 
-use super::answer::{Answer, refusal, said};
+use super::answer::{Answer, line_of, refusal, said};
 use super::command::{Command, asked};
-use super::texts::counts_text;
-use chess_attack::Counts;
+use super::lists::{moves_text, squares_text};
+use super::texts::{counts_text, eval_text};
+use chess_attack::checkers;
+use chess_key::KeyTable;
+use chess_play::Live;
 use chess_types::{Colour, Position};
 use std::marker::Model;
 
-/// The board between two lines: a position, and its attack counts beside it.
+/// The board between two lines: a position with the numbers kept beside it.
 #[derive(Drop)]
-pub struct Board {
-    position: Position,
-    counts: Counts,
+pub struct Board<'k> {
+    live: Live<'k>,
+    table: &'k KeyTable,
 }
 
-impl Model for Board {
+impl<'k> Model for Board<'k> {
     ghost use Rattle.chess_types.specs.Position.{State};
     ghost use Rattle.chess_types.specs.StateCode.{coded_state};
 
@@ -28,28 +37,31 @@ impl Model for Board {
 
     ghost coded = { coded_state };
 
-    ghost use Rattle.chess_attack.specs.KeptCounts.{AreCounts};
+    ghost view = { λ b. b.live.position };
 
-    ghost view = { λ b. b.position };
+    ghost use Rattle.chess_cli.specs.Boards.{IsKept};
 
-    ghost invariant = { λ b. AreCounts b.counts b.position.placement };
+    ghost invariant = { λ b. IsKept b.live.position };
 }
 
-// The counts of a position's men.
-fn counts_of(position: &Position) -> Counts
-    ensures { AreCounts result position.now.placement }
+// The position in which a game begins.
+#[tactic(auto, unfolding(chess_types::specs::Position::start))]
+fn start_position() -> Position
+    ensures value { result ≡ start }
+    ensures kept { IsKept result }
 {
-    Counts::of(&position.setup().placement)
+    let position = Position::start();
+    let _setup = position.setup();
+    position
 }
 
-impl Board {
-    /// The board as a game begins.
-    pub fn new() -> Board
+impl<'k> Board<'k> {
+    /// The board as a game begins, with the keys of that table.
+    pub fn new(table: &'k KeyTable) -> Board<'k>
         ensures { result ≡ start }
     {
-        let position = Position::start();
-        let counts = counts_of(&position);
-        Board { position, counts }
+        let live = Live::new(start_position(), table);
+        Board { live, table }
     }
 
     /// Answers a line that was read whole.
@@ -60,11 +72,15 @@ impl Board {
         match asked(line) {
             Command::Blank => Answer::new(),
             Command::New => {
-                *self = Board::new();
+                self.live = Live::new(start_position(), self.table);
                 said("ok\n")
             }
             Command::Set(fen) => self.set(fen),
             Command::Counts(colour) => self.counts(colour),
+            Command::Eval => self.eval(),
+            Command::Fen => self.fen(),
+            Command::Moves => self.moves(),
+            Command::Checks => self.checks(),
             Command::Unknown => refusal(6, "Command"),
             Command::Malformed => refusal(7, "Argument"),
         }
@@ -77,8 +93,7 @@ impl Board {
     {
         match chess_fen::read(fen) {
             Ok(position) => {
-                self.counts = counts_of(&position);
-                self.position = position;
+                self.live = Live::new(position, self.table);
                 said("ok\n")
             }
             Err(fault) => refusal(fault.number(), fault.name()),
@@ -89,8 +104,47 @@ impl Board {
     fn counts(&self, colour: Colour) -> Answer
         ensures { result.bytes ≡ counts_text (count (look self.now) colour) ++ 10 ∷ [] }
     {
-        let mut answer = said(counts_text(&self.counts, colour).as_str());
-        answer.push('\n');
-        answer
+        line_of(counts_text(&self.live, colour).as_str())
+    }
+
+    // The evaluation.
+    fn eval(&self) -> Answer
+        ensures { result.bytes ≡ signed_decimal (evaluation (look self.now)) ++ 10 ∷ [] }
+    {
+        line_of(eval_text(&self.live).as_str())
+    }
+
+    // The position.
+    fn position(&self) -> Position
+        ensures { result ≡ self.now }
+    {
+        let Ok(setup) = self.live.position().clone() else {
+            unreachable!();
+        };
+        Position::new(setup)
+    }
+
+    // The FEN.
+    fn fen(&self) -> Answer
+        ensures { result.bytes ≡ written self.now ++ 10 ∷ [] }
+    {
+        line_of(chess_fen::write(&self.position()).as_str())
+    }
+
+    // The legal moves.
+    fn moves(&mut self) -> Answer
+        ensures text { result.bytes ≡ list_text (map move_text (legal_moves self.old)) ++ 10 ∷ [] }
+        ensures state { self.new ≡ self.old }
+    {
+        let moves = chess_moves::moves(&mut self.live);
+        line_of(moves_text(moves.as_slice()).as_str())
+    }
+
+    // The squares of the men that check the side to move.
+    fn checks(&self) -> Answer
+        ensures { result.bytes ≡ list_text (map square_text (filter (checks_from (look self.now) self.now.side) squares)) ++ 10 ∷ [] }
+    {
+        let setup = self.live.position();
+        line_of(squares_text(&checkers(&setup.placement, setup.side)).as_str())
     }
 }

@@ -8,6 +8,7 @@ ghost use Rattle.chess_cli.specs.Ends.{EndsGood, EndsReadFault, EndsWriteFault};
 
 use super::answer::{Answer, refusal};
 use super::ended::Ended;
+use super::keys::key_table;
 use super::machine::Board;
 use super::unfinished::{Reading, Unfinished};
 use super::write::write_all;
@@ -148,7 +149,8 @@ pub(crate) fn run<A: Allocator, R: Source, W: Sink>(
     let Ok(mut buffer) = zeros(alloc, PIECE) else {
         return Ended::Memory;
     };
-    let mut board = Board::new();
+    let table = key_table();
+    let mut board = Board::new(&table);
     let mut line = Unfinished::new(alloc);
     answer_all(
         &mut board,

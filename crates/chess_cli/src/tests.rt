@@ -1,13 +1,16 @@
+mod live;
+
 use crate::run::run;
-use crate::{Ended, board, board_over_bytes};
-use chess_types::{Failed, FromBytes, Refusal, Source, ToBytes};
+use crate::{Ended, Kept, board, board_over_bytes, counts_text, eval_text};
+use chess_types::{Colour, Failed, FromBytes, Refusal, Source, Square, ToBytes};
 use linked_list_allocator::LocalHeap;
 use std::test::Fail;
 
 /// Lines of every kind: commands, blank lines, wrong words, both line ends, and a last line without a line feed.
 const INPUT: &[u8] =
     b"counts w\ncounts b\n\n \t \nset 4k3/8/8/8/8/8/8/4K2R w KQkq - 0 1\r\n  counts\tw  \ncounts\ncounts x\n\
-    counts w w\nmoves\nnew x\nnew\r\r\nset\nnew\ncounts b";
+    counts w w\nmoves x\ngo\nnew x\nnew\r\r\nset\nset 4k3/8/8/8/8/8/4P3/4K3 w - - 0 1\neval\neval x\n\
+    set 4k3/4p3/8/8/8/8/8/4K3 w - - 0 1\neval\nnew\neval\ncounts b";
 
 const OUTPUT: &[u8] = b"\
 0 1 1 1 1 1 1 0 / 1 1 1 4 4 1 1 1 / 2 2 3 2 2 3 2 2 / 0 0 0 0 0 0 0 0 / 0 0 0 0 0 0 0 0 / 0 0 0 0 0 0 0 0 / 0 0 0 0 0 0 0 0 / 0 0 0 0 0 0 0 0
@@ -17,11 +20,18 @@ ok
 refused 7 Argument
 refused 7 Argument
 refused 7 Argument
+refused 7 Argument
 refused 6 Command
 refused 7 Argument
 refused 6 Command
 refused 1 Fields
 ok
+109
+refused 7 Argument
+ok
+-109
+ok
+0
 0 0 0 0 0 0 0 0 / 0 0 0 0 0 0 0 0 / 0 0 0 0 0 0 0 0 / 0 0 0 0 0 0 0 0 / 0 0 0 0 0 0 0 0 / 2 2 3 2 2 3 2 2 / 1 1 1 4 4 1 1 1 / 0 1 1 1 1 1 1 0
 ";
 
@@ -290,5 +300,82 @@ fn tells_how_it_ended(rt: HostRuntime) {
     ] {
         assert_eq!(rt; ended.status(), status);
         assert!(rt; ended.message().as_str() == message);
+    }
+}
+
+/// Sets each position, and asks for its FEN, its moves and its checks.
+#[test]
+fn answers_by_the_laws(rt: HostRuntime) -> Result<(), Fail> {
+    let input = b"set rnbqkbnr/pppppppp/8/8/8/8/PPPPPPPP/RNBQKBNR  w qkQK -\nfen\n\
+        set 4k3/8/8/8/8/8/8/3K3R w KQ - 0100 00\nfen\n\
+        set 4k3/8/8/8/8/8/8/4K3 w - e6 0 0\nfen\nset 4k3/8/8/8/8/8/8/4K3 w - z9 0 1\nfen\n\
+        set 4k3/8/8/8/8/8/8/4K3 w KK - 0 1\nset 4k3/8/8/8/8/8/8/4K3 w - - 100000 1\n\
+        set 4k3/8/8/8/8/8/8/4K3 w -\t- 0 1\n\
+        set 8/8/8/K1pP3r/8/8/8/4k3 w - c6 0 2\nmoves\nfen\n\
+        set 8/8/8/8/k2Pp2Q/8/8/3K4 b - d3 0 1\nmoves\n\
+        set 4k3/P7/8/8/8/8/8/4K3 w - - 0 1\nmoves\nchecks\n\
+        set R3k2r/8/8/8/8/8/8/4K2R b Kk - 0 1\nchecks\n\
+        set rnb1kbnr/pppp1ppp/8/4p3/6Pq/5P2/PPPPP2P/RNBQKBNR w KQkq - 1 3\nmoves\nchecks\n";
+    let output = b"\
+ok
+rnbqkbnr/pppppppp/8/8/8/8/PPPPPPPP/RNBQKBNR w KQkq - 0 1
+ok
+4k3/8/8/8/8/8/8/3K3R w - - 100 1
+ok
+4k3/8/8/8/8/8/8/4K3 w - - 0 1
+refused 8 Target
+4k3/8/8/8/8/8/8/4K3 w - - 0 1
+refused 7 Castling
+refused 9 Counter
+refused 1 Fields
+ok
+a5a4 a5b5 a5a6 a5b6 d5d6
+8/8/8/K1pP3r/8/8/8/4k3 w - c6 0 2
+ok
+a4a3 a4b3 a4b4 a4a5 a4b5 e4e3
+ok
+e1d1 e1f1 e1d2 e1e2 e1f2 a7a8q a7a8r a7a8b a7a8n
+none
+ok
+a8
+ok
+none
+h4
+";
+    let mut reader = FromBytes::new(input, 4096);
+    let mut room = [0; 1200];
+    let mut writer = ToBytes::new(&mut room, 4096);
+    assert_eq!(rt; board(rt.alloc(), &mut reader, &mut writer), Ended::Good);
+    assert!(rt; writer.taken() == output.as_slice());
+    Ok(())
+}
+
+/// Tells other numbers than those of any position.
+struct Nines;
+
+impl Kept for Nines {
+    ghost use Rattle.std.specs.Prelude.{neg_ℤ, pos};
+
+    ghost counts = { λ _ _ _. 9 };
+
+    ghost evaluation = { λ _. neg_ℤ (pos 7) };
+
+    fn count(&self, _colour: Colour, _square: Square) -> u8 {
+        9
+    }
+
+    fn white(&self) -> i32 {
+        -7
+    }
+}
+
+#[test]
+fn texts_of_the_numbers_told(rt: HostRuntime) {
+    assert!(rt; eval_text(&Nines).as_str() == "-7");
+    let text = counts_text(&Nines, Colour::White);
+    let rank = "9 9 9 9 9 9 9 9";
+    assert_eq!(rt; text.as_str().split(" / ").count(), 8);
+    for part in text.as_str().split(" / ") {
+        assert!(rt; part == rank);
     }
 }

@@ -1,23 +1,31 @@
 ghost use Rattle.std.specs.Prelude.{◌≡◌, ℕ, ◌+◌, ◌*◌, ◌<◌, ◌≤◌, ◌++◌, codes, decimal};
-ghost use Rattle.chess_attack.specs.KeptCounts.{count_in};
+ghost use Rattle.std.specs.Fmt.{signed_decimal};
 ghost use Rattle.arrayvec.specs.ArrayString.{array_string_len};
 ghost use Rattle.chess_cli.specs.Answers.{rank_text, counts_text};
 
 use arrayvec::ArrayString;
-use chess_attack::Counts;
+use chess_play::Live;
 use chess_types::{Colour, Square};
 use itoa::Buffer;
 
 /// Numbers that are kept for a position.
 pub trait Kept {
+    ghost use Rattle.std.specs.Prelude.{ℤ};
     ghost use Rattle.chess_types.specs.declared.man.Colour.{Colour};
 
     /// The attack count of a colour on a square.
     ghost counts: { Self → Colour → ℕ → ℕ };
 
+    /// The evaluation for White, in centipawns.
+    ghost evaluation: { Self → ℤ };
+
     /// How many men of the colour attack the square.
     fn count(&self, colour: Colour, square: Square) -> u8
         ensures { result ≡ counts self.now colour square };
+
+    /// The evaluation for White, in centipawns.
+    fn white(&self) -> i32
+        ensures { result ≡ evaluation self.now };
 }
 
 fn push_number(text: &mut ArrayString<320>, number: u8)
@@ -58,10 +66,29 @@ pub fn counts_text<K: Kept>(kept: &K, colour: Colour) -> ArrayString<320>
     text
 }
 
-impl Kept for Counts {
-    ghost counts = { count_in };
+/// The evaluation in centipawns, with `-` where it is negative.
+pub fn eval_text<K: Kept>(kept: &K) -> ArrayString<16>
+    ensures { result.bytes ≡ signed_decimal (K.evaluation kept.now) }
+{
+    let mut text = ArrayString::new();
+    text.push_str(Buffer::new().format(kept.white()));
+    text
+}
+
+impl<'k> Kept for Live<'k> {
+    ghost use Rattle.chess_types.specs.Attack.{count};
+    ghost use Rattle.chess_types.specs.Position.{look};
+    ghost use Rattle.chess_eval.specs.Evaluation.{evaluation};
+
+    ghost counts = { λ live. count (look live.position) };
+
+    ghost evaluation = { λ live. evaluation (look live.position) };
 
     fn count(&self, colour: Colour, square: Square) -> u8 {
-        Counts::count(self, colour, square)
+        self.counts().count(colour, square)
+    }
+
+    fn white(&self) -> i32 {
+        Live::white(self)
     }
 }

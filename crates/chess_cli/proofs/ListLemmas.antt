@@ -1,0 +1,73 @@
+-- Lists of texts that are written one after the other.
+use Rattle.std.proofs.Common.{◌≡◌, ℕ, zero, suc, ◌+◌, ◌<◌, ◌≤◌, Bool, cond, List, [], ◌∷◌, ◌++◌, map, filter, length, not, refl, sym, ap, ◌∙◌, append_assoc, append-nil, arith}
+use Rattle.std.specs.Prelude.{codes}
+use Rattle.std.specs.List.{range_with_len}
+use Rattle.std.proofs.lemmas.List.Filters.{length-filter_both}
+use Rattle.chess_types.specs.Squares.{squares}
+use Rattle.chess_types.specs.MoveParts.{MoveParts}
+use Rattle.chess_types.specs.Texts.{move_text, square_text}
+use Rattle.chess_cli.specs.Answers.{gapped, parted_by}
+use Rattle.chess_cli.specs.Lists.{behind}
+
+gapped-more : {X : Type 0} (gap : List ℕ) (text : X → List ℕ) (xs : List X) (x : X) →
+    gapped gap (map text (xs ++ x ∷ [])) ≡ gapped gap (map text xs) ++ (gap ++ text x)
+gapped-more gap text [] x = append-nil (gap ++ text x)
+gapped-more gap text (y ∷ ys) x =
+    ap (λ (t : List ℕ). gap ++ text y ++ t) (gapped-more gap text ys x)
+    ∙ sym (append_assoc (gap ++ text y) (gapped gap (map text ys)) (gap ++ text x))
+
+-- one move more
+pub moves-more : (ms : List MoveParts) (m : MoveParts) →
+    behind (parted_by (codes " ") (map move_text ms)) (move_text m) ≡ parted_by (codes " ") (map move_text (ms ++ m ∷ []))
+moves-more [] m = sym (append-nil (move_text m))
+moves-more (n ∷ ms) m =
+    append_assoc (move_text n) (gapped (codes " ") (map move_text ms)) (32 ∷ move_text m)
+    ∙ ap (λ (t : List ℕ). move_text n ++ t) (sym (gapped-more (codes " ") move_text ms m))
+
+-- one square more
+pub squares-more : (ss : List ℕ) (s : ℕ) →
+    behind (parted_by (codes " ") (map square_text ss)) (square_text s) ≡ parted_by (codes " ") (map square_text (ss ++ s ∷ []))
+squares-more [] s = sym (append-nil (square_text s))
+squares-more (t ∷ ss) s =
+    append_assoc (square_text t) (gapped (codes " ") (map square_text ss)) (32 ∷ square_text s)
+    ∙ ap (λ (u : List ℕ). square_text t ++ u) (sym (gapped-more (codes " ") square_text ss s))
+
+-- the written text is that of the squares before these last ones
+pub record Written (written : List ℕ) (all rest : List ℕ) : Type 0 where
+  pub seen : List ℕ
+  pub parts : all ≡ seen ++ rest
+  pub text : written ≡ parted_by (codes " ") (map square_text seen)
+
+pub written-start : (all : List ℕ) → Written [] all all
+written-start all = record { seen = []; parts = refl; text = refl }
+
+pub written-more : (old new all rest : List ℕ) (s : ℕ) → Written old all (s ∷ rest) → new ≡ behind old (square_text s) → Written new all rest
+written-more old new all rest s w e = record {
+  seen = w.seen ++ s ∷ [];
+  parts = w.parts ∙ sym (append_assoc w.seen (s ∷ []) rest);
+  text = e ∙ ap (λ (t : List ℕ). behind t (square_text s)) w.text ∙ squares-more w.seen s;
+}
+
+pub written-end : (text all : List ℕ) → Written text all [] → text ≡ parted_by (codes " ") (map square_text all)
+written-end text all w =
+    w.text ∙ ap (λ (t : List ℕ). parted_by (codes " ") (map square_text t)) (sym (append-nil w.seen) ∙ sym w.parts)
+
+-- tests that agree on the board list the same squares
+filter-agree : (f g : ℕ → Bool) (a n : ℕ) → ((x : ℕ) → a ≤ x → x < a + n → f x ≡ g x) → filter f (range_with_len a n) ≡ filter g (range_with_len a n)
+filter-agree f g a zero same = refl
+filter-agree f g a (suc n) same =
+    let here : f a ≡ g a = same a (omega arith) (omega arith) in
+    let rest = filter-agree f g (a + 1) n (λ x low high. same x (omega arith) (omega arith)) in
+    (λ i. cond (here i) (a ∷ rest i) (rest i))
+
+pub same_squares : (f g : ℕ → Bool) → ((x : ℕ) → x < 64 → f x ≡ g x) → filter f squares ≡ filter g squares
+unfolding squares
+same_squares f g same = filter-agree f g 0 64 (λ x low high. same x high)
+
+filter-few : (test : ℕ → Bool) (xs : List ℕ) → length (filter test xs) ≤ length xs
+filter-few test xs = omega (arith, length-filter_both test (λ x. not (test x)) (λ x. refl) xs)
+
+-- so many squares at most
+pub squares_few : (test : ℕ → Bool) → length (filter test squares) ≤ 64
+unfolding squares
+squares_few test = filter-few test (range_with_len 0 64)
