@@ -1,0 +1,2 @@
+-- Lemmas on the number of leaves.
+pub mod LeafLemmas

@@ -1,0 +1,41 @@
+-- The answers to the lines `DEPTH FEN`.
+--   gaps         the bytes that part words: space, tab and carriage return
+--   depth_in     the depth that a word writes, 0 to 16
+--   fault_text   `fault N NAME`
+--   count_text   the number of leaves at the depth, at most 2^64 - 1, or the fault of the FEN
+--   answer_for   the same, or the fault of the depth
+--   answer       of a whole line, without its line feed; nothing for a line without words
+use Rattle.std.specs.Prelude.{ℕ, ◌-◌, ◌^◌, min, List, [], ◌∷◌, ◌++◌, Option, Some, None, Result, Ok, Err, codes, decimal, bytes_eq}
+use Rattle.std.specs.List.{find, range_with_len}
+use Rattle.chess_types.specs.Position.{State}
+use Rattle.chess_types.specs.Words.{words, skip_gaps, after_word, trimmed}
+use Rattle.chess_fen.specs.declared.fault.FenFault.{FenFault}
+use Rattle.chess_fen.specs.Faults.{number_of, name_of}
+use Rattle.chess_fen.specs.Reading.{reading}
+use Rattle.perft.specs.Leaves.{leaves_of}
+
+abbrev pub gaps : List ℕ
+gaps = 32 ∷ 9 ∷ 13 ∷ []
+
+-- the number from 0 to 16 whose decimal digits the word is
+unfoldable pub depth_in : List ℕ → Option ℕ
+depth_in word = find (λ depth. bytes_eq (decimal depth) word) (range_with_len 0 17)
+
+abbrev pub fault_text : ℕ → List ℕ → List ℕ
+fault_text number name = codes "fault " ++ decimal number ++ codes " " ++ name
+
+abbrev pub count_text : ℕ → Result State FenFault → List ℕ
+count_text depth (Ok p) = decimal (min (leaves_of depth p) (2 ^ 64 - 1))
+count_text depth (Err fault) = fault_text (number_of fault) (name_of fault)
+
+abbrev pub answer_for : Option ℕ → List ℕ → List ℕ
+answer_for None fen = codes "fault Depth"
+answer_for (Some depth) fen = count_text depth (reading fen)
+
+-- the first word is the depth, and what stands behind it the FEN
+abbrev pub answer_to : List (List ℕ) → List ℕ → List ℕ
+answer_to [] fen = []
+answer_to (word ∷ _) fen = answer_for (depth_in word) fen
+
+unfoldable pub answer : List ℕ → List ℕ
+answer line = answer_to (words gaps line) (trimmed gaps (after_word gaps (skip_gaps gaps line)))
