@@ -15,7 +15,7 @@ use Rattle.chess_types.specs.Texts.{names_promotion}
 use Rattle.chess_types.specs.Position.{State, look, cell_of}
 use Rattle.chess_types.specs.Pseudo.{is_ahead, reached, castles, goes, steps_one, steps_two, pawn_takes, moves_as, moves_man, is_pseudo}
 use Rattle.chess_types.specs.Legal.{is_legal, promotions, moves_between, moves_from}
-use Rattle.chess_play.proofs.Census.{same_self}
+use Rattle.chess_attack.proofs.Amounts.{same_self}
 use Rattle.chess_play.proofs.CastlingSquares.{castling_parts}
 use Rattle.chess_play.proofs.Pawns.{same_is, none_is}
 use Rattle.chess_moves.specs.Targets.{move_to, is_forward, attacks_from, may_reach, may_go, promotes, names_well, promoted, promotions_between}

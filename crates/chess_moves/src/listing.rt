@@ -1,4 +1,5 @@
-ghost use Rattle.std.specs.Prelude.{◌≡◌, ◌≢◌, ◌+◌, ◌<◌, ◌≤◌, ◌++◌, ◌∷◌, [], ℕ, IsTrue, Some, filter, get_or, length};
+ghost use Rattle.std.specs.Prelude.{◌≡◌, ◌≢◌, ◌+◌, ◌<◌, ◌≤◌, ◌++◌, ◌∷◌, [], ℕ, IsTrue, Some, true, filter, get_or, length};
+ghost use Rattle.std.specs.List.{Contains};
 ghost use Rattle.chess_types.specs.declared.man.Kind.{Kind};
 ghost use Rattle.chess_types.specs.MoveParts.{MoveParts};
 ghost use Rattle.chess_types.specs.Texts.{IsPromotion};
@@ -129,6 +130,8 @@ pub fn moves(live: &mut Live) -> ArrayVec<Move, 432>
     requires clock { live.old.position.clock < 1000000 }
     requires number { live.old.position.number < 1000000 }
     ensures listed { result.items ≡ legal_moves live.old.position }
+    ensures sound { (m : MoveParts) → Contains result.items m → is_legal live.old.position m ≡ true }
+    ensures complete { (m : MoveParts) → m.from < 64 → m.to < 64 → is_legal live.old.position m ≡ true → Contains result.items m }
     ensures once { (i j : ℕ) (m : MoveParts) → i < j → j < length result.items → get_or result.items i m ≢ get_or result.items j m }
     ensures position { live.new.position ≡ live.old.position }
     ensures words { live.new.words ≡ live.old.words }

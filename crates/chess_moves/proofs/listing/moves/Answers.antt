@@ -1,11 +1,12 @@
 use Rattle.std.proofs.Common.{ℕ, ◌≢◌, ◌+◌, ◌<◌, ◌≤◌, List, length, get_or, ◌++◌, filter, ◌∙◌, ap, sym, subst, refl, arith}
-use Rattle.std.specs.List.{flat_map}
+use Rattle.std.specs.List.{flat_map, Contains}
 use Rattle.chess_types.specs.Men.{men_of}
 use Rattle.chess_types.specs.MoveParts.{MoveParts}
 use Rattle.chess_types.specs.Position.{State}
 use Rattle.chess_types.specs.Legal.{is_legal, moves_from, legal_moves}
 use Rattle.chess_moves.proofs.Bound.{legal_few}
 use Rattle.chess_moves.proofs.Pieces.{listed_next, room_next, listed_end, next_piece, rest_first, rest_end, listed_begin}
+use Rattle.chess_moves.proofs.LegalLaws.{listed_legal, legal_listed}
 use Rattle.chess_moves.proofs.Order.{moves_apart}
 use Rattle.chess_moves.proofs.listing.moves.Goals as goal
 
@@ -39,3 +40,12 @@ pub returns-clause-once : goal.returns-clause-once
 returns-clause-once c =
     subst (λ (ms : List MoveParts). (i j : ℕ) (m : MoveParts) → i < j → j < length ms → get_or ms i m ≢ get_or ms j m)
     (sym (returns-clause-listed c)) (moves_apart c.args.live.now.position)
+
+pub returns-clause-sound : goal.returns-clause-sound
+returns-clause-sound c = λ m listed.
+    (listed_legal c.args.live.now.position m (subst (λ (ms : List MoveParts). Contains ms m) (returns-clause-listed c) listed)).1
+
+pub returns-clause-complete : goal.returns-clause-complete
+returns-clause-complete c = λ m from to legal.
+    subst (λ (ms : List MoveParts). Contains ms m) (sym (returns-clause-listed c))
+    (legal_listed c.args.live.now.position m (record { from = from; to = to }) legal)
