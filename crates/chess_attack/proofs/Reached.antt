@@ -22,7 +22,7 @@ use Rattle.chess_attack.specs.Targets.{Adds, lands_knight, lands_king, lands_paw
 use Rattle.chess_attack.proofs.Amounts.{same_self}
 use Rattle.chess_attack.proofs.Leaping.{IsSlider, IsLeaper, knight_own, king_own, pawn_own}
 use Rattle.chess_attack.proofs.OwnAttacks.{leaper_slides, slider_own}
-use Rattle.chess_attack.proofs.Sweeps.{passed, passed_next, and_not}
+use Rattle.chess_attack.proofs.Sweeps.{passed, passed_next}
 use Rattle.chess_attack.proofs.Walks.{Walked, reached_end, reached_first}
 
 -- an insertion adds one square
@@ -53,10 +53,6 @@ positive_bit false = refl
 -- two amounts, of which one is 1 where the test holds
 or_of_sum : (a b c : Bool) → cond a 1 0 + cond b 1 0 ≡ cond c 1 0 → (a || b) ≡ c
 or_of_sum a b c e = simp (positive_sum, positive_bit) at (ap (nat_lt 0) e)
-
--- at its start a walk has passed no square
-pub adds_start : (axis : Axis) (way : Way) (at : ℕ) (old : FinSet nat_cmp) → Adds old old (passed axis way at at)
-adds_start axis way at old s hs = rw (and_not, or-false) refl
 
 -- it passes the next
 pub adds_next :

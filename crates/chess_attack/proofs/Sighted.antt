@@ -8,7 +8,7 @@ use Rattle.chess_types.specs.Squares.{line_of}
 use Rattle.chess_types.specs.Attack.{is_clear, slides, slides_to}
 use Rattle.chess_attack.specs.declared.way.Way.{Way}
 use Rattle.chess_attack.specs.declared.way.Way.TheVariants.{Up, Down}
-use Rattle.chess_attack.specs.Halves.{on_half, IsNext, IsEnd}
+use Rattle.chess_attack.specs.Halves.{on_half, IsNext}
 use Rattle.chess_attack.proofs.Axes.{BetweenOn, Towards, apart_from, between_parts, half_parts, half_from}
 use Rattle.chess_attack.proofs.Clear.{clear_at, clear_from}
 use Rattle.chess_attack.proofs.Slides.{slides_to_on}
@@ -23,10 +23,6 @@ still_ahead axis way here t to n hto other ahead =
       | inl same ↦ absurd (other (sym same))
       | inr beyond ↦ beyond
     ]
-
--- the half doesn't end before it
-pub not_ended : (axis : Axis) (way : Way) (here to : ℕ) → IsEnd axis way here → to < 64 → on_half axis way here to ≡ true → ⊥
-not_ended axis way here to e hto ahead = true≢false (sym ahead ∙ e.none to hto)
 
 -- the walk comes to it past no man
 pub clear_to :

@@ -48,10 +48,6 @@ written-more old new all rest s w e = record {
   text = e ∙ ap (λ (t : List ℕ). behind t (square_text s)) w.text ∙ squares-more w.seen s;
 }
 
-pub written-end : (text all : List ℕ) → Written text all [] → text ≡ parted_by (codes " ") (map square_text all)
-written-end text all w =
-    w.text ∙ ap (λ (t : List ℕ). parted_by (codes " ") (map square_text t)) (sym (append-nil w.seen) ∙ sym w.parts)
-
 -- tests that agree on the board list the same squares
 filter-agree : (f g : ℕ → Bool) (a n : ℕ) → ((x : ℕ) → a ≤ x → x < a + n → f x ≡ g x) → filter f (range_with_len a n) ≡ filter g (range_with_len a n)
 filter-agree f g a zero same = refl

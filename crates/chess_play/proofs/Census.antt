@@ -1,14 +1,13 @@
 -- What stands on the squares, and how many men of a sort a board has, after a man is put on it or taken away.
-use Rattle.std.proofs.Common.{◌≡◌, ◌≢◌, ℕ, ◌+◌, ◌<◌, ◌≤◌, Bool, true, Option, Some, None, refl, ap, ◌∙◌, arith}
+use Rattle.std.proofs.Common.{◌≡◌, ◌≢◌, ℕ, ◌+◌, ◌<◌, ◌≤◌, Bool, Option, Some, None, refl, ap, ◌∙◌, arith}
 use Rattle.std.proofs.lemmas.Bool.{ne_eqb, eq-eqb}
 use Rattle.std.specs.FinMap.{insert, remove}
-use Rattle.chess_types.specs.declared.man.Colour.{Colour}
-use Rattle.chess_types.specs.declared.man.Colour.TheVariants.{White, Black}
 use Rattle.chess_types.specs.declared.man.Man.{Man}
 use Rattle.chess_types.specs.Board.{Board, man_at}
 use Rattle.chess_types.specs.Squares.{squares}
-use Rattle.chess_types.specs.Men.{same_colour, is_of, census, men_of}
+use Rattle.chess_types.specs.Men.{is_of, census, men_of}
 use Rattle.chess_types.proofs.BoardLaws.{get-put, get-clear}
+use Rattle.chess_attack.proofs.Amounts.{same_self}
 use Rattle.chess_attack.proofs.Counting.{bit, total, total-one, sum_by-range}
 
 -- a man stands where he is put
@@ -54,28 +53,10 @@ module _ (test : Option Man → Bool) where
       census_one (remove board at) board at inside (clear_there board at)
       ∙ ap (λ o. census test board + bit (test o)) (clear_here board at)
 
--- a colour is its own
-pub same_self : (c : Colour) → same_colour c c ≡ true
-same_self White = refl
-same_self Black = refl
-
--- a board never has more men for a square that is cleared
-pub clear_fewer : (board : Board) (at : ℕ) (c : Colour) → at < 64 → men_of (remove board at) c ≤ men_of board c
-clear_fewer board at c inside = omega (arith, census_clear (is_of c) board at inside)
-
 -- it has one man fewer of his colour where a man leaves it
 pub clear_room : (board : Board) (at : ℕ) (man : Man) → at < 64 → man_at board at ≡ Some man → men_of board man.colour ≤ 16 →
     men_of (remove board at) man.colour < 16
 clear_room board at man inside here few =
     let n = census_clear (is_of man.colour) board at inside in
     let one : bit (is_of man.colour (man_at board at)) ≡ 1 = ap (λ o. bit (is_of man.colour o)) here ∙ ap bit (same_self man.colour) in
-    omega arith
-
--- where a board has at most 16 men of a colour with a man on an empty square, there was room for him
-pub put_room : (board : Board) (at : ℕ) (man : Man) → at < 64 → man_at board at ≡ None → men_of (insert board at man) man.colour ≤ 16 →
-    men_of board man.colour < 16
-put_room board at man inside none few =
-    let n = census_put (is_of man.colour) board at man inside in
-    let one : bit (is_of man.colour (Some man)) ≡ 1 = ap bit (same_self man.colour) in
-    let was : bit (is_of man.colour (man_at board at)) ≡ 0 = ap (λ o. bit (is_of man.colour o)) none in
     omega arith

@@ -12,7 +12,8 @@ use Rattle.chess_types.specs.Position.{State, IsSetup, look, rook_home}
 use Rattle.chess_types.specs.Pseudo.{crossed, is_pseudo}
 use Rattle.chess_types.specs.After.{captured_at, arriving, carried, is_castling, rook_of}
 use Rattle.chess_attack.proofs.Counting.{bit}
-use Rattle.chess_play.proofs.Census.{same_self, clear_room}
+use Rattle.chess_attack.proofs.Amounts.{same_self}
+use Rattle.chess_play.proofs.Census.{clear_room}
 use Rattle.chess_play.proofs.Promotions.{colour_kept}
 use Rattle.chess_play.proofs.CastlingSquares.{rook_inside}
 use Rattle.chess_play.proofs.Facts.{Facts, facts}
