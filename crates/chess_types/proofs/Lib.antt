@@ -6,3 +6,5 @@ pub mod CallLemmas
 pub mod SquareLemmas
 pub mod BitLemmas
 pub mod StartLemmas
+pub mod AllMoves
+pub mod PlayLaws

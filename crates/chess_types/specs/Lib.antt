@@ -13,6 +13,11 @@ pub mod StateCode
 pub mod Pseudo
 pub mod After
 pub mod Legal
+pub mod Lines
+pub mod LineCode
+pub mod Repetition
+pub mod Dead
+pub mod Outcome
 pub mod Words
 pub mod Calls
 pub mod Lent

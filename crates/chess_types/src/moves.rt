@@ -63,6 +63,7 @@ impl Move {
     /// Reads a move in the long algebraic notation of UCI: `e2e4`, `e1g1`, `e7e8q`, the promotion to a queen, rook, bishop or
     /// knight. `None` for any other text.
     pub fn parse(text: &[u8]) -> Option<Move>
+        ensures on_board { IfSome result (λ m. (m.from < 64) × (m.to < 64)) }
         ensures promotion { IfSome result (λ m. IsPromotion m.promo) }
         ensures sound { IfSome result (λ m. text.now ≡ move_text m) }
         ensures complete { (m : MoveParts) → m.from < 64 → m.to < 64 → IsPromotion m.promo → text.now ≡ move_text m → result ≡ Some m }
