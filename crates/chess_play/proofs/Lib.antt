@@ -12,3 +12,4 @@ pub mod BackSteps
 pub mod MoveLemmas
 pub mod UndoLemmas
 pub mod FollowLemmas
+pub mod Counters

@@ -28,6 +28,15 @@ impl Model for Record {
     ghost inverse = { λ r. record { played = r.played; captured = r.captured; rights = r.rights; target = r.target; clock = r.clock } };
 }
 
+impl Record {
+    /// The move.
+    pub fn played(self) -> Move
+        ensures { result ≡ self.played }
+    {
+        self.played
+    }
+}
+
 /// What is kept of the move just made. It must be spent: by `Live::undo`, or by `keep`.
 pub struct Made {
     pub(crate) record: Record,

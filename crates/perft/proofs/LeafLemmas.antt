@@ -1,16 +1,14 @@
 -- The leaves, counted move by move, each count at most 2^64 - 1.
-use Rattle.std.proofs.Common.{◌≡◌, ℕ, zero, suc, ◌+◌, ◌-◌, ◌^◌, ◌<◌, ◌≤◌, min, cond, Bool, true, false, not, List, [], ◌∷◌, length, get_or, drop, filter, refl, sym, ap, ◌∙◌, arith, inl, inr, Option, Some, None, add-one, drop-cons}
+use Rattle.std.proofs.Common.{◌≡◌, ℕ, zero, suc, ◌+◌, ◌-◌, ◌^◌, ◌<◌, ◌≤◌, min, Bool, true, not, List, [], ◌∷◌, length, get_or, drop, filter, refl, sym, ap, ◌∙◌, arith, inl, inr, add-one, drop-cons}
 use Rattle.std.specs.List.{list_all, sum_by}
 use Rattle.std.proofs.lemmas.Bool.{and_parts, cases_Bool}
 use Rattle.std.proofs.lemmas.List.Sums.{sum_by-cons}
-use Rattle.chess_types.specs.declared.man.Colour.{Colour}
-use Rattle.chess_types.specs.declared.man.Colour.TheVariants.{White, Black}
-use Rattle.chess_types.specs.declared.man.Man.{Man}
 use Rattle.chess_types.specs.Attack.{in_check}
 use Rattle.chess_types.specs.MoveParts.{MoveParts}
 use Rattle.chess_types.specs.Position.{State, look}
 use Rattle.chess_types.specs.Pseudo.{is_pseudo}
-use Rattle.chess_types.specs.After.{after, after_by, number_after}
+use Rattle.chess_types.specs.After.{after}
+use Rattle.chess_play.proofs.Counters.{clock_more, number_more}
 use Rattle.chess_types.specs.Legal.{is_legal, legal_moves, all_moves}
 use Rattle.perft.specs.Leaves.{leaves_of}
 
@@ -110,30 +108,6 @@ one_ply p depth len list one len_is is fits =
     ∙ ap length (sym is)
     ∙ sym len_is in
     omega (arith, leaves)
-
-none_or_more : (b : Bool) (n : ℕ) → cond b 0 (n + 1) ≤ n + 1
-none_or_more true n = omega arith
-none_or_more false n = omega arith
-
-number_by : (c : Colour) (n : ℕ) → number_after c n ≤ n + 1
-number_by White n = omega arith
-number_by Black n = omega arith
-
-clock_by : (p : State) (there : Option Man) (m : MoveParts) → (after_by p there m).clock ≤ p.clock + 1
-clock_by p None m = omega arith
-clock_by p (Some man) m = none_or_more _ p.clock
-
-number_there : (p : State) (there : Option Man) (m : MoveParts) → (after_by p there m).number ≤ p.number + 1
-number_there p None m = omega arith
-number_there p (Some man) m = number_by p.side p.number
-
-clock_more : (p : State) (m : MoveParts) → (after p m).clock ≤ p.clock + 1
-unfolding after
-clock_more p m = clock_by p (look p m.from) m
-
-number_more : (p : State) (m : MoveParts) → (after p m).number ≤ p.number + 1
-unfolding after
-number_more p m = number_there p (look p m.from) m
 
 -- A move adds at most one to each counter, so that there is room for the plies behind it. The position is known under two names.
 pub clock_room : (p now next : State) (m : MoveParts) (depth : ℕ) → now ≡ p → next ≡ after now m → 1 ≤ depth → p.clock + depth ≤ 1000000 → next.clock + (depth - 1) ≤ 1000000
