@@ -1,0 +1,51 @@
+-- What is answered of a line, by what is found out of its last position.
+use Rattle.std.proofs.Common.{◌≡◌, ℕ, ◌<◌, ◌≤◌, true, false, Some, None, Ok, Err, length, refl, ap, ◌∙◌}
+use Rattle.std.proofs.lemmas.Bool.{le-leb, lt-leb}
+use Rattle.chess_types.specs.declared.outcome.Status.{Status}
+use Rattle.chess_types.specs.MoveParts.{MoveParts}
+use Rattle.chess_types.specs.Position.{State}
+use Rattle.chess_types.specs.Legal.{is_legal}
+use Rattle.chess_types.specs.Lines.{Line, last, extended}
+use Rattle.chess_types.specs.Repetition.{repetitions}
+use Rattle.chess_types.specs.Outcome.{status_at, status, is_play, claims_at, claims, claims_with}
+use Rattle.chess_draws.specs.declared.fault.LineFault.TheVariants.{Illegal, TooLong}
+use Rattle.chess_draws.specs.Pushes.{push_answer}
+
+-- how a line stands, from the position and the count
+pub status_is : (line : Line) (p : State) (count : ℕ) → p ≡ last line → count ≡ repetitions line → status_at p count ≡ status line
+unfolding status
+status_is line p count position is = ap (λ (s : State). status_at s count) position ∙ ap (status_at (last line)) is
+
+-- and what may be claimed
+pub claims_is : (line : Line) (now : Status) (count clock : ℕ) → now ≡ status line → count ≡ repetitions line → clock ≡ (last line).clock →
+    claims_at (is_play now) count clock ≡ claims line
+unfolding claims
+claims_is line now count clock status_is count_is clock_is =
+    ap (λ (s : Status). claims_at (is_play s) count clock) status_is
+    ∙ ap (λ (n : ℕ). claims_at (is_play (status line)) n clock) count_is
+    ∙ ap (claims_at (is_play (status line)) (repetitions line)) clock_is
+
+pub claims_with_is : (line : Line) (m : MoveParts) (now : Status) (count clock : ℕ) → is_legal (last line) m ≡ true → now ≡ status line →
+    count ≡ repetitions (extended line m) → clock ≡ (last (extended line m)).clock →
+    Some (claims_at (is_play now) count clock) ≡ claims_with line m
+unfolding claims_with
+claims_with_is line m now count clock legal status_is count_is clock_is =
+    rw legal
+    (ap (λ (s : Status). Some (claims_at (is_play s) count clock)) status_is
+    ∙ ap (λ (n : ℕ). Some (claims_at (is_play (status line)) n clock)) count_is
+    ∙ ap (λ (n : ℕ). Some (claims_at (is_play (status line)) (repetitions (extended line m)) n)) clock_is)
+
+-- none with another move
+pub claims_with_none : (line : Line) (m : MoveParts) → is_legal (last line) m ≡ false → None ≡ claims_with line m
+unfolding claims_with
+claims_with_none line m illegal = rw illegal refl
+
+-- the answers to a move
+pub answer_illegal : (line : Line) (m : MoveParts) → is_legal (last line) m ≡ false → push_answer line m ≡ Err Illegal
+answer_illegal line m illegal = rw illegal refl
+
+pub answer_long : (line : Line) (m : MoveParts) → is_legal (last line) m ≡ true → 20000 ≤ length line.moves → push_answer line m ≡ Err TooLong
+answer_long line m legal long = rw (legal, le-leb 20000 (length line.moves) long) refl
+
+pub answer_made : (line : Line) (m : MoveParts) → is_legal (last line) m ≡ true → length line.moves < 20000 → push_answer line m ≡ Ok tt
+answer_made line m legal few = rw (legal, lt-leb 20000 (length line.moves) few) refl

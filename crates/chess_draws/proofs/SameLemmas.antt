@@ -1,0 +1,81 @@
+-- Which positions are the same: each is the same as itself, and none as the one that a move makes of it.
+use Rattle.std.proofs.Common.{◌≡◌, ℕ, ◌==◌, Bool, true, false, List, [], ◌∷◌, Option, Some, None, refl, ap, ◌∙◌}
+use Rattle.std.specs.List.{list_all}
+use Rattle.std.proofs.lemmas.Bool.{eq-eqb}
+use Rattle.chess_types.specs.declared.man.Colour.{Colour}
+use Rattle.chess_types.specs.declared.man.Colour.TheVariants.{White, Black}
+use Rattle.chess_types.specs.declared.man.Kind.{Kind}
+use Rattle.chess_types.specs.declared.man.Kind.TheVariants.{Pawn, Knight, Bishop, Rook, Queen, King}
+use Rattle.chess_types.specs.declared.man.Man.{Man}
+use Rattle.chess_types.specs.declared.position.Rights.{Rights}
+use Rattle.chess_types.specs.Squares.{squares}
+use Rattle.chess_types.specs.ManCode.{kind_number}
+use Rattle.chess_types.specs.Board.{Look}
+use Rattle.chess_types.specs.Men.{same_colour, opponent}
+use Rattle.chess_types.specs.MoveParts.{MoveParts}
+use Rattle.chess_types.specs.Position.{State, look}
+use Rattle.chess_types.specs.After.{after, after_by}
+use Rattle.chess_types.specs.Legal.{is_legal}
+use Rattle.chess_types.specs.Repetition.{same_bool, same_man, same_rights, same_target, counting_target, is_same}
+use Rattle.chess_attack.proofs.Amounts.{same_self}
+use Rattle.chess_play.proofs.Facts.{pseudo_man}
+use Rattle.chess_moves.proofs.LegalLaws.{legal_pseudo}
+use Rattle.chess_draws.specs.Stands.{same_stand, stand_of}
+
+kind_self : (k : Kind) → (kind_number k == kind_number k) ≡ true
+kind_self Pawn = refl
+kind_self Knight = refl
+kind_self Bishop = refl
+kind_self Rook = refl
+kind_self Queen = refl
+kind_self King = refl
+
+man_self : (there : Option Man) → same_man there there ≡ true
+man_self None = refl
+man_self (Some man) = rw (same_self man.colour, kind_self man.kind) refl
+
+men_self : (men : Look) (squares : List ℕ) → list_all (λ s. same_man (men s) (men s)) squares ≡ true
+men_self men [] = refl
+men_self men (s ∷ squares) = rw (man_self (men s), men_self men squares) refl
+
+bool_self : (b : Bool) → same_bool b b ≡ true
+bool_self true = refl
+bool_self false = refl
+
+rights_self : (r : Rights) → same_rights r r ≡ true
+rights_self r = rw (bool_self r.white_king, bool_self r.white_queen, bool_self r.black_king, bool_self r.black_queen) refl
+
+number_self : (n : ℕ) → (n == n) ≡ true
+number_self n = eq-eqb n n refl
+
+target_self : (t : Option ℕ) → same_target t t ≡ true
+target_self None = refl
+target_self (Some t) = number_self t
+
+-- a position is the same as itself
+pub is_same_self : (p : State) → is_same p p ≡ true
+unfolding is_same
+is_same_self p = rw (same_self p.side, men_self (look p) squares, rights_self p.rights, target_self (counting_target p)) refl
+
+other_side : (c : Colour) → same_colour (opponent c) c ≡ false
+other_side White = refl
+other_side Black = refl
+
+sides_differ : (p q : State) → same_colour p.side q.side ≡ false → is_same p q ≡ false
+unfolding is_same
+sides_differ p q h = rw h refl
+
+side_on : (p : State) (there : Option Man) (m : MoveParts) (man : Man) → there ≡ Some man → same_colour (after_by p there m).side p.side ≡ false
+side_on p there m man is = ap (λ x. same_colour (after_by p x m).side p.side) is ∙ other_side p.side
+
+-- after a legal move the other side has the move
+pub same_after : (p : State) (m : MoveParts) → is_legal p m ≡ true → is_same (after p m) p ≡ false
+unfolding after
+same_after p m h =
+    let (man, here) : (man : Man) × (look p m.from ≡ Some man) = pseudo_man p m (legal_pseudo p m h) in
+    sides_differ (after p m) p (side_on p (look p m.from) m man here)
+
+-- what is kept of two positions tells whether they are the same
+pub same_stands : (words : List ℕ) (p q : State) → is_same p q ≡ same_stand (stand_of words p) (stand_of words q)
+unfolding is_same same_stand
+same_stands words p q = refl

@@ -1,0 +1,22 @@
+use Rattle.std.proofs.Common.{◌≡◌, ap, ◌∙◌, arith}
+use Rattle.chess_types.specs.Position.{State}
+use Rattle.chess_types.specs.Lines.{last}
+use Rattle.chess_draws.proofs.LineLemmas.{here_last, here_clock, here_number}
+use Rattle.chess_draws.proofs.AnswerLemmas.{status_is, claims_is}
+use Rattle.chess_draws.proofs.line.Line.claims.Goals as goal
+
+pub status_at-status-requires-clause-clock : goal.status_at-status-requires-clause-clock
+status_at-status-requires-clause-clock g c = omega (arith, here_clock c.self.invariant)
+
+pub status_at-status-requires-clause-number : goal.status_at-status-requires-clause-number
+status_at-status-requires-clause-number g c = omega (arith, here_number c.self.invariant)
+
+pub returns-clause-value : goal.returns-clause-value
+returns-clause-value g c =
+    let here : c.self.inside.live.position ≡ last c.args.self.now.line =
+    here_last c.self.invariant c.self.view_is ∙ ap last c.count-count.ensures.as_before.line in
+    c.claims_at.ensures
+    ∙ claims_is c.args.self.now.line c.status_at-status.result c.count-count.result c.behind-self.inside.clock
+    (c.status_at-status.ensures.value ∙ status_is c.args.self.now.line c.self.inside.live.position c.count-count.result here c.count-count.ensures.value)
+    c.count-count.ensures.value
+    (ap (λ (s : State). s.clock) (c.behind-self.view_is ∙ c.position.ensures.value ∙ c.status_at-status.ensures.position ∙ here))

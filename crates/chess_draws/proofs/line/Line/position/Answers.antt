@@ -1,0 +1,20 @@
+use Rattle.std.proofs.Common.{◌≡◌, sym, ap, subst, ◌∙◌, arith}
+use Rattle.chess_types.specs.Position.{State, IsQuiet}
+use Rattle.chess_draws.proofs.LineLemmas.{here_last, here_clock, here_number, here_well_formed}
+use Rattle.chess_draws.proofs.line.Line.position.Goals as goal
+
+pub new-requires : goal.new-requires
+new-requires g c = subst IsQuiet (sym (c.in-Ok.ensures.cases ∙ c.position.ensures.value)) (here_well_formed c.self.invariant).quiet
+
+pub returns-clause-value : goal.returns-clause-value
+returns-clause-value g c =
+    c.new.ensures ∙ c.in-Ok.ensures.cases ∙ c.position.ensures.value ∙ here_last c.self.invariant c.self.view_is
+
+pub returns-clause-counters : goal.returns-clause-counters
+returns-clause-counters g c =
+    let same : c.new.result ≡ c.self.inside.live.position = c.new.ensures ∙ c.in-Ok.ensures.cases ∙ c.position.ensures.value in
+    let clock : c.new.result.clock ≡ c.self.inside.live.position.clock = ap (λ (s : State). s.clock) same in
+    let number : c.new.result.number ≡ c.self.inside.live.position.number = ap (λ (s : State). s.number) same in (
+      omega (arith, clock, here_clock c.self.invariant),
+      omega (arith, number, here_number c.self.invariant),
+    )

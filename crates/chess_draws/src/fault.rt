@@ -1,0 +1,27 @@
+use thiserror::Error;
+
+/// Why a move isn't added to a line. Where several apply, the first in this order is reported.
+#[derive(Clone, Copy, Debug, PartialEq, Eq, Error)]
+pub enum LineFault {
+    /// The move isn't legal (FIDE Laws 3.10.2).
+    #[error("the move isn't legal")]
+    Illegal = 1,
+    /// The line has 20,000 plies.
+    #[error("a line has at most 20,000 plies")]
+    TooLong = 2,
+    /// There is no memory for the line to grow.
+    #[error("there is no memory")]
+    Memory = 3,
+}
+
+impl LineFault {
+    ghost use Rattle.std.specs.Prelude.{◌≡◌};
+    ghost use Rattle.chess_draws.specs.Faults.{number_of};
+
+    /// The fault's number, 1 to 3.
+    pub fn number(self) -> u8
+        ensures { result ≡ number_of self }
+    {
+        self as u8
+    }
+}

@@ -1,0 +1,44 @@
+ghost use Rattle.std.specs.Prelude.{◌≡◌, ◌<◌};
+ghost use Rattle.chess_types.specs.Outcome.{status_at, is_play, claims_at};
+
+use crate::dead::is_dead;
+use chess_moves::{in_check, moves};
+use chess_play::Live;
+use chess_types::{Claims, Status};
+
+/// How a line stands that has come to its last position so often (FIDE Laws 5.1.1, 5.2.1, 5.2.2, 9.6). The position is as before.
+#[tactic(auto, unfolding(chess_types::specs::Outcome::status_at))]
+pub(crate) fn status_at(live: &mut Live, count: u32) -> Status
+    requires clock { live.old.position.clock < 1000000 }
+    requires number { live.old.position.number < 1000000 }
+    ensures value { result ≡ status_at live.old.position count }
+    ensures position { live.new.position ≡ live.old.position }
+    ensures words { live.new.words ≡ live.old.words }
+{
+    if moves(live).is_empty() {
+        if in_check(live) {
+            Status::Mate
+        } else {
+            Status::Stalemate
+        }
+    } else if is_dead(live.position()) {
+        Status::Dead
+    } else if count >= 5 {
+        Status::Fivefold
+    } else if live.position().clock >= 150 {
+        Status::Seventyfive
+    } else {
+        Status::Play
+    }
+}
+
+/// What may be claimed at that count of repetitions and that halfmove clock (FIDE Laws 9.2, 9.3), where the game is in play.
+pub(crate) fn claims_at(status: Status, count: u32, clock: u32) -> Claims
+    ensures { result ≡ claims_at (is_play status) count clock }
+{
+    let in_play = status == Status::Play;
+    Claims {
+        threefold: in_play && count >= 3,
+        fifty: in_play && clock >= 100,
+    }
+}
