@@ -1,0 +1,31 @@
+-- The text of a comment (PGN 8.2.5).
+--   blanks       the bytes of white space
+--   normalised   the words, one space between two
+--   with_word    a word more behind a text, behind a space unless it is the first
+--   has_brace    a right brace stands in it, which would end the comment
+--   IsComment    the text of a comment: normalised, and without a right brace
+use Rattle.std.specs.Prelude.{◌≡◌, ℕ, Bool, false, ◌==◌, List, [], ◌∷◌, ◌++◌}
+use Rattle.std.specs.List.{join_with_byte, list_any}
+use Rattle.chess_types.specs.Words.{words}
+
+-- from the horizontal tab to the carriage return, and the space
+abbrev pub blanks : List ℕ
+blanks = 9 ∷ 10 ∷ 11 ∷ 12 ∷ 13 ∷ 32 ∷ []
+
+-- each run of white space is one space, and there is none at the ends
+unfoldable pub normalised : List ℕ → List ℕ
+normalised text = join_with_byte 32 (words blanks text)
+
+-- a word more
+abbrev pub with_word : List ℕ → List ℕ → List ℕ
+with_word [] word = word
+with_word (b ∷ text) word = (b ∷ text) ++ 32 ∷ word
+
+-- a right brace stands in the text
+abbrev pub has_brace : List ℕ → Bool
+has_brace text = list_any (λ b. b == 125) text
+
+-- normalised, and without a right brace
+pub record IsComment (text : List ℕ) : Type 0 where
+  pub normal : normalised text ≡ text
+  pub no_brace : has_brace text ≡ false

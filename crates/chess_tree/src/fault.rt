@@ -1,0 +1,59 @@
+use std::alloc::AllocError;
+use thiserror::Error;
+
+/// Why a call on a tree is refused.
+#[derive(Clone, Copy, Debug, PartialEq, Eq, Error)]
+pub enum TreeFault {
+    /// There is no child at that place, or no node at that path.
+    #[error("there is no such node")]
+    NoSuch = 1,
+    /// The cursor is at the root, which has no parent, no siblings and no annotation numbers.
+    #[error("the cursor is at the root")]
+    AtRoot = 2,
+    /// The tree holds 65,536 moves.
+    #[error("the tree holds 65536 moves")]
+    Full = 3,
+    /// A right brace stands in the comment, which would end it (PGN 8.2.5).
+    #[error("a right brace stands in the comment")]
+    BadComment = 4,
+    /// There is no memory.
+    #[error("there is no memory")]
+    Memory = 5,
+}
+
+impl From<AllocError> for TreeFault {
+    ghost use Rattle.std.specs.Prelude.{◌≡◌};
+    ghost use Rattle.chess_tree.specs.declared.fault.TreeFault.TheVariants.{Memory};
+
+    ghost from_gives = { λ _ fault. fault ≡ Memory };
+
+    /// That there is no memory.
+    fn from(_: AllocError) -> TreeFault {
+        TreeFault::Memory
+    }
+}
+
+impl TreeFault {
+    ghost use Rattle.std.specs.Prelude.{◌≡◌};
+    ghost use Rattle.chess_tree.specs.Faults.{number_of, name_of};
+
+    /// The fault's number, 1 to 5.
+    pub fn number(self) -> u8
+        ensures { result ≡ number_of self }
+    {
+        self as u8
+    }
+
+    /// The fault's name, as `NoSuch`.
+    pub fn name(self) -> &'static str
+        ensures { result.now ≡ name_of self }
+    {
+        match self {
+            TreeFault::NoSuch => "NoSuch",
+            TreeFault::AtRoot => "AtRoot",
+            TreeFault::Full => "Full",
+            TreeFault::BadComment => "BadComment",
+            TreeFault::Memory => "Memory",
+        }
+    }
+}

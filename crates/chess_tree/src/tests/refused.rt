@@ -1,0 +1,54 @@
+use super::{add, begin};
+use crate::TreeFault;
+use linked_list_allocator::LocalHeap;
+use std::alloc::Allocator;
+use std::process::Abort;
+use std::test::Fail;
+
+/// A tree with a move, notes and a long comment, on so little memory that a growth is refused.
+fn grow<A: Allocator>(rt: &impl Abort, alloc: &A) -> Result<u32, TreeFault> {
+    let mut tree = begin(alloc)?;
+    add(rt, &mut tree, "e2e4")?;
+    tree.set_comment(b"a comment of some words that takes memory of its own")?;
+    for nag in 0..40 {
+        tree.add_nag(nag)?;
+    }
+    add(rt, &mut tree, "e7e5")?;
+    tree.path()?;
+    Ok(tree.depth())
+}
+
+/// Each growth is refused in turn, as `Memory`, until all find their memory.
+#[test]
+fn without_memory(rt: HostRuntime) -> Result<(), Fail> {
+    let mut refused = 0u32;
+    for size in 1..400usize {
+        let heap = LocalHeap::new(rt.alloc(), size * 32)?;
+        match grow(&rt, &heap) {
+            Ok(depth) => assert_eq!(rt; depth, 2),
+            Err(fault) => {
+                assert_eq!(rt; fault, TreeFault::Memory);
+                refused = refused.saturating_add(1);
+            }
+        }
+        assert_eq!(rt; heap.used(), 0);
+    }
+    assert!(rt; refused > 10 && refused < 390);
+    Ok(())
+}
+
+/// After a refusal all is as before, and the call is answered once there is memory.
+#[test]
+fn as_before(rt: HostRuntime) -> Result<(), Fail> {
+    let heap = LocalHeap::new(rt.alloc(), 8_192)?;
+    let mut tree = begin(&heap)?;
+    add(&rt, &mut tree, "e2e4")?;
+    let other: Vec<u8, _> = Vec::with_capacity(&heap, 7_000usize.saturating_sub(heap.used()))?;
+    let comment = [b'a'; 2_000];
+    assert_eq!(rt; tree.set_comment(&comment), Err(TreeFault::Memory));
+    assert_eq!(rt; tree.notes().comment.len(), 0);
+    drop(other);
+    tree.set_comment(&comment)?;
+    assert_eq!(rt; tree.notes().comment.len(), 2_000);
+    Ok(())
+}

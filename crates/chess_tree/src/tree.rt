@@ -1,0 +1,133 @@
+ghost use Rattle.std.specs.Prelude.{◌≡◌, ◌<◌, ◌≤◌, ◌++◌, ◌∷◌, [], nat_le, true, length, Err, MatchResult, IfOk, IfErr, OnOk, OnErr};
+ghost use Rattle.chess_types.specs.Legal.{is_legal};
+ghost use Rattle.chess_types.specs.Lines.{last};
+ghost use Rattle.chess_tree.specs.declared.fault.TreeFault.TheVariants.{NoSuch, AtRoot, Full, BadComment, Memory};
+ghost use Rattle.chess_tree.specs.Forest.{Bare, count, moves_held};
+ghost use Rattle.chess_tree.specs.Edits.{parent};
+ghost use Rattle.chess_tree.specs.GameTree.{added, at_path, line_to, nodes_here};
+ghost use Rattle.chess_tree.specs.WellFormed.{IsGameTree};
+
+mod comment;
+mod cursor;
+mod edits;
+mod view;
+
+use crate::fault::TreeFault;
+use crate::zipper::Zipper;
+use chess_types::{Move, Position};
+use std::alloc::Allocator;
+use std::marker::Model;
+pub use view::{NodeRef, Notes};
+
+/// The most moves that a tree holds.
+const MOST_MOVES: u32 = 65_536;
+
+/// A game tree with a cursor at one of its nodes. Contracts see the nested tree and the path to the cursor
+/// (`specs/GameTree.antt`).
+#[derive(Drop)]
+pub struct Tree<'a, A: Allocator> {
+    start: Position,
+    nodes: Zipper<'a, A>,
+    held: u32,
+}
+
+impl<'a, A: Allocator> Model for Tree<'a, A> {
+    ghost use Rattle.chess_tree.specs.GameTree.{TreeParts};
+    ghost use Rattle.chess_tree.specs.TreeCode.{coded_tree};
+
+    ghost Value = { TreeParts };
+
+    ghost coded = { coded_tree };
+
+    ghost use Rattle.chess_tree.specs.Kept.{parts_of, IsKept};
+
+    ghost view = { λ t. parts_of t.start t.nodes };
+
+    ghost invariant = { λ t. IsKept t.start t.nodes t.held };
+}
+
+impl<'a, A: Allocator> Tree<'a, A> {
+    /// A tree with no move, from that position, whose counters are at most 99,999. `Memory` where there is none.
+    pub fn new(alloc: &'a A, start: Position) -> Result<Tree<'a, A>, TreeFault>
+        requires clock { start.clock ≤ 99999 }
+        requires number { start.number ≤ 99999 }
+        ensures ok { IfOk result (λ t. t ≡ record { tree = record { start = start; comment = []; below = Bare }; path = [] }) }
+        ensures memory { IfErr result (λ fault. fault ≡ Memory) }
+    {
+        let nodes = Zipper::new(alloc, Move::default())?;
+        let _ = &start.setup().side;
+        Ok(Tree {
+            start,
+            nodes,
+            held: 0,
+        })
+    }
+
+    /// The position in which the tree begins.
+    pub fn position(&self) -> &Position
+        ensures start { result.now ≡ self.now.tree.start }
+        ensures game { IsGameTree self.now }
+    {
+        &self.start
+    }
+
+    /// How many children the node at the cursor has, at most 65,536.
+    pub fn child_count(&self) -> u32
+        ensures { result ≡ count (nodes_here self.now) }
+    {
+        self.nodes.here().child_count() as u32
+    }
+
+    /// Whether the tree holds 65,536 moves.
+    pub fn is_full(&self) -> bool
+        ensures { result ≡ nat_le 65536 (moves_held self.now.tree.below) }
+    {
+        self.held == MOST_MOVES
+    }
+
+    /// Appends a child with that move, which is legal at the cursor, and steps into it. The node at the cursor is less than
+    /// 20,000 plies deep. `Full` where the tree holds 65,536 moves, else `Memory` where there is none.
+    pub fn add(&mut self, played: Move) -> Result<(), TreeFault>
+        requires legal { is_legal (last (line_to self.old)) played ≡ true }
+        requires deep { length self.old.path < 20000 }
+        ensures ok { OnOk result (self.new ≡ added played self.old) }
+        ensures err { OnErr result (self.new ≡ self.old) }
+        ensures full { moves_held self.old.tree.below ≡ 65536 → result ≡ Err Full }
+        ensures memory { moves_held self.old.tree.below < 65536 → IfErr result (λ fault. fault ≡ Memory) }
+    {
+        if self.held == MOST_MOVES {
+            return Err(TreeFault::Full);
+        }
+        let place = self.nodes.here().child_count() as u32;
+        self.nodes.append(played)?;
+        self.nodes.down(place);
+        self.held += 1;
+        Ok(())
+    }
+
+    /// Steps to the child at that place, from 0. `NoSuch` where there is none.
+    pub fn step(&mut self, place: u32) -> Result<(), TreeFault>
+        ensures ok { OnOk result (self.new ≡ at_path (self.old.path ++ place ∷ []) self.old) }
+        ensures err { OnErr result (self.new ≡ self.old) }
+        ensures no_such { MatchResult result (λ _. place < count (nodes_here self.old)) (λ fault. (fault ≡ NoSuch) × (count (nodes_here self.old) ≤ place)) }
+    {
+        if place as usize >= self.nodes.here().child_count() {
+            return Err(TreeFault::NoSuch);
+        }
+        self.nodes.down(place);
+        Ok(())
+    }
+
+    /// Steps to the parent. `AtRoot` at the root.
+    pub fn back(&mut self) -> Result<(), TreeFault>
+        ensures ok { OnOk result (self.new ≡ at_path (parent self.old.path) self.old) }
+        ensures err { OnErr result (self.new ≡ self.old) }
+        ensures at_root { MatchResult result (λ _. 0 < length self.old.path) (λ fault. (fault ≡ AtRoot) × (self.old.path ≡ [])) }
+    {
+        if self.nodes.depth() == 0 {
+            return Err(TreeFault::AtRoot);
+        }
+        self.nodes.up();
+        Ok(())
+    }
+}

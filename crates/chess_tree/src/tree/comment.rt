@@ -1,0 +1,54 @@
+ghost use Rattle.std.specs.Prelude.{◌≡◌, true, false, Err, IfOk, IfErr, OnOk, OnErr};
+ghost use Rattle.chess_tree.specs.declared.fault.TreeFault.TheVariants.{BadComment, Memory};
+ghost use Rattle.chess_tree.specs.Comments.{has_brace, normalised, with_word};
+ghost use Rattle.chess_tree.specs.GameTree.{commented_here, line_to};
+
+use super::Tree;
+use crate::fault::TreeFault;
+use chess_types::split_word;
+use std::alloc::{AllocError, Allocator};
+
+/// The bytes of white space: from the horizontal tab to the carriage return, and the space.
+const BLANKS: &[u8] = b"\t\n\x0b\x0c\r ";
+
+// Appends a word, behind a space unless it is the first.
+fn add_word<'a, A: Allocator>(comment: &mut Vec<u8, &'a A>, word: &[u8]) -> Result<(), AllocError>
+    ensures { OnOk result (comment.new.items ≡ with_word comment.old.items word.now) }
+{
+    if !comment.is_empty() {
+        comment.push(b' ')?;
+    }
+    comment.extend_from_slice(word)
+}
+
+// The words of the text, one space between two.
+fn normalised<'a, A: Allocator>(alloc: &'a A, text: &[u8]) -> Result<Vec<u8, &'a A>, AllocError>
+    ensures { IfOk result (λ comment. comment.items ≡ normalised text.now) }
+{
+    let mut comment = Vec::new(alloc);
+    let mut rest = text;
+    while let Some((word, others)) = split_word(rest, BLANKS) {
+        add_word(&mut comment, word)?;
+        rest = others;
+    }
+    Ok(comment)
+}
+
+impl<'a, A: Allocator> Tree<'a, A> {
+    /// Sets the comment at the cursor (PGN 8.2.5): the words of the text with one space between two; an empty one removes it.
+    /// `BadComment` where a right brace stands in it, else `Memory` where there is none.
+    pub fn set_comment(&mut self, text: &[u8]) -> Result<(), TreeFault>
+        ensures ok { OnOk result (self.new ≡ commented_here (normalised text.now) self.old) }
+        ensures line { line_to self.new ≡ line_to self.old }
+        ensures err { OnErr result (self.new ≡ self.old) }
+        ensures bad_comment { has_brace text.now ≡ true → result ≡ Err BadComment }
+        ensures memory { has_brace text.now ≡ false → IfErr result (λ fault. fault ≡ Memory) }
+    {
+        if text.contains(&b'}') {
+            return Err(TreeFault::BadComment);
+        }
+        let comment = normalised(self.nodes.alloc(), text)?;
+        self.nodes.set_comment(comment);
+        Ok(())
+    }
+}
