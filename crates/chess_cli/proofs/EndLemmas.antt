@@ -4,11 +4,11 @@ use Rattle.std.specs.List.{AllByRecursion}
 use Rattle.chess_types.specs.Calls.{Calls, Carries, joined}
 use Rattle.chess_types.specs.declared.source.Failed.{Failed}
 use Rattle.chess_types.proofs.CallLemmas.{Calls-more, joined-more, Carries-none, Carries-append}
-use Rattle.chess_types.specs.Position.{State, start}
+use Rattle.chess_tree.specs.GameTree.{TreeParts}
 use Rattle.chess_cli.specs.Ends.{EndsGood, EndsReadFault, EndsWriteFault}
 use Rattle.chess_cli.specs.Lines.{ended_lines, unfinished, lines_of, last_line}
 use Rattle.chess_cli.specs.Runs.{Runs}
-use Rattle.chess_cli.specs.Answers.{Answers}
+use Rattle.chess_cli.specs.Answers.{Answers, beginning}
 use Rattle.chess_cli.specs.Reads.{Holds, Wrote, Feeds}
 use Rattle.chess_cli.specs.LineSoFar.{LineSoFar}
 use Rattle.chess_cli.proofs.LineLemmas.{ended_lines-append, unfinished-append}
@@ -33,13 +33,13 @@ many_or failed most pieces (inl is) = inl is
 many_or failed most pieces (inr many) = inr (omega (arith, many.0, length-joined pieces many.1))
 
 -- So far each read gave some bytes, the lines that ended in them are answered, and no call has failed.
-pub record Underway {R W : Type 0} (gives : R → List ℕ → R → Type 0) (takes : W → List ℕ → W → Type 0) (read_failed : R → Bool) (write_failed : W → Bool) (turns : ℕ) (now : State) (line : LineSoFar) (r r' : R) (w w' : W) : Type 0 where
+pub record Underway {R W : Type 0} (gives : R → List ℕ → R → Type 0) (takes : W → List ℕ → W → Type 0) (read_failed : R → Bool) (write_failed : W → Bool) (turns : ℕ) (now : TreeParts) (line : LineSoFar) (r r' : R) (w w' : W) : Type 0 where
   pub pieces : List (List ℕ)
   pub text : List ℕ
   pub reads : Calls gives r pieces r'
   pub count : length pieces ≡ turns
   pub each : AllByRecursion (λ p. 0 < length p) pieces
-  pub runs : Runs Answers start (ended_lines [] (joined pieces)) text now
+  pub runs : Runs Answers beginning (ended_lines [] (joined pieces)) text now
   pub writes : Carries takes w text w'
   pub reading : read_failed r' ≡ false
   pub writing : write_failed w' ≡ false
@@ -47,21 +47,21 @@ pub record Underway {R W : Type 0} (gives : R → List ℕ → R → Type 0) (ta
 
 module _ {R W : Type 0} (gives : R → List ℕ → R → Type 0) (takes : W → List ℕ → W → Type 0) (read_failed : R → Bool) (write_failed : W → Bool) where
   pub underway_start : (r : R) (w : W) (line : LineSoFar) → read_failed r ≡ false → write_failed w ≡ false → Holds line []
-      → Underway gives takes read_failed write_failed 0 start line r r w w
+      → Underway gives takes read_failed write_failed 0 beginning line r r w w
   underway_start r w line reading writing holds = record {
     pieces = [];
     text = [];
     reads = refl;
     count = refl;
     each = tt;
-    runs = Runs-none Answers start;
+    runs = Runs-none Answers beginning;
     writes = Carries-none takes w;
     reading = reading;
     writing = writing;
     holds = holds;
   }
 
-  pub underway_on : (turns : ℕ) (now next : State) (line line1 : LineSoFar) (r r1 r2 : R) (w w1 w2 : W) (piece : List ℕ)
+  pub underway_on : (turns : ℕ) (now next : TreeParts) (line line1 : LineSoFar) (r r1 r2 : R) (w w1 w2 : W) (piece : List ℕ)
       → Underway gives takes read_failed write_failed turns now line r r1 w w1
       → gives r1 piece r2
       → read_failed r2 ≡ (read_failed r1 || false)
@@ -77,7 +77,7 @@ module _ {R W : Type 0} (gives : R → List ℕ → R → Type 0) (takes : W →
         count = rw (length-append) (omega (arith, u.count));
         each = each_more u.pieces piece u.each some;
         runs = rw (joined-more gives u.pieces piece, ended_lines-append)
-            (Runs-append Answers start now next (ended_lines [] (joined u.pieces)) _ u.text fed.text u.runs (rw fed.ok.0 fed.runs));
+            (Runs-append Answers beginning now next (ended_lines [] (joined u.pieces)) _ u.text fed.text u.runs (rw fed.ok.0 fed.runs));
         writes = Carries-append takes w w1 w2 u.text fed.text u.writes fed.wrote.0;
         reading = reading ∙ rw u.reading refl;
         writing = fed.wrote.1 ∙ u.writing;
@@ -85,7 +85,7 @@ module _ {R W : Type 0} (gives : R → List ℕ → R → Type 0) (takes : W →
       }
 
   -- a read failed
-  pub ends_failed : (most turns : ℕ) (now : State) (line : LineSoFar) (r r1 r2 : R) (w w1 : W)
+  pub ends_failed : (most turns : ℕ) (now : TreeParts) (line : LineSoFar) (r r1 r2 : R) (w w1 : W)
       → Underway gives takes read_failed write_failed turns now line r r1 w w1
       → gives r1 [] r2
       → read_failed r2 ≡ (read_failed r1 || true)
@@ -101,7 +101,7 @@ module _ {R W : Type 0} (gives : R → List ℕ → R → Type 0) (takes : W →
   }
 
   -- there were as many reads as there may be
-  pub ends_many : (most : ℕ) (now : State) (line : LineSoFar) (r r1 : R) (w w1 : W)
+  pub ends_many : (most : ℕ) (now : TreeParts) (line : LineSoFar) (r r1 : R) (w w1 : W)
       → Underway gives takes read_failed write_failed most now line r r1 w w1
       → EndsReadFault gives takes most read_failed r r1 w w1
   ends_many most now line r r1 w w1 u = record {
@@ -115,7 +115,7 @@ module _ {R W : Type 0} (gives : R → List ℕ → R → Type 0) (takes : W →
   }
 
   -- an answer could not be written
-  pub ends_unwritten : (ended : R → Type 0) (turns : ℕ) (now next : State) (line line1 : LineSoFar) (r r1 r2 : R) (w w1 w2 : W) (piece : List ℕ) (e : Failed)
+  pub ends_unwritten : (ended : R → Type 0) (turns : ℕ) (now next : TreeParts) (line line1 : LineSoFar) (r r1 r2 : R) (w w1 w2 : W) (piece : List ℕ) (e : Failed)
       → Underway gives takes read_failed write_failed turns now line r r1 w w1
       → gives r1 piece r2
       → ((begun : List ℕ) → Holds line begun → Feeds {X = Unit {0}} {E = Failed} Answers takes write_failed begun piece now next line1 w1 w2 (Err e))
@@ -131,13 +131,13 @@ module _ {R W : Type 0} (gives : R → List ℕ → R → Type 0) (takes : W →
         reads = Calls-more gives r r1 r2 u.pieces piece u.reads call;
         which = inl refl;
         runs = rw (joined-more gives u.pieces piece, ended_lines-append)
-            (Runs-append Answers start now fed.state (ended_lines [] (joined u.pieces)) _ u.text fed.text u.runs fed.runs);
+            (Runs-append Answers beginning now fed.state (ended_lines [] (joined u.pieces)) _ u.text fed.text u.runs fed.runs);
         writes = front_next takes w w1 w2 u.text fed.text fed.wrote.0 u.writes fed.wrote.1;
         cause = fed.wrote.2;
       }
 
   -- the input has ended, and the last line is answered
-  pub ends_good : (ended : R → Type 0) (turns : ℕ) (now next : State) (line : LineSoFar) (r r1 r2 : R) (w w1 w2 : W)
+  pub ends_good : (ended : R → Type 0) (turns : ℕ) (now next : TreeParts) (line : LineSoFar) (r r1 r2 : R) (w w1 w2 : W)
       → Underway gives takes read_failed write_failed turns now line r r1 w w1
       → gives r1 [] r2
       → ended r2
@@ -152,12 +152,12 @@ module _ {R W : Type 0} (gives : R → List ℕ → R → Type 0) (takes : W →
         reads = Calls-more gives r r1 r2 u.pieces [] u.reads call;
         all = end;
         runs = rw (joined-more gives u.pieces [], append-nil (joined u.pieces))
-            (Runs-append Answers start now next (ended_lines [] (joined u.pieces)) _ u.text last.0 u.runs last.1);
+            (Runs-append Answers beginning now next (ended_lines [] (joined u.pieces)) _ u.text last.0 u.runs last.1);
         writes = Carries-append takes w w1 w2 u.text last.0 u.writes last.2.0;
       }
 
   -- the answer to the last line could not be written
-  pub ends_unfinished : (ended : R → Type 0) (turns : ℕ) (now next : State) (line : LineSoFar) (r r1 r2 : R) (w w1 w2 : W) (e : Failed)
+  pub ends_unfinished : (ended : R → Type 0) (turns : ℕ) (now next : TreeParts) (line : LineSoFar) (r r1 r2 : R) (w w1 w2 : W) (e : Failed)
       → Underway gives takes read_failed write_failed turns now line r r1 w w1
       → gives r1 [] r2
       → ended r2
@@ -174,7 +174,7 @@ module _ {R W : Type 0} (gives : R → List ℕ → R → Type 0) (takes : W →
         reads = Calls-more gives r r1 r2 u.pieces [] u.reads call;
         which = inr (refl, end);
         runs = rw (joined-more gives u.pieces [], append-nil (joined u.pieces))
-            (Runs-append Answers start now next (ended_lines [] (joined u.pieces)) _ u.text last.0 u.runs last.1);
+            (Runs-append Answers beginning now next (ended_lines [] (joined u.pieces)) _ u.text last.0 u.runs last.1);
         writes = front_next takes w w1 w2 u.text last.0 last.2.0 u.writes last.2.1;
         cause = last.2.2;
       }

@@ -1,5 +1,9 @@
--- Lemmas on lines, runs, answers and writes.
+-- Lemmas on lines, numbers, paths, runs, answers and writes.
 pub mod WriteLemmas
+pub mod PieceLemmas
+pub mod PathLemmas
+pub mod PathLaws
+pub mod NumberLemmas
 pub mod LineLemmas
 pub mod RunLemmas
 pub mod AnswerLemmas
@@ -7,3 +11,6 @@ pub mod TextLemmas
 pub mod FeedLemmas
 pub mod EndLemmas
 pub mod ListLemmas
+pub mod CursorLemmas
+mod MoveTexts
+pub mod GotoLemmas

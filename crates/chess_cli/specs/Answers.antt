@@ -1,36 +1,42 @@
--- What the board answers to a line, and its position afterwards. Nothing here keeps a number: the counts and the evaluation
--- are those that the definitions give afresh for the position.
-use Rattle.std.specs.Prelude.{◌≡◌, ℕ, ◌+◌, ◌*◌, ◌<◌, nat_le, if◌then◌else◌, ◌⊎◌, List, [], ◌∷◌, ◌++◌, length, map, filter, Result, Ok, Err, codes, decimal}
+-- What the board answers to a line of the input, and its game tree and cursor afterwards. Nothing here keeps a number: the counts, the
+-- evaluation, the repetitions and the status are those that the definitions give afresh for the starting position and the moves from the
+-- root to the cursor.
+use Rattle.std.specs.Prelude.{◌≡◌, ℕ, ◌+◌, ◌*◌, ◌<◌, nat_le, nat_lt, Bool, true, false, if◌then◌else◌, ◌⊎◌, ⊤, List, [], ◌∷◌, ◌++◌, length, map, filter, Option, Some, None, Result, Ok, Err, codes, decimal}
 use Rattle.std.specs.Fmt.{signed_decimal}
 use Rattle.std.specs.List.{range_with_len}
+use Rattle.chess_types.specs.declared.man.Colour.{Colour}
+use Rattle.chess_types.specs.declared.outcome.Claims.{Claims as DrawClaims}
 use Rattle.chess_types.specs.Squares.{squares}
 use Rattle.chess_types.specs.Attack.{count, checks_from}
 use Rattle.chess_types.specs.Texts.{move_text, square_text}
-use Rattle.chess_types.specs.Legal.{legal_moves}
+use Rattle.chess_types.specs.MoveParts.{MoveParts}
 use Rattle.chess_types.specs.Position.{State, look, start}
+use Rattle.chess_types.specs.Legal.{is_legal, legal_moves}
+use Rattle.chess_types.specs.Lines.{Line, last}
+use Rattle.chess_types.specs.Repetition.{repetitions}
+use Rattle.chess_types.specs.Outcome.{status, claims, claims_with}
 use Rattle.chess_eval.specs.Evaluation.{evaluation}
 use Rattle.chess_fen.specs.declared.fault.FenFault.{FenFault}
-use Rattle.chess_fen.specs.Faults.{number_of, name_of}
 use Rattle.chess_fen.specs.Reading.{reading}
 use Rattle.chess_fen.specs.Writing.{written}
-use Rattle.chess_cli.specs.Requests.{Request, Blank, New, Set, Counts, Eval, Fen, Moves, Checks, Unknown, Malformed, request}
+use Rattle.chess_tree.specs.Forest.{Bare, count as count_children, moves_held}
+use Rattle.chess_tree.specs.Edits.{parent}
+use Rattle.chess_tree.specs.Comments.{has_brace, normalised}
+use Rattle.chess_tree.specs.GameTree.{TreeParts, added, annotated_here, at_path, commented_here, deleted, find, has, line_to, main_line, nodes_here, promoted_here}
+use Rattle.chess_cli.specs.declared.refusal.Refusal.{Refusal}
+use Rattle.chess_cli.specs.declared.refusal.Refusal.TheVariants.{Fen as BadFen, Form, NoSuch, Illegal, TooLong, AtRoot, Full, BadComment, Memory, Command, Argument, LongLine}
+use Rattle.chess_cli.specs.Refusals.{number_of, name_of}
+use Rattle.chess_cli.specs.Gaps.{parted_by}
+use Rattle.chess_cli.specs.Numbers.{path_text}
+use Rattle.chess_cli.specs.Outcomes.{move_in, status_text, claims_text}
+use Rattle.chess_cli.specs.Requests.{Request, Blank, New, Set, Counts, Eval, Fen, Moves, Checks, Play, Back, Step, Start, End, Goto, Path, Promote, Delete, Comment, Nag, Count, Status, Claims, Claim, Unknown, Malformed, request}
 
 abbrev pub ok : List ℕ
 ok = codes "ok\n"
 
 -- `refused N NAME`
-abbrev pub refused : ℕ → List ℕ → List ℕ
-refused number name = codes "refused " ++ decimal number ++ 32 ∷ name ++ 10 ∷ []
-
--- each text behind a gap
-abbrev pub gapped : List ℕ → List (List ℕ) → List ℕ
-gapped gap [] = []
-gapped gap (text ∷ texts) = gap ++ text ++ gapped gap texts
-
--- the texts, parted by a gap
-abbrev pub parted_by : List ℕ → List (List ℕ) → List ℕ
-parted_by gap [] = []
-parted_by gap (text ∷ texts) = text ++ gapped gap texts
+abbrev pub refused : Refusal → List ℕ
+refused refusal = codes "refused " ++ decimal (number_of refusal) ++ 32 ∷ name_of refusal ++ 10 ∷ []
 
 -- the text, and `none` for no text
 abbrev pub or_none : List ℕ → List ℕ
@@ -49,59 +55,191 @@ rank_text number rank = parted_by (codes " ") (map (λ file. decimal (number (8 
 unfoldable pub counts_text : (ℕ → ℕ) → List ℕ
 counts_text number = parted_by (codes " / ") (map (rank_text number) (range_with_len 0 8))
 
--- the answer to `set`, and the position afterwards
-abbrev pub set_answer : Result State FenFault → List ℕ
-set_answer (Ok position) = ok
-set_answer (Err fault) = refused (number_of fault) (name_of fault)
+-- of a call that is done or refused
+abbrev pub ok_or_refused : {X : Type 0} → Result X Refusal → List ℕ
+ok_or_refused (Ok _) = ok
+ok_or_refused (Err refusal) = refused refusal
 
-abbrev pub set_state : State → Result State FenFault → State
-set_state old (Ok position) = position
-set_state old (Err fault) = old
+abbrev pub no_memory : List ℕ
+no_memory = refused Memory
 
--- the answer to a request
-abbrev pub answer : State → Request → List ℕ
-answer p Blank = []
-answer p New = ok
-answer p (Set fen) = set_answer (reading fen)
-answer p (Counts colour) = counts_text (count (look p) colour) ++ 10 ∷ []
-answer p Eval = signed_decimal (evaluation (look p)) ++ 10 ∷ []
-answer p Fen = written p ++ 10 ∷ []
-answer p Moves = list_text (map move_text (legal_moves p)) ++ 10 ∷ []
-answer p Checks = list_text (map square_text (filter (checks_from (look p) p.side) squares)) ++ 10 ∷ []
-answer p Unknown = refused 6 (codes "Command")
-answer p Malformed = refused 7 (codes "Argument")
+-- a tree without a move, and the cursor at its root
+abbrev pub tree_from : State → TreeParts
+tree_from p = record { tree = record { start = p; comment = []; below = Bare }; path = [] }
 
--- the position after a request
-abbrev pub after : State → Request → State
-after p Blank = p
-after p New = start
-after p (Set fen) = set_state p (reading fen)
-after p (Counts colour) = p
-after p Eval = p
-after p Fen = p
-after p Moves = p
-after p Checks = p
-after p Unknown = p
-after p Malformed = p
+-- the board as it begins
+abbrev pub beginning : TreeParts
+beginning = tree_from start
+
+-- What a request does: it asks for a text, it leads to a tree and a cursor, or it is refused.
+pub data Effect : Type 0 where
+  Says : List ℕ → Effect
+  Does : TreeParts → Effect
+  Refuses : Refusal → Effect
+
+-- a text and a line feed
+abbrev pub says_line : List ℕ → Effect
+says_line text = Says (text ++ 10 ∷ [])
+
+abbrev pub set_effect : Result State FenFault → Effect
+set_effect (Ok position) = Does (tree_from position)
+set_effect (Err fault) = Refuses (BadFen fault)
+
+-- a legal move leads to the first child that has it, else to a new one: of a node less than 20,000 plies deep, in a tree of fewer than
+-- 65,536 moves
+abbrev pub lead : TreeParts → MoveParts → Option ℕ → Effect
+lead t m (Some place) = Does (at_path (t.path ++ place ∷ []) t)
+lead t m None =
+    if nat_le 20000 (length t.path) then Refuses TooLong
+    else (if nat_le 65536 (moves_held t.tree.below) then Refuses Full else Does (added m t))
+
+abbrev pub move_effect : TreeParts → MoveParts → Effect
+move_effect t m = if is_legal (last (line_to t)) m then lead t m (find m (nodes_here t)) else Refuses Illegal
+
+abbrev pub play_effect : TreeParts → Option MoveParts → Effect
+play_effect t None = Refuses Form
+play_effect t (Some m) = move_effect t m
+
+-- an effect that the root can't have, by the path to the cursor
+abbrev pub off_root : List ℕ → TreeParts → Effect
+off_root [] new = Refuses AtRoot
+off_root (place ∷ path) new = Does new
+
+-- an effect that there is only where a node is
+abbrev pub if_there : Bool → TreeParts → Effect
+if_there true new = Does new
+if_there false new = Refuses NoSuch
+
+abbrev pub comment_effect : TreeParts → List ℕ → Effect
+comment_effect t text = if has_brace text then Refuses BadComment else Does (commented_here (normalised text) t)
+
+abbrev pub claimed : Option DrawClaims → Effect
+claimed None = Refuses Illegal
+claimed (Some claims) = says_line (claims_text claims)
+
+abbrev pub claim_effect : Line → Option MoveParts → Effect
+claim_effect line None = Refuses Form
+claim_effect line (Some m) = claimed (claims_with line m)
+
+-- what is asked of a position alone
+abbrev pub counts_of : State → Colour → List ℕ
+counts_of p colour = counts_text (count (look p) colour)
+
+abbrev pub checks_of : State → List ℕ
+checks_of p = list_text (map square_text (filter (checks_from (look p) p.side) squares))
+
+-- what a request does to a tree, where it is asked at the cursor
+abbrev pub effect : TreeParts → Request → Effect
+effect t Blank = Says []
+effect t New = Does beginning
+effect t (Set fen) = set_effect (reading fen)
+effect t (Counts colour) = says_line (counts_of (last (line_to t)) colour)
+effect t Eval = says_line (signed_decimal (evaluation (look (last (line_to t)))))
+effect t Fen = says_line (written (last (line_to t)))
+effect t Moves = says_line (list_text (map move_text (legal_moves (last (line_to t)))))
+effect t Checks = says_line (checks_of (last (line_to t)))
+effect t (Play word) = play_effect t (move_in word)
+effect t Back = off_root t.path (at_path (parent t.path) t)
+effect t (Step place) = if_there (nat_lt place (count_children (nodes_here t))) (at_path (t.path ++ place ∷ []) t)
+effect t Start = Does (at_path [] t)
+effect t End = Does (at_path (t.path ++ main_line (nodes_here t)) t)
+effect t (Goto path) = if_there (has path t.tree.below) (at_path path t)
+effect t Path = says_line (path_text t.path)
+effect t Promote = off_root t.path (promoted_here t)
+effect t Delete = off_root t.path (deleted t)
+effect t (Comment text) = comment_effect t text
+effect t (Nag nag) = off_root t.path (annotated_here nag t)
+effect t Count = says_line (decimal (repetitions (line_to t)))
+effect t Status = says_line (status_text (status (line_to t)))
+effect t Claims = says_line (claims_text (claims (line_to t)))
+effect t (Claim word) = claim_effect (line_to t) (move_in word)
+effect t Unknown = Refuses Command
+effect t Malformed = Refuses Argument
+
+-- what is answered
+abbrev pub told : Effect → List ℕ
+told (Says text) = text
+told (Does new) = ok
+told (Refuses refusal) = refused refusal
+
+-- the tree and the cursor afterwards
+abbrev pub left_by : TreeParts → Effect → TreeParts
+left_by old (Says text) = old
+left_by old (Does new) = new
+left_by old (Refuses refusal) = old
+
+abbrev pub answer : TreeParts → Request → List ℕ
+answer t request = told (effect t request)
+
+abbrev pub after : TreeParts → Request → TreeParts
+after t request = left_by t (effect t request)
+
+-- the requests that may ask for memory
+abbrev pub takes_memory : Request → Bool
+takes_memory Blank = false
+takes_memory New = true
+takes_memory (Set fen) = true
+takes_memory (Counts colour) = false
+takes_memory Eval = false
+takes_memory Fen = false
+takes_memory Moves = false
+takes_memory Checks = false
+takes_memory (Play word) = true
+takes_memory Back = false
+takes_memory (Step place) = true
+takes_memory Start = false
+takes_memory End = true
+takes_memory (Goto path) = true
+takes_memory Path = false
+takes_memory Promote = false
+takes_memory Delete = false
+takes_memory (Comment text) = true
+takes_memory (Nag nag) = true
+takes_memory Count = false
+takes_memory Status = false
+takes_memory Claims = false
+takes_memory (Claim word) = false
+takes_memory Unknown = false
+takes_memory Malformed = false
+
+abbrev pub IsDone : Effect → Type 0
+IsDone (Says text) = ⊥
+IsDone (Does new) = ⊤
+IsDone (Refuses refusal) = ⊥
+
+-- What a call that has this effect answers, and what it leaves: the effect is done, or refused; or, where it would be done and there is no
+-- memory for it, refused so, with everything kept.
+abbrev pub Ends : {X : Type 0} → Effect → TreeParts → Result X Refusal → TreeParts → Type 0
+Ends effect old (Ok _) new = effect ≡ Does new
+Ends effect old (Err refusal) new = ((effect ≡ Refuses refusal) ⊎ (IsDone effect × (refusal ≡ Memory))) × (new ≡ old)
+
+-- The same of a call that takes no memory.
+abbrev pub EndsSurely : {X : Type 0} → Effect → TreeParts → Result X Refusal → TreeParts → Type 0
+EndsSurely effect old (Ok _) new = effect ≡ Does new
+EndsSurely effect old (Err refusal) new = (effect ≡ Refuses refusal) × (new ≡ old)
+
+-- The board may answer the request with this text and go from the old tree and cursor to the new: as is asked, or, where that needs memory and
+-- there is none, with a refusal and everything kept.
+abbrev pub Tells : TreeParts → Request → List ℕ → TreeParts → Type 0
+Tells old request text new =
+    ((text ≡ answer old request) × (new ≡ after old request))
+    ⊎ ((takes_memory request ≡ true) × IsDone (effect old request) × (text ≡ no_memory) × (new ≡ old))
 
 -- the most bytes of a line, without its line feed
 abbrev pub line_limit : ℕ
 line_limit = 1048576
 
 abbrev pub long_line : List ℕ
-long_line = refused 8 (codes "LongLine")
+long_line = refused LongLine
 
-abbrev pub no_memory : List ℕ
-no_memory = refused 5 (codes "Memory")
+abbrev pub input_answer : TreeParts → List ℕ → List ℕ
+input_answer t input = if nat_le (length input) line_limit then answer t (request input) else long_line
 
-abbrev pub line_answer : State → List ℕ → List ℕ
-line_answer p line = if nat_le (length line) line_limit then answer p (request line) else long_line
+abbrev pub after_input : TreeParts → List ℕ → TreeParts
+after_input t input = if nat_le (length input) line_limit then after t (request input) else t
 
-abbrev pub after_line : State → List ℕ → State
-after_line p line = if nat_le (length line) line_limit then after p (request line) else p
-
--- The board may answer the line with this text and go from the old position to the new: as the line asks, or, where the
--- line found no memory while it was read, with a refusal and the position kept.
-abbrev pub Answers : State → List ℕ → List ℕ → State → Type 0
-Answers old line text new =
-    ((text ≡ line_answer old line) × (new ≡ after_line old line)) ⊎ ((text ≡ no_memory) × (new ≡ old) × (0 < length line))
+-- The same for a line of the input: as it asks, or, where it found no memory while it was read or what it asks for finds none, with a
+-- refusal and the line kept.
+abbrev pub Answers : TreeParts → List ℕ → List ℕ → TreeParts → Type 0
+Answers old input text new =
+    ((text ≡ input_answer old input) × (new ≡ after_input old input)) ⊎ ((text ≡ no_memory) × (new ≡ old) × (0 < length input))

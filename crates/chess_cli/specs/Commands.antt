@@ -1,7 +1,8 @@
 -- What a command of the code asks for.
 use Rattle.chess_cli.specs.declared.command.Command.{Command}
-use Rattle.chess_cli.specs.declared.command.Command.TheVariants.{Blank, New, Set, Counts, Eval, Fen, Moves, Checks, Unknown, Malformed}
+use Rattle.chess_cli.specs.declared.command.Command.TheVariants.{Blank, New, Set, Counts, Eval, Fen, Moves, Checks, Play, Back, Step, Start, End, Goto, Path, Promote, Delete, Comment, Nag, Count, Status, Claims, Claim, Unknown, Malformed}
 use Rattle.chess_cli.specs.Requests as asks
+use Rattle.chess_cli.specs.Numbers.{path_in}
 
 abbrev pub request_of : Command → asks.Request
 request_of Blank = asks.Blank
@@ -12,5 +13,20 @@ request_of Eval = asks.Eval
 request_of Fen = asks.Fen
 request_of Moves = asks.Moves
 request_of Checks = asks.Checks
+request_of (Play word) = asks.Play word.now
+request_of Back = asks.Back
+request_of (Step place) = asks.Step place
+request_of Start = asks.Start
+request_of End = asks.End
+request_of (Goto word) = asks.written_by asks.Goto (path_in word.now)
+request_of Path = asks.Path
+request_of Promote = asks.Promote
+request_of Delete = asks.Delete
+request_of (Comment text) = asks.Comment text.now
+request_of (Nag nag) = asks.Nag nag
+request_of Count = asks.Count
+request_of Status = asks.Status
+request_of Claims = asks.Claims
+request_of (Claim word) = asks.Claim word.now
 request_of Unknown = asks.Unknown
 request_of Malformed = asks.Malformed

@@ -3,10 +3,15 @@ pub mod Lines
 pub mod Runs
 pub mod Requests
 pub mod Commands
+pub mod Refusals
+pub mod Gaps
+pub mod Numbers
+pub mod Outcomes
 pub mod Answers
+pub mod Replies
 pub mod LineSoFar
 pub mod Reads
 pub mod Ends
 pub mod Endings
-pub mod Boards
 pub mod Lists
+pub mod Pieces

@@ -1,9 +1,10 @@
 -- What a line of the board asks for. Words are parted by spaces and tabs; one carriage return at the line's end is dropped.
-use Rattle.std.specs.Prelude.{ℕ, ◌-◌, ◌==◌, if◌then◌else◌, List, [], ◌∷◌, length, take, slice_index, codes}
+use Rattle.std.specs.Prelude.{ℕ, ◌-◌, ◌==◌, nat_le, if◌then◌else◌, List, [], ◌∷◌, length, take, slice_index, Option, Some, None, option_and_then, codes}
 use Rattle.std.specs.Str.{bytes_eq}
 use Rattle.chess_types.specs.declared.man.Colour.{Colour}
 use Rattle.chess_types.specs.declared.man.Colour.TheVariants.{White, Black}
 use Rattle.chess_types.specs.Words.{words, skip_gaps, after_word, trimmed}
+use Rattle.chess_cli.specs.Numbers.{number_in, path_in}
 
 pub data Request : Type 0 where
   -- nothing: the line has no words
@@ -22,6 +23,35 @@ pub data Request : Type 0 where
   Moves : Request
   -- `checks`: the squares of the men that check the side to move
   Checks : Request
+  -- `play M`: the move of that text
+  Play : List ℕ → Request
+  -- `back`: to the position before the last move
+  Back : Request
+  -- `step i`: to a child, by its place from 0
+  Step : ℕ → Request
+  -- `start`: to the root; `end`: along the main continuations
+  Start : Request
+  End : Request
+  -- `goto PATH`: to the node at a path
+  Goto : List ℕ → Request
+  -- `path`: the path to the cursor
+  Path : Request
+  -- `promote`: the node before its siblings
+  Promote : Request
+  -- `delete`: the node and all below it is taken out
+  Delete : Request
+  -- `comment T`: the text, which may be empty, for the node's comment
+  Comment : List ℕ → Request
+  -- `nag N`: an annotation number more
+  Nag : ℕ → Request
+  -- `count`: how often the position has come up
+  Count : Request
+  -- `status`: how the game stands
+  Status : Request
+  -- `claims`: the draws that may be claimed
+  Claims : Request
+  -- `claim M`: those that may be claimed with a move
+  Claim : List ℕ → Request
   -- another first word
   Unknown : Request
   -- a command with the wrong words behind it
@@ -51,6 +81,27 @@ with_colour request (word ∷ []) =
     if bytes_eq word (codes "w") then request White else if bytes_eq word (codes "b") then request Black else Malformed
 with_colour request (word ∷ more ∷ words) = Malformed
 
+-- the word behind a command, where there is one alone
+abbrev pub only_word : List (List ℕ) → Option (List ℕ)
+only_word [] = None
+only_word (word ∷ []) = Some word
+only_word (word ∷ more ∷ words) = None
+
+-- a command with what a word writes
+abbrev pub written_by : {A : Type 0} → (A → Request) → Option A → Request
+written_by request None = Malformed
+written_by request (Some value) = request value
+
+abbrev pub with_word : (List ℕ → Request) → List (List ℕ) → Request
+with_word request words = written_by request (only_word words)
+
+abbrev pub with_value : {A : Type 0} → (List ℕ → Option A) → (A → Request) → List (List ℕ) → Request
+with_value value request words = written_by request (option_and_then value (only_word words))
+
+-- an annotation number is one of 0 to 255
+abbrev pub nag_in : List ℕ → Option ℕ
+nag_in word = option_and_then (λ nag. if nat_le nag 255 then Some nag else None) (number_in word)
+
 -- what the words of the line ask for
 abbrev pub asked : List ℕ → List (List ℕ) → Request
 asked line [] = Blank
@@ -62,6 +113,21 @@ asked line (word ∷ others) =
     else if bytes_eq word (codes "fen") then alone Fen others
     else if bytes_eq word (codes "moves") then alone Moves others
     else if bytes_eq word (codes "checks") then alone Checks others
+    else if bytes_eq word (codes "play") then with_word Play others
+    else if bytes_eq word (codes "back") then alone Back others
+    else if bytes_eq word (codes "step") then with_value number_in Step others
+    else if bytes_eq word (codes "start") then alone Start others
+    else if bytes_eq word (codes "end") then alone End others
+    else if bytes_eq word (codes "goto") then with_value path_in Goto others
+    else if bytes_eq word (codes "path") then alone Path others
+    else if bytes_eq word (codes "promote") then alone Promote others
+    else if bytes_eq word (codes "delete") then alone Delete others
+    else if bytes_eq word (codes "comment") then Comment (trimmed gaps (rest_of line))
+    else if bytes_eq word (codes "nag") then with_value nag_in Nag others
+    else if bytes_eq word (codes "count") then alone Count others
+    else if bytes_eq word (codes "status") then alone Status others
+    else if bytes_eq word (codes "claims") then alone Claims others
+    else if bytes_eq word (codes "claim") then with_word Claim others
     else Unknown
 
 abbrev pub request : List ℕ → Request

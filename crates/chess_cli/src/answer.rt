@@ -1,6 +1,7 @@
 ghost use Rattle.std.specs.Prelude.{◌≡◌, ◌≤◌, ◌++◌, ◌∷◌, [], length};
-ghost use Rattle.chess_cli.specs.Answers.{refused};
+ghost use Rattle.chess_cli.specs.Answers.{refused as refused_text, ok_or_refused};
 
+use super::refusal::Refusal;
 use arrayvec::ArrayString;
 use itoa::Buffer;
 
@@ -28,14 +29,30 @@ pub fn line_of(text: &str) -> Answer
 }
 
 /// `refused N NAME`, and a line feed.
-pub fn refusal(number: u8, name: &str) -> Answer
-    requires { length name.now ≤ 32 }
-    ensures { result.bytes ≡ refused number name.now }
+pub fn refused(refusal: Refusal) -> Answer
+    ensures { result.bytes ≡ refused_text refusal }
 {
     let mut answer = said("refused ");
-    answer.push_str(Buffer::new().format(number));
+    answer.push_str(Buffer::new().format(refusal.number()));
     answer.push(' ');
-    answer.push_str(name);
+    answer.push_str(refusal.name());
     answer.push('\n');
     answer
+}
+
+/// `ok`, or the refusal.
+pub fn done(ended: Result<(), Refusal>) -> Answer
+    ensures { result.bytes ≡ ok_or_refused ended }
+{
+    match ended {
+        Ok(()) => said("ok\n"),
+        Err(refusal) => refused(refusal),
+    }
+}
+
+/// What answers a line: a text, or the path to the cursor, which may be long and is written from the tree.
+#[derive(Drop)]
+pub enum Reply {
+    Text(Answer),
+    Path,
 }

@@ -1,8 +1,10 @@
-ghost use Rattle.std.specs.Prelude.{◌≡◌};
+ghost use Rattle.std.specs.Prelude.{◌≡◌, Some, None, IfSome, IfNone};
 ghost use Rattle.chess_types.specs.Words.{words};
-ghost use Rattle.chess_cli.specs.Requests.{gaps, request, without_return, alone, with_colour, Counts as CountsOf};
+ghost use Rattle.chess_cli.specs.Requests.{gaps, request, without_return, alone, only_word as only_word_of, with_colour, with_word, with_value, nag_in, Counts as CountsOf, Play as PlayOf, Claim as ClaimOf, Goto as GotoOf, Step as StepOf, Nag as NagOf};
+ghost use Rattle.chess_cli.specs.Numbers.{number_in as number_in_of, path_in};
 ghost use Rattle.chess_cli.specs.Commands.{request_of};
 
+use super::numbers::number_in;
 use chess_types::{Colour, split_word, trim};
 
 /// The bytes that part words.
@@ -25,6 +27,36 @@ pub enum Command<'a> {
     Moves,
     /// The squares of the men that check the side to move.
     Checks,
+    /// The move of a text is made.
+    Play(&'a [u8]),
+    /// To the position before the last move.
+    Back,
+    /// To a child, by its place from 0.
+    Step(u32),
+    /// To the root.
+    Start,
+    /// Along the main continuations.
+    End,
+    /// To the node at the path that a word writes; a word that writes none is as wrong as a wrong number of them.
+    Goto(&'a [u8]),
+    /// The path to the cursor.
+    Path,
+    /// The node before its siblings.
+    Promote,
+    /// The node and all below it is taken out.
+    Delete,
+    /// A text for the node's comment.
+    Comment(&'a [u8]),
+    /// An annotation number more.
+    Nag(u8),
+    /// How often the position has come up.
+    Count,
+    /// How the game stands.
+    Status,
+    /// The draws that may be claimed.
+    Claims,
+    /// Those that may be claimed with the move of a text.
+    Claim(&'a [u8]),
     /// Another first word.
     Unknown,
     /// Wrong words behind a command.
@@ -68,6 +100,74 @@ fn counts<'a>(rest: &'a [u8]) -> Command<'a>
     }
 }
 
+// The word behind the command, where there is one alone.
+fn only_word(rest: &[u8]) -> Option<&[u8]>
+    ensures some { IfSome result (λ word. only_word_of (words gaps rest.now) ≡ Some word.now) }
+    ensures none { IfNone result (only_word_of (words gaps rest.now) ≡ None) }
+{
+    let (word, others) = split_word(rest, GAPS)?;
+    match split_word(others, GAPS) {
+        None => Some(word),
+        Some(_) => None,
+    }
+}
+
+// The move of the word behind `play`.
+fn play(rest: &[u8]) -> Command<'_>
+    ensures { request_of result ≡ with_word PlayOf (words gaps rest.now) }
+{
+    match only_word(rest) {
+        None => Command::Malformed,
+        Some(word) => Command::Play(word),
+    }
+}
+
+// The move of the word behind `claim`.
+fn claim(rest: &[u8]) -> Command<'_>
+    ensures { request_of result ≡ with_word ClaimOf (words gaps rest.now) }
+{
+    match only_word(rest) {
+        None => Command::Malformed,
+        Some(word) => Command::Claim(word),
+    }
+}
+
+// The path of the word behind `goto`.
+fn goto(rest: &[u8]) -> Command<'_>
+    ensures { request_of result ≡ with_value path_in GotoOf (words gaps rest.now) }
+{
+    match only_word(rest) {
+        None => Command::Malformed,
+        Some(word) => Command::Goto(word),
+    }
+}
+
+// The place that the word behind `step` writes.
+fn step(rest: &[u8]) -> Command<'_>
+    ensures { request_of result ≡ with_value number_in_of StepOf (words gaps rest.now) }
+{
+    let Some(word) = only_word(rest) else {
+        return Command::Malformed;
+    };
+    match number_in(word) {
+        None => Command::Malformed,
+        Some(place) => Command::Step(place),
+    }
+}
+
+// The annotation number that the word behind `nag` writes.
+fn nag(rest: &[u8]) -> Command<'_>
+    ensures { request_of result ≡ with_value nag_in NagOf (words gaps rest.now) }
+{
+    let Some(word) = only_word(rest) else {
+        return Command::Malformed;
+    };
+    match number_in(word) {
+        Some(nag @ 0..=255) => Command::Nag(nag as u8),
+        _ => Command::Malformed,
+    }
+}
+
 /// What the line asks for.
 pub fn asked(line: &[u8]) -> Command<'_>
     ensures { request_of result ≡ request line.now }
@@ -89,6 +189,36 @@ pub fn asked(line: &[u8]) -> Command<'_>
         alone(Command::Moves, rest)
     } else if word == b"checks".as_slice() {
         alone(Command::Checks, rest)
+    } else if word == b"play".as_slice() {
+        play(rest)
+    } else if word == b"back".as_slice() {
+        alone(Command::Back, rest)
+    } else if word == b"step".as_slice() {
+        step(rest)
+    } else if word == b"start".as_slice() {
+        alone(Command::Start, rest)
+    } else if word == b"end".as_slice() {
+        alone(Command::End, rest)
+    } else if word == b"goto".as_slice() {
+        goto(rest)
+    } else if word == b"path".as_slice() {
+        alone(Command::Path, rest)
+    } else if word == b"promote".as_slice() {
+        alone(Command::Promote, rest)
+    } else if word == b"delete".as_slice() {
+        alone(Command::Delete, rest)
+    } else if word == b"comment".as_slice() {
+        Command::Comment(trim(rest, GAPS))
+    } else if word == b"nag".as_slice() {
+        nag(rest)
+    } else if word == b"count".as_slice() {
+        alone(Command::Count, rest)
+    } else if word == b"status".as_slice() {
+        alone(Command::Status, rest)
+    } else if word == b"claims".as_slice() {
+        alone(Command::Claims, rest)
+    } else if word == b"claim".as_slice() {
+        claim(rest)
     } else {
         Command::Unknown
     }

@@ -1,16 +1,21 @@
 //! The engines over a reader and a writer: lines in, answers out.
 //!
-//! `board` keeps a position by the Laws of Chess and answers a line at a time. Its contract is the whole of it, from bytes to
+//! `board` keeps a game tree by the Laws of Chess and answers a line of input at a time. Its contract is the whole of it, from bytes to
 //! bytes: what the writer takes is what the written machine of `specs/Answers.antt` answers to the lines read.
 #![tactic(auto)]
 
 mod answer;
 mod command;
+mod cursor;
 mod ended;
 mod keys;
 mod lists;
 mod machine;
+mod numbers;
+mod outcomes;
 mod over_bytes;
+mod path;
+mod refusal;
 mod run;
 mod texts;
 mod unfinished;

@@ -1,15 +1,17 @@
 ghost use Rattle.std.specs.Prelude.{◌≡◌, List, ℕ, [], ◌++◌, ◌<◌, ◌≢◌, length, take, false, IfOk, vec_len};
-ghost use Rattle.chess_types.specs.Position.{start};
-ghost use Rattle.chess_cli.specs.Answers.{Answers};
+ghost use Rattle.chess_cli.specs.Answers.{Answers, beginning};
 ghost use Rattle.chess_cli.specs.Lines.{last_line};
 ghost use Rattle.chess_cli.specs.Runs.{Runs};
+ghost use Rattle.chess_cli.specs.Replies.{reply_text};
 ghost use Rattle.chess_cli.specs.Reads.{Holds, Wrote, Feeds};
 ghost use Rattle.chess_cli.specs.Ends.{EndsGood, EndsReadFault, EndsWriteFault};
 
-use super::answer::{Answer, refusal};
+use super::answer::{Reply, refused};
 use super::ended::Ended;
 use super::keys::key_table;
 use super::machine::Board;
+use super::path::write_path;
+use super::refusal::Refusal;
 use super::unfinished::{Reading, Unfinished};
 use super::write::write_all;
 use chess_types::{Failed, Sink, Source};
@@ -22,20 +24,34 @@ pub(crate) const READS: u64 = 1 << 40;
 /// The most bytes of a read.
 const PIECE: usize = 65_536;
 
-// The answer to a line, however it was read.
-fn answer_of<A: Allocator>(board: &mut Board, line: &Unfinished<A>) -> Answer
-    ensures { (bytes : List ℕ) → Holds line.now bytes → Answers board.old bytes result.bytes board.new }
+// The reply to a line, however it was read.
+fn reply_to<A: Allocator, B: Allocator>(board: &mut Board<B>, line: &Unfinished<A>) -> Reply
+    ensures { (bytes : List ℕ) → Holds line.now bytes → Answers board.old bytes (reply_text result board.new) board.new }
 {
     match line.reading() {
         Reading::Whole => board.answer(line.kept()),
-        Reading::TooLong => refusal(8, "LongLine"),
-        Reading::NoMemory => refusal(5, "Memory"),
+        Reading::TooLong => Reply::Text(refused(Refusal::LongLine)),
+        Reading::NoMemory => Reply::Text(refused(Refusal::Memory)),
+    }
+}
+
+// Writes the reply.
+fn write_reply<B: Allocator, W: Sink>(
+    board: &Board<B>,
+    reply: &Reply,
+    writer: &mut W,
+) -> Result<(), Failed>
+    ensures { Wrote W.takes W.failed writer.old (reply_text reply.now board.now) writer.new result }
+{
+    match reply {
+        Reply::Text(answer) => write_all(writer, answer.as_str().as_bytes()),
+        Reply::Path => write_path(board.tree(), writer),
     }
 }
 
 // Answers the line, and begins another.
-fn answer_line<A: Allocator, W: Sink>(
-    board: &mut Board,
+fn answer_line<A: Allocator, B: Allocator, W: Sink>(
+    board: &mut Board<B>,
     line: &mut Unfinished<A>,
     writer: &mut W,
 ) -> Result<(), Failed>
@@ -43,14 +59,14 @@ fn answer_line<A: Allocator, W: Sink>(
         (text : List ℕ) × Answers board.old bytes text board.new × Wrote W.takes W.failed writer.old text writer.new result }
     ensures restarted { Holds line.new [] }
 {
-    let answer = answer_of(board, line);
+    let reply = reply_to(board, line);
     line.restart();
-    write_all(writer, answer.as_str().as_bytes())
+    write_reply(board, &reply, writer)
 }
 
 // Answers the lines that end in the piece, and keeps the rest of it.
-fn feed<A: Allocator, W: Sink>(
-    board: &mut Board,
+fn feed<A: Allocator, B: Allocator, W: Sink>(
+    board: &mut Board<B>,
     line: &mut Unfinished<A>,
     piece: &[u8],
     writer: &mut W,
@@ -72,8 +88,8 @@ fn feed<A: Allocator, W: Sink>(
 }
 
 // Answers what stands behind the last line feed.
-fn finish<A: Allocator, W: Sink>(
-    board: &mut Board,
+fn finish<A: Allocator, B: Allocator, W: Sink>(
+    board: &mut Board<B>,
     line: &mut Unfinished<A>,
     writer: &mut W,
 ) -> Result<(), Failed>
@@ -87,15 +103,15 @@ fn finish<A: Allocator, W: Sink>(
 }
 
 // Reads and answers to the end.
-fn answer_all<A: Allocator, R: Source, W: Sink>(
-    board: &mut Board,
+fn answer_all<A: Allocator, B: Allocator, R: Source, W: Sink>(
+    board: &mut Board<B>,
     line: &mut Unfinished<A>,
     reader: &mut R,
     buffer: &mut [u8],
     writer: &mut W,
     most: u64,
 ) -> Ended
-    requires board { board.old ≡ start }
+    requires board { board.old ≡ beginning }
     requires line { Holds line.old [] }
     requires reader { R.failed reader.old ≡ false }
     requires buffer { 0 < length buffer.old }
@@ -150,7 +166,9 @@ pub(crate) fn run<A: Allocator, R: Source, W: Sink>(
         return Ended::Memory;
     };
     let table = key_table();
-    let mut board = Board::new(&table);
+    let Ok(mut board) = Board::new(alloc, &table) else {
+        return Ended::Memory;
+    };
     let mut line = Unfinished::new(alloc);
     answer_all(
         &mut board,

@@ -1,4 +1,7 @@
+mod lines;
 mod live;
+mod paths;
+mod tree;
 
 use crate::run::run;
 use crate::{Ended, Kept, board, board_over_bytes, counts_text, eval_text};

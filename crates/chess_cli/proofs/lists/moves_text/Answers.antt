@@ -3,7 +3,7 @@ use Rattle.std.specs.Prelude.{codes}
 use Rattle.std.proofs.lemmas.List.{take_more}
 use Rattle.chess_types.specs.MoveParts.{MoveParts}
 use Rattle.chess_types.specs.Texts.{move_text}
-use Rattle.chess_cli.specs.Answers.{parted_by}
+use Rattle.chess_cli.specs.Gaps.{parted_by}
 use Rattle.chess_cli.specs.Lists.{behind}
 use Rattle.chess_cli.proofs.ListLemmas.{moves-more}
 use Rattle.chess_cli.proofs.lists.moves_text.Goals as goal

@@ -2,7 +2,7 @@ use Rattle.std.proofs.Common.{◌≡◌, ◌*◌, ◌≤◌, map, take}
 use Rattle.std.specs.Prelude.{codes}
 use Rattle.arrayvec.specs.ArrayString.{array_string_len}
 use Rattle.chess_types.specs.Texts.{move_text}
-use Rattle.chess_cli.specs.Answers.{parted_by}
+use Rattle.chess_cli.specs.Gaps.{parted_by}
 use Rattle.chess_cli.proofs.lists.moves_text.Given as goal
 
 abbrev pub invariant-loop-m : goal.invariant-loop-m

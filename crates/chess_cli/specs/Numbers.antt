@@ -1,0 +1,42 @@
+-- Numbers and paths in commands.
+--   is_number   the word writes a number
+--   number_in   the number that a word writes
+--   path_in     the path that a word writes
+--   path_text   the word that writes a path
+--   ReadsPath   a word is read as a path
+use Rattle.std.specs.Prelude.{◌≡◌, ℕ, Bool, ◌<◌, ◌==◌, nat_le, ◌&&◌, if◌then◌else◌, List, [], ◌∷◌, length, map, Option, Some, None, option_map, option_and_then, codes, decimal}
+use Rattle.std.specs.Char.{is_ascii_digit}
+use Rattle.std.specs.List.{list_all, slice_split}
+use Rattle.std.specs.Str.{bytes_eq}
+use Rattle.std.specs.Str.Parse.{digits_value}
+use Rattle.chess_cli.specs.declared.numbers.PathWord.{PathWord}
+use Rattle.chess_cli.specs.declared.numbers.PathWord.TheVariants.{Read, TooLong, Malformed}
+use Rattle.chess_cli.specs.Gaps.{parted_by}
+
+-- one to six decimal digits; zeros may stand first
+abbrev pub is_number : List ℕ → Bool
+is_number word = list_all is_ascii_digit word && nat_le 1 (length word) && nat_le (length word) 6
+
+-- the number that its digits write
+unfoldable pub number_in : List ℕ → Option ℕ
+number_in word = if is_number word then Some (digits_value 10 word) else None
+
+-- the numbers that all the words write
+abbrev pub numbers_in : List (List ℕ) → Option (List ℕ)
+numbers_in [] = Some []
+numbers_in (word ∷ words) = option_and_then (λ n. option_map (λ ns. n ∷ ns) (numbers_in words)) (number_in word)
+
+-- `-` is the root's; else child numbers from 0, parted by periods
+unfoldable pub path_in : List ℕ → Option (List ℕ)
+path_in word = if bytes_eq word (codes "-") then Some [] else numbers_in (slice_split (λ byte. byte == 46) word)
+
+-- the numbers in decimal, parted by periods, and `-` where there is none
+abbrev pub path_text : List ℕ → List ℕ
+path_text [] = codes "-"
+path_text (place ∷ path) = parted_by (codes ".") (map decimal (place ∷ path))
+
+-- How a word is read as a path, into a list of so many numbers at most.
+abbrev pub ReadsPath : List ℕ → List ℕ → PathWord → Type 0
+ReadsPath word path Read = path_in word ≡ Some path
+ReadsPath word path TooLong = (longer : List ℕ) × (path_in word ≡ Some longer) × (20000 < length longer)
+ReadsPath word path Malformed = path_in word ≡ None

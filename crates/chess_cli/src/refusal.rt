@@ -1,0 +1,90 @@
+ghost use Rattle.std.specs.Prelude.{◌≡◌};
+ghost use Rattle.chess_cli.specs.Refusals.{tree_refusal};
+
+use chess_fen::FenFault;
+use chess_tree::TreeFault;
+
+/// Why a line of the board is refused. Number and name together tell which.
+#[derive(Clone, Copy, Debug, PartialEq, Eq)]
+pub enum Refusal {
+    /// The text is no FEN.
+    Fen(FenFault),
+    /// The word isn't the text of a move.
+    Form,
+    /// There is no such child, or no node at that path.
+    NoSuch,
+    /// The move isn't legal.
+    Illegal,
+    /// The node is 20,000 plies deep.
+    TooLong,
+    /// The cursor is at the root.
+    AtRoot,
+    /// The tree holds 65,536 moves.
+    Full,
+    /// A right brace stands in the comment.
+    BadComment,
+    /// There is no memory.
+    Memory,
+    /// Another first word.
+    Command,
+    /// Wrong words behind a command.
+    Argument,
+    /// The line has more than 1,048,576 bytes.
+    LongLine,
+}
+
+impl Refusal {
+    ghost use Rattle.std.specs.Prelude.{◌≡◌, ◌≤◌, length};
+    ghost use Rattle.chess_cli.specs.Refusals.{number_of, name_of};
+
+    /// The refusal's number.
+    pub fn number(self) -> u8
+        ensures { result ≡ number_of self }
+    {
+        match self {
+            Refusal::Fen(fault) => fault.number(),
+            Refusal::Form | Refusal::NoSuch => 1,
+            Refusal::Illegal | Refusal::TooLong | Refusal::AtRoot => 2,
+            Refusal::Full => 3,
+            Refusal::BadComment => 4,
+            Refusal::Memory => 5,
+            Refusal::Command => 6,
+            Refusal::Argument => 7,
+            Refusal::LongLine => 8,
+        }
+    }
+
+    /// The refusal's name, as `AtRoot`.
+    pub fn name(self) -> &'static str
+        ensures value { result.now ≡ name_of self }
+        ensures short { length result.now ≤ 32 }
+    {
+        match self {
+            Refusal::Fen(fault) => fault.name(),
+            Refusal::Form => "Form",
+            Refusal::NoSuch => "NoSuch",
+            Refusal::Illegal => "Illegal",
+            Refusal::TooLong => "TooLong",
+            Refusal::AtRoot => "AtRoot",
+            Refusal::Full => "Full",
+            Refusal::BadComment => "BadComment",
+            Refusal::Memory => "Memory",
+            Refusal::Command => "Command",
+            Refusal::Argument => "Argument",
+            Refusal::LongLine => "LongLine",
+        }
+    }
+}
+
+/// The refusal of an edit of a tree.
+pub fn of_tree(fault: TreeFault) -> Refusal
+    ensures { result ≡ tree_refusal fault }
+{
+    match fault {
+        TreeFault::NoSuch => Refusal::NoSuch,
+        TreeFault::AtRoot => Refusal::AtRoot,
+        TreeFault::Full => Refusal::Full,
+        TreeFault::BadComment => Refusal::BadComment,
+        TreeFault::Memory => Refusal::Memory,
+    }
+}

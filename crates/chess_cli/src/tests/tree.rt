@@ -1,0 +1,229 @@
+use crate::answer::Reply;
+use crate::machine::Board;
+use crate::{Ended, board};
+use chess_key::KeyTable;
+use chess_types::{FromBytes, ToBytes};
+use linked_list_allocator::LocalHeap;
+use std::alloc::AllocError;
+use std::process::Abort;
+use std::test::Fail;
+
+/// Variations are added, promoted and taken out; the line follows the cursor.
+#[test]
+fn edits_the_tree(rt: HostRuntime) -> Result<(), Fail> {
+    let input =
+        b"new\nplay e2e4\nplay e7e5\nback\nplay c7c5\npath\nfen\neval\npromote\npath\nfen\nback\nstep 1\n\
+        fen\ndelete\npath\nstep 1\nstep 0\npath\nstart\nback\npromote\ndelete\npath\nfen\n";
+    let output = b"\
+ok
+ok
+ok
+ok
+ok
+0.1
+rnbqkbnr/pp1ppppp/8/2p5/4P3/8/PPPP1PPP/RNBQKBNR w KQkq c6 0 2
+0
+ok
+0.0
+rnbqkbnr/pp1ppppp/8/2p5/4P3/8/PPPP1PPP/RNBQKBNR w KQkq c6 0 2
+ok
+ok
+rnbqkbnr/pppp1ppp/8/4p3/4P3/8/PPPP1PPP/RNBQKBNR w KQkq e6 0 2
+ok
+0
+refused 1 NoSuch
+ok
+0.0
+ok
+refused 2 AtRoot
+refused 2 AtRoot
+refused 2 AtRoot
+-
+rnbqkbnr/pppppppp/8/8/8/8/PPPPPPPP/RNBQKBNR w KQkq - 0 1
+";
+    let mut reader = FromBytes::new(input, 4096);
+    let mut room = [0; 1200];
+    let mut writer = ToBytes::new(&mut room, 4096);
+    assert_eq!(rt; board(rt.alloc(), &mut reader, &mut writer), Ended::Good);
+    assert!(rt; writer.taken() == output.as_slice());
+    Ok(())
+}
+
+/// Notes at the cursor, and walks along the tree.
+#[test]
+fn keeps_notes_and_walks(rt: HostRuntime) -> Result<(), Fail> {
+    let input =
+        b"new\nplay e2e4\nnag 1\ncomment a  b\nplay e7e5\nstart\nend\npath\ngoto 0\npath\ncomment }\n\
+        goto 0.1\npath\nnag 256\nnag 000255\nnag\nnag 1 2\ncomment\ngoto 00.000000\npath\ngoto -\npath\n\
+        nag 1\nnag 256\ngoto 0.\ngoto 0..0\ngoto\ngoto 0 0\ngoto --\ngoto 1234567\ngoto 999999\nstep\n\
+        step 1234567\nstep x\nstep 1\npath x\nstart x\nend x\npromote x\ndelete x\ncomment of the root\n\
+        path\n";
+    let output = b"\
+ok
+ok
+ok
+ok
+ok
+ok
+ok
+0.0
+ok
+0
+refused 4 BadComment
+refused 1 NoSuch
+0
+refused 7 Argument
+ok
+refused 7 Argument
+refused 7 Argument
+ok
+ok
+0.0
+ok
+-
+refused 2 AtRoot
+refused 7 Argument
+refused 7 Argument
+refused 7 Argument
+refused 7 Argument
+refused 7 Argument
+refused 7 Argument
+refused 7 Argument
+refused 1 NoSuch
+refused 7 Argument
+refused 7 Argument
+refused 7 Argument
+refused 1 NoSuch
+refused 7 Argument
+refused 7 Argument
+refused 7 Argument
+refused 7 Argument
+refused 7 Argument
+ok
+-
+";
+    let mut reader = FromBytes::new(input, 4096);
+    let mut room = [0; 1200];
+    let mut writer = ToBytes::new(&mut room, 4096);
+    assert_eq!(rt; board(rt.alloc(), &mut reader, &mut writer), Ended::Good);
+    assert!(rt; writer.taken() == output.as_slice());
+    Ok(())
+}
+
+/// A move leads to the first child that has it; the order of three children.
+#[test]
+fn plays_into_the_tree(rt: HostRuntime) -> Result<(), Fail> {
+    let input =
+        b"new\nplay e2e4\nback\nplay d2d4\nback\nplay c2c4\npath\nback\nplay d2d4\npath\ngoto 2\npromote\n\
+        path\ngoto 1\nfen\ngoto 2\nfen\ngoto 1\ndelete\nstep 1\nfen\nstep 0\ncount\n\
+        set 4k3/8/8/8/8/8/8/4K2R w K - 0 1\npath\nstep 0\nend\npath\nplay e1g1\npath\nnew\npath\nend\n\
+        path\n";
+    let output = b"\
+ok
+ok
+ok
+ok
+ok
+ok
+2
+ok
+ok
+1
+ok
+ok
+0
+ok
+rnbqkbnr/pppppppp/8/8/4P3/8/PPPP1PPP/RNBQKBNR b KQkq e3 0 1
+ok
+rnbqkbnr/pppppppp/8/8/3P4/8/PPP1PPPP/RNBQKBNR b KQkq d3 0 1
+ok
+ok
+ok
+rnbqkbnr/pppppppp/8/8/3P4/8/PPP1PPPP/RNBQKBNR b KQkq d3 0 1
+refused 1 NoSuch
+1
+ok
+-
+refused 1 NoSuch
+ok
+-
+ok
+0
+ok
+-
+ok
+-
+";
+    let mut reader = FromBytes::new(input, 4096);
+    let mut room = [0; 1200];
+    let mut writer = ToBytes::new(&mut room, 4096);
+    assert_eq!(rt; board(rt.alloc(), &mut reader, &mut writer), Ended::Good);
+    assert!(rt; writer.taken() == output.as_slice());
+    Ok(())
+}
+
+/// Pieces of a heap that are taken, in a list on another.
+type Taken<'h> = Vec<Vec<u8, &'h LocalHeap>, &'h LocalHeap>;
+
+/// Takes what a heap has left, until nothing of 16 bytes is left.
+fn take_all<'h>(heap: &'h LocalHeap, other: &'h LocalHeap) -> Result<Taken<'h>, AllocError> {
+    let mut taken = Vec::new(other);
+    let mut size = 65_536usize;
+    for _turn in 0..64u32 {
+        match Vec::with_capacity(heap, size) {
+            Ok(piece) => taken.push(piece)?,
+            Err(_) => size = (size / 2).max(16),
+        }
+    }
+    Ok(taken)
+}
+
+/// Asks the board for this while its heap is empty, and again when there is memory, if the answer was that there is none: then tree and
+/// cursor are as before.
+fn ask_twice(
+    rt: &impl Abort,
+    board: &mut Board<LocalHeap>,
+    heap: &LocalHeap,
+    other: &LocalHeap,
+    line: &[u8],
+) -> Result<(), Fail> {
+    let depth = board.tree().depth();
+    let children = board.tree().child_count();
+    let taken = take_all(heap, other)?;
+    let Reply::Text(first) = board.answer(line) else {
+        assert!(rt; false);
+        return Ok(());
+    };
+    drop(taken);
+    if first.as_str() == "ok\n" {
+        return Ok(());
+    }
+    assert_eq!(rt; first.as_str(), "refused 5 Memory\n");
+    assert_eq!(rt; board.tree().depth(), depth);
+    assert_eq!(rt; board.tree().child_count(), children);
+    let Reply::Text(second) = board.answer(line) else {
+        assert!(rt; false);
+        return Ok(());
+    };
+    assert_eq!(rt; second.as_str(), "ok\n");
+    Ok(())
+}
+
+#[test]
+fn refuses_each_growth_in_turn(rt: HostRuntime) -> Result<(), Fail> {
+    let heap = LocalHeap::new(rt.alloc(), 100_000)?;
+    let other = LocalHeap::new(rt.alloc(), 10_000)?;
+    let table = KeyTable::new([1; 768]);
+    let Ok(mut board) = Board::new(&heap, &table) else {
+        assert!(rt; false);
+        return Ok(());
+    };
+    let lines =
+        b"play e2e4,nag 1,nag 2,nag 3,nag 4,nag 5,comment good,play e7e5,play g1f3,play b8c6,play f1b5,back,play f1c4,start,end,start,goto 0.0.0.0.1,\
+        delete,start,step 0,new,play d2d4,set 4k3/8/8/8/8/8/8/4K2R w K - 0 1,play e1g1";
+    for line in lines.split(|byte| *byte == b',') {
+        ask_twice(&rt, &mut board, &heap, &other, line)?;
+    }
+    assert_eq!(rt; board.tree().depth(), 1);
+    Ok(())
+}
