@@ -7,6 +7,8 @@ use crate::run::run;
 use crate::{Ended, Kept, board, board_over_bytes, counts_text, eval_text};
 use chess_types::{Colour, Failed, FromBytes, Refusal, Source, Square, ToBytes};
 use linked_list_allocator::LocalHeap;
+use std::alloc::Allocator;
+use std::process::Abort;
 use std::test::Fail;
 
 /// Lines of every kind: commands, blank lines, wrong words, both line ends, and a last line without a line feed.
@@ -42,6 +44,15 @@ ok
 const TWO_LINES: usize = 284;
 
 const ONE_LINE: usize = 142;
+
+/// The board answers the input, read and written in pieces, with the output.
+fn assert_answers<A: Allocator>(rt: &impl Abort, alloc: A, input: &[u8], output: &[u8]) {
+    let mut reader = FromBytes::new(input, 4096);
+    let mut room = [0; 1200];
+    let mut writer = ToBytes::new(&mut room, 4096);
+    assert_eq!(rt; board(alloc, &mut reader, &mut writer), Ended::Good);
+    assert!(rt; writer.taken() == output);
+}
 
 #[test]
 fn answers_in_pieces_of_any_size(rt: HostRuntime) -> Result<(), Fail> {
@@ -308,7 +319,7 @@ fn tells_how_it_ended(rt: HostRuntime) {
 
 /// Sets each position, and asks for its FEN, its moves and its checks.
 #[test]
-fn answers_by_the_laws(rt: HostRuntime) -> Result<(), Fail> {
+fn answers_by_the_laws(rt: HostRuntime) {
     let input = b"set rnbqkbnr/pppppppp/8/8/8/8/PPPPPPPP/RNBQKBNR  w qkQK -\nfen\n\
         set 4k3/8/8/8/8/8/8/3K3R w KQ - 0100 00\nfen\n\
         set 4k3/8/8/8/8/8/8/4K3 w - e6 0 0\nfen\nset 4k3/8/8/8/8/8/8/4K3 w - z9 0 1\nfen\n\
@@ -345,12 +356,7 @@ ok
 none
 h4
 ";
-    let mut reader = FromBytes::new(input, 4096);
-    let mut room = [0; 1200];
-    let mut writer = ToBytes::new(&mut room, 4096);
-    assert_eq!(rt; board(rt.alloc(), &mut reader, &mut writer), Ended::Good);
-    assert!(rt; writer.taken() == output.as_slice());
-    Ok(())
+    assert_answers(&rt, rt.alloc(), input, output);
 }
 
 /// Tells other numbers than those of any position.

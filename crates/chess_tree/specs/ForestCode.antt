@@ -3,23 +3,11 @@ use Rattle.std.specs.Prelude.{◌≡◌, ℕ, List, [], ◌∷◌, ◌++◌, Opt
 use Rattle.std.specs.Coded.{Coded, code_by, coded×, coded_ℕ, coded_list, coded_option}
 use Rattle.std.proofs.Common.{append_assoc, sym, ap, ◌∙◌}
 use Rattle.std.proofs.lemmas.List.{append-nil}
-use Rattle.chess_types.specs.declared.man.Kind.{Kind}
-use Rattle.chess_types.specs.ManCode.{kind_number, kind_of, kind_of-number}
 use Rattle.chess_types.specs.MoveParts.{MoveParts}
+use Rattle.chess_types.specs.LineCode.{coded_move}
 use Rattle.chess_tree.specs.Forest.{Forest, Bare, Node, NodeParts}
 
 -- a kind as a number
-abbrev pub coded_kind : Coded Kind
-coded_kind = code_by ℕ coded_ℕ kind_number kind_of kind_of-number
-
--- a move as a tuple
-abbrev pub coded_move : Coded MoveParts
-coded_move =
-    code_by (ℕ × (ℕ × Option Kind)) (coded× coded_ℕ (coded× coded_ℕ (coded_option coded_kind)))
-    (λ m. (m.from, (m.to, m.promo)))
-    (λ p. record { from = p.0; to = p.1.0; promo = p.1.1 })
-    (λ _. refl)
-
 -- the parts of a node, or the end of nodes side by side
 abbrev pub Piece : Type 0
 Piece = Option (MoveParts × (List ℕ × List ℕ))

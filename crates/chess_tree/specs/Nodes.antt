@@ -10,7 +10,8 @@ use denote.Param.Weighed.{most}
 use Rattle.chess_types.specs.MoveParts.{MoveParts}
 use Rattle.chess_tree.specs.Forest.{Forest, Bare, Node, NodeParts, moves_held}
 use Rattle.chess_tree.specs.Edits.{change_node, commented}
-use Rattle.chess_tree.specs.ForestCode.{coded_move, coded_forest}
+use Rattle.chess_types.specs.LineCode.{coded_move}
+use Rattle.chess_tree.specs.ForestCode.{coded_forest}
 
 -- a node as it is kept
 pub record Held : Type 0 where

@@ -1,10 +1,8 @@
-use crate::{Ended, board};
-use chess_types::{FromBytes, ToBytes};
-use std::test::Fail;
+use super::assert_answers;
 
 /// Moves are made and taken back, and every query speaks of the last position.
 #[test]
-fn plays_and_takes_back(rt: HostRuntime) -> Result<(), Fail> {
+fn plays_and_takes_back(rt: HostRuntime) {
     let input =
         b"new\nplay e2e4\nfen\neval\ncounts w\nback\nfen\neval\nback\nplay e2e5\nplay e4\nplay\n\
         play e2e4 e7e5\nback 1\nclaim e2\nclaim e2e5\nclaim\nclaim e2e4\ncount\nstatus\nclaims\n\
@@ -36,17 +34,12 @@ refused 7 Argument
 refused 7 Argument
 rnbqkbnr/pppppppp/8/8/8/8/PPPPPPPP/RNBQKBNR w KQkq - 0 1
 ";
-    let mut reader = FromBytes::new(input, 4096);
-    let mut room = [0; 1200];
-    let mut writer = ToBytes::new(&mut room, 4096);
-    assert_eq!(rt; board(rt.alloc(), &mut reader, &mut writer), Ended::Good);
-    assert!(rt; writer.taken() == output.as_slice());
-    Ok(())
+    assert_answers(&rt, rt.alloc(), input, output);
 }
 
 /// Captures in passing, castling, and a rook taken at home.
 #[test]
-fn plays_by_the_laws(rt: HostRuntime) -> Result<(), Fail> {
+fn plays_by_the_laws(rt: HostRuntime) {
     let input =
         b"set 8/8/8/K1pP3r/8/8/8/4k3 w - c6 0 2\nplay d5c6\nfen\nset 4kr2/8/8/8/8/8/8/R3K2R w KQ - 0 1\n\
         play e1g1\nplay e1c1\nfen\nset r3k2r/8/8/8/8/8/8/R3K2R w KQkq - 0 1\nplay a1a8\nfen\nchecks\n\
@@ -68,17 +61,12 @@ refused 2 Illegal
 ok
 Q3k3/8/8/8/8/8/8/4K3 b - - 0 1
 ";
-    let mut reader = FromBytes::new(input, 4096);
-    let mut room = [0; 1200];
-    let mut writer = ToBytes::new(&mut room, 4096);
-    assert_eq!(rt; board(rt.alloc(), &mut reader, &mut writer), Ended::Good);
-    assert!(rt; writer.taken() == output.as_slice());
-    Ok(())
+    assert_answers(&rt, rt.alloc(), input, output);
 }
 
 /// Three and five times the same position.
 #[test]
-fn counts_repetitions(rt: HostRuntime) -> Result<(), Fail> {
+fn counts_repetitions(rt: HostRuntime) {
     let input =
         b"new\nplay g1f3\nplay g8f6\nplay f3g1\nplay f6g8\nplay g1f3\nplay g8f6\nplay f3g1\nclaims\n\
         claim f6g8\ncount\nplay f6g8\ncount\nclaims\nclaim g1f3\nplay g1f3\nplay g8f6\nplay f3g1\n\
@@ -115,17 +103,12 @@ none
 refused 2 Illegal
 ok
 ";
-    let mut reader = FromBytes::new(input, 4096);
-    let mut room = [0; 1200];
-    let mut writer = ToBytes::new(&mut room, 4096);
-    assert_eq!(rt; board(rt.alloc(), &mut reader, &mut writer), Ended::Good);
-    assert!(rt; writer.taken() == output.as_slice());
-    Ok(())
+    assert_answers(&rt, rt.alloc(), input, output);
 }
 
 /// A target counts only where a legal move captures on it.
 #[test]
-fn counts_targets_that_are_taken_on(rt: HostRuntime) -> Result<(), Fail> {
+fn counts_targets_that_are_taken_on(rt: HostRuntime) {
     let input = b"new\nplay e2e4\nplay g8f6\nplay g1f3\nplay f6g8\nplay f3g1\nfen\ncount\n\
         set 4k3/8/8/8/4p3/8/3P4/4R1K1 w - - 0 1\nplay d2d4\nplay e8f8\nplay g1g2\nplay f8e8\nplay g2g1\n\
         count\nset 4k3/8/8/8/4p3/8/3P4/6K1 w - - 0 1\nplay d2d4\nplay e8f8\nplay g1g2\nplay f8e8\n\
@@ -159,17 +142,12 @@ ok
 ok
 2
 ";
-    let mut reader = FromBytes::new(input, 4096);
-    let mut room = [0; 1200];
-    let mut writer = ToBytes::new(&mut room, 4096);
-    assert_eq!(rt; board(rt.alloc(), &mut reader, &mut writer), Ended::Good);
-    assert!(rt; writer.taken() == output.as_slice());
-    Ok(())
+    assert_answers(&rt, rt.alloc(), input, output);
 }
 
 /// Mate before the 75 moves, and claims of 50.
 #[test]
-fn tells_the_status(rt: HostRuntime) -> Result<(), Fail> {
+fn tells_the_status(rt: HostRuntime) {
     let input =
         b"set 7k/8/6K1/8/8/8/8/R7 w - - 149 90\nclaims\nclaim a1a8\nplay a1a2\nstatus\nclaim h8g8\n\
         claims\nback\nplay a1a8\nstatus\nclaims\nset 7k/8/6K1/8/8/8/8/R7 w - - 99 90\nclaims\n\
@@ -202,17 +180,12 @@ ok
 stalemate
 none
 ";
-    let mut reader = FromBytes::new(input, 4096);
-    let mut room = [0; 1200];
-    let mut writer = ToBytes::new(&mut room, 4096);
-    assert_eq!(rt; board(rt.alloc(), &mut reader, &mut writer), Ended::Good);
-    assert!(rt; writer.taken() == output.as_slice());
-    Ok(())
+    assert_answers(&rt, rt.alloc(), input, output);
 }
 
 /// The list of dead positions.
 #[test]
-fn tells_what_is_dead(rt: HostRuntime) -> Result<(), Fail> {
+fn tells_what_is_dead(rt: HostRuntime) {
     let input =
         b"set 4k3/8/8/8/8/8/8/4K1N1 w - - 0 1\nstatus\nset 4k3/8/8/8/8/8/8/4KNN1 w - - 0 1\nstatus\n\
         set 4k3/8/8/8/8/8/8/2B1K1B1 w - - 0 1\nstatus\nset 4k3/8/8/8/8/8/8/2BBK3 w - - 0 1\nstatus\n\
@@ -240,10 +213,5 @@ ok
 play
 none
 ";
-    let mut reader = FromBytes::new(input, 4096);
-    let mut room = [0; 1200];
-    let mut writer = ToBytes::new(&mut room, 4096);
-    assert_eq!(rt; board(rt.alloc(), &mut reader, &mut writer), Ended::Good);
-    assert!(rt; writer.taken() == output.as_slice());
-    Ok(())
+    assert_answers(&rt, rt.alloc(), input, output);
 }

@@ -1,8 +1,7 @@
+use super::assert_answers;
 use crate::answer::Reply;
 use crate::machine::Board;
-use crate::{Ended, board};
 use chess_key::KeyTable;
-use chess_types::{FromBytes, ToBytes};
 use linked_list_allocator::LocalHeap;
 use std::alloc::AllocError;
 use std::process::Abort;
@@ -10,7 +9,7 @@ use std::test::Fail;
 
 /// Variations are added, promoted and taken out; the line follows the cursor.
 #[test]
-fn edits_the_tree(rt: HostRuntime) -> Result<(), Fail> {
+fn edits_the_tree(rt: HostRuntime) {
     let input =
         b"new\nplay e2e4\nplay e7e5\nback\nplay c7c5\npath\nfen\neval\npromote\npath\nfen\nback\nstep 1\n\
         fen\ndelete\npath\nstep 1\nstep 0\npath\nstart\nback\npromote\ndelete\npath\nfen\n";
@@ -41,17 +40,12 @@ refused 2 AtRoot
 -
 rnbqkbnr/pppppppp/8/8/8/8/PPPPPPPP/RNBQKBNR w KQkq - 0 1
 ";
-    let mut reader = FromBytes::new(input, 4096);
-    let mut room = [0; 1200];
-    let mut writer = ToBytes::new(&mut room, 4096);
-    assert_eq!(rt; board(rt.alloc(), &mut reader, &mut writer), Ended::Good);
-    assert!(rt; writer.taken() == output.as_slice());
-    Ok(())
+    assert_answers(&rt, rt.alloc(), input, output);
 }
 
 /// Notes at the cursor, and walks along the tree.
 #[test]
-fn keeps_notes_and_walks(rt: HostRuntime) -> Result<(), Fail> {
+fn keeps_notes_and_walks(rt: HostRuntime) {
     let input =
         b"new\nplay e2e4\nnag 1\ncomment a  b\nplay e7e5\nstart\nend\npath\ngoto 0\npath\ncomment }\n\
         goto 0.1\npath\nnag 256\nnag 000255\nnag\nnag 1 2\ncomment\ngoto 00.000000\npath\ngoto -\npath\n\
@@ -102,17 +96,12 @@ refused 7 Argument
 ok
 -
 ";
-    let mut reader = FromBytes::new(input, 4096);
-    let mut room = [0; 1200];
-    let mut writer = ToBytes::new(&mut room, 4096);
-    assert_eq!(rt; board(rt.alloc(), &mut reader, &mut writer), Ended::Good);
-    assert!(rt; writer.taken() == output.as_slice());
-    Ok(())
+    assert_answers(&rt, rt.alloc(), input, output);
 }
 
 /// A move leads to the first child that has it; the order of three children.
 #[test]
-fn plays_into_the_tree(rt: HostRuntime) -> Result<(), Fail> {
+fn plays_into_the_tree(rt: HostRuntime) {
     let input =
         b"new\nplay e2e4\nback\nplay d2d4\nback\nplay c2c4\npath\nback\nplay d2d4\npath\ngoto 2\npromote\n\
         path\ngoto 1\nfen\ngoto 2\nfen\ngoto 1\ndelete\nstep 1\nfen\nstep 0\ncount\n\
@@ -154,12 +143,7 @@ ok
 ok
 -
 ";
-    let mut reader = FromBytes::new(input, 4096);
-    let mut room = [0; 1200];
-    let mut writer = ToBytes::new(&mut room, 4096);
-    assert_eq!(rt; board(rt.alloc(), &mut reader, &mut writer), Ended::Good);
-    assert!(rt; writer.taken() == output.as_slice());
-    Ok(())
+    assert_answers(&rt, rt.alloc(), input, output);
 }
 
 /// Pieces of a heap that are taken, in a list on another.
