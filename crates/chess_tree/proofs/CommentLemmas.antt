@@ -141,13 +141,6 @@ word_added done now w rest others text loop split e =
     let some = first_some w (words blanks others) (words blanks rest) split (are_words blanks [] rest tt) in
     ap (λ (x : List ℕ). behind x (words blanks others)) e ∙ behind_next done w (words blanks others) some ∙ ap (behind done) (sym split) ∙ loop
 
-pub fewer_words : (w rest others : List ℕ) → words blanks rest ≡ w ∷ words blanks others → length (words blanks others) < length (words blanks rest)
-fewer_words w rest others split = omega (arith, ap length split)
-
-pub behind_none : (done rest text : List ℕ) → behind done (words blanks rest) ≡ normalised text → words blanks rest ≡ [] → done ≡ normalised text
-behind_none [] rest text loop none = ap (join_with_byte 32) (sym none) ∙ loop
-behind_none (b ∷ done) rest text loop none = ap (behind (b ∷ done)) (sym none) ∙ loop
-
 pub behind_start : (done text : List ℕ) → done ≡ [] → behind done (words blanks text) ≡ normalised text
 unfolding normalised
 behind_start done text e = ap (λ (x : List ℕ). behind x (words blanks text)) e

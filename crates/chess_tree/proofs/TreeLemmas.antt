@@ -2,14 +2,14 @@
 use Rattle.std.proofs.Common.{◌≡◌, ℕ, ◌<◌, true, List, [], ◌∷◌, length, refl, sym, subst, arith}
 use Rattle.chess_types.specs.MoveParts.{MoveParts}
 use Rattle.chess_types.specs.Legal.{is_legal}
-use Rattle.chess_types.specs.Lines.{AreLegal, last}
+use Rattle.chess_types.specs.Lines.{last}
 use Rattle.chess_tree.specs.Forest.{moves_held}
 use Rattle.chess_tree.specs.Edits.{annotated, commented, promoted, without}
 use Rattle.chess_tree.specs.Comments.{IsComment}
 use Rattle.chess_tree.specs.GameTree.{TreeParts, added, annotated_here, at_path, commented_here, deleted, line_to, promoted_here}
 use Rattle.chess_tree.specs.WellFormed.{IsGameTree, Leads}
 use Rattle.chess_tree.proofs.EditLemmas as edits
-use Rattle.chess_tree.proofs.SoundLemmas.{legal_along, sound_annotated, sound_commented, sound_node, sound_promoted, sound_with_move, sound_without}
+use Rattle.chess_tree.proofs.SoundLemmas.{sound_annotated, sound_commented, sound_node, sound_promoted, sound_with_move, sound_without}
 
 pub game_at : (path : List ℕ) (t : TreeParts) → IsGameTree t → Leads path t.tree.below → IsGameTree (at_path path t)
 game_at path t game leads = record {
@@ -98,9 +98,3 @@ commented_from text (k ∷ path) t e is game = record {
 
 pub game_commented : (text : List ℕ) (t : TreeParts) → IsComment text → IsGameTree t → IsGameTree (commented_here text t)
 game_commented text t is game = commented_from text t.path t refl is game
-
--- ---- for callers
-
--- the line to the cursor is one of legal moves
-pub line_legal : (t : TreeParts) → IsGameTree t → AreLegal t.tree.start (line_to t).moves
-line_legal t game = legal_along t.tree.start t.path t.tree.below game.moves

@@ -184,12 +184,6 @@ child_way z n (Some depth) k deeper is e h =
     let on = on_way z.path depth k deeper e in
     child_on z n depth k is on.0 on.1 h ∙ ap (λ (d : ℕ). Some (shown_at d (held_at d z))) (sym on.2)
 
-pub child_aside : (z : Zipped) (n m : Held) (way : Option ℕ) (k : ℕ) → IsSeen z n way → way_on z.path way k ≡ None
-    → child k n.below ≡ Some (shown m) → child k (seen z n way).below ≡ Some (shown m)
-child_aside z n m None k is aside e = e
-child_aside z n m (Some depth) k is aside e =
-    ap (child k) (seen_below depth (held_at depth z)) ∙ sym (is.stands.others k (off_way z.path depth k aside)) ∙ e
-
 pub few_aside : (z : Zipped) (n m : Held) (way : Option ℕ) (k : ℕ) → IsSeen z n way → way_on z.path way k ≡ None → child k n.below ≡ Some (shown m)
     → moves_held m.below ≤ 65536
 few_aside z n m None k is aside e = omega (arith, is, few_child k n.below m e)
