@@ -1,27 +1,46 @@
 -- What the board may answer.
-use Rattle.std.proofs.Common.{◌≡◌, ℕ, ◌<◌, List, length, false, leb, if◌then◌else◌, refl, sym, ap, ◌∙◌, subst, inl, inr, arith}
+use Rattle.std.proofs.Common.{◌≡◌, ℕ, ◌<◌, ◌≤◌, ◌++◌, ◌∷◌, [], Bool, List, length, Result, Ok, Err, true, false, leb, refl, sym, ap, ◌∙◌, subst, inl, inr, arith}
 use Rattle.std.proofs.lemmas.Bool.Decides.{nat_tests}
+use Rattle.chess_types.specs.declared.source.Failed.{Failed}
 use Rattle.chess_tree.specs.GameTree.{TreeParts}
-use Rattle.chess_cli.specs.declared.unfinished.Reading.TheVariants.{TooLong, NoMemory}
-use Rattle.chess_cli.specs.Answers.{Answers, input_answer, after_input, answer, after, long_line, no_memory, line_limit}
-use Rattle.chess_cli.specs.LineSoFar.{LineSoFar}
-use Rattle.chess_cli.specs.Reads.{Holds, HoldsAs}
-use Rattle.chess_cli.specs.Requests.{request}
+use Rattle.chess_cli.specs.declared.answer.Told.TheVariants.{Whole, Path}
+use Rattle.chess_cli.specs.Answers.{Answers, AnswersWithin, Tells, TellsBy, answer, after, long_line, no_memory, line_limit, line_room}
+use Rattle.chess_cli.specs.Numbers.{path_text}
+use Rattle.chess_cli.specs.Replies.{IsPut}
+use Rattle.chess_cli.specs.Requests.{Request, request}
+use Rattle.chess_cli.specs.Sending.{Sent, Broken, SentOr, Sends}
+use Rattle.chess_cli.proofs.SendingLemmas.{puts}
 
--- it may answer any line
-pub answers_any : (p : TreeParts) (line : List ℕ) → (text : List ℕ) × (q : TreeParts) × Answers p line text q
-answers_any p line = (input_answer p line, after_input p line, inl (refl, refl))
+within : (bytes : List ℕ) → length bytes ≤ line_limit → leb (length bytes) line_limit ≡ true
+within bytes few = grind (arith, nat_tests, few)
 
--- a line over the limit is refused
-pub answers_long : (p : TreeParts) (line : LineSoFar) (bytes text : List ℕ) → line.reading ≡ TooLong → Holds line bytes → text ≡ long_line → Answers p bytes text p
-answers_long p line bytes text is holds said =
-    let over : line_limit < length bytes = subst (λ r. HoldsAs r line.kept bytes) is holds in
-    let test : leb (length bytes) line_limit ≡ false = grind (arith, nat_tests) in
-    inl (
-      said ∙ ap (λ b. if b then answer p (request bytes) else long_line) (sym test),
-      ap (λ b. if b then after p (request bytes) else p) (sym test),
-    )
+-- a line that is kept whole
+pub answers_whole : (p q : TreeParts) (kept bytes text : List ℕ) → kept ≡ bytes → length bytes ≤ line_limit → Tells p (request kept) text q → Answers p bytes text q
+answers_whole p q kept bytes text same few tells =
+    subst (λ b. AnswersWithin b p bytes text q) (sym (within bytes few)) (inl (subst (λ (line : List ℕ). Tells p (request line) text q) same tells))
 
--- so may be one that found no memory
-pub answers_without_memory : (p : TreeParts) (line : LineSoFar) (bytes text : List ℕ) → line.reading ≡ NoMemory → Holds line bytes → text ≡ no_memory → Answers p bytes text p
-answers_without_memory p line bytes text is holds said = inr (said, refl, subst (λ r. HoldsAs r line.kept bytes) is holds)
+-- one that found no memory
+pub answers_without_memory : (p : TreeParts) (bytes text : List ℕ) → line_room < length bytes → length bytes ≤ line_limit → text ≡ no_memory → Answers p bytes text p
+answers_without_memory p bytes text long few said = subst (λ b. AnswersWithin b p bytes text p) (sym (within bytes few)) (inr (long, said, refl))
+
+-- one over the limit is refused
+pub answers_long : (p : TreeParts) (bytes text : List ℕ) → line_limit < length bytes → text ≡ long_line → Answers p bytes text p
+answers_long p bytes text over said =
+    let test : leb (length bytes) line_limit ≡ false = grind (arith, nat_tests, over) in
+    subst (λ b. AnswersWithin b p bytes text p) (sym test) (said, refl)
+
+module _ {W : Type 0} (takes : W → List ℕ → W → Type 0) (failed : W → Bool) where
+  -- a text that is put on the page
+  pub told_whole : (p q : TreeParts) (line page page1 : List ℕ) (w : W) → TellsBy (IsPut Whole q page page1) p (request line) q
+      → (text : List ℕ) × Tells p (request line) text q × Sends takes failed {X = Unit {0}} {E = Failed} page w text page1 w (Ok tt)
+  told_whole p q line page page1 w (inl told) = (answer p (request line), inl (refl, told.1), puts takes failed w page (answer p (request line)) page1 told.0)
+  told_whole p q line page page1 w (inr told) = (no_memory, inr (told.0, told.1, refl, told.3), puts takes failed w page no_memory page1 told.2)
+
+  -- the path, which is written afterwards
+  pub told_path : (p q : TreeParts) (line page page1 page2 : List ℕ) (w w1 : W) (result : Result (Unit {0}) Failed) → TellsBy (IsPut Path q page page1) p (request line) q
+      → Sends takes failed page1 w (path_text q.path ++ 10 ∷ []) page2 w1 result
+      → (text : List ℕ) × Tells p (request line) text q × Sends takes failed page w text page2 w1 result
+  told_path p q line page page1 page2 w w1 result (inl told) sends =
+      (path_text q.path ++ 10 ∷ [], inl (told.0.1, told.1), subst (λ (x : List ℕ). Sends takes failed x w (path_text q.path ++ 10 ∷ []) page2 w1 result) told.0.0 sends)
+  told_path p q line page page1 page2 w w1 result (inr told) sends =
+      (path_text q.path ++ 10 ∷ [], inr (told.0, told.1, told.2.1, told.3), subst (λ (x : List ℕ). Sends takes failed x w (path_text q.path ++ 10 ∷ []) page2 w1 result) told.2.0 sends)

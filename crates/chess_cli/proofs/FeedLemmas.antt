@@ -1,107 +1,239 @@
 -- A piece is fed line by line.
-use Rattle.std.proofs.Common.{◌≡◌, ℕ, ◌+◌, Bool, List, [], ◌∷◌, ◌++◌, take, drop, Some, None, Result, Ok, Err, refl, sym, ◌∙◌, append_assoc, append-nil}
+use Rattle.std.specs.Prelude.{OnOk}
+use Rattle.std.proofs.Common.{◌≡◌, ℕ, ◌+◌, ◌==◌, Bool, true, false, true≢false, length, List, [], ◌∷◌, ◌++◌, take, drop, Some, None, Result, Ok, Err, inl, inr, refl, sym, ap, ◌∙◌, subst, append_assoc, append-nil}
 use Rattle.memchr.specs.Find.{IsFirstByte, is_byte}
-use Rattle.chess_types.specs.Calls.{Carries}
-use Rattle.chess_types.proofs.CallLemmas.{Carries-none, Carries-append}
 use Rattle.chess_types.specs.declared.source.Failed.{Failed}
-use Rattle.chess_cli.specs.Lines.{ended_lines, unfinished}
-use Rattle.chess_cli.specs.Runs.{Runs}
-use Rattle.chess_cli.specs.Reads.{Holds, Wrote, Feeds}
+use Rattle.chess_cli.specs.Lines.{ended_lines, last_line, unfinished}
+use Rattle.chess_cli.specs.Runs.{Runs, Partly, BrokenOff}
+use Rattle.chess_cli.specs.Ends.{IsFront}
+use Rattle.chess_cli.specs.Reads.{Holds, AnswersLine, Fed, FedPartly, Feeds, Finishes}
 use Rattle.chess_cli.specs.LineSoFar.{LineSoFar}
+use Rattle.chess_cli.specs.Sending.{Sent, Broken, SentOr, Flows, Sends}
 use Rattle.chess_cli.proofs.LineLemmas.{ended_lines-at, unfinished-at, ended_lines-free, unfinished-free}
-use Rattle.chess_cli.proofs.WriteLemmas.{front_next, front_longer}
-use Rattle.chess_cli.proofs.RunLemmas.{Runs-none, Runs-append, Runs-more, some_run}
+use Rattle.chess_cli.proofs.RunLemmas.{Runs-none, Runs-one, Runs-append, Runs-more}
+use Rattle.chess_cli.proofs.SendingLemmas.{sent_start}
 
 -- So far: lines of the piece are answered, and the rest of it is to come.
-pub record Going {S W : Type 0} (step : S → List ℕ → List ℕ → S → Type 0) (takes : W → List ℕ → W → Type 0) (failed : W → Bool) (begun piece : List ℕ) (old now : S) (line : LineSoFar) (before after : W) (rest : List ℕ) : Type 0 where
+pub record Going {S W : Type 0} (step : S → List ℕ → List ℕ → S → Type 0) (over : S → Bool) (takes : W → List ℕ → W → Type 0) (failed : W → Bool) (begun piece : List ℕ) (old now : S) (line : LineSoFar) (before : W) (page : List ℕ) (after : W) (rest : List ℕ) : Type 0 where
   pub done : List (List ℕ)
   pub text : List ℕ
   pub kept : List ℕ
   pub runs : Runs step old done text now
-  pub writes : Carries takes before text after
-  pub sound : failed after ≡ failed before
+  pub sent : Sent takes failed before text page after
   pub holds : Holds line kept
   pub lines : ended_lines begun piece ≡ done ++ ended_lines kept rest
   pub left : unfinished begun piece ≡ unfinished kept rest
 
--- an answer to the line, written or not
-abbrev pub AnswersLine : {S W X E : Type 0} → (S → List ℕ → List ℕ → S → Type 0) → (W → List ℕ → W → Type 0) → (W → Bool) → LineSoFar → S → S → W → W → Result X E → Type 0
-AnswersLine step takes failed line old new before after result =
-    (bytes : List ℕ) → Holds line bytes → (text : List ℕ) × step old bytes text new × Wrote takes failed before text after result
-
-module _ {S W : Type 0} (step : S → List ℕ → List ℕ → S → Type 0) (takes : W → List ℕ → W → Type 0) (failed : W → Bool) (begun piece : List ℕ) where
-  pub going_start : (old : S) (line : LineSoFar) (w : W) → Holds line begun → Going step takes failed begun piece old old line w w piece
-  going_start old line w holds = record {
+module _ {S W : Type 0} (step cut : S → List ℕ → List ℕ → S → Type 0) (over : S → Bool) (takes : W → List ℕ → W → Type 0) (failed : W → Bool) (begun piece : List ℕ) where
+  pub going_start : (old : S) (line : LineSoFar) (w : W) (page : List ℕ) → page ≡ [] → Holds line begun → Going step over takes failed begun piece old old line w page w piece
+  going_start old line w page none holds = record {
     done = [];
     text = [];
     kept = begun;
     runs = Runs-none step old;
-    writes = Carries-none takes w;
-    sound = refl;
+    sent = rw none (sent_start takes failed w []);
     holds = holds;
     lines = refl;
     left = refl;
   }
 
-  pub going_on : (old now next : S) (line line1 line2 : LineSoFar) (w0 w1 w2 : W) (rest front others : List ℕ) (at : ℕ)
-      → Going step takes failed begun piece old now line w0 w1 rest
+  -- room is made on the page
+  pub going_room : (old now : S) (line : LineSoFar) (w0 w1 w2 : W) (page page1 rest : List ℕ)
+      → Going step over takes failed begun piece old now line w0 page w1 rest
+      → Flows takes failed {X = Unit {0}} {E = Failed} page w1 page1 w2 (Ok tt)
+      → Going step over takes failed begun piece old now line w0 page1 w2 rest
+  going_room old now line w0 w1 w2 page page1 rest going flows = record {
+    done = going.done;
+    text = going.text;
+    kept = going.kept;
+    runs = going.runs;
+    sent = flows w0 going.text going.sent;
+    holds = going.holds;
+    lines = going.lines;
+    left = going.left;
+  }
+
+  -- no room could be made
+  pub going_roomless : (old now : S) (line line1 : LineSoFar) (w0 w1 w2 : W) (page page1 page2 rest : List ℕ) (e : Failed)
+      → Going step over takes failed begun piece old now line w0 page w1 rest
+      → Flows takes failed {X = Unit {0}} {E = Failed} page w1 page1 w2 (Err e)
+      → Feeds step cut takes failed {X = Unit {0}} {E = Failed} over begun piece old now line1 w0 page2 w2 (Err e)
+  going_roomless old now line line1 w0 w1 w2 page page1 page2 rest e going flows = (
+    going.text,
+    record {
+      lines = going.done;
+      front = record { others = ended_lines going.kept rest; whole = sym going.lines };
+      runs = inl going.runs;
+    },
+    flows w0 going.text going.sent,
+  )
+
+  -- the line that ends next, and those behind it
+  line_next : (old now : S) (line : LineSoFar) (w0 w1 : W) (page rest front : List ℕ) (at : ℕ)
+      → (going : Going step over takes failed begun piece old now line w0 page w1 rest)
+      → IsFirstByte (is_byte 10) rest (Some at)
+      → front ≡ take at rest
+      → ended_lines begun piece ≡ (going.done ++ (going.kept ++ front) ∷ []) ++ ended_lines [] (drop (at + 1) rest)
+  line_next old now line w0 w1 page rest front at going first front_is =
+      going.lines ∙ rw (ended_lines-at going.kept rest at first, ← front_is) (sym (append_assoc going.done ((going.kept ++ front) ∷ []) (ended_lines [] (drop (at + 1) rest))))
+
+  pub going_on : (old now next : S) (line line1 line2 : LineSoFar) (w0 w1 w2 : W) (page page1 rest front others : List ℕ) (at : ℕ)
+      → (going : Going step over takes failed begun piece old now line w0 page w1 rest)
       → IsFirstByte (is_byte 10) rest (Some at)
       → front ≡ take at rest
       → others ≡ drop (at + 1) rest
       → ((bytes : List ℕ) → Holds line bytes → Holds line1 (bytes ++ front))
-      → AnswersLine {X = Unit {0}} {E = Failed} step takes failed line1 now next w1 w2 (Ok tt)
+      → AnswersLine step cut takes failed {X = Unit {0}} {E = Failed} line1 now next page w1 page1 w2 (Ok tt)
       → Holds line2 []
-      → Going step takes failed begun piece old next line2 w0 w2 others
-  going_on old now next line line1 line2 w0 w1 w2 rest front others at going first front_is others_is adds answers restarted =
+      → Going step over takes failed begun piece old next line2 w0 page1 w2 others
+  going_on old now next line line1 line2 w0 w1 w2 page page1 rest front others at going first front_is others_is adds answers restarted =
       let answer = answers (going.kept ++ front) (adds going.kept going.holds) in
       record {
         done = going.done ++ (going.kept ++ front) ∷ [];
         text = going.text ++ answer.0;
         kept = [];
         runs = Runs-more step old now next going.done (going.kept ++ front) going.text answer.0 going.runs answer.1;
-        writes = Carries-append takes w0 w1 w2 going.text answer.0 going.writes answer.2.0;
-        sound = answer.2.1 ∙ going.sound;
+        sent = answer.2 w0 going.text going.sent;
         holds = restarted;
-        lines = going.lines ∙ rw (ended_lines-at going.kept rest at first, ← front_is, ← others_is) (sym (append_assoc going.done ((going.kept ++ front) ∷ []) (ended_lines [] others)));
-        left = going.left ∙ rw (others_is) (unfinished-at going.kept rest at first);
+        lines = rw others_is (line_next old now line w0 w1 page rest front at going first front_is);
+        left = going.left ∙ rw others_is (unfinished-at going.kept rest at first);
       }
 
-  -- the answer could not be written
-  pub going_stops : ((s : S) (text : List ℕ) → (answer : List ℕ) × (t : S) × step s text answer t) → (old now next : S) (line line1 line2 : LineSoFar) (w0 w1 w2 : W) (rest front : List ℕ) (at : ℕ) (e : Failed)
-      → Going step takes failed begun piece old now line w0 w1 rest
+  -- answering the line was broken off
+  pub going_stops : (old now next : S) (line line1 line2 : LineSoFar) (w0 w1 w2 : W) (page page1 page2 rest front : List ℕ) (at : ℕ) (e : Failed)
+      → (going : Going step over takes failed begun piece old now line w0 page w1 rest)
       → IsFirstByte (is_byte 10) rest (Some at)
       → front ≡ take at rest
       → ((bytes : List ℕ) → Holds line bytes → Holds line1 (bytes ++ front))
-      → AnswersLine {X = Unit {0}} {E = Failed} step takes failed line1 now next w1 w2 (Err e)
-      → Feeds {X = Unit {0}} {E = Failed} step takes failed begun piece old next line2 w0 w2 (Err e)
-  going_stops total old now next line line1 line2 w0 w1 w2 rest front at e going first front_is adds answers =
-      let answer = answers (going.kept ++ front) (adds going.kept going.holds) in
-      let line_here = going.kept ++ front in
-      let later = ended_lines [] (drop (at + 1) rest) in
-      let more = some_run step total next later in
-      record {
-        text = (going.text ++ answer.0) ++ more.0;
-        state = more.1;
-        runs =
-            let here = Runs-more step old now next going.done line_here going.text answer.0 going.runs answer.1 in
-            let all = Runs-append step old next more.1 (going.done ++ line_here ∷ []) later (going.text ++ answer.0) more.0 here more.2 in
-            let e : ended_lines begun piece ≡ (going.done ++ line_here ∷ []) ++ later =
-            going.lines ∙ rw (ended_lines-at going.kept rest at first, ← front_is) (sym (append_assoc going.done (line_here ∷ []) later)) in
-            rw e all;
-        wrote = (answer.2.0 ++ more.0, front_longer takes w0 w2 (going.text ++ answer.0) more.0 answer.2.0 (front_next takes w0 w1 w2 going.text answer.0 answer.2.0 going.writes answer.2.1), answer.2.2);
-        ok = tt;
-      }
+      → AnswersLine step cut takes failed {X = Unit {0}} {E = Failed} line1 now next page w1 page1 w2 (Err e)
+      → Feeds step cut takes failed {X = Unit {0}} {E = Failed} over begun piece old next line2 w0 page2 w2 (Err e)
+  going_stops old now next line line1 line2 w0 w1 w2 page page1 page2 rest front at e going first front_is adds answers =
+      let answer = answers (going.kept ++ front) (adds going.kept going.holds) in (
+        going.text ++ answer.0,
+        record {
+          lines = going.done ++ (going.kept ++ front) ∷ [];
+          front = record {
+            others = ended_lines [] (drop (at + 1) rest);
+            whole = sym (line_next old now line w0 w1 page rest front at going first front_is);
+          };
+          runs = inr (record {
+            done = going.done;
+            line = going.kept ++ front;
+            answers = going.text;
+            begun = answer.0;
+            state = now;
+            runs = going.runs;
+            last = answer.1;
+            lines_are = refl;
+            text_is = refl;
+          });
+        },
+        answer.2 w0 going.text going.sent,
+      )
+
+  -- the engine takes no more lines
+  pub going_over : (old now next : S) (line line1 line2 : LineSoFar) (w0 w1 w2 : W) (page page1 rest front : List ℕ) (at : ℕ)
+      → (going : Going step over takes failed begun piece old now line w0 page w1 rest)
+      → IsFirstByte (is_byte 10) rest (Some at)
+      → front ≡ take at rest
+      → ((bytes : List ℕ) → Holds line bytes → Holds line1 (bytes ++ front))
+      → AnswersLine step cut takes failed {X = Unit {0}} {E = Failed} line1 now next page w1 page1 w2 (Ok tt)
+      → over next ≡ true
+      → Feeds step cut takes failed {X = Unit {0}} {E = Failed} over begun piece old next line2 w0 page1 w2 (Ok tt)
+  going_over old now next line line1 line2 w0 w1 w2 page page1 rest front at going first front_is adds answers is_over =
+      let answer = answers (going.kept ++ front) (adds going.kept going.holds) in (
+        going.text ++ answer.0,
+        record {
+          lines = going.done ++ (going.kept ++ front) ∷ [];
+          front = record {
+            others = ended_lines [] (drop (at + 1) rest);
+            whole = sym (line_next old now line w0 w1 page rest front at going first front_is);
+          };
+          runs = Runs-more step old now next going.done (going.kept ++ front) going.text answer.0 going.runs answer.1;
+          rest = inl is_over;
+        },
+        answer.2 w0 going.text going.sent,
+      )
 
   -- no more line ends in the piece
-  pub going_ends : (old now : S) (line line1 : LineSoFar) (w0 w1 : W) (rest : List ℕ)
-      → Going step takes failed begun piece old now line w0 w1 rest
+  pub going_ends : (old now : S) (line line1 : LineSoFar) (w0 w1 : W) (page rest : List ℕ)
+      → Going step over takes failed begun piece old now line w0 page w1 rest
+      → over now ≡ false
       → IsFirstByte (is_byte 10) rest None
       → ((bytes : List ℕ) → Holds line bytes → Holds line1 (bytes ++ rest))
-      → Feeds {X = Unit {0}} {E = Failed} step takes failed begun piece old now line1 w0 w1 (Ok tt)
-  going_ends old now line line1 w0 w1 rest going none adds = record {
-    text = going.text;
-    state = now;
-    runs = rw (going.lines, ended_lines-free going.kept rest none, append-nil going.done) going.runs;
-    wrote = (going.writes, going.sound);
-    ok = (refl, rw (going.left, unfinished-free going.kept rest none) (adds going.kept going.holds));
-  }
+      → Feeds step cut takes failed {X = Unit {0}} {E = Failed} over begun piece old now line1 w0 page w1 (Ok tt)
+  going_ends old now line line1 w0 w1 page rest going awake none adds =
+      let all : going.done ≡ ended_lines begun piece = sym (going.lines ∙ rw (ended_lines-free going.kept rest none) (append-nil going.done)) in (
+        going.text,
+        record {
+          lines = going.done;
+          front = record { others = []; whole = append-nil going.done ∙ all };
+          runs = going.runs;
+          rest = inr (awake, all, rw (going.left, unfinished-free going.kept rest none) (adds going.kept going.holds));
+        },
+        going.sent,
+      )
+
+  -- what stood on the page is written, too
+  pub fed_flushed : (old new : S) (line : LineSoFar) (w0 w1 w2 : W) (page page1 : List ℕ) (result : Result (Unit {0}) Failed)
+      → Feeds step cut takes failed {X = Unit {0}} {E = Failed} over begun piece old new line w0 page w1 (Ok tt)
+      → Flows takes failed page w1 page1 w2 result
+      → OnOk result (page1 ≡ [])
+      → Feeds step cut takes failed over begun piece old new line w0 [] w2 result
+  fed_flushed old new line w0 w1 w2 page page1 (Ok x) fed flows empty = (fed.0, fed.1, rw empty at (flows w0 fed.0 fed.2))
+  fed_flushed old new line w0 w1 w2 page page1 (Err e) fed flows empty = (
+    fed.0,
+    record { lines = fed.1.lines; front = fed.1.front; runs = inl fed.1.runs },
+    flows w0 fed.0 fed.2,
+  )
+
+module _ {S W : Type 0} (step cut : S → List ℕ → List ℕ → S → Type 0) (takes : W → List ℕ → W → Type 0) (failed : W → Bool) where
+  -- what stands behind the last line feed is a line, unless it is nothing
+  one_last : (bytes : List ℕ) → (length bytes == 0) ≡ false → last_line bytes ≡ bytes ∷ []
+  one_last [] some = absurd (true≢false some)
+  one_last (b ∷ bytes) some = refl
+
+  -- answering the last line was broken off
+  pub finish_broken : (old new : S) (line : LineSoFar) (w w1 : W) (page page1 bytes : List ℕ) (e : Failed) → page ≡ [] → Holds line bytes
+      → (length bytes == 0) ≡ false
+      → AnswersLine step cut takes failed {X = Unit {0}} {E = Failed} line old new page w page1 w1 (Err e)
+      → Finishes step cut takes failed {X = Unit {0}} {E = Failed} bytes old new w w1 (Err e)
+  finish_broken old new line w w1 page page1 bytes e none holds some answers =
+      let answer = answers bytes holds in
+      rw (one_last bytes some) (
+        answer.0,
+        inr (record {
+          done = [];
+          line = bytes;
+          answers = [];
+          begun = answer.0;
+          state = old;
+          runs = Runs-none step old;
+          last = answer.1;
+          lines_are = refl;
+          text_is = refl;
+        }),
+        answer.2 w [] (rw none (sent_start takes failed w [])),
+      )
+
+  -- the last line is answered, and the answer written or not
+  pub finish_whole : (old new : S) (line : LineSoFar) (w w1 w2 : W) (page page1 page2 bytes : List ℕ) (result : Result (Unit {0}) Failed) → page ≡ [] → Holds line bytes
+      → (length bytes == 0) ≡ false
+      → AnswersLine step cut takes failed {X = Unit {0}} {E = Failed} line old new page w page1 w1 (Ok tt)
+      → Flows takes failed page1 w1 page2 w2 result
+      → OnOk result (page2 ≡ [])
+      → Finishes step cut takes failed bytes old new w w2 result
+  finish_whole old new line w w1 w2 page page1 page2 bytes (Ok x) none holds some answers flows empty =
+      let answer = answers bytes holds in
+      rw (one_last bytes some) (
+        answer.0,
+        Runs-one step old new bytes answer.0 answer.1,
+        rw empty at (flows w answer.0 (answer.2 w [] (rw none (sent_start takes failed w [])))),
+      )
+  finish_whole old new line w w1 w2 page page1 page2 bytes (Err e) none holds some answers flows empty =
+      let answer = answers bytes holds in
+      rw (one_last bytes some) (
+        answer.0,
+        inl (Runs-one step old new bytes answer.0 answer.1),
+        flows w answer.0 (answer.2 w [] (rw none (sent_start takes failed w []))),
+      )

@@ -1,13 +1,17 @@
 -- Lists of texts that are written one after the other.
-use Rattle.std.proofs.Common.{◌≡◌, ℕ, zero, suc, ◌+◌, ◌<◌, ◌≤◌, Bool, cond, List, [], ◌∷◌, ◌++◌, map, filter, length, not, refl, sym, ap, ◌∙◌, append_assoc, append-nil, arith}
+use Rattle.std.proofs.Common.{◌≡◌, ℕ, zero, suc, ◌+◌, ◌<◌, ◌≤◌, Bool, cond, List, [], ◌∷◌, ◌++◌, map, take, get_or, filter, length, not, refl, sym, ap, ◌∙◌, append_assoc, append-nil, arith}
 use Rattle.std.specs.Prelude.{codes}
 use Rattle.std.specs.List.{range_with_len}
+use Rattle.std.proofs.Math.ListN.{drop_of_length-le}
+use Rattle.std.proofs.lemmas.List.{take_more, take-append-drop}
 use Rattle.std.proofs.lemmas.List.Filters.{length-filter_both}
 use Rattle.chess_types.specs.Squares.{squares}
 use Rattle.chess_types.specs.MoveParts.{MoveParts}
 use Rattle.chess_types.specs.Texts.{move_text, square_text}
 use Rattle.chess_cli.specs.Gaps.{gapped, parted_by}
+use Rattle.chess_cli.specs.Answers.{list_text}
 use Rattle.chess_cli.specs.Lists.{behind}
+
 
 gapped-more : {X : Type 0} (gap : List ℕ) (text : X → List ℕ) (xs : List X) (x : X) →
     gapped gap (map text (xs ++ x ∷ [])) ≡ gapped gap (map text xs) ++ (gap ++ text x)
@@ -67,3 +71,38 @@ filter-few test xs = omega (arith, length-filter_both test (λ x. not (test x)) 
 pub squares_few : (test : ℕ → Bool) → length (filter test squares) ≤ 64
 unfolding squares
 squares_few test = filter-few test (range_with_len 0 64)
+
+-- one move more behind what stood there
+pub move_put : (front page page1 page2 : List ℕ) (ms more : List MoveParts) (m : MoveParts) → 0 < length ms → page ≡ front ++ parted_by (codes " ") (map move_text ms)
+    → page1 ≡ page ++ codes " " → page2 ≡ page1 ++ move_text m → more ≡ ms ++ m ∷ [] → page2 ≡ front ++ parted_by (codes " ") (map move_text more)
+move_put front page page1 page2 [] more m some first gap next all = absurd (omega (arith, some))
+move_put front page page1 page2 (n ∷ ms) more m some first gap next all =
+    rw (next, gap, first, all)
+    (append_assoc (front ++ parted_by (codes " ") (map move_text (n ∷ ms))) (codes " ") (move_text m)
+    ∙ append_assoc front (parted_by (codes " ") (map move_text (n ∷ ms))) (32 ∷ move_text m)
+    ∙ ap (λ (t : List ℕ). front ++ t) (moves-more (n ∷ ms) m))
+
+-- the first move
+pub move_first : (front page : List ℕ) (moves others : List MoveParts) (m : MoveParts) → moves ≡ m ∷ others → page ≡ front ++ move_text m
+    → page ≡ front ++ parted_by (codes " ") (map move_text (take 1 moves ++ []))
+move_first front page moves others m parts put = rw parts (put ∙ ap (λ (t : List ℕ). front ++ t) (sym (append-nil (move_text m))))
+
+-- the next
+pub move_next : (front page page1 page2 : List ℕ) (moves others : List MoveParts) (n : ℕ) (first m d : MoveParts) → moves ≡ first ∷ others
+    → page ≡ front ++ parted_by (codes " ") (map move_text (take 1 moves ++ take n others)) → n < length others
+    → page1 ≡ page ++ codes " " → page2 ≡ page1 ++ move_text m → m ≡ get_or others n d
+    → page2 ≡ front ++ parted_by (codes " ") (map move_text (take 1 moves ++ take (n + 1) others))
+move_next front page page1 page2 moves others n first m d parts so_far within gap put is =
+    rw parts
+    (move_put front page page1 page2 (first ∷ take n others) (first ∷ take (n + 1) others) m (omega arith) (rw parts at so_far) gap put
+    (ap (λ (ms : List MoveParts). first ∷ ms) (take_more others n d within ∙ ap (λ (x : MoveParts). take n others ++ x ∷ []) (sym is))))
+
+take_all : (n : ℕ) (xs : List MoveParts) → length xs ≤ n → take n xs ≡ xs
+take_all n xs few = sym (append-nil (take n xs)) ∙ ap (λ (ys : List MoveParts). take n xs ++ ys) (sym (drop_of_length-le xs few)) ∙ take-append-drop n xs
+
+-- all of them
+pub moves_all : (front page : List ℕ) (moves others : List MoveParts) (n : ℕ) (first : MoveParts) → moves ≡ first ∷ others → length others ≤ n
+    → page ≡ front ++ parted_by (codes " ") (map move_text (take 1 moves ++ take n others)) → page ≡ front ++ list_text (map move_text moves)
+moves_all front page moves others n first parts all so_far =
+    let whole : take n others ≡ others = take_all n others all in
+    rw (parts) (rw (parts, whole) at so_far)

@@ -1,5 +1,5 @@
 -- The word that writes a path is read as that path.
-use Rattle.std.proofs.Common.{◌≡◌, ℕ, ◌<◌, ◌≤◌, ◌==◌, false, ne_eqb, List, [], ◌∷◌, ◌++◌, length, map, All, Option, Some, None, refl, sym, ap, ◌∙◌, append-nil, arith}
+use Rattle.std.proofs.Common.{◌≡◌, ℕ, ◌<◌, ◌≤◌, ◌==◌, false, ne_eqb, List, [], ◌∷◌, ◌++◌, length, map, take, All, Option, Some, None, refl, sym, ap, ◌∙◌, append-nil, arith}
 use Rattle.std.specs.Prelude.{bytes_eq, codes, decimal}
 use Rattle.std.specs.List.{AllByRecursion}
 use Rattle.std.proofs.lemmas.Bool.{false_from_ne_true, le-leb}
@@ -59,12 +59,18 @@ path_in-path_text (n ∷ ns) small =
     path_in-parts (decimal n ++ gapped (codes ".") (map decimal ns)) (decimal n ∷ map decimal ns) (n ∷ ns) (no_root n ns small.0 small.1) (sym (parts-decimals n ns small.0 small.1))
     (numbers_in-decimals (n ∷ ns) small)
 
+-- these places are the path
+abbrev pub IsReadAs : List ℕ → List ℕ → PathWord → Type 0
+IsReadAs path places (Read count) = (count ≤ 20000) × (take count places ≡ path)
+IsReadAs path places TooLong = ⊥
+IsReadAs path places Malformed = ⊥
+
 -- so whoever reads it finds that path
-pub read_back : (path read : List ℕ) (how : PathWord) → AllByRecursion (λ n. n < 1000000) path → length path ≤ 20000 → ReadsPath (path_text path) read how → (how ≡ Read) × (read ≡ path)
-read_back path read Read small few reads = (refl, sym (cc (sym (path_in-path_text path small) ∙ reads)))
-read_back path read TooLong small few reads =
+pub read_back : (path places : List ℕ) (how : PathWord) → AllByRecursion (λ n. n < 1000000) path → length path ≤ 20000 → ReadsPath (path_text path) places how → IsReadAs path places how
+read_back path places (Read count) small few reads = (reads.0, sym (cc (sym (path_in-path_text path small) ∙ reads.1)))
+read_back path places TooLong small few reads =
     let same : path ≡ reads.0 = cc (sym (path_in-path_text path small) ∙ reads.1) in
     absurd (omega (arith, few, reads.2, ap length same))
-read_back path read Malformed small few reads =
+read_back path places Malformed small few reads =
     let none : Some path ≡ None = sym (path_in-path_text path small) ∙ reads in
     absurd (cc none)

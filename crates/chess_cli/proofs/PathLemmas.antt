@@ -47,32 +47,30 @@ module _ (room : ℕ) where
   pub read_start : (kept : List ℕ) → kept ≡ [] → ReadSoFar room [] kept false
   read_start kept none = record { seen = []; numbers = refl; front = none ∙ sym (take-whole room [] (omega arith)); long = grind (arith, nat_tests) }
 
-  few_kept : (seen kept : List ℕ) → kept ≡ take room seen → length kept < room → length seen < room
-  few_kept seen kept front few = omega (arith, ap length front, length-take room seen, few)
-
-  many_kept : (seen kept : List ℕ) → kept ≡ take room seen → (length kept < room → ⊥) → room ≤ length seen
-  many_kept seen kept front many = omega (arith, ap length front, length-take room seen, many)
-
-  -- the next part is a number
-  pub read_on : {E : Type 0} {Kept : Type 0} (parts : List (List ℕ)) (part old new : List ℕ) (place : ℕ) (was : Bool) (r : Result (Unit {0}) E) → ReadSoFar room parts old was → number_in part ≡ Some place
-      → IsOk r ↔ (length old < room) → OnOk r (new ≡ old ++ place ∷ []) → OnErr r Kept → (Kept → new ≡ old) → ReadSoFar room (parts ++ part ∷ []) new (is_err r)
-  read_on parts part old new place was (Ok x) so_far one fits pushed kept stays =
-      let few : length so_far.seen < room = few_kept so_far.seen old so_far.front (fits.0 refl) in
+  -- the next part is a number, and there is room for it
+  pub read_on : (parts : List (List ℕ)) (part old new : List ℕ) (place : ℕ) (is_long : Bool) → ReadSoFar room parts old is_long → number_in part ≡ Some place
+      → length old < room → new ≡ old ++ place ∷ [] → ReadSoFar room (parts ++ part ∷ []) new is_long
+  read_on parts part old new place is_long so_far one fits pushed =
+      let few : length so_far.seen < room = omega (arith, ap length so_far.front, length-take room so_far.seen, fits) in
       let all : take room so_far.seen ≡ so_far.seen = take-whole room so_far.seen (omega arith) in
       let longer : length (so_far.seen ++ place ∷ []) ≡ length so_far.seen + 1 = length-append so_far.seen (place ∷ []) in
       record {
         seen = so_far.seen ++ place ∷ [];
         numbers = numbers_in-more parts part so_far.seen place so_far.numbers one;
         front = pushed ∙ ap (λ (xs : List ℕ). xs ++ place ∷ []) (so_far.front ∙ all) ∙ sym (take-whole room (so_far.seen ++ place ∷ []) (omega (arith, few, longer)));
-        long = grind (arith, nat_tests, few, longer);
+        long = so_far.long ∙ grind (arith, nat_tests, few, longer);
       }
-  read_on parts part old new place was (Err e) so_far one fits pushed kept stays =
-      let many : room ≤ length so_far.seen = many_kept so_far.seen old so_far.front (λ few. true≢false (sym (fits.1 few))) in
+
+  -- there is none
+  pub read_full : (parts : List (List ℕ)) (part old : List ℕ) (place : ℕ) (is_long : Bool) → ReadSoFar room parts old is_long → number_in part ≡ Some place
+      → room ≤ length old → ReadSoFar room (parts ++ part ∷ []) old true
+  read_full parts part old place is_long so_far one full =
+      let many : room ≤ length so_far.seen = omega (arith, ap length so_far.front, length-take room so_far.seen, full) in
       let longer : length (so_far.seen ++ place ∷ []) ≡ length so_far.seen + 1 = length-append so_far.seen (place ∷ []) in
       record {
         seen = so_far.seen ++ place ∷ [];
         numbers = numbers_in-more parts part so_far.seen place so_far.numbers one;
-        front = stays kept ∙ so_far.front ∙ sym (take-append-le room so_far.seen (place ∷ []) many);
+        front = so_far.front ∙ sym (take-append-le room so_far.seen (place ∷ []) many);
         long = grind (arith, nat_tests, many, longer);
       }
 

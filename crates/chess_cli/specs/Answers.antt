@@ -218,28 +218,36 @@ abbrev pub EndsSurely : {X : Type 0} → Effect → TreeParts → Result X Refus
 EndsSurely effect old (Ok _) new = effect ≡ Does new
 EndsSurely effect old (Err refusal) new = (effect ≡ Refuses refusal) × (new ≡ old)
 
--- The board may answer the request with this text and go from the old tree and cursor to the new: as is asked, or, where that needs memory and
--- there is none, with a refusal and everything kept.
+-- The board may answer the request with a text that this holds of, and go from the old tree and cursor to the new: as is asked, or, where that
+-- needs memory and there is none, with a refusal and everything kept.
+abbrev pub TellsBy : (List ℕ → Type 0) → TreeParts → Request → TreeParts → Type 0
+TellsBy answers old request new =
+    (answers (answer old request) × (new ≡ after old request))
+    ⊎ ((takes_memory request ≡ true) × IsDone (effect old request) × answers no_memory × (new ≡ old))
+
 abbrev pub Tells : TreeParts → Request → List ℕ → TreeParts → Type 0
-Tells old request text new =
-    ((text ≡ answer old request) × (new ≡ after old request))
-    ⊎ ((takes_memory request ≡ true) × IsDone (effect old request) × (text ≡ no_memory) × (new ≡ old))
+Tells old request text new = TellsBy (λ answer. text ≡ answer) old request new
 
 -- the most bytes of a line, without its line feed
 abbrev pub line_limit : ℕ
 line_limit = 1048576
 
+-- a line of no more bytes is kept while it is read, whatever memory there is
+abbrev pub line_room : ℕ
+line_room = 65536
+
 abbrev pub long_line : List ℕ
 long_line = refused LongLine
 
-abbrev pub input_answer : TreeParts → List ℕ → List ℕ
-input_answer t input = if nat_le (length input) line_limit then answer t (request input) else long_line
+-- The board may answer a line of the input with this text: one over the limit is refused; one that found no memory while it was read is refused so,
+-- with everything kept; any other is answered as it asks, or, where what it asks for needs memory and there is none, refused so, with everything kept.
+abbrev pub AnswersKept : TreeParts → List ℕ → List ℕ → TreeParts → Type 0
+AnswersKept old input text new = Tells old (request input) text new ⊎ ((line_room < length input) × (text ≡ no_memory) × (new ≡ old))
 
-abbrev pub after_input : TreeParts → List ℕ → TreeParts
-after_input t input = if nat_le (length input) line_limit then after t (request input) else t
+-- whether the line is within the limit
+abbrev pub AnswersWithin : Bool → TreeParts → List ℕ → List ℕ → TreeParts → Type 0
+AnswersWithin true old input text new = AnswersKept old input text new
+AnswersWithin false old input text new = (text ≡ long_line) × (new ≡ old)
 
--- The same for a line of the input: as it asks, or, where it found no memory while it was read or what it asks for finds none, with a
--- refusal and the line kept.
 abbrev pub Answers : TreeParts → List ℕ → List ℕ → TreeParts → Type 0
-Answers old input text new =
-    ((text ≡ input_answer old input) × (new ≡ after_input old input)) ⊎ ((text ≡ no_memory) × (new ≡ old) × (0 < length input))
+Answers old input text new = AnswersWithin (nat_le (length input) line_limit) old input text new

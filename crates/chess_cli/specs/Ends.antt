@@ -1,47 +1,83 @@
--- How a run of the board over a source and a sink ends.
---   EndsGood         the whole input was read, and the answers to its lines are written
---   EndsReadFault    a read failed, or there were as many reads as there may be: the lines that had ended are answered
---   EndsWriteFault   a write failed or took no byte: a front of the answers is written
-use Rattle.std.specs.Prelude.{◌≡◌, ℕ, ◌<◌, Bool, true, ◌⊎◌, List, [], length}
+-- How a run over a source and a sink ends, for any engine: a state to begin with, and a relation that says which lines may be answered by which
+-- text, from which state to which.
+--   most_reads       the most reads of a run
+--   IsFront          these lines, and others behind them, are those
+--   Awaited          which lines are answered from one read to the next: those that end in the piece, or at the end of the input the last
+--   EndsGood         the whole input was read, and the answers to its lines are written; no call failed
+--   EndsOver         the engine takes no more lines: those up to then are answered, no call failed, and nothing was read after them
+--   EndsReadFault    a read failed, and nothing was read after it, or there were as many reads as there may be: the lines that had ended are answered
+--   EndsWriteFault   a write failed or took no byte, and nothing was read or written after it: what was read before the last read is answered, and a
+--                    front of the answers to what came last is written
+use Rattle.std.specs.Prelude.{◌≡◌, ℕ, ◌<◌, Bool, true, false, ◌⊎◌, List, [], ◌∷◌, ◌++◌, length}
 use Rattle.std.specs.List.{AllByRecursion}
 use Rattle.chess_types.specs.Calls.{Calls, Carries, joined}
-use Rattle.chess_tree.specs.GameTree.{TreeParts}
-use Rattle.chess_cli.specs.Lines.{lines_of, ended_lines}
-use Rattle.chess_cli.specs.Answers.{Answers, beginning}
-use Rattle.chess_cli.specs.Runs.{Runs}
-use Rattle.chess_cli.specs.Reads.{TakesFront}
+use Rattle.chess_cli.specs.Lines.{lines_of, ended_lines, last_line, unfinished}
+use Rattle.chess_cli.specs.Sending.{Broken}
 
-module _ {R W : Type 0} (gives : R → List ℕ → R → Type 0) (takes : W → List ℕ → W → Type 0) where
+-- 2^40
+abbrev pub most_reads : ℕ
+most_reads = 1099511627776
+
+pub record IsFront (lines all : List (List ℕ)) : Type 0 where
+  pub others : List (List ℕ)
+  pub whole : lines ++ others ≡ all
+
+abbrev pub Awaited : {R : Type 0} → (R → Type 0) → List ℕ → List ℕ → List (List ℕ) → R → Type 0
+Awaited ended begun piece lines r = IsFront lines (ended_lines begun piece) ⊎ ((piece ≡ []) × (lines ≡ last_line begun) × ended r)
+
+module _ {S R W : Type 0} (runs : S → List (List ℕ) → List ℕ → S → Type 0) (beginning : S) (gives : R → List ℕ → R → Type 0) (read_failed : R → Bool) (takes : W → List ℕ → W → Type 0) (write_failed : W → Bool) where
   -- Reads gave pieces up to the end of the input; writes took the answers to its lines, in order, and nothing else.
-  pub record EndsGood (ended : R → Type 0) (r r' : R) (w w' : W) : Type 0 where
+  pub record EndsGood (ended : R → Type 0) (state : S) (r r' : R) (w w' : W) : Type 0 where
     pub pieces : List (List ℕ)
     pub text : List ℕ
-    pub state : TreeParts
     pub reads : Calls gives r pieces r'
+    pub well_read : read_failed r' ≡ false
     pub all : ended r'
-    pub runs : Runs Answers beginning (lines_of (joined pieces)) text state
+    pub answers : runs beginning (lines_of (joined pieces)) text state
     pub writes : Carries takes w text w'
+    pub well_written : write_failed w' ≡ false
 
-  -- A read failed, or there were `most` reads of some bytes each; writes took the answers to the lines that had ended.
-  pub record EndsReadFault (most : ℕ) (failed : R → Bool) (r r' : R) (w w' : W) : Type 0 where
+  -- A read failed, the last, or there were `most` reads of some bytes each; writes took the answers to the lines that had ended.
+  pub record EndsReadFault (most : ℕ) (state : S) (r r' : R) (w w' : W) : Type 0 where
     pub pieces : List (List ℕ)
     pub text : List ℕ
-    pub state : TreeParts
-    pub reads : Calls gives r pieces r'
-    pub cause : (failed r' ≡ true) ⊎ ((length pieces ≡ most) × AllByRecursion (λ piece. 0 < length piece) pieces)
-    pub runs : Runs Answers beginning (ended_lines [] (joined pieces)) text state
+    pub before : R
+    pub reads : Calls gives r pieces before
+    pub well_read : read_failed before ≡ false
+    pub each : AllByRecursion (λ piece. 0 < length piece) pieces
+    pub cause : (gives before [] r' × (read_failed r' ≡ true)) ⊎ ((before ≡ r') × (length pieces ≡ most))
+    pub answers : runs beginning (ended_lines [] (joined pieces)) text state
     pub writes : Carries takes w text w'
+    pub well_written : write_failed w' ≡ false
 
-  -- A write failed or took no byte; writes took the answers but for a rest, to the lines that had ended, or at the end of
-  -- the input to all.
-  pub record EndsWriteFault (ended : R → Type 0) (failed : W → Bool) (r r' : R) (w w' : W) : Type 0 where
+  -- A write failed or took no byte, the last call. Of the answers to the lines that had ended before the last read all is written; of those
+  -- that came with it a front.
+  pub record EndsWriteFault (ended : R → Type 0) (state : S) (r r' : R) (w w' : W) : Type 0 where
+    pub pieces : List (List ℕ)
+    pub piece : List ℕ
+    pub text : List ℕ
+    pub middle : S
+    pub before : W
+    pub lines : List (List ℕ)
+    pub more : List ℕ
+    pub reads : Calls gives r (pieces ++ piece ∷ []) r'
+    pub well_read : read_failed r' ≡ false
+    pub answers : runs beginning (ended_lines [] (joined pieces)) text middle
+    pub writes : Carries takes w text before
+    pub well_written : write_failed before ≡ false
+    pub awaited : Awaited ended (unfinished [] (joined pieces)) piece lines r'
+    pub answers_last : runs middle lines more state
+    pub broken : Broken takes write_failed before more w'
+
+  -- The engine takes no more lines; writes took the answers to the lines before.
+  pub record EndsOver (over : S → Bool) (state : S) (r r' : R) (w w' : W) : Type 0 where
     pub pieces : List (List ℕ)
     pub lines : List (List ℕ)
     pub text : List ℕ
-    pub rest : List ℕ
-    pub state : TreeParts
     pub reads : Calls gives r pieces r'
-    pub which : (lines ≡ ended_lines [] (joined pieces)) ⊎ ((lines ≡ lines_of (joined pieces)) × ended r')
-    pub runs : Runs Answers beginning lines text state
-    pub writes : TakesFront takes w text rest w'
-    pub cause : failed w' ≡ true
+    pub well_read : read_failed r' ≡ false
+    pub front : IsFront lines (ended_lines [] (joined pieces))
+    pub answers : runs beginning lines text state
+    pub is_over : over state ≡ true
+    pub writes : Carries takes w text w'
+    pub well_written : write_failed w' ≡ false

@@ -10,7 +10,9 @@ pub mod Outcomes
 pub mod Answers
 pub mod Replies
 pub mod LineSoFar
+pub mod Sending
 pub mod Reads
+pub mod Readings
 pub mod Ends
 pub mod Endings
 pub mod Lists

@@ -1,7 +1,7 @@
--- A line as far as it is read, and which of its bytes are kept.
+-- A line as far as it is read: how many bytes it has, and which of them are kept.
 use Rattle.std.specs.Prelude.{ℕ, List}
-use Rattle.chess_cli.specs.declared.unfinished.Reading.{Reading}
 
 pub record LineSoFar : Type 0 where
-  pub reading : Reading
+  -- at most one over the limit
+  pub seen : ℕ
   pub kept : List ℕ

@@ -4,7 +4,7 @@
 --   path_in     the path that a word writes
 --   path_text   the word that writes a path
 --   ReadsPath   a word is read as a path
-use Rattle.std.specs.Prelude.{◌≡◌, ℕ, Bool, ◌<◌, ◌==◌, nat_le, ◌&&◌, if◌then◌else◌, List, [], ◌∷◌, length, map, Option, Some, None, option_map, option_and_then, codes, decimal}
+use Rattle.std.specs.Prelude.{◌≡◌, ℕ, Bool, ◌<◌, ◌==◌, nat_le, ◌&&◌, if◌then◌else◌, ◌≤◌, List, [], ◌∷◌, length, map, take, Option, Some, None, option_map, option_and_then, codes, decimal}
 use Rattle.std.specs.Char.{is_ascii_digit}
 use Rattle.std.specs.List.{list_all, slice_split}
 use Rattle.std.specs.Str.{bytes_eq}
@@ -35,8 +35,8 @@ abbrev pub path_text : List ℕ → List ℕ
 path_text [] = codes "-"
 path_text (place ∷ path) = parted_by (codes ".") (map decimal (place ∷ path))
 
--- How a word is read as a path, into a list of so many numbers at most.
+-- How a word is read as a path, to the front of these places.
 abbrev pub ReadsPath : List ℕ → List ℕ → PathWord → Type 0
-ReadsPath word path Read = path_in word ≡ Some path
-ReadsPath word path TooLong = (longer : List ℕ) × (path_in word ≡ Some longer) × (20000 < length longer)
-ReadsPath word path Malformed = path_in word ≡ None
+ReadsPath word places (Read count) = (count ≤ 20000) × (path_in word ≡ Some (take count places))
+ReadsPath word places TooLong = (longer : List ℕ) × (path_in word ≡ Some longer) × (20000 < length longer)
+ReadsPath word places Malformed = path_in word ≡ None

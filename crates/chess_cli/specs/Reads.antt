@@ -1,38 +1,46 @@
--- A line that is read in pieces, and a text that is written in pieces.
---   LineSoFar     a line as far as it is read: its bytes, where they are kept
+-- A line that is read in pieces, and the lines that end in a piece, for any engine.
 --   Holds         these are the bytes of the line so far
---   TakesFront    calls have taken the text but for the rest
---   Wrote         all of the text is taken, or a front of it and a call has failed
---   Feeds         the lines that end in a piece are answered, and the rest of it is kept
-use Rattle.std.specs.Prelude.{◌≡◌, ℕ, ◌≤◌, ◌<◌, Bool, true, List, ◌++◌, length, Result, Ok, Err, OnOk}
-use Rattle.chess_types.specs.Calls.{Carries}
-use Rattle.chess_cli.specs.Runs.{Runs}
-use Rattle.chess_cli.specs.Answers.{line_limit}
-use Rattle.chess_cli.specs.Lines.{ended_lines, unfinished}
+--   AnswersLine   a line is answered, or answering it is broken off, since a call of the sink failed
+--   Feeds         the lines that end in a piece are answered, up to one after which the engine takes no more; the rest of the piece is kept
+--   Finishes      the last line is answered, if there is one
+use Rattle.std.specs.Prelude.{◌≡◌, ℕ, ◌<◌, ◌≤◌, ◌+◌, min, Bool, true, false, ◌⊎◌, List, [], length, Result, Ok, Err}
+use Rattle.chess_cli.specs.Runs.{Runs, Partly}
+use Rattle.chess_cli.specs.Answers.{line_limit, line_room}
+use Rattle.chess_cli.specs.Ends.{IsFront}
+use Rattle.chess_cli.specs.Lines.{ended_lines, last_line, unfinished}
 use Rattle.chess_cli.specs.LineSoFar.{LineSoFar}
-use Rattle.chess_cli.specs.declared.unfinished.Reading.{Reading}
-use Rattle.chess_cli.specs.declared.unfinished.Reading.TheVariants.{Whole, TooLong, NoMemory}
+use Rattle.chess_cli.specs.Sending.{Sent, Broken, Sends}
 
-abbrev pub HoldsAs : Reading → List ℕ → List ℕ → Type 0
-HoldsAs Whole kept bytes = (kept ≡ bytes) × (length bytes ≤ line_limit)
-HoldsAs TooLong kept bytes = line_limit < length bytes
-HoldsAs NoMemory kept bytes = 0 < length bytes
+-- all of them are kept, or more than the room that there is for each line, and then fewer are
+pub record Holds (line : LineSoFar) (bytes : List ℕ) : Type 0 where
+  pub seen : line.seen ≡ min (length bytes) (line_limit + 1)
+  pub kept : ((line.kept ≡ bytes) × (length bytes ≤ line_limit)) ⊎ ((length line.kept < line.seen) × (line_room < length bytes))
 
-abbrev pub Holds : LineSoFar → List ℕ → Type 0
-Holds line bytes = HoldsAs line.reading line.kept bytes
+module _ {S W : Type 0} (step cut : S → List ℕ → List ℕ → S → Type 0) (takes : W → List ℕ → W → Type 0) (failed : W → Bool) where
+  abbrev pub StepOr : {X E : Type 0} → S → List ℕ → List ℕ → S → Result X E → Type 0
+  StepOr old line text new (Ok x) = step old line text new
+  StepOr old line text new (Err e) = cut old line text new
 
-pub record TakesFront {W : Type 0} (takes : W → List ℕ → W → Type 0) (old : W) (text rest : List ℕ) (new : W) : Type 0 where
-  pub front : List ℕ
-  pub whole : front ++ rest ≡ text
-  pub carries : Carries takes old front new
+  abbrev pub AnswersLine : {X E : Type 0} → LineSoFar → S → S → List ℕ → W → List ℕ → W → Result X E → Type 0
+  AnswersLine line old new page before page1 after result =
+      (bytes : List ℕ) → Holds line bytes → (text : List ℕ) × StepOr old bytes text new result × Sends takes failed page before text page1 after result
 
-abbrev pub Wrote : {W X E : Type 0} → (W → List ℕ → W → Type 0) → (W → Bool) → W → List ℕ → W → Result X E → Type 0
-Wrote takes failed old text new (Ok x) = Carries takes old text new × (failed new ≡ failed old)
-Wrote takes failed old text new (Err e) = (rest : List ℕ) × TakesFront takes old text rest new × (failed new ≡ true)
+  pub record Fed (over : S → Bool) (begun piece : List ℕ) (old new : S) (line : LineSoFar) (text : List ℕ) : Type 0 where
+    pub lines : List (List ℕ)
+    pub front : IsFront lines (ended_lines begun piece)
+    pub runs : Runs step old lines text new
+    pub rest : (over new ≡ true) ⊎ ((over new ≡ false) × (lines ≡ ended_lines begun piece) × Holds line (unfinished begun piece))
 
-pub record Feeds {S W X E : Type 0} (step : S → List ℕ → List ℕ → S → Type 0) (takes : W → List ℕ → W → Type 0) (failed : W → Bool) (begun piece : List ℕ) (old new : S) (line : LineSoFar) (before after : W) (result : Result X E) : Type 0 where
-  pub text : List ℕ
-  pub state : S
-  pub runs : Runs step old (ended_lines begun piece) text state
-  pub wrote : Wrote takes failed before text after result
-  pub ok : OnOk result ((new ≡ state) × Holds line (unfinished begun piece))
+  pub record FedPartly (begun piece : List ℕ) (old new : S) (text : List ℕ) : Type 0 where
+    pub lines : List (List ℕ)
+    pub front : IsFront lines (ended_lines begun piece)
+    pub runs : Partly step cut old lines text new
+
+  -- what stands on the page is sent, too
+  abbrev pub Feeds : {X E : Type 0} → (S → Bool) → List ℕ → List ℕ → S → S → LineSoFar → W → List ℕ → W → Result X E → Type 0
+  Feeds over begun piece old new line before page after (Ok x) = (text : List ℕ) × Fed over begun piece old new line text × Sent takes failed before text page after
+  Feeds over begun piece old new line before page after (Err e) = (text : List ℕ) × FedPartly begun piece old new text × Broken takes failed before text after
+
+  abbrev pub Finishes : {X E : Type 0} → List ℕ → S → S → W → W → Result X E → Type 0
+  Finishes bytes old new before after (Ok x) = (text : List ℕ) × Runs step old (last_line bytes) text new × Sent takes failed before text [] after
+  Finishes bytes old new before after (Err e) = (text : List ℕ) × Partly step cut old (last_line bytes) text new × Broken takes failed before text after

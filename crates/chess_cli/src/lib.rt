@@ -5,15 +5,19 @@
 #![tactic(auto)]
 
 mod answer;
+mod buffers;
 mod command;
 mod cursor;
 mod ended;
+mod engine;
 mod keys;
 mod lists;
 mod machine;
 mod numbers;
 mod outcomes;
 mod over_bytes;
+mod over_streams;
+mod page;
 mod path;
 mod refusal;
 mod run;
@@ -23,7 +27,7 @@ mod write;
 
 pub use ended::Ended;
 pub use over_bytes::board_over_bytes;
-pub use run::board;
+pub use over_streams::board;
 pub use texts::{Kept, counts_text, eval_text};
 
 #[cfg(test)]

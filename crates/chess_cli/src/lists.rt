@@ -1,4 +1,4 @@
-ghost use Rattle.std.specs.Prelude.{◌≡◌, ◌+◌, ◌≤◌, filter, length, map};
+ghost use Rattle.std.specs.Prelude.{◌≡◌, ◌+◌, ◌≤◌, ◌++◌, filter, length, map};
 ghost use Rattle.std.specs.FinSet.{contains};
 ghost use Rattle.arrayvec.specs.ArrayString.{array_string_len};
 ghost use Rattle.chess_types.specs.Squares.{squares};
@@ -6,8 +6,10 @@ ghost use Rattle.chess_types.specs.Texts.{move_text, square_text};
 ghost use Rattle.chess_cli.specs.Answers.{list_text};
 ghost use Rattle.chess_cli.specs.Lists.{behind};
 
+use super::page::Page;
 use arrayvec::ArrayString;
 use chess_types::{Move, SquareSet};
+use std::alloc::Allocator;
 
 // Another text, behind a space where it isn't the first.
 fn push_behind<const N: usize>(text: &mut ArrayString<N>, next: &str)
@@ -23,19 +25,22 @@ fn push_behind<const N: usize>(text: &mut ArrayString<N>, next: &str)
     }
 }
 
-/// The texts of at most 432 moves, parted by one space; `none` where there is none.
-pub fn moves_text(moves: &[Move]) -> ArrayString<2592>
-    requires { length moves.now ≤ 432 }
-    ensures { result.bytes ≡ list_text (map move_text moves.now) }
+/// The texts of at most 432 moves, parted by one space, behind what stands on the page; `none` where there is none.
+pub fn put_moves<A: Allocator>(page: &mut Page<A>, moves: &[Move])
+    requires few { length moves.now ≤ 432 }
+    requires room { length page.old + 2600 ≤ 65536 }
+    ensures bytes { page.new ≡ page.old ++ list_text (map move_text moves.now) }
+    ensures len { length page.new ≤ length page.old + 2592 }
 {
-    let mut text = ArrayString::new();
-    for m in moves {
-        push_behind(&mut text, m.text().as_str());
+    let Some((first, others)) = moves.split_first() else {
+        page.put(b"none");
+        return;
+    };
+    page.put(first.text().as_str().as_bytes());
+    for m in others {
+        page.put(b" ");
+        page.put(m.text().as_str().as_bytes());
     }
-    if text.is_empty() {
-        text.push_str("none");
-    }
-    text
 }
 
 /// The names of the squares in order, parted by one space; `none` where there is none.

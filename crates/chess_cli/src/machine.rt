@@ -1,4 +1,4 @@
-ghost use Rattle.std.specs.Prelude.{◌≡◌, ◌≤◌, ◌++◌, ◌∷◌, [], IfOk, decimal, map};
+ghost use Rattle.std.specs.Prelude.{◌≡◌, ℕ, List, ◌+◌, ◌≤◌, ◌++◌, ◌∷◌, [], IfOk, decimal, length, map};
 ghost use Rattle.std.specs.Fmt.{signed_decimal};
 ghost use Rattle.chess_types.specs.Texts.{move_text};
 ghost use Rattle.chess_types.specs.Legal.{legal_moves};
@@ -10,26 +10,31 @@ ghost use Rattle.chess_eval.specs.Evaluation.{evaluation};
 ghost use Rattle.chess_tree.specs.GameTree.{TreeParts, annotated_here, at_path, line_to, promoted_here};
 ghost use Rattle.chess_cli.specs.Outcomes.{claims_text, move_in as move_in_of, status_text};
 ghost use Rattle.chess_cli.specs.Numbers.{path_in};
-ghost use Rattle.chess_cli.specs.Answers.{Does, Ends, EndsSurely, Tells, beginning, checks_of, claim_effect, comment_effect, counts_of, list_text, off_root, play_effect, set_effect, told, tree_from};
-ghost use Rattle.chess_cli.specs.Replies.{path_effect, reply_text};
+ghost use Rattle.chess_cli.specs.Answers.{Answers, Does, Ends, EndsSurely, Tells, TellsBy, beginning, checks_of, claim_effect, comment_effect, counts_of, list_text, off_root, play_effect, set_effect, told, tree_from};
+ghost use Rattle.chess_cli.specs.Replies.{IsPut, path_effect};
 ghost use Rattle.chess_cli.specs.Requests.{request};
+ghost use Rattle.chess_cli.specs.Sending.{Sends};
 ghost use Rattle.chess_fen.specs.Reading.{reading};
 ghost use Rattle.chess_fen.specs.Writing.{written};
 
-use super::answer::{Answer, Reply, done, line_of, refused};
+use super::answer::{Told, put_done, put_refused};
+use super::buffers::filled;
 use super::command::{Command, asked};
 use super::cursor;
-use super::lists::{moves_text, squares_text};
-use super::numbers::{PathWord, read_path};
+use super::engine::Engine;
+use super::lists::{put_moves, squares_text};
+use super::numbers::{PLACES, PathWord, read_path};
 use super::outcomes::{claims_text, move_in, status_text};
+use super::page::Page;
+use super::path::write_path;
 use super::refusal::{Refusal, of_tree};
 use super::texts::{counts_text, eval_text};
-use arrayvec::ArrayVec;
+use super::unfinished::{Reading, Unfinished};
 use chess_attack::checkers;
 use chess_draws::Line;
 use chess_key::KeyTable;
 use chess_tree::{Tree, TreeFault};
-use chess_types::{Colour, Position};
+use chess_types::{Colour, Failed, Position, Sink};
 use itoa::Buffer;
 use std::alloc::Allocator;
 use std::marker::Model;
@@ -39,6 +44,8 @@ use std::marker::Model;
 pub struct Board<'k, A: Allocator> {
     tree: Tree<'k, A>,
     line: Line<'k, &'k A>,
+    // The path of a `goto` is read into it.
+    places: Vec<u32, &'k A>,
     alloc: &'k A,
     table: &'k KeyTable,
 }
@@ -53,10 +60,10 @@ impl<'k, A: Allocator> Model for Board<'k, A> {
 
     ghost view = { λ b. b.tree };
 
-    ghost use Rattle.std.specs.Prelude.{◌≡◌};
+    ghost use Rattle.std.specs.Prelude.{◌≡◌, vec_len};
     ghost use Rattle.chess_tree.specs.GameTree.{line_to};
 
-    ghost invariant = { λ b. b.line.line ≡ line_to b.tree };
+    ghost invariant = { λ b. (b.line.line ≡ line_to b.tree) × (vec_len b.places ≡ 20000) };
 }
 
 // The position in which a game begins.
@@ -69,23 +76,18 @@ fn start_position() -> Position
     Position::start()
 }
 
-// The text of a query, as a reply.
-fn text(answer: Answer) -> Reply
-    ensures { (t : TreeParts) → reply_text result t ≡ answer.bytes }
-{
-    Reply::Text(answer)
-}
-
 impl<'k, A: Allocator> Board<'k, A> {
     /// The board as a game begins, with the keys of that table; `Memory` where there is none.
     pub fn new(alloc: &'k A, table: &'k KeyTable) -> Result<Board<'k, A>, TreeFault>
         ensures { IfOk result (λ board. board ≡ beginning) }
     {
+        let places = filled(alloc, 0, PLACES)?;
         let tree = Tree::new(alloc, start_position())?;
         let line = Line::start(alloc, start_position(), table);
         Ok(Board {
             tree,
             line,
+            places,
             alloc,
             table,
         })
@@ -98,37 +100,58 @@ impl<'k, A: Allocator> Board<'k, A> {
         &self.tree
     }
 
-    /// Answers a line that was read whole.
-    pub fn answer(&mut self, line: &[u8]) -> Reply
-        ensures { Tells self.old (request line.now) (reply_text result self.new) self.new }
+    /// Answers a line that was read whole, behind what stands on the page; of the answer to `path` there is nothing yet.
+    pub fn tell<B: Allocator>(&mut self, line: &[u8], page: &mut Page<B>) -> Told
+        requires { length page.old + 2600 ≤ 65536 }
+        ensures { TellsBy (IsPut result self.new page.old page.new) self.old (request line.now) self.new }
     {
         match asked(line) {
-            Command::Blank => text(Answer::new()),
-            Command::New => text(done(self.begin(start_position()))),
-            Command::Set(fen) => text(done(self.set(fen))),
-            Command::Counts(colour) => text(self.counts(colour)),
-            Command::Eval => text(self.eval()),
-            Command::Fen => text(self.fen()),
-            Command::Moves => text(self.moves()),
-            Command::Checks => text(self.checks()),
-            Command::Play(word) => text(done(self.play(word))),
-            Command::Back => text(done(cursor::back(&mut self.tree, &mut self.line))),
-            Command::Step(place) => text(done(cursor::step(&mut self.tree, &mut self.line, place))),
-            Command::Start => text(done(self.start())),
-            Command::End => text(done(cursor::end(&mut self.tree, &mut self.line))),
-            Command::Goto(word) => text(done(self.goto(word))),
-            Command::Path => Reply::Path,
-            Command::Promote => text(done(self.promote())),
-            Command::Delete => text(done(cursor::delete(&mut self.tree, &mut self.line))),
-            Command::Comment(comment) => text(done(self.comment(comment))),
-            Command::Nag(nag) => text(done(self.nag(nag))),
-            Command::Count => text(self.count()),
-            Command::Status => text(self.status()),
-            Command::Claims => text(self.claims()),
-            Command::Claim(word) => text(self.claim(word)),
-            Command::Unknown => text(refused(Refusal::Command)),
-            Command::Malformed => text(refused(Refusal::Argument)),
+            Command::Blank => {}
+            Command::New => put_done(page, self.begin(start_position())),
+            Command::Set(fen) => put_done(page, self.set(fen)),
+            Command::Counts(colour) => self.counts(colour, page),
+            Command::Eval => self.eval(page),
+            Command::Fen => self.fen(page),
+            Command::Moves => self.moves(page),
+            Command::Checks => self.checks(page),
+            Command::Play(word) => put_done(page, self.play(word)),
+            Command::Back => put_done(page, cursor::back(&mut self.tree, &mut self.line)),
+            Command::Step(place) => {
+                put_done(page, cursor::step(&mut self.tree, &mut self.line, place));
+            }
+            Command::Start => put_done(page, self.start()),
+            Command::End => put_done(page, cursor::end(&mut self.tree, &mut self.line)),
+            Command::Goto(word) => put_done(page, self.goto(word)),
+            Command::Path => return Told::Path,
+            Command::Promote => put_done(page, self.promote()),
+            Command::Delete => put_done(page, cursor::delete(&mut self.tree, &mut self.line)),
+            Command::Comment(comment) => put_done(page, self.comment(comment)),
+            Command::Nag(nag) => put_done(page, self.nag(nag)),
+            Command::Count => self.count(page),
+            Command::Status => self.status(page),
+            Command::Claims => self.claims(page),
+            Command::Claim(word) => self.claim(word, page),
+            Command::Unknown => put_refused(page, Refusal::Command),
+            Command::Malformed => put_refused(page, Refusal::Argument),
         }
+        Told::Whole
+    }
+
+    // The same with the whole answer, a front of which may be written.
+    fn tell_whole<B: Allocator, W: Sink>(
+        &mut self,
+        line: &[u8],
+        page: &mut Page<B>,
+        writer: &mut W,
+    ) -> Result<(), Failed>
+        requires { length page.old + 2600 ≤ 65536 }
+        ensures { (text : List ℕ) × Tells self.old (request line.now) text self.new × Sends W.takes W.failed page.old writer.old text page.new writer.new result }
+    {
+        match self.tell(line, page) {
+            Told::Whole => {}
+            Told::Path => return write_path(&self.tree, page, writer),
+        }
+        Ok(())
     }
 
     // Begins a tree from the position.
@@ -156,41 +179,47 @@ impl<'k, A: Allocator> Board<'k, A> {
     }
 
     // The attack counts of the colour.
-    fn counts(&self, colour: Colour) -> Answer
-        ensures { result.bytes ≡ counts_of (last (line_to self.now)) colour ++ 10 ∷ [] }
+    fn counts<B: Allocator>(&self, colour: Colour, page: &mut Page<B>)
+        requires room { length page.old + 2600 ≤ 65536 }
+        ensures { page.new ≡ page.old ++ (counts_of (last (line_to self.now)) colour ++ 10 ∷ []) }
     {
-        line_of(counts_text(self.line.live(), colour).as_str())
+        page.put_line(counts_text(self.line.live(), colour).as_str());
     }
 
     // The evaluation.
-    fn eval(&self) -> Answer
-        ensures { result.bytes ≡ signed_decimal (evaluation (look (last (line_to self.now)))) ++ 10 ∷ [] }
+    fn eval<B: Allocator>(&self, page: &mut Page<B>)
+        requires room { length page.old + 2600 ≤ 65536 }
+        ensures { page.new ≡ page.old ++ (signed_decimal (evaluation (look (last (line_to self.now)))) ++ 10 ∷ []) }
     {
-        line_of(eval_text(self.line.live()).as_str())
+        page.put_line(eval_text(self.line.live()).as_str());
     }
 
     // The FEN.
-    fn fen(&self) -> Answer
-        ensures { result.bytes ≡ written (last (line_to self.now)) ++ 10 ∷ [] }
+    fn fen<B: Allocator>(&self, page: &mut Page<B>)
+        requires room { length page.old + 2600 ≤ 65536 }
+        ensures { page.new ≡ page.old ++ (written (last (line_to self.now)) ++ 10 ∷ []) }
     {
-        line_of(chess_fen::write(&self.line.position()).as_str())
+        page.put_line(chess_fen::write(&self.line.position()).as_str());
     }
 
     // The legal moves.
-    fn moves(&mut self) -> Answer
-        ensures text { result.bytes ≡ list_text (map move_text (legal_moves (last (line_to self.old)))) ++ 10 ∷ [] }
+    fn moves<B: Allocator>(&mut self, page: &mut Page<B>)
+        requires room { length page.old + 2600 ≤ 65536 }
+        ensures text { page.new ≡ page.old ++ (list_text (map move_text (legal_moves (last (line_to self.old)))) ++ 10 ∷ []) }
         ensures state { self.new ≡ self.old }
     {
         let moves = self.line.moves();
-        line_of(moves_text(moves.as_slice()).as_str())
+        put_moves(page, moves.as_slice());
+        page.put(b"\n");
     }
 
     // The squares of the men that check the side to move.
-    fn checks(&self) -> Answer
-        ensures { result.bytes ≡ checks_of (last (line_to self.now)) ++ 10 ∷ [] }
+    fn checks<B: Allocator>(&self, page: &mut Page<B>)
+        requires room { length page.old + 2600 ≤ 65536 }
+        ensures { page.new ≡ page.old ++ (checks_of (last (line_to self.now)) ++ 10 ∷ []) }
     {
         let setup = self.line.live().position();
-        line_of(squares_text(&checkers(&setup.placement, setup.side)).as_str())
+        page.put_line(squares_text(&checkers(&setup.placement, setup.side)).as_str());
     }
 
     // Makes the move of the text.
@@ -217,11 +246,13 @@ impl<'k, A: Allocator> Board<'k, A> {
     {
         // No node of a tree is more than 20,000 plies deep.
         let _start = self.tree.position();
-        let mut path = ArrayVec::new();
-        match read_path(word, &mut path) {
+        match read_path(word, self.places.as_mut_slice()) {
             PathWord::Malformed => Err(Refusal::Argument),
             PathWord::TooLong => Err(Refusal::NoSuch),
-            PathWord::Read => cursor::goto(&mut self.tree, &mut self.line, path.as_slice()),
+            PathWord::Read(count) => {
+                let path = &self.places.as_slice()[..count];
+                cursor::goto(&mut self.tree, &mut self.line, path)
+            }
         }
     }
 
@@ -247,40 +278,77 @@ impl<'k, A: Allocator> Board<'k, A> {
     }
 
     // How often the position has come up.
-    fn count(&mut self) -> Answer
-        ensures text { result.bytes ≡ decimal (repetitions (line_to self.old)) ++ 10 ∷ [] }
+    fn count<B: Allocator>(&mut self, page: &mut Page<B>)
+        requires room { length page.old + 2600 ≤ 65536 }
+        ensures text { page.new ≡ page.old ++ (decimal (repetitions (line_to self.old)) ++ 10 ∷ []) }
         ensures state { self.new ≡ self.old }
     {
-        line_of(Buffer::new().format(self.line.count()))
+        page.put_line(Buffer::new().format(self.line.count()));
     }
 
     // How the game stands.
-    fn status(&mut self) -> Answer
-        ensures text { result.bytes ≡ status_text (status (line_to self.old)) ++ 10 ∷ [] }
+    fn status<B: Allocator>(&mut self, page: &mut Page<B>)
+        requires room { length page.old + 2600 ≤ 65536 }
+        ensures text { page.new ≡ page.old ++ (status_text (status (line_to self.old)) ++ 10 ∷ []) }
         ensures state { self.new ≡ self.old }
     {
-        line_of(status_text(self.line.status()))
+        page.put_line(status_text(self.line.status()));
     }
 
     // The draws that may be claimed.
-    fn claims(&mut self) -> Answer
-        ensures text { result.bytes ≡ claims_text (claims (line_to self.old)) ++ 10 ∷ [] }
+    fn claims<B: Allocator>(&mut self, page: &mut Page<B>)
+        requires room { length page.old + 2600 ≤ 65536 }
+        ensures text { page.new ≡ page.old ++ (claims_text (claims (line_to self.old)) ++ 10 ∷ []) }
         ensures state { self.new ≡ self.old }
     {
-        line_of(claims_text(self.line.claims()))
+        page.put_line(claims_text(self.line.claims()));
     }
 
     // Those that may be claimed with the move of the text.
-    fn claim(&mut self, word: &[u8]) -> Answer
-        ensures text { result.bytes ≡ told (claim_effect (line_to self.old) (move_in_of word.now)) }
+    fn claim<B: Allocator>(&mut self, word: &[u8], page: &mut Page<B>)
+        requires room { length page.old + 2600 ≤ 65536 }
+        ensures text { page.new ≡ page.old ++ told (claim_effect (line_to self.old) (move_in_of word.now)) }
         ensures state { self.new ≡ self.old }
     {
         let Some(m) = move_in(word) else {
-            return refused(Refusal::Form);
+            return put_refused(page, Refusal::Form);
         };
         match self.line.claims_with(m) {
-            None => refused(Refusal::Illegal),
-            Some(claims) => line_of(claims_text(claims)),
+            None => put_refused(page, Refusal::Illegal),
+            Some(claims) => page.put_line(claims_text(claims)),
         }
+    }
+}
+
+impl<'k, A: Allocator> Engine for Board<'k, A> {
+    ghost use Rattle.std.specs.Prelude.{false};
+
+    ghost step = { Answers };
+
+    ghost cut = { Answers };
+
+    ghost over = { λ board. false };
+
+    fn answer<B: Allocator, W: Sink>(
+        &mut self,
+        line: &Unfinished<B>,
+        page: &mut Page<B>,
+        writer: &mut W,
+    ) -> Result<(), Failed> {
+        match line.reading() {
+            Reading::Whole(bytes) => self.tell_whole(bytes, page, writer),
+            Reading::TooLong => {
+                put_refused(page, Refusal::LongLine);
+                Ok(())
+            }
+            Reading::NoMemory => {
+                put_refused(page, Refusal::Memory);
+                Ok(())
+            }
+        }
+    }
+
+    fn is_over(&self) -> bool {
+        false
     }
 }

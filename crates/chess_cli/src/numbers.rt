@@ -1,9 +1,10 @@
-ghost use Rattle.std.specs.Prelude.{◌≡◌, []};
+ghost use Rattle.std.specs.Prelude.{◌≡◌, length};
 ghost use Rattle.std.specs.Char.{is_ascii_digit};
 ghost use Rattle.std.specs.List.{list_all};
 ghost use Rattle.chess_cli.specs.Numbers.{is_number, number_in, ReadsPath};
 
-use arrayvec::ArrayVec;
+/// The most places of a path: no node of a tree is deeper.
+pub const PLACES: usize = 20_000;
 
 /// The most digits of a number.
 const DIGITS: usize = 6;
@@ -36,33 +37,39 @@ pub fn number_in(word: &[u8]) -> Option<u32>
 /// How a word was read as a path.
 #[derive(Clone, Copy, Debug, PartialEq, Eq)]
 pub enum PathWord {
-    /// It writes this path.
-    Read,
+    /// It writes a path of so many places.
+    Read(usize),
     /// It writes a path of more than 20,000 places, which no tree has.
     TooLong,
     /// It writes none.
     Malformed,
 }
 
-/// Reads the path that the word writes: `-` for the root's, else child numbers from 0, parted by periods. It is added to an empty list.
-pub fn read_path(word: &[u8], path: &mut ArrayVec<u32, 20_000>) -> PathWord
-    requires { path.old.items ≡ [] }
-    ensures { ReadsPath word.now path.new.items result }
+/// Reads the path that the word writes: `-` for the root's, else child numbers from 0, parted by periods. It is put to the front of the
+/// places, of which there are 20,000.
+pub fn read_path(word: &[u8], places: &mut [u32]) -> PathWord
+    requires { length places.old ≡ 20000 }
+    ensures { ReadsPath word.now places.new result }
 {
     if word == b"-".as_slice() {
-        return PathWord::Read;
+        return PathWord::Read(0);
     }
+    let mut count = 0;
     let mut is_long = false;
     for part in word.split(|byte| *byte == b'.') {
         let Some(place) = number_in(part) else {
             return PathWord::Malformed;
         };
-        // Once the path is full it stays so.
-        is_long = path.try_push(place).is_err();
+        if count < PLACES {
+            places[count] = place;
+            count += 1;
+        } else {
+            is_long = true;
+        }
     }
     if is_long {
         PathWord::TooLong
     } else {
-        PathWord::Read
+        PathWord::Read(count)
     }
 }

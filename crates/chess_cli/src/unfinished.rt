@@ -1,85 +1,88 @@
-ghost use Rattle.std.specs.Prelude.{◌≡◌, List, ℕ, [], ◌++◌, ◌==◌, length};
+ghost use Rattle.std.specs.Prelude.{◌≡◌, ◌<◌, ◌≤◌, List, ℕ, [], ◌++◌, ◌==◌, length, IfOk};
 ghost use Rattle.chess_cli.specs.Reads.{Holds};
+ghost use Rattle.chess_cli.specs.Readings.{ReadAs};
 
-use std::alloc::Allocator;
+use std::alloc::{AllocError, Allocator};
 use std::marker::Model;
 
 /// The most bytes of a line, without its line feed.
 pub const LINE_LIMIT: usize = 1_048_576;
 
-/// How a line is being read: kept whole, or read on without being kept.
+/// The most bytes of a line for which no memory is asked for while it is read.
+const ROOM: usize = 65_536;
+
+/// How a line was read.
 #[derive(Clone, Copy, Debug, PartialEq, Eq)]
-pub enum Reading {
-    Whole,
+pub enum Reading<'a> {
+    /// It is kept whole.
+    Whole(&'a [u8]),
+    /// It is longer than the limit.
     TooLong,
+    /// It is no longer than the limit, but for some of it no memory was found.
     NoMemory,
 }
 
-/// The line that is being read. One that is too long or finds no memory is not kept.
+/// The line that is being read: its bytes as far as they are kept, and how many there are. One that is too long or finds no memory is not
+/// kept to its end.
 #[derive(Drop)]
 pub struct Unfinished<A: Allocator> {
     bytes: Vec<u8, A>,
-    reading: Reading,
+    seen: usize,
 }
 
 impl<A: Allocator> Model for Unfinished<A> {
-    ghost use Rattle.std.specs.Prelude.{◌≤◌, vec_len};
+    ghost use Rattle.std.specs.Prelude.{◌≤◌, vec_capacity, vec_len};
     ghost use Rattle.chess_cli.specs.LineSoFar.{LineSoFar};
 
     ghost Value = { LineSoFar };
 
-    ghost view = { λ line. record { reading = line.reading; kept = line.bytes.items } };
+    ghost view = { λ line. record { seen = line.seen; kept = line.bytes.items } };
 
-    ghost invariant = { λ line. vec_len line.bytes ≤ 1048576 };
+    ghost invariant = { λ line. (vec_len line.bytes ≤ line.seen) × (line.seen ≤ 1048577) × (65536 ≤ vec_capacity line.bytes) };
 }
 
 impl<A: Allocator> Unfinished<A> {
     /// A line of which nothing is read yet.
-    pub fn new(alloc: A) -> Unfinished<A>
-        ensures { Holds result [] }
+    pub fn new(alloc: A) -> Result<Unfinished<A>, AllocError>
+        ensures { IfOk result (λ line. Holds line []) }
     {
-        Unfinished {
-            bytes: Vec::new(alloc),
-            reading: Reading::Whole,
-        }
+        let bytes = Vec::with_capacity(alloc, ROOM)?;
+        Ok(Unfinished { bytes, seen: 0 })
     }
 
     /// Goes on with the line.
     pub fn add(&mut self, more: &[u8])
         ensures { (bytes : List ℕ) → Holds self.old bytes → Holds self.new (bytes ++ more.now) }
     {
-        if more.is_empty() || self.reading != Reading::Whole {
+        let is_whole = self.bytes.len() == self.seen;
+        if more.len() > LINE_LIMIT - self.seen.min(LINE_LIMIT) {
+            self.seen = LINE_LIMIT + 1;
             return;
         }
-        if more.len() > LINE_LIMIT - self.bytes.len() {
-            self.reading = Reading::TooLong;
-        } else if self.bytes.extend_from_slice(more).is_err() {
-            self.reading = Reading::NoMemory;
+        self.seen += more.len();
+        if is_whole {
+            let _kept = self.bytes.extend_from_slice(more);
         }
     }
 
     /// How the line was read.
-    pub fn reading(&self) -> Reading
-        ensures { result ≡ self.now.reading }
+    pub fn reading(&self) -> Reading<'_>
+        ensures { (bytes : List ℕ) → Holds self.now bytes → ReadAs bytes result }
     {
-        self.reading
-    }
-
-    /// The bytes that are kept.
-    pub fn kept(&self) -> &[u8]
-        ensures { result.now ≡ self.now.kept }
-    {
-        self.bytes.as_slice()
+        if self.seen > LINE_LIMIT {
+            Reading::TooLong
+        } else if self.bytes.len() < self.seen {
+            Reading::NoMemory
+        } else {
+            Reading::Whole(self.bytes.as_slice())
+        }
     }
 
     /// Whether nothing has come of the line.
     pub fn is_empty(&self) -> bool
         ensures { (bytes : List ℕ) → Holds self.now bytes → result ≡ (length bytes == 0) }
     {
-        match self.reading {
-            Reading::Whole => self.bytes.is_empty(),
-            Reading::TooLong | Reading::NoMemory => false,
-        }
+        self.seen == 0
     }
 
     /// Begins another line.
@@ -87,6 +90,6 @@ impl<A: Allocator> Unfinished<A> {
         ensures { Holds self.new [] }
     {
         self.bytes.clear();
-        self.reading = Reading::Whole;
+        self.seen = 0;
     }
 }

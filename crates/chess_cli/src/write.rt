@@ -1,10 +1,11 @@
-ghost use Rattle.chess_cli.specs.Reads.{Wrote};
+ghost use Rattle.std.specs.Prelude.{[]};
+ghost use Rattle.chess_cli.specs.Sending.{SentOr};
 
 use chess_types::{Failed, Sink};
 
 /// Writes all of the text, call by call, until one fails or takes no byte.
 pub fn write_all<W: Sink>(writer: &mut W, text: &[u8]) -> Result<(), Failed>
-    ensures { Wrote W.takes W.failed writer.old text.now writer.new result }
+    ensures { SentOr W.takes W.failed writer.old text.now [] writer.new result }
 {
     let mut rest = text;
     while !rest.is_empty() {

@@ -1,9 +1,9 @@
 use super::assert_answers;
-use crate::answer::Reply;
 use crate::machine::Board;
+use crate::page::Page;
 use chess_key::KeyTable;
 use linked_list_allocator::LocalHeap;
-use std::alloc::AllocError;
+use std::alloc::{AllocError, Allocator};
 use std::process::Abort;
 use std::test::Fail;
 
@@ -164,32 +164,27 @@ fn take_all<'h>(heap: &'h LocalHeap, other: &'h LocalHeap) -> Result<Taken<'h>, 
 
 /// Asks the board for this while its heap is empty, and again when there is memory, if the answer was that there is none: then tree and
 /// cursor are as before.
-fn ask_twice(
+fn ask_twice<A: Allocator>(
     rt: &impl Abort,
     board: &mut Board<LocalHeap>,
     heap: &LocalHeap,
     other: &LocalHeap,
     line: &[u8],
+    page: &mut Page<A>,
 ) -> Result<(), Fail> {
     let depth = board.tree().depth();
     let children = board.tree().child_count();
     let taken = take_all(heap, other)?;
-    let Reply::Text(first) = board.answer(line) else {
-        assert!(rt; false);
-        return Ok(());
-    };
+    board.tell(line, page);
     drop(taken);
-    if first.as_str() == "ok\n" {
+    if page.text() == b"ok\n".as_slice() {
         return Ok(());
     }
-    assert_eq!(rt; first.as_str(), "refused 5 Memory\n");
+    assert_eq!(rt; page.text(), b"refused 5 Memory\n".as_slice());
     assert_eq!(rt; board.tree().depth(), depth);
     assert_eq!(rt; board.tree().child_count(), children);
-    let Reply::Text(second) = board.answer(line) else {
-        assert!(rt; false);
-        return Ok(());
-    };
-    assert_eq!(rt; second.as_str(), "ok\n");
+    board.tell(line, page);
+    assert_eq!(rt; page.text(), b"refused 5 Memory\nok\n".as_slice());
     Ok(())
 }
 
@@ -206,7 +201,8 @@ fn refuses_each_growth_in_turn(rt: HostRuntime) -> Result<(), Fail> {
         b"play e2e4,nag 1,nag 2,nag 3,nag 4,nag 5,comment good,play e7e5,play g1f3,play b8c6,play f1b5,back,play f1c4,start,end,start,goto 0.0.0.0.1,\
         delete,start,step 0,new,play d2d4,set 4k3/8/8/8/8/8/8/4K2R w K - 0 1,play e1g1";
     for line in lines.split(|byte| *byte == b',') {
-        ask_twice(&rt, &mut board, &heap, &other, line)?;
+        let mut page = Page::new(rt.alloc())?;
+        ask_twice(&rt, &mut board, &heap, &other, line, &mut page)?;
     }
     assert_eq!(rt; board.tree().depth(), 1);
     Ok(())
