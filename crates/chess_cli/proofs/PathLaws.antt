@@ -1,5 +1,5 @@
 -- The word that writes a path is read as that path.
-use Rattle.std.proofs.Common.{◌≡◌, ℕ, ◌<◌, ◌≤◌, ◌==◌, false, ne_eqb, List, [], ◌∷◌, ◌++◌, length, map, take, All, Option, Some, None, refl, sym, ap, ◌∙◌, append-nil, arith}
+use Rattle.std.proofs.Common.{◌≡◌, ℕ, ◌<◌, ◌≤◌, ◌==◌, false, ne_eqb, List, [], ◌∷◌, ◌++◌, length, map, take, All, Option, Some, None, ◌⊎◌, inl, inr, refl, sym, ap, subst, ◌∙◌, append-nil, arith}
 use Rattle.std.specs.Prelude.{bytes_eq, codes, decimal}
 use Rattle.std.specs.List.{AllByRecursion}
 use Rattle.std.proofs.lemmas.Bool.{false_from_ne_true, le-leb}
@@ -74,3 +74,7 @@ read_back path places TooLong small few reads =
 read_back path places Malformed small few reads =
     let none : Some path ≡ None = sym (path_in-path_text path small) ∙ reads in
     absurd (cc none)
+
+pub read_as_none : (path places : List ℕ) (how : PathWord) → (how ≡ TooLong) ⊎ (how ≡ Malformed) → IsReadAs path places how → ⊥
+read_as_none path places how (inl is) read = subst (λ h. IsReadAs path places h) is read
+read_as_none path places how (inr is) read = subst (λ h. IsReadAs path places h) is read
