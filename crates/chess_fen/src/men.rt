@@ -8,6 +8,9 @@ use super::fault::FenFault;
 use super::ranks::read_cells;
 use chess_types::{Colour, Kind, Man, Placement, holds_pawn, is_king_of, men_in};
 
+/// The most men of a colour (FIDE Laws 2.2).
+const MOST_MEN: usize = 16;
+
 /// Whether that man stands on a square that holds this.
 pub fn is_man(cell: Option<Man>, colour: Colour, kind: Kind) -> bool
     ensures { result ≡ is_man cell colour kind }
@@ -51,7 +54,7 @@ fn has_pawn_on_edge(cells: &[Option<Man>; 64]) -> bool
 fn has_at_most_16_each(cells: &[Option<Man>; 64]) -> bool
     ensures { result ≡ has_at_most_16_each (board_of cells.now) }
 {
-    men_in(cells, Colour::White) <= 16 && men_in(cells, Colour::Black) <= 16
+    men_in(cells, Colour::White) <= MOST_MEN && men_in(cells, Colour::Black) <= MOST_MEN
 }
 
 /// The men of the first field.

@@ -118,23 +118,48 @@ fn reports_the_first_fault(rt: HostRuntime) {
 }
 
 #[test]
-fn numbers_and_names_the_faults(rt: HostRuntime) {
+fn tells_the_faults(rt: HostRuntime) -> Result<(), Fail> {
     let faults = [
-        (FenFault::Fields, 1, "Fields"),
-        (FenFault::Placement, 2, "Placement"),
-        (FenFault::Kings, 3, "Kings"),
-        (FenFault::PawnRank, 4, "PawnRank"),
-        (FenFault::TooManyMen, 5, "TooManyMen"),
-        (FenFault::Side, 6, "Side"),
-        (FenFault::Castling, 7, "Castling"),
-        (FenFault::Target, 8, "Target"),
-        (FenFault::Counter, 9, "Counter"),
-        (FenFault::InCheck, 10, "InCheck"),
+        (
+            FenFault::Fields,
+            "1 Fields: a FEN has six fields, or the first four of them",
+        ),
+        (
+            FenFault::Placement,
+            "2 Placement: the men are not eight ranks of eight squares",
+        ),
+        (FenFault::Kings, "3 Kings: each side has one king"),
+        (
+            FenFault::PawnRank,
+            "4 PawnRank: no pawn stands on the first or the last rank",
+        ),
+        (
+            FenFault::TooManyMen,
+            "5 TooManyMen: a side has at most 16 men",
+        ),
+        (FenFault::Side, "6 Side: the side to move is w or b"),
+        (
+            FenFault::Castling,
+            "7 Castling: the castling field is - or different letters of KQkq",
+        ),
+        (
+            FenFault::Target,
+            "8 Target: the en passant field is - or a square",
+        ),
+        (
+            FenFault::Counter,
+            "9 Counter: the clock and the number are decimal numbers of at most 99999",
+        ),
+        (
+            FenFault::InCheck,
+            "10 InCheck: the side not to move is in check",
+        ),
     ];
-    for (fault, number, name) in faults {
-        assert_eq!(rt; fault.number(), number);
-        assert!(rt; fault.name() == name);
+    for (fault, text) in faults {
+        let told = format!(in rt.alloc(); "{} {}: {fault}", fault.number(), fault.name())?;
+        assert!(rt; told.as_str() == text);
     }
+    Ok(())
 }
 
 #[test]

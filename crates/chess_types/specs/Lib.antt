@@ -21,3 +21,4 @@ pub mod Outcome
 pub mod Words
 pub mod Calls
 pub mod Lent
+pub mod Streams

@@ -1,11 +1,14 @@
-ghost use Rattle.std.specs.Prelude.{◌≡◌, ◌<◌, ◌≤◌, length, false, [], ◌++◌};
+ghost use Rattle.std.specs.Prelude.{◌≡◌, ◌<◌, ◌≤◌, ◌-◌, ◌||◌, length, take, drop, false, [], ◌++◌, None, Some, IfOk, is_err};
+ghost use Rattle.chess_types.specs.Calls.{carried, takes_none};
+ghost use Rattle.chess_types.specs.Lent.{is_due, one_less, given, refusal_due, one_write_less, is_failing, accepted};
 
+use super::refusal::Refusal;
 use super::sink::Sink;
 use super::source::{Failed, Source};
 use std::marker::Model;
 
 /// A source over bytes that are lent, which gives them in pieces of one size and takes no memory. Contracts see the bytes
-/// that are left.
+/// that are left, the size, and how many calls go well before the one that fails.
 #[derive(Drop)]
 pub struct FromBytes<'a> {
     left: &'a [u8],
@@ -20,7 +23,7 @@ impl<'a> Model for FromBytes<'a> {
 
     ghost Value = { Left };
 
-    ghost view = { λ s. record { left = s.left.now; failed = s.has_failed } };
+    ghost view = { λ s. record { left = s.left.now; piece = s.piece; good_reads = s.calls_before_failing; failed = s.has_failed } };
 
     ghost invariant = { λ s. 0 < s.piece };
 }
@@ -29,7 +32,7 @@ impl<'a> FromBytes<'a> {
     /// Gives the bytes, at most `piece` at a call.
     pub fn new(bytes: &'a [u8], piece: usize) -> FromBytes<'a>
         requires { 0 < piece }
-        ensures { result ≡ record { left = bytes.now; failed = false } }
+        ensures { result ≡ record { left = bytes.now; piece = piece; good_reads = None; failed = false } }
     {
         FromBytes {
             left: bytes,
@@ -39,10 +42,10 @@ impl<'a> FromBytes<'a> {
         }
     }
 
-    /// The same, but the call after `calls` calls fails.
+    /// The same, but the call after `calls` calls fails. Those after it go on.
     pub fn failing_after(bytes: &'a [u8], piece: usize, calls: u64) -> FromBytes<'a>
         requires { 0 < piece }
-        ensures { result ≡ record { left = bytes.now; failed = false } }
+        ensures { result ≡ record { left = bytes.now; piece = piece; good_reads = Some calls; failed = false } }
     {
         FromBytes {
             left: bytes,
@@ -60,7 +63,17 @@ impl<'a> Source for FromBytes<'a> {
 
     ghost failed = { λ s. s.failed };
 
-    fn read(&mut self, buf: &mut [u8]) -> Result<usize, Failed> {
+    fn read(&mut self, buf: &mut [u8]) -> Result<usize, Failed>
+        ensures bound { IfOk result (λ n. n ≤ length buf.new) }
+        ensures gives { self.old.left ≡ carried result buf.new ++ self.new.left }
+        ensures ended { IfOk result (λ n. n ≡ 0 → 0 < length buf.new → self.new.left ≡ []) }
+        ensures failed { self.new.failed ≡ (self.old.failed || is_err result) }
+        ensures fails { is_err result ≡ is_due self.old.good_reads }
+        ensures count { IfOk result (λ n. n ≡ given self.old (length buf.old)) }
+        ensures bytes { buf.new ≡ take (given self.old (length buf.old)) self.old.left ++ drop (given self.old (length buf.old)) buf.old }
+        ensures piece { self.new.piece ≡ self.old.piece }
+        ensures good_reads { self.new.good_reads ≡ one_less self.old.good_reads }
+    {
         match self.calls_before_failing {
             Some(0) => {
                 self.calls_before_failing = None;
@@ -78,15 +91,8 @@ impl<'a> Source for FromBytes<'a> {
     }
 }
 
-/// What a sink over memory does at the call that is to go wrong.
-#[derive(Clone, Copy, Debug, PartialEq, Eq)]
-pub enum Refusal {
-    Fails,
-    TakesNothing,
-}
-
 /// A sink into bytes that are lent, which takes pieces of one size and no memory. Where they are full it takes nothing.
-/// Contracts see the bytes taken so far.
+/// Contracts see the bytes taken so far, how many more have room, the size, and which call goes wrong, and how.
 #[derive(Drop)]
 pub struct ToBytes<'a> {
     room: &'a mut [u8],
@@ -97,12 +103,12 @@ pub struct ToBytes<'a> {
 }
 
 impl<'a> Model for ToBytes<'a> {
-    ghost use Rattle.std.specs.Prelude.{◌≤◌, length, take};
+    ghost use Rattle.std.specs.Prelude.{◌≤◌, ◌-◌, length, take};
     ghost use Rattle.chess_types.specs.Lent.{Taken};
 
     ghost Value = { Taken };
 
-    ghost view = { λ s. record { taken = take s.len s.room.now; failed = s.has_failed } };
+    ghost view = { λ s. record { taken = take s.len s.room.now; room = length s.room.now - s.len; piece = s.piece; refuses = s.refusal; failed = s.has_failed } };
 
     ghost invariant = { λ s. s.len ≤ length s.room.now };
 }
@@ -110,7 +116,7 @@ impl<'a> Model for ToBytes<'a> {
 impl<'a> ToBytes<'a> {
     /// Takes bytes into the room, at most `piece` at a call.
     pub fn new(room: &'a mut [u8], piece: usize) -> ToBytes<'a>
-        ensures { result ≡ record { taken = []; failed = false } }
+        ensures { result ≡ record { taken = []; room = length room.old; piece = piece; refuses = None; failed = false } }
     {
         ToBytes {
             room,
@@ -121,14 +127,14 @@ impl<'a> ToBytes<'a> {
         }
     }
 
-    /// The same, but the call after `calls` calls goes wrong.
+    /// The same, but the call after `calls` calls goes wrong. Those after it go on.
     pub fn refusing_after(
         room: &'a mut [u8],
         piece: usize,
         calls: u64,
         refusal: Refusal,
     ) -> ToBytes<'a>
-        ensures { result ≡ record { taken = []; failed = false } }
+        ensures { result ≡ record { taken = []; room = length room.old; piece = piece; refuses = Some (calls, refusal); failed = false } }
     {
         ToBytes {
             room,
@@ -152,7 +158,16 @@ impl<'a> Sink for ToBytes<'a> {
 
     ghost failed = { λ s. s.failed };
 
-    fn write(&mut self, buf: &[u8]) -> Result<usize, Failed> {
+    fn write(&mut self, buf: &[u8]) -> Result<usize, Failed>
+        ensures bound { IfOk result (λ n. n ≤ length buf.now) }
+        ensures takes { self.new.taken ≡ self.old.taken ++ carried result buf.now }
+        ensures failed { self.new.failed ≡ (self.old.failed || takes_none result buf.now) }
+        ensures fails { is_err result ≡ is_failing (refusal_due self.old.refuses) }
+        ensures count { IfOk result (λ n. n ≡ accepted self.old (length buf.now)) }
+        ensures room { self.new.room ≡ self.old.room - accepted self.old (length buf.now) }
+        ensures piece { self.new.piece ≡ self.old.piece }
+        ensures refuses { self.new.refuses ≡ one_write_less self.old.refuses }
+    {
         match self.refusal {
             Some((0, refusal)) => {
                 self.refusal = None;
@@ -170,11 +185,11 @@ impl<'a> Sink for ToBytes<'a> {
             Some((calls, refusal)) => self.refusal = Some((calls - 1, refusal)),
             None => {}
         }
-        let count = (self.room.len() - self.len).min(self.piece).min(buf.len());
-        let end = self.len + count;
-        self.room[self.len..end].copy_from_slice(&buf[..count]);
+        let taken = (self.room.len() - self.len).min(self.piece).min(buf.len());
+        let end = self.len + taken;
+        self.room[self.len..end].copy_from_slice(&buf[..taken]);
         self.len = end;
-        self.has_failed = self.has_failed || (count == 0 && !buf.is_empty());
-        Ok(count)
+        self.has_failed = self.has_failed || (taken == 0 && !buf.is_empty());
+        Ok(taken)
     }
 }

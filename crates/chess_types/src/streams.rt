@@ -4,33 +4,48 @@ ghost use Rattle.std.specs.Io.KnownBytes.{Appends, Consumes, IsAtEnd};
 use super::sink::Sink;
 use super::source::{Failed, Source};
 use std::io::{ErrorKind, Read, Write};
+use std::marker::Model;
 
 /// A source over std's reader. A read that was interrupted is tried again.
 #[derive(Drop)]
 pub struct FromRead<R> {
     pub reader: R,
-    pub has_failed: bool,
+    has_failed: bool,
+}
+
+impl<R> Model for FromRead<R> {
+    ghost use Rattle.chess_types.specs.Streams.{Stream};
+
+    ghost Value = { Stream R };
+
+    ghost view = { λ s. record { inner = s.reader; failed = s.has_failed } };
 }
 
 impl<R> FromRead<R> {
     /// The source of what the reader gives.
     pub fn new(reader: R) -> FromRead<R>
-        ensures reader { result.reader ≡ reader }
-        ensures failed { result.has_failed ≡ false }
+        ensures { result ≡ record { inner = reader; failed = false } }
     {
         FromRead {
             reader,
             has_failed: false,
         }
     }
+
+    /// Whether a call has failed.
+    pub fn has_failed(&self) -> bool
+        ensures { result ≡ self.now.failed }
+    {
+        self.has_failed
+    }
 }
 
 impl<R: Read> Source for FromRead<R> {
-    ghost gives = { λ s bytes t. Consumes (R.remaining s.reader) (R.remaining t.reader) bytes };
+    ghost gives = { λ s bytes t. Consumes (R.remaining s.inner) (R.remaining t.inner) bytes };
 
-    ghost ended = { λ s. IsAtEnd (R.remaining s.reader) };
+    ghost ended = { λ s. IsAtEnd (R.remaining s.inner) };
 
-    ghost failed = { λ s. s.has_failed };
+    ghost failed = { λ s. s.failed };
 
     fn read(&mut self, buf: &mut [u8]) -> Result<usize, Failed> {
         for _turn in 0..u64::MAX {
@@ -49,26 +64,40 @@ impl<R: Read> Source for FromRead<R> {
 #[derive(Drop)]
 pub struct ToWrite<W> {
     pub writer: W,
-    pub has_failed: bool,
+    has_failed: bool,
+}
+
+impl<W> Model for ToWrite<W> {
+    ghost use Rattle.chess_types.specs.Streams.{Stream};
+
+    ghost Value = { Stream W };
+
+    ghost view = { λ s. record { inner = s.writer; failed = s.has_failed } };
 }
 
 impl<W> ToWrite<W> {
     /// The sink that the writer takes from.
     pub fn new(writer: W) -> ToWrite<W>
-        ensures writer { result.writer ≡ writer }
-        ensures failed { result.has_failed ≡ false }
+        ensures { result ≡ record { inner = writer; failed = false } }
     {
         ToWrite {
             writer,
             has_failed: false,
         }
     }
+
+    /// Whether a call has failed.
+    pub fn has_failed(&self) -> bool
+        ensures { result ≡ self.now.failed }
+    {
+        self.has_failed
+    }
 }
 
 impl<W: Write> Sink for ToWrite<W> {
-    ghost takes = { λ s bytes t. Appends (W.contents s.writer) (W.contents t.writer) bytes };
+    ghost takes = { λ s bytes t. Appends (W.contents s.inner) (W.contents t.inner) bytes };
 
-    ghost failed = { λ s. s.has_failed };
+    ghost failed = { λ s. s.failed };
 
     fn write(&mut self, buf: &[u8]) -> Result<usize, Failed> {
         for _turn in 0..u64::MAX {

@@ -1,3 +1,5 @@
+mod streams;
+
 use super::*;
 
 #[test]

@@ -43,7 +43,8 @@ pub fn split_word<'a>(bytes: &'a [u8], gaps: &[u8]) -> Option<(&'a [u8], &'a [u8
     if bytes.is_empty() {
         return None;
     }
-    Some(bytes.split_at(word_len(bytes, gaps)))
+    let (word, rest) = bytes.split_at(word_len(bytes, gaps));
+    Some((word, rest))
 }
 
 // The bytes without the gaps at their end.

@@ -1,2 +1,3 @@
 -- Lemmas on the number of leaves.
 pub mod LeafLemmas
+pub mod LineLemmas

@@ -15,7 +15,8 @@ const GAPS: &[u8] = b" \t\r";
 /// The text that answers a line, without its line feed; empty for a line that takes no answer.
 pub type Answer = ArrayString<64>;
 
-/// The depth that a word writes: a decimal number from 0 to 16 without needless zeros.
+/// The depth that a word writes: a decimal number from 0 to 16 without needless zeros. So few plies are far from the end of
+/// the stack.
 #[tactic(auto, unfolding(crate::specs::Answers::depth_in))]
 fn read_depth(word: &[u8]) -> Option<u32>
     ensures value { result ≡ depth_in word.now }

@@ -1,63 +1,84 @@
+ghost use Rattle.std.specs.Prelude.{◌≡◌, ◌++◌, ◌∷◌, [], ℕ, List, OnOk, IfSome, option_map};
+ghost use Rattle.std.specs.Io.KnownBytes.{Appends};
+ghost use Rattle.perft.specs.Lines.{answers, kept, line_after, line_text, text_after};
+
 use crate::answer::answer;
+use arrayvec::ArrayVec;
 use chess_key::KeyTable;
-use std::alloc::Allocator;
 use std::io;
-use std::io::{BufRead, Read, Write};
+use std::io::{ErrorKind, Read, Write};
 
 /// The most bytes of a line, without its line feed.
-const LINE_LIMIT: u64 = 1024;
+const LINE_LIMIT: usize = 1024;
 
-/// What was read of the input.
-enum Line {
-    /// Nothing: it has ended.
-    End,
-    /// A line, which is kept.
-    Whole,
-    /// A line of more bytes than the limit.
-    TooLong,
+/// A line, or what has been read of it; `None` where it has more bytes than the limit.
+type Line = Option<ArrayVec<u8, LINE_LIMIT>>;
+
+/// The line goes on by a byte.
+fn add(line: &mut Line, byte: u8)
+    ensures { (begun : List ℕ) → option_map (λ l. l.items) line.old ≡ kept begun
+        → option_map (λ l. l.items) line.new ≡ kept (begun ++ byte ∷ []) }
+{
+    if let Some(bytes) = line {
+        if bytes.try_push(byte).is_err() {
+            *line = None;
+        }
+    }
 }
 
-/// Reads the next line. One that is too long is read over.
-fn read_line<A: Allocator, R: BufRead>(reader: &mut R, line: &mut Vec<u8, A>) -> io::Result<Line> {
-    line.clear();
-    let mut front = reader.by_ref().take(LINE_LIMIT + 1);
-    let count = front.read_until(b'\n', line)?;
-    if count == 0 {
-        return Ok(Line::End);
+/// Writes the answer to the line, if it takes one, and a line feed.
+fn answer_line<W: Write>(table: &KeyTable, line: &Line, writer: &mut W) -> io::Result<()>
+    ensures { OnOk result (Appends (W.contents writer.old) (W.contents writer.new)
+        (line_text (option_map (λ l. l.items) line.now))) }
+{
+    let Some(bytes) = line else {
+        return writer.write_all(b"fault LongLine\n");
+    };
+    let text = answer(table, bytes.as_slice());
+    if text.is_empty() {
+        return Ok(());
     }
-    if line.last() == Some(&b'\n') {
-        line.pop();
-    } else if count as u64 > LINE_LIMIT {
-        reader.skip_until(b'\n')?;
-        return Ok(Line::TooLong);
+    writer.write_all(text.as_str().as_bytes())?;
+    writer.write_all(b"\n")
+}
+
+/// The line goes on by a byte, or ends and is answered.
+fn take<W: Write>(table: &KeyTable, line: &mut Line, byte: u8, writer: &mut W) -> io::Result<()>
+    ensures { (begun : List ℕ) → option_map (λ l. l.items) line.old ≡ kept begun → OnOk result (
+        (option_map (λ l. l.items) line.new ≡ kept (line_after begun byte))
+        × Appends (W.contents writer.old) (W.contents writer.new) (text_after begun byte)) }
+{
+    if byte == b'\n' {
+        answer_line(table, line, writer)?;
+        *line = Some(ArrayVec::new());
+    } else {
+        add(line, byte);
     }
-    Ok(Line::Whole)
+    Ok(())
 }
 
 /// Answers the lines of the reader on the writer, each before the next is read, until the input ends.
 ///
 /// # Errors
 ///
-/// That of the stream that failed, or of the allocator.
-pub fn answer_lines<A: Allocator, R: BufRead + Drop, W: Write + Drop>(
-    alloc: A,
-    mut reader: R,
-    mut writer: W,
-) -> io::Result<()> {
+/// That of the stream that failed.
+pub fn answer_lines<R: Read + Drop, W: Write>(reader: R, writer: &mut W) -> io::Result<()>
+    ensures { OnOk result (IfSome (R.remaining reader) (λ given.
+        Appends (W.contents writer.old) (W.contents writer.new) (answers given))) }
+{
     // The keys take no part in the counts.
     let table = KeyTable::new([0; 768]);
-    let mut line = Vec::new(alloc);
+    let mut line = Some(ArrayVec::new());
+    let mut bytes = reader.bytes();
     for _turn in 0..u64::MAX {
-        match read_line(&mut reader, &mut line)? {
-            Line::End => break,
-            Line::TooLong => writeln!(writer, "fault LongLine")?,
-            Line::Whole => {
-                let text = answer(&table, line.as_slice());
-                if !text.is_empty() {
-                    writeln!(writer, "{text}")?;
-                }
+        match bytes.next() {
+            None => {
+                answer_line(&table, &line, writer)?;
+                return writer.flush();
             }
+            Some(Err(error)) => return Err(error),
+            Some(Ok(byte)) => take(&table, &mut line, byte, writer)?,
         }
     }
-    writer.flush()
+    Err(io::Error::from(ErrorKind::Other))
 }

@@ -25,7 +25,7 @@ const FAILED: u8 = 3;
 
 fn run(rt: &HostRuntime) -> io::Result<()> {
     let reader = BufReader::new(rt.alloc(), rt.stdin())?;
-    answer_lines(rt.alloc(), reader, rt.stdout())
+    answer_lines(reader, &mut rt.stdout())
 }
 
 fn main(rt: HostRuntime) -> ExitCode {

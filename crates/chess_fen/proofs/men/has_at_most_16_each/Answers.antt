@@ -5,13 +5,13 @@ use Rattle.chess_types.specs.Men.{is_of}
 use Rattle.chess_types.proofs.MenLemmas.{census-board_of}
 use Rattle.chess_fen.proofs.men.has_at_most_16_each.Goals as goal
 
-pub returns-then-men_in-le16 : goal.returns-then-men_in-le16
-returns-then-men_in-le16 c =
+pub returns-then-men_in-le-MOST_MEN : goal.returns-then-men_in-le-MOST_MEN
+returns-then-men_in-le-MOST_MEN c =
     let white = census-board_of (is_of White) c.args.cells.now c.told-cells in
     let black = census-board_of (is_of Black) c.args.cells.now c.told-cells in
     grind (arith, common_steps, white, black)
 
-pub returns-else-men_in-le16 : goal.returns-else-men_in-le16
-returns-else-men_in-le16 c =
+pub returns-else-men_in-le-MOST_MEN : goal.returns-else-men_in-le-MOST_MEN
+returns-else-men_in-le-MOST_MEN c =
     let white = census-board_of (is_of White) c.args.cells.now c.told-cells in
     grind (arith, common_steps, white)

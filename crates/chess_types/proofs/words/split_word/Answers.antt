@@ -10,4 +10,4 @@ returns-then-is_empty-clause-none c =
 pub returns-clause-some : goal.returns-clause-some
 returns-clause-some c =
     let split = words_split c.args.gaps.now c.args.bytes.now c.skip_gaps-bytes.result.now c.skip_gaps-bytes.ensures (grind (arith, common_steps)) in
-    rw (c.split_at.ensures.front, c.split_at.ensures.back, c.word_len.ensures.word, c.word_len.ensures.rest) split
+    grind (arith, common_steps, split)

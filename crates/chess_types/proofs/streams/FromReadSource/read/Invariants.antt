@@ -4,6 +4,6 @@ use Rattle.chess_types.proofs.streams.FromReadSource.read.Given as goal
 
 abbrev pub invariant-loop-turn : goal.invariant-loop-turn
 invariant-loop-turn g l = record {
-  kept : Consumes (g.R.Read.remaining l.fn.self.reader) (g.R.Read.remaining l.self.reader) [];
-  flag : l.self.has_failed ≡ l.fn.self.has_failed;
+  kept : Consumes (g.R.Read.remaining l.fn.self.inner) (g.R.Read.remaining l.self-inside.reader) [];
+  flag : l.self-inside.has_failed ≡ l.fn.self.failed;
 }

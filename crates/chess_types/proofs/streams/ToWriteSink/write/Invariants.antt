@@ -4,6 +4,6 @@ use Rattle.chess_types.proofs.streams.ToWriteSink.write.Given as goal
 
 abbrev pub invariant-loop-turn : goal.invariant-loop-turn
 invariant-loop-turn g l = record {
-  kept : Appends (g.W.Write.contents l.fn.self.writer) (g.W.Write.contents l.self.writer) [];
-  flag : l.self.has_failed ≡ l.fn.self.has_failed;
+  kept : Appends (g.W.Write.contents l.fn.self.inner) (g.W.Write.contents l.self-inside.writer) [];
+  flag : l.self-inside.has_failed ≡ l.fn.self.failed;
 }
