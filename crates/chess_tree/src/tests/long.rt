@@ -5,14 +5,11 @@ use std::alloc::Allocator;
 use std::process::Abort;
 use std::test::Fail;
 
-/// How many bytes of the stack a test takes, so that the rest doesn't do for a call for each ply of a line of 20,000.
+/// How many bytes of a stack of 8 megabytes a test takes: the rest is too little for a call for each ply of a line of 20,000.
 const TAKEN: usize = 6_000_000;
 
 /// A main line of 20,000 plies, the cursor at its end.
-fn a_long_line<'a, A: Allocator>(
-    rt: &impl Abort,
-    alloc: &'a A,
-) -> Result<Tree<'a, A>, TreeFault> {
+fn a_long_line<'a, A: Allocator>(rt: &impl Abort, alloc: &'a A) -> Result<Tree<'a, A>, TreeFault> {
     let mut tree = begin(alloc)?;
     let table = KeyTable::new([7; 768]);
     let mut live = position_here(rt, &tree, &table);
@@ -43,12 +40,13 @@ fn a_long_main_line_is_dropped_from_its_root_on_a_small_stack(rt: HostRuntime) -
     let alloc = rt.alloc();
     let mut tree = a_long_line(&rt, &alloc)?;
     let mut taken = [0u8; TAKEN];
-    let last = taken.len() - 1 - tree.depth() as usize;
-    taken[last] = 1;
+    taken[tree.depth() as usize] = 1;
     tree.start();
+    let depth = tree.depth() as usize;
     assert_eq!(rt; tree.depth(), 0);
     drop(tree);
-    assert_eq!(rt; taken[last], 1);
+    // Written at one place and read at another, the bytes lie on the stack.
+    assert_eq!(rt; taken[depth], 0);
     Ok(())
 }
 
@@ -58,14 +56,15 @@ fn a_long_main_line_is_deleted_on_a_small_stack(rt: HostRuntime) -> Result<(), F
     let alloc = rt.alloc();
     let mut tree = a_long_line(&rt, &alloc)?;
     let mut taken = [0u8; TAKEN];
-    let last = taken.len() - 1 - tree.depth() as usize;
-    taken[last] = 1;
+    taken[tree.depth() as usize] = 1;
     tree.start();
+    let depth = tree.depth() as usize;
     tree.first()?;
     tree.delete()?;
     assert_eq!(rt; tree.depth(), 0);
     assert_eq!(rt; tree.child_count(), 0);
-    assert_eq!(rt; taken[last], 1);
+    // Written at one place and read at another, the bytes lie on the stack.
+    assert_eq!(rt; taken[depth], 0);
     Ok(())
 }
 

@@ -43,10 +43,7 @@ fn faults_say_what_they_are(rt: HostRuntime) -> Result<(), Fail> {
         (TreeFault::NoSuch, "there is no such node"),
         (TreeFault::AtRoot, "the cursor is at the root"),
         (TreeFault::Full, "the tree holds 65536 moves"),
-        (
-            TreeFault::BadComment,
-            "a right brace stands in the comment",
-        ),
+        (TreeFault::BadComment, "a right brace stands in the comment"),
         (TreeFault::Memory, "there is no memory"),
     ];
     for (fault, text) in texts {
