@@ -1,8 +1,6 @@
-use Rattle.std.proofs.Common.{◌≡◌, ◌+◌, ◌<◌, ◌≤◌, length, vec_capacity, refl, sym, ap, ◌∙◌, inl, inr, arith, rules}
-use Rattle.chess_types.specs.Legal.{is_legal}
-use Rattle.chess_types.specs.Lines.{last}
+use Rattle.std.proofs.Common.{◌≡◌, ◌+◌, ◌<◌, ◌≤◌, length, vec_capacity, refl, sym, ap, inl, inr, arith, rules}
 use Rattle.chess_draws.specs.LineParts.{LineParts}
-use Rattle.chess_draws.proofs.LineLemmas.{line_of, legal_last, plies_moves, here_clock, here_number}
+use Rattle.chess_draws.proofs.LineLemmas.{legal_last, plies_moves, here_clock, here_number}
 use Rattle.chess_draws.proofs.AnswerLemmas.{answer_illegal, answer_long, answer_made}
 use Rattle.chess_draws.proofs.line.Line.prepare.Goals as goal
 
