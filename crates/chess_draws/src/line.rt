@@ -1,6 +1,6 @@
 ghost use Rattle.std.specs.Prelude.{◌≡◌, ◌+◌, ◌<◌, ◌≤◌, [], IsOk, IsTrue, OnOk, IfErr, IfSome, MatchOption, count_by, length};
 ghost use Rattle.std.specs.List.{All};
-ghost use Rattle.chess_types.specs.Position.{look};
+ghost use Rattle.chess_types.specs.Position.{IsWellFormed, look};
 ghost use Rattle.chess_types.specs.Legal.{is_legal as is_legal_in, legal_moves};
 ghost use Rattle.chess_types.specs.Lines.{AreLegal, last, extended};
 ghost use Rattle.chess_types.specs.Repetition.{repetitions};
@@ -105,6 +105,25 @@ impl<'k, A: Allocator> Line<'k, A> {
         ensures at_most { OnOk result (self.new.ticks ≤ 216) }
         ensures at_least { OnOk result (changed_of (look (last self.old.line)) (look (last self.new.line)) ≤ self.new.ticks) }
     {
+        self.prepare(m)?;
+        self.push_prepared(m);
+        Ok(())
+    }
+
+    /// All of a `push` but the move itself: whether the line takes it, and room for it. The line is as before.
+    ///
+    /// # Errors
+    ///
+    /// Those of `push`.
+    pub fn prepare(&mut self, m: Move) -> Result<(), LineFault>
+        ensures answer { Answers self.old m result }
+        ensures legal { OnOk result (IsTrue (is_legal_in (last self.old.line) m)) }
+        ensures few { OnOk result (length self.old.line.moves < 20000) }
+        ensures ready { OnOk result (length self.old.line.moves < self.new.room) }
+        ensures line { self.new.line ≡ self.old.line }
+        ensures words { self.new.words ≡ self.old.words }
+        ensures room { self.old.room ≤ self.new.room }
+    {
         if !is_legal(&mut self.live, m) {
             return Err(LineFault::Illegal);
         }
@@ -114,12 +133,12 @@ impl<'k, A: Allocator> Line<'k, A> {
         if self.plies.reserve(1).is_err() {
             return Err(LineFault::Memory);
         }
-        self.add(m);
         Ok(())
     }
 
-    // Adds a legal move, for which there is room.
-    fn add(&mut self, m: Move)
+    /// Adds a legal move to a line of fewer than 20,000 plies that has room for it, as after a `prepare` of the move, or after a
+    /// `reserve`. Takes no memory.
+    pub fn push_prepared(&mut self, m: Move)
         requires legal { IsTrue (is_legal_in (last self.old.line) m) }
         requires few { length self.old.line.moves < 20000 }
         requires room { length self.old.line.moves < self.old.room }
@@ -189,13 +208,18 @@ impl<'k, A: Allocator> Line<'k, A> {
         ensures position { result.now.position ≡ last self.now.line }
         ensures words { result.now.words ≡ self.now.words }
         ensures ticks { result.now.ticks ≡ self.now.ticks }
+        ensures at_most { result.now.ticks ≤ 216 }
+        ensures well_formed { IsWellFormed (last self.now.line) }
     {
+        // Whatever was asked of it, a `Live` keeps its ticks at most 216.
+        let _ticks = self.live.last_ticks();
         &self.live
     }
 
     /// The last position.
     pub fn position(&self) -> Position
         ensures value { result ≡ last self.now.line }
+        ensures well_formed { IsWellFormed (last self.now.line) }
         ensures counters { (result.clock ≤ 119999) × (result.number ≤ 119999) }
     {
         let Ok(setup) = self.live.position().clone() else {

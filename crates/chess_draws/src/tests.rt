@@ -102,6 +102,35 @@ fn ends_at_twenty_thousand_plies(rt: HostRuntime) -> Result<(), Fail> {
     Ok(())
 }
 
+#[test]
+fn faults_say_what_they_are(rt: HostRuntime) -> Result<(), Fail> {
+    let texts = [
+        (LineFault::Illegal, "the move isn't legal"),
+        (LineFault::TooLong, "a line has at most 20,000 plies"),
+        (LineFault::Memory, "there is no memory"),
+    ];
+    for (fault, text) in texts {
+        assert_eq!(rt; format!(in rt.alloc(); "{fault}")?.as_str(), text);
+    }
+    Ok(())
+}
+
+/// A move that was prepared is added, and one that the line refuses is prepared for as it is pushed.
+#[test]
+#[tactic(auto, unfolding(chess_types::specs::Position::start))]
+fn prepares_for_a_move(rt: HostRuntime) -> Result<(), Fail> {
+    let table = KeyTable::new([1; 768]);
+    let mut line = Line::start(rt.alloc(), Position::start(), &table);
+    assert_eq!(rt; line.prepare(named(&rt, b"e2e5")), Err(LineFault::Illegal));
+    let m = named(&rt, b"e2e4");
+    line.prepare(m)?;
+    assert_eq!(rt; line.plies(), 0);
+    line.push_prepared(m);
+    assert_eq!(rt; line.plies(), 1);
+    assert!(rt; line.live().last_ticks() > 0);
+    Ok(())
+}
+
 /// Pushes rounds while so many bytes of a heap are taken, until a push finds no memory; the same push answers Ok when they are free.
 #[tactic(auto, unfolding(chess_types::specs::Position::start))]
 fn push_without_memory(rt: &impl Abort, heap: &LocalHeap, taken: usize) -> Result<(), Fail> {

@@ -34,10 +34,11 @@ impl<'k> Model for Live<'k> {
 
     ghost view = { λ l. record { position = l.setup; words = l.kept.key.words; ticks = l.kept.counts.ticks } };
 
+    ghost use Rattle.std.specs.Prelude.{◌≤◌};
     ghost use Rattle.chess_types.specs.Position.{IsSetup};
     ghost use Rattle.chess_play.specs.Followed.{AreKept};
 
-    ghost invariant = { λ l. (IsSetup l.setup) × (AreKept l.kept l.setup.placement) };
+    ghost invariant = { λ l. (IsSetup l.setup) × (AreKept l.kept l.setup.placement) × (l.kept.counts.ticks ≤ 216) };
 }
 
 impl<'k> Live<'k> {
@@ -82,9 +83,10 @@ impl<'k> Live<'k> {
         &self.kept.key
     }
 
-    /// The ticks of the last `make`, `undo` or `take_back`, at most 216; 0 before any. Always those of `counts`.
+    /// The ticks of the last `make`, `undo` or `take_back`; 0 before any. Always those of `counts`.
     pub fn last_ticks(&self) -> u32
-        ensures { result ≡ self.now.ticks }
+        ensures value { result ≡ self.now.ticks }
+        ensures at_most { result ≤ 216 }
     {
         self.kept.counts.ticks()
     }

@@ -4,6 +4,7 @@ pub mod EditLemmas
 pub mod SoundLemmas
 pub mod LineLemmas
 pub mod TreeLemmas
+pub mod StepLemmas
 pub mod KeptLemmas
 pub mod ZipLemmas
 pub mod ApartLemmas

@@ -98,6 +98,13 @@ along_on (j ∷ path) k f =
     ap (λ (ms : List MoveParts). option_to_list (move_of j f) ++ ms) (along_on path k (below_child j f))
     ∙ sym (append_assoc (option_to_list (move_of j f)) (moves_along path (below_child j f)) (option_to_list (move_of k (below_at path (below_child j f)))))
 
+-- a path, and a path from there
+pub along_append : (path rest : List ℕ) (f : Forest) → moves_along (path ++ rest) f ≡ moves_along path f ++ moves_along rest (below_at path f)
+along_append [] rest f = refl
+along_append (k ∷ path) rest f =
+    ap (λ (ms : List MoveParts). option_to_list (move_of k f) ++ ms) (along_append path rest (below_child k f))
+    ∙ sym (append_assoc (option_to_list (move_of k f)) (moves_along path (below_child k f)) (moves_along rest (below_at path (below_child k f))))
+
 one_move : (k : ℕ) (f : Forest) → k < count f → length (option_to_list (move_of k f)) ≡ 1
 one_move k Bare h = absurd (omega arith)
 one_move zero (Node m nags comment below next) h = refl
@@ -151,17 +158,17 @@ line_added m t game =
     )
 
 -- the last place of a path
-abbrev lowest : List ℕ → ℕ
+abbrev pub lowest : List ℕ → ℕ
 lowest [] = 0
 lowest (k ∷ []) = k
 lowest (k ∷ j ∷ path) = lowest (j ∷ path)
 
-parent_on : (path : List ℕ) → 0 < length path → path ≡ parent path ++ lowest path ∷ []
+pub parent_on : (path : List ℕ) → 0 < length path → path ≡ parent path ++ lowest path ∷ []
 parent_on [] h = absurd (omega arith)
 parent_on (k ∷ []) h = refl
 parent_on (k ∷ j ∷ path) h = ap (λ (p : List ℕ). k ∷ p) (parent_on (j ∷ path) (omega arith))
 
-same_front : (xs ys us vs : List MoveParts) → xs ++ us ≡ ys ++ vs → length xs ≡ length ys → xs ≡ ys
+pub same_front : (xs ys us vs : List MoveParts) → xs ++ us ≡ ys ++ vs → length xs ≡ length ys → xs ≡ ys
 same_front xs ys us vs e l =
     sym (take-append_seam xs us) ∙ ap (take (length xs)) e ∙ ap (λ (n : ℕ). take n (ys ++ vs)) l ∙ take-append_seam ys vs
 

@@ -1,5 +1,5 @@
 -- Walks of the cursor: to the root, along the main continuations, and along a path.
-use Rattle.std.proofs.Common.{◌≡◌, ℕ, zero, suc, ◌+◌, ◌<◌, ◌≤◌, ◌&&◌, Bool, true, false, nat_lt, List, [], ◌∷◌, ◌++◌, length, get_or, take, drop, Option, None, Some, refl, sym, ap, ◌∙◌, arith, append_assoc, append-nil}
+use Rattle.std.proofs.Common.{◌≡◌, ℕ, zero, suc, ◌+◌, ◌<◌, ◌≤◌, ◌&&◌, Bool, true, false, nat_lt, List, [], ◌∷◌, ◌++◌, length, get_or, take, drop, Option, None, Some, refl, sym, subst, ap, ◌∙◌, arith, append_assoc, append-nil}
 use Rattle.std.specs.Prelude.{Result, Ok, Err, is_ok, OnOk, OnErr, MatchResult}
 use Rattle.std.proofs.lemmas.Bool.{and_parts, false≢true}
 use Rattle.std.proofs.lemmas.Bool.Decides.{nat_tests}
@@ -116,6 +116,16 @@ first_ends (Err x) P F start old new goal is err none tree e =
     let last : old.path ++ main_line (below_at old.path old.tree.below) ≡ old.path = ap (λ (p : List ℕ). old.path ++ p) (main_none (below_at old.path old.tree.below) none.1) ∙ append-nil old.path in
     let path : old.path ≡ goal = sym last ∙ e in
     err ∙ (λ i. record { tree = tree i; path = path i })
+
+-- a step to the child at place 0, by what a step tells
+pub first_ok : {E : Type 0} (r : Result (Unit {0}) E) (old new : TreeParts) (place : ℕ) → OnOk r (new ≡ at_path (old.path ++ place ∷ []) old) → place ≡ 0
+    → OnOk r (new ≡ at_path (old.path ++ 0 ∷ []) old)
+first_ok r old new place ok zeroth = subst (λ (k : ℕ). OnOk r (new ≡ at_path (old.path ++ k ∷ []) old)) zeroth ok
+
+pub first_none : {E : Type 0} (r : Result (Unit {0}) E) (F : E → Type 0) (n place : ℕ) → MatchResult r (λ _. place < n) (λ fault. F fault × (n ≤ place)) → place ≡ 0
+    → MatchResult r (λ _. 0 < n) (λ fault. F fault × (n ≡ 0))
+first_none (Ok x) F n place some zeroth = omega (arith, some, zeroth)
+first_none (Err x) F n place none zeroth = (none.0, omega (arith, none.1, zeroth))
 
 -- where there is a node, the path leads to it
 pub has_leads : (path : List ℕ) (f : Forest) → has path f ≡ true → Leads path f

@@ -4,7 +4,7 @@
 --   root_node     the root by itself; node_of, the node at a path
 --   here          the node at the cursor; nodes_here, the nodes below it
 --   moves_along   the moves on the way to a node
---   line_to       the line to the cursor
+--   line_along    the line to a node; line_to, to the cursor
 --   has           whether there is a node at a path
 --   find          the place of the first child with a move
 --   main_line     the path along the main continuations
@@ -58,9 +58,13 @@ abbrev pub moves_along : List ℕ → Forest → List MoveParts
 moves_along [] f = []
 moves_along (k ∷ path) f = option_to_list (move_of k f) ++ moves_along path (below_child k f)
 
+-- the line from the start to the node at a path
+abbrev pub line_along : List ℕ → GameTree → Line
+line_along path tree = record { start = tree.start; moves = moves_along path tree.below }
+
 -- the line from the start to the cursor
 abbrev pub line_to : TreeParts → Line
-line_to t = record { start = t.tree.start; moves = moves_along t.path t.tree.below }
+line_to t = line_along t.path t.tree
 
 -- each place of the path is one that the node there has
 abbrev pub has : List ℕ → Forest → Bool

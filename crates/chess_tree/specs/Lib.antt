@@ -4,6 +4,7 @@ pub mod Edits
 pub mod Comments
 pub mod GameTree
 pub mod WellFormed
+pub mod Steps
 pub mod ForestCode
 pub mod TreeCode
 pub mod Faults

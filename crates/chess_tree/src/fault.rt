@@ -28,8 +28,8 @@ impl From<AllocError> for TreeFault {
     ghost from_gives = { λ _ fault. fault ≡ Memory };
 
     /// That there is no memory.
-    fn from(_: AllocError) -> TreeFault {
-        TreeFault::Memory
+    fn from(_: AllocError) -> Self {
+        Self::Memory
     }
 }
 

@@ -1,6 +1,6 @@
 ghost use Rattle.std.specs.Prelude.{◌≡◌, ◌<◌, ◌≤◌, ◌+◌, ◌^◌, ◌++◌, ◌∷◌, [], Some, IfSome, IfNone, OnSome, OnOk, OnErr};
 ghost use Rattle.chess_tree.specs.Forest.{Bare, child, count, height, moves_held};
-ghost use Rattle.chess_tree.specs.GameTree.{find};
+ghost use Rattle.chess_tree.specs.GameTree.{find, is_move};
 ghost use Rattle.chess_tree.specs.Edits.{promoted, with_move, without};
 ghost use Rattle.chess_tree.specs.Nodes.{leaf, placed, shown, with_below};
 
@@ -33,6 +33,14 @@ impl<'a, A: Allocator> Model for Node<'a, A> {
     ghost size = { λ n. moves_held n.below };
 
     ghost size_decreases = { λ n _. Prim.omega (arith, most_le-moves_held n.children.items) };
+}
+
+// Whether the moves are the same, promotion and all.
+#[tactic(auto, using(crate::proofs::FindLemmas::same_move))]
+fn is_move(m: Move, n: Move) -> bool
+    ensures { result ≡ is_move m n }
+{
+    m == n
 }
 
 impl<'a, A: Allocator> Node<'a, A> {
@@ -92,7 +100,7 @@ impl<'a, A: Allocator> Node<'a, A> {
         ensures { result ≡ find played self.now.below }
     {
         for place in 0..self.child_count() as u32 {
-            if self.child(place as usize).played() == played {
+            if is_move(self.child(place as usize).played(), played) {
                 return Some(place);
             }
         }

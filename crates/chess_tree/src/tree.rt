@@ -1,11 +1,12 @@
 ghost use Rattle.std.specs.Prelude.{◌≡◌, ◌<◌, ◌≤◌, ◌++◌, ◌∷◌, [], nat_le, true, length, Err, MatchResult, IfOk, IfErr, OnOk, OnErr};
 ghost use Rattle.chess_types.specs.Legal.{is_legal};
-ghost use Rattle.chess_types.specs.Lines.{last};
+ghost use Rattle.chess_types.specs.Lines.{extended, last};
 ghost use Rattle.chess_tree.specs.declared.fault.TreeFault.TheVariants.{NoSuch, AtRoot, Full, BadComment, Memory};
 ghost use Rattle.chess_tree.specs.Forest.{Bare, count, moves_held};
 ghost use Rattle.chess_tree.specs.Edits.{parent};
 ghost use Rattle.chess_tree.specs.GameTree.{added, at_path, line_to, nodes_here};
 ghost use Rattle.chess_tree.specs.WellFormed.{IsGameTree};
+ghost use Rattle.chess_tree.specs.Steps.{GoesOn};
 
 mod comment;
 mod cursor;
@@ -91,6 +92,7 @@ impl<'a, A: Allocator> Tree<'a, A> {
         requires legal { is_legal (last (line_to self.old)) played ≡ true }
         requires deep { length self.old.path < 20000 }
         ensures ok { OnOk result (self.new ≡ added played self.old) }
+        ensures line { OnOk result (line_to self.new ≡ extended (line_to self.old) played) }
         ensures err { OnErr result (self.new ≡ self.old) }
         ensures full { moves_held self.old.tree.below ≡ 65536 → result ≡ Err Full }
         ensures memory { moves_held self.old.tree.below < 65536 → IfErr result (λ fault. fault ≡ Memory) }
@@ -108,6 +110,7 @@ impl<'a, A: Allocator> Tree<'a, A> {
     /// Steps to the child at that place, from 0. `NoSuch` where there is none.
     pub fn step(&mut self, place: u32) -> Result<(), TreeFault>
         ensures ok { OnOk result (self.new ≡ at_path (self.old.path ++ place ∷ []) self.old) }
+        ensures line { OnOk result (GoesOn self.old self.new) }
         ensures err { OnErr result (self.new ≡ self.old) }
         ensures no_such { MatchResult result (λ _. place < count (nodes_here self.old)) (λ fault. (fault ≡ NoSuch) × (count (nodes_here self.old) ≤ place)) }
     {
@@ -121,6 +124,7 @@ impl<'a, A: Allocator> Tree<'a, A> {
     /// Steps to the parent. `AtRoot` at the root.
     pub fn back(&mut self) -> Result<(), TreeFault>
         ensures ok { OnOk result (self.new ≡ at_path (parent self.old.path) self.old) }
+        ensures line { OnOk result (GoesOn self.new self.old) }
         ensures err { OnErr result (self.new ≡ self.old) }
         ensures at_root { MatchResult result (λ _. 0 < length self.old.path) (λ fault. (fault ≡ AtRoot) × (self.old.path ≡ [])) }
     {

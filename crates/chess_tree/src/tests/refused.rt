@@ -37,6 +37,21 @@ fn without_memory(rt: HostRuntime) -> Result<(), Fail> {
     Ok(())
 }
 
+#[test]
+fn faults_say_what_they_are(rt: HostRuntime) -> Result<(), Fail> {
+    let texts = [
+        (TreeFault::NoSuch, "there is no such node"),
+        (TreeFault::AtRoot, "the cursor is at the root"),
+        (TreeFault::Full, "the tree holds 65536 moves"),
+        (TreeFault::BadComment, "a right brace stands in the comment"),
+        (TreeFault::Memory, "there is no memory"),
+    ];
+    for (fault, text) in texts {
+        assert_eq!(rt; format!(in rt.alloc(); "{fault}")?.as_str(), text);
+    }
+    Ok(())
+}
+
 /// After a refusal all is as before, and the call is answered once there is memory.
 #[test]
 fn as_before(rt: HostRuntime) -> Result<(), Fail> {

@@ -1,7 +1,10 @@
-ghost use Rattle.std.specs.Prelude.{◌≡◌, ◌<◌, ◌≤◌, ◌++◌, ◌∷◌, [], length, true, false, slice_get, IfOk, IfErr, MatchResult, OnOk, OnErr};
+ghost use Rattle.std.specs.Prelude.{◌≡◌, ◌<◌, ◌≤◌, ◌++◌, ◌∷◌, [], length, true, false, slice_get, IfOk, IfErr, IfSome, MatchResult, OnOk, OnErr};
 ghost use Rattle.chess_tree.specs.declared.fault.TreeFault.TheVariants.{Memory, NoSuch};
 ghost use Rattle.chess_tree.specs.Forest.{count};
-ghost use Rattle.chess_tree.specs.GameTree.{at_path, find, has, main_line, nodes_here};
+ghost use Rattle.chess_types.specs.Legal.{is_legal};
+ghost use Rattle.chess_types.specs.Lines.{last};
+ghost use Rattle.chess_tree.specs.GameTree.{at_path, find, has, line_along, line_to, main_line, moves_along, nodes_here};
+ghost use Rattle.chess_tree.specs.Steps.{GoesOn};
 
 use super::Tree;
 use crate::fault::TreeFault;
@@ -11,7 +14,9 @@ use std::alloc::Allocator;
 impl<'a, A: Allocator> Tree<'a, A> {
     /// How many plies the cursor is below the root, at most 20,000.
     pub fn depth(&self) -> u32
-        ensures { result ≡ length self.now.path }
+        ensures value { result ≡ length self.now.path }
+        ensures at_most { result ≤ 20000 }
+        ensures line { result ≡ length (line_to self.now).moves }
     {
         self.nodes.depth() as u32
     }
@@ -36,7 +41,9 @@ impl<'a, A: Allocator> Tree<'a, A> {
 
     /// The place of the first child with that move.
     pub fn find(&self, played: Move) -> Option<u32>
-        ensures { result ≡ find played (nodes_here self.now) }
+        ensures value { result ≡ find played (nodes_here self.now) }
+        ensures there { IfSome result (λ place. place < count (nodes_here self.now)) }
+        ensures legal { IfSome result (λ _. is_legal (last (line_to self.now)) played ≡ true) }
     {
         self.nodes.here().find(played)
     }
@@ -44,6 +51,7 @@ impl<'a, A: Allocator> Tree<'a, A> {
     /// Steps to child 0, the main continuation. `NoSuch` where there is no child.
     pub fn first(&mut self) -> Result<(), TreeFault>
         ensures ok { OnOk result (self.new ≡ at_path (self.old.path ++ 0 ∷ []) self.old) }
+        ensures line { OnOk result (GoesOn self.old self.new) }
         ensures err { OnErr result (self.new ≡ self.old) }
         ensures no_such { MatchResult result (λ _. 0 < count (nodes_here self.old)) (λ fault. (fault ≡ NoSuch) × (count (nodes_here self.old) ≡ 0)) }
     {
@@ -52,16 +60,18 @@ impl<'a, A: Allocator> Tree<'a, A> {
 
     /// Steps back to the root.
     pub fn start(&mut self)
-        ensures { self.new ≡ at_path [] self.old }
+        ensures path { self.new ≡ at_path [] self.old }
+        ensures line { line_to self.new ≡ line_along [] self.old.tree }
     {
         while self.back().is_ok() {}
     }
 
     /// Steps along the main continuations to a node without children.
     pub fn end(&mut self)
-        ensures { self.new ≡ at_path (self.old.path ++ main_line (nodes_here self.old)) self.old }
+        ensures path { self.new ≡ at_path (self.old.path ++ main_line (nodes_here self.old)) self.old }
+        ensures line { (line_to self.new).moves ≡ (line_to self.old).moves ++ moves_along (main_line (nodes_here self.old)) (nodes_here self.old) }
     {
-        while self.first().is_ok() {}
+        while self.step(0).is_ok() {}
     }
 
     /// Whether there is a node at that path from the root.
@@ -81,6 +91,7 @@ impl<'a, A: Allocator> Tree<'a, A> {
     /// Steps to the node at that path from the root. `NoSuch` where there is none; the cursor stays then.
     pub fn goto(&mut self, path: &[u32]) -> Result<(), TreeFault>
         ensures ok { OnOk result (self.new ≡ at_path path.now self.old) }
+        ensures line { OnOk result (line_to self.new ≡ line_along path.now self.old.tree) }
         ensures err { OnErr result (self.new ≡ self.old) }
         ensures no_such { MatchResult result (λ _. has path.now self.old.tree.below ≡ true) (λ fault. (fault ≡ NoSuch) × (has path.now self.old.tree.below ≡ false)) }
     {

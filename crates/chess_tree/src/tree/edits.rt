@@ -1,6 +1,7 @@
 ghost use Rattle.std.specs.Prelude.{◌≡◌, ◌<◌, [], length, Err, MatchResult, IfErr, OnOk, OnErr};
 ghost use Rattle.chess_tree.specs.declared.fault.TreeFault.TheVariants.{AtRoot, Memory};
 ghost use Rattle.chess_tree.specs.GameTree.{annotated_here, deleted, line_to, promoted_here};
+ghost use Rattle.chess_tree.specs.Steps.{GoesOn};
 
 use super::Tree;
 use crate::fault::TreeFault;
@@ -11,6 +12,7 @@ impl<'a, A: Allocator> Tree<'a, A> {
     /// the root.
     pub fn delete(&mut self) -> Result<(), TreeFault>
         ensures ok { OnOk result (self.new ≡ deleted self.old) }
+        ensures line { OnOk result (GoesOn self.new self.old) }
         ensures err { OnErr result (self.new ≡ self.old) }
         ensures at_root { MatchResult result (λ _. 0 < length self.old.path) (λ fault. (fault ≡ AtRoot) × (self.old.path ≡ [])) }
     {

@@ -1,5 +1,5 @@
 use Rattle.std.proofs.Common.{◌≡◌, sym, ap, subst, ◌∙◌, arith}
-use Rattle.chess_types.specs.Position.{State, IsQuiet}
+use Rattle.chess_types.specs.Position.{State, IsQuiet, IsWellFormed}
 use Rattle.chess_draws.proofs.LineLemmas.{here_last, here_clock, here_number, here_well_formed}
 use Rattle.chess_draws.proofs.line.Line.position.Goals as goal
 
@@ -18,3 +18,6 @@ returns-clause-counters g c =
       omega (arith, clock, here_clock c.self.invariant),
       omega (arith, number, here_number c.self.invariant),
     )
+
+pub returns-clause-well_formed : goal.returns-clause-well_formed
+returns-clause-well_formed g c = subst IsWellFormed (here_last c.self.invariant c.self.view_is) (here_well_formed c.self.invariant)

@@ -1,7 +1,7 @@
 use Rattle.std.proofs.Common.{◌<◌, length, sym, ap, ◌∙◌, arith}
 use Rattle.chess_types.specs.Repetition.{counting_target}
 use Rattle.chess_draws.proofs.LineLemmas.{here_ends, here_last, legal_here, plies_moves, here_clock, here_number, stand_is, line_more, changed_there}
-use Rattle.chess_draws.proofs.line.Line.add.Goals as goal
+use Rattle.chess_draws.proofs.line.Line.push_prepared.Goals as goal
 
 pub advance-past-requires-clause-legal : goal.advance-past-requires-clause-legal
 advance-past-requires-clause-legal g c = legal_here c.self.invariant c.self.view_is c.args.m c.requires.legal

@@ -1,10 +1,8 @@
-use Rattle.std.proofs.Common.{◌≡◌, ◌+◌, ◌<◌, length, vec_capacity, refl, sym, ap, ◌∙◌, inl, inr, arith, rules}
-use Rattle.chess_types.specs.Legal.{is_legal}
-use Rattle.chess_types.specs.Lines.{last}
+use Rattle.std.proofs.Common.{◌≡◌, ◌+◌, ◌<◌, ◌≤◌, length, vec_capacity, refl, sym, ap, inl, inr, arith, rules}
 use Rattle.chess_draws.specs.LineParts.{LineParts}
-use Rattle.chess_draws.proofs.LineLemmas.{line_of, legal_last, plies_moves, here_clock, here_number}
+use Rattle.chess_draws.proofs.LineLemmas.{legal_last, plies_moves, here_clock, here_number}
 use Rattle.chess_draws.proofs.AnswerLemmas.{answer_illegal, answer_long, answer_made}
-use Rattle.chess_draws.proofs.line.Line.push.Goals as goal
+use Rattle.chess_draws.proofs.line.Line.prepare.Goals as goal
 
 pub is_legal-requires-clause-clock : goal.is_legal-requires-clause-clock
 is_legal-requires-clause-clock g c = omega (arith, here_clock c.self.invariant)
@@ -39,12 +37,6 @@ returns-then-is_err-clause-answer g c =
       omega (arith, plies, len, room, full),
     )
 
-pub add-requires-clause-legal : goal.add-requires-clause-legal
-add-requires-clause-legal g c =
-    ap (λ plies. is_legal (last (line_of c.self.inside.root plies)) c.args.m) c.reserve.ensures.items
-    ∙ ap (λ (l : LineParts). is_legal (last l.line) c.args.m) c.self.view_is
-    ∙ legal_last c.self.invariant c.self.view_is c.args.m c.is_legal.ensures.value c.if-not-is_legal.false
-
 pub returns-clause-answer : goal.returns-clause-answer
 returns-clause-answer g c =
     let plies : length c.self.inside.plies.items ≡ length c.args.self.now.line.moves = plies_moves c.self.invariant c.self.view_is in
@@ -52,3 +44,19 @@ returns-clause-answer g c =
     inl (sym (answer_made c.args.self.now.line c.args.m
     (legal_last c.self.invariant c.self.view_is c.args.m c.is_legal.ensures.value c.if-not-is_legal.false)
     (omega (arith, plies, len, c.if-len-ge-LIMIT.false))))
+
+pub returns-clause-legal : goal.returns-clause-legal
+returns-clause-legal g c = legal_last c.self.invariant c.self.view_is c.args.m c.is_legal.ensures.value c.if-not-is_legal.false
+
+pub returns-clause-few : goal.returns-clause-few
+returns-clause-few g c =
+    let plies : length c.self.inside.plies.items ≡ length c.args.self.now.line.moves = plies_moves c.self.invariant c.self.view_is in
+    let len : c.len.result ≡ length c.self.inside.plies.items = search (rules, arith) in
+    omega (arith, plies, len, c.if-len-ge-LIMIT.false)
+
+pub returns-clause-ready : goal.returns-clause-ready
+returns-clause-ready g c =
+    let plies : length c.self.inside.plies.items ≡ length c.args.self.now.line.moves = plies_moves c.self.invariant c.self.view_is in
+    let len : c.len.result ≡ length c.self.inside.plies.items = search (rules, arith) in
+    let room : c.len.result + 1 ≤ vec_capacity c.reserve.new.self = grind arith in
+    omega (arith, plies, len, room)
