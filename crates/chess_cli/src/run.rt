@@ -102,10 +102,10 @@ fn finish<E: Engine, A: Allocator, W: Sink>(
     if line.is_empty() {
         return Ok(());
     }
-    if let Err(failed) = answer_line(engine, line, page, writer) {
-        return Err(failed);
-    }
-    page.flush(writer)
+    let Err(failed) = answer_line(engine, line, page, writer) else {
+        return page.flush(writer);
+    };
+    Err(failed)
 }
 
 // Reads and answers to the end.
