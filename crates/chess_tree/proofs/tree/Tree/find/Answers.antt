@@ -1,5 +1,5 @@
 use Rattle.std.proofs.Common.{arith, refl, ap, ◌∙◌}
-use Rattle.chess_tree.specs.GameTree.{TreeParts, nodes_here}
+use Rattle.chess_tree.specs.GameTree.{nodes_here}
 use Rattle.chess_tree.proofs.StepLemmas.{found_legal, found_there}
 use Rattle.chess_tree.proofs.KeptLemmas.{few_here}
 use Rattle.chess_tree.proofs.tree.Tree.find.Goals as goal
