@@ -52,7 +52,7 @@ fn count(table: &KeyTable, depth: u32, fen: &[u8]) -> Answer
     ensures { result.bytes ≡ count_text depth (reading fen.now) }
 {
     match chess_fen::read(fen) {
-        Ok(position) => number(leaves(&mut Live::new(position, table), depth)),
+        Ok(position) => number(leaves(&mut Live::new(position, table), depth, 1)),
         Err(found) => fault(found.number(), found.name()),
     }
 }
