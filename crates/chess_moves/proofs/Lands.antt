@@ -247,7 +247,7 @@ king_set p a to k q steps f g set one two has k_is q_is f_is g_is first second =
     ∙ ap (λ b. b || (g && (q == to))) (inserted_if set one k to f first ∙ ap (λ b. b || (f && (k == to))) has)
     ∙ (λ i. (steps || (f_is i && (k_is i == to))) || (g_is i && (q_is i == to)))
     ∙ (λ i. (steps || turned (a == king_home p.side) (may_castle p KingSide) (reached p.side KingSide) to i)
-      || turned (a == king_home p.side) (may_castle p QueenSide) (reached p.side QueenSide) to i)
+    || turned (a == king_home p.side) (may_castle p QueenSide) (reached p.side QueenSide) to i)
     ∙ (λ i. (steps || sym (castles_is p KingSide (move_to a to None)) i) || sym (castles_is p QueenSide (move_to a to None)) i)
   where
     turned : (h m : Bool) (r to : ℕ) → ((h && m) && (r == to)) ≡ ((h && (to == r)) && m)

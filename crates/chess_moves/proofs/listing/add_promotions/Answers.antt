@@ -12,9 +12,11 @@ room_of list old rest all more m first is room =
     omega (arith, ap length is, length-append list rest, length-append old all, ap length first, length-append (m ∷ []) more)
 
 pub push-requires : goal.push-requires
-push-requires c =
-    (omega arith, room_of c.loop-kind.list.items c.args.list.now.items (drop c.loop-kind.kind-index (promotions_between c.args.from c.args.to)) (promotions_between c.args.from c.args.to) _ _
-    (promotions_next c.args.from c.args.to c.loop-kind.kind-index (omega arith)).is c.loop-kind.invariant c.requires.room)
+push-requires c = (
+  omega arith,
+  room_of c.loop-kind.list.items c.args.list.now.items (drop c.loop-kind.kind-index (promotions_between c.args.from c.args.to)) (promotions_between c.args.from c.args.to) _ _
+      (promotions_next c.args.from c.args.to c.loop-kind.kind-index (omega arith)).is c.loop-kind.invariant c.requires.room,
+)
 
 pub loop-kind-preserved : goal.loop-kind-preserved
 loop-kind-preserved c =

@@ -15,4 +15,3 @@ returns-clause-counted c =
     ones-set_of c.self.inside.bits c.self.invariant
     ∙ len_where (set_of c.self.inside.bits) (contains (set_of c.self.inside.bits)) (on_the_board c.self.inside.bits)
     ∙ ap (λ s. count_by (contains s) squares) c.self.view_is
-
