@@ -1,5 +1,5 @@
 -- Where a man's legal moves go, by where he goes and what guards his king; and what the moves there name.
-use Rattle.std.proofs.Common.{if◌then◌else◌, ◌≡◌, ◌≢◌, ℕ, ◌+◌, ◌/◌, ◌<◌, ◌==◌, Bool, true, false, cond, not, ◌&&◌, ◌||◌, List, [], ◌∷◌, filter, Option, Some, None, is_none, is_some, refl, sym, ap, ◌∙◌, arith, inl, inr}
+use Rattle.std.proofs.Common.{if◌then◌else◌, ◌≡◌, ℕ, ◌+◌, ◌/◌, ◌<◌, ◌==◌, Bool, true, false, cond, not, ◌&&◌, ◌||◌, [], filter, Option, Some, None, refl, sym, ap, ◌∙◌, arith, inl, inr}
 use Rattle.std.specs.Ordering.{nat_cmp}
 use Rattle.std.specs.FinSet.{FinSet, contains, insert}
 use Rattle.std.proofs.Math.Bool.{and-true, and-false}
@@ -13,15 +13,14 @@ use Rattle.chess_types.specs.declared.man.Man.{Man}
 use Rattle.chess_types.specs.declared.position.Wing.{Wing}
 use Rattle.chess_types.specs.declared.position.Wing.TheVariants.{KingSide, QueenSide}
 use Rattle.chess_types.specs.Squares.{file_of, rank_of}
-use Rattle.chess_types.specs.Men.{same_colour, opponent, is_pawn, is_king, is_of, is_king_of}
-use Rattle.chess_types.specs.Attack.{in_check, is_attacked}
+use Rattle.chess_types.specs.Men.{is_pawn, is_king}
+use Rattle.chess_types.specs.Attack.{in_check}
 use Rattle.chess_types.specs.MoveParts.{MoveParts}
 use Rattle.chess_types.specs.Position.{State, IsSetup, IsExplained, look, cell_of, king_home}
 use Rattle.chess_types.specs.Pseudo.{is_ahead, is_prey, is_target, last_rank, goes, castles_to, castles, reached, steps_one, steps_two, pawn_takes, is_pseudo}
 use Rattle.chess_types.specs.Legal.{is_legal, moves_between}
 use Rattle.chess_types.specs.After.{after, is_en_passant, is_castling}
-use Rattle.chess_attack.specs.Pins.{permits, keeps_line, round, shaded_on}
-use Rattle.chess_attack.proofs.Amounts.{same_self}
+use Rattle.chess_attack.specs.Pins.{permits, keeps_line}
 use Rattle.chess_attack.proofs.Lifted.{OnlyKing}
 use Rattle.chess_attack.proofs.Reached.{inserted}
 use Rattle.chess_play.proofs.Facts.{Facts, facts}
@@ -29,9 +28,9 @@ use Rattle.chess_play.proofs.Pawns.{target_is}
 use Rattle.chess_play.proofs.CastlingSquares.{castles_is}
 use Rattle.chess_play.specs.Castling.{may_castle}
 use Rattle.chess_moves.specs.Guarded.{is_safe_step}
-use Rattle.chess_moves.specs.Targets.{move_to, may_go, goes_plain, passes, promotes, names_well, promoted, promotions_between, moves_named, lands}
+use Rattle.chess_moves.specs.Targets.{move_to, may_go, goes_plain, passes, promotes, names_well, promoted, moves_named, lands}
 use Rattle.chess_types.specs.Attack.{leaps}
-use Rattle.chess_moves.proofs.Candidates.{pseudo_is, not_pseudo, between_plain, between_promoted}
+use Rattle.chess_moves.proofs.Candidates.{pseudo_is, between_plain, between_promoted}
 use Rattle.chess_moves.proofs.CastleLaw.{castling_is_safe}
 use Rattle.chess_moves.proofs.PinLaws.{safe_move, safe_king_move}
 

@@ -1,6 +1,6 @@
 -- Where a man may go, by sets of squares: what he may enter, and a pawn's steps.
-use Rattle.std.proofs.Common.{◌≡◌, ℕ, ◌+◌, ◌/◌, ◌<◌, ◌==◌, Bool, true, false, not, ◌&&◌, ◌||◌, Option, Some, None, is_none, ltb, refl, sym, ap, subst, ◌∙◌, arith, inl, inr}
-use Rattle.std.proofs.lemmas.Bool.{and_parts, and_from, cases_Bool, true≢false, eqb-true, eq-eqb, ne_eqb, lt-ltb}
+use Rattle.std.proofs.Common.{◌≡◌, ℕ, ◌+◌, ◌/◌, ◌<◌, ◌==◌, Bool, true, false, not, ◌&&◌, ◌||◌, Option, Some, None, is_none, ltb, refl, sym, ap, ◌∙◌, arith, inl, inr}
+use Rattle.std.proofs.lemmas.Bool.{and_parts, and_from, cases_Bool, true≢false, eqb-true, eq-eqb, lt-ltb}
 use Rattle.std.proofs.lemmas.Bool.Decides.{nat_tests}
 use Rattle.std.proofs.Math.Bool.{and-false}
 use Rattle.std.specs.Ordering.{nat_cmp}
@@ -8,12 +8,10 @@ use Rattle.std.specs.FinSet.{FinSet, contains, difference, intersection, contain
 use Rattle.std.proofs.lemmas.Cmp.{nat_cmp_total}
 use Rattle.chess_types.specs.declared.man.Colour.{Colour}
 use Rattle.chess_types.specs.declared.man.Colour.TheVariants.{White, Black}
-use Rattle.chess_types.specs.declared.man.Kind.TheVariants.{Pawn}
 use Rattle.chess_types.specs.declared.man.Man.{Man}
 use Rattle.chess_types.specs.Squares.{rank_of}
 use Rattle.chess_types.specs.KeptSets.{Gathers}
 use Rattle.chess_types.specs.Men.{same_colour, opponent, is_of, is_king, is_king_of}
-use Rattle.chess_types.specs.MoveParts.{MoveParts}
 use Rattle.chess_types.specs.Position.{State, look}
 use Rattle.chess_types.specs.Pseudo.{is_ahead, is_prey, may_enter, pawn_rank, steps_one, steps_two}
 use Rattle.chess_attack.proofs.Runs.{same_test}

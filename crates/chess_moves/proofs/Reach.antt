@@ -1,5 +1,5 @@
 -- The moves from a square, by the set of the squares to which they go; and all moves, by the squares of one side's men.
-use Rattle.std.proofs.Common.{◌≡◌, ℕ, zero, suc, ◌+◌, ◌<◌, List, [], ◌++◌, length, filter, arith, inl, inr, Bool, true, false, refl, sym, ap, ◌∙◌, length-append}
+use Rattle.std.proofs.Common.{◌≡◌, ℕ, zero, suc, ◌+◌, ◌<◌, List, [], ◌++◌, filter, arith, inl, inr, Bool, true, refl, sym, ap, ◌∙◌}
 use Rattle.std.specs.List.{list_all, flat_map, range_with_len}
 use Rattle.std.proofs.lemmas.Bool.{cases_Bool}
 use Rattle.std.specs.FinSet.{FinSet, contains}

@@ -1,5 +1,5 @@
 -- How many legal moves there are, by the sets of the squares to which they go.
-use Rattle.std.proofs.Common.{◌≡◌, ℕ, zero, suc, ◌+◌, ◌*◌, ◌<◌, ◌≤◌, ◌==◌, Bool, true, false, ◌&&◌, List, [], ◌∷◌, ◌++◌, length, filter, ltb, refl, sym, ap, ◌∙◌, arith, inl, inr, length-append}
+use Rattle.std.proofs.Common.{◌≡◌, ℕ, zero, suc, ◌+◌, ◌*◌, ◌<◌, ◌≤◌, ◌==◌, Bool, true, false, not, ◌&&◌, List, [], ◌∷◌, length, filter, refl, sym, ap, ◌∙◌, arith, inl, inr, length-append}
 use Rattle.std.specs.Prelude.{count_by, nat_lt}
 use Rattle.std.specs.List.{flat_map, range_with_len}
 use Rattle.std.specs.Ordering.{nat_cmp}
@@ -9,11 +9,12 @@ use Rattle.std.proofs.lemmas.Cmp.{nat_cmp_total}
 use Rattle.std.proofs.lemmas.Bool.{cases_Bool, lt-ltb}
 use Rattle.std.proofs.lemmas.Bool.Decides.{nat_tests}
 use Rattle.chess_types.specs.declared.man.Kind.{Kind}
-use Rattle.chess_types.specs.Men.{is_of, is_pawn}
+use Rattle.chess_types.specs.Men.{is_pawn}
 use Rattle.chess_types.specs.Position.{State, IsSetup, look, cell_of}
 use Rattle.chess_types.specs.Pseudo.{last_rank}
 use Rattle.chess_types.specs.Squares.{rank_of, squares}
-use Rattle.chess_types.specs.Legal.{is_legal, moves_between, moves_from, legal_moves}
+use Rattle.chess_types.specs.Legal.{is_legal, moves_between, moves_from}
+use Rattle.chess_types.specs.Outcome.{is_without}
 use Rattle.chess_types.specs.MoveParts.{MoveParts}
 use Rattle.chess_attack.proofs.Counting.{bit, total, total-agree, total-zero, sum_by-range}
 use Rattle.chess_attack.proofs.Lifted.{OnlyKing}
@@ -105,3 +106,8 @@ count_split p now x xs ys same is =
 
 pub some_left : (n m k : ℕ) → 0 < n → k ≡ n + m → true ≡ nat_lt 0 k
 some_left n m k h e = grind (arith, nat_tests)
+
+-- a list without a move has none
+pub some_move : (ms : List MoveParts) → is_without ms ≡ not (nat_lt 0 (length ms))
+some_move [] = refl
+some_move (m ∷ ms) = sym (ap not (lt-ltb 0 (length (m ∷ ms)) (omega arith)))

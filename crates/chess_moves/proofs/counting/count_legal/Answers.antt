@@ -1,4 +1,4 @@
-use Rattle.std.proofs.Common.{◌≡◌, ◌+◌, ◌<◌, ◌≤◌, true, List, [], length, filter, sym, ap, subst, ◌∙◌, refl, arith, zero-add}
+use Rattle.std.proofs.Common.{◌≤◌, [], length, filter, ap, subst, ◌∙◌, refl, arith, zero-add}
 use Rattle.std.specs.List.{flat_map}
 use Rattle.chess_types.specs.KeptSets.{Gathers}
 use Rattle.chess_types.specs.Men.{is_of}
@@ -6,7 +6,7 @@ use Rattle.chess_types.specs.Legal.{is_legal, moves_from, legal_moves}
 use Rattle.chess_types.specs.Position.{State, look}
 use Rattle.chess_moves.proofs.Bound.{legal_few}
 use Rattle.chess_moves.proofs.Reach.{own_each, own_listed}
-use Rattle.chess_moves.proofs.SetCounts.{count_split, some_left}
+use Rattle.chess_moves.proofs.SetCounts.{count_split}
 use Rattle.chess_moves.proofs.counting.count_legal.Goals as goal
 
 pub loop-from-init : goal.loop-from-init

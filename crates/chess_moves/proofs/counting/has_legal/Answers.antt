@@ -1,12 +1,9 @@
-use Rattle.std.proofs.Common.{◌≡◌, ◌+◌, ◌<◌, ◌≤◌, true, List, [], length, filter, sym, ap, subst, ◌∙◌, refl, arith}
-use Rattle.std.specs.List.{flat_map}
+use Rattle.std.proofs.Common.{[], length, ap, subst, ◌∙◌, refl}
 use Rattle.chess_types.specs.KeptSets.{Gathers}
 use Rattle.chess_types.specs.Men.{is_of}
-use Rattle.chess_types.specs.Legal.{is_legal, moves_from, legal_moves}
+use Rattle.chess_types.specs.Legal.{legal_moves}
 use Rattle.chess_types.specs.Position.{State, look}
-use Rattle.chess_moves.proofs.Bound.{legal_few}
 use Rattle.chess_moves.proofs.Reach.{own_each, own_listed}
-use Rattle.chess_moves.proofs.SetCounts.{count_split, some_left}
 use Rattle.chess_moves.proofs.counting.has_legal.Goals as goal
 
 pub loop-from-init : goal.loop-from-init

@@ -1,13 +1,13 @@
-use Rattle.std.proofs.Common.{◌≡◌, ℕ, ◌+◌, ◌<◌, ◌≤◌, true, ◌&&◌, List, ◌++◌, length, filter, sym, ap, subst, ◌∙◌, refl, arith}
+use Rattle.std.proofs.Common.{◌≡◌, ◌+◌, ◌≤◌, true, List, ◌++◌, length, sym, ap, subst, ◌∙◌, refl, arith}
 use Rattle.std.proofs.lemmas.Bool.{and_parts}
 use Rattle.std.specs.List.{list_all}
-use Rattle.chess_types.specs.Legal.{is_legal, moves_between}
+use Rattle.chess_types.specs.Legal.{moves_between}
 use Rattle.chess_types.specs.MoveParts.{MoveParts}
 use Rattle.chess_types.specs.Position.{State, look}
 use Rattle.chess_attack.proofs.Lifted.{OnlyKing, only_king}
 use Rattle.chess_moves.specs.Targets.{lands, moves_named}
 use Rattle.chess_moves.proofs.Lands.{lands_all}
-use Rattle.chess_moves.proofs.Pieces.{listed_next, room_next, listed_end, next_piece}
+use Rattle.chess_moves.proofs.Pieces.{listed_next, room_next, next_piece}
 use Rattle.chess_moves.proofs.Reach.{lands_each, lands_listed}
 use Rattle.chess_moves.proofs.listing.add_own.Goals as goal
 

@@ -1,4 +1,4 @@
-use Rattle.std.proofs.Common.{ℕ, ◌≢◌, ◌<◌, List, length, get_or, sym, subst, ◌∙◌}
+use Rattle.std.proofs.Common.{ℕ, ◌≢◌, ◌<◌, List, length, get_or, sym, subst}
 use Rattle.std.specs.List.{Contains}
 use Rattle.chess_types.specs.MoveParts.{MoveParts}
 use Rattle.chess_moves.proofs.LegalLaws.{listed_legal, legal_listed}

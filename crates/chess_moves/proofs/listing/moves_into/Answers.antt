@@ -1,13 +1,11 @@
-use Rattle.std.proofs.Common.{◌≡◌, ℕ, ◌+◌, ◌<◌, ◌≤◌, true, List, length, sym, ap, subst, ◌∙◌, refl, arith}
-use Rattle.std.proofs.lemmas.Bool.{and_parts}
-use Rattle.std.specs.List.{list_all, flat_map}
-use Rattle.std.specs.FinSet.{contains}
+use Rattle.std.proofs.Common.{◌≤◌, length, ap, subst, ◌∙◌, refl, arith}
+use Rattle.std.specs.List.{flat_map}
 use Rattle.chess_types.specs.KeptSets.{Gathers}
-use Rattle.chess_types.specs.Men.{is_of, men_of}
+use Rattle.chess_types.specs.Men.{is_of}
 use Rattle.chess_types.specs.Legal.{moves_from, legal_moves}
 use Rattle.chess_types.specs.Position.{State, look}
 use Rattle.chess_moves.proofs.Bound.{legal_few}
-use Rattle.chess_moves.proofs.Pieces.{listed_next, room_next, listed_end, next_piece}
+use Rattle.chess_moves.proofs.Pieces.{room_next, listed_end, next_piece}
 use Rattle.chess_moves.proofs.Reach.{own_each, own_listed}
 use Rattle.chess_moves.proofs.listing.moves_into.Goals as goal
 

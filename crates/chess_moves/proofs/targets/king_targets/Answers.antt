@@ -1,4 +1,4 @@
-use Rattle.std.proofs.Common.{◌≡◌, ℕ, true, ◌&&◌, ◌||◌, None, sym, ap, subst, ◌∙◌, refl, arith}
+use Rattle.std.proofs.Common.{◌≡◌, true, ◌&&◌, sym, ap, ◌∙◌, refl, arith}
 use Rattle.chess_types.specs.declared.man.Kind.TheVariants.{King}
 use Rattle.chess_types.specs.declared.position.Wing.TheVariants.{KingSide, QueenSide}
 use Rattle.chess_types.specs.Men.{is_king_of}
@@ -7,7 +7,7 @@ use Rattle.chess_types.specs.Pseudo.{reached}
 use Rattle.chess_attack.proofs.Amounts.{same_self}
 use Rattle.chess_attack.proofs.Lifted.{OnlyKing, only_king}
 use Rattle.chess_moves.specs.Guarded.{is_safe_step}
-use Rattle.chess_moves.specs.Targets.{goes_plain, move_to}
+use Rattle.chess_moves.specs.Targets.{goes_plain}
 use Rattle.chess_moves.proofs.Lands.{king_set, king_lands}
 use Rattle.chess_moves.proofs.targets.king_targets.Goals as goal
 

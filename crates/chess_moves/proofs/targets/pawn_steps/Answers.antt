@@ -1,10 +1,10 @@
-use Rattle.std.proofs.Common.{◌≡◌, ℕ, ◌<◌, ◌==◌, Bool, true, false, ◌&&◌, ◌||◌, None, is_none, subst, sym, ap, refl, ◌∙◌, arith}
+use Rattle.std.proofs.Common.{◌≡◌, ℕ, ◌<◌, ◌==◌, Bool, true, false, ◌&&◌, ◌||◌, None, subst, sym, ap, refl, ◌∙◌, arith}
 use Rattle.std.specs.Ordering.{nat_cmp}
 use Rattle.std.specs.FinSet.{FinSet, contains, insert, contains-empty}
 use Rattle.std.proofs.lemmas.Bool.{eq-eqb, ne_eqb}
 use Rattle.chess_types.specs.Squares.{rank_of}
-use Rattle.chess_types.specs.Position.{State, look}
-use Rattle.chess_types.specs.Pseudo.{is_ahead, pawn_rank, steps_one, steps_two}
+use Rattle.chess_types.specs.Position.{State}
+use Rattle.chess_types.specs.Pseudo.{pawn_rank, steps_one, steps_two}
 use Rattle.chess_attack.proofs.Reached.{inserted}
 use Rattle.chess_moves.specs.Targets.{move_to}
 use Rattle.chess_moves.proofs.PawnTargets.{steps_are, steps_nowhere, second_step}

@@ -1,17 +1,14 @@
-use Rattle.std.proofs.Common.{◌≡◌, ℕ, ◌<◌, ◌==◌, true, false, not, ◌&&◌, Option, Some, None, cond, sym, ap, subst, ◌∙◌, refl, arith, inl, inr}
-use Rattle.std.specs.FinSet.{contains, remove, contains-intersection, contains-remove}
+use Rattle.std.proofs.Common.{◌≡◌, ℕ, ◌==◌, true, false, not, ◌&&◌, Some, None, sym, ap, ◌∙◌, refl, arith, inl, inr}
+use Rattle.std.specs.FinSet.{contains, contains-intersection, contains-remove}
 use Rattle.std.proofs.lemmas.Cmp.{nat_cmp_total}
 use Rattle.std.proofs.lemmas.Bool.{cases_Bool, eqb-true, eq-eqb}
 use Rattle.std.proofs.lemmas.Bool.Decides.{nat_tests}
 use Rattle.std.specs.Cmp.{unsigned_tied}
 use Rattle.chess_types.specs.declared.man.Kind.TheVariants.{Pawn}
-use Rattle.chess_types.specs.Attack.{leaps, in_check}
-use Rattle.chess_types.specs.After.{after}
+use Rattle.chess_types.specs.Attack.{leaps}
 use Rattle.chess_types.specs.Position.{State, look}
-use Rattle.chess_types.specs.Pseudo.{is_target}
-use Rattle.chess_attack.specs.Pins.{permits, keeps_line}
 use Rattle.chess_attack.proofs.Lifted.{OnlyKing, only_king}
-use Rattle.chess_moves.specs.Targets.{goes_plain, lands, move_to, passes}
+use Rattle.chess_moves.specs.Targets.{goes_plain, lands, passes}
 use Rattle.chess_moves.proofs.Lands.{inserted_if, pawn_lands, passing_lands, passing_pseudo, no_target, target_apart, target_other}
 use Rattle.chess_moves.proofs.targets.pawn_targets.Goals as goal
 
