@@ -3,7 +3,7 @@ ghost use Rattle.chess_fen.specs.Reading.{reading};
 ghost use Rattle.chess_types.specs.Words.{words, trimmed};
 ghost use Rattle.perft.specs.Answers.{answer, answer_to, behind, count_text, depth_in, fault_text, gaps, is_full};
 
-use crate::leaves::leaves;
+use crate::leaves::{LastPly, leaves};
 use arrayvec::ArrayString;
 use chess_key::KeyTable;
 use chess_play::Live;
@@ -52,21 +52,19 @@ fn fault(number: u8, name: &str) -> Answer
 }
 
 /// How many leaves the position of the FEN has at the depth, or the fault of the FEN. The moves of the last ply are counted, or
-/// made where `counted` is 0.
-fn count(table: &KeyTable, depth: u32, fen: &[u8], counted: u32) -> Answer
+/// made.
+fn count(table: &KeyTable, depth: u32, fen: &[u8], last: LastPly) -> Answer
     requires depth { depth ≤ 16 }
-    requires counted { counted ≤ 1 }
     ensures { result.bytes ≡ count_text depth (reading fen.now) }
 {
     match chess_fen::read(fen) {
-        Ok(position) => number(leaves(&mut Live::new(position, table), depth, counted)),
+        Ok(position) => number(leaves(&mut Live::new(position, table), depth, last)),
         Err(found) => fault(found.number(), found.name()),
     }
 }
 
 /// The answer to a line `DEPTH FEN`: the number of leaves, or the first fault, of the depth or of the FEN.
-fn answer_depth(table: &KeyTable, line: &[u8], counted: u32) -> Answer
-    requires { counted ≤ 1 }
+fn answer_depth(table: &KeyTable, line: &[u8], last: LastPly) -> Answer
     ensures { result.bytes ≡ answer_to (words gaps line.now) (trimmed gaps (behind line.now)) }
 {
     let mut text = Answer::new();
@@ -75,7 +73,7 @@ fn answer_depth(table: &KeyTable, line: &[u8], counted: u32) -> Answer
         return text;
     };
     match read_depth(word) {
-        Some(depth) => count(table, depth, trim(rest, GAPS), counted),
+        Some(depth) => count(table, depth, trim(rest, GAPS), last),
         None => {
             text.push_str("fault Depth");
             text
@@ -99,8 +97,8 @@ pub fn answer(table: &KeyTable, line: &[u8]) -> Answer
         return Answer::new();
     };
     if is_full(word) {
-        answer_depth(table, rest, 0)
+        answer_depth(table, rest, LastPly::Made)
     } else {
-        answer_depth(table, line, 1)
+        answer_depth(table, line, LastPly::Counted)
     }
 }

@@ -5,12 +5,19 @@ use arrayvec::ArrayVec;
 use chess_moves::{count_legal, moves_into};
 use chess_play::Live;
 
-/// How many positions stand so many plies behind this one, each line of legal moves counted by itself: 1 at depth 0. With 1 for
-/// `counted` the moves of the last ply are counted and not made, with 0 they are made. A count over 2^64 - 1 is told as that. The
-/// halfmove clock and the fullmove number plus the depth are at most 1,000,000, so that both have room for each ply's move. Each ply
-/// lies on the stack with its list of moves. All is as before but for the ticks.
-pub fn leaves(live: &mut Live, depth: u32, counted: u32) -> u64
-    requires counted { counted ≤ 1 }
+/// How the moves of the last ply are gone over.
+#[derive(Clone, Copy, Debug, PartialEq, Eq)]
+pub enum LastPly {
+    /// They are counted.
+    Counted,
+    /// Each is made and taken back.
+    Made,
+}
+
+/// How many positions stand so many plies behind this one, each line of legal moves counted by itself: 1 at depth 0. A count over
+/// 2^64 - 1 is told as that. The halfmove clock and the fullmove number plus the depth are at most 1,000,000, so that both have room
+/// for each ply's move. Each ply lies on the stack with its list of moves. All is as before but for the ticks.
+pub fn leaves(live: &mut Live, depth: u32, last: LastPly) -> u64
     requires clock { live.old.position.clock + depth ≤ 1000000 }
     requires number { live.old.position.number + depth ≤ 1000000 }
     ensures value { result ≡ min (leaves_of depth live.old.position) (2 ^ 64 - 1) }
@@ -20,7 +27,7 @@ pub fn leaves(live: &mut Live, depth: u32, counted: u32) -> u64
     if depth == 0 {
         return 1;
     }
-    if depth == counted {
+    if depth == 1 && last == LastPly::Counted {
         return count_legal(live) as u64;
     }
     let mut list = ArrayVec::new();
@@ -28,7 +35,7 @@ pub fn leaves(live: &mut Live, depth: u32, counted: u32) -> u64
     let mut count = 0u64;
     for m in list.as_slice() {
         let made = live.make(*m);
-        count = count.saturating_add(leaves(live, depth - 1, counted));
+        count = count.saturating_add(leaves(live, depth - 1, last));
         live.undo(made);
     }
     count

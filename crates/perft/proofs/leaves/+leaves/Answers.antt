@@ -10,8 +10,8 @@ use Rattle.perft.proofs.leaves.+leaves.Goals as goal
 pub returns-then-depth-eq0-clause-value : goal.returns-then-depth-eq0-clause-value
 returns-then-depth-eq0-clause-value t c = no_ply c.args.live.now.position c.args.depth c.if-depth-eq0.true
 
-pub returns-then-depth-counted-clause-value : goal.returns-then-depth-counted-clause-value
-returns-then-depth-counted-clause-value t c =
+pub returns-then-eq-clause-value : goal.returns-then-eq-clause-value
+returns-then-eq-clause-value t c =
     one_ply c.args.live.now.position c.args.depth c.count_legal.result (legal_moves c.args.live.now.position) (omega arith) c.count_legal.ensures.count refl (omega arith)
 
 pub loop-m-init : goal.loop-m-init
@@ -30,11 +30,8 @@ pub leaves-requires : goal.leaves-requires
 leaves-requires t c = (
   omega arith,
   (
-    omega arith,
-    (
-      clock_room c.args.live.now.position c.loop-m.live.position c.make-made.new.self.position c.m-item.result c.args.depth c.loop-m.invariant.position c.make-made.ensures.position (omega arith) c.requires.clock,
-      number_room c.args.live.now.position c.loop-m.live.position c.make-made.new.self.position c.m-item.result c.args.depth c.loop-m.invariant.position c.make-made.ensures.position (omega arith) c.requires.number,
-    ),
+    clock_room c.args.live.now.position c.loop-m.live.position c.make-made.new.self.position c.m-item.result c.args.depth c.loop-m.invariant.position c.make-made.ensures.position (omega arith) c.requires.clock,
+    number_room c.args.live.now.position c.loop-m.live.position c.make-made.new.self.position c.m-item.result c.args.depth c.loop-m.invariant.position c.make-made.ensures.position (omega arith) c.requires.number,
   ),
 )
 
