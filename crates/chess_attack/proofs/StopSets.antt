@@ -11,7 +11,7 @@ use Rattle.chess_types.specs.declared.man.Man.{Man}
 use Rattle.chess_types.specs.Board.{Look}
 use Rattle.chess_types.specs.Men.{opponent}
 use Rattle.chess_types.specs.Squares.{is_between, line_of}
-use Rattle.chess_types.specs.Attack.{is_attacked, is_clear, slides, slides_to, attacks_as, attacks_for}
+use Rattle.chess_types.specs.Attack.{is_attacked, is_clear, slides_to, attacks_as}
 use Rattle.chess_attack.specs.declared.way.Way.{Way}
 use Rattle.chess_attack.specs.declared.way.Way.TheVariants.{Up, Down}
 use Rattle.chess_attack.specs.Halves.{on_half, opposite}
@@ -21,7 +21,7 @@ use Rattle.chess_attack.proofs.Axes.{BetweenOn, between_parts, half_parts, half_
 use Rattle.chess_attack.proofs.Cuts.{IsSeen, seen_parts}
 use Rattle.chess_attack.proofs.KingSteps.{between_flip, clear_flip}
 use Rattle.chess_attack.proofs.Lifted.{attacked_from}
-use Rattle.chess_attack.proofs.PinHalves.{half_of_between, round_at}
+use Rattle.chess_attack.proofs.PinHalves.{round_at}
 use Rattle.chess_attack.proofs.Runs.{same_test}
 use Rattle.chess_attack.proofs.Scans.{in_order}
 use Rattle.chess_attack.proofs.Slides.{slides_to_on}

@@ -1,5 +1,5 @@
 -- The squares of castling, and what a castling move says (FIDE Laws, article 3.8.2).
-use Rattle.std.proofs.Common.{◌≡◌, ◌≢◌, ℕ, ◌<◌, ◌≤◌, Bool, true, false, ◌&&◌, None, is_none, refl, ap, ◌∙◌, arith, ◌⊎◌, inl, inr}
+use Rattle.std.proofs.Common.{◌≡◌, ◌≢◌, ℕ, ◌<◌, ◌≤◌, Bool, true, false, ◌&&◌, None, is_none, refl, arith, ◌⊎◌, inl, inr}
 use Rattle.std.proofs.lemmas.Bool.{and_parts, eqb-true}
 use Rattle.chess_types.specs.declared.man.Colour.{Colour}
 use Rattle.chess_types.specs.declared.man.Colour.TheVariants.{White, Black}

@@ -15,6 +15,8 @@ mod leaves;
 mod lines;
 #[cfg(test)]
 mod tests;
+#[cfg(test)]
+mod walks;
 
 use lines::answer_lines;
 use std::io;

@@ -1,4 +1,4 @@
-use Rattle.std.proofs.Common.{◌≡◌, Bool, ◌||◌, ltb, ◌∙◌}
+use Rattle.std.proofs.Common.{Bool, ◌||◌, ltb, ◌∙◌}
 use Rattle.chess_types.specs.declared.axis.Axis.{Axis}
 use Rattle.chess_types.specs.declared.axis.Axis.TheVariants.{Rank, File, Rising, Falling}
 use Rattle.chess_types.specs.Board.{man_at}

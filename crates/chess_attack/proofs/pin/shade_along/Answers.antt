@@ -1,5 +1,4 @@
 use Rattle.std.proofs.Common.{◌≡◌, Bool, true, false, ◌&&◌, ◌||◌, ltb, refl, ap, ◌∙◌}
-use Rattle.std.specs.Ordering.{nat_cmp}
 use Rattle.std.specs.FinSet.{contains, contains-union}
 use Rattle.std.proofs.lemmas.Cmp.{nat_cmp_total}
 use Rattle.chess_types.specs.Board.{man_at}

@@ -1,4 +1,4 @@
-use Rattle.std.proofs.Common.{◌||◌, ◌==◌, sym, ap, ◌∙◌, arith}
+use Rattle.std.proofs.Common.{◌||◌, ◌==◌, ap, ◌∙◌, arith}
 use Rattle.std.specs.FinSet.{contains, contains-empty}
 use Rattle.std.specs.Ordering.{nat_cmp}
 use Rattle.chess_attack.proofs.Reached.{inserted}
