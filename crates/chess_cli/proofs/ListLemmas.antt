@@ -12,7 +12,6 @@ use Rattle.chess_cli.specs.Gaps.{gapped, parted_by}
 use Rattle.chess_cli.specs.Answers.{list_text}
 use Rattle.chess_cli.specs.Lists.{behind}
 
-
 gapped-more : {X : Type 0} (gap : List ℕ) (text : X → List ℕ) (xs : List X) (x : X) →
     gapped gap (map text (xs ++ x ∷ [])) ≡ gapped gap (map text xs) ++ (gap ++ text x)
 gapped-more gap text [] x = append-nil (gap ++ text x)

@@ -13,7 +13,7 @@ use Rattle.chess_cli.proofs.RunLemmas.{Runs-more}
 module _ {S R W : Type 0} (step : S → List ℕ → List ℕ → S → Type 0) (beginning : S) (gives : R → List ℕ → R → Type 0) (read_failed : R → Bool) (takes : W → List ℕ → W → Type 0) (write_failed : W → Bool) where
   pub never_over : (ended : R → Type 0) (state : S) (r r' : R) (w w' : W)
       → EndsGood (Runs step) beginning gives read_failed takes write_failed ended state r r' w w'
-          ⊎ EndsOver (Runs step) beginning gives read_failed takes write_failed (λ (s : S). false) state r r' w w'
+      ⊎ EndsOver (Runs step) beginning gives read_failed takes write_failed (λ (s : S). false) state r r' w w'
       → EndsGood (Runs step) beginning gives read_failed takes write_failed ended state r r' w w'
   never_over ended state r r' w w' (inl good) = good
   never_over ended state r r' w w' (inr over) = absurd (true≢false (sym over.is_over))

@@ -159,7 +159,11 @@ fn stops_at_a_failing_write(rt: HostRuntime) -> Result<(), Fail> {
                 Ended::WriteFault
             );
             // The answers to the lines of the first read take more than 100 calls.
-            assert_eq!(rt; writer.taken(), &OUTPUT[..calls * 3], "after {calls} writes");
+            assert_eq!(rt;
+                writer.taken(),
+                &OUTPUT[..calls * 3],
+                "after {calls} writes"
+            );
         }
     }
     Ok(())

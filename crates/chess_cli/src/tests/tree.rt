@@ -1,3 +1,5 @@
+ghost use Rattle.std.specs.Prelude.{◌≡◌, []};
+
 use super::assert_answers;
 use crate::machine::Board;
 use crate::page::Page;
@@ -170,21 +172,25 @@ fn ask_twice<A: Allocator>(
     heap: &LocalHeap,
     other: &LocalHeap,
     line: &[u8],
-    page: &mut Page<A>,
-) -> Result<(), Fail> {
+    first: &mut Page<A>,
+    second: &mut Page<A>,
+) -> Result<(), Fail>
+    requires first { first.old ≡ [] }
+    requires second { second.old ≡ [] }
+{
     let depth = board.tree().depth();
     let children = board.tree().child_count();
     let taken = take_all(heap, other)?;
-    board.tell(line, page);
+    board.tell(line, first);
     drop(taken);
-    if page.text() == b"ok\n".as_slice() {
+    if first.text() == b"ok\n".as_slice() {
         return Ok(());
     }
-    assert_eq!(rt; page.text(), b"refused 5 Memory\n".as_slice());
+    assert_eq!(rt; first.text(), b"refused 5 Memory\n".as_slice());
     assert_eq!(rt; board.tree().depth(), depth);
     assert_eq!(rt; board.tree().child_count(), children);
-    board.tell(line, page);
-    assert_eq!(rt; page.text(), b"refused 5 Memory\nok\n".as_slice());
+    board.tell(line, second);
+    assert_eq!(rt; second.text(), b"ok\n".as_slice());
     Ok(())
 }
 
@@ -201,8 +207,8 @@ fn refuses_each_growth_in_turn(rt: HostRuntime) -> Result<(), Fail> {
         b"play e2e4,nag 1,nag 2,nag 3,nag 4,nag 5,comment good,play e7e5,play g1f3,play b8c6,play f1b5,back,play f1c4,start,end,start,goto 0.0.0.0.1,\
         delete,start,step 0,new,play d2d4,set 4k3/8/8/8/8/8/8/4K2R w K - 0 1,play e1g1";
     for line in lines.split(|byte| *byte == b',') {
-        let mut page = Page::new(rt.alloc())?;
-        ask_twice(&rt, &mut board, &heap, &other, line, &mut page)?;
+        let (mut first, mut second) = (Page::new(rt.alloc())?, Page::new(rt.alloc())?);
+        ask_twice(&rt, &mut board, &heap, &other, line, &mut first, &mut second)?;
     }
     assert_eq!(rt; board.tree().depth(), 1);
     Ok(())

@@ -23,7 +23,7 @@ loop-part-preserved-then-count-lt-PLACES c =
       read = subst (λ (parts : List (List ℕ)). ReadSoFar 20000 parts (take (c.loop-part.count + 1) (slice_set c.loop-part.places c.loop-part.count c.in-Some-number_in.place)) c.loop-part.is_long)
           (sym (map-append (λ (part : Bor (List ℕ)). part.now) c.loop-part.yielded (c.in-Some.part ∷ [])))
           (read_on 20000 before c.in-Some.part.now (take c.loop-part.count c.loop-part.places) _ c.in-Some-number_in.place c.loop-part.is_long c.loop-part.invariant.read (cc)
-              (omega (arith, fits)) (take_more_set c.loop-part.places c.loop-part.count c.in-Some-number_in.place (omega arith)));
+          (omega (arith, fits)) (take_more_set c.loop-part.places c.loop-part.count c.in-Some-number_in.place (omega arith)));
       few = omega arith;
       room = grind (arith, rules);
     }
@@ -36,7 +36,7 @@ loop-part-preserved c =
       read = subst (λ (parts : List (List ℕ)). ReadSoFar 20000 parts (take c.loop-part.count c.loop-part.places) true)
           (sym (map-append (λ (part : Bor (List ℕ)). part.now) c.loop-part.yielded (c.in-Some.part ∷ [])))
           (read_full 20000 before c.in-Some.part.now (take c.loop-part.count c.loop-part.places) c.in-Some-number_in.place c.loop-part.is_long c.loop-part.invariant.read (cc)
-              (omega (arith, fits)));
+          (omega (arith, fits)));
       few = c.loop-part.invariant.few;
       room = c.loop-part.invariant.room;
     }

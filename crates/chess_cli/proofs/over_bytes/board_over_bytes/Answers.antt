@@ -45,8 +45,7 @@ returns-clause-write_fault g c = λ is.
     let last : c.board.new.writer.taken ≡ broken.before.taken ++ [] = broken.last in
     let taken : c.board.new.writer.taken ≡ c.args.writer.now.taken ++ (end.text ++ broken.front) =
     last ∙ append-nil broken.before.taken ∙ then ∙ ap (λ (x : List ℕ). x ++ joined broken.calls.pieces) (before ∙ ap (λ (x : List ℕ). c.args.writer.now.taken ++ x) end.writes.whole)
-    ∙ append_assoc c.args.writer.now.taken end.text (joined broken.calls.pieces) ∙ ap (λ (x : List ℕ). c.args.writer.now.taken ++ (end.text ++ x)) broken.calls.whole in
-    (
+    ∙ append_assoc c.args.writer.now.taken end.text (joined broken.calls.pieces) ∙ ap (λ (x : List ℕ). c.args.writer.now.taken ++ (end.text ++ x)) broken.calls.whole in (
       joined given,
       ended_lines [] (joined end.pieces) ++ end.lines,
       end.text ++ end.more,

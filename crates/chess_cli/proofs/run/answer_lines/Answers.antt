@@ -18,8 +18,8 @@ returns-in-Err-answer_line g c = λ begun holds.
     c.args.writer.now c.make_room.new.writer c.answer_line.new.writer c.make_room.new.self c.answer_line.new.page c.answer_line.new.page
     c.loop-at.rest.now _ c.in-Some.at c.in-Err-answer_line.failed
     (going_room g.E.Engine.step g.E.Engine.cut g.E.Engine.over g.W.Sink.takes g.W.Sink.failed begun c.args.piece.now
-        c.args.engine.now c.loop-at.engine c.loop-at.line c.args.writer.now c.loop-at.writer c.make_room.new.writer c.loop-at.page c.make_room.new.self c.loop-at.rest.now
-        (c.loop-at.invariant.going begun holds) c.in_default-make_room.ensures.flows)
+    c.args.engine.now c.loop-at.engine c.loop-at.line c.args.writer.now c.loop-at.writer c.make_room.new.writer c.loop-at.page c.make_room.new.self c.loop-at.rest.now
+    (c.loop-at.invariant.going begun holds) c.in_default-make_room.ensures.flows)
     c.in-Some.ensures (grind (arith, common_steps)) c.add.ensures c.in-Err-answer_line.ensures.answered
 
 pub returns-then-is_over : goal.returns-then-is_over
@@ -29,8 +29,8 @@ returns-then-is_over g c = λ begun holds.
     c.args.writer.now c.make_room.new.writer c.answer_line.new.writer c.make_room.new.self c.answer_line.new.page
     c.loop-at.rest.now _ c.in-Some.at
     (going_room g.E.Engine.step g.E.Engine.cut g.E.Engine.over g.W.Sink.takes g.W.Sink.failed begun c.args.piece.now
-        c.args.engine.now c.loop-at.engine c.loop-at.line c.args.writer.now c.loop-at.writer c.make_room.new.writer c.loop-at.page c.make_room.new.self c.loop-at.rest.now
-        (c.loop-at.invariant.going begun holds) c.in_default-make_room.ensures.flows)
+    c.args.engine.now c.loop-at.engine c.loop-at.line c.args.writer.now c.loop-at.writer c.make_room.new.writer c.loop-at.page c.make_room.new.self c.loop-at.rest.now
+    (c.loop-at.invariant.going begun holds) c.in_default-make_room.ensures.flows)
     c.in-Some.ensures (grind (arith, common_steps)) c.add.ensures c.in_default-answer_line.ensures.answered (cc)
 
 pub loop-at-preserved : goal.loop-at-preserved
@@ -41,8 +41,8 @@ loop-at-preserved g c = record {
       c.args.writer.now c.make_room.new.writer c.answer_line.new.writer c.make_room.new.self c.answer_line.new.page
       c.loop-at.rest.now _ _ c.in-Some.at
       (going_room g.E.Engine.step g.E.Engine.cut g.E.Engine.over g.W.Sink.takes g.W.Sink.failed begun c.args.piece.now
-          c.args.engine.now c.loop-at.engine c.loop-at.line c.args.writer.now c.loop-at.writer c.make_room.new.writer c.loop-at.page c.make_room.new.self c.loop-at.rest.now
-          (c.loop-at.invariant.going begun holds) c.in_default-make_room.ensures.flows)
+      c.args.engine.now c.loop-at.engine c.loop-at.line c.args.writer.now c.loop-at.writer c.make_room.new.writer c.loop-at.page c.make_room.new.self c.loop-at.rest.now
+      (c.loop-at.invariant.going begun holds) c.in_default-make_room.ensures.flows)
       c.in-Some.ensures (grind (arith, common_steps)) (grind (arith, common_steps))
       c.add.ensures c.in_default-answer_line.ensures.answered c.in_default-answer_line.ensures.restarted;
   awake = cc;
