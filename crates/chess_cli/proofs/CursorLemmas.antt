@@ -1,5 +1,5 @@
 -- Steps and edits of the tree at its cursor, and the line that follows.
-use Rattle.std.proofs.Common.{◌≡◌, ℕ, zero, suc, ◌-◌, ◌<◌, ◌≤◌, Bool, true, false, nat_le, nat_lt, if◌then◌else◌, List, [], ◌∷◌, ◌++◌, length, take, get_or, Option, None, Some, refl, sym, ap, subst, ◌∙◌, inl, inr, arith}
+use Rattle.std.proofs.Common.{◌≡◌, ℕ, zero, suc, ◌+◌, ◌-◌, ◌<◌, ◌≤◌, Bool, true, false, nat_le, nat_lt, if◌then◌else◌, List, [], ◌∷◌, ◌++◌, length, take, get_or, Option, None, Some, refl, sym, ap, subst, ◌∙◌, inl, inr, arith}
 use Rattle.std.specs.Prelude.{◌⊎◌, ⊤, not, Result, Ok, Err, is_ok, OnOk, MatchResult, MatchOption}
 use Rattle.std.proofs.lemmas.Bool.{false≢true}
 use Rattle.std.proofs.lemmas.Bool.Decides.{nat_tests}
@@ -13,9 +13,10 @@ use Rattle.chess_draws.specs.Pushes.{push_answer}
 use Rattle.chess_tree.specs.Forest.{count, moves_held}
 use Rattle.chess_tree.specs.Edits.{parent}
 use Rattle.chess_tree.specs.GameTree.{TreeParts, added, at_path, deleted, find, has, here, line_to, main_line, move_of, nodes_here}
-use Rattle.chess_tree.specs.WellFormed.{IsGameTree}
+use Rattle.chess_tree.specs.Steps.{GoesOn}
 use Rattle.chess_tree.proofs.WalkLemmas.{first_ends, first_keeps, first_smaller, has_place}
-use Rattle.chess_tree.proofs.LineLemmas.{above_shallow, along_few, find_some, legal_child, line_added, line_back, line_deleted, line_length, line_on, move_here, move_there}
+use Rattle.chess_tree.proofs.LineLemmas.{along_few}
+use Rattle.chess_tree.proofs.StepLemmas.{line_parted}
 use Rattle.chess_cli.specs.declared.refusal.Refusal.{Refusal}
 use Rattle.chess_cli.specs.declared.refusal.Refusal.TheVariants.{Illegal, TooLong, Full, Memory}
 use Rattle.chess_cli.specs.Answers.{Effect, Does, Refuses, Says, Ends, EndsSurely, IsDone, if_there, lead, move_effect, off_root}
@@ -82,101 +83,68 @@ module _ (l : Line) (m : MoveParts) (r : Result (Unit {0}) LineFault) (P : Type 
 abbrev of_new : Bool → Bool → Bool → TreeParts → Effect
 of_new legal long full new = if legal then (if long then Refuses TooLong else (if full then Refuses Full else Does new)) else Refuses Illegal
 
-new_effect : (t : TreeParts) (m : MoveParts) (l : Line) (legal long : Bool) → IsGameTree t → l ≡ line_to t → find m (nodes_here t) ≡ None → is_legal (last l) m ≡ legal → nat_le 20000 (length l.moves) ≡ long
+new_effect : (t : TreeParts) (m : MoveParts) (l : Line) (legal long : Bool) → length t.path ≡ length (line_to t).moves → l ≡ line_to t → find m (nodes_here t) ≡ None → is_legal (last l) m ≡ legal → nat_le 20000 (length l.moves) ≡ long
     → move_effect t m ≡ of_new legal long (nat_le 65536 (moves_held t.tree.below)) (added m t)
-new_effect t m l legal long game e none is_legal_e long_e =
+new_effect t m l legal long deep e none is_legal_e long_e =
     let by_find = ap (λ (o : Option ℕ). if is_legal (last (line_to t)) m then lead t m o else Refuses Illegal) none in
     let legal_t : is_legal (last (line_to t)) m ≡ legal = ap (λ (x : Line). is_legal (last x) m) (sym e) ∙ is_legal_e in
-    let lengths : length t.path ≡ length l.moves = sym (line_length t game) ∙ ap (λ (x : Line). length x.moves) (sym e) in
+    let lengths : length t.path ≡ length l.moves = deep ∙ ap (λ (x : Line). length x.moves) (sym e) in
     let long_t : nat_le 20000 (length t.path) ≡ long = ap (nat_le 20000) lengths ∙ long_e in
     by_find
     ∙ ap (λ (b : Bool). of_new b (nat_le 20000 (length t.path)) (nat_le 65536 (moves_held t.tree.below)) (added m t)) legal_t
     ∙ ap (λ (b : Bool). of_new legal b (nat_le 65536 (moves_held t.tree.below)) (added m t)) long_t
 
-pub new_shallow : (t : TreeParts) (l : Line) → IsGameTree t → l ≡ line_to t → nat_le 20000 (length l.moves) ≡ false → length t.path < 20000
-new_shallow t l game e short =
-    let lengths = line_length t game in
+pub new_shallow : (t : TreeParts) (l : Line) → length t.path ≡ length (line_to t).moves → l ≡ line_to t → nat_le 20000 (length l.moves) ≡ false → length t.path < 20000
+new_shallow t l deep e short =
     let same = ap (λ (x : Line). length x.moves) e in
     let few : length l.moves < 20000 = grind (arith, nat_tests) in
-    omega (arith, few, same, lengths)
+    omega (arith, few, same, deep)
 
-pub new_done : (t new : TreeParts) (m : MoveParts) (l : Line) (r : Result (Unit {0}) Refusal) → IsGameTree t → l ≡ line_to t → find m (nodes_here t) ≡ None
+pub new_done : (t new : TreeParts) (m : MoveParts) (l : Line) (r : Result (Unit {0}) Refusal) → length t.path ≡ length (line_to t).moves → l ≡ line_to t → find m (nodes_here t) ≡ None
     → (is_legal (last l) m ≡ true) × (nat_le 20000 (length l.moves) ≡ false)
     → Ends (if nat_le 65536 (moves_held t.tree.below) then Refuses Full else Does (added m t)) t r new → Ends (move_effect t m) t r new
-new_done t new m l r game e none facts ends =
-    subst (λ (x : Effect). Ends x t r new) (sym (new_effect t m l true false game e none facts.0 facts.1)) ends
+new_done t new m l r deep e none facts ends =
+    subst (λ (x : Effect). Ends x t r new) (sym (new_effect t m l true false deep e none facts.0 facts.1)) ends
 
-pub new_long : (t : TreeParts) (m : MoveParts) (l : Line) → IsGameTree t → l ≡ line_to t → find m (nodes_here t) ≡ None
+pub new_long : (t : TreeParts) (m : MoveParts) (l : Line) → length t.path ≡ length (line_to t).moves → l ≡ line_to t → find m (nodes_here t) ≡ None
     → (is_legal (last l) m ≡ true) × (nat_le 20000 (length l.moves) ≡ true) → move_effect t m ≡ Refuses TooLong
-new_long t m l game e none facts = new_effect t m l true true game e none facts.0 facts.1
+new_long t m l deep e none facts = new_effect t m l true true deep e none facts.0 facts.1
 
 no_room : (full : Bool) (effect : Effect) (refusal : Refusal) (new : TreeParts) → effect ≡ (if full then Refuses Full else Does new) → refusal ≡ (if full then Full else Memory)
     → (effect ≡ Refuses refusal) ⊎ (IsDone effect × (refusal ≡ Memory))
 no_room true effect refusal new e is = inl (e ∙ ap (λ (x : Refusal). Refuses x) (sym is))
 no_room false effect refusal new e is = inr (subst IsDone (sym e) tt, is)
 
-pub new_no_room : (t : TreeParts) (m : MoveParts) (l : Line) (refusal : Refusal) → IsGameTree t → l ≡ line_to t → find m (nodes_here t) ≡ None
+pub new_no_room : (t : TreeParts) (m : MoveParts) (l : Line) (refusal : Refusal) → length t.path ≡ length (line_to t).moves → l ≡ line_to t → find m (nodes_here t) ≡ None
     → (is_legal (last l) m ≡ true) × (nat_le 20000 (length l.moves) ≡ false) → refusal ≡ (if nat_le 65536 (moves_held t.tree.below) then Full else Memory)
     → (move_effect t m ≡ Refuses refusal) ⊎ (IsDone (move_effect t m) × (refusal ≡ Memory))
-new_no_room t m l refusal game e none facts is =
-    no_room (nat_le 65536 (moves_held t.tree.below)) (move_effect t m) refusal (added m t) (new_effect t m l true false game e none facts.0 facts.1) is
-
-pub line_of_added : (t new : TreeParts) (m : MoveParts) (l : Line) → IsGameTree t → new ≡ added m t → l ≡ extended (line_to t) m → l ≡ line_to new
-line_of_added t new m l game e is = is ∙ sym (line_added m t game) ∙ ap line_to (sym e)
+new_no_room t m l refusal deep e none facts is =
+    no_room (nat_le 65536 (moves_held t.tree.below)) (move_effect t m) refusal (added m t) (new_effect t m l true false deep e none facts.0 facts.1) is
 
 -- ---- to a child
 
-pub found_effect : (t : TreeParts) (m : MoveParts) (place : ℕ) → IsGameTree t → Some place ≡ find m (nodes_here t)
+pub found_effect : (t : TreeParts) (m : MoveParts) (place : ℕ) → Some place ≡ find m (nodes_here t) → place < count (nodes_here t) → is_legal (last (line_to t)) m ≡ true
     → move_effect t m ≡ if_there (nat_lt place (count (nodes_here t))) (at_path (t.path ++ place ∷ []) t)
-found_effect t m place game e =
-    let some = find_some m (nodes_here t) place (sym e) in
-    let there = some.0 in
+found_effect t m place e there legal =
     let test : nat_lt place (count (nodes_here t)) ≡ true = grind (arith, nat_tests) in
     ap (λ (o : Option ℕ). if is_legal (last (line_to t)) m then lead t m o else Refuses Illegal) (sym e)
-    ∙ ap (λ (b : Bool). if b then lead t m (Some place) else Refuses Illegal) (legal_child t place m game some.1)
+    ∙ ap (λ (b : Bool). if b then lead t m (Some place) else Refuses Illegal) legal
     ∙ ap (λ (b : Bool). if_there b (at_path (t.path ++ place ∷ []) t)) (sym test)
-
--- the move that leads to it
-pub move_down : (t new : TreeParts) (place : ℕ) (o : Option MoveParts) → IsGameTree t → place < count (nodes_here t) → new ≡ at_path (t.path ++ place ∷ []) t → o ≡ (here new).move → move_of place (nodes_here t) ≡ o
-move_down t new place o game there e is = sym (move_here t place game there) ∙ ap (λ (x : TreeParts). (here x).move) (sym e) ∙ sym is
-
-pub some_move : (t new : TreeParts) (place : ℕ) (o : Option MoveParts) → IsGameTree t → place < count (nodes_here t) → new ≡ at_path (t.path ++ place ∷ []) t → o ≡ (here new).move → o ≡ None → ⊥
-some_move t new place o game there e is none = move_there place (nodes_here t) there (move_down t new place o game there e is ∙ none)
-
--- is made on the line
-refused_not : (legal long : Bool) → legal ≡ true → long ≡ false → number (answered legal long) ≡ 0
-refused_not false long e f = absurd (false≢true e)
-refused_not true true e f = absurd (false≢true (sym f))
-refused_not true false e f = refl
-
-pub down_pushed : (t : TreeParts) (l : Line) (place room : ℕ) (m : MoveParts) (r : Result (Unit {0}) LineFault) → IsGameTree t → l ≡ line_to t → place < count (nodes_here t) → move_of place (nodes_here t) ≡ Some m
-    → length l.moves < room → (r ≡ push_answer l m) ⊎ ((push_answer l m ≡ Ok tt) × (r ≡ Err line.Memory) × (room ≤ length l.moves)) → number r ≡ 0
-down_pushed t l place room m r game e there move roomy (inr x) = absurd (omega (arith, roomy, x.2))
-down_pushed t l place room m r game e there move roomy (inl x) =
-    let legal : is_legal (last l) m ≡ true = ap (λ (y : Line). is_legal (last y) m) e ∙ legal_child t place m game move in
-    let some : 0 < count (nodes_here t) = omega (arith, there) in
-    let few : length l.moves < 20000 = omega (arith, above_shallow t game some, line_length t game, ap (λ (y : Line). length y.moves) e) in
-    let short : nat_le 20000 (length l.moves) ≡ false = grind (arith, nat_tests) in
-    ap number x ∙ refused_not (is_legal (last l) m) (nat_le 20000 (length l.moves)) legal short
-
-pub line_down : (t new : TreeParts) (l after : Line) (place : ℕ) (m : MoveParts) → l ≡ line_to t → move_of place (nodes_here t) ≡ Some m → new ≡ at_path (t.path ++ place ∷ []) t → after ≡ extended l m → after ≡ line_to new
-line_down t new l after place m e move is pushed = pushed ∙ ap (λ (y : Line). extended y m) e ∙ sym (line_on t place m move) ∙ ap line_to (sym is)
 
 -- ---- to the parent
 
-popped : (t : TreeParts) (l after : Line) (o : Option MoveParts) → IsGameTree t → 0 < length t.path → l ≡ line_to t
-    → MatchOption o ((l.moves ≡ []) × (after ≡ l)) (λ m. l ≡ extended after m) → after ≡ line_to (at_path (parent t.path) t)
-popped t l after None game some e pop = absurd (omega (arith, some, line_length t game, ap (λ (y : Line). length y.moves) e, ap length pop.0))
-popped t l after (Some m) game some e pop = line_back t after m game some (sym e ∙ pop)
+popped : (above below : TreeParts) (l after : Line) (o : Option MoveParts) → GoesOn above below → l ≡ line_to below
+    → MatchOption o ((l.moves ≡ []) × (after ≡ l)) (λ m. l ≡ extended after m) → after ≡ line_to above
+popped above below l after None on e pop =
+    let longer : length l.moves ≡ length (line_to above).moves + 1 = ap (λ (y : Line). length y.moves) (e ∙ on.line) ∙ length-append (line_to above).moves (on.move ∷ []) in
+    absurd (omega (arith, longer, ap length pop.0))
+popped above below l after (Some m) on e pop = line_parted after (line_to above) m on.move (sym pop ∙ e ∙ on.line)
 
-pub line_up : {E : Type 0} (r : Result (Unit {0}) E) (Q : E → Type 0) (t new next : TreeParts) (l after : Line) (o : Option MoveParts) → IsGameTree t → is_ok r ≡ true → OnOk r (new ≡ next)
-    → MatchResult r (λ _. 0 < length t.path) Q → l ≡ line_to t → MatchOption o ((l.moves ≡ []) × (after ≡ l)) (λ m. l ≡ extended after m) → line_to next ≡ line_to (at_path (parent t.path) t) → after ≡ line_to new
-line_up (Ok x) Q t new next l after o game is ok some e pop same = popped t l after o game some e pop ∙ sym same ∙ ap line_to (sym ok)
-line_up (Err x) Q t new next l after o game is ok some e pop same = absurd (false≢true is)
-
-pub line_cut : {E : Type 0} (r : Result (Unit {0}) E) (Q : E → Type 0) (t new : TreeParts) (l after : Line) (o : Option MoveParts) → IsGameTree t → is_ok r ≡ true → OnOk r (new ≡ deleted t)
-    → MatchResult r (λ _. 0 < length t.path) Q → l ≡ line_to t → MatchOption o ((l.moves ≡ []) × (after ≡ l)) (λ m. l ≡ extended after m) → after ≡ line_to new
-line_cut r Q t new l after o game is ok some e pop = line_up r Q t new (deleted t) l after o game is ok some e pop (line_deleted t game)
+-- the last move taken away, after a step up
+pub line_up : {E : Type 0} (r : Result (Unit {0}) E) (above below : TreeParts) (l after : Line) (o : Option MoveParts) → is_ok r ≡ true → OnOk r (GoesOn above below)
+    → l ≡ line_to below → MatchOption o ((l.moves ≡ []) × (after ≡ l)) (λ m. l ≡ extended after m) → after ≡ line_to above
+line_up (Ok x) above below l after o is on e pop = popped above below l after o on e pop
+line_up (Err x) above below l after o is on e pop = absurd (false≢true is)
 
 -- ---- back so far
 

@@ -1,7 +1,7 @@
 //! Moves of the cursor and edits of the tree at it, with the line from the root following: each a function of both.
 //!
 //! The line follows since the tree is a game tree, as `Tree::position` tells: each path leads to a node, and each move is legal.
-ghost use Rattle.std.specs.Prelude.{◌≡◌, ◌<◌, ◌≤◌, ◌++◌, ◌∷◌, [], length, nat_le, nat_lt, take, true, None, if◌then◌else◌};
+ghost use Rattle.std.specs.Prelude.{◌≡◌, ◌<◌, ◌≤◌, ◌++◌, ◌∷◌, [], length, nat_le, nat_lt, take, true, None, OnOk, if◌then◌else◌};
 ghost use Rattle.chess_types.specs.Legal.{is_legal};
 ghost use Rattle.chess_types.specs.Lines.{extended, last};
 ghost use Rattle.chess_tree.specs.Forest.{count, moves_held};
@@ -27,29 +27,18 @@ fn without_room<A: Allocator>(tree: &Tree<'_, A>) -> Refusal
     }
 }
 
-// Adds the move that the line has just made, and takes it back where the tree can't have it.
-fn add_child<A: Allocator, B: Allocator>(
-    tree: &mut Tree<'_, A>,
-    line: &mut Line<'_, B>,
-    m: Move,
-) -> Result<(), Refusal>
-    requires line { line.old.line ≡ extended (line_to tree.old) m }
+// Adds a legal move to the tree alone.
+fn grow<A: Allocator>(tree: &mut Tree<'_, A>, m: Move) -> Result<(), Refusal>
     requires legal { is_legal (last (line_to tree.old)) m ≡ true }
     requires deep { length tree.old.path < 20000 }
+    requires few { moves_held tree.old.tree.below ≤ 65536 }
     ensures ends { Ends (if nat_le 65536 (moves_held tree.old.tree.below) then Refuses Full else Does (added m tree.old)) tree.old result tree.new }
-    ensures line { line.new.line ≡ line_to tree.new }
+    ensures line { OnOk result (line_to tree.new ≡ extended (line_to tree.old) m) }
 {
-    let _start = tree.position();
-    match tree.add(m) {
-        Ok(()) => Ok(()),
-        Err(fault) => {
-            let _made = line.pop();
-            Err(of_tree(fault))
-        }
-    }
+    tree.add(m).map_err(of_tree)
 }
 
-// Makes a move that no child has.
+// Makes a move that no child has: the line grows before the tree does, and takes the move when the tree has it.
 fn add<A: Allocator, B: Allocator>(
     tree: &mut Tree<'_, A>,
     line: &mut Line<'_, B>,
@@ -61,12 +50,17 @@ fn add<A: Allocator, B: Allocator>(
     ensures line { line.new.line ≡ line_to tree.new }
 {
     let _start = tree.position();
-    match line.push(m) {
-        Ok(()) => add_child(tree, line, m),
-        Err(LineFault::Illegal) => Err(Refusal::Illegal),
-        Err(LineFault::TooLong) => Err(Refusal::TooLong),
-        Err(LineFault::Memory) => Err(without_room(tree)),
+    match line.prepare(m) {
+        Ok(()) => {}
+        Err(LineFault::Illegal) => return Err(Refusal::Illegal),
+        Err(LineFault::TooLong) => return Err(Refusal::TooLong),
+        Err(LineFault::Memory) => return Err(without_room(tree)),
     }
+    if let Err(refusal) = grow(tree, m) {
+        return Err(refusal);
+    }
+    line.push_prepared(m);
+    Ok(())
 }
 
 /// Makes the move: to the first child that has it, else to a new one.
@@ -79,7 +73,6 @@ pub fn play<A: Allocator, B: Allocator>(
     ensures ends { Ends (move_effect tree.old m) tree.old result tree.new }
     ensures line { line.new.line ≡ line_to tree.new }
 {
-    let _start = tree.position();
     match tree.find(m) {
         Some(place) => step(tree, line, place),
         None => add(tree, line, m),
@@ -95,16 +88,13 @@ fn step_down<A: Allocator, B: Allocator>(tree: &mut Tree<'_, A>, line: &mut Line
     ensures line { line.new.line ≡ line_to tree.new }
     ensures room { line.old.room ≤ line.new.room }
 {
-    let _start = tree.position();
     let Ok(()) = tree.step(place) else {
         unreachable!();
     };
     let Some(m) = tree.move_at() else {
         unreachable!();
     };
-    let Ok(()) = line.push(m) else {
-        unreachable!();
-    };
+    line.push_prepared(m);
 }
 
 /// Steps to the child at that place, from 0.
@@ -137,7 +127,6 @@ pub fn back<A: Allocator, B: Allocator>(
     ensures line { line.new.line ≡ line_to tree.new }
     ensures room { line.new.room ≡ line.old.room }
 {
-    let _start = tree.position();
     tree.back().map_err(of_tree)?;
     let _left = line.pop();
     Ok(())
@@ -166,7 +155,7 @@ fn climb<A: Allocator, B: Allocator>(tree: &mut Tree<'_, A>, line: &mut Line<'_,
     }
 }
 
-/// Goes along the main continuations to a node without nodes_here; where the line finds no memory on the way, back to where it was.
+/// Goes along the main continuations to a node without children; where the line finds no memory on the way, back to where it was.
 pub fn end<A: Allocator, B: Allocator>(
     tree: &mut Tree<'_, A>,
     line: &mut Line<'_, B>,
@@ -220,7 +209,6 @@ pub fn delete<A: Allocator, B: Allocator>(
     ensures ends { EndsSurely (off_root tree.old.path (deleted tree.old)) tree.old result tree.new }
     ensures line { line.new.line ≡ line_to tree.new }
 {
-    let _start = tree.position();
     tree.delete().map_err(of_tree)?;
     let _gone = line.pop();
     Ok(())

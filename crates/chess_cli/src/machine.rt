@@ -33,6 +33,7 @@ use super::unfinished::{Reading, Unfinished};
 use chess_attack::checkers;
 use chess_draws::Line;
 use chess_key::KeyTable;
+use chess_play::Live;
 use chess_tree::{Tree, TreeFault};
 use chess_types::{Colour, Failed, Position, Sink};
 use itoa::Buffer;
@@ -98,6 +99,14 @@ impl<'k, A: Allocator> Board<'k, A> {
         ensures { result.now ≡ self.now }
     {
         &self.tree
+    }
+
+    /// The position at the cursor with the numbers kept for it. The move that led to it, made or taken back, changed at most 216 counts.
+    pub fn live(&self) -> &Live<'k>
+        ensures position { result.now.position ≡ last (line_to self.now) }
+        ensures at_most { result.now.ticks ≤ 216 }
+    {
+        self.line.live()
     }
 
     /// Answers a line that was read whole, behind what stands on the page; of the answer to `path` there is nothing yet.
@@ -183,7 +192,7 @@ impl<'k, A: Allocator> Board<'k, A> {
         requires room { length page.old + 2600 ≤ 65536 }
         ensures { page.new ≡ page.old ++ (counts_of (last (line_to self.now)) colour ++ 10 ∷ []) }
     {
-        page.put_line(counts_text(self.line.live(), colour).as_str());
+        page.put_line(counts_text(self.live(), colour).as_str());
     }
 
     // The evaluation.
@@ -191,7 +200,7 @@ impl<'k, A: Allocator> Board<'k, A> {
         requires room { length page.old + 2600 ≤ 65536 }
         ensures { page.new ≡ page.old ++ (signed_decimal (evaluation (look (last (line_to self.now)))) ++ 10 ∷ []) }
     {
-        page.put_line(eval_text(self.line.live()).as_str());
+        page.put_line(eval_text(self.live()).as_str());
     }
 
     // The FEN.
@@ -218,7 +227,7 @@ impl<'k, A: Allocator> Board<'k, A> {
         requires room { length page.old + 2600 ≤ 65536 }
         ensures { page.new ≡ page.old ++ (checks_of (last (line_to self.now)) ++ 10 ∷ []) }
     {
-        let setup = self.line.live().position();
+        let setup = self.live().position();
         page.put_line(squares_text(&checkers(&setup.placement, setup.side)).as_str());
     }
 

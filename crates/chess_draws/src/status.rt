@@ -2,12 +2,12 @@ ghost use Rattle.std.specs.Prelude.{◌≡◌, ◌<◌};
 ghost use Rattle.chess_types.specs.Outcome.{status_at, is_play, claims_at};
 
 use crate::dead::is_dead;
-use chess_moves::{in_check, moves};
+use chess_moves::{has_legal, in_check};
 use chess_play::Live;
 use chess_types::{Claims, Status};
 
 /// How a line stands that has come to its last position so often (FIDE Laws 5.1.1, 5.2.1, 5.2.2, 9.6). The position is as before.
-#[tactic(auto, unfolding(chess_types::specs::Outcome::status_at))]
+#[tactic(auto, using(chess_moves::proofs::SetCounts::some_move), unfolding(chess_types::specs::Outcome::status_at))]
 pub(crate) fn status_at(live: &mut Live, count: u32) -> Status
     requires clock { live.old.position.clock < 1000000 }
     requires number { live.old.position.number < 1000000 }
@@ -15,7 +15,7 @@ pub(crate) fn status_at(live: &mut Live, count: u32) -> Status
     ensures position { live.new.position ≡ live.old.position }
     ensures words { live.new.words ≡ live.old.words }
 {
-    if moves(live).is_empty() {
+    if !has_legal(live) {
         if in_check(live) {
             Status::Mate
         } else {

@@ -1,92 +1,226 @@
-ghost use Rattle.std.specs.Prelude.{◌≡◌, ◌==◌, ◌<◌, ℕ, true, false, IsTrue, IfSome, IfNone};
+ghost use Rattle.std.specs.Prelude.{◌≡◌, ◌<◌, ◌&&◌, ◌||◌, ◌==◌, ℕ, None, true, false, is_none, IfSome, IfNone};
 ghost use Rattle.std.specs.FinSet.{contains};
-ghost use Rattle.chess_types.specs.Position.{look, cell_of};
-ghost use Rattle.chess_attack.specs.Targets.{Adds};
-ghost use Rattle.chess_moves.specs.Targets.{is_forward, may_go, may_reach, names_well, promotes};
+ghost use Rattle.chess_types.specs.declared.man.Kind.TheVariants.{Pawn, King};
+ghost use Rattle.chess_types.specs.Board.{man_at};
+ghost use Rattle.chess_types.specs.Men.{is_pawn};
+ghost use Rattle.chess_types.specs.Attack.{leaps as leaps_of};
+ghost use Rattle.chess_types.specs.Position.{look, cell_of, king_home};
+ghost use Rattle.chess_types.specs.Pseudo.{goes, is_ahead, is_prey, steps_one, steps_two};
+ghost use Rattle.chess_play.specs.Castling.{may_castle};
+ghost use Rattle.chess_moves.specs.Guarded.{IsGuard, is_safe_step};
+ghost use Rattle.chess_moves.specs.Targets.{goes_plain, lands, move_to, promotes};
 
-use chess_attack::attacks;
-use chess_play::{Live, last_rank, may_enter};
-use chess_types::{Colour, Kind, Man, Move, Setup, Square, SquareSet, Wing};
+use crate::guard::{Guard, guarded};
+use crate::legal::{is_king, is_safe_tried, king_is_safe};
+use chess_attack::{attacks, leap_squares, leaps};
+use chess_play::{Live, last_rank, pawn_rank};
+use chess_types::{Colour, Kind, Man, Move, Placement, Setup, Square, SquareSet, Wing};
 
-/// The square whose number is so much forward: 8 for one square ahead, 16 for two; `None` off the board.
-fn forward(side: Colour, from: Square, by: u8) -> Option<Square>
-    requires { by < 64 }
-    ensures there { IfSome result (λ to. (s : ℕ) → s < 64 → is_forward side by from s ≡ (to == s)) }
-    ensures nowhere { IfNone result ((s : ℕ) → s < 64 → is_forward side by from s ≡ false) }
+/// Whether a pawn is meant.
+#[inline(always)]
+pub(crate) fn is_pawn(kind: Kind) -> bool
+    ensures { result ≡ is_pawn kind }
+{
+    kind == Kind::Pawn
+}
+
+/// Whether no man stands there.
+#[inline(always)]
+fn is_empty(placement: &Placement, at: Square) -> bool
+    ensures { result ≡ is_none (man_at placement.now at) }
+{
+    placement.get(at).is_none()
+}
+
+/// The square that lies ahead; `None` on the last rank.
+#[inline(always)]
+fn ahead(side: Colour, from: Square) -> Option<Square>
+    ensures found { IfSome result (λ to. is_ahead side from to ≡ true) }
+    ensures none { IfNone result ((s : ℕ) → s < 64 → is_ahead side from s ≡ false) }
 {
     let number = from.index() as u8;
     match side {
-        Colour::White => Square::new(number + by),
-        Colour::Black => Square::new(number.checked_sub(by)?),
+        Colour::White => Square::new(number + 8),
+        Colour::Black => Square::new(number.checked_sub(8)?),
     }
 }
 
-/// Adds that square, where the board has it.
-fn add_forward(reach: &mut SquareSet, side: Colour, from: Square, by: u8)
-    requires { by < 64 }
-    ensures { Adds reach.old reach.new (is_forward side by from) }
-{
-    if let Some(to) = forward(side, from, by) {
-        reach.insert(to);
-    }
-}
-
-/// The squares to which a man of the side to move might go: those that it attacks; for a pawn the two ahead, for a king the two
-/// that castling reaches.
-#[tactic(auto, unfolding(crate::specs::Targets::may_reach))]
-pub(crate) fn reach(setup: &Setup, kind: Kind, from: Square) -> SquareSet
-    ensures { (to : ℕ) → to < 64 → contains result to ≡ may_reach setup.now kind from to }
+/// The squares to which a pawn steps: the one ahead, and from where it began the one after it, as long as they are empty (FIDE
+/// Laws 3.7.1, 3.7.2).
+#[inline(always)]
+fn pawn_steps(setup: &Setup, from: Square) -> SquareSet
+    ensures { (to : ℕ) → to < 64 → contains result to ≡ (steps_one setup.now (move_to from to None) || steps_two setup.now (move_to from to None)) }
 {
     let side = setup.side;
-    let mut reach = attacks(&setup.placement, Man { colour: side, kind }, from);
-    match kind {
-        Kind::Pawn => {
-            add_forward(&mut reach, side, from, 8);
-            add_forward(&mut reach, side, from, 16);
-        }
-        Kind::King => {
-            reach.insert(Wing::KingSide.reached(side));
-            reach.insert(Wing::QueenSide.reached(side));
-        }
-        Kind::Knight | Kind::Bishop | Kind::Rook | Kind::Queen => {}
+    let mut steps = SquareSet::empty();
+    let Some(one) = ahead(side, from) else {
+        return steps;
+    };
+    if !is_empty(&setup.placement, one) {
+        return steps;
     }
-    reach
+    steps.insert(one);
+    if from.rank() != pawn_rank(side) {
+        return steps;
+    }
+    let Some(two) = ahead(side, one) else {
+        return steps;
+    };
+    if !is_empty(&setup.placement, two) {
+        return steps;
+    }
+    steps.insert(two);
+    steps
+}
+
+/// The squares on which a pawn captures a man (FIDE Laws 3.7.3).
+#[inline(always)]
+fn pawn_captures(setup: &Setup, from: Square) -> SquareSet
+    ensures { (to : ℕ) → to < 64 → contains result to ≡ (leaps_of setup.now.side Pawn from to && is_prey setup.now.side (look setup.now to)) }
+{
+    let side = setup.side;
+    let other = side.opponent();
+    let aside = leap_squares(side, Kind::Pawn, from);
+    let taken = aside.intersection(setup.placement.of(other));
+    taken.difference(setup.placement.king(other))
+}
+
+/// The squares that a man of the side to move attacks and may enter (FIDE Laws 3.1 to 3.6, 3.8.1).
+#[inline(always)]
+fn man_targets(setup: &Setup, kind: Kind, from: Square) -> SquareSet
+    ensures { (to : ℕ) → to < 64 → contains result to ≡ goes setup.now kind (move_to from to None) }
+{
+    let side = setup.side;
+    let other = side.opponent();
+    let all = attacks(&setup.placement, Man { colour: side, kind }, from);
+    let free = all.difference(setup.placement.of(side));
+    free.difference(setup.placement.king(other))
+}
+
+/// The squares to which a man of the side to move goes, en passant and castling aside (FIDE Laws 3.1 to 3.8).
+#[inline(always)]
+fn plain_targets(setup: &Setup, kind: Kind, from: Square) -> SquareSet
+    ensures { (to : ℕ) → to < 64 → contains result to ≡ goes_plain setup.now kind from to }
+{
+    if is_pawn(kind) {
+        let steps = pawn_steps(setup, from);
+        let captures = pawn_captures(setup, from);
+        steps.union(captures)
+    } else {
+        man_targets(setup, kind, from)
+    }
 }
 
 /// Whether a move of the kind there is a pawn's to its last rank (FIDE Laws 3.7.3.3).
+#[inline(always)]
 pub(crate) fn promotes(side: Colour, kind: Kind, to: Square) -> bool
     ensures { result ≡ promotes side kind to }
 {
     kind == Kind::Pawn && to.rank() == last_rank(side)
 }
 
-/// A move between the squares that names what it may: a queen where it promotes, else nothing.
-fn plain_move(side: Colour, kind: Kind, from: Square, to: Square) -> Move
-    ensures from { result.from ≡ from }
-    ensures to { result.to ≡ to }
-    ensures named { names_well side kind result ≡ true }
-{
-    let promo = if promotes(side, kind, to) {
-        Some(Kind::Queen)
-    } else {
-        None
-    };
-    Move { from, to, promo }
-}
-
-/// Whether the man of the side to move goes to a square to which it might. No line is walked along: what a bishop, a rook or a
-/// queen might reach, it attacks.
-#[tactic(auto, unfolding(crate::specs::Targets::may_reach, crate::specs::Targets::may_go))]
-pub(crate) fn may_go(live: &Live, kind: Kind, from: Square, to: Square) -> bool
-    requires here { look live.now.position from ≡ cell_of live.now.position.side kind }
-    requires reach { IsTrue (may_reach live.now.position kind from to) }
-    ensures { result ≡ may_go live.now.position kind from to }
+/// The squares to which a pawn's legal moves go. Only en passant, which takes two men from one line, is made and taken back.
+#[inline(always)]
+fn pawn_targets(live: &mut Live, guard: &Guard, from: Square) -> SquareSet
+    requires here { look live.old.position from ≡ cell_of live.old.position.side Pawn }
+    requires guard { IsGuard guard.now live.old.position }
+    requires clock { live.old.position.clock < 1000000 }
+    requires number { live.old.position.number < 1000000 }
+    ensures lands { (to : ℕ) → to < 64 → contains result to ≡ lands live.old.position Pawn from to }
+    ensures position { live.new.position ≡ live.old.position }
+    ensures words { live.new.words ≡ live.old.words }
 {
     let setup = live.position();
-    match kind {
-        Kind::Pawn | Kind::King => live.is_pseudo(plain_move(setup.side, kind, from, to)),
-        Kind::Knight | Kind::Bishop | Kind::Rook | Kind::Queen => {
-            may_enter(setup.side, setup.placement.get(to))
-        }
+    let side = setup.side;
+    let target = setup.target;
+    let plain = plain_targets(setup, Kind::Pawn, from);
+    let allowed = guarded(live, guard, from);
+    let mut targets = plain.intersection(allowed);
+    let Some(to) = target else {
+        return targets;
+    };
+    if !leaps(side, Kind::Pawn, from, to) {
+        return targets;
+    }
+    let m = Move {
+        from,
+        to,
+        promo: None,
+    };
+    let safe = is_safe_tried(live, m);
+    targets.remove(to);
+    targets.insert_if(to, safe);
+    targets
+}
+
+/// Those of the squares on which the king isn't attacked.
+#[inline(always)]
+fn safe_steps(live: &Live, guard: &Guard, steps: SquareSet) -> SquareSet
+    requires { IsGuard guard.now live.now.position }
+    ensures { (to : ℕ) → to < 64 → contains result to ≡ (contains steps to && is_safe_step live.now.position guard.now.king to) }
+{
+    let mut safe = SquareSet::empty();
+    for to in steps.iter() {
+        let unattacked = king_is_safe(live, guard, to);
+        safe.insert_if(to, unattacked);
+    }
+    safe
+}
+
+/// Whether the king, standing there, may castle to that wing (FIDE Laws 3.8.2).
+#[inline(always)]
+fn may_castle_from(live: &Live, from: Square, wing: Wing) -> bool
+    ensures { result ≡ ((from == king_home live.now.position.side) && may_castle live.now.position wing) }
+{
+    is_home(live.position().side, from) && live.may_castle(wing)
+}
+
+/// Whether the king's home is meant.
+#[inline(always)]
+fn is_home(side: Colour, at: Square) -> bool
+    ensures { result ≡ (at == king_home side) }
+{
+    at == side.king_home()
+}
+
+/// The squares to which the king's legal moves go.
+#[inline(always)]
+fn king_targets(live: &Live, guard: &Guard, from: Square) -> SquareSet
+    requires here { look live.now.position from ≡ cell_of live.now.position.side King }
+    requires guard { IsGuard guard.now live.now.position }
+    requires clock { live.now.position.clock < 1000000 }
+    requires number { live.now.position.number < 1000000 }
+    ensures { (to : ℕ) → to < 64 → contains result to ≡ lands live.now.position King from to }
+{
+    let setup = live.position();
+    let side = setup.side;
+    let steps = plain_targets(setup, Kind::King, from);
+    let mut targets = safe_steps(live, guard, steps);
+    let short = may_castle_from(live, from, Wing::KingSide);
+    targets.insert_if(Wing::KingSide.reached(side), short);
+    let long = may_castle_from(live, from, Wing::QueenSide);
+    targets.insert_if(Wing::QueenSide.reached(side), long);
+    targets
+}
+
+/// The squares to which the legal moves of a man of the side to move go; a pawn's to its last rank name what it becomes.
+#[inline(always)]
+pub(crate) fn targets(live: &mut Live, guard: &Guard, kind: Kind, from: Square) -> SquareSet
+    requires here { look live.old.position from ≡ cell_of live.old.position.side kind }
+    requires guard { IsGuard guard.now live.old.position }
+    requires clock { live.old.position.clock < 1000000 }
+    requires number { live.old.position.number < 1000000 }
+    ensures lands { (to : ℕ) → to < 64 → contains result to ≡ lands live.old.position kind from to }
+    ensures position { live.new.position ≡ live.old.position }
+    ensures words { live.new.words ≡ live.old.words }
+{
+    if is_pawn(kind) {
+        pawn_targets(live, guard, from)
+    } else if is_king(kind) {
+        king_targets(live, guard, from)
+    } else {
+        let plain = plain_targets(live.position(), kind, from);
+        let allowed = guarded(live, guard, from);
+        plain.intersection(allowed)
     }
 }

@@ -1,15 +1,17 @@
 -- The squares of castling, and what a castling move says (FIDE Laws, article 3.8.2).
-use Rattle.std.proofs.Common.{◌≡◌, ◌≢◌, ℕ, ◌<◌, ◌≤◌, true, None, refl, arith, ◌⊎◌, inl, inr}
+use Rattle.std.proofs.Common.{◌≡◌, ◌≢◌, ℕ, ◌<◌, ◌≤◌, Bool, true, false, ◌&&◌, None, is_none, refl, ap, ◌∙◌, arith, ◌⊎◌, inl, inr}
 use Rattle.std.proofs.lemmas.Bool.{and_parts, eqb-true}
 use Rattle.chess_types.specs.declared.man.Colour.{Colour}
 use Rattle.chess_types.specs.declared.man.Colour.TheVariants.{White, Black}
 use Rattle.chess_types.specs.declared.position.Wing.{Wing}
 use Rattle.chess_types.specs.declared.position.Wing.TheVariants.{KingSide, QueenSide}
-use Rattle.chess_types.specs.Squares.{rank_of, is_between}
+use Rattle.chess_types.specs.Squares.{rank_of, is_between, squares}
+use Rattle.chess_types.specs.Board.{Look}
 use Rattle.chess_types.specs.MoveParts.{MoveParts}
 use Rattle.chess_types.specs.Attack.{is_clear}
 use Rattle.chess_types.specs.Position.{State, look, king_home, rook_home, holds}
 use Rattle.chess_types.specs.Pseudo.{crossed, reached, castles_to, castles}
+use Rattle.chess_play.specs.Castling.{is_way_free, may_castle}
 use Rattle.chess_attack.proofs.Clear.{clear_at}
 
 -- on rank 1 or 8
@@ -179,3 +181,30 @@ crossed_free p w m h =
 pub reached_free : (p : State) (w : Wing) (m : MoveParts) → IsCastling p w m → look p (reached p.side w) ≡ None
 reached_free p w m h =
     clear_at (look p) (king_home p.side) (rook_home p.side w) (reached p.side w) h.clear (reached_inside p.side w) (reached_between p.side w)
+
+two : (a b : Bool) → (a && (b && true)) ≡ (a && b)
+two true true = refl
+two true false = refl
+two false b = refl
+
+three : (a b c : Bool) → (a && (b && (c && true))) ≡ ((a && b) && c)
+three true true true = refl
+three true true false = refl
+three true false c = refl
+three false b c = refl
+
+-- the squares between the king's home and the rook's are these
+pub way_is : (men : Look) (c : Colour) (w : Wing) → is_clear men (king_home c) (rook_home c w) ≡ is_way_free men c w
+unfolding is_clear is_between squares
+way_is men White KingSide = two (is_none (men 5)) (is_none (men 6))
+way_is men White QueenSide = three (is_none (men 1)) (is_none (men 2)) (is_none (men 3))
+way_is men Black KingSide = two (is_none (men 61)) (is_none (men 62))
+way_is men Black QueenSide = three (is_none (men 57)) (is_none (men 58)) (is_none (men 59))
+
+-- castling by its squares, and by all else
+pub castles_is : (p : State) (w : Wing) (m : MoveParts) → castles p w m ≡ (castles_to p.side w m && may_castle p w)
+castles_is p w m = rw (way_is (look p) p.side w) (join (castles_to p.side w m) _ _ _ _ _)
+  where
+    join : (a b c d e f : Bool) → (((((a && b) && c) && d) && e) && f) ≡ (a && ((((b && c) && d) && e) && f))
+    join true b c d e f = refl
+    join false b c d e f = refl

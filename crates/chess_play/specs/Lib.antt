@@ -4,3 +4,4 @@ pub mod Boards
 pub mod Records
 pub mod Undo
 pub mod LiveParts
+pub mod Castling

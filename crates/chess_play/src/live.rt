@@ -5,16 +5,17 @@ ghost use Rattle.chess_types.specs.After.{after};
 ghost use Rattle.chess_attack.specs.KeptCounts.{AreCounts, changed_of};
 ghost use Rattle.chess_eval.specs.Evaluation.{evaluation, IsWithin};
 ghost use Rattle.chess_key.specs.Keys.{IsKeyOf};
+ghost use Rattle.chess_play.specs.Castling.{may_castle};
 ghost use Rattle.chess_play.specs.Records.{Fits, IsBefore, record_of};
 
 use crate::followers::Followers;
 use crate::make::make;
-use crate::pseudo::is_pseudo;
+use crate::pseudo::{is_pseudo, may_castle};
 use crate::record::{Made, Record};
 use crate::take_back::take_back;
 use chess_attack::Counts;
 use chess_key::{Key, KeyTable};
-use chess_types::{Move, Position, Setup};
+use chess_types::{Move, Position, Setup, Wing};
 use std::marker::Model;
 
 /// A position, in which the side not to move may be in check, with its attack counts, its evaluation and its key, which
@@ -52,6 +53,7 @@ impl<'k> Live<'k> {
     }
 
     /// The position.
+    #[inline(always)]
     pub fn position(&self) -> &Setup
         ensures value { result.now ≡ self.now.position }
         ensures setup { IsSetup self.now.position }
@@ -60,6 +62,7 @@ impl<'k> Live<'k> {
     }
 
     /// Its attack counts.
+    #[inline(always)]
     pub fn counts(&self) -> &Counts
         ensures agrees { AreCounts result.now self.now.position.placement }
         ensures ticks { result.now.ticks ≡ self.now.ticks }
@@ -141,5 +144,12 @@ impl<'k> Live<'k> {
         ensures { result ≡ is_pseudo self.now.position m }
     {
         is_pseudo(&self.setup, &self.kept.counts, m)
+    }
+
+    /// Whether the king of the side to move may castle to that wing (FIDE Laws 3.8.2).
+    pub fn may_castle(&self, wing: Wing) -> bool
+        ensures { result ≡ may_castle self.now.position wing }
+    {
+        may_castle(&self.setup, &self.kept.counts, wing)
     }
 }

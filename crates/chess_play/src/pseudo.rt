@@ -1,12 +1,13 @@
-ghost use Rattle.std.specs.Prelude.{◌≡◌, ◌&&◌, is_none};
+ghost use Rattle.std.specs.Prelude.{◌≡◌, ◌&&◌, ◌<◌, is_none};
 ghost use Rattle.chess_types.specs.Attack.{is_attacked, leaps};
 ghost use Rattle.chess_types.specs.Position.{look};
+ghost use Rattle.chess_play.specs.Castling.{is_way_free, may_castle};
 ghost use Rattle.chess_types.specs.Pseudo.{castles, castles_to, goes, is_ahead, is_pseudo, is_target, last_rank, midway, moves_as, names_rightly, pawn_rank, pawn_takes, steps_one, steps_two};
 ghost use Rattle.chess_types.specs.declared.man.Kind.TheVariants.{Pawn};
 ghost use Rattle.chess_attack.specs.KeptCounts.{AreCounts};
 
 use crate::men::{is_prey, may_enter, names_promotion, same_colour};
-use chess_attack::{Counts, attacks_square, is_clear, leaps};
+use chess_attack::{Counts, attacks_square, leaps};
 use chess_types::{Colour, Kind, Man, Move, Setup, Square, Wing};
 
 /// Whether the square is the en passant target.
@@ -30,7 +31,7 @@ fn is_ahead(side: Colour, a: Square, b: Square) -> bool
 }
 
 /// The rank on which the pawns of a colour begin.
-fn pawn_rank(side: Colour) -> u8
+pub fn pawn_rank(side: Colour) -> u8
     ensures { result ≡ pawn_rank side }
 {
     match side {
@@ -112,19 +113,54 @@ fn is_attacked(setup: &Setup, counts: &Counts, colour: Colour, s: Square) -> boo
     counts.count(colour, s) >= 1
 }
 
+/// Whether no man stands there.
+#[inline(always)]
+fn is_free(setup: &Setup, number: u8) -> bool
+    requires { number < 64 }
+    ensures { result ≡ is_none (look setup.now number) }
+{
+    setup.placement.get(Square::from_index(number)).is_none()
+}
+
+/// Whether no man stands between the king's home and the rook's.
+#[inline(always)]
+fn is_way_free(setup: &Setup, side: Colour, wing: Wing) -> bool
+    ensures { result ≡ is_way_free (look setup.now) side wing }
+{
+    match (side, wing) {
+        (Colour::White, Wing::KingSide) => is_free(setup, 5) && is_free(setup, 6),
+        (Colour::White, Wing::QueenSide) => {
+            is_free(setup, 1) && is_free(setup, 2) && is_free(setup, 3)
+        }
+        (Colour::Black, Wing::KingSide) => is_free(setup, 61) && is_free(setup, 62),
+        (Colour::Black, Wing::QueenSide) => {
+            is_free(setup, 57) && is_free(setup, 58) && is_free(setup, 59)
+        }
+    }
+}
+
+/// Whether the king may castle to that wing (FIDE Laws 3.8.2).
+#[inline(always)]
+pub(crate) fn may_castle(setup: &Setup, counts: &Counts, wing: Wing) -> bool
+    requires { AreCounts counts.now setup.now.placement }
+    ensures { result ≡ may_castle setup.now wing }
+{
+    let side = setup.side;
+    let other = side.opponent();
+    setup.rights.holds(side, wing)
+        && is_way_free(setup, side, wing)
+        && !is_attacked(setup, counts, other, side.king_home())
+        && !is_attacked(setup, counts, other, wing.crossed(side))
+        && !is_attacked(setup, counts, other, wing.reached(side))
+}
+
 /// Whether the king castles to that wing (FIDE Laws 3.8.2).
+#[tactic(auto, using(crate::proofs::CastlingSquares::castles_is))]
 fn castles(setup: &Setup, counts: &Counts, wing: Wing, m: Move) -> bool
     requires { AreCounts counts.now setup.now.placement }
     ensures { result ≡ castles setup.now wing m }
 {
-    let side = setup.side;
-    let other = side.opponent();
-    castles_to(side, wing, m)
-        && setup.rights.holds(side, wing)
-        && is_clear(&setup.placement, side.king_home(), wing.rook_home(side))
-        && !is_attacked(setup, counts, other, side.king_home())
-        && !is_attacked(setup, counts, other, wing.crossed(side))
-        && !is_attacked(setup, counts, other, wing.reached(side))
+    castles_to(setup.side, wing, m) && may_castle(setup, counts, wing)
 }
 
 /// Whether the man of the side goes to a square that it attacks and may enter (FIDE Laws 3.2 to 3.6, 3.8.1).

@@ -4,8 +4,10 @@
 --   fault_text   `fault N NAME`
 --   count_text   the number of leaves at the depth, at most 2^64 - 1, or the fault of the FEN
 --   answer_for   the same, or the fault of the depth
+--   answer_to    of the words `DEPTH FEN`; behind, what stands behind the first word of a line
+--   is_full      the word asks for every leaf to be made
 --   answer       of a whole line, without its line feed; nothing for a line without words
-use Rattle.std.specs.Prelude.{ℕ, ◌-◌, ◌^◌, min, List, [], ◌∷◌, ◌++◌, Option, Some, None, Result, Ok, Err, codes, decimal, bytes_eq}
+use Rattle.std.specs.Prelude.{ℕ, ◌-◌, ◌^◌, min, Bool, if◌then◌else◌, List, [], ◌∷◌, ◌++◌, Option, Some, None, Result, Ok, Err, codes, decimal, bytes_eq}
 use Rattle.std.specs.List.{find, range_with_len}
 use Rattle.chess_types.specs.Position.{State}
 use Rattle.chess_types.specs.Words.{words, skip_gaps, after_word, trimmed}
@@ -32,10 +34,25 @@ abbrev pub answer_for : Option ℕ → List ℕ → List ℕ
 answer_for None fen = codes "fault Depth"
 answer_for (Some depth) fen = count_text depth (reading fen)
 
+-- what stands behind the first word
+abbrev pub behind : List ℕ → List ℕ
+behind line = after_word gaps (skip_gaps gaps line)
+
 -- the first word is the depth, and what stands behind it the FEN
 abbrev pub answer_to : List (List ℕ) → List ℕ → List ℕ
-answer_to [] fen = []
+answer_to [] fen = codes "fault Depth"
 answer_to (word ∷ _) fen = answer_for (depth_in word) fen
 
+abbrev pub is_full : List ℕ → Bool
+is_full word = bytes_eq word (codes "full")
+
+-- after the word `full`, which has every leaf made, the answer is the same
+abbrev pub answer_by : List (List ℕ) → List ℕ → List ℕ
+answer_by [] line = []
+answer_by (word ∷ more) line =
+    if is_full word
+    then answer_to (words gaps (behind line)) (trimmed gaps (behind (behind line)))
+    else answer_to (word ∷ more) (trimmed gaps (behind line))
+
 unfoldable pub answer : List ℕ → List ℕ
-answer line = answer_to (words gaps line) (trimmed gaps (after_word gaps (skip_gaps gaps line)))
+answer line = answer_by (words gaps line) line

@@ -1,6 +1,7 @@
 ghost use Rattle.std.specs.Prelude.{◌≡◌, ◌≤◌, ◌-◌, ◌^◌, min, length, decimal, IfSome};
 ghost use Rattle.chess_fen.specs.Reading.{reading};
-ghost use Rattle.perft.specs.Answers.{answer, count_text, depth_in, fault_text};
+ghost use Rattle.chess_types.specs.Words.{words, trimmed};
+ghost use Rattle.perft.specs.Answers.{answer, answer_to, behind, count_text, depth_in, fault_text, gaps, is_full};
 
 use crate::leaves::leaves;
 use arrayvec::ArrayString;
@@ -11,6 +12,9 @@ use itoa::Buffer;
 
 /// The bytes that part words.
 const GAPS: &[u8] = b" \t\r";
+
+/// The word that asks for each leaf to be made.
+const FULL: &[u8] = b"full";
 
 /// The text that answers a line, without its line feed; empty for a line that takes no answer.
 pub type Answer = ArrayString<64>;
@@ -47,32 +51,56 @@ fn fault(number: u8, name: &str) -> Answer
     text
 }
 
-/// How many leaves the position of the FEN has at the depth, or the fault of the FEN.
-fn count(table: &KeyTable, depth: u32, fen: &[u8]) -> Answer
-    requires { depth ≤ 16 }
+/// How many leaves the position of the FEN has at the depth, or the fault of the FEN. The moves of the last ply are counted, or
+/// made where `counted` is 0.
+fn count(table: &KeyTable, depth: u32, fen: &[u8], counted: u32) -> Answer
+    requires depth { depth ≤ 16 }
+    requires counted { counted ≤ 1 }
     ensures { result.bytes ≡ count_text depth (reading fen.now) }
 {
     match chess_fen::read(fen) {
-        Ok(position) => number(leaves(&mut Live::new(position, table), depth)),
+        Ok(position) => number(leaves(&mut Live::new(position, table), depth, counted)),
         Err(found) => fault(found.number(), found.name()),
     }
 }
 
-/// The answer to a line `DEPTH FEN`: the number of leaves, or the first fault, of the depth or of the FEN. Empty for a line
-/// without words.
-#[tactic(auto, unfolding(crate::specs::Answers::answer))]
-pub fn answer(table: &KeyTable, line: &[u8]) -> Answer
-    ensures { result.bytes ≡ answer line.now }
+/// The answer to a line `DEPTH FEN`: the number of leaves, or the first fault, of the depth or of the FEN.
+fn answer_depth(table: &KeyTable, line: &[u8], counted: u32) -> Answer
+    requires { counted ≤ 1 }
+    ensures { result.bytes ≡ answer_to (words gaps line.now) (trimmed gaps (behind line.now)) }
 {
     let mut text = Answer::new();
     let Some((word, rest)) = split_word(line, GAPS) else {
+        text.push_str("fault Depth");
         return text;
     };
     match read_depth(word) {
-        Some(depth) => count(table, depth, trim(rest, GAPS)),
+        Some(depth) => count(table, depth, trim(rest, GAPS), counted),
         None => {
             text.push_str("fault Depth");
             text
         }
+    }
+}
+
+/// Whether the word asks for each leaf to be made.
+fn is_full(word: &[u8]) -> bool
+    ensures { result ≡ is_full word.now }
+{
+    word == FULL
+}
+
+/// The answer to a line `DEPTH FEN`, or `full DEPTH FEN`, which has every leaf made. Empty for a line without words.
+#[tactic(auto, unfolding(crate::specs::Answers::answer))]
+pub fn answer(table: &KeyTable, line: &[u8]) -> Answer
+    ensures { result.bytes ≡ answer line.now }
+{
+    let Some((word, rest)) = split_word(line, GAPS) else {
+        return Answer::new();
+    };
+    if is_full(word) {
+        answer_depth(table, rest, 0)
+    } else {
+        answer_depth(table, line, 1)
     }
 }

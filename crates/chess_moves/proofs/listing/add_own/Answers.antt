@@ -1,27 +1,64 @@
-use Rattle.std.proofs.Common.{◌≡◌, ℕ, ◌<◌, ◌∙◌, subst, refl}
-use Rattle.std.specs.FinSet.{contains}
-use Rattle.chess_types.specs.Position.{State}
+use Rattle.std.proofs.Common.{◌≡◌, ◌+◌, ◌≤◌, true, List, ◌++◌, length, sym, ap, subst, ◌∙◌, refl, arith}
+use Rattle.std.proofs.lemmas.Bool.{and_parts}
+use Rattle.std.specs.List.{list_all}
 use Rattle.chess_types.specs.Legal.{moves_between}
-use Rattle.chess_moves.specs.Targets.{may_reach}
-use Rattle.chess_moves.proofs.Pieces.{room_next, next_piece}
-use Rattle.chess_moves.proofs.Reach.{reach_all, reach_listed}
+use Rattle.chess_types.specs.MoveParts.{MoveParts}
+use Rattle.chess_types.specs.Position.{State, look}
+use Rattle.chess_attack.proofs.Lifted.{OnlyKing, only_king}
+use Rattle.chess_moves.specs.Targets.{lands, moves_named}
+use Rattle.chess_moves.proofs.Lands.{lands_all}
+use Rattle.chess_moves.proofs.Pieces.{listed_next, room_next, next_piece}
+use Rattle.chess_moves.proofs.Reach.{lands_each, lands_listed}
 use Rattle.chess_moves.proofs.listing.add_own.Goals as goal
 
 pub loop-to-init : goal.loop-to-init
 loop-to-init c =
-    let has : (to : ℕ) → to < 64 → contains c.reach.result to ≡ may_reach c.args.live.now.position c.args.kind c.args.from to =
-    subst (λ (p : State). (to : ℕ) → to < 64 → contains c.reach.result to ≡ may_reach p c.args.kind c.args.from to) c.position.ensures.value c.reach.ensures in
+    let p : State = c.args.live.now.position in
+    let setup = c.position.ensures.setup in
+    let king : OnlyKing (look p) p.side c.args.guard.now.king =
+    only_king p.placement p.side c.args.guard.now.king (setup.kings p.side) c.requires.guard.on_board c.requires.guard.king in
+    let xs = c.into_iter-to-iterator.ensures.into_iter_gives ∙ c.iter-to-items.ensures.value in
     record {
       can = tt;
       finite = tt;
-      position = refl;
-      words = refl;
-      reach = reach_all c.args.live.now.position c.args.kind c.args.from c.reach.result has c.into_iter-to-iterator.result
-          (c.into_iter-to-iterator.ensures.into_iter_gives ∙ c.iter-to-items.ensures.value);
-      listed = reach_listed c.args.live.now.position c.args.kind c.args.from c.reach.result has c.into_iter-to-iterator.result
-          (c.into_iter-to-iterator.ensures.into_iter_gives ∙ c.iter-to-items.ensures.value) c.requires.here c.args.list.now.items;
+      lands = lands_each p setup c.args.kind c.args.from c.args.guard.now.king (omega arith) c.requires.here king c.targets-squares.result c.targets-squares.ensures.lands
+          c.into_iter-to-iterator.result xs;
+      listed = lands_listed p setup c.args.kind c.args.from c.args.guard.now.king (omega arith) c.requires.here king c.targets-squares.result c.targets-squares.ensures.lands
+          c.into_iter-to-iterator.result xs c.args.list.now.items;
     }
 
-pub add_between-requires-clause-room : goal.add_between-requires-clause-room
-add_between-requires-clause-room c =
-    room_next c.loop-to.invariant.position c.loop-to.invariant.listed (next_piece (moves_between c.args.from) c.in-Some.ensures.steps) c.requires.room
+pub add_named-requires : goal.add_named-requires
+add_named-requires c =
+    let p : State = c.args.live.now.position in
+    let setup = c.position.ensures.setup in
+    let king : OnlyKing (look p) p.side c.args.guard.now.king =
+    only_king p.placement p.side c.args.guard.now.king (setup.kings p.side) c.requires.guard.on_board c.requires.guard.king in
+    let on : lands p c.args.kind c.args.from c.in-Some.to ≡ true =
+    (and_parts _ _ (sym (ap (list_all (lands p c.args.kind c.args.from)) c.in-Some.ensures.steps) ∙ c.loop-to.invariant.lands)).0 in
+    let same = c.behind-live.view_is ∙ c.position.ensures.value in
+    record {
+      room = subst (λ (xs : List MoveParts). length c.loop-to.list.items + length xs ≤ 432)
+          (lands_all p setup c.args.kind c.args.from c.in-Some.to c.args.guard.now.king (omega arith) (omega arith) c.requires.here king on
+          ∙ ap (λ (q : State). moves_named q.side c.args.kind c.args.from c.in-Some.to) (sym same))
+          (room_next {now = p} refl c.loop-to.invariant.listed (next_piece (moves_between c.args.from) c.in-Some.ensures.steps) c.requires.room);
+    }
+
+pub loop-to-preserved : goal.loop-to-preserved
+loop-to-preserved c =
+    let p : State = c.args.live.now.position in
+    let setup = c.position.ensures.setup in
+    let king : OnlyKing (look p) p.side c.args.guard.now.king =
+    only_king p.placement p.side c.args.guard.now.king (setup.kings p.side) c.requires.guard.on_board c.requires.guard.king in
+    let parts : (lands p c.args.kind c.args.from c.in-Some.to ≡ true) × (list_all (lands p c.args.kind c.args.from) c.next.new.self ≡ true) =
+    and_parts _ _ (sym (ap (list_all (lands p c.args.kind c.args.from)) c.in-Some.ensures.steps) ∙ c.loop-to.invariant.lands) in
+    let same = c.behind-live.view_is ∙ c.position.ensures.value in
+    record {
+      can = tt;
+      finite = tt;
+      lands = parts.1;
+      listed = listed_next {now = p} refl c.loop-to.invariant.listed (next_piece (moves_between c.args.from) c.in-Some.ensures.steps)
+          (c.add_named.ensures.added
+          ∙ ap (λ (xs : List MoveParts). c.loop-to.list.items ++ xs)
+          (ap (λ (q : State). moves_named q.side c.args.kind c.args.from c.in-Some.to) same
+          ∙ sym (lands_all p setup c.args.kind c.args.from c.in-Some.to c.args.guard.now.king (omega arith) (omega arith) c.requires.here king parts.0)));
+    }

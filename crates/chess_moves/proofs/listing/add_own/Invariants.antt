@@ -1,17 +1,15 @@
 use Rattle.std.proofs.Common.{◌≡◌, true}
 use Rattle.std.specs.List.{list_all, flat_map}
 use Rattle.chess_types.specs.Legal.{moves_between, moves_from}
-use Rattle.chess_moves.specs.Targets.{may_reach}
+use Rattle.chess_moves.specs.Targets.{lands}
 use Rattle.chess_moves.proofs.Pieces.{Listed}
 use Rattle.chess_moves.proofs.listing.add_own.Given as goal
 
--- the man might go to each square still to come
+-- the man's move to each square still to come is legal
 abbrev pub invariant-loop-to : goal.invariant-loop-to
 invariant-loop-to l = record {
   can : (goal.iterator-loop-to).can_next l.to-iterator;
   finite : (goal.iterator-loop-to).is_finite l.to-iterator;
-  position : l.live.position ≡ l.fn.live.position;
-  words : l.live.words ≡ l.fn.live.words;
-  reach : list_all (may_reach l.fn.live.position l.kind l.from) l.to-iterator ≡ true;
+  lands : list_all (lands l.fn.live.position l.kind l.from) l.to-iterator ≡ true;
   listed : Listed l.fn.live.position l.fn.list.items l.list.items (moves_from l.from) (flat_map (moves_between l.from) l.to-iterator);
 }

@@ -1,7 +1,8 @@
-use Rattle.std.proofs.Common.{◌+◌, drop, sym, ap, subst, ◌∙◌, arith}
+use Rattle.std.proofs.Common.{◌+◌, drop, sym, ap, subst, ◌∙◌, refl, arith}
 use Rattle.std.proofs.Math.ListN.{drop_of_length-le}
 use Rattle.chess_types.specs.Position.{State}
 use Rattle.chess_types.specs.After.{after}
+use Rattle.chess_types.specs.Legal.{legal_moves}
 use Rattle.chess_play.specs.Records.{IsBefore}
 use Rattle.perft.proofs.LeafLemmas.{counted_begin, counted_next, counted_end, next_move, next_pseudo, no_ply, one_ply, clock_room, number_room}
 use Rattle.perft.proofs.leaves.+leaves.Goals as goal
@@ -9,15 +10,15 @@ use Rattle.perft.proofs.leaves.+leaves.Goals as goal
 pub returns-then-depth-eq0-clause-value : goal.returns-then-depth-eq0-clause-value
 returns-then-depth-eq0-clause-value t c = no_ply c.args.live.now.position c.args.depth c.if-depth-eq0.true
 
-pub returns-then-depth-eq1-clause-value : goal.returns-then-depth-eq1-clause-value
-returns-then-depth-eq1-clause-value t c =
-    one_ply c.args.live.now.position c.args.depth c.len.result c.moves-list.result.items c.if-depth-eq1.true c.len.ensures.value c.moves-list.ensures.listed (omega arith)
+pub returns-then-depth-counted-clause-value : goal.returns-then-depth-counted-clause-value
+returns-then-depth-counted-clause-value t c =
+    one_ply c.args.live.now.position c.args.depth c.count_legal.result (legal_moves c.args.live.now.position) (omega arith) c.count_legal.ensures.count refl (omega arith)
 
 pub loop-m-init : goal.loop-m-init
 loop-m-init t c = record {
-  position = c.moves-list.ensures.position;
-  words = c.moves-list.ensures.words;
-  counted = counted_begin c.args.live.now.position c.args.depth c.as_slice-m-items.result.now (omega arith) (c.as_slice-m-items.ensures.value ∙ c.moves-list.ensures.listed);
+  position = c.moves_into.ensures.position;
+  words = c.moves_into.ensures.words;
+  counted = counted_begin c.args.live.now.position c.args.depth c.as_slice-m-items.result.now (omega arith) (c.as_slice-m-items.ensures.value ∙ c.moves_into.ensures.listed);
 }
 
 pub make-made-requires-clause-pseudo : goal.make-made-requires-clause-pseudo
@@ -29,8 +30,11 @@ pub leaves-requires : goal.leaves-requires
 leaves-requires t c = (
   omega arith,
   (
-    clock_room c.args.live.now.position c.loop-m.live.position c.make-made.new.self.position c.m-item.result c.args.depth c.loop-m.invariant.position c.make-made.ensures.position (omega arith) c.requires.clock,
-    number_room c.args.live.now.position c.loop-m.live.position c.make-made.new.self.position c.m-item.result c.args.depth c.loop-m.invariant.position c.make-made.ensures.position (omega arith) c.requires.number,
+    omega arith,
+    (
+      clock_room c.args.live.now.position c.loop-m.live.position c.make-made.new.self.position c.m-item.result c.args.depth c.loop-m.invariant.position c.make-made.ensures.position (omega arith) c.requires.clock,
+      number_room c.args.live.now.position c.loop-m.live.position c.make-made.new.self.position c.m-item.result c.args.depth c.loop-m.invariant.position c.make-made.ensures.position (omega arith) c.requires.number,
+    ),
   ),
 )
 

@@ -14,7 +14,7 @@ use Rattle.chess_cli.proofs.machine.Board.checks.Goals as goal
 pub returns : goal.returns
 returns g c =
     let same = same_squares (contains c.checkers.result) (checks_from (man_at c.setup.inside.placement) c.setup.inside.side) c.checkers.ensures in
-    let now = c.setup.view_is ∙ c.position-setup.ensures.value ∙ c.live.ensures.position ∙ ap last (c.self.invariant.0 ∙ ap line_to c.self.view_is) in
+    let now = c.setup.view_is ∙ c.position-setup.ensures.value ∙ c.live.ensures.position in
     let list = same ∙ ap (λ (p : State). filter (checks_from (look p) p.side) squares) now in
     c.put_line.ensures
     ∙ ap (λ (t : List ℕ). c.args.page.now ++ (t ++ 10 ∷ [])) (c.as_str.ensures.value ∙ c.squares_text.ensures ∙ ap (λ (ss : List ℕ). list_text (map square_text ss)) list)

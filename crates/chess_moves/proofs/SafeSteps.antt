@@ -1,0 +1,50 @@
+-- A set gone through, and those of its squares kept that pass a test.
+use Rattle.std.proofs.Common.{◌≡◌, ℕ, ◌<◌, ◌==◌, Bool, true, false, ◌&&◌, ◌||◌, cond, List, ◌∷◌, length, filter, get_or, nat_eq, refl, sym, ap, ◌∙◌, zero-add, arith}
+use Rattle.std.specs.List.{list_any, range_with_len}
+use Rattle.std.specs.Ordering.{nat_cmp}
+use Rattle.std.specs.FinSet.{FinSet, contains, insert}
+use Rattle.std.proofs.Math.Bool.{and-true}
+use Rattle.std.proofs.lemmas.Bool.{eqb-true, eq-eqb}
+use Rattle.std.proofs.lemmas.List.Folds.{list_any_at}
+use Rattle.std.proofs.lemmas.List.FromFn.{length-range_with_len, get_or-range_with_len}
+use Rattle.std.proofs.lemmas.Map.Views.{any-filter_same}
+use Rattle.chess_types.specs.Squares.{squares}
+use Rattle.chess_moves.proofs.Lands.{inserted_if}
+
+squares-holds : (i : ℕ) → i < 64 → list_any (λ y. nat_eq y i) squares ≡ true
+unfolding squares
+squares-holds i h =
+    let within : i < length (range_with_len 0 64) = omega (arith, length-range_with_len 0 64) in
+    let here : get_or (range_with_len 0 64) i 0 ≡ i = get_or-range_with_len 0 64 i 0 h ∙ zero-add i in
+    list_any_at (λ y. nat_eq y i) (range_with_len 0 64) i 0 within (eq-eqb _ i here)
+
+-- what a set's squares have is what it holds
+pub listed_in : (set : FinSet nat_cmp) (i : ℕ) → i < 64 → list_any (λ y. y == i) (filter (contains set) squares) ≡ contains set i
+listed_in set i h =
+    any-filter_same (λ y. nat_eq y i) (contains set) (contains set i) (λ k same. ap (contains set) (eqb-true k i same)) squares
+    ∙ ap (λ b. contains set i && b) (squares-holds i h)
+    ∙ and-true (contains set i)
+
+step_of : (c b e l t : Bool) → (e ≡ true → t ≡ b) → ((c || (b && e)) || (l && t)) ≡ (c || ((e || l) && t))
+step_of true b e l t same = refl
+step_of false b true l t same = rw (same refl) (both b l)
+  where
+    both : (b l : Bool) → ((b && true) || (l && b)) ≡ b
+    both true l = refl
+    both false true = refl
+    both false false = refl
+step_of false b false l t same = rest b (l && t)
+  where
+    rest : (b x : Bool) → ((b && false) || x) ≡ x
+    rest true x = refl
+    rest false x = refl
+
+-- one square more
+pub safe_next :
+    (test : ℕ → Bool) (old new : FinSet nat_cmp) (t s : ℕ) (b w : Bool) (xs ys : List ℕ) → new ≡ cond b (insert old t) old → b ≡ test t →
+    xs ≡ t ∷ ys → (contains old s || (list_any (λ u. u == s) xs && test s)) ≡ w → (contains new s || (list_any (λ u. u == s) ys && test s)) ≡ w
+safe_next test old new t s b w xs ys is passes first rest =
+    ap (λ x. x || (list_any (λ u. u == s) ys && test s)) (inserted_if old new t s b is)
+    ∙ step_of (contains old s) b (t == s) (list_any (λ u. u == s) ys) (test s) (λ e. sym (passes ∙ ap test (eqb-true t s e)))
+    ∙ ap (λ zs. contains old s || (list_any (λ u. u == s) zs && test s)) (sym first)
+    ∙ rest

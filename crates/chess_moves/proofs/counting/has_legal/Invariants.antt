@@ -1,0 +1,17 @@
+use Rattle.std.proofs.Common.{◌≡◌, true, length, filter}
+use Rattle.std.specs.List.{list_all, flat_map}
+use Rattle.chess_types.specs.Legal.{is_legal, moves_from, legal_moves}
+use Rattle.chess_types.specs.Men.{is_of}
+use Rattle.chess_types.specs.Position.{look}
+use Rattle.chess_moves.proofs.counting.has_legal.Given as goal
+
+-- a man of the side to move stands on each square still to come, and all legal moves are from there
+abbrev pub invariant-loop-from : goal.invariant-loop-from
+invariant-loop-from l = record {
+  can : (goal.iterator-loop-from).can_next l.from-iterator;
+  finite : (goal.iterator-loop-from).is_finite l.from-iterator;
+  position : l.live.position ≡ l.fn.live.position;
+  words : l.live.words ≡ l.fn.live.words;
+  own : list_all (λ s. is_of l.fn.live.position.side (look l.fn.live.position s)) l.from-iterator ≡ true;
+  left : length (filter (is_legal l.fn.live.position) (flat_map moves_from l.from-iterator)) ≡ length (legal_moves l.fn.live.position);
+}
