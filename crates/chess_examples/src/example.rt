@@ -18,7 +18,7 @@ pub struct Example<'t> {
 
 /// Puts a line behind the others.
 fn add_line(lines: &mut Vec<u8>, line: &str) -> Result<(), AllocError>
-    ensures { OnOk result (lines.new ≡ lines.old ++ line.now ++ 10 ∷ []) }
+    ensures { OnOk result (lines.new.items ≡ (lines.old.items ++ line.now) ++ 10 ∷ []) }
 {
     lines.extend_from_slice(line.as_bytes())?;
     lines.push(b'\n')?;
