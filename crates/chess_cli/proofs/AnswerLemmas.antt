@@ -1,14 +1,14 @@
 -- What the board may answer.
-use Rattle.std.proofs.Common.{◌≡◌, ℕ, ◌<◌, ◌≤◌, ◌++◌, ◌∷◌, [], Bool, List, length, Result, Ok, Err, true, false, leb, refl, sym, ap, ◌∙◌, subst, inl, inr, arith}
+use Rattle.std.proofs.Common.{◌≡◌, ℕ, ◌<◌, ◌≤◌, ◌++◌, ◌∷◌, [], Bool, List, length, Result, Ok, true, false, leb, refl, sym, subst, inl, inr, arith}
 use Rattle.std.proofs.lemmas.Bool.Decides.{nat_tests}
 use Rattle.chess_types.specs.declared.source.Failed.{Failed}
 use Rattle.chess_tree.specs.GameTree.{TreeParts}
 use Rattle.chess_cli.specs.declared.answer.Told.TheVariants.{Whole, Path}
-use Rattle.chess_cli.specs.Answers.{Answers, AnswersWithin, Tells, TellsBy, answer, after, long_line, no_memory, line_limit, line_room}
+use Rattle.chess_cli.specs.Answers.{Answers, AnswersWithin, Tells, TellsBy, answer, long_line, no_memory, line_limit, line_room}
 use Rattle.chess_cli.specs.Numbers.{path_text}
 use Rattle.chess_cli.specs.Replies.{IsPut}
-use Rattle.chess_cli.specs.Requests.{Request, request}
-use Rattle.chess_cli.specs.Sending.{Sent, Broken, SentOr, Sends}
+use Rattle.chess_cli.specs.Requests.{request}
+use Rattle.chess_cli.specs.Sending.{Sends}
 use Rattle.chess_cli.proofs.SendingLemmas.{puts}
 
 within : (bytes : List ℕ) → length bytes ≤ line_limit → leb (length bytes) line_limit ≡ true

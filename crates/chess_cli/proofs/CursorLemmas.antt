@@ -1,6 +1,6 @@
 -- Steps and edits of the tree at its cursor, and the line that follows.
 use Rattle.std.proofs.Common.{◌≡◌, ℕ, zero, suc, ◌+◌, ◌-◌, ◌<◌, ◌≤◌, Bool, true, false, nat_le, nat_lt, if◌then◌else◌, List, [], ◌∷◌, ◌++◌, length, take, get_or, Option, None, Some, refl, sym, ap, subst, ◌∙◌, inl, inr, arith}
-use Rattle.std.specs.Prelude.{◌⊎◌, ⊤, not, Result, Ok, Err, is_ok, OnOk, MatchResult, MatchOption}
+use Rattle.std.specs.Prelude.{◌⊎◌, ⊤, not, Result, Ok, Err, is_ok, OnOk, MatchOption}
 use Rattle.std.proofs.lemmas.Bool.{false≢true}
 use Rattle.std.proofs.lemmas.Bool.Decides.{nat_tests}
 use Rattle.std.proofs.lemmas.List.{length-append, length-take, length-take-le, take-append-le}
@@ -12,7 +12,7 @@ use Rattle.chess_draws.specs.declared.fault.LineFault.TheVariants as line
 use Rattle.chess_draws.specs.Pushes.{push_answer}
 use Rattle.chess_tree.specs.Forest.{count, moves_held}
 use Rattle.chess_tree.specs.Edits.{parent}
-use Rattle.chess_tree.specs.GameTree.{TreeParts, added, at_path, deleted, find, has, here, line_to, main_line, move_of, nodes_here}
+use Rattle.chess_tree.specs.GameTree.{TreeParts, added, at_path, find, has, line_to, main_line, nodes_here}
 use Rattle.chess_tree.specs.Steps.{GoesOn}
 use Rattle.chess_tree.proofs.WalkLemmas.{first_ends, first_keeps, first_smaller, has_place}
 use Rattle.chess_tree.proofs.LineLemmas.{along_few}

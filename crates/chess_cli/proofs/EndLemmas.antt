@@ -1,12 +1,12 @@
 -- A run goes on by reads, and ends.
-use Rattle.std.proofs.Common.{◌≡◌, ℕ, ◌+◌, ◌<◌, ◌≤◌, ◌⊎◌, Bool, true, false, ◌||◌, true≢false, inl, inr, List, [], ◌∷◌, ◌++◌, length, length-append, Result, Ok, Err, refl, sym, ap, ◌∙◌, subst, append_assoc, append-nil, arith}
+use Rattle.std.proofs.Common.{◌≡◌, ℕ, ◌+◌, ◌<◌, ◌≤◌, ◌⊎◌, Bool, true, false, ◌||◌, true≢false, inl, inr, List, [], ◌∷◌, ◌++◌, length, length-append, Ok, Err, refl, sym, ap, ◌∙◌, append_assoc, append-nil, arith}
 use Rattle.std.specs.List.{AllByRecursion}
 use Rattle.chess_types.specs.Calls.{Calls, Carries, joined}
 use Rattle.chess_types.specs.declared.source.Failed.{Failed}
 use Rattle.chess_types.proofs.CallLemmas.{Calls-more, joined-more, Carries-none, Carries-append}
 use Rattle.chess_cli.specs.Ends.{IsFront, EndsGood, EndsOver, EndsReadFault, EndsWriteFault}
-use Rattle.chess_cli.specs.Lines.{ended_lines, unfinished, lines_of, last_line}
-use Rattle.chess_cli.specs.Runs.{Runs, Partly, BrokenOff}
+use Rattle.chess_cli.specs.Lines.{ended_lines, unfinished, last_line}
+use Rattle.chess_cli.specs.Runs.{Runs, Partly}
 use Rattle.chess_cli.specs.Reads.{Holds, Feeds, Finishes}
 use Rattle.chess_cli.specs.LineSoFar.{LineSoFar}
 use Rattle.chess_cli.proofs.LineLemmas.{ended_lines-append, unfinished-append}

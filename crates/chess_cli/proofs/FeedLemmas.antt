@@ -1,16 +1,15 @@
 -- A piece is fed line by line.
 use Rattle.std.specs.Prelude.{OnOk}
-use Rattle.std.proofs.Common.{◌≡◌, ℕ, ◌+◌, ◌==◌, Bool, true, false, true≢false, length, List, [], ◌∷◌, ◌++◌, take, drop, Some, None, Result, Ok, Err, inl, inr, refl, sym, ap, ◌∙◌, subst, append_assoc, append-nil}
+use Rattle.std.proofs.Common.{◌≡◌, ℕ, ◌+◌, ◌==◌, Bool, true, false, true≢false, length, List, [], ◌∷◌, ◌++◌, take, drop, Some, None, Result, Ok, Err, inl, inr, refl, sym, ◌∙◌, append_assoc, append-nil}
 use Rattle.memchr.specs.Find.{IsFirstByte, is_byte}
 use Rattle.chess_types.specs.declared.source.Failed.{Failed}
 use Rattle.chess_cli.specs.Lines.{ended_lines, last_line, unfinished}
-use Rattle.chess_cli.specs.Runs.{Runs, Partly, BrokenOff}
-use Rattle.chess_cli.specs.Ends.{IsFront}
-use Rattle.chess_cli.specs.Reads.{Holds, AnswersLine, Fed, FedPartly, Feeds, Finishes}
+use Rattle.chess_cli.specs.Runs.{Runs}
+use Rattle.chess_cli.specs.Reads.{Holds, AnswersLine, Feeds, Finishes}
 use Rattle.chess_cli.specs.LineSoFar.{LineSoFar}
-use Rattle.chess_cli.specs.Sending.{Sent, Broken, SentOr, Flows, Sends}
+use Rattle.chess_cli.specs.Sending.{Sent, Flows}
 use Rattle.chess_cli.proofs.LineLemmas.{ended_lines-at, unfinished-at, ended_lines-free, unfinished-free}
-use Rattle.chess_cli.proofs.RunLemmas.{Runs-none, Runs-one, Runs-append, Runs-more}
+use Rattle.chess_cli.proofs.RunLemmas.{Runs-none, Runs-one, Runs-more}
 use Rattle.chess_cli.proofs.SendingLemmas.{sent_start}
 
 -- So far: lines of the piece are answered, and the rest of it is to come.

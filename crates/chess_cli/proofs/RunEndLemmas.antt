@@ -7,7 +7,7 @@ use Rattle.chess_cli.specs.Ends.{Awaited, IsFront, EndsGood, EndsOver, EndsWrite
 use Rattle.chess_cli.specs.Lines.{ended_lines, last_line, lines_of, unfinished}
 use Rattle.chess_cli.proofs.EndLemmas.{length-joined}
 use Rattle.chess_cli.proofs.LineLemmas.{ended_lines-append}
-use Rattle.chess_cli.specs.Runs.{Runs, Partly, BrokenOff}
+use Rattle.chess_cli.specs.Runs.{Runs, Partly}
 use Rattle.chess_cli.proofs.RunLemmas.{Runs-more}
 
 module _ {S R W : Type 0} (step : S → List ℕ → List ℕ → S → Type 0) (beginning : S) (gives : R → List ℕ → R → Type 0) (read_failed : R → Bool) (takes : W → List ℕ → W → Type 0) (write_failed : W → Bool) where

@@ -1,5 +1,5 @@
 -- Texts that go out by way of a page.
-use Rattle.std.proofs.Common.{◌≡◌, ℕ, ◌+◌, ◌<◌, Bool, true, List, [], ◌++◌, length, length-append, take, Result, Ok, Err, refl, sym, ap, subst, ◌∙◌, append_assoc, append-nil, arith}
+use Rattle.std.proofs.Common.{◌≡◌, ℕ, ◌<◌, Bool, true, List, [], ◌++◌, length, length-append, take, Result, Ok, Err, refl, sym, ap, subst, ◌∙◌, append_assoc, append-nil, arith}
 use Rattle.chess_types.specs.Calls.{Carries}
 use Rattle.chess_types.specs.declared.source.Failed.{Failed}
 use Rattle.chess_types.proofs.CallLemmas.{Carries-none, Carries-append, Carries-more}

@@ -208,7 +208,15 @@ fn refuses_each_growth_in_turn(rt: HostRuntime) -> Result<(), Fail> {
         delete,start,step 0,new,play d2d4,set 4k3/8/8/8/8/8/8/4K2R w K - 0 1,play e1g1";
     for line in lines.split(|byte| *byte == b',') {
         let (mut first, mut second) = (Page::new(rt.alloc())?, Page::new(rt.alloc())?);
-        ask_twice(&rt, &mut board, &heap, &other, line, &mut first, &mut second)?;
+        ask_twice(
+            &rt,
+            &mut board,
+            &heap,
+            &other,
+            line,
+            &mut first,
+            &mut second,
+        )?;
     }
     assert_eq!(rt; board.tree().depth(), 1);
     Ok(())

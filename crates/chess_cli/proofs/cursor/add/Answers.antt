@@ -1,7 +1,6 @@
 use Rattle.std.proofs.Common.{ap, inl, refl, Ok, Err, sym, ◌∙◌}
 use Rattle.chess_draws.specs.declared.fault.LineFault.{LineFault}
 use Rattle.chess_tree.proofs.LineLemmas.{line_length}
-use Rattle.chess_cli.specs.declared.refusal.Refusal.{Refusal}
 use Rattle.chess_cli.proofs.CursorLemmas.{new_done, new_long, new_no_room, new_shallow, number, pushed_done, pushed_long, pushed_no_room}
 use Rattle.chess_cli.proofs.cursor.add.Goals as goal
 

@@ -1,1 +1,0 @@
-use Rattle.chess_cli.proofs.cursor.step_down.Goals as goal

@@ -1,4 +1,4 @@
-use Rattle.std.proofs.Common.{◌≡◌, ◌+◌, ◌==◌, ℕ, Bor, List, [], ◌∷◌, ◌++◌, take, true, length, map, refl, sym, ap, ◌∙◌, subst, rules, tests, arith}
+use Rattle.std.proofs.Common.{◌≡◌, ◌+◌, ◌==◌, ℕ, Bor, List, [], ◌∷◌, take, true, length, map, refl, sym, ◌∙◌, subst, rules, tests, arith}
 use Rattle.std.specs.Prelude.{nat_lt, slice_set}
 use Rattle.std.proofs.lemmas.List.{map-append, take_more_set, length-take-le}
 use Rattle.std.proofs.lemmas.Bool.Decides.{nat_tests}

@@ -1,5 +1,4 @@
-use Rattle.std.proofs.Common.{refl}
-use Rattle.chess_cli.specs.Answers.{Answers, beginning}
+use Rattle.chess_cli.specs.Answers.{Answers}
 use Rattle.chess_cli.proofs.RunEndLemmas.{never_over, whole_ends}
 use Rattle.chess_cli.proofs.over_streams.board_within.Goals as goal
 

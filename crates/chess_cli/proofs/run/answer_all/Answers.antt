@@ -1,6 +1,6 @@
-use Rattle.std.proofs.Common.{◌≡◌, [], take, inl, inr, arith, ◌∙◌, sym}
+use Rattle.std.proofs.Common.{[], take, inl, inr, arith, ◌∙◌, sym}
 use Rattle.std.proofs.lemmas.Grind.{common_steps}
-use Rattle.chess_cli.proofs.EndLemmas.{underway_on, ends_over, ends_failed, ends_many, ends_unwritten, ends_good, ends_unfinished}
+use Rattle.chess_cli.proofs.EndLemmas.{underway_on, ends_over, ends_unwritten, ends_good, ends_unfinished}
 use Rattle.chess_cli.proofs.run.answer_all.Goals as goal
 
 pub returns-in-Err-finish-clause-write_fault : goal.returns-in-Err-finish-clause-write_fault

@@ -1,4 +1,4 @@
-use Rattle.std.proofs.Common.{◌≡◌, [], ◌<◌, length, false}
+use Rattle.std.proofs.Common.{◌≡◌, [], false}
 use Rattle.chess_cli.proofs.EndLemmas.{Underway}
 use Rattle.chess_cli.proofs.run.answer_all.Given as goal
 

@@ -1,4 +1,3 @@
-use Rattle.std.proofs.Common.{[]}
 use Rattle.chess_cli.proofs.FeedLemmas.{fed_flushed}
 use Rattle.chess_cli.proofs.run.feed.Goals as goal
 

@@ -1,4 +1,4 @@
-use Rattle.std.proofs.Common.{[], sym, ◌∙◌}
+use Rattle.std.proofs.Common.{sym, ◌∙◌}
 use Rattle.chess_cli.proofs.FeedLemmas.{finish_broken, finish_whole}
 use Rattle.chess_cli.proofs.run.finish.Goals as goal
 

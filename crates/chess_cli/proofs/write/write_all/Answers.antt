@@ -1,4 +1,4 @@
-use Rattle.std.proofs.Common.{[], ◌∙◌, arith}
+use Rattle.std.proofs.Common.{arith}
 use Rattle.std.proofs.lemmas.Grind.{common_steps}
 use Rattle.chess_cli.proofs.SendingLemmas.{sent_call}
 use Rattle.chess_cli.proofs.write.write_all.Goals as goal

@@ -4,9 +4,7 @@ use Rattle.chess_types.specs.Squares.{squares}
 use Rattle.chess_types.specs.Board.{man_at}
 use Rattle.chess_types.specs.Attack.{checks_from}
 use Rattle.chess_types.specs.Position.{State, look}
-use Rattle.chess_types.specs.Lines.{last}
 use Rattle.chess_types.specs.Texts.{square_text}
-use Rattle.chess_tree.specs.GameTree.{line_to}
 use Rattle.chess_cli.specs.Answers.{list_text}
 use Rattle.chess_cli.proofs.ListLemmas.{same_squares}
 use Rattle.chess_cli.proofs.machine.Board.checks.Goals as goal

@@ -1,5 +1,5 @@
 use Rattle.chess_cli.specs.Answers.{long_line, no_memory}
-use Rattle.chess_cli.proofs.AnswerLemmas.{answers_whole, answers_long, answers_without_memory}
+use Rattle.chess_cli.proofs.AnswerLemmas.{answers_long, answers_without_memory}
 use Rattle.chess_cli.proofs.SendingLemmas.{puts}
 use Rattle.std.proofs.Common.{refl}
 use Rattle.chess_cli.proofs.machine.BoardEngine.answer.Goals as goal

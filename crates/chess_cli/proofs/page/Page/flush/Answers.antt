@@ -1,5 +1,3 @@
-use Rattle.std.proofs.Common.{Ok, Err, subst, sym, ap, ◌∙◌}
-use Rattle.chess_types.specs.declared.source.Failed.{Failed}
 use Rattle.chess_cli.proofs.SendingLemmas.{sent_on, broken_on}
 use Rattle.chess_cli.proofs.page.Page.flush.Goals as goal
 
