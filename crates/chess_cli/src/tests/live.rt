@@ -233,17 +233,19 @@ fn en_passant(rt: HostRuntime) -> Result<(), Fail> {
 #[test]
 fn not_pseudo_legal(rt: HostRuntime) -> Result<(), Fail> {
     let table = crate::keys::key_table();
-    let refused: [(&[u8], &[u8]); 6] = [
+    let refused: [(&[u8], &[u8]); 7] = [
         // f1 is attacked
         (b"4kr2/8/8/8/8/8/8/R3K2R w KQ - 0 1", b"e1g1"),
+        // g1 is
+        (b"4k1r1/8/8/8/8/8/8/R3K2R w KQ - 0 1", b"e1g1"),
+        // the king itself is
+        (b"4k3/8/8/8/4r3/8/8/R3K2R w KQ - 0 1", b"e1g1"),
         // no right
         (b"4k3/8/8/8/8/8/8/R3K2R w K - 0 1", b"e1c1"),
         // a man between
         (b"4k3/8/8/8/8/8/8/RN2K3 w Q - 0 1", b"e1c1"),
         // a pawn that names nothing on the last rank
         (b"8/P3k3/8/8/8/8/8/4K3 w - - 0 1", b"a7a8"),
-        // a king is never taken
-        (b"4k3/8/8/8/8/8/8/4K2R b - - 0 1", b"e8e1"),
         // the other side's man
         (b"4k3/8/8/8/8/8/8/4K2R b - - 0 1", b"h1h2"),
     ];
@@ -251,5 +253,21 @@ fn not_pseudo_legal(rt: HostRuntime) -> Result<(), Fail> {
         let live = Live::new(read(fen)?, &table);
         assert!(rt; !live.is_pseudo(Move::parse(text).expect(&rt, "a move")));
     }
+    Ok(())
+}
+
+/// A king is never taken, though a move that is no legal one has left it attacked.
+#[test]
+fn a_king_is_never_taken(rt: HostRuntime) -> Result<(), Fail> {
+    let table = crate::keys::key_table();
+    let mut live = Live::new(read(b"4k3/8/8/8/4r3/8/4R3/4K3 w - - 0 1")?, &table);
+    let m = Move::parse(b"e2a2").expect(&rt, "a move");
+    assert!(rt; live.is_pseudo(m));
+    assert!(rt; live.position().clock < 1_000_000);
+    assert!(rt; live.position().number < 1_000_000);
+    let made = live.make(m);
+    assert!(rt; live.is_pseudo(Move::parse(b"e4e2").expect(&rt, "a move")));
+    assert!(rt; !live.is_pseudo(Move::parse(b"e4e1").expect(&rt, "a move")));
+    live.undo(made);
     Ok(())
 }
