@@ -1,11 +1,8 @@
 ghost use Rattle.std.specs.Prelude.{◌≡◌, ◌+◌, ◌≤◌, [], ◌∷◌, ◌++◌, length, IfOk, OnOk};
-ghost use Rattle.chess_cli.specs.Answers.{refused as refused_text, ok_or_refused};
 ghost use Rattle.chess_cli.specs.Sending.{Flows};
 
-use super::refusal::Refusal;
 use super::write::write_all;
 use chess_types::{Failed, Sink};
-use itoa::Buffer;
 use std::alloc::{AllocError, Allocator};
 use std::marker::Model;
 
