@@ -28,15 +28,42 @@ impl From<AllocError> for Refused {
 
 const ABOUT: &str = "A chess board that answers by the Laws of Chess, line by line.";
 
-const ENGINE: &str =
-    "board: answers the lines of the standard input: new, set FEN, fen, counts w, counts b, eval, moves, checks";
+const ENGINE: &str = "board: answers the lines of the standard input, one line each";
+
+const COMMANDS: &str = "\
+Lines of board:
+  new          begins a game from the start position
+  set FEN      begins a game from that position
+  fen          the position as FEN
+  counts w|b   how many men of that colour attack each square
+  eval         the evaluation in centipawns
+  moves        the legal moves
+  checks       the squares of the men that give check
+  play MOVE    makes a move, Nf3 or g1f3: along the tree, or as a new variation
+  back         one move back
+  step N       one move on, to child N of the position, from 0
+  start, end   to the first position; along the main line to its end
+  goto PATH    to the position at a path, 0.0.1
+  path         the path to the position
+  promote      makes the variation that leads here the first
+  delete       takes out the position and all that follows
+  comment TEXT sets the position's comment
+  nag N        adds an annotation number, 0 to 255
+  count        how often the line has come to its last position
+  status       mate, stalemate, dead, fivefold, seventyfive or play
+  claims       the draws that may be claimed
+  claim MOVE   those that may be claimed with that move
+An answer `refused N NAME` changes nothing; docs/FORMATS.md lists the refusals.";
 
 fn matched<S: AsStr>(alloc: Global, words: &[S]) -> Result<Option<Asked>, Error> {
     let engine = Arg::new(alloc, "engine")
         .required(true)
         .help(ENGINE)
         .value_parser(["board"].as_slice());
-    let command = Command::new(alloc, "chess").about(ABOUT).arg(engine)?;
+    let command = Command::new(alloc, "chess")
+        .about(ABOUT)
+        .after_help(COMMANDS)
+        .arg(engine)?;
     let matches = command.try_get_matches_from(words)?;
     Ok(match matches.get_str("engine") {
         Some("board") => Some(Asked::Board),

@@ -1,17 +1,12 @@
 -- Amounts of 1 and 0, and what moves by an amount.
 use Rattle.std.proofs.Common.{◌≡◌, ℕ, ◌+◌, ◌<◌, ◌≤◌, Bool, true, false, refl, subst, arith}
 use Rattle.std.proofs.Math.Bool.{and-false}
-use Rattle.chess_types.specs.declared.man.Colour.{Colour}
-use Rattle.chess_types.specs.declared.man.Colour.TheVariants.{White, Black}
-use Rattle.chess_types.specs.Men.{same_colour}
+use Rattle.chess_types.specs.declared.board.man.Colour.{Colour}
+use Rattle.chess_types.proofs.SameLemmas.{same_self}
 use Rattle.chess_attack.specs.declared.change.Change.{Change}
 use Rattle.chess_attack.specs.declared.change.Change.TheVariants.{Raise, Lower}
 use Rattle.chess_attack.specs.KeptCounts.{KeptCounts, count_in}
-use Rattle.chess_attack.specs.Marks.{Moved, HasRoom, Moves, HasRoomFor, one_if}
-
-pub same_self : (colour : Colour) → same_colour colour colour ≡ true
-same_self White = refl
-same_self Black = refl
+use Rattle.chess_attack.specs.steps.Marks.{Moved, HasRoom, Moves, HasRoomFor, one_if}
 
 pub one_if-false : (colour c : Colour) (b : Bool) → b ≡ false → one_if colour c b ≡ 0
 one_if-false colour c b h = rw (h, and-false) refl

@@ -2,12 +2,12 @@
 use Rattle.std.proofs.Common.{◌≡◌, ◌==◌, ℕ, ◌<◌, ◌≢◌, nat_lt, true, false, ◌&&◌, ◌||◌, refl, sym, subst, ◌∙◌, arith, inl, inr, ◌⊎◌}
 use Rattle.chess_attack.specs.declared.way.Way.{Way}
 use Rattle.chess_attack.specs.declared.way.Way.TheVariants.{Up, Down}
-use Rattle.chess_types.specs.declared.axis.Axis.{Axis}
-use Rattle.chess_types.specs.declared.axis.Axis.TheVariants.{Rank, File, Rising, Falling}
+use Rattle.chess_types.specs.declared.board.axis.Axis.{Axis}
+use Rattle.chess_types.specs.declared.board.axis.Axis.TheVariants.{Rank, File, Rising, Falling}
 use Rattle.std.proofs.lemmas.Bool.{and_parts, or_cases, cases_Bool, eqb-true, ltb-true, lt-ltb, eq-eqb, and_from}
 use Rattle.std.proofs.lemmas.Bool.Decides.{nat_tests}
-use Rattle.chess_types.specs.Squares.{line_of, is_between_on, is_between}
-use Rattle.chess_attack.specs.Halves.{on_half, is_towards}
+use Rattle.chess_types.specs.board.Squares.{line_of, is_between_on, is_between}
+use Rattle.chess_attack.specs.steps.Halves.{on_half, is_towards}
 
 -- two squares share at most one axis
 pub axes_meet :

@@ -1,11 +1,11 @@
 -- A clear line: no man stands strictly between its ends.
 use Rattle.std.proofs.Common.{◌≡◌, ℕ, ◌<◌, true, not, ◌||◌, Option, Some, None, is_none, refl, sym, arith, inl, inr}
 use Rattle.std.proofs.lemmas.Bool.{or_cases, cases_Bool, true≢false}
-use Rattle.chess_types.specs.declared.man.Man.{Man}
-use Rattle.chess_types.specs.Board.{Look}
-use Rattle.chess_types.specs.Squares.{is_between, squares}
-use Rattle.chess_types.specs.Attack.{is_clear}
-use Rattle.chess_attack.proofs.Runs.{list_all_at, list_all_from}
+use Rattle.chess_types.specs.declared.board.man.Man.{Man}
+use Rattle.chess_types.specs.board.Board.{Look}
+use Rattle.chess_types.specs.board.Squares.{is_between, squares}
+use Rattle.chess_types.specs.board.Attack.{is_clear}
+use Rattle.chess_types.proofs.Runs.{list_all_at, list_all_from}
 
 none_of : (o : Option Man) → is_none o ≡ true → o ≡ None
 none_of None h = refl

@@ -1,11 +1,11 @@
 -- The eight halves of the axes through a square: a square is on one of them at most, and together they have at most 27 squares.
 use Rattle.std.proofs.Common.{◌≡◌, ℕ, ◌+◌, ◌<◌, ◌≤◌, ◌≢◌, true, false, arith, inl, inr, ◌⊎◌}
 use Rattle.std.proofs.lemmas.Bool.{cases_Bool, false_from_ne_true}
-use Rattle.chess_types.specs.declared.axis.Axis.{Axis}
-use Rattle.chess_types.specs.declared.axis.Axis.TheVariants.{Rank, File, Rising, Falling}
+use Rattle.chess_types.specs.declared.board.axis.Axis.{Axis}
+use Rattle.chess_types.specs.declared.board.axis.Axis.TheVariants.{Rank, File, Rising, Falling}
 use Rattle.chess_attack.specs.declared.way.Way.{Way}
 use Rattle.chess_attack.specs.declared.way.Way.TheVariants.{Up, Down}
-use Rattle.chess_attack.specs.Halves.{on_half, half_length}
+use Rattle.chess_attack.specs.steps.Halves.{on_half, half_length}
 use Rattle.chess_attack.proofs.Axes.{other_way, other_axis}
 
 neither : (axis : Axis) (at s : ℕ) → on_half axis Up at s ≡ false → on_half axis Down at s ≡ false → (way : Way) → on_half axis way at s ≡ false

@@ -1,14 +1,15 @@
 -- The counts of the men on the first squares, which grow by one man's own attacks at a time.
 use Rattle.std.proofs.Common.{◌≡◌, ℕ, suc, ◌+◌, ◌<◌, ◌≤◌, ◌&&◌, Some, None, refl, sym, ap, ◌∙◌, arith, add-one}
-use Rattle.chess_types.specs.declared.man.Colour.{Colour}
-use Rattle.chess_types.specs.declared.man.Man.{Man}
-use Rattle.chess_types.specs.Board.{Board, Look, man_at}
-use Rattle.chess_types.specs.Men.{same_colour}
-use Rattle.chess_types.specs.Attack.{attacks_as, attacks_for}
+use Rattle.chess_types.specs.declared.board.man.Colour.{Colour}
+use Rattle.chess_types.specs.declared.board.man.Man.{Man}
+use Rattle.chess_types.specs.board.Board.{Board, Look, man_at}
+use Rattle.chess_types.specs.board.Men.{same_colour}
+use Rattle.chess_types.specs.board.Attack.{attacks_as, attacks_for}
+use Rattle.chess_types.proofs.Sums.{bit_small, total, total-none, total-more, total-small}
 use Rattle.chess_attack.specs.declared.change.Change.TheVariants.{Raise}
 use Rattle.chess_attack.specs.KeptCounts.{KeptCounts, AreZero, AreCounts, count_in}
-use Rattle.chess_attack.specs.Marks.{Moves, HasRoomFor, own}
-use Rattle.chess_attack.proofs.Counting.{bit_small, total, total-none, total-more, total-small, weight, count_is_total}
+use Rattle.chess_attack.specs.steps.Marks.{Moves, HasRoomFor, own}
+use Rattle.chess_attack.proofs.Counting.{weight, count_is_total}
 
 -- how many men on the first squares attack s
 abbrev pub count_below : Look → ℕ → Colour → ℕ → ℕ

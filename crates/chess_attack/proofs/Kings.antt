@@ -1,19 +1,17 @@
 -- The only king of a colour, and the men that attack it.
-use Rattle.std.proofs.Common.{◌≡◌, ℕ, zero, suc, ◌+◌, ◌-◌, ◌<◌, ◌≤◌, Bool, true, false, ◌&&◌, nat_lt, refl, sym, ap, subst, ◌∙◌, arith, inl, inr}
+use Rattle.std.proofs.Common.{◌≡◌, ℕ, zero, suc, ◌+◌, ◌<◌, ◌≤◌, Bool, true, false, ◌&&◌, nat_lt, refl, sym, ap, subst, ◌∙◌, arith, inl, inr}
 use Rattle.std.specs.Ordering.{nat_cmp}
 use Rattle.std.specs.FinSet.{FinSet, contains, insert, empty, contains-empty}
 use Rattle.std.proofs.lemmas.Bool.{and_parts, and_from, cases_eq, cases_order}
 use Rattle.std.proofs.lemmas.Bool.Decides.{nat_tests}
-use Rattle.chess_types.specs.declared.man.Colour.{Colour}
-use Rattle.chess_types.specs.declared.man.Colour.TheVariants.{White, Black}
-use Rattle.chess_types.specs.Board.{Board, man_at}
-use Rattle.chess_types.specs.Squares.{squares}
-use Rattle.chess_types.specs.Men.{census, is_king_of, kings_of, opponent}
-use Rattle.chess_types.specs.Attack.{attacks_for, checks_from, is_attacked, in_check}
-use Rattle.chess_attack.specs.OwnSide.{counted_from}
-use Rattle.chess_attack.proofs.Counting.{bit, total, sum_by-range, total-at, total-agree, total-zero}
+use Rattle.chess_types.specs.declared.board.man.Colour.{Colour}
+use Rattle.chess_types.specs.board.Board.{Board, man_at}
+use Rattle.chess_types.specs.board.Squares.{squares}
+use Rattle.chess_types.specs.board.Men.{count_squares, is_king_of, kings_of, opponent}
+use Rattle.chess_types.specs.board.Attack.{attacks_for, checks_from, is_attacked, in_check}
+use Rattle.chess_types.proofs.Sums.{bit, total, sum_by-range, total-at, total-agree, total-zero}
 use Rattle.chess_attack.proofs.Reached.{inserted}
-use Rattle.chess_attack.proofs.Runs.{list_any_at, list_any_from, same_test}
+use Rattle.chess_types.proofs.Runs.{list_any_at, list_any_from, same_test}
 
 -- two values are at most the sum
 total-pair : (f : ℕ → ℕ) (i j a n : ℕ) → a ≤ i → i < j → j < a + n → f i + f j ≤ total f a n
@@ -29,7 +27,7 @@ total-pair f i j a (suc n) low order high =
     ]
 
 kings_total : (board : Board) (colour : Colour) → kings_of board colour ≡ total (λ s. bit (is_king_of colour (man_at board s))) 0 64
-unfolding census squares
+unfolding count_squares squares
 kings_total board colour = sum_by-range (λ s. bit (is_king_of colour (man_at board s))) 0 64
 
 -- a board with one king has one
@@ -39,16 +37,6 @@ no_king board colour one none =
     let zeros : total (λ s. bit (is_king_of colour (man_at board s))) 0 64 ≡ total (λ s. 0) 0 64 =
     total-agree (λ s. bit (is_king_of colour (man_at board s))) (λ s. 0) 0 64 (λ s low high. ap bit (none s high)) in
     omega (arith, kings_total board colour, total-zero (λ s. 0) 0 64 (λ s. refl))
-
--- whichever way the squares are gone through
-pub no_king_counted :
-    (board : Board) (colour : Colour) → kings_of board colour ≡ 1 →
-    ((n : ℕ) → n < 64 → is_king_of colour (man_at board (counted_from colour n)) ≡ false) → ⊥
-no_king_counted board White one none = no_king board White one none
-no_king_counted board Black one none =
-    no_king board Black one (λ s hs.
-    let back : 63 - (63 - s) ≡ s = omega arith in
-    ap (λ t. is_king_of Black (man_at board t)) (sym back) ∙ none (63 - s) (omega arith))
 
 -- and no other
 ordered_kings :

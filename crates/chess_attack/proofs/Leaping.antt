@@ -1,19 +1,17 @@
 -- The leaps of a knight, a king and a pawn, over so many files and ranks, are those of the Laws.
-use Rattle.std.proofs.Common.{◌≡◌, ◌==◌, ℕ, ◌+◌, ◌*◌, ◌<◌, Bool, true, false, cond, refl, sym, ap, subst, ◌∙◌, arith, inl, inr, ◌⊎◌}
+use Rattle.std.proofs.Common.{◌≡◌, ◌==◌, ℕ, ◌+◌, ◌*◌, ◌<◌, Bool, true, false, cond, refl, sym, ap, ◌∙◌, arith, inl, inr, ◌⊎◌}
 use Rattle.std.specs.List.{range_with_len, list_all}
-use Rattle.std.proofs.lemmas.Bool.{and_parts, and_from, and_left, and_right, eqb-true, eq-eqb}
-use Rattle.chess_types.specs.declared.man.Colour.{Colour}
-use Rattle.chess_types.specs.declared.man.Colour.TheVariants.{White, Black}
-use Rattle.chess_types.specs.declared.man.Kind.{Kind}
-use Rattle.chess_types.specs.declared.man.Kind.TheVariants.{Pawn, Knight, Bishop, Rook, Queen, King}
-use Rattle.chess_types.specs.declared.man.Man.{Man}
-use Rattle.chess_types.specs.Squares.{file_of, rank_of}
-use Rattle.chess_types.specs.Attack.{leaps}
-use Rattle.chess_attack.specs.declared.way.Way.{Way}
-use Rattle.chess_attack.specs.declared.way.Way.TheVariants.{Up, Down}
-use Rattle.chess_attack.specs.Marks.{one_if, leap}
-use Rattle.chess_attack.specs.Leaps.{is_off, lands, leap_knight, leap_king, leap_pawn}
-use Rattle.chess_attack.proofs.Runs.{list_all_at, same_test}
+use Rattle.std.proofs.lemmas.Bool.{eqb-true}
+use Rattle.chess_types.specs.declared.board.man.Colour.{Colour}
+use Rattle.chess_types.specs.declared.board.man.Colour.TheVariants.{White, Black}
+use Rattle.chess_types.specs.declared.board.man.Kind.{Kind}
+use Rattle.chess_types.specs.declared.board.man.Kind.TheVariants.{Pawn, Knight, Bishop, Rook, Queen, King}
+use Rattle.chess_types.specs.declared.board.man.Man.{Man}
+use Rattle.chess_types.specs.board.Squares.{file_of, rank_of}
+use Rattle.chess_types.specs.board.Attack.{leaps}
+use Rattle.chess_attack.specs.steps.Marks.{one_if, leap}
+use Rattle.chess_attack.specs.steps.Leaps.{lands, leap_king, leap_pawn}
+use Rattle.chess_types.proofs.Runs.{list_all_at}
 
 -- a bishop, a rook or a queen; and a pawn, a knight or a king
 abbrev pub IsSlider : Kind → Type 0
@@ -29,45 +27,9 @@ slider_leaps c k a b (inl e) = rw e refl
 slider_leaps c k a b (inr (inl e)) = rw e refl
 slider_leaps c k a b (inr (inr e)) = rw e refl
 
--- a leap leads to one file and one rank
-off_alone : (way : Way) (n a x y : ℕ) → is_off way n a x ≡ true → is_off way n a y ≡ true → x ≡ y
-off_alone Up n a x y p q = omega (arith, eqb-true x (a + n) p, eqb-true y (a + n) q)
-off_alone Down n a x y p q = omega (arith, eqb-true a (x + n) p, eqb-true a (y + n) q)
-
 -- the square of a file and a rank
 place_of : (file rank s : ℕ) → file < 8 → rank * 8 + file ≡ s → (file ≡ file_of s) × (rank ≡ rank_of s)
 place_of file rank s small e = (omega arith, omega arith)
-
--- so to one square
-pub lands_there :
-    (across : Way) (files : ℕ) (along : Way) (ranks at file rank t s : ℕ) → file < 8 →
-    is_off across files (file_of at) file ≡ true → is_off along ranks (rank_of at) rank ≡ true → t ≡ rank * 8 + file →
-    lands across files along ranks at s ≡ (t == s)
-unfolding lands
-lands_there across files along ranks at file rank t s small on_file on_rank there = same_test _ _
-    (λ h.
-    let p : (is_off across files (file_of at) (file_of s) ≡ true) × (is_off along ranks (rank_of at) (rank_of s) ≡ true) = and_parts _ _ h in
-    let e : file ≡ file_of s = off_alone across files (file_of at) file (file_of s) on_file p.0 in
-    let f : rank ≡ rank_of s = off_alone along ranks (rank_of at) rank (rank_of s) on_rank p.1 in
-    eq-eqb t s (omega arith))
-    (λ h.
-    let place : (file ≡ file_of s) × (rank ≡ rank_of s) = place_of file rank s small (sym there ∙ eqb-true t s h) in
-    and_from _ _ (subst (λ x. is_off across files (file_of at) x ≡ true) place.0 on_file)
-    (subst (λ x. is_off along ranks (rank_of at) x ≡ true) place.1 on_rank))
-
--- where the board has no such file, the leap lands nowhere
-pub lands_no_file :
-    (across : Way) (files : ℕ) (along : Way) (ranks at s : ℕ) → ((to : ℕ) → to < 8 → is_off across files (file_of at) to ≡ false) →
-    lands across files along ranks at s ≡ false
-unfolding lands
-lands_no_file across files along ranks at s none = and_left _ _ (none (file_of s) (omega arith))
-
--- nor where it has no such rank
-pub lands_no_rank :
-    (across : Way) (files : ℕ) (along : Way) (ranks at s : ℕ) → s < 64 → ((to : ℕ) → to < 8 → is_off along ranks (rank_of at) to ≡ false) →
-    lands across files along ranks at s ≡ false
-unfolding lands
-lands_no_rank across files along ranks at s hs none = and_right _ _ (none (rank_of s) (omega arith))
 
 -- the test of a table over each pair of squares
 abbrev agree : (ℕ → ℕ → ℕ) → (ℕ → ℕ → Bool) → Bool
@@ -78,10 +40,6 @@ agree_at sum test at s h hat hs =
     let row : list_all (λ x. sum at x == cond (test at x) 1 0) (range_with_len 0 64) ≡ true =
     list_all_at (λ y. list_all (λ x. sum y x == cond (test y x) 1 0) (range_with_len 0 64)) 0 64 at h (omega arith) hat in
     eqb-true _ _ (list_all_at (λ x. sum at x == cond (test at x) 1 0) 0 64 s row (omega arith) hs)
-
-knight_table : agree (λ at s. leap_knight White at White s) (leaps White Knight) ≡ true
-unfolding leaps lands
-knight_table = refl
 
 king_table : agree (λ at s. leap_king White at White s) (leaps White King) ≡ true
 unfolding leaps lands
@@ -95,14 +53,6 @@ black_pawn_table : agree (λ at s. leap_pawn Black at Black s) (leaps Black Pawn
 unfolding leaps lands
 black_pawn_table = refl
 
--- the leaps of each kind, for a colour
-knight_leaps : (colour c : Colour) (at s : ℕ) → at < 64 → s < 64 → leap_knight colour at c s ≡ one_if colour c (leaps colour Knight at s)
-unfolding leaps
-knight_leaps White White at s hat hs = agree_at (λ x y. leap_knight White x White y) (leaps White Knight) at s knight_table hat hs
-knight_leaps Black Black at s hat hs = agree_at (λ x y. leap_knight White x White y) (leaps White Knight) at s knight_table hat hs
-knight_leaps White Black at s hat hs = refl
-knight_leaps Black White at s hat hs = refl
-
 king_leaps : (colour c : Colour) (at s : ℕ) → at < 64 → s < 64 → leap_king colour at c s ≡ one_if colour c (leaps colour King at s)
 unfolding leaps
 king_leaps White White at s hat hs = agree_at (λ x y. leap_king White x White y) (leaps White King) at s king_table hat hs
@@ -115,10 +65,6 @@ pawn_leaps White White at s hat hs = agree_at (λ x y. leap_pawn White x White y
 pawn_leaps Black Black at s hat hs = agree_at (λ x y. leap_pawn Black x Black y) (leaps Black Pawn) at s black_pawn_table hat hs
 pawn_leaps White Black at s hat hs = refl
 pawn_leaps Black White at s hat hs = refl
-
--- what the man's leaps are, by its kind
-pub knight_own : (man : Man) (c : Colour) (at s : ℕ) → at < 64 → s < 64 → man.kind ≡ Knight → leap_knight man.colour at c s ≡ leap man at c s
-knight_own man c at s hat hs is = knight_leaps man.colour c at s hat hs ∙ ap (λ x. one_if man.colour c (leaps man.colour x at s)) (sym is)
 
 pub king_own : (man : Man) (c : Colour) (at s : ℕ) → at < 64 → s < 64 → man.kind ≡ King → leap_king man.colour at c s ≡ leap man at c s
 king_own man c at s hat hs is = king_leaps man.colour c at s hat hs ∙ ap (λ x. one_if man.colour c (leaps man.colour x at s)) (sym is)

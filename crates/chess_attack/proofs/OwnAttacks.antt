@@ -1,12 +1,12 @@
 -- A man's own attacks, by its kind: a slider's are its slides, a leaper's are its leaps.
 use Rattle.std.proofs.Common.{◌≡◌, ℕ, ◌<◌, false, refl, inl, inr}
-use Rattle.std.proofs.Math.Bool.{and-false, or-false}
-use Rattle.chess_types.specs.declared.man.Colour.{Colour}
-use Rattle.chess_types.specs.declared.man.Kind.{Kind}
-use Rattle.chess_types.specs.declared.man.Man.{Man}
-use Rattle.chess_types.specs.Board.{Look}
-use Rattle.chess_types.specs.Attack.{slides, slides_to, attacks_as}
-use Rattle.chess_attack.specs.Marks.{own, slide, leap}
+use Rattle.std.proofs.Math.Bool.{and-false}
+use Rattle.chess_types.specs.declared.board.man.Colour.{Colour}
+use Rattle.chess_types.specs.declared.board.man.Kind.{Kind}
+use Rattle.chess_types.specs.declared.board.man.Man.{Man}
+use Rattle.chess_types.specs.board.Board.{Look}
+use Rattle.chess_types.specs.board.Attack.{slides, slides_to}
+use Rattle.chess_attack.specs.steps.Marks.{own, slide}
 use Rattle.chess_attack.proofs.Leaping.{IsSlider, IsLeaper, slider_leaps}
 use Rattle.chess_attack.proofs.Slides.{slide_is_own}
 
@@ -22,9 +22,3 @@ pub slider_own :
     (man : Man) (look : Look) (at : ℕ) (c : Colour) (s : ℕ) → at < 64 → s < 64 → IsSlider man.kind →
     slide man look at c s ≡ own man look at c s
 slider_own man look at c s hat hs h = slide_is_own man look at c s hat hs (slider_leaps man.colour man.kind at s h)
-
--- a leaper's are its leaps
-pub leaper_own :
-    (man : Man) (look : Look) (at : ℕ) (c : Colour) (s : ℕ) → IsLeaper man.kind → leap man at c s ≡ own man look at c s
-unfolding attacks_as
-leaper_own man look at c s h = rw (leaper_slides man.kind at s h, or-false) refl

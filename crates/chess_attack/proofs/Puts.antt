@@ -1,30 +1,31 @@
 -- Putting a man and taking it away, from the parts: his own attacks, and those through his square.
 use Rattle.std.proofs.Common.{◌≡◌, ℕ, ◌+◌, ◌<◌, ◌≤◌, ◌≢◌, true, false, ◌&&◌, Some, refl, sym, ap, ◌∙◌, arith, inl, inr}
 use Rattle.std.proofs.lemmas.Bool.{and_from, cases_Bool, true≢false}
-use Rattle.chess_types.specs.declared.axis.Axis.{Axis}
-use Rattle.chess_types.specs.declared.axis.Axis.TheVariants.{Rank, File, Rising, Falling}
-use Rattle.chess_types.specs.declared.man.Colour.{Colour}
-use Rattle.chess_types.specs.declared.man.Man.{Man}
-use Rattle.chess_types.specs.Board.{Board, Look, man_at}
-use Rattle.chess_types.specs.Men.{same_colour}
-use Rattle.chess_types.specs.Squares.{line_of, is_between}
-use Rattle.chess_types.specs.Attack.{attacks_as, count}
+use Rattle.chess_types.specs.declared.board.axis.Axis.{Axis}
+use Rattle.chess_types.specs.declared.board.axis.Axis.TheVariants.{Rank, File, Rising, Falling}
+use Rattle.chess_types.specs.declared.board.man.Colour.{Colour}
+use Rattle.chess_types.specs.declared.board.man.Man.{Man}
+use Rattle.chess_types.specs.board.Board.{Board, Look, man_at}
+use Rattle.chess_types.specs.board.Men.{same_colour}
+use Rattle.chess_types.specs.board.Squares.{line_of, is_between}
+use Rattle.chess_types.specs.board.Attack.{attacks_as, count}
 use Rattle.chess_attack.specs.declared.change.Change.TheVariants.{Raise, Lower}
 use Rattle.chess_attack.specs.declared.way.Way.{Way}
 use Rattle.chess_attack.specs.declared.way.Way.TheVariants.{Up, Down}
-use Rattle.chess_attack.specs.Halves.{on_half, opposite}
+use Rattle.chess_attack.specs.steps.Halves.{on_half, opposite}
 use Rattle.chess_attack.specs.KeptCounts.{KeptCounts, AreCounts}
-use Rattle.chess_attack.specs.Marks.{Moves, HasRoomFor, reaches, own}
-use Rattle.chess_attack.specs.Through.{is_seen, cut_on, cut}
+use Rattle.chess_attack.specs.steps.Marks.{Moves, HasRoomFor, reaches, own}
+use Rattle.chess_attack.specs.steps.Through.{is_attacked_along, cut_on, cut}
 use Rattle.chess_attack.proofs.Added.{Adds, clear_same, attack_kept}
 use Rattle.chess_attack.proofs.Axes.{apart_from, BetweenOn, between_parts, Towards, half_parts}
-use Rattle.chess_attack.proofs.Counting.{bit_small, total, total-at, weight, count_is_total, count_small}
+use Rattle.chess_attack.proofs.Counting.{weight, count_is_total, count_small}
 use Rattle.chess_attack.proofs.Cuts.{IsSeen, seen_from, seen_parts, count_cut}
-use Rattle.chess_attack.proofs.Runs.{same_test}
+use Rattle.chess_types.proofs.Sums.{bit_small, total, total-at}
+use Rattle.chess_types.proofs.Runs.{same_test}
 
 seen_to :
-    (A B : Look) (axis : Axis) (way : Way) (at : ℕ) (c : Colour) → is_seen A axis way at c ≡ true →
-    ((t : ℕ) → t < 64 → t ≢ at → A t ≡ B t) → ((s : ℕ) → reaches A axis way at s ≡ reaches B axis way at s) → is_seen B axis way at c ≡ true
+    (A B : Look) (axis : Axis) (way : Way) (at : ℕ) (c : Colour) → is_attacked_along A axis way at c ≡ true →
+    ((t : ℕ) → t < 64 → t ≢ at → A t ≡ B t) → ((s : ℕ) → reaches A axis way at s ≡ reaches B axis way at s) → is_attacked_along B axis way at c ≡ true
 seen_to A B axis way at c h same reach =
     let (f, m, seen) : (f : ℕ) × (m : Man) × IsSeen A axis way at c f m = seen_parts A axis way at c h in
     let p : (line_of axis at ≡ line_of axis f) × Towards way at f = half_parts axis way at f seen.first.half in
@@ -53,7 +54,7 @@ module _ (E F : Look) (at : ℕ) (man : Man) (adds : Adds E F at man) where
       attack_kept E F at man adds m at s (λ along clear inside. true≢false (sym inside ∙ not_between s)) in
       rw e refl
 
-  pub seen_same : (axis : Axis) (way : Way) (c : Colour) → is_seen F axis way at c ≡ is_seen E axis way at c
+  pub seen_same : (axis : Axis) (way : Way) (c : Colour) → is_attacked_along F axis way at c ≡ is_attacked_along E axis way at c
   seen_same axis way c = same_test _ _
       (λ h. seen_to F E axis way at c h (λ t ht ne. adds.rest t ht ne) (λ s. reaches_same axis way s))
       (λ h. seen_to E F axis way at c h (λ t ht ne. sym (adds.rest t ht ne)) (λ s. sym (reaches_same axis way s)))

@@ -1,17 +1,18 @@
 -- From the ticks of kept counts to how far apart the attack counts of the boards are.
 use Rattle.std.proofs.Common.{◌≡◌, ℕ, ◌+◌, ◌-◌, ◌<◌, ◌≤◌, ◌^◌, None, sym, ◌∙◌, arith}
-use Rattle.chess_types.specs.declared.man.Colour.{Colour}
-use Rattle.chess_types.specs.declared.man.Colour.TheVariants.{White, Black}
-use Rattle.chess_types.specs.Board.{Board, Look, man_at}
-use Rattle.chess_types.specs.Squares.{squares}
-use Rattle.chess_types.specs.Attack.{gap, count}
+use Rattle.chess_types.specs.declared.board.man.Colour.{Colour}
+use Rattle.chess_types.specs.declared.board.man.Colour.TheVariants.{White, Black}
+use Rattle.chess_types.specs.board.Board.{Board, Look, man_at}
+use Rattle.chess_types.specs.board.Squares.{squares}
+use Rattle.chess_types.specs.board.Attack.{distance, count}
+use Rattle.chess_types.proofs.Sums.{total, total-zero, total-agree, total-le, total-add, sum_by-range}
 use Rattle.chess_attack.specs.KeptCounts.{KeptCounts, count_in, AreZero, AreCounts, changed_of, changed, Worked}
-use Rattle.chess_attack.proofs.Counting.{total, total-zero, total-agree, total-le, total-add, sum_by-range, count_none}
+use Rattle.chess_attack.proofs.Counting.{count_none}
 use Rattle.chess_attack.proofs.Work.{changed_is_total}
 
 -- by how much the two attack counts of a square differ
 abbrev gap_of : Look → Look → ℕ → ℕ
-gap_of before after s = gap (count before White s) (count after White s) + gap (count before Black s) (count after Black s)
+gap_of before after s = distance (count before White s) (count after White s) + distance (count before Black s) (count after Black s)
 
 changed_of_is_total : (before after : Look) → changed_of before after ≡ total (gap_of before after) 0 64
 unfolding changed_of squares

@@ -1,18 +1,18 @@
 -- A walk from `at` towards a square that lies on its half: whether a man stands between the two.
 use Rattle.std.proofs.Common.{◌≡◌, ℕ, ◌<◌, ◌≢◌, true, false, is_some, sym, ap, ◌∙◌, arith, inl, inr}
-use Rattle.std.proofs.lemmas.Bool.{and_parts, cases_Bool, true≢false}
-use Rattle.chess_types.specs.declared.axis.Axis.{Axis}
-use Rattle.chess_types.specs.declared.man.Kind.{Kind}
-use Rattle.chess_types.specs.Board.{Look}
-use Rattle.chess_types.specs.Squares.{line_of}
-use Rattle.chess_types.specs.Attack.{is_clear, slides, slides_to}
+use Rattle.std.proofs.lemmas.Bool.{cases_Bool, true≢false}
+use Rattle.chess_types.specs.declared.board.axis.Axis.{Axis}
+use Rattle.chess_types.specs.declared.board.man.Kind.{Kind}
+use Rattle.chess_types.specs.board.Board.{Look}
+use Rattle.chess_types.specs.board.Squares.{line_of}
+use Rattle.chess_types.specs.board.Attack.{is_clear, slides, slides_to}
 use Rattle.chess_attack.specs.declared.way.Way.{Way}
 use Rattle.chess_attack.specs.declared.way.Way.TheVariants.{Up, Down}
-use Rattle.chess_attack.specs.Halves.{on_half, IsNext}
+use Rattle.chess_attack.specs.steps.Halves.{on_half, IsNext}
 use Rattle.chess_attack.proofs.Axes.{BetweenOn, Towards, apart_from, between_parts, half_parts, half_from}
 use Rattle.chess_attack.proofs.Clear.{clear_at, clear_from}
 use Rattle.chess_attack.proofs.Slides.{slides_to_on}
-use Rattle.chess_attack.proofs.Walks.{Walked, walked_reaches, between_of}
+use Rattle.chess_attack.proofs.Walks.{Walked, between_of}
 
 -- the next square isn't it, so it lies beyond
 pub still_ahead :
@@ -23,11 +23,6 @@ still_ahead axis way here t to n hto other ahead =
       | inl same ↦ absurd (other (sym same))
       | inr beyond ↦ beyond
     ]
-
--- the walk comes to it past no man
-pub clear_to :
-    (look : Look) (axis : Axis) (way : Way) (at here t : ℕ) → Walked look axis way at here → IsNext axis way here t → is_clear look at t ≡ true
-clear_to look axis way at here t w n = (and_parts _ _ (walked_reaches look axis way at here t w n)).1
 
 -- or a man stands before it
 pub barred :

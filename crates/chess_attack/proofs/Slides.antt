@@ -2,21 +2,21 @@
 use Rattle.std.proofs.Common.{◌≡◌, ◌==◌, ℕ, ◌<◌, ◌≢◌, true, false, not, ◌||◌, refl, sym, subst, ◌∙◌, arith, inl, inr}
 use Rattle.std.proofs.Math.Bool.{and-false}
 use Rattle.std.proofs.lemmas.Bool.{and_parts, or_cases, and_from, cases_Bool, true≢false, eqb-true, eqb-false, eq-eqb, ne_eqb, not-true, cases_order}
-use Rattle.chess_types.specs.declared.axis.Axis.{Axis}
-use Rattle.chess_types.specs.declared.axis.Axis.TheVariants.{Rank, File, Rising, Falling}
-use Rattle.chess_types.specs.declared.man.Colour.{Colour}
-use Rattle.chess_types.specs.declared.man.Kind.{Kind}
-use Rattle.chess_types.specs.declared.man.Man.{Man}
-use Rattle.chess_types.specs.Board.{Look}
-use Rattle.chess_types.specs.Squares.{line_of}
-use Rattle.chess_types.specs.Attack.{leaps, slides, slides_on, slides_to, attacks_as}
+use Rattle.chess_types.specs.declared.board.axis.Axis.{Axis}
+use Rattle.chess_types.specs.declared.board.axis.Axis.TheVariants.{Rank, File, Rising, Falling}
+use Rattle.chess_types.specs.declared.board.man.Colour.{Colour}
+use Rattle.chess_types.specs.declared.board.man.Kind.{Kind}
+use Rattle.chess_types.specs.declared.board.man.Man.{Man}
+use Rattle.chess_types.specs.board.Board.{Look}
+use Rattle.chess_types.specs.board.Squares.{line_of}
+use Rattle.chess_types.specs.board.Attack.{leaps, slides, slides_on, slides_to, attacks_as}
 use Rattle.chess_attack.specs.declared.way.Way.{Way}
 use Rattle.chess_attack.specs.declared.way.Way.TheVariants.{Up, Down}
-use Rattle.chess_attack.specs.Halves.{on_half}
-use Rattle.chess_attack.specs.Marks.{own, slide_on, slide}
+use Rattle.chess_attack.specs.steps.Halves.{on_half}
+use Rattle.chess_attack.specs.steps.Marks.{own, slide_on, slide}
 use Rattle.chess_attack.proofs.Axes.{axes_meet, apart_from, Towards, half_parts, half_from}
 use Rattle.chess_attack.proofs.Eights.{some_half, eight_on, eight_off}
-use Rattle.chess_attack.proofs.Runs.{same_test}
+use Rattle.chess_types.proofs.Runs.{same_test}
 
 -- a kind that slides along one axis from a to b moves along whichever axis they share
 slides_along :

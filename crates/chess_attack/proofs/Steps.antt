@@ -3,10 +3,10 @@ use Rattle.std.proofs.Common.{◌≡◌, ℕ, ◌+◌, ◌<◌, ◌≤◌, ◌�
 use Rattle.std.proofs.lemmas.Bool.{cases_Bool, cases_eq}
 use Rattle.chess_attack.specs.declared.way.Way.{Way}
 use Rattle.chess_attack.specs.declared.way.Way.TheVariants.{Up, Down}
-use Rattle.chess_types.specs.declared.axis.Axis.{Axis}
-use Rattle.chess_types.specs.declared.axis.Axis.TheVariants.{Rank, File, Rising, Falling}
-use Rattle.chess_types.specs.Squares.{line_of}
-use Rattle.chess_attack.specs.Halves.{on_half, half_length, stride, moved, IsNext, IsEnd}
+use Rattle.chess_types.specs.declared.board.axis.Axis.{Axis}
+use Rattle.chess_types.specs.declared.board.axis.Axis.TheVariants.{Rank, File, Rising, Falling}
+use Rattle.chess_types.specs.board.Squares.{line_of}
+use Rattle.chess_attack.specs.steps.Halves.{on_half, half_length, stride, stepped, IsNext, IsEnd}
 use Rattle.chess_attack.proofs.Axes.{Towards, half_parts, half_from}
 
 -- the target's place, and that the rest of the half is beyond it
@@ -17,7 +17,7 @@ record StepsTo (axis : Axis) (way : Way) (at t : ℕ) : Type 0 where
   nearest : (s : ℕ) → s < 64 → line_of axis at ≡ line_of axis s → Towards way at s → s ≢ t → Towards way t s
   shorter : half_length axis way at ≡ half_length axis way t + 1
 
-steps_to : (axis : Axis) (way : Way) (at : ℕ) → at < 64 → 0 < half_length axis way at → StepsTo axis way at (moved way at (stride axis))
+steps_to : (axis : Axis) (way : Way) (at : ℕ) → at < 64 → 0 < half_length axis way at → StepsTo axis way at (stepped way at (stride axis))
 steps_to Rank Up at h more = record { on_board = omega arith; line_is = omega arith; order = omega arith; nearest = λ s hs e o ne. omega arith; shorter = omega arith }
 steps_to Rank Down at h more = record { on_board = omega arith; line_is = omega arith; order = omega arith; nearest = λ s hs e o ne. omega arith; shorter = omega arith }
 steps_to File Up at h more = record { on_board = omega arith; line_is = omega arith; order = omega arith; nearest = λ s hs e o ne. omega arith; shorter = omega arith }
@@ -28,9 +28,9 @@ steps_to Falling Up at h more = record { on_board = omega arith; line_is = omega
 steps_to Falling Down at h more = record { on_board = omega arith; line_is = omega arith; order = omega arith; nearest = λ s hs e o ne. omega arith; shorter = omega arith }
 
 -- where the half has a square, one stride leads to the next
-pub step_next : (axis : Axis) (way : Way) (at : ℕ) → at < 64 → 0 < half_length axis way at → IsNext axis way at (moved way at (stride axis))
+pub step_next : (axis : Axis) (way : Way) (at : ℕ) → at < 64 → 0 < half_length axis way at → IsNext axis way at (stepped way at (stride axis))
 step_next axis way at h more =
-    let t : ℕ = moved way at (stride axis) in
+    let t : ℕ = stepped way at (stride axis) in
     let to : StepsTo axis way at t = steps_to axis way at h more in
     record {
       on_board = to.on_board;

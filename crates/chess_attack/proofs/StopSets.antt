@@ -5,24 +5,25 @@ use Rattle.std.specs.Ordering.{nat_cmp}
 use Rattle.std.specs.FinSet.{FinSet, contains, difference, contains-difference, union, contains-union, intersection, contains-intersection}
 use Rattle.std.proofs.lemmas.Cmp.{nat_cmp_total}
 use Rattle.std.proofs.lemmas.Bool.{and_parts, and_from, or_cases, or_left, or_right, cases_Bool, true≢false, not-true, eqb-true, eq-eqb, ne_eqb, lt-ltb}
-use Rattle.chess_types.specs.declared.axis.Axis.{Axis}
-use Rattle.chess_types.specs.declared.man.Colour.{Colour}
-use Rattle.chess_types.specs.declared.man.Man.{Man}
-use Rattle.chess_types.specs.Board.{Look}
-use Rattle.chess_types.specs.Men.{opponent}
-use Rattle.chess_types.specs.Squares.{is_between, line_of}
-use Rattle.chess_types.specs.Attack.{is_attacked, is_clear, slides_to, attacks_as}
+use Rattle.chess_types.specs.declared.board.axis.Axis.{Axis}
+use Rattle.chess_types.specs.declared.board.man.Colour.{Colour}
+use Rattle.chess_types.specs.declared.board.man.Man.{Man}
+use Rattle.chess_types.specs.board.Board.{Look}
+use Rattle.chess_types.specs.board.Men.{opponent}
+use Rattle.chess_types.specs.board.Squares.{is_between, line_of}
+use Rattle.chess_types.specs.board.Attack.{is_attacked, is_clear, slides_to, attacks_as}
 use Rattle.chess_attack.specs.declared.way.Way.{Way}
 use Rattle.chess_attack.specs.declared.way.Way.TheVariants.{Up, Down}
-use Rattle.chess_attack.specs.Halves.{on_half, opposite}
-use Rattle.chess_attack.specs.Pins.{stops, round, shaded_on}
-use Rattle.chess_attack.specs.Through.{is_seen}
+use Rattle.chess_attack.specs.steps.Halves.{on_half, opposite}
+use Rattle.chess_attack.specs.Pins.{stops}
+use Rattle.chess_attack.specs.steps.PinHalves.{round, shaded_on}
+use Rattle.chess_attack.specs.steps.Through.{is_attacked_along}
 use Rattle.chess_attack.proofs.Axes.{BetweenOn, between_parts, half_parts, half_from, apart_from}
 use Rattle.chess_attack.proofs.Cuts.{IsSeen, seen_parts}
 use Rattle.chess_attack.proofs.KingSteps.{between_flip, clear_flip}
 use Rattle.chess_attack.proofs.Lifted.{attacked_from}
 use Rattle.chess_attack.proofs.PinHalves.{round_at}
-use Rattle.chess_attack.proofs.Runs.{same_test}
+use Rattle.chess_types.proofs.Runs.{same_test}
 use Rattle.chess_attack.proofs.Scans.{in_order}
 use Rattle.chess_attack.proofs.Slides.{slides_to_on}
 use Rattle.chess_attack.proofs.Walks.{half_between, between_of, half_not_self, half_one_way}
@@ -103,7 +104,7 @@ stop_alone k a t off =
     ]
 
 -- the first man on a half, who moves along it, attacks the square
-seen_attacks : (look : Look) (c : Colour) (k : ℕ) (axis : Axis) (way : Way) → k < 64 → is_seen look axis way k (opponent c) ≡ true →
+seen_attacks : (look : Look) (c : Colour) (k : ℕ) (axis : Axis) (way : Way) → k < 64 → is_attacked_along look axis way k (opponent c) ≡ true →
     is_attacked look (opponent c) k ≡ true
 unfolding attacks_as
 seen_attacks look c k axis way hk h =

@@ -1,19 +1,19 @@
 -- What ticks are worth: one for each change of one, and so at least what changed.
 use Rattle.std.proofs.Common.{◌≡◌, ◌==◌, ℕ, ◌+◌, ◌-◌, ◌<◌, ◌≤◌, ◌^◌, min, refl, sym, ◌∙◌, arith}
 use Rattle.std.proofs.lemmas.Bool.{eq-eqb, ne_eqb}
-use Rattle.chess_types.specs.declared.man.Colour.{Colour}
-use Rattle.chess_types.specs.declared.man.Colour.TheVariants.{White, Black}
-use Rattle.chess_types.specs.Squares.{squares}
-use Rattle.chess_types.specs.Attack.{gap}
+use Rattle.chess_types.specs.declared.board.man.Colour.{Colour}
+use Rattle.chess_types.specs.declared.board.man.Colour.TheVariants.{White, Black}
+use Rattle.chess_types.specs.board.Squares.{squares}
+use Rattle.chess_types.specs.board.Attack.{distance}
 use Rattle.chess_attack.specs.declared.change.Change.{Change}
 use Rattle.chess_attack.specs.declared.change.Change.TheVariants.{Raise, Lower}
 use Rattle.chess_attack.specs.KeptCounts.{KeptCounts, count_in, changed, Worked}
-use Rattle.chess_attack.specs.Marks.{Moved, Moves, one_at}
-use Rattle.chess_attack.proofs.Counting.{bit, total, total-agree, total-one, total-le, total-add, total-zero, sum_by-range}
+use Rattle.chess_attack.specs.steps.Marks.{Moved, Moves, one_at}
+use Rattle.chess_types.proofs.Sums.{bit, total, total-agree, total-one, total-le, total-add, total-zero, sum_by-range}
 
 -- by how much the two counts of a square differ
 abbrev pub gap_at : KeptCounts → KeptCounts → ℕ → ℕ
-gap_at old new s = gap (count_in old White s) (count_in new White s) + gap (count_in old Black s) (count_in new Black s)
+gap_at old new s = distance (count_in old White s) (count_in new White s) + distance (count_in old Black s) (count_in new Black s)
 
 pub changed_is_total : (old new : KeptCounts) → changed old new ≡ total (gap_at old new) 0 64
 unfolding changed squares
@@ -29,7 +29,7 @@ changed_trans a b c =
     total-le (gap_at a c) (λ s. gap_at a b s + gap_at b c s) 0 64 (λ s low high. omega arith) in
     omega (arith, total-add (gap_at a b) (gap_at b c) 0 64, changed_is_total a c, changed_is_total a b, changed_is_total b c)
 
-gap_moved : (change : Change) (old by new : ℕ) → Moved change old by new → gap old new ≡ by
+gap_moved : (change : Change) (old by new : ℕ) → Moved change old by new → distance old new ≡ by
 gap_moved Raise old by new h = omega arith
 gap_moved Lower old by new h = omega arith
 

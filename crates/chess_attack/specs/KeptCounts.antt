@@ -7,11 +7,11 @@
 --   changed      by how much kept counts do
 --   Worked       the ticks of a piece of work
 use Rattle.std.specs.Prelude.{ℕ, ◌≡◌, ◌+◌, ◌-◌, ◌^◌, ◌<◌, ◌≤◌, List, slice_index, sum_by}
-use Rattle.chess_types.specs.declared.man.Colour.{Colour}
-use Rattle.chess_types.specs.declared.man.Colour.TheVariants.{White, Black}
-use Rattle.chess_types.specs.Board.{Board, Look, man_at}
-use Rattle.chess_types.specs.Squares.{squares}
-use Rattle.chess_types.specs.Attack.{count, gap}
+use Rattle.chess_types.specs.declared.board.man.Colour.{Colour}
+use Rattle.chess_types.specs.declared.board.man.Colour.TheVariants.{White, Black}
+use Rattle.chess_types.specs.board.Board.{Board, Look, man_at}
+use Rattle.chess_types.specs.board.Squares.{squares}
+use Rattle.chess_types.specs.board.Attack.{count, distance}
 
 -- for each colour the counts of the squares a1 to h8; and how many changes of one were made, up to 2^32 - 1 of them
 pub record KeptCounts : Type 0 where
@@ -35,12 +35,12 @@ pub record AreCounts (kept : KeptCounts) (board : Board) : Type 0 where
 -- the sum, over both colours and all squares, of the difference of the attack counts of two boards
 unfoldable pub changed_of : Look → Look → ℕ
 changed_of before after =
-    sum_by (λ s. gap (count before White s) (count after White s) + gap (count before Black s) (count after Black s)) squares
+    sum_by (λ s. distance (count before White s) (count after White s) + distance (count before Black s) (count after Black s)) squares
 
 -- the sum, over both colours and all squares, of the difference of the kept counts
 unfoldable pub changed : KeptCounts → KeptCounts → ℕ
 changed old new =
-    sum_by (λ s. gap (count_in old White s) (count_in new White s) + gap (count_in old Black s) (count_in new Black s)) squares
+    sum_by (λ s. distance (count_in old White s) (count_in new White s) + distance (count_in old Black s) (count_in new Black s)) squares
 
 -- at most so many ticks and, while they have not reached their greatest number, at least as many as the counts changed by
 pub record Worked (old new : KeptCounts) (most : ℕ) : Type 0 where

@@ -1,7 +1,8 @@
 ghost use Rattle.std.specs.Prelude.{◌≡◌, ◌+◌, ◌*◌, ◌<◌, ◌≤◌, None, IsSome};
 ghost use Rattle.std.specs.FinMap as map;
-ghost use Rattle.chess_types.specs.Board.{man_at};
-ghost use Rattle.chess_types.specs.Men.{men_of};
+ghost use Rattle.chess_types.specs.board.Board.{man_at};
+ghost use Rattle.chess_types.specs.board.Men.{men_of};
+ghost use Rattle.chess_types.specs.board.Attack.{is_attacked};
 ghost use Rattle.chess_attack.specs.KeptCounts.{AreCounts, changed_of};
 
 use crate::change::Change;
@@ -28,7 +29,8 @@ impl Model for Counts {
 }
 
 impl Counts {
-    ghost use Rattle.chess_types.specs.Board.{Board};
+    ghost use Rattle.chess_types.specs.board.Board.{Board};
+    ghost use Rattle.chess_types.specs.board.Attack.{is_attacked};
     ghost use Rattle.chess_attack.specs.KeptCounts.{count_in, AreZero};
 
     /// Every count 0, as on the empty board, and no tick.
@@ -63,6 +65,14 @@ impl Counts {
         ensures { result ≡ count_in self.now colour square }
     {
         self.tally.at(colour, square)
+    }
+
+    /// Whether a man of the colour attacks the square (FIDE Laws 3.1.2).
+    #[inline(always)]
+    pub fn is_attacked(&self, colour: Colour, square: Square) -> bool
+        ensures { (board : Board) → AreCounts self.now board → result ≡ is_attacked (man_at board) colour square }
+    {
+        self.count(colour, square) >= 1
     }
 
     /// Counts the ticks from 0 again. The counts stay.

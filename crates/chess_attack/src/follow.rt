@@ -1,12 +1,12 @@
 ghost use Rattle.std.specs.Prelude.{◌≡◌, ◌+◌, ◌<◌, ◌≤◌, None, IsSome};
 ghost use Rattle.std.specs.FinMap as map;
-ghost use Rattle.chess_types.specs.Board.{man_at};
+ghost use Rattle.chess_types.specs.board.Board.{man_at};
 ghost use Rattle.chess_attack.specs.KeptCounts.{AreCounts, changed_of};
 
 use crate::change::Change;
 use crate::mark::mark;
-use crate::relight::relight;
 use crate::tally::Tally;
+use crate::x_rays::update_x_rays;
 use chess_types::{Man, Placement, Square};
 
 /// The tally follows a man that is put on an empty square: his attacks come, and those that went through the square go.
@@ -18,7 +18,7 @@ pub fn put_in(tally: &mut Tally, before: &Placement, at: Square, man: Man)
     ensures at_least { tally.new.ticks < u32.MAX → tally.old.ticks + changed_of (man_at before.now) (man_at (map.insert before.now at man)) ≤ tally.new.ticks }
 {
     mark(tally, before, man, at, Change::Raise);
-    relight(tally, before, at, Change::Lower);
+    update_x_rays(tally, before, at, Change::Lower);
 }
 
 /// The tally follows the man that is taken from an occupied square: his attacks go, and those through the square come.
@@ -31,6 +31,6 @@ pub fn clear_in(tally: &mut Tally, before: &Placement, at: Square)
 {
     if let Some(man) = before.get(at) {
         mark(tally, before, man, at, Change::Lower);
-        relight(tally, before, at, Change::Raise);
+        update_x_rays(tally, before, at, Change::Raise);
     }
 }

@@ -1,13 +1,13 @@
 ghost use Rattle.std.specs.Prelude.{◌≡◌, ◌<◌, None, IsSome};
 ghost use Rattle.std.specs.FinMap as map;
-ghost use Rattle.chess_types.specs.Men.{men_of};
+ghost use Rattle.chess_types.specs.board.Men.{men_of};
 
 use chess_types::{Man, Placement, Square};
 
 /// What is kept beside a placement, and follows its changes one man at a time. Code above is proved over this law alone:
 /// after `put` or `clear` the follower agrees with the placement so changed.
 pub trait Follower {
-    ghost use Rattle.chess_types.specs.Board.{Board};
+    ghost use Rattle.chess_types.specs.board.Board.{Board};
 
     /// What is kept is that of the board.
     ghost agrees: { Self → Board → Type 0 };

@@ -24,7 +24,7 @@ impl Model for Tally {
 impl Tally {
     ghost use Rattle.chess_attack.specs.KeptCounts.{count_in, AreZero};
     ghost use Rattle.chess_attack.specs.declared.change.Change.TheVariants.{Raise, Lower};
-    ghost use Rattle.chess_attack.specs.Marks.{Moves, HasRoom, one_at};
+    ghost use Rattle.chess_attack.specs.steps.Marks.{Moves, HasRoom, one_at};
 
     /// No attack counted, and no tick.
     pub fn zero() -> Tally

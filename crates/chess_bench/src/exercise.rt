@@ -1,9 +1,11 @@
 ghost use Rattle.std.specs.Prelude.{◌≡◌, ◌<◌, None, Some};
 ghost use Rattle.std.specs.FinMap as map;
-ghost use Rattle.chess_types.specs.Men.{men_of};
+ghost use Rattle.chess_types.specs.board.Men.{men_of};
 ghost use Rattle.chess_attack.specs.KeptCounts.{AreCounts};
+ghost use Rattle.chess_eval.specs.Evaluation.{AreSumsOf};
 
 use chess_attack::{Counts, Follower};
+use chess_eval::Sum;
 use chess_types::{Man, Placement, Square};
 use rand_core::utils::NextWord;
 use rand_pcg::Pcg32;
@@ -30,23 +32,27 @@ impl Ticks {
     }
 }
 
-/// A board whose men are moved about at random, one in the hand at a time, with the counts that follow it.
+/// A board whose men are moved about at random, one in the hand at a time, with the counts and the evaluation that follow it.
 #[derive(Drop)]
 pub struct Exercise {
     placement: Placement,
     counts: Counts,
+    sum: Sum,
     hand: Option<Man>,
     random: Pcg32,
-    ghost agrees: { AreCounts counts placement },
+    ghost counts_agree: { AreCounts counts placement },
+    ghost sum_agrees: { AreSumsOf sum placement },
 }
 
 impl Exercise {
     /// The board of a placement, with a seed of its own.
     pub fn new(placement: Placement, seed: u64) -> Exercise {
         let counts = Counts::of(&placement);
+        let sum = Sum::of(&placement);
         Exercise {
             placement,
             counts,
+            sum,
             hand: None,
             random: Pcg32::new(seed, 54),
         }
@@ -57,6 +63,7 @@ impl Exercise {
         requires { map.get self.old.placement from ≡ Some man }
     {
         self.counts.clear(&self.placement, from);
+        self.sum.clear(&self.placement, from);
         self.placement.clear(from);
         self.hand = Some(man);
     }
@@ -67,6 +74,7 @@ impl Exercise {
         requires room { men_of self.old.placement man.colour < 16 }
     {
         self.counts.put(&self.placement, to, man);
+        self.sum.put(&self.placement, to, man);
         self.placement.put(to, man);
         self.hand = None;
     }
@@ -92,5 +100,10 @@ impl Exercise {
             }
         }
         Some(self.counts.ticks())
+    }
+
+    /// The evaluation of the board as it stands.
+    pub fn white(&self) -> i32 {
+        self.sum.white()
     }
 }

@@ -1,15 +1,20 @@
-//! Measures puts and clears: how many a second the attack counts follow, and how many counts each changes.
+//! Measures puts and clears: how many a second the attack counts and the evaluation follow, and how many counts each changes. Then moves
+//! written in standard algebraic notation and read back: how many a second.
 //!
 //! Men are taken from the boards of a fixed list and put on others of their squares, chosen by a fixed seed. What is counted
 //! goes to standard output and is the same at each run; the rate goes to standard error.
 #![tactic(auto)]
 
 mod exercise;
+mod texts;
 
 use chess_fen::read;
+use chess_key::KeyTable;
+use chess_play::Live;
 use exercise::{Exercise, Ticks};
 use std::io;
 use std::time::Instant;
+use texts::Texts;
 
 const POSITIONS: [&str; 5] = [
     "rnbqkbnr/pppppppp/8/8/8/8/PPPPPPPP/RNBQKBNR w KQkq - 0 1",
@@ -21,6 +26,37 @@ const POSITIONS: [&str; 5] = [
 
 /// How many changes are made on each board.
 const CHANGES: u32 = 400_000;
+
+/// How often each legal move of a position is written and read.
+const ROUNDS: u32 = 1_000;
+
+/// So many a second.
+fn rate(number: u64, micros: u128) -> u64 {
+    let micros = u64::try_from(micros).unwrap_or(u64::MAX);
+    number
+        .saturating_mul(1_000_000)
+        .checked_div(micros)
+        .unwrap_or(0)
+}
+
+/// The legal moves of each position, written and read back.
+fn exchange(rt: &HostRuntime) -> io::Result<()> {
+    let table = KeyTable::new([0; 768]);
+    let begun = Instant::now(rt)?;
+    let mut all = Texts::default();
+    for fen in POSITIONS {
+        let Ok(position) = read(fen.as_bytes()) else {
+            return println!(rt; "no position: {fen}");
+        };
+        let mut live = Live::new(position, &table);
+        all.exchange_rounds(&mut live, ROUNDS);
+    }
+    let elapsed = begun.elapsed(rt)?;
+    let (moves, bytes) = (all.moves, all.bytes);
+    println!(rt; "{moves} moves written and read; {bytes} bytes")?;
+    let rate = rate(moves, elapsed.as_micros());
+    eprintln!(rt; "{rate} a second")
+}
 
 fn main(rt: HostRuntime) -> io::Result<()> {
     let begun = Instant::now(&rt)?;
@@ -34,16 +70,15 @@ fn main(rt: HostRuntime) -> io::Result<()> {
         for _change in 0..CHANGES {
             all.add(exercise.change());
         }
+        let white = exercise.white();
+        println!(rt; "evaluation at the end: {white}")?;
     }
     let elapsed = begun.elapsed(&rt)?;
     let (changes, sum, most) = (all.changes, all.sum, all.most);
     let hundredths = sum.saturating_mul(100).checked_div(changes).unwrap_or(0);
     let (whole, part) = (hundredths / 100, hundredths % 100);
     println!(rt; "{changes} puts and clears; ticks: {whole}.{part:02} on average, {most} at most")?;
-    let micros = u64::try_from(elapsed.as_micros()).unwrap_or(u64::MAX);
-    let rate = changes
-        .saturating_mul(1_000_000)
-        .checked_div(micros)
-        .unwrap_or(0);
-    eprintln!(rt; "{rate} a second")
+    let rate = rate(changes, elapsed.as_micros());
+    eprintln!(rt; "{rate} a second")?;
+    exchange(&rt)
 }

@@ -1,23 +1,18 @@
 -- What the board may answer.
 use Rattle.std.proofs.Common.{◌≡◌, ℕ, ◌<◌, ◌≤◌, ◌++◌, ◌∷◌, [], Bool, List, length, Result, Ok, true, false, leb, refl, sym, subst, inl, inr, arith}
 use Rattle.std.proofs.lemmas.Bool.Decides.{nat_tests}
-use Rattle.chess_types.specs.declared.source.Failed.{Failed}
+use Rattle.chess_types.specs.declared.bytes.source.Failed.{Failed}
 use Rattle.chess_tree.specs.GameTree.{TreeParts}
 use Rattle.chess_cli.specs.declared.answer.Told.TheVariants.{Whole, Path}
 use Rattle.chess_cli.specs.Answers.{Answers, AnswersWithin, Tells, TellsBy, answer, long_line, no_memory, line_limit, line_room}
 use Rattle.chess_cli.specs.Numbers.{path_text}
-use Rattle.chess_cli.specs.Replies.{IsPut}
+use Rattle.chess_cli.specs.steps.Replies.{IsOnPage}
 use Rattle.chess_cli.specs.Requests.{request}
-use Rattle.chess_cli.specs.Sending.{Sends}
+use Rattle.chess_cli.specs.steps.Sending.{Sends}
 use Rattle.chess_cli.proofs.SendingLemmas.{puts}
 
 within : (bytes : List ℕ) → length bytes ≤ line_limit → leb (length bytes) line_limit ≡ true
 within bytes few = grind (arith, nat_tests, few)
-
--- a line that is kept whole
-pub answers_whole : (p q : TreeParts) (kept bytes text : List ℕ) → kept ≡ bytes → length bytes ≤ line_limit → Tells p (request kept) text q → Answers p bytes text q
-answers_whole p q kept bytes text same few tells =
-    subst (λ b. AnswersWithin b p bytes text q) (sym (within bytes few)) (inl (subst (λ (line : List ℕ). Tells p (request line) text q) same tells))
 
 -- one that found no memory
 pub answers_without_memory : (p : TreeParts) (bytes text : List ℕ) → line_room < length bytes → length bytes ≤ line_limit → text ≡ no_memory → Answers p bytes text p
@@ -31,13 +26,13 @@ answers_long p bytes text over said =
 
 module _ {W : Type 0} (takes : W → List ℕ → W → Type 0) (failed : W → Bool) where
   -- a text that is put on the page
-  pub told_whole : (p q : TreeParts) (line page page1 : List ℕ) (w : W) → TellsBy (IsPut Whole q page page1) p (request line) q
+  pub told_whole : (p q : TreeParts) (line page page1 : List ℕ) (w : W) → TellsBy (IsOnPage Whole q page page1) p (request line) q
       → (text : List ℕ) × Tells p (request line) text q × Sends takes failed {X = Unit {0}} {E = Failed} page w text page1 w (Ok tt)
   told_whole p q line page page1 w (inl told) = (answer p (request line), inl (refl, told.1), puts takes failed w page (answer p (request line)) page1 told.0)
   told_whole p q line page page1 w (inr told) = (no_memory, inr (told.0, told.1, refl, told.3), puts takes failed w page no_memory page1 told.2)
 
   -- the path, which is written afterwards
-  pub told_path : (p q : TreeParts) (line page page1 page2 : List ℕ) (w w1 : W) (result : Result (Unit {0}) Failed) → TellsBy (IsPut Path q page page1) p (request line) q
+  pub told_path : (p q : TreeParts) (line page page1 page2 : List ℕ) (w w1 : W) (result : Result (Unit {0}) Failed) → TellsBy (IsOnPage Path q page page1) p (request line) q
       → Sends takes failed page1 w (path_text q.path ++ 10 ∷ []) page2 w1 result
       → (text : List ℕ) × Tells p (request line) text q × Sends takes failed page w text page2 w1 result
   told_path p q line page page1 page2 w w1 result (inl told) sends =

@@ -4,22 +4,22 @@ use Rattle.std.specs.Prelude.{◌⊎◌, ⊤, not, Result, Ok, Err, is_ok, OnOk,
 use Rattle.std.proofs.lemmas.Bool.{false≢true}
 use Rattle.std.proofs.lemmas.Bool.Decides.{nat_tests}
 use Rattle.std.proofs.lemmas.List.{length-append, length-take, length-take-le, take-append-le}
-use Rattle.chess_types.specs.MoveParts.{MoveParts}
-use Rattle.chess_types.specs.Legal.{is_legal}
-use Rattle.chess_types.specs.Lines.{Line, extended, last}
+use Rattle.chess_types.specs.board.MoveParts.{MoveParts}
+use Rattle.chess_types.specs.board.Legal.{is_legal}
+use Rattle.chess_types.specs.board.Lines.{Line, extended, last}
 use Rattle.chess_draws.specs.declared.fault.LineFault.{LineFault}
 use Rattle.chess_draws.specs.declared.fault.LineFault.TheVariants as line
 use Rattle.chess_draws.specs.Pushes.{push_answer}
 use Rattle.chess_tree.specs.Forest.{count, moves_held}
 use Rattle.chess_tree.specs.Edits.{parent}
 use Rattle.chess_tree.specs.GameTree.{TreeParts, added, at_path, find, has, line_to, main_line, nodes_here}
-use Rattle.chess_tree.specs.Steps.{GoesOn}
+use Rattle.chess_tree.specs.CursorLine.{GoesOn}
 use Rattle.chess_tree.proofs.WalkLemmas.{first_ends, first_keeps, first_smaller, has_place}
 use Rattle.chess_tree.proofs.LineLemmas.{along_few}
 use Rattle.chess_tree.proofs.StepLemmas.{line_parted}
 use Rattle.chess_cli.specs.declared.refusal.Refusal.{Refusal}
 use Rattle.chess_cli.specs.declared.refusal.Refusal.TheVariants.{Illegal, TooLong, Full, Memory}
-use Rattle.chess_cli.specs.Answers.{Effect, Does, Refuses, Says, Ends, EndsSurely, IsDone, if_there, lead, move_effect, off_root}
+use Rattle.chess_cli.specs.Answers.{Effect, Does, Refuses, Says, HasEffect, HasEffectSurely, IsDone, if_there, lead, move_effect, off_root}
 
 -- ---- what push answers
 
@@ -28,11 +28,6 @@ number (Ok _) = 0
 number (Err line.Illegal) = 1
 number (Err line.TooLong) = 2
 number (Err line.Memory) = 3
-
-pub fault_told : (f : LineFault) → number (Err f) ≡ 0 → ⊥
-fault_told line.Illegal e = omega (arith, e)
-fault_told line.TooLong e = omega (arith, e)
-fault_told line.Memory e = omega (arith, e)
 
 abbrev answered : Bool → Bool → Result (Unit {0}) LineFault
 answered legal long = if not legal then Err line.Illegal else (if long then Err line.TooLong else Ok tt)
@@ -84,15 +79,15 @@ abbrev of_new : Bool → Bool → Bool → TreeParts → Effect
 of_new legal long full new = if legal then (if long then Refuses TooLong else (if full then Refuses Full else Does new)) else Refuses Illegal
 
 new_effect : (t : TreeParts) (m : MoveParts) (l : Line) (legal long : Bool) → length t.path ≡ length (line_to t).moves → l ≡ line_to t → find m (nodes_here t) ≡ None → is_legal (last l) m ≡ legal → nat_le 20000 (length l.moves) ≡ long
-    → move_effect t m ≡ of_new legal long (nat_le 65536 (moves_held t.tree.below)) (added m t)
+    → move_effect t m ≡ of_new legal long (nat_le 1000000 (moves_held t.tree.below)) (added m t)
 new_effect t m l legal long deep e none is_legal_e long_e =
     let by_find = ap (λ (o : Option ℕ). if is_legal (last (line_to t)) m then lead t m o else Refuses Illegal) none in
     let legal_t : is_legal (last (line_to t)) m ≡ legal = ap (λ (x : Line). is_legal (last x) m) (sym e) ∙ is_legal_e in
     let lengths : length t.path ≡ length l.moves = deep ∙ ap (λ (x : Line). length x.moves) (sym e) in
     let long_t : nat_le 20000 (length t.path) ≡ long = ap (nat_le 20000) lengths ∙ long_e in
     by_find
-    ∙ ap (λ (b : Bool). of_new b (nat_le 20000 (length t.path)) (nat_le 65536 (moves_held t.tree.below)) (added m t)) legal_t
-    ∙ ap (λ (b : Bool). of_new legal b (nat_le 65536 (moves_held t.tree.below)) (added m t)) long_t
+    ∙ ap (λ (b : Bool). of_new b (nat_le 20000 (length t.path)) (nat_le 1000000 (moves_held t.tree.below)) (added m t)) legal_t
+    ∙ ap (λ (b : Bool). of_new legal b (nat_le 1000000 (moves_held t.tree.below)) (added m t)) long_t
 
 pub new_shallow : (t : TreeParts) (l : Line) → length t.path ≡ length (line_to t).moves → l ≡ line_to t → nat_le 20000 (length l.moves) ≡ false → length t.path < 20000
 new_shallow t l deep e short =
@@ -102,9 +97,9 @@ new_shallow t l deep e short =
 
 pub new_done : (t new : TreeParts) (m : MoveParts) (l : Line) (r : Result (Unit {0}) Refusal) → length t.path ≡ length (line_to t).moves → l ≡ line_to t → find m (nodes_here t) ≡ None
     → (is_legal (last l) m ≡ true) × (nat_le 20000 (length l.moves) ≡ false)
-    → Ends (if nat_le 65536 (moves_held t.tree.below) then Refuses Full else Does (added m t)) t r new → Ends (move_effect t m) t r new
+    → HasEffect (if nat_le 1000000 (moves_held t.tree.below) then Refuses Full else Does (added m t)) t r new → HasEffect (move_effect t m) t r new
 new_done t new m l r deep e none facts ends =
-    subst (λ (x : Effect). Ends x t r new) (sym (new_effect t m l true false deep e none facts.0 facts.1)) ends
+    subst (λ (x : Effect). HasEffect x t r new) (sym (new_effect t m l true false deep e none facts.0 facts.1)) ends
 
 pub new_long : (t : TreeParts) (m : MoveParts) (l : Line) → length t.path ≡ length (line_to t).moves → l ≡ line_to t → find m (nodes_here t) ≡ None
     → (is_legal (last l) m ≡ true) × (nat_le 20000 (length l.moves) ≡ true) → move_effect t m ≡ Refuses TooLong
@@ -116,10 +111,10 @@ no_room true effect refusal new e is = inl (e ∙ ap (λ (x : Refusal). Refuses 
 no_room false effect refusal new e is = inr (subst IsDone (sym e) tt, is)
 
 pub new_no_room : (t : TreeParts) (m : MoveParts) (l : Line) (refusal : Refusal) → length t.path ≡ length (line_to t).moves → l ≡ line_to t → find m (nodes_here t) ≡ None
-    → (is_legal (last l) m ≡ true) × (nat_le 20000 (length l.moves) ≡ false) → refusal ≡ (if nat_le 65536 (moves_held t.tree.below) then Full else Memory)
+    → (is_legal (last l) m ≡ true) × (nat_le 20000 (length l.moves) ≡ false) → refusal ≡ (if nat_le 1000000 (moves_held t.tree.below) then Full else Memory)
     → (move_effect t m ≡ Refuses refusal) ⊎ (IsDone (move_effect t m) × (refusal ≡ Memory))
 new_no_room t m l refusal deep e none facts is =
-    no_room (nat_le 65536 (moves_held t.tree.below)) (move_effect t m) refusal (added m t) (new_effect t m l true false deep e none facts.0 facts.1) is
+    no_room (nat_le 1000000 (moves_held t.tree.below)) (move_effect t m) refusal (added m t) (new_effect t m l true false deep e none facts.0 facts.1) is
 
 -- ---- to a child
 
@@ -159,13 +154,13 @@ done_or t (Says text) = t
 done_or t (Does new) = new
 done_or t (Refuses refusal) = t
 
-stepped_up : (path : List ℕ) (next old new : TreeParts) (r : Result (Unit {0}) Refusal) → 0 < length path → EndsSurely (off_root path next) old r new → new ≡ next
+stepped_up : (path : List ℕ) (next old new : TreeParts) (r : Result (Unit {0}) Refusal) → 0 < length path → HasEffectSurely (off_root path next) old r new → new ≡ next
 stepped_up [] next old new r some ends = absurd (omega (arith, some))
 stepped_up (k ∷ path) next old new (Ok x) some ends = sym (ap (done_or next) ends)
 stepped_up (k ∷ path) next old new (Err x) some ends = absurd (subst IsDone ends.0 tt)
 
 pub climbed : (begun t new : TreeParts) (depth : ℕ) (r : Result (Unit {0}) Refusal) → depth < length t.path → t ≡ at_path (take (length t.path) begun.path) begun
-    → EndsSurely (off_root t.path (at_path (parent t.path) t)) t r new
+    → HasEffectSurely (off_root t.path (at_path (parent t.path) t)) t r new
     → (new ≡ at_path (take (length new.path) begun.path) begun) × (depth ≤ length new.path) × (length new.path < length t.path)
 climbed begun t new depth r deeper e ends =
     let n = length t.path in

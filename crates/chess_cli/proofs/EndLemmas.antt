@@ -1,16 +1,16 @@
 -- A run goes on by reads, and ends.
 use Rattle.std.proofs.Common.{◌≡◌, ℕ, ◌+◌, ◌<◌, ◌≤◌, ◌⊎◌, Bool, true, false, ◌||◌, true≢false, inl, inr, List, [], ◌∷◌, ◌++◌, length, length-append, Ok, Err, refl, sym, ap, ◌∙◌, append_assoc, append-nil, arith}
 use Rattle.std.specs.List.{AllByRecursion}
-use Rattle.chess_types.specs.Calls.{Calls, Carries, joined}
-use Rattle.chess_types.specs.declared.source.Failed.{Failed}
-use Rattle.chess_types.proofs.CallLemmas.{Calls-more, joined-more, Carries-none, Carries-append}
-use Rattle.chess_cli.specs.Ends.{IsFront, EndsGood, EndsOver, EndsReadFault, EndsWriteFault}
-use Rattle.chess_cli.specs.Lines.{ended_lines, unfinished, last_line}
+use Rattle.chess_types.specs.bytes.Calls.{Calls, Carries, joined}
+use Rattle.chess_types.specs.declared.bytes.source.Failed.{Failed}
+use Rattle.chess_types.proofs.CallLemmas.{Calls-more, joined-more, Carries-append}
+use Rattle.chess_cli.specs.RunEnds.{IsFront, EndsGood, EndsOver, EndsWriteFault}
+use Rattle.chess_cli.specs.InputLines.{ended_lines, unfinished, last_line}
 use Rattle.chess_cli.specs.Runs.{Runs, Partly}
-use Rattle.chess_cli.specs.Reads.{Holds, Feeds, Finishes}
-use Rattle.chess_cli.specs.LineSoFar.{LineSoFar}
+use Rattle.chess_cli.specs.steps.Reads.{Holds, Feeds, Finishes}
+use Rattle.chess_cli.specs.steps.LineSoFar.{LineSoFar}
 use Rattle.chess_cli.proofs.LineLemmas.{ended_lines-append, unfinished-append}
-use Rattle.chess_cli.proofs.RunLemmas.{Runs-none, Runs-append}
+use Rattle.chess_cli.proofs.RunLemmas.{Runs-append}
 use Rattle.chess_cli.proofs.SendingLemmas.{sent_whole}
 
 each_more : (pieces : List (List ℕ)) (piece : List ℕ) → AllByRecursion (λ p. 0 < length p) pieces → 0 < length piece → AllByRecursion (λ p. 0 < length p) (pieces ++ piece ∷ [])
@@ -38,21 +38,6 @@ pub record Underway {S R W : Type 0} (step : S → List ℕ → List ℕ → S �
   pub holds : Holds line (unfinished [] (joined pieces))
 
 module _ {S R W : Type 0} (step cut : S → List ℕ → List ℕ → S → Type 0) (over : S → Bool) (beginning : S) (gives : R → List ℕ → R → Type 0) (read_failed : R → Bool) (takes : W → List ℕ → W → Type 0) (write_failed : W → Bool) where
-  pub underway_start : (r : R) (w : W) (line : LineSoFar) → read_failed r ≡ false → write_failed w ≡ false → Holds line []
-      → Underway step beginning gives read_failed takes write_failed 0 beginning line r r w w
-  underway_start r w line reading writing holds = record {
-    pieces = [];
-    text = [];
-    reads = refl;
-    count = refl;
-    each = tt;
-    runs = Runs-none step beginning;
-    writes = Carries-none takes w;
-    reading = reading;
-    writing = writing;
-    holds = holds;
-  }
-
   -- the lines that ended before, and those that end in a piece more
   lines_front : (pieces : List (List ℕ)) (piece : List ℕ) (lines : List (List ℕ)) → IsFront lines (ended_lines (unfinished [] (joined pieces)) piece)
       → IsFront (ended_lines [] (joined pieces) ++ lines) (ended_lines [] (joined (pieces ++ piece ∷ [])))
@@ -117,42 +102,6 @@ module _ {S R W : Type 0} (step cut : S → List ℕ → List ℕ → S → Type
         writes = Carries-append takes w w1 w2 u.text fed.0 u.writes (sent_whole takes write_failed w1 w2 fed.0 fed.2);
         well_written = fed.2.well ∙ u.writing;
       }
-
-  -- a read failed
-  pub ends_failed : (most turns : ℕ) (now : S) (line : LineSoFar) (r r1 r2 : R) (w w1 : W)
-      → Underway step beginning gives read_failed takes write_failed turns now line r r1 w w1
-      → gives r1 [] r2
-      → read_failed r2 ≡ (read_failed r1 || true)
-      → EndsReadFault (Runs step) beginning gives read_failed takes write_failed most now r r2 w w1
-  ends_failed most turns now line r r1 r2 w w1 u call failed = record {
-    pieces = u.pieces;
-    text = u.text;
-    before = r1;
-    reads = u.reads;
-    well_read = u.reading;
-    each = u.each;
-    cause = inl (call, failed ∙ rw u.reading refl);
-    answers = u.runs;
-    writes = u.writes;
-    well_written = u.writing;
-  }
-
-  -- there were as many reads as there may be
-  pub ends_many : (most : ℕ) (now : S) (line : LineSoFar) (r r1 : R) (w w1 : W)
-      → Underway step beginning gives read_failed takes write_failed most now line r r1 w w1
-      → EndsReadFault (Runs step) beginning gives read_failed takes write_failed most now r r1 w w1
-  ends_many most now line r r1 w w1 u = record {
-    pieces = u.pieces;
-    text = u.text;
-    before = r1;
-    reads = u.reads;
-    well_read = u.reading;
-    each = u.each;
-    cause = inr (refl, u.count);
-    answers = u.runs;
-    writes = u.writes;
-    well_written = u.writing;
-  }
 
   -- an answer could not be written
   pub ends_unwritten : (ended : R → Type 0) (turns : ℕ) (now next : S) (line line1 : LineSoFar) (r r1 r2 : R) (w w1 w2 : W) (piece page : List ℕ) (e : Failed)

@@ -2,12 +2,12 @@
 use Rattle.std.specs.Prelude.{OnOk}
 use Rattle.std.proofs.Common.{◌≡◌, ℕ, ◌+◌, ◌==◌, Bool, true, false, true≢false, length, List, [], ◌∷◌, ◌++◌, take, drop, Some, None, Result, Ok, Err, inl, inr, refl, sym, ◌∙◌, append_assoc, append-nil}
 use Rattle.memchr.specs.Find.{IsFirstByte, is_byte}
-use Rattle.chess_types.specs.declared.source.Failed.{Failed}
-use Rattle.chess_cli.specs.Lines.{ended_lines, last_line, unfinished}
+use Rattle.chess_types.specs.declared.bytes.source.Failed.{Failed}
+use Rattle.chess_cli.specs.InputLines.{ended_lines, last_line, unfinished}
 use Rattle.chess_cli.specs.Runs.{Runs}
-use Rattle.chess_cli.specs.Reads.{Holds, AnswersLine, Feeds, Finishes}
-use Rattle.chess_cli.specs.LineSoFar.{LineSoFar}
-use Rattle.chess_cli.specs.Sending.{Sent, Flows}
+use Rattle.chess_cli.specs.steps.Reads.{Holds, AnswersLine, Feeds, Finishes}
+use Rattle.chess_cli.specs.steps.LineSoFar.{LineSoFar}
+use Rattle.chess_cli.specs.steps.Sending.{Sent, Flows}
 use Rattle.chess_cli.proofs.LineLemmas.{ended_lines-at, unfinished-at, ended_lines-free, unfinished-free}
 use Rattle.chess_cli.proofs.RunLemmas.{Runs-none, Runs-one, Runs-more}
 use Rattle.chess_cli.proofs.SendingLemmas.{sent_start}
@@ -51,21 +51,6 @@ module _ {S W : Type 0} (step cut : S → List ℕ → List ℕ → S → Type 0
     lines = going.lines;
     left = going.left;
   }
-
-  -- no room could be made
-  pub going_roomless : (old now : S) (line line1 : LineSoFar) (w0 w1 w2 : W) (page page1 page2 rest : List ℕ) (e : Failed)
-      → Going step over takes failed begun piece old now line w0 page w1 rest
-      → Flows takes failed {X = Unit {0}} {E = Failed} page w1 page1 w2 (Err e)
-      → Feeds step cut takes failed {X = Unit {0}} {E = Failed} over begun piece old now line1 w0 page2 w2 (Err e)
-  going_roomless old now line line1 w0 w1 w2 page page1 page2 rest e going flows = (
-    going.text,
-    record {
-      lines = going.done;
-      front = record { others = ended_lines going.kept rest; whole = sym going.lines };
-      runs = inl going.runs;
-    },
-    flows w0 going.text going.sent,
-  )
 
   -- the line that ends next, and those behind it
   line_next : (old now : S) (line : LineSoFar) (w0 w1 : W) (page rest front : List ℕ) (at : ℕ)

@@ -9,7 +9,7 @@ use Rattle.chess_cli.specs.declared.refusal.Refusal.TheVariants.{NoSuch}
 use Rattle.chess_cli.specs.declared.numbers.PathWord.TheVariants.{TooLong}
 use Rattle.chess_cli.specs.Answers.{Refuses, if_there}
 use Rattle.chess_cli.specs.Numbers.{path_in, ReadsPath}
-use Rattle.chess_cli.specs.Replies.{path_effect}
+use Rattle.chess_cli.specs.steps.Replies.{path_effect}
 
 -- it leads nowhere
 pub too_long : (t : TreeParts) (word path : List ℕ) → IsGameTree t → ReadsPath word path TooLong → path_effect t (path_in word) ≡ Refuses NoSuch

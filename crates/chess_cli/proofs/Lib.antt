@@ -13,5 +13,4 @@ pub mod AnswerLemmas
 pub mod EndLemmas
 pub mod RunEndLemmas
 pub mod PlaceLemmas
-mod MoveTexts
 pub mod GotoLemmas

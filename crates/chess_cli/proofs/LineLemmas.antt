@@ -2,7 +2,7 @@
 use Rattle.std.proofs.Common.{◌≡◌, ℕ, suc, ◌+◌, ◌<◌, true, false, ◌==◌, List, [], ◌∷◌, ◌++◌, length, take, drop, get_or, Some, refl, ap, sym, ◌∙◌, append-nil, add-one, drop-cons, get_or-take, take-append-drop, length-take-le, eqb-true, arith}
 use Rattle.std.proofs.lemmas.Grind.{common_steps}
 use Rattle.memchr.specs.Find.{Nowhere, Passes, IsFirstByte, is_byte}
-use Rattle.chess_cli.specs.Lines.{ended_lines, unfinished}
+use Rattle.chess_cli.specs.InputLines.{ended_lines, unfinished}
 
 -- no byte is a line feed
 abbrev pub Free : List ℕ → Type 0

@@ -1,16 +1,17 @@
 -- Lists of texts that are written one after the other.
-use Rattle.std.proofs.Common.{◌≡◌, ℕ, zero, suc, ◌+◌, ◌<◌, ◌≤◌, Bool, cond, List, [], ◌∷◌, ◌++◌, map, take, get_or, filter, length, not, refl, sym, ap, ◌∙◌, append_assoc, append-nil, arith}
+use Rattle.std.proofs.Common.{◌≡◌, ℕ, ◌+◌, ◌<◌, ◌≤◌, Bool, List, [], ◌∷◌, ◌++◌, map, take, get_or, filter, length, not, refl, sym, ap, ◌∙◌, append_assoc, append-nil, arith}
 use Rattle.std.specs.Prelude.{codes}
 use Rattle.std.specs.List.{range_with_len}
 use Rattle.std.proofs.Math.ListN.{drop_of_length-le}
 use Rattle.std.proofs.lemmas.List.{take_more, take-append-drop}
 use Rattle.std.proofs.lemmas.List.Filters.{length-filter_both}
-use Rattle.chess_types.specs.Squares.{squares}
-use Rattle.chess_types.specs.MoveParts.{MoveParts}
-use Rattle.chess_types.specs.Texts.{move_text, square_text}
+use Rattle.chess_types.specs.board.Squares.{squares}
+use Rattle.chess_types.specs.board.MoveParts.{MoveParts}
+use Rattle.chess_types.specs.board.Texts.{move_text, square_text}
+use Rattle.chess_types.proofs.Runs.{filter_agree}
 use Rattle.chess_cli.specs.Gaps.{gapped, parted_by}
 use Rattle.chess_cli.specs.Answers.{list_text}
-use Rattle.chess_cli.specs.Lists.{behind}
+use Rattle.chess_cli.specs.steps.Lists.{behind}
 
 gapped-more : {X : Type 0} (gap : List ℕ) (text : X → List ℕ) (xs : List X) (x : X) →
     gapped gap (map text (xs ++ x ∷ [])) ≡ gapped gap (map text xs) ++ (gap ++ text x)
@@ -51,17 +52,9 @@ written-more old new all rest s w e = record {
   text = e ∙ ap (λ (t : List ℕ). behind t (square_text s)) w.text ∙ squares-more w.seen s;
 }
 
--- tests that agree on the board list the same squares
-filter-agree : (f g : ℕ → Bool) (a n : ℕ) → ((x : ℕ) → a ≤ x → x < a + n → f x ≡ g x) → filter f (range_with_len a n) ≡ filter g (range_with_len a n)
-filter-agree f g a zero same = refl
-filter-agree f g a (suc n) same =
-    let here : f a ≡ g a = same a (omega arith) (omega arith) in
-    let rest = filter-agree f g (a + 1) n (λ x low high. same x (omega arith) (omega arith)) in
-    (λ i. cond (here i) (a ∷ rest i) (rest i))
-
 pub same_squares : (f g : ℕ → Bool) → ((x : ℕ) → x < 64 → f x ≡ g x) → filter f squares ≡ filter g squares
 unfolding squares
-same_squares f g same = filter-agree f g 0 64 (λ x low high. same x high)
+same_squares f g same = filter_agree f g 0 64 (λ x low high. same x high)
 
 filter-few : (test : ℕ → Bool) (xs : List ℕ) → length (filter test xs) ≤ length xs
 filter-few test xs = omega (arith, length-filter_both test (λ x. not (test x)) (λ x. refl) xs)

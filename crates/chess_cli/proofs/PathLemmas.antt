@@ -44,9 +44,6 @@ pub take-whole : (n : ℕ) (xs : List ℕ) → length xs ≤ n → take n xs ≡
 take-whole n xs few = sym (append-nil (take n xs)) ∙ ap (λ (ys : List ℕ). take n xs ++ ys) (sym (drop_of_length-le xs few)) ∙ take-append-drop n xs
 
 module _ (room : ℕ) where
-  pub read_start : (kept : List ℕ) → kept ≡ [] → ReadSoFar room [] kept false
-  read_start kept none = record { seen = []; numbers = refl; front = none ∙ sym (take-whole room [] (omega arith)); long = grind (arith, nat_tests) }
-
   -- the next part is a number, and there is room for it
   pub read_on : (parts : List (List ℕ)) (part old new : List ℕ) (place : ℕ) (is_long : Bool) → ReadSoFar room parts old is_long → number_in part ≡ Some place
       → length old < room → new ≡ old ++ place ∷ [] → ReadSoFar room (parts ++ part ∷ []) new is_long

@@ -1,10 +1,10 @@
 -- How a run ends whose engine always takes lines, and answers a line whole even where its text isn't written whole.
 use Rattle.std.specs.List.{AllByRecursion}
 use Rattle.std.proofs.Common.{◌≡◌, ℕ, ◌<◌, ◌≤◌, ◌⊎◌, Bool, true, false, true≢false, inl, inr, List, [], ◌∷◌, ◌++◌, length, sym, ap, ◌∙◌, append_assoc, append-nil, arith}
-use Rattle.chess_types.specs.Calls.{Calls, joined}
+use Rattle.chess_types.specs.bytes.Calls.{Calls, joined}
 use Rattle.chess_types.proofs.CallLemmas.{joined-append, Calls-left}
-use Rattle.chess_cli.specs.Ends.{Awaited, IsFront, EndsGood, EndsOver, EndsWriteFault}
-use Rattle.chess_cli.specs.Lines.{ended_lines, last_line, lines_of, unfinished}
+use Rattle.chess_cli.specs.RunEnds.{Awaited, IsFront, EndsGood, EndsOver, EndsWriteFault}
+use Rattle.chess_cli.specs.InputLines.{ended_lines, last_line, lines_of, unfinished}
 use Rattle.chess_cli.proofs.EndLemmas.{length-joined}
 use Rattle.chess_cli.proofs.LineLemmas.{ended_lines-append}
 use Rattle.chess_cli.specs.Runs.{Runs, Partly}

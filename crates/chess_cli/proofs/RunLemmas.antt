@@ -1,7 +1,5 @@
 -- Runs go on by runs.
-use Rattle.std.proofs.Common.{◌≡◌, ℕ, List, [], ◌∷◌, ◌++◌, refl, sym, subst, append_assoc, append-nil, ◌==◌, false, length}
-use Rattle.std.proofs.lemmas.Bool.{false≢true}
-use Rattle.chess_cli.specs.Lines.{last_line}
+use Rattle.std.proofs.Common.{ℕ, List, [], ◌∷◌, ◌++◌, refl, sym, subst, append_assoc, append-nil}
 use Rattle.chess_cli.specs.Runs.{Runs}
 
 module _ {S : Type 0} (step : S → List ℕ → List ℕ → S → Type 0) where
@@ -26,17 +24,3 @@ module _ {S : Type 0} (step : S → List ℕ → List ℕ → S → Type 0) wher
 
   pub Runs-more : (s m t : S) (xs : List (List ℕ)) (line a b : List ℕ) → Runs step s xs a m → step m line b t → Runs step s (xs ++ line ∷ []) (a ++ b) t
   Runs-more s m t xs line a b first last = Runs-append s m t xs (line ∷ []) a b first (Runs-one m t line b last)
-
--- Where a step answers any line, there is a run over any lines.
-pub some_run : {S : Type 0} (step : S → List ℕ → List ℕ → S → Type 0) → ((s : S) (line : List ℕ) → (text : List ℕ) × (t : S) × step s line text t)
-    → (old : S) (lines : List (List ℕ)) → (text : List ℕ) × (new : S) × Runs step old lines text new
-some_run step total old [] = ([], old, (refl, refl))
-some_run step total old (line ∷ lines) =
-    let one = total old line in
-    let others = some_run step total one.1 lines in
-    (one.0 ++ others.0, others.1, (one.0, others.0, one.1, one.2, others.2, refl))
-
--- The last line is answered, and there is none where nothing stands after the last line feed.
-pub Runs-last : {S : Type 0} (step : S → List ℕ → List ℕ → S → Type 0) (s t : S) (bytes text : List ℕ) → (length bytes == 0) ≡ false → step s bytes text t → Runs step s (last_line bytes) text t
-Runs-last step s t [] text some one = absurd (false≢true (sym some))
-Runs-last step s t (b ∷ bs) text some one = Runs-one step s t (b ∷ bs) text one

@@ -1,9 +1,10 @@
 -- Texts that go out by way of a page.
-use Rattle.std.proofs.Common.{◌≡◌, ℕ, ◌<◌, Bool, true, List, [], ◌++◌, length, length-append, take, Result, Ok, Err, refl, sym, ap, subst, ◌∙◌, append_assoc, append-nil, arith}
-use Rattle.chess_types.specs.Calls.{Carries}
-use Rattle.chess_types.specs.declared.source.Failed.{Failed}
+use Rattle.std.proofs.Common.{◌≡◌, ℕ, Bool, List, [], ◌++◌, length-append, take, Result, Ok, Err, refl, sym, ap, subst, ◌∙◌, append_assoc, append-nil, arith}
+use Rattle.chess_types.specs.bytes.Calls.{Carries}
+use Rattle.chess_types.specs.declared.bytes.source.Failed.{Failed}
 use Rattle.chess_types.proofs.CallLemmas.{Carries-none, Carries-append, Carries-more}
-use Rattle.chess_cli.specs.Sending.{Sent, Broken, SentOr, Flows, Sends}
+use Rattle.chess_cli.specs.steps.Sending.{Sent, SentOr, Flows, Sends}
+use Rattle.chess_cli.specs.RunEnds.{Broken}
 
 module _ {W : Type 0} (takes : W → List ℕ → W → Type 0) (failed : W → Bool) where
   -- nothing is written, and the text stands on the page
@@ -18,20 +19,6 @@ module _ {W : Type 0} (takes : W → List ℕ → W → Type 0) (failed : W → 
     calls = Carries-more takes w m t so_far.front (take n rest) so_far.calls call;
     whole = append_assoc so_far.front (take n rest) rest' ∙ ap (λ (u : List ℕ). so_far.front ++ u) parts ∙ so_far.whole;
     well = well ∙ so_far.well;
-  }
-
-  -- a call fails
-  pub broken_call : (w m t : W) (text rest : List ℕ) → Sent takes failed w text rest m → 0 < length rest → takes m [] t → failed t ≡ true → Broken takes failed w text t
-  broken_call w m t text rest so_far some call fails = record {
-    front = so_far.front;
-    rest = rest;
-    before = m;
-    calls = so_far.calls;
-    whole = so_far.whole;
-    unwritten = some;
-    well = so_far.well;
-    last = call;
-    fails = fails;
   }
 
   -- all is written

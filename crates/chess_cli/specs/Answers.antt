@@ -4,31 +4,33 @@
 use Rattle.std.specs.Prelude.{◌≡◌, ℕ, ◌+◌, ◌*◌, ◌<◌, nat_le, nat_lt, Bool, true, false, if◌then◌else◌, ◌⊎◌, ⊤, List, [], ◌∷◌, ◌++◌, length, map, filter, Option, Some, None, Result, Ok, Err, codes, decimal}
 use Rattle.std.specs.Fmt.{signed_decimal}
 use Rattle.std.specs.List.{range_with_len}
-use Rattle.chess_types.specs.declared.man.Colour.{Colour}
-use Rattle.chess_types.specs.declared.outcome.Claims.{Claims as DrawClaims}
-use Rattle.chess_types.specs.Squares.{squares}
-use Rattle.chess_types.specs.Attack.{count, checks_from}
-use Rattle.chess_types.specs.Texts.{move_text, square_text}
-use Rattle.chess_types.specs.MoveParts.{MoveParts}
-use Rattle.chess_types.specs.Position.{State, look, start}
-use Rattle.chess_types.specs.Legal.{is_legal, legal_moves}
-use Rattle.chess_types.specs.Lines.{Line, last}
-use Rattle.chess_types.specs.Repetition.{repetitions}
-use Rattle.chess_types.specs.Outcome.{status, claims, claims_with}
+use Rattle.chess_types.specs.declared.board.man.Colour.{Colour}
+use Rattle.chess_types.specs.declared.board.outcome.Claims.{Claims as DrawClaims}
+use Rattle.chess_types.specs.board.Squares.{squares}
+use Rattle.chess_types.specs.board.Attack.{count, checks_from}
+use Rattle.chess_types.specs.board.Texts.{move_text, square_text}
+use Rattle.chess_types.specs.board.MoveParts.{MoveParts}
+use Rattle.chess_types.specs.board.Position.{State, look, start}
+use Rattle.chess_types.specs.board.Legal.{is_legal, legal_moves}
+use Rattle.chess_types.specs.board.Lines.{Line, last}
+use Rattle.chess_types.specs.board.Repetition.{repetitions}
+use Rattle.chess_types.specs.board.Outcome.{status, claims, claims_with}
 use Rattle.chess_eval.specs.Evaluation.{evaluation}
 use Rattle.chess_fen.specs.declared.fault.FenFault.{FenFault}
 use Rattle.chess_fen.specs.Reading.{reading}
 use Rattle.chess_fen.specs.Writing.{written}
+use Rattle.chess_san.specs.declared.fault.SanFault.{SanFault}
+use Rattle.chess_san.specs.Naming.{reading as move_reading}
 use Rattle.chess_tree.specs.Forest.{Bare, count as count_children, moves_held}
 use Rattle.chess_tree.specs.Edits.{parent}
 use Rattle.chess_tree.specs.Comments.{has_brace, normalised}
 use Rattle.chess_tree.specs.GameTree.{TreeParts, added, annotated_here, at_path, commented_here, deleted, find, has, line_to, main_line, nodes_here, promoted_here}
 use Rattle.chess_cli.specs.declared.refusal.Refusal.{Refusal}
-use Rattle.chess_cli.specs.declared.refusal.Refusal.TheVariants.{Fen as BadFen, Form, NoSuch, Illegal, TooLong, AtRoot, Full, BadComment, Memory, Command, Argument, LongLine}
-use Rattle.chess_cli.specs.Refusals.{number_of, name_of}
+use Rattle.chess_cli.specs.declared.refusal.Refusal.TheVariants.{Fen as BadFen, NoSuch, Illegal, TooLong, AtRoot, Full, BadComment, Memory, Command, Argument, LongLine}
+use Rattle.chess_cli.specs.Refusals.{number_of, name_of, san_refusal}
 use Rattle.chess_cli.specs.Gaps.{parted_by}
 use Rattle.chess_cli.specs.Numbers.{path_text}
-use Rattle.chess_cli.specs.Outcomes.{move_in, status_text, claims_text}
+use Rattle.chess_cli.specs.Outcomes.{status_text, claims_text}
 use Rattle.chess_cli.specs.Requests.{Request, Blank, New, Set, Counts, Eval, Fen, Moves, Checks, Play, Back, Step, Start, End, Goto, Path, Promote, Delete, Comment, Nag, Count, Status, Claims, Claim, Unknown, Malformed, request}
 
 abbrev pub ok : List ℕ
@@ -36,7 +38,7 @@ ok = codes "ok\n"
 
 -- `refused N NAME`
 abbrev pub refused : Refusal → List ℕ
-refused refusal = codes "refused " ++ decimal (number_of refusal) ++ 32 ∷ name_of refusal ++ 10 ∷ []
+refused refusal = codes "refused " ++ decimal (number_of refusal) ++ codes " " ++ name_of refusal ++ codes "\n"
 
 -- the text, and `none` for no text
 abbrev pub or_none : List ℕ → List ℕ
@@ -48,12 +50,12 @@ abbrev pub list_text : List (List ℕ) → List ℕ
 list_text texts = or_none (parted_by (codes " ") texts)
 
 -- the numbers of files a to h on a rank, parted by one space
-unfoldable pub rank_text : (ℕ → ℕ) → ℕ → List ℕ
-rank_text number rank = parted_by (codes " ") (map (λ file. decimal (number (8 * rank + file))) (range_with_len 0 8))
+unfoldable pub rank_numbers : (ℕ → ℕ) → ℕ → List ℕ
+rank_numbers number rank = parted_by (codes " ") (map (λ file. decimal (number (8 * rank + file))) (range_with_len 0 8))
 
 -- a number for each square: ranks 1 to 8, parted by ` / `
 unfoldable pub counts_text : (ℕ → ℕ) → List ℕ
-counts_text number = parted_by (codes " / ") (map (rank_text number) (range_with_len 0 8))
+counts_text number = parted_by (codes " / ") (map (rank_numbers number) (range_with_len 0 8))
 
 -- of a call that is done or refused
 abbrev pub ok_or_refused : {X : Type 0} → Result X Refusal → List ℕ
@@ -86,19 +88,20 @@ set_effect (Ok position) = Does (tree_from position)
 set_effect (Err fault) = Refuses (BadFen fault)
 
 -- a legal move leads to the first child that has it, else to a new one: of a node less than 20,000 plies deep, in a tree of fewer than
--- 65,536 moves
+-- 1,000,000 moves
 abbrev pub lead : TreeParts → MoveParts → Option ℕ → Effect
 lead t m (Some place) = Does (at_path (t.path ++ place ∷ []) t)
 lead t m None =
     if nat_le 20000 (length t.path) then Refuses TooLong
-    else (if nat_le 65536 (moves_held t.tree.below) then Refuses Full else Does (added m t))
+    else (if nat_le 1000000 (moves_held t.tree.below) then Refuses Full else Does (added m t))
 
 abbrev pub move_effect : TreeParts → MoveParts → Effect
 move_effect t m = if is_legal (last (line_to t)) m then lead t m (find m (nodes_here t)) else Refuses Illegal
 
-abbrev pub play_effect : TreeParts → Option MoveParts → Effect
-play_effect t None = Refuses Form
-play_effect t (Some m) = move_effect t m
+-- the move that a text names
+abbrev pub play_effect : TreeParts → Result MoveParts SanFault → Effect
+play_effect t (Ok m) = move_effect t m
+play_effect t (Err fault) = Refuses (san_refusal fault)
 
 -- an effect that the root can't have, by the path to the cursor
 abbrev pub off_root : List ℕ → TreeParts → Effect
@@ -117,9 +120,9 @@ abbrev pub claimed : Option DrawClaims → Effect
 claimed None = Refuses Illegal
 claimed (Some claims) = says_line (claims_text claims)
 
-abbrev pub claim_effect : Line → Option MoveParts → Effect
-claim_effect line None = Refuses Form
-claim_effect line (Some m) = claimed (claims_with line m)
+abbrev pub claim_effect : Line → Result MoveParts SanFault → Effect
+claim_effect line (Ok m) = claimed (claims_with line m)
+claim_effect line (Err fault) = Refuses (san_refusal fault)
 
 -- what is asked of a position alone
 abbrev pub counts_of : State → Colour → List ℕ
@@ -138,7 +141,7 @@ effect t Eval = says_line (signed_decimal (evaluation (look (last (line_to t))))
 effect t Fen = says_line (written (last (line_to t)))
 effect t Moves = says_line (list_text (map move_text (legal_moves (last (line_to t)))))
 effect t Checks = says_line (checks_of (last (line_to t)))
-effect t (Play word) = play_effect t (move_in word)
+effect t (Play word) = play_effect t (move_reading (last (line_to t)) word)
 effect t Back = off_root t.path (at_path (parent t.path) t)
 effect t (Step place) = if_there (nat_lt place (count_children (nodes_here t))) (at_path (t.path ++ place ∷ []) t)
 effect t Start = Does (at_path [] t)
@@ -152,7 +155,7 @@ effect t (Nag nag) = off_root t.path (annotated_here nag t)
 effect t Count = says_line (decimal (repetitions (line_to t)))
 effect t Status = says_line (status_text (status (line_to t)))
 effect t Claims = says_line (claims_text (claims (line_to t)))
-effect t (Claim word) = claim_effect (line_to t) (move_in word)
+effect t (Claim word) = claim_effect (line_to t) (move_reading (last (line_to t)) word)
 effect t Unknown = Refuses Command
 effect t Malformed = Refuses Argument
 
@@ -171,8 +174,8 @@ left_by old (Refuses refusal) = old
 abbrev pub answer : TreeParts → Request → List ℕ
 answer t request = told (effect t request)
 
-abbrev pub after : TreeParts → Request → TreeParts
-after t request = left_by t (effect t request)
+abbrev pub tree_after : TreeParts → Request → TreeParts
+tree_after t request = left_by t (effect t request)
 
 -- the requests that may ask for memory
 abbrev pub takes_memory : Request → Bool
@@ -209,20 +212,20 @@ IsDone (Refuses refusal) = ⊥
 
 -- What a call that has this effect answers, and what it leaves: the effect is done, or refused; or, where it would be done and there is no
 -- memory for it, refused so, with everything kept.
-abbrev pub Ends : {X : Type 0} → Effect → TreeParts → Result X Refusal → TreeParts → Type 0
-Ends effect old (Ok _) new = effect ≡ Does new
-Ends effect old (Err refusal) new = ((effect ≡ Refuses refusal) ⊎ (IsDone effect × (refusal ≡ Memory))) × (new ≡ old)
+abbrev pub HasEffect : {X : Type 0} → Effect → TreeParts → Result X Refusal → TreeParts → Type 0
+HasEffect effect old (Ok _) new = effect ≡ Does new
+HasEffect effect old (Err refusal) new = ((effect ≡ Refuses refusal) ⊎ (IsDone effect × (refusal ≡ Memory))) × (new ≡ old)
 
 -- The same of a call that takes no memory.
-abbrev pub EndsSurely : {X : Type 0} → Effect → TreeParts → Result X Refusal → TreeParts → Type 0
-EndsSurely effect old (Ok _) new = effect ≡ Does new
-EndsSurely effect old (Err refusal) new = (effect ≡ Refuses refusal) × (new ≡ old)
+abbrev pub HasEffectSurely : {X : Type 0} → Effect → TreeParts → Result X Refusal → TreeParts → Type 0
+HasEffectSurely effect old (Ok _) new = effect ≡ Does new
+HasEffectSurely effect old (Err refusal) new = (effect ≡ Refuses refusal) × (new ≡ old)
 
 -- The board may answer the request with a text that this holds of, and go from the old tree and cursor to the new: as is asked, or, where that
 -- needs memory and there is none, with a refusal and everything kept.
 abbrev pub TellsBy : (List ℕ → Type 0) → TreeParts → Request → TreeParts → Type 0
 TellsBy answers old request new =
-    (answers (answer old request) × (new ≡ after old request))
+    (answers (answer old request) × (new ≡ tree_after old request))
     ⊎ ((takes_memory request ≡ true) × IsDone (effect old request) × answers no_memory × (new ≡ old))
 
 abbrev pub Tells : TreeParts → Request → List ℕ → TreeParts → Type 0

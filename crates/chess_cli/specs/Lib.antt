@@ -1,19 +1,12 @@
--- The engines over lines: what a line asks and is answered, and how a run over a source and a sink ends.
-pub mod Lines
+-- The engines over lines: what a line asks and is answered, and how a run over a source and a sink ends. `steps` has words of the code alone.
+pub mod InputLines
 pub mod Runs
 pub mod Requests
-pub mod Commands
 pub mod Refusals
 pub mod Gaps
 pub mod Numbers
 pub mod Outcomes
 pub mod Answers
-pub mod Replies
-pub mod LineSoFar
-pub mod Sending
-pub mod Reads
-pub mod Readings
-pub mod Ends
-pub mod Endings
-pub mod Lists
-pub mod Pieces
+pub mod RunEnds
+pub mod ExitStatus
+pub mod steps

@@ -7,7 +7,7 @@
 use Rattle.std.specs.Prelude.{◌≡◌, ℕ, Bool, ◌<◌, ◌==◌, nat_le, ◌&&◌, if◌then◌else◌, ◌≤◌, List, [], ◌∷◌, length, map, take, Option, Some, None, option_map, option_and_then, codes, decimal}
 use Rattle.std.specs.Char.{is_ascii_digit}
 use Rattle.std.specs.List.{list_all, slice_split}
-use Rattle.std.specs.Str.{bytes_eq}
+use Rattle.std.specs.Str.{bytes_eq, byte}
 use Rattle.std.specs.Str.Parse.{digits_value}
 use Rattle.chess_cli.specs.declared.numbers.PathWord.{PathWord}
 use Rattle.chess_cli.specs.declared.numbers.PathWord.TheVariants.{Read, TooLong, Malformed}
@@ -28,7 +28,7 @@ numbers_in (word ∷ words) = option_and_then (λ n. option_map (λ ns. n ∷ ns
 
 -- `-` is the root's; else child numbers from 0, parted by periods
 unfoldable pub path_in : List ℕ → Option (List ℕ)
-path_in word = if bytes_eq word (codes "-") then Some [] else numbers_in (slice_split (λ byte. byte == 46) word)
+path_in word = if bytes_eq word (codes "-") then Some [] else numbers_in (slice_split (λ b. b == byte ".") word)
 
 -- the numbers in decimal, parted by periods, and `-` where there is none
 abbrev pub path_text : List ℕ → List ℕ

@@ -1,20 +1,10 @@
--- Moves as the board reads them, and how it writes the outcome of a line.
---   move_in       the move whose long algebraic text a word is
+-- How the board writes the outcome of a line.
 --   status_text   how a line stands
 --   claims_text   the draws that may be claimed
-use Rattle.std.specs.Prelude.{ℕ, Bool, true, false, List, Option, codes}
-use Rattle.std.specs.List.{find}
-use Rattle.std.specs.Str.{bytes_eq}
-use Rattle.chess_types.specs.declared.outcome.Status.{Status}
-use Rattle.chess_types.specs.declared.outcome.Status.TheVariants.{Mate, Stalemate, Dead, Fivefold, Seventyfive, Play}
-use Rattle.chess_types.specs.declared.outcome.Claims.{Claims}
-use Rattle.chess_types.specs.MoveParts.{MoveParts}
-use Rattle.chess_types.specs.Texts.{move_text}
-use Rattle.chess_types.specs.Legal.{all_moves}
-
--- as `e2e4` or `e7e8q`; none where it is the text of no move
-unfoldable pub move_in : List ℕ → Option MoveParts
-move_in word = find (λ m. bytes_eq (move_text m) word) all_moves
+use Rattle.std.specs.Prelude.{ℕ, Bool, true, false, List, codes}
+use Rattle.chess_types.specs.declared.board.outcome.Status.{Status}
+use Rattle.chess_types.specs.declared.board.outcome.Status.TheVariants.{Mate, Stalemate, Dead, Fivefold, Seventyfive, Play}
+use Rattle.chess_types.specs.declared.board.outcome.Claims.{Claims}
 
 abbrev pub status_text : Status → List ℕ
 status_text Mate = codes "mate"

@@ -1,10 +1,12 @@
 -- The refusals of the board: their numbers and names.
 use Rattle.std.specs.Prelude.{ℕ, List, codes}
 use Rattle.chess_fen.specs.Faults as fen
+use Rattle.chess_san.specs.declared.fault.SanFault.{SanFault}
+use Rattle.chess_san.specs.declared.fault.SanFault.TheVariants as san
 use Rattle.chess_tree.specs.declared.fault.TreeFault.{TreeFault}
 use Rattle.chess_tree.specs.declared.fault.TreeFault.TheVariants as tree
 use Rattle.chess_cli.specs.declared.refusal.Refusal.{Refusal}
-use Rattle.chess_cli.specs.declared.refusal.Refusal.TheVariants.{Fen, Form, NoSuch, Illegal, TooLong, AtRoot, Full, BadComment, Memory, Command, Argument, LongLine}
+use Rattle.chess_cli.specs.declared.refusal.Refusal.TheVariants.{Fen, Form, NoSuch, Illegal, TooLong, AtRoot, Ambiguous, Full, BadComment, Memory, Command, Argument, LongLine}
 
 abbrev pub number_of : Refusal → ℕ
 number_of (Fen fault) = fen.number_of fault
@@ -13,6 +15,7 @@ number_of NoSuch = 1
 number_of Illegal = 2
 number_of TooLong = 2
 number_of AtRoot = 2
+number_of Ambiguous = 3
 number_of Full = 3
 number_of BadComment = 4
 number_of Memory = 5
@@ -27,6 +30,7 @@ name_of NoSuch = codes "NoSuch"
 name_of Illegal = codes "Illegal"
 name_of TooLong = codes "TooLong"
 name_of AtRoot = codes "AtRoot"
+name_of Ambiguous = codes "Ambiguous"
 name_of Full = codes "Full"
 name_of BadComment = codes "BadComment"
 name_of Memory = codes "Memory"
@@ -41,3 +45,9 @@ tree_refusal tree.AtRoot = AtRoot
 tree_refusal tree.Full = Full
 tree_refusal tree.BadComment = BadComment
 tree_refusal tree.Memory = Memory
+
+-- a text that names no one move, as the board tells it
+abbrev pub san_refusal : SanFault → Refusal
+san_refusal san.Form = Form
+san_refusal san.Illegal = Illegal
+san_refusal san.Ambiguous = Ambiguous

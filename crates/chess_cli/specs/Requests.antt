@@ -1,9 +1,9 @@
 -- What a line of the board asks for. Words are parted by spaces and tabs; one carriage return at the line's end is dropped.
 use Rattle.std.specs.Prelude.{ℕ, ◌-◌, ◌==◌, nat_le, if◌then◌else◌, List, [], ◌∷◌, length, take, slice_index, Option, Some, None, option_and_then, codes}
 use Rattle.std.specs.Str.{bytes_eq}
-use Rattle.chess_types.specs.declared.man.Colour.{Colour}
-use Rattle.chess_types.specs.declared.man.Colour.TheVariants.{White, Black}
-use Rattle.chess_types.specs.Words.{words, skip_gaps, after_word, trimmed}
+use Rattle.chess_types.specs.declared.board.man.Colour.{Colour}
+use Rattle.chess_types.specs.declared.board.man.Colour.TheVariants.{White, Black}
+use Rattle.chess_types.specs.bytes.Words.{words, skip_gaps, after_word, trimmed}
 use Rattle.chess_cli.specs.Numbers.{number_in, path_in}
 
 pub data Request : Type 0 where
@@ -59,7 +59,7 @@ pub data Request : Type 0 where
 
 -- space and tab
 abbrev pub gaps : List ℕ
-gaps = 32 ∷ 9 ∷ []
+gaps = codes " \t"
 
 -- the line without one carriage return at its end
 abbrev pub without_return : List ℕ → List ℕ

@@ -1,8 +1,8 @@
 ghost use Rattle.std.specs.Prelude.{◌≡◌, Some, None, IfSome, IfNone};
-ghost use Rattle.chess_types.specs.Words.{words};
+ghost use Rattle.chess_types.specs.bytes.Words.{words};
 ghost use Rattle.chess_cli.specs.Requests.{gaps, request, without_return, alone, only_word as only_word_of, with_colour, with_word, with_value, nag_in, Counts as CountsOf, Play as PlayOf, Claim as ClaimOf, Goto as GotoOf, Step as StepOf, Nag as NagOf};
 ghost use Rattle.chess_cli.specs.Numbers.{number_in as number_in_of, path_in};
-ghost use Rattle.chess_cli.specs.Commands.{request_of};
+ghost use Rattle.chess_cli.specs.steps.Commands.{request_of};
 
 use super::numbers::number_in;
 use chess_types::{Colour, split_word, trim};

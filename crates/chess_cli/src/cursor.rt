@@ -2,13 +2,13 @@
 //!
 //! The line follows since the tree is a game tree, as `Tree::position` tells: each path leads to a node, and each move is legal.
 ghost use Rattle.std.specs.Prelude.{◌≡◌, ◌<◌, ◌≤◌, ◌++◌, ◌∷◌, [], length, nat_le, nat_lt, take, true, None, OnOk, if◌then◌else◌};
-ghost use Rattle.chess_types.specs.Legal.{is_legal};
-ghost use Rattle.chess_types.specs.Lines.{extended, last};
+ghost use Rattle.chess_types.specs.board.Legal.{is_legal};
+ghost use Rattle.chess_types.specs.board.Lines.{extended, last};
 ghost use Rattle.chess_tree.specs.Forest.{count, moves_held};
 ghost use Rattle.chess_tree.specs.Edits.{parent};
 ghost use Rattle.chess_tree.specs.GameTree.{added, at_path, deleted, find, has, line_to, main_line, nodes_here};
 ghost use Rattle.chess_cli.specs.declared.refusal.Refusal.TheVariants.{Full, Memory};
-ghost use Rattle.chess_cli.specs.Answers.{Does, Ends, EndsSurely, Refuses, if_there, move_effect, off_root};
+ghost use Rattle.chess_cli.specs.Answers.{Does, HasEffect, HasEffectSurely, Refuses, if_there, move_effect, off_root};
 
 use super::refusal::{Refusal, of_tree};
 use chess_draws::{Line, LineFault};
@@ -18,7 +18,7 @@ use std::alloc::Allocator;
 
 // The refusal of a new move for which the line finds no memory: a full tree comes first.
 fn without_room<A: Allocator>(tree: &Tree<'_, A>) -> Refusal
-    ensures { result ≡ (if nat_le 65536 (moves_held tree.now.tree.below) then Full else Memory) }
+    ensures { result ≡ (if nat_le 1000000 (moves_held tree.now.tree.below) then Full else Memory) }
 {
     if tree.is_full() {
         Refusal::Full
@@ -31,8 +31,8 @@ fn without_room<A: Allocator>(tree: &Tree<'_, A>) -> Refusal
 fn grow<A: Allocator>(tree: &mut Tree<'_, A>, m: Move) -> Result<(), Refusal>
     requires legal { is_legal (last (line_to tree.old)) m ≡ true }
     requires deep { length tree.old.path < 20000 }
-    requires few { moves_held tree.old.tree.below ≤ 65536 }
-    ensures ends { Ends (if nat_le 65536 (moves_held tree.old.tree.below) then Refuses Full else Does (added m tree.old)) tree.old result tree.new }
+    requires few { moves_held tree.old.tree.below ≤ 1000000 }
+    ensures ends { HasEffect (if nat_le 1000000 (moves_held tree.old.tree.below) then Refuses Full else Does (added m tree.old)) tree.old result tree.new }
     ensures line { OnOk result (line_to tree.new ≡ extended (line_to tree.old) m) }
 {
     tree.add(m).map_err(of_tree)
@@ -46,7 +46,7 @@ fn add<A: Allocator, B: Allocator>(
 ) -> Result<(), Refusal>
     requires follows { line.old.line ≡ line_to tree.old }
     requires new { find m (nodes_here tree.old) ≡ None }
-    ensures ends { Ends (move_effect tree.old m) tree.old result tree.new }
+    ensures ends { HasEffect (move_effect tree.old m) tree.old result tree.new }
     ensures line { line.new.line ≡ line_to tree.new }
 {
     let _start = tree.position();
@@ -70,7 +70,7 @@ pub fn play<A: Allocator, B: Allocator>(
     m: Move,
 ) -> Result<(), Refusal>
     requires follows { line.old.line ≡ line_to tree.old }
-    ensures ends { Ends (move_effect tree.old m) tree.old result tree.new }
+    ensures ends { HasEffect (move_effect tree.old m) tree.old result tree.new }
     ensures line { line.new.line ≡ line_to tree.new }
 {
     match tree.find(m) {
@@ -104,7 +104,7 @@ pub fn step<A: Allocator, B: Allocator>(
     place: u32,
 ) -> Result<(), Refusal>
     requires follows { line.old.line ≡ line_to tree.old }
-    ensures ends { Ends (if_there (nat_lt place (count (nodes_here tree.old))) (at_path (tree.old.path ++ place ∷ []) tree.old)) tree.old result tree.new }
+    ensures ends { HasEffect (if_there (nat_lt place (count (nodes_here tree.old))) (at_path (tree.old.path ++ place ∷ []) tree.old)) tree.old result tree.new }
     ensures line { line.new.line ≡ line_to tree.new }
 {
     if place >= tree.child_count() {
@@ -123,7 +123,7 @@ pub fn back<A: Allocator, B: Allocator>(
     line: &mut Line<'_, B>,
 ) -> Result<(), Refusal>
     requires follows { line.old.line ≡ line_to tree.old }
-    ensures ends { EndsSurely (off_root tree.old.path (at_path (parent tree.old.path) tree.old)) tree.old result tree.new }
+    ensures ends { HasEffectSurely (off_root tree.old.path (at_path (parent tree.old.path) tree.old)) tree.old result tree.new }
     ensures line { line.new.line ≡ line_to tree.new }
     ensures room { line.new.room ≡ line.old.room }
 {
@@ -161,7 +161,7 @@ pub fn end<A: Allocator, B: Allocator>(
     line: &mut Line<'_, B>,
 ) -> Result<(), Refusal>
     requires follows { line.old.line ≡ line_to tree.old }
-    ensures ends { Ends (Does (at_path (tree.old.path ++ main_line (nodes_here tree.old)) tree.old)) tree.old result tree.new }
+    ensures ends { HasEffect (Does (at_path (tree.old.path ++ main_line (nodes_here tree.old)) tree.old)) tree.old result tree.new }
     ensures line { line.new.line ≡ line_to tree.new }
 {
     let depth = tree.depth();
@@ -183,7 +183,7 @@ pub fn goto<A: Allocator, B: Allocator>(
 ) -> Result<(), Refusal>
     requires follows { line.old.line ≡ line_to tree.old }
     requires few { length path.now ≤ 20000 }
-    ensures ends { Ends (if_there (has path.now tree.old.tree.below) (at_path path.now tree.old)) tree.old result tree.new }
+    ensures ends { HasEffect (if_there (has path.now tree.old.tree.below) (at_path path.now tree.old)) tree.old result tree.new }
     ensures line { line.new.line ≡ line_to tree.new }
 {
     if !tree.has(path) {
@@ -206,7 +206,7 @@ pub fn delete<A: Allocator, B: Allocator>(
     line: &mut Line<'_, B>,
 ) -> Result<(), Refusal>
     requires follows { line.old.line ≡ line_to tree.old }
-    ensures ends { EndsSurely (off_root tree.old.path (deleted tree.old)) tree.old result tree.new }
+    ensures ends { HasEffectSurely (off_root tree.old.path (deleted tree.old)) tree.old result tree.new }
     ensures line { line.new.line ≡ line_to tree.new }
 {
     tree.delete().map_err(of_tree)?;

@@ -15,7 +15,7 @@ pub enum Ended {
 
 impl Ended {
     ghost use Rattle.std.specs.Prelude.{◌≡◌};
-    ghost use Rattle.chess_cli.specs.Endings.{status_of, message_of};
+    ghost use Rattle.chess_cli.specs.ExitStatus.{status_of, message_of};
 
     /// The exit status: 0 for `Good`, else 3.
     pub fn status(&self) -> u8

@@ -1,5 +1,5 @@
 ghost use Rattle.std.specs.Prelude.{◌≡◌, ◌+◌, ◌≤◌, false, length};
-ghost use Rattle.chess_cli.specs.Reads.{AnswersLine};
+ghost use Rattle.chess_cli.specs.steps.Reads.{AnswersLine};
 
 use super::page::Page;
 use super::unfinished::Unfinished;

@@ -1,10 +1,10 @@
 ghost use Rattle.std.specs.Prelude.{◌≡◌, ◌+◌, ◌≤◌, ◌++◌, filter, length, map};
 ghost use Rattle.std.specs.FinSet.{contains};
 ghost use Rattle.arrayvec.specs.ArrayString.{array_string_len};
-ghost use Rattle.chess_types.specs.Squares.{squares};
-ghost use Rattle.chess_types.specs.Texts.{move_text, square_text};
+ghost use Rattle.chess_types.specs.board.Squares.{squares};
+ghost use Rattle.chess_types.specs.board.Texts.{move_text, square_text};
 ghost use Rattle.chess_cli.specs.Answers.{list_text};
-ghost use Rattle.chess_cli.specs.Lists.{behind};
+ghost use Rattle.chess_cli.specs.steps.Lists.{behind};
 
 use super::page::Page;
 use arrayvec::ArrayString;

@@ -1,20 +1,21 @@
 ghost use Rattle.std.specs.Prelude.{◌≡◌, ℕ, List, ◌+◌, ◌≤◌, ◌++◌, ◌∷◌, [], IfOk, decimal, length, map};
 ghost use Rattle.std.specs.Fmt.{signed_decimal};
-ghost use Rattle.chess_types.specs.Texts.{move_text};
-ghost use Rattle.chess_types.specs.Legal.{legal_moves};
-ghost use Rattle.chess_types.specs.Lines.{last};
-ghost use Rattle.chess_types.specs.Repetition.{repetitions};
-ghost use Rattle.chess_types.specs.Outcome.{status, claims};
-ghost use Rattle.chess_types.specs.Position.{start, look};
+ghost use Rattle.chess_types.specs.board.Texts.{move_text};
+ghost use Rattle.chess_types.specs.board.Legal.{legal_moves};
+ghost use Rattle.chess_types.specs.board.Lines.{last};
+ghost use Rattle.chess_types.specs.board.Repetition.{repetitions};
+ghost use Rattle.chess_types.specs.board.Outcome.{status, claims};
+ghost use Rattle.chess_types.specs.board.Position.{start, look};
 ghost use Rattle.chess_eval.specs.Evaluation.{evaluation};
 ghost use Rattle.chess_tree.specs.GameTree.{TreeParts, annotated_here, at_path, line_to, promoted_here};
-ghost use Rattle.chess_cli.specs.Outcomes.{claims_text, move_in as move_in_of, status_text};
+ghost use Rattle.chess_cli.specs.Outcomes.{claims_text, status_text};
 ghost use Rattle.chess_cli.specs.Numbers.{path_in};
-ghost use Rattle.chess_cli.specs.Answers.{Answers, Does, Ends, EndsSurely, Tells, TellsBy, beginning, checks_of, claim_effect, comment_effect, counts_of, list_text, off_root, play_effect, set_effect, told, tree_from};
-ghost use Rattle.chess_cli.specs.Replies.{IsPut, path_effect};
+ghost use Rattle.chess_cli.specs.Answers.{Answers, Does, HasEffect, HasEffectSurely, Tells, TellsBy, beginning, checks_of, claim_effect, comment_effect, counts_of, list_text, off_root, play_effect, set_effect, told, tree_from};
+ghost use Rattle.chess_cli.specs.steps.Replies.{IsOnPage, path_effect};
 ghost use Rattle.chess_cli.specs.Requests.{request};
-ghost use Rattle.chess_cli.specs.Sending.{Sends};
+ghost use Rattle.chess_cli.specs.steps.Sending.{Sends};
 ghost use Rattle.chess_fen.specs.Reading.{reading};
+ghost use Rattle.chess_san.specs.Naming.{reading as move_reading};
 ghost use Rattle.chess_fen.specs.Writing.{written};
 
 use super::answer::{Told, put_done, put_refused};
@@ -24,10 +25,10 @@ use super::cursor;
 use super::engine::Engine;
 use super::lists::{put_moves, squares_text};
 use super::numbers::{PLACES, PathWord, read_path};
-use super::outcomes::{claims_text, move_in, status_text};
+use super::outcomes::{claims_text, status_text};
 use super::page::Page;
 use super::path::write_path;
-use super::refusal::{Refusal, of_tree};
+use super::refusal::{Refusal, of_san, of_tree};
 use super::texts::{counts_text, eval_text};
 use super::unfinished::{Reading, Unfinished};
 use chess_attack::checkers;
@@ -53,7 +54,7 @@ pub struct Board<'k, A: Allocator> {
 
 impl<'k, A: Allocator> Model for Board<'k, A> {
     ghost use Rattle.chess_tree.specs.GameTree.{TreeParts};
-    ghost use Rattle.chess_tree.specs.TreeCode.{coded_tree};
+    ghost use Rattle.chess_tree.specs.steps.TreeCode.{coded_tree};
 
     ghost Value = { TreeParts };
 
@@ -68,7 +69,7 @@ impl<'k, A: Allocator> Model for Board<'k, A> {
 }
 
 // The position in which a game begins.
-#[tactic(auto, unfolding(chess_types::specs::Position::start))]
+#[tactic(auto, unfolding(chess_types::specs::board::Position::start))]
 fn start_position() -> Position
     ensures value { result ≡ start }
     ensures clock { result.clock ≤ 99999 }
@@ -112,7 +113,7 @@ impl<'k, A: Allocator> Board<'k, A> {
     /// Answers a line that was read whole, behind what stands on the page; of the answer to `path` there is nothing yet.
     pub fn tell<B: Allocator>(&mut self, line: &[u8], page: &mut Page<B>) -> Told
         requires { length page.old + 2600 ≤ 65536 }
-        ensures { TellsBy (IsPut result self.new page.old page.new) self.old (request line.now) self.new }
+        ensures { TellsBy (IsOnPage result self.new page.old page.new) self.old (request line.now) self.new }
     {
         match asked(line) {
             Command::Blank => {}
@@ -167,7 +168,7 @@ impl<'k, A: Allocator> Board<'k, A> {
     fn begin(&mut self, position: Position) -> Result<(), Refusal>
         requires clock { position.clock ≤ 99999 }
         requires number { position.number ≤ 99999 }
-        ensures { Ends (Does (tree_from position)) self.old result self.new }
+        ensures { HasEffect (Does (tree_from position)) self.old result self.new }
     {
         let Ok(root) = position.clone() else {
             unreachable!();
@@ -179,7 +180,7 @@ impl<'k, A: Allocator> Board<'k, A> {
 
     // Begins a tree from the position of the FEN.
     fn set(&mut self, fen: &[u8]) -> Result<(), Refusal>
-        ensures { Ends (set_effect (reading fen.now)) self.old result self.new }
+        ensures { HasEffect (set_effect (reading fen.now)) self.old result self.new }
     {
         match chess_fen::read(fen) {
             Ok(position) => self.begin(position),
@@ -233,17 +234,17 @@ impl<'k, A: Allocator> Board<'k, A> {
 
     // Makes the move of the text.
     fn play(&mut self, word: &[u8]) -> Result<(), Refusal>
-        ensures { Ends (play_effect self.old (move_in_of word.now)) self.old result self.new }
+        ensures { HasEffect (play_effect self.old (move_reading (last (line_to self.old)) word.now)) self.old result self.new }
     {
-        match move_in(word) {
-            None => Err(Refusal::Form),
-            Some(m) => cursor::play(&mut self.tree, &mut self.line, m),
+        match self.line.read_move(word) {
+            Ok(m) => cursor::play(&mut self.tree, &mut self.line, m),
+            Err(fault) => Err(of_san(fault)),
         }
     }
 
     // Goes to the root.
     fn start(&mut self) -> Result<(), Refusal>
-        ensures { EndsSurely (Does (at_path [] self.old)) self.old result self.new }
+        ensures { HasEffectSurely (Does (at_path [] self.old)) self.old result self.new }
     {
         cursor::start(&mut self.tree, &mut self.line);
         Ok(())
@@ -251,7 +252,7 @@ impl<'k, A: Allocator> Board<'k, A> {
 
     // Goes to the node at the path that the word writes.
     fn goto(&mut self, word: &[u8]) -> Result<(), Refusal>
-        ensures { Ends (path_effect self.old (path_in word.now)) self.old result self.new }
+        ensures { HasEffect (path_effect self.old (path_in word.now)) self.old result self.new }
     {
         // No node of a tree is more than 20,000 plies deep.
         let _start = self.tree.position();
@@ -267,21 +268,21 @@ impl<'k, A: Allocator> Board<'k, A> {
 
     // The node before its siblings.
     fn promote(&mut self) -> Result<(), Refusal>
-        ensures { EndsSurely (off_root self.old.path (promoted_here self.old)) self.old result self.new }
+        ensures { HasEffectSurely (off_root self.old.path (promoted_here self.old)) self.old result self.new }
     {
         self.tree.promote().map_err(of_tree)
     }
 
     // A text for the node's comment.
     fn comment(&mut self, comment: &[u8]) -> Result<(), Refusal>
-        ensures { Ends (comment_effect self.old comment.now) self.old result self.new }
+        ensures { HasEffect (comment_effect self.old comment.now) self.old result self.new }
     {
         self.tree.set_comment(comment).map_err(of_tree)
     }
 
     // An annotation number more.
     fn nag(&mut self, nag: u8) -> Result<(), Refusal>
-        ensures { Ends (off_root self.old.path (annotated_here nag self.old)) self.old result self.new }
+        ensures { HasEffect (off_root self.old.path (annotated_here nag self.old)) self.old result self.new }
     {
         self.tree.add_nag(nag).map_err(of_tree)
     }
@@ -316,11 +317,12 @@ impl<'k, A: Allocator> Board<'k, A> {
     // Those that may be claimed with the move of the text.
     fn claim<B: Allocator>(&mut self, word: &[u8], page: &mut Page<B>)
         requires room { length page.old + 2600 ≤ 65536 }
-        ensures text { page.new ≡ page.old ++ told (claim_effect (line_to self.old) (move_in_of word.now)) }
+        ensures text { page.new ≡ page.old ++ told (claim_effect (line_to self.old) (move_reading (last (line_to self.old)) word.now)) }
         ensures state { self.new ≡ self.old }
     {
-        let Some(m) = move_in(word) else {
-            return put_refused(page, Refusal::Form);
+        let m = match self.line.read_move(word) {
+            Ok(m) => m,
+            Err(fault) => return put_refused(page, of_san(fault)),
         };
         match self.line.claims_with(m) {
             None => put_refused(page, Refusal::Illegal),

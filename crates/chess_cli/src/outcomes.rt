@@ -1,14 +1,7 @@
 ghost use Rattle.std.specs.Prelude.{◌≡◌, ◌≤◌, length};
-ghost use Rattle.chess_cli.specs.Outcomes.{claims_text, move_in, status_text};
+ghost use Rattle.chess_cli.specs.Outcomes.{claims_text, status_text};
 
-use chess_types::{Claims, Move, Status};
-
-/// The move whose long algebraic text the word is, as `e2e4` or `e7e8q`.
-pub fn move_in(word: &[u8]) -> Option<Move>
-    ensures { result ≡ move_in word.now }
-{
-    Move::parse(word)
-}
+use chess_types::{Claims, Status};
 
 /// How a game stands.
 pub fn status_text(status: Status) -> &'static str

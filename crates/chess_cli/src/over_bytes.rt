@@ -1,8 +1,8 @@
 ghost use Rattle.std.specs.Prelude.{◌≡◌, ◌≤◌, ◌<◌, ℕ, List, [], ◌++◌, true, false, length, ◌⊎◌};
 ghost use Rattle.chess_tree.specs.GameTree.{TreeParts};
 ghost use Rattle.chess_cli.specs.Answers.{Answers, beginning};
-ghost use Rattle.chess_cli.specs.Ends.{IsFront, most_reads};
-ghost use Rattle.chess_cli.specs.Lines.{lines_of, ended_lines};
+ghost use Rattle.chess_cli.specs.RunEnds.{IsFront, most_reads};
+ghost use Rattle.chess_cli.specs.InputLines.{lines_of, ended_lines};
 ghost use Rattle.chess_cli.specs.Runs.{Runs};
 
 use super::ended::Ended;

@@ -2,7 +2,7 @@ ghost use Rattle.std.specs.Prelude.{◌≡◌, false};
 ghost use Rattle.chess_tree.specs.GameTree.{TreeParts};
 ghost use Rattle.chess_cli.specs.Answers.{Answers, beginning};
 ghost use Rattle.chess_cli.specs.Runs.{Runs};
-ghost use Rattle.chess_cli.specs.Ends.{EndsGood, EndsReadFault, EndsWriteFault, most_reads};
+ghost use Rattle.chess_cli.specs.RunEnds.{EndsGood, EndsReadFault, EndsWriteFault, most_reads};
 
 use super::ended::Ended;
 use super::keys::key_table;

@@ -1,5 +1,5 @@
 ghost use Rattle.std.specs.Prelude.{◌≡◌, ◌+◌, ◌≤◌, [], ◌∷◌, ◌++◌, length, IfOk, OnOk};
-ghost use Rattle.chess_cli.specs.Sending.{Flows};
+ghost use Rattle.chess_cli.specs.steps.Sending.{Flows};
 
 use super::write::write_all;
 use chess_types::{Failed, Sink};

@@ -1,7 +1,7 @@
 ghost use Rattle.std.specs.Prelude.{◌≡◌, ◌+◌, ◌≤◌, ◌++◌, ◌∷◌, [], length};
 ghost use Rattle.chess_cli.specs.Numbers.{path_text};
-ghost use Rattle.chess_cli.specs.Pieces.{next_place};
-ghost use Rattle.chess_cli.specs.Sending.{Sends};
+ghost use Rattle.chess_cli.specs.steps.Pieces.{next_place};
+ghost use Rattle.chess_cli.specs.steps.Sending.{Sends};
 
 use super::page::Page;
 use chess_tree::Tree;

@@ -1,7 +1,8 @@
 ghost use Rattle.std.specs.Prelude.{◌≡◌};
-ghost use Rattle.chess_cli.specs.Refusals.{tree_refusal};
+ghost use Rattle.chess_cli.specs.Refusals.{san_refusal, tree_refusal};
 
 use chess_fen::FenFault;
+use chess_san::SanFault;
 use chess_tree::TreeFault;
 
 /// Why a line of the board is refused. Number and name together tell which.
@@ -9,17 +10,19 @@ use chess_tree::TreeFault;
 pub enum Refusal {
     /// The text is no FEN.
     Fen(FenFault),
-    /// The word isn't the text of a move.
+    /// The word has no form of a move.
     Form,
     /// There is no such child, or no node at that path.
     NoSuch,
-    /// The move isn't legal.
+    /// The word names no legal move.
     Illegal,
     /// The node is 20,000 plies deep.
     TooLong,
     /// The cursor is at the root.
     AtRoot,
-    /// The tree holds 65,536 moves.
+    /// The word names more than one legal move.
+    Ambiguous,
+    /// The tree holds 1,000,000 moves.
     Full,
     /// A right brace stands in the comment.
     BadComment,
@@ -45,7 +48,7 @@ impl Refusal {
             Refusal::Fen(fault) => fault.number(),
             Refusal::Form | Refusal::NoSuch => 1,
             Refusal::Illegal | Refusal::TooLong | Refusal::AtRoot => 2,
-            Refusal::Full => 3,
+            Refusal::Ambiguous | Refusal::Full => 3,
             Refusal::BadComment => 4,
             Refusal::Memory => 5,
             Refusal::Command => 6,
@@ -66,6 +69,7 @@ impl Refusal {
             Refusal::Illegal => "Illegal",
             Refusal::TooLong => "TooLong",
             Refusal::AtRoot => "AtRoot",
+            Refusal::Ambiguous => "Ambiguous",
             Refusal::Full => "Full",
             Refusal::BadComment => "BadComment",
             Refusal::Memory => "Memory",
@@ -86,5 +90,16 @@ pub fn of_tree(fault: TreeFault) -> Refusal
         TreeFault::Full => Refusal::Full,
         TreeFault::BadComment => Refusal::BadComment,
         TreeFault::Memory => Refusal::Memory,
+    }
+}
+
+/// The refusal of a text that names no one move.
+pub fn of_san(fault: SanFault) -> Refusal
+    ensures { result ≡ san_refusal fault }
+{
+    match fault {
+        SanFault::Form => Refusal::Form,
+        SanFault::Illegal => Refusal::Illegal,
+        SanFault::Ambiguous => Refusal::Ambiguous,
     }
 }

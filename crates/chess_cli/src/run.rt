@@ -3,8 +3,8 @@
 //! The answers to the lines of one read are written before the next, with as few calls as fit a page.
 ghost use Rattle.std.specs.Prelude.{◌≡◌, ◌⊎◌, ◌+◌, ◌≤◌, List, ℕ, [], ◌<◌, ◌≢◌, false, length, OnOk};
 ghost use Rattle.chess_cli.specs.Runs.{Runs, Partly};
-ghost use Rattle.chess_cli.specs.Reads.{AnswersLine, Feeds, Finishes, Holds};
-ghost use Rattle.chess_cli.specs.Ends.{EndsGood, EndsOver, EndsReadFault, EndsWriteFault};
+ghost use Rattle.chess_cli.specs.steps.Reads.{AnswersLine, Feeds, Finishes, Holds};
+ghost use Rattle.chess_cli.specs.RunEnds.{EndsGood, EndsOver, EndsReadFault, EndsWriteFault};
 
 use super::buffers::filled;
 use super::ended::Ended;

@@ -31,10 +31,10 @@ refused 7 Argument
 refused 6 Command
 refused 1 Fields
 ok
-109
+110
 refused 7 Argument
 ok
--109
+-110
 ok
 0
 0 0 0 0 0 0 0 0 / 0 0 0 0 0 0 0 0 / 0 0 0 0 0 0 0 0 / 0 0 0 0 0 0 0 0 / 0 0 0 0 0 0 0 0 / 2 2 3 2 2 3 2 2 / 1 1 1 4 4 1 1 1 / 0 1 1 1 1 1 1 0

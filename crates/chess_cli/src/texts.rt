@@ -1,7 +1,7 @@
 ghost use Rattle.std.specs.Prelude.{◌≡◌, ℕ, ◌+◌, ◌*◌, ◌<◌, ◌≤◌, ◌++◌, codes, decimal};
 ghost use Rattle.std.specs.Fmt.{signed_decimal};
 ghost use Rattle.arrayvec.specs.ArrayString.{array_string_len};
-ghost use Rattle.chess_cli.specs.Answers.{rank_text, counts_text};
+ghost use Rattle.chess_cli.specs.Answers.{rank_numbers, counts_text};
 
 use arrayvec::ArrayString;
 use chess_play::Live;
@@ -11,7 +11,7 @@ use itoa::Buffer;
 /// Numbers that are kept for a position.
 pub trait Kept {
     ghost use Rattle.std.specs.Prelude.{ℤ};
-    ghost use Rattle.chess_types.specs.declared.man.Colour.{Colour};
+    ghost use Rattle.chess_types.specs.declared.board.man.Colour.{Colour};
 
     /// The attack count of a colour on a square.
     ghost counts: { Self → Colour → ℕ → ℕ };
@@ -40,7 +40,7 @@ fn push_number(text: &mut ArrayString<320>, number: u8)
 fn push_rank<K: Kept>(text: &mut ArrayString<320>, kept: &K, colour: Colour, rank: u8)
     requires on_board { rank < 8 }
     requires room { array_string_len text.old + 31 ≤ 320 }
-    ensures bytes { text.new.bytes ≡ text.old.bytes ++ rank_text (K.counts kept.now colour) rank }
+    ensures bytes { text.new.bytes ≡ text.old.bytes ++ rank_numbers (K.counts kept.now colour) rank }
     ensures len { array_string_len text.new ≤ array_string_len text.old + 31 }
 {
     push_number(text, kept.count(colour, Square::from_index(8 * rank)));
@@ -76,8 +76,8 @@ pub fn eval_text<K: Kept>(kept: &K) -> ArrayString<16>
 }
 
 impl<'k> Kept for Live<'k> {
-    ghost use Rattle.chess_types.specs.Attack.{count};
-    ghost use Rattle.chess_types.specs.Position.{look};
+    ghost use Rattle.chess_types.specs.board.Attack.{count};
+    ghost use Rattle.chess_types.specs.board.Position.{look};
     ghost use Rattle.chess_eval.specs.Evaluation.{evaluation};
 
     ghost counts = { λ live. count (look live.position) };

@@ -1,6 +1,6 @@
 ghost use Rattle.std.specs.Prelude.{◌≡◌, ◌<◌, ◌≤◌, List, ℕ, [], ◌++◌, ◌==◌, length, IfOk};
-ghost use Rattle.chess_cli.specs.Reads.{Holds};
-ghost use Rattle.chess_cli.specs.Readings.{ReadAs};
+ghost use Rattle.chess_cli.specs.steps.Reads.{Holds};
+ghost use Rattle.chess_cli.specs.steps.Readings.{ReadAs};
 
 use std::alloc::{AllocError, Allocator};
 use std::marker::Model;
@@ -32,7 +32,7 @@ pub struct Unfinished<A: Allocator> {
 
 impl<A: Allocator> Model for Unfinished<A> {
     ghost use Rattle.std.specs.Prelude.{◌≤◌, vec_capacity, vec_len};
-    ghost use Rattle.chess_cli.specs.LineSoFar.{LineSoFar};
+    ghost use Rattle.chess_cli.specs.steps.LineSoFar.{LineSoFar};
 
     ghost Value = { LineSoFar };
 

@@ -1,5 +1,5 @@
 ghost use Rattle.std.specs.Prelude.{[]};
-ghost use Rattle.chess_cli.specs.Sending.{SentOr};
+ghost use Rattle.chess_cli.specs.steps.Sending.{SentOr};
 
 use chess_types::{Failed, Sink};
 

@@ -1,13 +1,13 @@
 -- What is answered of a line, by what is found out of its last position.
 use Rattle.std.proofs.Common.{◌≡◌, ℕ, ◌<◌, ◌≤◌, true, false, Some, None, Ok, Err, length, refl, ap, ◌∙◌}
 use Rattle.std.proofs.lemmas.Bool.{le-leb, lt-leb}
-use Rattle.chess_types.specs.declared.outcome.Status.{Status}
-use Rattle.chess_types.specs.MoveParts.{MoveParts}
-use Rattle.chess_types.specs.Position.{State}
-use Rattle.chess_types.specs.Legal.{is_legal}
-use Rattle.chess_types.specs.Lines.{Line, last, extended}
-use Rattle.chess_types.specs.Repetition.{repetitions}
-use Rattle.chess_types.specs.Outcome.{status_at, status, is_play, claims_at, claims, claims_with}
+use Rattle.chess_types.specs.declared.board.outcome.Status.{Status}
+use Rattle.chess_types.specs.board.MoveParts.{MoveParts}
+use Rattle.chess_types.specs.board.Position.{State}
+use Rattle.chess_types.specs.board.Legal.{is_legal}
+use Rattle.chess_types.specs.board.Lines.{Line, last, extended}
+use Rattle.chess_types.specs.board.Repetition.{repetitions}
+use Rattle.chess_types.specs.board.Outcome.{status_at, status, is_play, claims_at, claims, claims_with}
 use Rattle.chess_draws.specs.declared.fault.LineFault.TheVariants.{Illegal, TooLong}
 use Rattle.chess_draws.specs.Pushes.{push_answer}
 

@@ -3,19 +3,19 @@ use Rattle.std.proofs.Common.{◌≡◌, ℕ, ◌+◌, ◌<◌, ◌≤◌, Bool,
 use Rattle.std.specs.List.{All, count_by}
 use Rattle.std.proofs.lemmas.List.{length-map, length-append, map-append}
 use Rattle.std.proofs.lemmas.List.Sums.{sum_by-cons, sum_by-append}
-use Rattle.chess_types.specs.MoveParts.{MoveParts}
-use Rattle.chess_types.specs.Position.{State, IsWellFormed, look}
-use Rattle.chess_types.specs.After.{after}
-use Rattle.chess_types.specs.Legal.{is_legal}
-use Rattle.chess_types.specs.Lines.{Line, play, AreLegal, positions_from, last, positions, extended}
-use Rattle.chess_types.specs.Repetition.{counting_target, is_same, repetitions}
+use Rattle.chess_types.specs.board.MoveParts.{MoveParts}
+use Rattle.chess_types.specs.board.Position.{State, IsWellFormed, look}
+use Rattle.chess_types.specs.board.After.{after}
+use Rattle.chess_types.specs.board.Legal.{is_legal}
+use Rattle.chess_types.specs.board.Lines.{Line, play, AreLegal, positions_from, last, positions, extended}
+use Rattle.chess_types.specs.board.Repetition.{counting_target, is_same, repetitions}
 use Rattle.chess_attack.specs.KeptCounts.{changed_of}
 use Rattle.chess_play.specs.LiveParts.{LiveParts}
 use Rattle.chess_play.specs.Records.{RecordParts, IsBefore, record_of}
-use Rattle.chess_moves.proofs.LegalLaws.{legal_pseudo}
+use Rattle.chess_types.proofs.MoveLemmas.{legal_pseudo}
 use Rattle.chess_draws.specs.declared.ply.Ply.{Ply}
-use Rattle.chess_draws.specs.Stands.{StandParts, same_stand, stand_of}
-use Rattle.chess_draws.specs.Plies.{IsPly, ArePlies, IsLine, move_of}
+use Rattle.chess_draws.specs.steps.Stands.{StandParts, same_stand, stand_of}
+use Rattle.chess_draws.specs.steps.Plies.{IsPly, ArePlies, IsLine, move_of}
 use Rattle.chess_draws.specs.LineParts.{LineParts}
 use Rattle.chess_draws.proofs.SameLemmas.{is_same_self, same_after}
 use Rattle.chess_types.proofs.PlayLaws.{play_on, positions_on}

@@ -3,16 +3,16 @@ use Rattle.std.proofs.Common.{◌≡◌, ℕ, ◌+◌, ◌≤◌, cond, Bool, Li
 use Rattle.std.specs.List.{All, count_by}
 use Rattle.std.proofs.lemmas.List.Elements.{All-nil, All-cons}
 use Rattle.std.proofs.lemmas.List.Sums.{sum_by-cons}
-use Rattle.chess_types.specs.MoveParts.{MoveParts}
-use Rattle.chess_types.specs.Position.{State, IsWellFormed}
-use Rattle.chess_types.specs.After.{after}
-use Rattle.chess_types.specs.Lines.{play, AreLegal, positions_from}
-use Rattle.chess_types.specs.Repetition.{is_same}
-use Rattle.chess_play.proofs.Counters.{clock_more, number_more}
+use Rattle.chess_types.specs.board.MoveParts.{MoveParts}
+use Rattle.chess_types.specs.board.Position.{State, IsWellFormed}
+use Rattle.chess_types.specs.board.After.{after}
+use Rattle.chess_types.specs.board.Lines.{play, AreLegal, positions_from}
+use Rattle.chess_types.specs.board.Repetition.{is_same}
+use Rattle.chess_types.proofs.Counters.{clock_more, number_more}
 use Rattle.chess_moves.proofs.LegalLaws.{legal_well_formed}
 use Rattle.chess_draws.specs.declared.ply.Ply.{Ply}
-use Rattle.chess_draws.specs.Stands.{same_stand, stand_of}
-use Rattle.chess_draws.specs.Plies.{IsPly, ArePlies, move_of}
+use Rattle.chess_draws.specs.steps.Stands.{same_stand, stand_of}
+use Rattle.chess_draws.specs.steps.Plies.{IsPly, ArePlies, move_of}
 use Rattle.chess_draws.proofs.SameLemmas.{same_stands}
 
 -- one ply more

@@ -2,33 +2,21 @@
 use Rattle.std.proofs.Common.{◌≡◌, ℕ, ◌==◌, Bool, true, false, List, [], ◌∷◌, Option, Some, None, refl, ap, ◌∙◌}
 use Rattle.std.specs.List.{list_all}
 use Rattle.std.proofs.lemmas.Bool.{eq-eqb}
-use Rattle.chess_types.specs.declared.man.Colour.{Colour}
-use Rattle.chess_types.specs.declared.man.Colour.TheVariants.{White, Black}
-use Rattle.chess_types.specs.declared.man.Kind.{Kind}
-use Rattle.chess_types.specs.declared.man.Kind.TheVariants.{Pawn, Knight, Bishop, Rook, Queen, King}
-use Rattle.chess_types.specs.declared.man.Man.{Man}
-use Rattle.chess_types.specs.declared.position.Rights.{Rights}
-use Rattle.chess_types.specs.Squares.{squares}
-use Rattle.chess_types.specs.ManCode.{kind_number}
-use Rattle.chess_types.specs.Board.{Look}
-use Rattle.chess_types.specs.Men.{same_colour, opponent}
-use Rattle.chess_types.specs.MoveParts.{MoveParts}
-use Rattle.chess_types.specs.Position.{State, look}
-use Rattle.chess_types.specs.After.{after, after_by}
-use Rattle.chess_types.specs.Legal.{is_legal}
-use Rattle.chess_types.specs.Repetition.{same_bool, same_man, same_rights, same_target, counting_target, is_same}
-use Rattle.chess_attack.proofs.Amounts.{same_self}
-use Rattle.chess_play.proofs.Facts.{pseudo_man}
-use Rattle.chess_moves.proofs.LegalLaws.{legal_pseudo}
-use Rattle.chess_draws.specs.Stands.{same_stand, stand_of}
-
-kind_self : (k : Kind) → (kind_number k == kind_number k) ≡ true
-kind_self Pawn = refl
-kind_self Knight = refl
-kind_self Bishop = refl
-kind_self Rook = refl
-kind_self Queen = refl
-kind_self King = refl
+use Rattle.chess_types.specs.declared.board.man.Colour.{Colour}
+use Rattle.chess_types.specs.declared.board.man.Colour.TheVariants.{White, Black}
+use Rattle.chess_types.specs.declared.board.man.Man.{Man}
+use Rattle.chess_types.specs.declared.board.position.Rights.{Rights}
+use Rattle.chess_types.specs.board.Squares.{squares}
+use Rattle.chess_types.specs.board.Men.{same_colour, opponent}
+use Rattle.chess_types.specs.board.Board.{Look}
+use Rattle.chess_types.specs.board.MoveParts.{MoveParts}
+use Rattle.chess_types.specs.board.Position.{State, look}
+use Rattle.chess_types.specs.board.After.{after, after_by}
+use Rattle.chess_types.specs.board.Legal.{is_legal}
+use Rattle.chess_types.specs.board.Repetition.{same_bool, same_man, same_rights, same_target, counting_target, is_same}
+use Rattle.chess_types.proofs.SameLemmas.{same_self, kind_self}
+use Rattle.chess_types.proofs.MoveLemmas.{pseudo_man, legal_pseudo}
+use Rattle.chess_draws.specs.steps.Stands.{same_stand, stand_of}
 
 man_self : (there : Option Man) → same_man there there ≡ true
 man_self None = refl

@@ -2,21 +2,16 @@
 use Rattle.std.proofs.Common.{◌≡◌, ℕ, zero, suc, ◌+◌, ◌<◌, ◌&&◌, ◌%◌, ◌^◌, Bool, true, false, List, Option, Some, None, refl, sym, ap, ◌∙◌, arith}
 use Rattle.std.specs.List.{sum_by, list_all, range_with_len}
 use Rattle.std.proofs.lemmas.List.Sums.{sum_by-cons}
-use Rattle.std.proofs.lemmas.Bool.{and_parts, true≢false, eqb-true, false_from_ne_true}
-use Rattle.chess_types.specs.declared.man.Kind.{Kind}
-use Rattle.chess_types.specs.declared.man.Man.{Man}
-use Rattle.chess_types.specs.Squares.{squares}
-use Rattle.chess_types.specs.Board.{Look, man_at}
-use Rattle.chess_types.specs.ManCode.{kind_number, kind_of, kind_of-number}
-use Rattle.chess_types.specs.Men.{same_colour}
-use Rattle.chess_types.specs.Repetition.{same_man, same_rights, same_target}
+use Rattle.std.proofs.lemmas.Bool.{and_parts, true≢false, false_from_ne_true}
+use Rattle.chess_types.specs.declared.board.man.Man.{Man}
+use Rattle.chess_types.specs.board.Squares.{squares}
+use Rattle.chess_types.specs.board.Board.{Look, man_at}
+use Rattle.chess_types.specs.board.Men.{same_colour}
+use Rattle.chess_types.specs.board.Repetition.{same_man, same_rights, same_target}
 use Rattle.chess_types.proofs.SquareLemmas.{every_square}
 use Rattle.chess_key.specs.Keys.{word_on, word_there, key_of, KeptKey, IsKeyOf}
-use Rattle.chess_play.proofs.Pawns.{same_is}
-use Rattle.chess_draws.specs.Stands.{StandParts, same_stand}
-
-kind_is : (k l : Kind) → kind_number k ≡ kind_number l → k ≡ l
-kind_is k l e = sym (kind_of-number k) ∙ ap kind_of e ∙ kind_of-number l
+use Rattle.chess_types.proofs.SameLemmas.{same_is, kind_is}
+use Rattle.chess_draws.specs.steps.Stands.{StandParts, same_stand}
 
 -- what passes as the same man is
 pub man_is : (a b : Option Man) → same_man a b ≡ true → a ≡ b
@@ -26,7 +21,7 @@ man_is (Some m) None h = absurd (true≢false (sym h))
 man_is (Some m) (Some n) h =
     let both = and_parts _ _ h in
     let colours = same_is m.colour n.colour both.0 in
-    let kinds = kind_is m.kind n.kind (eqb-true _ _ both.1) in
+    let kinds = kind_is m.kind n.kind both.1 in
     λ i. Some (record { colour = colours i; kind = kinds i })
 
 same_sum : (f g : ℕ → ℕ) (a n : ℕ) → ((s : ℕ) → s < a + n → f s ≡ g s) → sum_by f (range_with_len a n) ≡ sum_by g (range_with_len a n)

@@ -2,24 +2,26 @@
 use Rattle.std.proofs.Common.{◌≡◌, ◌≢◌, ℕ, ◌+◌, ◌<◌, ◌≤◌, ◌==◌, Bool, true, false, not, ◌&&◌, ◌||◌, Option, Some, None, refl, sym, ap, subst, ◌∙◌, ◌⊎◌, inl, inr, arith}
 use Rattle.std.proofs.lemmas.List.Folds.{Any-from_list_any, list_any-from_Any}
 use Rattle.std.proofs.lemmas.Bool.{and_parts, and_from, or_cases, cases_eq, not-true, true≢false, eqb-true, eq-eqb, ne_eqb, eqb-false, false_from_ne_true, cases_Bool, cond-true, cond-false}
-use Rattle.chess_types.specs.declared.man.Colour.{Colour}
-use Rattle.chess_types.specs.declared.man.Colour.TheVariants.{White, Black}
-use Rattle.chess_types.specs.declared.man.Kind.{Kind}
-use Rattle.chess_types.specs.declared.man.Kind.TheVariants.{Pawn, Knight, Bishop, Rook, Queen, King}
-use Rattle.chess_types.specs.declared.man.Man.{Man}
-use Rattle.chess_types.specs.Squares.{file_of, rank_of}
-use Rattle.chess_types.specs.Board.{Look}
-use Rattle.chess_types.specs.Men.{same_colour, is_pawn}
-use Rattle.chess_types.specs.Attack.{gap, leaps}
-use Rattle.chess_types.specs.MoveParts.{MoveParts}
-use Rattle.chess_types.specs.Position.{State, IsSetup, IsExplained, look, cell_of}
-use Rattle.chess_types.specs.Pseudo.{is_target, is_ahead, midway, last_rank, names_rightly, steps_one, steps_two, pawn_takes, moves_as, moves_man}
-use Rattle.chess_types.specs.Legal.{is_legal, legal_moves}
-use Rattle.chess_types.specs.Repetition.{same_man, takes_target, target_counts, counting_target}
-use Rattle.chess_attack.proofs.Amounts.{same_self}
-use Rattle.chess_play.proofs.Pawns.{same_is, none_is, target_is}
-use Rattle.chess_moves.specs.Targets.{move_to}
-use Rattle.chess_moves.proofs.LegalLaws.{legal_pseudo, legal_listed, listed_legal}
+use Rattle.chess_types.specs.declared.board.man.Colour.{Colour}
+use Rattle.chess_types.specs.declared.board.man.Colour.TheVariants.{White, Black}
+use Rattle.chess_types.specs.declared.board.man.Kind.{Kind}
+use Rattle.chess_types.specs.declared.board.man.Kind.TheVariants.{Pawn, Knight, Bishop, Rook, Queen, King}
+use Rattle.chess_types.specs.declared.board.man.Man.{Man}
+use Rattle.chess_types.specs.board.Squares.{file_of, rank_of}
+use Rattle.chess_types.specs.board.Board.{Look}
+use Rattle.chess_types.specs.board.Men.{same_colour, is_pawn}
+use Rattle.chess_types.specs.board.Attack.{distance, leaps}
+use Rattle.chess_types.specs.board.MoveParts.{MoveParts}
+use Rattle.chess_types.specs.board.Position.{State, IsSetup, is_explained, look, cell_of}
+use Rattle.chess_types.specs.board.Pseudo.{is_target, midway, pawn_promotion_fits, steps_one, steps_two, pawn_takes, moves_as, moves_man}
+use Rattle.chess_types.specs.board.Legal.{is_legal, legal_moves}
+use Rattle.chess_types.specs.board.Repetition.{same_man, takes_target, target_counts, counting_target}
+use Rattle.chess_types.proofs.TargetLemmas.{Explained, explained_parts, target_not_last}
+use Rattle.chess_types.proofs.SameLemmas.{same_self, same_is, none_is}
+use Rattle.chess_types.proofs.MoveLemmas.{legal_pseudo, ahead_file}
+use Rattle.chess_play.proofs.Pawns.{target_is}
+use Rattle.chess_moves.specs.steps.Targets.{move_to}
+use Rattle.chess_moves.proofs.LegalLaws.{legal_listed, listed_legal}
 use Rattle.chess_draws.proofs.StandLemmas.{man_is}
 
 -- a pawn of the side to move stands there, and captures legally on the other square
@@ -48,12 +50,12 @@ taken_counts p a t is from to other h =
     cond-true _ _ _ counts ∙ is
 
 -- a target is on the third rank or the sixth
-target_by : (c : Colour) (men : Look) (t : ℕ) → IsExplained c men t → (16 ≤ t) × (t < 48)
+target_by : (c : Colour) (men : Look) (t : ℕ) → Explained c men t → (16 ≤ t) × (t < 48)
 target_by White men t e = (omega arith, omega arith)
 target_by Black men t e = (omega arith, omega arith)
 
 pub target_inside : (p : State) (t : ℕ) → IsSetup p → p.target ≡ Some t → (16 ≤ t) × (t < 48)
-target_inside p t setup is = target_by p.side (look p) t (setup.target t is)
+target_inside p t setup is = target_by p.side (look p) t (explained_parts p.side (look p) t (setup.target t is))
 
 -- the squares on both sides of the pawn that has passed the target t
 abbrev pub AreOrigins : Colour → ℕ → ℕ → ℕ → Type 0
@@ -95,10 +97,6 @@ one_taken p t l r known one =
       | inr h ↦ taken_counts p r t known.is on_right (omega arith) right h
     ]
 
-ahead_file : (c : Colour) (a b : ℕ) → is_ahead c a b ≡ true → file_of a ≡ file_of b
-ahead_file White a b h = omega (arith, eqb-true b (a + 8) h)
-ahead_file Black a b h = omega (arith, eqb-true a (b + 8) h)
-
 steps_two_file : (p : State) (m : MoveParts) → steps_two p m ≡ true → file_of m.from ≡ file_of m.to
 steps_two_file p m h =
     let a = and_parts _ _ h in
@@ -119,25 +117,21 @@ captures p m h other =
       | inr x ↦ (and_parts _ _ x).0
     ]
 
-not_last : (c : Colour) (men : Look) (t : ℕ) → IsExplained c men t → (rank_of t == last_rank c) ≡ false
-not_last White men t e = ne_eqb (rank_of t) 7 (λ h. omega arith)
-not_last Black men t e = ne_eqb (rank_of t) 0 (λ h. omega arith)
-
 -- on the way to the target a pawn isn't promoted
-names_none : (p : State) (m : MoveParts) → IsExplained p.side (look p) m.to → names_rightly p.side m ≡ true → m.promo ≡ None
-names_none p m e h = none_is m.promo (rw (not_last p.side (look p) m.to e) at h)
+names_none : (p : State) (m : MoveParts) → is_explained p.side (look p) m.to ≡ true → pawn_promotion_fits p.side m ≡ true → m.promo ≡ None
+names_none p m e h = none_is m.promo (rw (target_not_last p.side (look p) m.to e) at h)
 
 -- a pawn on one of the two squares attacks the target, and no other pawn does
-leap_origins : (c : Colour) (men : Look) (a t l r : ℕ) → IsExplained c men t → leaps c Pawn a t ≡ true → AreOrigins c l r t → (a ≡ l) ⊎ (a ≡ r)
+leap_origins : (c : Colour) (men : Look) (a t l r : ℕ) → Explained c men t → leaps c Pawn a t ≡ true → AreOrigins c l r t → (a ≡ l) ⊎ (a ≡ r)
 unfolding leaps
 leap_origins White men a t l r e h o =
-    let p = and_parts (gap (file_of a) (file_of t) == 1) (rank_of t == rank_of a + 1) h in
-    let beside = eqb-true (gap (file_of a) (file_of t)) 1 p.0 in
+    let p = and_parts (distance (file_of a) (file_of t) == 1) (rank_of t == rank_of a + 1) h in
+    let beside = eqb-true (distance (file_of a) (file_of t)) 1 p.0 in
     let next = eqb-true (rank_of t) (rank_of a + 1) p.1 in
     elim (cases_eq a l) [ inl same ↦ inl same | inr other ↦ inr (omega arith) ]
 leap_origins Black men a t l r e h o =
-    let p = and_parts (gap (file_of a) (file_of t) == 1) (rank_of a == rank_of t + 1) h in
-    let beside = eqb-true (gap (file_of a) (file_of t)) 1 p.0 in
+    let p = and_parts (distance (file_of a) (file_of t) == 1) (rank_of a == rank_of t + 1) h in
+    let beside = eqb-true (distance (file_of a) (file_of t)) 1 p.0 in
     let next = eqb-true (rank_of a) (rank_of t + 1) p.1 in
     elim (cases_eq a l) [ inl same ↦ inl same | inr other ↦ inr (omega arith) ]
 
@@ -167,7 +161,7 @@ taking_by p m (Some man) is setup passes moves =
     let kind = pawn_is man.kind b.0 in
     let c = and_parts (same_colour man.colour p.side) (moves_as p man.kind m) moves in
     let colour = same_is man.colour p.side c.0 in
-    let d = and_parts (steps_one p m || steps_two p m || pawn_takes p m) (names_rightly p.side m)
+    let d = and_parts (steps_one p m || steps_two p m || pawn_takes p m) (pawn_promotion_fits p.side m)
     (subst (λ (k : Kind). moves_as p k m ≡ true) kind c.1) in
     record {
       here = is ∙ (λ i. Some (record { colour = colour i; kind = kind i }));
@@ -194,7 +188,7 @@ not_taken p t l r known no_left no_right =
     let to : m.to ≡ t = cc (taking.to, known.is) in
     let tested : is_taken p m.from t ≡ true = subst (λ (q : ℕ). is_taken p m.from q ≡ true) to (taking_tested p m taking legal) in
     let leap : leaps p.side Pawn m.from t ≡ true = subst (λ (q : ℕ). leaps p.side Pawn m.from q ≡ true) to taking.leap in
-    elim (leap_origins p.side (look p) m.from t l r (known.setup.target t known.is) leap known.origins) [
+    elim (leap_origins p.side (look p) m.from t l r (explained_parts p.side (look p) t (known.setup.target t known.is)) leap known.origins) [
       | inl e ↦ true≢false (sym tested ∙ ap (λ q. is_taken p q t) e ∙ no_left)
       | inr e ↦ true≢false (sym tested ∙ ap (λ q. is_taken p q t) e ∙ no_right)
     ]))

@@ -1,6 +1,5 @@
--- What a line keeps, and what contracts see of it.
+-- What contracts see of a line, and what its calls answer. `steps` has words of the code alone.
 pub mod Faults
-pub mod Stands
-pub mod Plies
 pub mod LineParts
 pub mod Pushes
+pub mod steps

@@ -4,8 +4,8 @@
 --   IsAsBefore  all of it but the ticks is as it was
 use Rattle.std.specs.Prelude.{◌≡◌, ℕ, List, refl}
 use Rattle.std.specs.Coded.{Coded, code_by, coded×, coded_ℕ, coded_list}
-use Rattle.chess_types.specs.Lines.{Line}
-use Rattle.chess_types.specs.LineCode.{coded_line}
+use Rattle.chess_types.specs.board.Lines.{Line}
+use Rattle.chess_types.specs.steps.LineCode.{coded_line}
 
 pub record LineParts : Type 0 where
   pub line : Line

@@ -1,11 +1,11 @@
 -- What `push` and `pop` do.
 --   push_answer   the answer where there is memory: the first fault that applies, or the move is added
---   Answers       want of memory is answered only where nothing else is wrong and the line has no room left
+--   AnswersPush       want of memory is answered only where nothing else is wrong and the line has no room left
 --   line_after    the line afterwards
 use Rattle.std.specs.Prelude.{◌≡◌, ◌≤◌, ◌⊎◌, nat_le, not, if◌then◌else◌, length, Result, Ok, Err}
-use Rattle.chess_types.specs.MoveParts.{MoveParts}
-use Rattle.chess_types.specs.Legal.{is_legal}
-use Rattle.chess_types.specs.Lines.{Line, last, extended}
+use Rattle.chess_types.specs.board.MoveParts.{MoveParts}
+use Rattle.chess_types.specs.board.Legal.{is_legal}
+use Rattle.chess_types.specs.board.Lines.{Line, last, extended}
 use Rattle.chess_draws.specs.declared.fault.LineFault.{LineFault}
 use Rattle.chess_draws.specs.declared.fault.LineFault.TheVariants.{Illegal, TooLong, Memory}
 use Rattle.chess_draws.specs.LineParts.{LineParts}
@@ -14,8 +14,8 @@ use Rattle.chess_draws.specs.LineParts.{LineParts}
 abbrev pub push_answer : Line → MoveParts → Result (Unit {0}) LineFault
 push_answer line m = if not (is_legal (last line) m) then Err Illegal else (if nat_le 20000 (length line.moves) then Err TooLong else Ok tt)
 
-abbrev pub Answers : LineParts → MoveParts → Result (Unit {0}) LineFault → Type 0
-Answers old m result =
+abbrev pub AnswersPush : LineParts → MoveParts → Result (Unit {0}) LineFault → Type 0
+AnswersPush old m result =
     (result ≡ push_answer old.line m) ⊎ ((push_answer old.line m ≡ Ok tt) × (result ≡ Err Memory) × (old.room ≤ length old.line.moves))
 
 abbrev pub line_after : Line → MoveParts → Result (Unit {0}) LineFault → Line

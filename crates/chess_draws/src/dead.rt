@@ -1,9 +1,9 @@
 ghost use Rattle.std.specs.Prelude.{◌≡◌, length, not};
 ghost use Rattle.std.specs.List.{list_all};
-ghost use Rattle.chess_types.specs.Squares.{squares};
-ghost use Rattle.chess_types.specs.Board.{man_at};
-ghost use Rattle.chess_types.specs.Position.{look};
-ghost use Rattle.chess_types.specs.Dead.{is_other, holds_bishop, holds_minor, is_light, others, is_lone_minor, is_one_coloured, is_dead};
+ghost use Rattle.chess_types.specs.board.Squares.{squares};
+ghost use Rattle.chess_types.specs.board.Board.{man_at};
+ghost use Rattle.chess_types.specs.board.Position.{look};
+ghost use Rattle.chess_types.specs.board.Dead.{is_other, holds_bishop, holds_minor, is_light, others, is_lone_minor, is_one_coloured, is_dead};
 
 use chess_types::{Kind, Man, Placement, Setup, Square};
 
@@ -45,7 +45,7 @@ fn is_light(square: Square) -> bool
 }
 
 // How many men other than kings there are.
-#[tactic(auto, unfolding(chess_types::specs::Squares::squares))]
+#[tactic(auto, unfolding(chess_types::specs::board::Squares::squares))]
 fn count_others(men: &Placement) -> usize
     ensures { result ≡ length (others (man_at men.now)) }
 {
@@ -54,7 +54,7 @@ fn count_others(men: &Placement) -> usize
         .count()
 }
 
-#[tactic(auto, unfolding(chess_types::specs::Squares::squares))]
+#[tactic(auto, unfolding(chess_types::specs::board::Squares::squares))]
 fn all_minor(men: &Placement) -> bool
     ensures { result ≡ list_all (λ s. holds_minor (man_at men.now s)) (others (man_at men.now)) }
 {
@@ -63,7 +63,7 @@ fn all_minor(men: &Placement) -> bool
         .all(|s| holds_minor(men.get(Square::from_index(s))))
 }
 
-#[tactic(auto, unfolding(chess_types::specs::Squares::squares))]
+#[tactic(auto, unfolding(chess_types::specs::board::Squares::squares))]
 fn all_bishops(men: &Placement) -> bool
     ensures { result ≡ list_all (λ s. holds_bishop (man_at men.now s)) (others (man_at men.now)) }
 {
@@ -72,7 +72,7 @@ fn all_bishops(men: &Placement) -> bool
         .all(|s| holds_bishop(men.get(Square::from_index(s))))
 }
 
-#[tactic(auto, unfolding(chess_types::specs::Squares::squares))]
+#[tactic(auto, unfolding(chess_types::specs::board::Squares::squares))]
 fn all_light(men: &Placement) -> bool
     ensures { result ≡ list_all is_light (others (man_at men.now)) }
 {
@@ -81,7 +81,7 @@ fn all_light(men: &Placement) -> bool
         .all(|s| is_light(Square::from_index(s)))
 }
 
-#[tactic(auto, unfolding(chess_types::specs::Squares::squares))]
+#[tactic(auto, unfolding(chess_types::specs::board::Squares::squares))]
 fn all_dark(men: &Placement) -> bool
     ensures { result ≡ list_all (λ s. not (is_light s)) (others (man_at men.now)) }
 {
@@ -106,7 +106,7 @@ fn is_one_coloured(men: &Placement) -> bool
 
 /// Whether the position is on the list of dead ones (FIDE Laws 5.2.2): king against king; king and one knight or bishop against
 /// king; kings and bishops only, all bishops on squares of one colour.
-#[tactic(auto, unfolding(chess_types::specs::Dead::is_dead))]
+#[tactic(auto, unfolding(chess_types::specs::board::Dead::is_dead))]
 pub(crate) fn is_dead(setup: &Setup) -> bool
     ensures { result ≡ is_dead setup.now }
 {

@@ -1,16 +1,17 @@
-ghost use Rattle.std.specs.Prelude.{◌≡◌, ◌+◌, ◌<◌, ◌≤◌, [], IsOk, IsTrue, OnOk, IfErr, IfSome, MatchOption, count_by, length};
+ghost use Rattle.std.specs.Prelude.{◌≡◌, ◌+◌, ◌<◌, ◌≤◌, [], true, IsOk, IsTrue, OnOk, IfErr, IfOk, IfSome, MatchOption, count_by, length};
 ghost use Rattle.std.specs.List.{All};
-ghost use Rattle.chess_types.specs.Position.{IsWellFormed, look};
-ghost use Rattle.chess_types.specs.Legal.{is_legal as is_legal_in, legal_moves};
-ghost use Rattle.chess_types.specs.Lines.{AreLegal, last, extended};
-ghost use Rattle.chess_types.specs.Repetition.{repetitions};
-ghost use Rattle.chess_types.specs.Outcome.{status, claims, claims_with};
+ghost use Rattle.chess_types.specs.board.Position.{IsWellFormed, look};
+ghost use Rattle.chess_types.specs.board.Legal.{is_legal as is_legal_in, legal_moves};
+ghost use Rattle.chess_types.specs.board.Lines.{AreLegal, last, extended};
+ghost use Rattle.chess_types.specs.board.Repetition.{repetitions};
+ghost use Rattle.chess_types.specs.board.Outcome.{status, claims, claims_with};
 ghost use Rattle.chess_attack.specs.KeptCounts.{changed_of};
+ghost use Rattle.chess_san.specs.Naming.{reading};
 ghost use Rattle.chess_draws.specs.declared.fault.LineFault.TheVariants.{Memory};
 ghost use Rattle.chess_draws.specs.declared.ply.Ply.{Ply as PlyParts};
-ghost use Rattle.chess_draws.specs.Stands.{same_stand};
+ghost use Rattle.chess_draws.specs.steps.Stands.{same_stand};
 ghost use Rattle.chess_draws.specs.LineParts.{IsAsBefore};
-ghost use Rattle.chess_draws.specs.Pushes.{Answers, line_after};
+ghost use Rattle.chess_draws.specs.Pushes.{AnswersPush, line_after};
 
 use crate::fault::LineFault;
 use crate::ply::Ply;
@@ -21,6 +22,7 @@ use arrayvec::ArrayVec;
 use chess_key::KeyTable;
 use chess_moves::{is_legal, moves};
 use chess_play::Live;
+use chess_san::SanFault;
 use chess_types::{Claims, Move, Position, Status};
 use std::alloc::Allocator;
 use std::marker::Model;
@@ -41,7 +43,7 @@ pub struct Line<'k, A: Allocator> {
 impl<'k, A: Allocator> Model for Line<'k, A> {
     ghost use Rattle.std.specs.Prelude.{map, vec_capacity};
     ghost use Rattle.chess_draws.specs.LineParts.{LineParts, coded_parts};
-    ghost use Rattle.chess_draws.specs.Plies.{move_of};
+    ghost use Rattle.chess_draws.specs.steps.Plies.{move_of};
 
     ghost Value = { LineParts };
 
@@ -49,7 +51,7 @@ impl<'k, A: Allocator> Model for Line<'k, A> {
 
     ghost view = { λ l. record { line = record { start = l.root; moves = map move_of l.plies.items }; words = l.live.words; ticks = l.live.ticks; room = vec_capacity l.plies } };
 
-    ghost use Rattle.chess_draws.specs.Plies.{IsLine};
+    ghost use Rattle.chess_draws.specs.steps.Plies.{IsLine};
 
     ghost invariant = { λ l. IsLine l.root l.plies.items l.live l.here };
 }
@@ -98,7 +100,7 @@ impl<'k, A: Allocator> Line<'k, A> {
     /// `Illegal` where the move isn't legal, else `TooLong` where the line has 20,000 plies, else `Memory` where it can't grow. The
     /// line is then as before.
     pub fn push(&mut self, m: Move) -> Result<(), LineFault>
-        ensures answer { Answers self.old m result }
+        ensures answer { AnswersPush self.old m result }
         ensures line { self.new.line ≡ line_after self.old.line m result }
         ensures words { self.new.words ≡ self.old.words }
         ensures room { self.old.room ≤ self.new.room }
@@ -116,7 +118,7 @@ impl<'k, A: Allocator> Line<'k, A> {
     ///
     /// Those of `push`.
     pub fn prepare(&mut self, m: Move) -> Result<(), LineFault>
-        ensures answer { Answers self.old m result }
+        ensures answer { AnswersPush self.old m result }
         ensures legal { OnOk result (IsTrue (is_legal_in (last self.old.line) m)) }
         ensures few { OnOk result (length self.old.line.moves < 20000) }
         ensures ready { OnOk result (length self.old.line.moves < self.new.room) }
@@ -234,6 +236,19 @@ impl<'k, A: Allocator> Line<'k, A> {
         ensures as_before { IsAsBefore self.old self.new }
     {
         moves(&mut self.live)
+    }
+
+    /// The legal move of the last position that a text in standard algebraic notation names (PGN 8.2.3).
+    ///
+    /// # Errors
+    ///
+    /// As `chess_san::read`: none of the forms, no legal move, or more than one.
+    pub fn read_move(&mut self, text: &[u8]) -> Result<Move, SanFault>
+        ensures value { result ≡ reading (last self.old.line) text.now }
+        ensures legal { IfOk result (λ m. is_legal_in (last self.old.line) m ≡ true) }
+        ensures as_before { IsAsBefore self.old self.new }
+    {
+        chess_san::read(&mut self.live, text)
     }
 
     /// How many of the line's positions are the same as the last, the last included (FIDE Laws 9.2.2, 9.2.3).

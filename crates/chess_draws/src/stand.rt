@@ -1,9 +1,9 @@
 ghost use Rattle.std.specs.Prelude.{◌≡◌};
 ghost use Rattle.std.specs.List.{list_all};
-ghost use Rattle.chess_types.specs.Squares.{squares};
-ghost use Rattle.chess_types.specs.Board.{man_at};
-ghost use Rattle.chess_types.specs.Repetition.{same_man, same_rights, same_target};
-ghost use Rattle.chess_draws.specs.Stands.{same_stand};
+ghost use Rattle.chess_types.specs.board.Squares.{squares};
+ghost use Rattle.chess_types.specs.board.Board.{man_at};
+ghost use Rattle.chess_types.specs.board.Repetition.{same_man, same_rights, same_target};
+ghost use Rattle.chess_draws.specs.steps.Stands.{same_stand};
 
 use chess_key::Key;
 use chess_play::Live;
@@ -22,7 +22,7 @@ pub(crate) struct Stand<'k> {
 }
 
 impl<'k> Model for Stand<'k> {
-    ghost use Rattle.chess_draws.specs.Stands.{StandParts, coded_stand};
+    ghost use Rattle.chess_draws.specs.steps.Stands.{StandParts, coded_stand};
 
     ghost Value = { StandParts };
 
@@ -57,7 +57,7 @@ impl<'k> Stand<'k> {
     }
 
     /// Whether the positions are the same. The keys are by one table.
-    #[tactic(auto, unfolding(crate::specs::Stands::same_stand))]
+    #[tactic(auto, unfolding(crate::specs::steps::Stands::same_stand))]
     pub(crate) fn is_same(&self, other: &Stand) -> bool
         requires words { self.now.words ≡ other.now.words }
         ensures { result ≡ same_stand self.now other.now }
@@ -94,7 +94,7 @@ fn same_target(some: Option<Square>, other: Option<Square>) -> bool
 }
 
 // Whether the same men stand on the same squares.
-#[tactic(auto, unfolding(chess_types::specs::Squares::squares))]
+#[tactic(auto, unfolding(chess_types::specs::board::Squares::squares))]
 fn same_men(some: &Placement, others: &Placement) -> bool
     ensures { result ≡ list_all (λ n. same_man (man_at some.now n) (man_at others.now n)) squares }
 {

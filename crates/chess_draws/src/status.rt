@@ -1,5 +1,5 @@
 ghost use Rattle.std.specs.Prelude.{◌≡◌, ◌<◌};
-ghost use Rattle.chess_types.specs.Outcome.{status_at, is_play, claims_at};
+ghost use Rattle.chess_types.specs.board.Outcome.{status_at, is_play, claims_at};
 
 use crate::dead::is_dead;
 use chess_moves::{has_legal, in_check};
@@ -7,7 +7,7 @@ use chess_play::Live;
 use chess_types::{Claims, Status};
 
 /// How a line stands that has come to its last position so often (FIDE Laws 5.1.1, 5.2.1, 5.2.2, 9.6). The position is as before.
-#[tactic(auto, using(chess_moves::proofs::SetCounts::some_move), unfolding(chess_types::specs::Outcome::status_at))]
+#[tactic(auto, using(chess_moves::proofs::SetCounts::some_move), unfolding(chess_types::specs::board::Outcome::status_at))]
 pub(crate) fn status_at(live: &mut Live, count: u32) -> Status
     requires clock { live.old.position.clock < 1000000 }
     requires number { live.old.position.number < 1000000 }

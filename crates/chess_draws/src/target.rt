@@ -1,12 +1,12 @@
 ghost use Rattle.std.specs.Prelude.{◌≡◌, ◌+◌, ◌<◌, ◌≤◌, ◌&&◌, IsTrue, None, false};
-ghost use Rattle.chess_types.specs.declared.man.Colour.TheVariants.{White, Black};
-ghost use Rattle.chess_types.specs.declared.man.Kind.TheVariants.{Pawn};
-ghost use Rattle.chess_types.specs.Position.{look, cell_of};
-ghost use Rattle.chess_types.specs.After.{after};
-ghost use Rattle.chess_types.specs.Legal.{is_legal as is_legal_in};
-ghost use Rattle.chess_types.specs.Repetition.{counting_target, same_man};
+ghost use Rattle.chess_types.specs.declared.board.man.Colour.TheVariants.{White, Black};
+ghost use Rattle.chess_types.specs.declared.board.man.Kind.TheVariants.{Pawn};
+ghost use Rattle.chess_types.specs.board.Position.{look, cell_of};
+ghost use Rattle.chess_types.specs.board.After.{after};
+ghost use Rattle.chess_types.specs.board.Legal.{is_legal as is_legal_in};
+ghost use Rattle.chess_types.specs.board.Repetition.{counting_target, same_man};
 ghost use Rattle.chess_attack.specs.KeptCounts.{changed_of};
-ghost use Rattle.chess_moves.specs.Targets.{move_to};
+ghost use Rattle.chess_moves.specs.steps.Targets.{move_to};
 ghost use Rattle.chess_play.specs.Records.{record_of};
 
 use chess_moves::is_legal;
@@ -93,7 +93,7 @@ fn is_beside(setup: &Setup) -> bool
 
 /// Makes the legal move. The answer is its record, and the target of the position after it, where it counts. The ticks are those
 /// of this one move.
-#[tactic(auto, using(chess_moves::proofs::LegalLaws::legal_pseudo, chess_play::proofs::Counters::clock_more, chess_play::proofs::Counters::number_more))]
+#[tactic(auto, using(chess_types::proofs::MoveLemmas::legal_pseudo, chess_types::proofs::Counters::clock_more, chess_types::proofs::Counters::number_more))]
 pub(crate) fn advance(live: &mut Live, m: Move) -> (Record, Option<Square>)
     requires legal { IsTrue (is_legal_in live.old.position m) }
     requires clock { live.old.position.clock < 999999 }

@@ -24,7 +24,7 @@ fn push_all<A: Allocator>(rt: &impl Abort, line: &mut Line<A>, texts: &[&[u8]]) 
 const ROUND: [&[u8]; 4] = [b"g1f3", b"g8f6", b"f3g1", b"f6g8"];
 
 #[test]
-#[tactic(auto, unfolding(chess_types::specs::Position::start))]
+#[tactic(auto, unfolding(chess_types::specs::board::Position::start))]
 fn adds_legal_moves(rt: HostRuntime) -> Result<(), Fail> {
     let table = KeyTable::new([1; 768]);
     let mut line = Line::start(rt.alloc(), Position::start(), &table);
@@ -43,7 +43,7 @@ fn adds_legal_moves(rt: HostRuntime) -> Result<(), Fail> {
 }
 
 #[test]
-#[tactic(auto, unfolding(chess_types::specs::Position::start))]
+#[tactic(auto, unfolding(chess_types::specs::board::Position::start))]
 fn counts_by_positions_and_not_by_keys(rt: HostRuntime) -> Result<(), Fail> {
     let table = KeyTable::new([0; 768]);
     let mut line = Line::start(rt.alloc(), Position::start(), &table);
@@ -86,7 +86,7 @@ fn captures_that_are_tried_leave_no_ticks(rt: HostRuntime) -> Result<(), Fail> {
 }
 
 #[test]
-#[tactic(auto, unfolding(chess_types::specs::Position::start))]
+#[tactic(auto, unfolding(chess_types::specs::board::Position::start))]
 fn ends_at_twenty_thousand_plies(rt: HostRuntime) -> Result<(), Fail> {
     let table = KeyTable::new([1; 768]);
     let mut line = Line::start(rt.alloc(), Position::start(), &table);
@@ -117,7 +117,7 @@ fn faults_say_what_they_are(rt: HostRuntime) -> Result<(), Fail> {
 
 /// A move that was prepared is added, and one that the line refuses is prepared for as it is pushed.
 #[test]
-#[tactic(auto, unfolding(chess_types::specs::Position::start))]
+#[tactic(auto, unfolding(chess_types::specs::board::Position::start))]
 fn prepares_for_a_move(rt: HostRuntime) -> Result<(), Fail> {
     let table = KeyTable::new([1; 768]);
     let mut line = Line::start(rt.alloc(), Position::start(), &table);
@@ -132,7 +132,7 @@ fn prepares_for_a_move(rt: HostRuntime) -> Result<(), Fail> {
 }
 
 /// Pushes rounds while so many bytes of a heap are taken, until a push finds no memory; the same push answers Ok when they are free.
-#[tactic(auto, unfolding(chess_types::specs::Position::start))]
+#[tactic(auto, unfolding(chess_types::specs::board::Position::start))]
 fn push_without_memory(rt: &impl Abort, heap: &LocalHeap, taken: usize) -> Result<(), Fail> {
     let table = KeyTable::new([1; 768]);
     let mut line = Line::start(heap, Position::start(), &table);

@@ -1,73 +1,159 @@
--- How the evaluation changes with one square, and how large it can be.
-use Rattle.std.proofs.Common.{◌≡◌, ◌≢◌, ℕ, ◌<◌, ℤ, pos, ◌*◌, ◌≤◌, ◌+◌, ◌+ℤ◌, ◌-ℤ◌, neg_ℤ, ◌≤ℤ◌, Some, None, refl, ap, ◌∙◌, add-one, arith}
+-- How the sums of a board change with one square, and how large they can be.
+use Rattle.std.proofs.Common.{◌≡◌, ◌≢◌, ℕ, ◌<◌, ℤ, pos, ◌≤◌, ◌+◌, ◌+ℤ◌, ◌-ℤ◌, Option, Some, None, refl, ap, subst, ◌∙◌, add-one, arith}
 use Rattle.std.proofs.lemmas.Int.{ints}
 use Rattle.std.specs.Ordering.{nat_cmp}
 use Rattle.std.specs.FinMap.{get, insert, remove, empty, get-empty}
-use Rattle.chess_types.specs.declared.man.Man.{Man}
-use Rattle.chess_types.specs.Board.{Board, Look, man_at}
-use Rattle.chess_types.specs.Squares.{squares}
+use Rattle.chess_types.specs.declared.board.man.Man.{Man}
+use Rattle.chess_types.specs.board.Board.{Board, Look, man_at}
+use Rattle.chess_types.specs.board.Squares.{squares}
 use Rattle.chess_types.proofs.BoardLaws.{boards}
-use Rattle.chess_eval.specs.Evaluation.{worth_there, worth_on, evaluation, IsWithin}
+use Rattle.chess_eval.specs.Worth.{middle_of, end_of}
+use Rattle.chess_eval.specs.Evaluation.{balance_there, weight_there, over_board, Sums, sums_of, IsWithin}
+use Rattle.chess_eval.specs.steps.Changes.{with_man, without_man, AreInRange}
 use Rattle.chess_eval.proofs.Sums.{run, run-none, run-more, run-zero, run-one, run-low, run-high}
-use Rattle.chess_eval.proofs.SmallWorths.{there_small}
+use Rattle.chess_eval.proofs.SmallWorths.{middle_within, end_within, weight_small}
 
-pub evaluation_is_run : (look : Look) → evaluation look ≡ run (worth_on look) 0 64
-unfolding evaluation squares run
-evaluation_is_run look = refl
+-- three equal numbers
+pub same_sums : {a b : Sums} → a.middle ≡ b.middle → a.end ≡ b.end → a.weights ≡ b.weights → a ≡ b
+same_sums m e w = λ i. record { middle = m i; end = e i; weights = w i }
+
+-- a number for what stands on a square, and none where nothing does
+abbrev Number : Type 0
+Number = Option Man → ℕ → ℤ
+
+abbrev IsNoneEmpty : Number → Type 0
+IsNoneEmpty number = (square : ℕ) → number None square ≡ pos 0
+
+abbrev on : Number → Look → ℕ → ℤ
+on number look square = number (look square) square
+
+pub over_board_is_run : (number : Number) (look : Look) → over_board number look ≡ run (λ s. number (look s) s) 0 64
+unfolding over_board squares run
+over_board_is_run number look = refl
 
 -- two boards that differ on one square alone
-pub evaluation-one :
-    (before after : Look) (at : ℕ) → at < 64 → ((t : ℕ) → t ≢ at → after t ≡ before t) →
-    evaluation after +ℤ worth_on before at ≡ evaluation before +ℤ worth_on after at
-evaluation-one before after at h rest =
-    let change : run (worth_on after) 0 64 +ℤ worth_on before at ≡ run (worth_on before) 0 64 +ℤ worth_on after at =
-    run-one (worth_on after) (worth_on before) 0 64 at (omega arith) (omega arith) (λ t apart. ap (λ there. worth_there there t) (rest t apart)) in
-    omega (arith, ints, change, evaluation_is_run before, evaluation_is_run after)
+over_board-one :
+    (number : Number) (before after : Look) (at : ℕ) → at < 64 → ((t : ℕ) → t ≢ at → after t ≡ before t) →
+    over_board number after +ℤ number (before at) at ≡ over_board number before +ℤ number (after at) at
+over_board-one number before after at h rest =
+    let change : run (on number after) 0 64 +ℤ on number before at ≡ run (on number before) 0 64 +ℤ on number after at =
+    run-one (on number after) (on number before) 0 64 at (omega arith) (omega arith) (λ t apart. ap (λ there. number there t) (rest t apart)) in
+    omega (arith, ints, change, over_board_is_run number before, over_board_is_run number after)
 
 -- a man more
-pub evaluation-put :
-    (board : Board) (at : ℕ) (man : Man) → at < 64 → get board at ≡ None →
-    evaluation (man_at (insert board at man)) ≡ evaluation (man_at board) +ℤ worth_there (Some man) at
-evaluation-put board at man h none =
-    let change = evaluation-one (man_at board) (man_at (insert board at man)) at h (λ t apart. grind (arith, boards)) in
-    let was : worth_on (man_at board) at ≡ pos 0 = ap (λ there. worth_there there at) none in
+over_board-put :
+    (number : Number) → IsNoneEmpty number → (board : Board) (at : ℕ) (man : Man) → at < 64 → get board at ≡ None →
+    over_board number (man_at (insert board at man)) ≡ over_board number (man_at board) +ℤ number (Some man) at
+over_board-put number nothing board at man h none =
+    let change = over_board-one number (man_at board) (man_at (insert board at man)) at h (λ t apart. grind (arith, boards)) in
+    let was : number (man_at board at) at ≡ pos 0 = ap (λ there. number there at) none ∙ nothing at in
     let here : get (insert board at man) at ≡ Some man = grind (arith, boards) in
-    let now : worth_on (man_at (insert board at man)) at ≡ worth_there (Some man) at = ap (λ there. worth_there there at) here in
+    let now : number (man_at (insert board at man) at) at ≡ number (Some man) at = ap (λ there. number there at) here in
     omega (arith, ints, change, was, now)
 
--- a man fewer, or none where there is none
-pub evaluation-clear :
-    (board : Board) (at : ℕ) → at < 64 → evaluation (man_at (remove board at)) ≡ evaluation (man_at board) -ℤ worth_on (man_at board) at
-evaluation-clear board at h =
-    let change = evaluation-one (man_at board) (man_at (remove board at)) at h (λ t apart. grind (arith, boards)) in
+-- a man fewer
+over_board-clear :
+    (number : Number) → IsNoneEmpty number → (board : Board) (at : ℕ) (man : Man) → at < 64 → get board at ≡ Some man →
+    over_board number (man_at (remove board at)) ≡ over_board number (man_at board) -ℤ number (Some man) at
+over_board-clear number nothing board at man h some =
+    let change = over_board-one number (man_at board) (man_at (remove board at)) at h (λ t apart. grind (arith, boards)) in
+    let was : number (man_at board at) at ≡ number (Some man) at = ap (λ there. number there at) some in
     let here : get (remove board at) at ≡ None = grind (arith, boards) in
-    let now : worth_on (man_at (remove board at)) at ≡ pos 0 = ap (λ there. worth_there there at) here in
-    omega (arith, ints, change, now)
+    let now : number (man_at (remove board at) at) at ≡ pos 0 = ap (λ there. number there at) here ∙ nothing at in
+    omega (arith, ints, change, was, now)
 
--- the sum over the first squares
-abbrev pub evaluation_below : Look → ℕ → ℤ
-evaluation_below look n = run (worth_on look) 0 n
+pub sums-put : (board : Board) (at : ℕ) (man : Man) → at < 64 → get board at ≡ None →
+    sums_of (man_at (insert board at man)) ≡ with_man (sums_of (man_at board)) man at
+sums-put board at man h none = λ i.
+    record {
+      middle = over_board-put (balance_there middle_of) (λ s. refl) board at man h none i;
+      end = over_board-put (balance_there end_of) (λ s. refl) board at man h none i;
+      weights = over_board-put weight_there (λ s. refl) board at man h none i;
+    }
 
-pub below_in_range : (look : Look) (n : ℕ) → n ≤ 64 → IsWithin 57792 (evaluation_below look n)
+pub sums-clear : (board : Board) (at : ℕ) (man : Man) → at < 64 → get board at ≡ Some man →
+    sums_of (man_at (remove board at)) ≡ without_man (sums_of (man_at board)) man at
+sums-clear board at man h some = λ i.
+    record {
+      middle = over_board-clear (balance_there middle_of) (λ s. refl) board at man h some i;
+      end = over_board-clear (balance_there end_of) (λ s. refl) board at man h some i;
+      weights = over_board-clear weight_there (λ s. refl) board at man h some i;
+    }
+
+-- the sums over the first squares
+abbrev pub sums_below : Look → ℕ → Sums
+sums_below look n =
+    record {
+      middle = run (on (balance_there middle_of) look) 0 n;
+      end = run (on (balance_there end_of) look) 0 n;
+      weights = run (on weight_there look) 0 n;
+    }
+
+pub below_all : (look : Look) → sums_below look 64 ≡ sums_of look
+unfolding over_board squares run
+below_all look = refl
+
+pub below_none : (look : Look) → sums_below look 0 ≡ record { middle = pos 0; end = pos 0; weights = pos 0 }
+below_none look = λ i.
+    record {
+      middle = run-none (on (balance_there middle_of) look) 0 i;
+      end = run-none (on (balance_there end_of) look) 0 i;
+      weights = run-none (on weight_there look) 0 i;
+    }
+
+next : (number : Number) (look : Look) (n : ℕ) (there : Option Man) → look n ≡ there →
+    run (on number look) 0 (n + 1) ≡ run (on number look) 0 n +ℤ number there n
+next number look n there is =
+    let here : on number look (0 + n) ≡ number there n = ap (on number look) (omega arith) ∙ ap (λ t. number t n) is in
+    ap (run (on number look) 0) (add-one n) ∙ omega (arith, ints, run-more (on number look) 0 n)
+
+pub below_man : (look : Look) (n : ℕ) (man : Man) → look n ≡ Some man → sums_below look (n + 1) ≡ with_man (sums_below look n) man n
+below_man look n man is = λ i.
+    record {
+      middle = next (balance_there middle_of) look n (Some man) is i;
+      end = next (balance_there end_of) look n (Some man) is i;
+      weights = next weight_there look n (Some man) is i;
+    }
+
+nothing_more : (number : Number) → IsNoneEmpty number → (look : Look) (n : ℕ) → look n ≡ None → run (on number look) 0 (n + 1) ≡ run (on number look) 0 n
+nothing_more number nothing look n is = omega (arith, ints, next number look n None is, nothing n)
+
+pub below_empty : (look : Look) (n : ℕ) → look n ≡ None → sums_below look (n + 1) ≡ sums_below look n
+below_empty look n is = λ i.
+    record {
+      middle = nothing_more (balance_there middle_of) (λ s. refl) look n is i;
+      end = nothing_more (balance_there end_of) (λ s. refl) look n is i;
+      weights = nothing_more weight_there (λ s. refl) look n is i;
+    }
+
+run_within : (f : ℕ → ℤ) (n : ℕ) → n ≤ 64 → ((t : ℕ) → t < 64 → IsWithin 903 (f t)) → IsWithin 57792 (run f 0 n)
+run_within f n h small =
+    let low = run-low 903 f 0 n (λ t below. (small t (omega arith)).low) in
+    let high = run-high 903 f 0 n (λ t below. (small t (omega arith)).high) in
+    record { low = omega (arith, ints, low); high = omega (arith, ints, high) }
+
+pub below_in_range : (look : Look) (n : ℕ) → n ≤ 64 → AreInRange (sums_below look n)
 below_in_range look n h =
-    let low : neg_ℤ (pos (903 * n)) ≤ℤ evaluation_below look n = run-low (worth_on look) 0 n (λ t below. (there_small (look t) t (omega arith)).low) in
-    let high : evaluation_below look n ≤ℤ pos (903 * n) = run-high (worth_on look) 0 n (λ t below. (there_small (look t) t (omega arith)).high) in
-    record { low = omega (arith, ints); high = omega (arith, ints) }
+    record {
+      middle = run_within (on (balance_there middle_of) look) n h (λ t below. middle_within (look t) t below);
+      end = run_within (on (balance_there end_of) look) n h (λ t below. end_within (look t) t below);
+      weights_low = omega (arith, ints, run-low 0 (on weight_there look) 0 n (λ t below. (weight_small (look t) t).low));
+      weights_high = omega (arith, ints, run-high 4 (on weight_there look) 0 n (λ t below. (weight_small (look t) t).high));
+    }
 
-pub below_none : (look : Look) → evaluation_below look 0 ≡ pos 0
-below_none look = run-none (worth_on look) 0
-
-pub below_more : (look : Look) (n : ℕ) → evaluation_below look (n + 1) ≡ evaluation_below look n +ℤ worth_on look n
-below_more look n =
-    let here : worth_on look (0 + n) ≡ worth_on look n = ap (worth_on look) (omega arith) in
-    ap (evaluation_below look) (add-one n) ∙ omega (arith, ints, run-more (worth_on look) 0 n)
-
-pub evaluation_in_range : (look : Look) → IsWithin 57792 (evaluation look)
-evaluation_in_range look = rw (evaluation_is_run look) (below_in_range look 64 (omega arith))
+pub sums_in_range : (look : Look) → AreInRange (sums_of look)
+sums_in_range look = subst AreInRange (below_all look) (below_in_range look 64 (omega arith))
 
 -- none on the empty board
-pub evaluation_empty : evaluation (man_at (empty {R = nat_cmp})) ≡ pos 0
-evaluation_empty =
-    let none : run (worth_on (man_at (empty {R = nat_cmp}))) 0 64 ≡ pos 0 =
-    run-zero (worth_on (man_at (empty {R = nat_cmp}))) 0 64 (λ t. ap (λ there. worth_there there t) (get-empty nat_cmp t)) in
-    evaluation_is_run (man_at (empty {R = nat_cmp})) ∙ none
+no_men : (number : Number) → IsNoneEmpty number → over_board number (man_at (empty {R = nat_cmp})) ≡ pos 0
+no_men number nothing =
+    over_board_is_run number (man_at (empty {R = nat_cmp}))
+    ∙ run-zero (on number (man_at (empty {R = nat_cmp}))) 0 64 (λ t. ap (λ there. number there t) (get-empty nat_cmp t) ∙ nothing t)
+
+pub sums_empty : sums_of (man_at (empty {R = nat_cmp})) ≡ record { middle = pos 0; end = pos 0; weights = pos 0 }
+sums_empty = λ i.
+    record {
+      middle = no_men (balance_there middle_of) (λ s. refl) i;
+      end = no_men (balance_there end_of) (λ s. refl) i;
+      weights = no_men weight_there (λ s. refl) i;
+    }

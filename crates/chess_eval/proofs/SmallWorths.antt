@@ -1,51 +1,98 @@
--- What a man is worth lies between that of a king in the middle and that of a queen there; to White, no farther from 0.
-use Rattle.std.proofs.Common.{ℕ, ◌<◌, ◌≤◌, ℤ, pos, neg_ℤ, ◌≤ℤ◌, Option, Some, None, arith}
+-- How small and how large the worths are: a king's for himself, and any other man's.
+use Rattle.std.proofs.Common.{ℕ, ◌*◌, ◌<◌, ◌≤◌, Bool, cond, ℤ, pos, ◌+ℤ◌, ◌≤ℤ◌, Option, Some, None, arith}
 use Rattle.std.proofs.lemmas.Int.{ints}
-use Rattle.chess_types.specs.declared.man.Colour.{Colour}
-use Rattle.chess_types.specs.declared.man.Colour.TheVariants.{White, Black}
-use Rattle.chess_types.specs.declared.man.Kind.{Kind}
-use Rattle.chess_types.specs.declared.man.Kind.TheVariants.{Pawn, Knight, Bishop, Rook, Queen, King}
-use Rattle.chess_types.specs.declared.man.Man.{Man}
-use Rattle.chess_types.specs.Squares.{file_of}
-use Rattle.chess_eval.specs.Worth.{from_edge, own_rank, rook_bonus, kind_worth, worth_of}
-use Rattle.chess_eval.specs.Evaluation.{for_white, worth_there}
+use Rattle.chess_types.specs.declared.board.man.Colour.{Colour}
+use Rattle.chess_types.specs.declared.board.man.Colour.TheVariants.{White, Black}
+use Rattle.chess_types.specs.declared.board.man.Kind.{Kind}
+use Rattle.chess_types.specs.declared.board.man.Kind.TheVariants.{Pawn, Knight, Bishop, Rook, Queen, King}
+use Rattle.chess_types.specs.declared.board.man.Man.{Man}
+use Rattle.chess_types.specs.board.Squares.{file_of}
+use Rattle.chess_types.specs.board.Men.{is_king}
+use Rattle.chess_eval.specs.Worth.{from_edge, own_rank, rook_bonus, middle_of_kind, end_of_kind, middle_of, end_of, weight_of}
+use Rattle.chess_eval.specs.Evaluation.{for_white, balance_there, weight_there, IsWithin}
 
--- a man's worth
-pub record IsWorth (worth : ℤ) : Type 0 where
-  pub low : neg_ℤ (pos 36) ≤ℤ worth
-  pub high : worth ≤ℤ pos 903
+-- 1 where the test holds, else 0
+abbrev pub bit : Bool → ℕ
+bit test = cond test 1 0
 
--- for or against White
-pub record IsSmall (worth : ℤ) : Type 0 where
-  pub low : neg_ℤ (pos 903) ≤ℤ worth
-  pub high : worth ≤ℤ pos 903
+-- In the middlegame a king is worth at most nothing, any other man at least nothing.
+pub record IsMiddle (king : Bool) (worth : ℤ) : Type 0 where
+  pub low : pos 0 ≤ℤ (worth +ℤ pos (36 * bit king))
+  pub high : (worth +ℤ pos (903 * bit king)) ≤ℤ pos 903
 
-pub near_edge : (line : ℕ) → from_edge line ≤ 3
+-- In the endgame every man is worth at least nothing, a king at most 60.
+pub record IsEnd (king : Bool) (worth : ℤ) : Type 0 where
+  pub low : pos 0 ≤ℤ worth
+  pub high : (worth +ℤ pos (843 * bit king)) ≤ℤ pos 903
+
+near_edge : (line : ℕ) → from_edge line ≤ 3
 near_edge line = omega arith
 
-pub own_rank_below : (colour : Colour) (square : ℕ) → square < 64 → own_rank colour square < 8
+own_rank_below : (colour : Colour) (square : ℕ) → square < 64 → own_rank colour square < 8
 own_rank_below White square h = omega arith
 own_rank_below Black square h = omega arith
 
-pub bonus_small : (rank : ℕ) → rook_bonus rank ≤ 10
+bonus_small : (rank : ℕ) → rook_bonus rank ≤ 10
 bonus_small rank = grind arith
 
-kind_small : (kind : Kind) (file rank : ℕ) → rank < 8 → IsWorth (kind_worth kind file rank)
-kind_small Pawn file rank h = let e = near_edge file in record { low = omega (arith, ints); high = omega (arith, ints) }
-kind_small Knight file rank h = let e = near_edge file in let d = near_edge rank in record { low = omega (arith, ints); high = omega (arith, ints) }
-kind_small Bishop file rank h = let e = near_edge file in let d = near_edge rank in record { low = omega (arith, ints); high = omega (arith, ints) }
-kind_small Rook file rank h = let e = near_edge file in let d = bonus_small rank in record { low = omega (arith, ints); high = omega (arith, ints) }
-kind_small Queen file rank h = let e = near_edge file in let d = near_edge rank in record { low = omega (arith, ints); high = omega (arith, ints) }
-kind_small King file rank h = let e = near_edge file in let d = near_edge rank in record { low = omega (arith, ints); high = omega (arith, ints) }
+middle_of_any : (kind : Kind) (file rank : ℕ) → rank < 8 → IsMiddle (is_king kind) (middle_of_kind kind file rank)
+middle_of_any Pawn file rank h = let e = near_edge file in record { low = omega (arith, ints); high = omega (arith, ints) }
+middle_of_any Knight file rank h = let e = near_edge file in let d = near_edge rank in record { low = omega (arith, ints); high = omega (arith, ints) }
+middle_of_any Bishop file rank h = let e = near_edge file in let d = near_edge rank in record { low = omega (arith, ints); high = omega (arith, ints) }
+middle_of_any Rook file rank h = let e = near_edge file in let d = bonus_small rank in record { low = omega (arith, ints); high = omega (arith, ints) }
+middle_of_any Queen file rank h = let e = near_edge file in let d = near_edge rank in record { low = omega (arith, ints); high = omega (arith, ints) }
+middle_of_any King file rank h = let e = near_edge file in let d = near_edge rank in record { low = omega (arith, ints); high = omega (arith, ints) }
 
-pub worth_small : (man : Man) (square : ℕ) → square < 64 → IsWorth (worth_of man square)
-unfolding worth_of
-worth_small man square h = kind_small man.kind (file_of square) (own_rank man.colour square) (own_rank_below man.colour square h)
+end_of_any : (kind : Kind) (file rank : ℕ) → rank < 8 → IsEnd (is_king kind) (end_of_kind kind file rank)
+end_of_any Pawn file rank h = record { low = omega (arith, ints); high = omega (arith, ints) }
+end_of_any Knight file rank h = let e = near_edge file in let d = near_edge rank in record { low = omega (arith, ints); high = omega (arith, ints) }
+end_of_any Bishop file rank h = let e = near_edge file in let d = near_edge rank in record { low = omega (arith, ints); high = omega (arith, ints) }
+end_of_any Rook file rank h = let e = near_edge file in let d = bonus_small rank in record { low = omega (arith, ints); high = omega (arith, ints) }
+end_of_any Queen file rank h = let e = near_edge file in let d = near_edge rank in record { low = omega (arith, ints); high = omega (arith, ints) }
+end_of_any King file rank h = let e = near_edge file in let d = near_edge rank in record { low = omega (arith, ints); high = omega (arith, ints) }
 
-for_white_small : (colour : Colour) (worth : ℤ) → IsWorth worth → IsSmall (for_white colour worth)
-for_white_small White worth s = record { low = omega (arith, ints, s.low); high = s.high }
-for_white_small Black worth s = record { low = omega (arith, ints, s.high); high = omega (arith, ints, s.low) }
+pub middle_small : (man : Man) (square : ℕ) → square < 64 → IsMiddle (is_king man.kind) (middle_of man square)
+unfolding middle_of
+middle_small man square h = middle_of_any man.kind (file_of square) (own_rank man.colour square) (own_rank_below man.colour square h)
 
-pub there_small : (there : Option Man) (square : ℕ) → square < 64 → IsSmall (worth_there there square)
-there_small None square h = record { low = omega (arith, ints); high = omega (arith, ints) }
-there_small (Some man) square h = for_white_small man.colour (worth_of man square) (worth_small man square h)
+pub end_small : (man : Man) (square : ℕ) → square < 64 → IsEnd (is_king man.kind) (end_of man square)
+unfolding end_of
+end_small man square h = end_of_any man.kind (file_of square) (own_rank man.colour square) (own_rank_below man.colour square h)
+
+pub bit_small : (test : Bool) → bit test ≤ 1
+bit_small test = grind arith
+
+for_white_within : (colour : Colour) (worth : ℤ) → IsWithin 903 worth → IsWithin 903 (for_white colour worth)
+for_white_within White worth s = record { low = omega (arith, ints, s.low); high = omega (arith, ints, s.high) }
+for_white_within Black worth s = record { low = omega (arith, ints, s.high); high = omega (arith, ints, s.low) }
+
+-- whatever stands there
+pub middle_within : (there : Option Man) (square : ℕ) → square < 64 → IsWithin 903 (balance_there middle_of there square)
+middle_within None square h = record { low = omega (arith, ints); high = omega (arith, ints) }
+middle_within (Some man) square h =
+    let small = middle_small man square h in
+    let one = bit_small (is_king man.kind) in
+    for_white_within man.colour (middle_of man square) (record { low = omega (arith, ints, small.low); high = omega (arith, ints, small.high) })
+
+pub end_within : (there : Option Man) (square : ℕ) → square < 64 → IsWithin 903 (balance_there end_of there square)
+end_within None square h = record { low = omega (arith, ints); high = omega (arith, ints) }
+end_within (Some man) square h =
+    let small = end_small man square h in
+    let one = bit_small (is_king man.kind) in
+    for_white_within man.colour (end_of man square) (record { low = omega (arith, ints, small.low); high = omega (arith, ints, small.high) })
+
+pub record IsWeight (weight : ℤ) : Type 0 where
+  pub low : pos 0 ≤ℤ weight
+  pub high : weight ≤ℤ pos 4
+
+weight_of_any : (kind : Kind) → IsWeight (weight_of kind)
+weight_of_any Pawn = record { low = omega (arith, ints); high = omega (arith, ints) }
+weight_of_any Knight = record { low = omega (arith, ints); high = omega (arith, ints) }
+weight_of_any Bishop = record { low = omega (arith, ints); high = omega (arith, ints) }
+weight_of_any Rook = record { low = omega (arith, ints); high = omega (arith, ints) }
+weight_of_any Queen = record { low = omega (arith, ints); high = omega (arith, ints) }
+weight_of_any King = record { low = omega (arith, ints); high = omega (arith, ints) }
+
+pub weight_small : (there : Option Man) (square : ℕ) → IsWeight (weight_there there square)
+weight_small None square = record { low = omega (arith, ints); high = omega (arith, ints) }
+weight_small (Some man) square = weight_of_any man.kind

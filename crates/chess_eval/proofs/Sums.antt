@@ -1,5 +1,5 @@
 -- Sums over a run of squares.
-use Rattle.std.proofs.Common.{◌≡◌, ◌≢◌, ℕ, zero, suc, ◌+◌, ◌*◌, ◌<◌, ◌≤◌, ℤ, pos, ◌+ℤ◌, neg_ℤ, ◌≤ℤ◌, refl, ap, ◌∙◌, arith, inl, inr}
+use Rattle.std.proofs.Common.{◌≡◌, ◌≢◌, ℕ, zero, suc, ◌+◌, ◌*◌, ◌<◌, ◌≤◌, ℤ, pos, ◌+ℤ◌, neg_ℤ, ◌≤ℤ◌, refl, ap, ◌∙◌, mul-suc, arith, inl, inr}
 use Rattle.std.specs.List.{range_with_len}
 use Rattle.std.proofs.lemmas.Int.{ints}
 use Rattle.std.proofs.lemmas.Bool.{cases_eq}
@@ -26,6 +26,16 @@ run-more f a (suc n) =
     let e : f (a + 1 + n) ≡ f (a + suc n) = ap f (omega arith) in
     omega (arith, ints, run-first f a (suc n), run-first f a n, run-more f (a + 1) n)
 
+-- two runs, one after the other
+pub run-joined : (f : ℕ → ℤ) (a m n : ℕ) → run f a (m + n) ≡ run f a m +ℤ run f (a + m) n
+run-joined f a m zero =
+    let e : run f a (m + 0) ≡ run f a m = ap (run f a) (omega arith) in
+    omega (arith, ints, run-none f (a + m))
+run-joined f a m (suc n) =
+    let e : run f a (m + suc n) ≡ run f a (suc (m + n)) = ap (run f a) (omega arith) in
+    let there : f (a + (m + n)) ≡ f (a + m + n) = ap f (omega arith) in
+    omega (arith, ints, run-more f a (m + n), run-more f (a + m) n, run-joined f a m n)
+
 -- the same numbers
 pub run-same : (f g : ℕ → ℤ) (a n : ℕ) → ((t : ℕ) → a ≤ t → t < a + n → f t ≡ g t) → run f a n ≡ run g a n
 run-same f g a zero h = run-none f a ∙ omega (arith, ints, run-none g a)
@@ -44,6 +54,12 @@ pub run-zero : (f : ℕ → ℤ) (a n : ℕ) → ((t : ℕ) → f t ≡ pos 0) �
 run-zero f a zero h = run-none f a
 run-zero f a (suc n) h = omega (arith, ints, run-first f a n, h a, run-zero f (a + 1) n h)
 
+-- the negative of each number
+pub run-neg : (f g : ℕ → ℤ) (a n : ℕ) → ((t : ℕ) → t < a + n → f t ≡ neg_ℤ (g t)) → run f a n ≡ neg_ℤ (run g a n)
+run-neg f g a zero h = omega (arith, ints, run-none f a, run-none g a)
+run-neg f g a (suc n) h =
+    omega (arith, ints, run-first f a n, run-first g a n, h a (omega arith), run-neg f g (a + 1) n (λ t high. h t (omega arith)))
+
 -- numbers that differ in one place alone
 pub run-one : (f g : ℕ → ℤ) (a n at : ℕ) → a ≤ at → at < a + n → ((t : ℕ) → t ≢ at → f t ≡ g t) → run f a n +ℤ g at ≡ run g a n +ℤ f at
 run-one f g a zero at low high h = absurd (omega arith)
@@ -59,12 +75,14 @@ run-one f g a (suc n) at low high h =
     ]
 
 -- small numbers have a small sum
-pub run-low : (f : ℕ → ℤ) (a n : ℕ) → ((t : ℕ) → t < a + n → neg_ℤ (pos 903) ≤ℤ f t) → neg_ℤ (pos (903 * n)) ≤ℤ run f a n
-run-low f a zero h = omega (arith, ints, run-none f a)
-run-low f a (suc n) h =
-    omega (arith, ints, run-first f a n, h a (omega arith), run-low f (a + 1) n (λ t high. h t (omega arith)))
+pub run-high : (most : ℕ) (f : ℕ → ℤ) (a n : ℕ) → ((t : ℕ) → t < a + n → f t ≤ℤ pos most) → run f a n ≤ℤ pos (most * n)
+run-high most f a zero h = omega (arith, ints, run-none f a)
+run-high most f a (suc n) h =
+    let more : most * suc n ≡ most * n + most = mul-suc most n in
+    omega (arith, ints, run-first f a n, h a (omega arith), run-high most f (a + 1) n (λ t high. h t (omega arith)))
 
-pub run-high : (f : ℕ → ℤ) (a n : ℕ) → ((t : ℕ) → t < a + n → f t ≤ℤ pos 903) → run f a n ≤ℤ pos (903 * n)
-run-high f a zero h = omega (arith, ints, run-none f a)
-run-high f a (suc n) h =
-    omega (arith, ints, run-first f a n, h a (omega arith), run-high f (a + 1) n (λ t high. h t (omega arith)))
+pub run-low : (most : ℕ) (f : ℕ → ℤ) (a n : ℕ) → ((t : ℕ) → t < a + n → neg_ℤ (pos most) ≤ℤ f t) → neg_ℤ (pos (most * n)) ≤ℤ run f a n
+run-low most f a zero h = omega (arith, ints, run-none f a)
+run-low most f a (suc n) h =
+    let more : most * suc n ≡ most * n + most = mul-suc most n in
+    omega (arith, ints, run-first f a n, h a (omega arith), run-low most f (a + 1) n (λ t high. h t (omega arith)))

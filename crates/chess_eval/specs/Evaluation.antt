@@ -1,20 +1,24 @@
--- The evaluation of a board, in centipawns: the sum over the squares of the worths of the men, White's less Black's.
---   for_white       a worth as White counts it
---   worth_there     what stands on a square is worth to White
---   worth_on        the same, on a board
---   sum_over        a sum over some squares
---   evaluation      the sum over all squares
---   IsEvaluationOf  a number is the evaluation of a board
---   IsWithin        at most so many centipawns, for either side
---   HasArmies       a board with at most 16 men a side, one of them the king
-use Rattle.std.specs.Prelude.{ℕ, ◌≡◌, ◌≤◌, List, [], ◌∷◌, Option, Some, None, ℤ, pos, ◌+ℤ◌, neg_ℤ, ◌≤ℤ◌}
-use Rattle.chess_types.specs.declared.man.Colour.{Colour}
-use Rattle.chess_types.specs.declared.man.Colour.TheVariants.{White, Black}
-use Rattle.chess_types.specs.declared.man.Man.{Man}
-use Rattle.chess_types.specs.Board.{Board, Look, man_at}
-use Rattle.chess_types.specs.Men.{men_of, kings_of}
-use Rattle.chess_types.specs.Squares.{squares}
-use Rattle.chess_eval.specs.Worth.{worth_of}
+-- The evaluation of a board, in centipawns for White: between what its men are worth in the middlegame and in the endgame, by the weights
+-- of the men that are left.
+--   balance_there    what stands on a square is worth to White: Black's men count against him
+--   weight_there     what stands on a square weighs
+--   over_board       a sum over the squares of the board, of what stands there
+--   Sums, sums_of    the three sums of a board: White's worths less Black's in the middlegame, and in the endgame, and all weights
+--   phase            how much of the middlegame is left, of 24
+--   tapered          the evaluation by three sums
+--   evaluation       the evaluation of a board
+--   AreSumsOf        three sums are those of a board
+--   IsWithin         at most so many centipawns, for either side
+--   HasArmies        a board with at most 16 men a side, one of them the king
+use Rattle.std.specs.Prelude.{ℕ, ◌≡◌, ◌≤◌, List, [], ◌∷◌, Option, Some, None, ℤ, pos, ◌+ℤ◌, ◌-ℤ◌, ◌*ℤ◌, neg_ℤ, ◌≤ℤ◌, int_div}
+use Rattle.std.specs.Int.{int_min}
+use Rattle.chess_types.specs.declared.board.man.Colour.{Colour}
+use Rattle.chess_types.specs.declared.board.man.Colour.TheVariants.{White, Black}
+use Rattle.chess_types.specs.declared.board.man.Man.{Man}
+use Rattle.chess_types.specs.board.Board.{Board, Look, man_at}
+use Rattle.chess_types.specs.board.Men.{men_of, kings_of}
+use Rattle.chess_types.specs.board.Squares.{squares}
+use Rattle.chess_eval.specs.Worth.{middle_of, end_of, weight_of}
 
 -- White's men count for White, Black's against
 abbrev pub for_white : Colour → ℤ → ℤ
@@ -22,26 +26,54 @@ for_white White worth = worth
 for_white Black worth = neg_ℤ worth
 
 -- nothing, where no man stands
-abbrev pub worth_there : Option Man → ℕ → ℤ
-worth_there None square = pos 0
-worth_there (Some man) square = for_white man.colour (worth_of man square)
+abbrev pub balance_there : (Man → ℕ → ℤ) → Option Man → ℕ → ℤ
+balance_there worth None square = pos 0
+balance_there worth (Some man) square = for_white man.colour (worth man square)
 
--- what the board has on the square is worth
-abbrev pub worth_on : Look → ℕ → ℤ
-worth_on look square = worth_there (look square) square
+-- the same for both colours, wherever the man stands
+abbrev pub weight_there : Option Man → ℕ → ℤ
+weight_there None square = pos 0
+weight_there (Some man) square = weight_of man.kind
 
 -- the sum of the numbers of some squares
 abbrev pub sum_over : (ℕ → ℤ) → List ℕ → ℤ
 sum_over number [] = pos 0
 sum_over number (square ∷ others) = number square +ℤ sum_over number others
 
--- the worths of all men, White's less Black's
-unfoldable pub evaluation : Look → ℤ
-evaluation look = sum_over (worth_on look) squares
+-- the sum over all squares
+unfoldable pub over_board : (Option Man → ℕ → ℤ) → Look → ℤ
+over_board number look = sum_over (λ square. number (look square) square) squares
 
--- it is the evaluation of the board
-abbrev pub IsEvaluationOf : ℤ → Board → Type 0
-IsEvaluationOf centipawns board = centipawns ≡ evaluation (man_at board)
+-- White's worths less Black's, in the middlegame and in the endgame; the weights of all men
+pub record Sums : Type 0 where
+  pub middle : ℤ
+  pub end : ℤ
+  pub weights : ℤ
+
+abbrev pub sums_of : Look → Sums
+sums_of look =
+    record {
+      middle = over_board (balance_there middle_of) look;
+      end = over_board (balance_there end_of) look;
+      weights = over_board weight_there look;
+    }
+
+-- 24 while the men weigh that much or more, 0 once only pawns and kings are left
+abbrev pub phase : ℤ → ℤ
+phase weights = int_min weights (pos 24)
+
+-- the mean of both, by the phase; what is over is cut off, towards 0
+unfoldable pub tapered : Sums → ℤ
+tapered sums =
+    int_div (sums.middle *ℤ phase sums.weights +ℤ sums.end *ℤ (pos 24 -ℤ phase sums.weights)) (pos 24)
+
+-- for White, in centipawns
+unfoldable pub evaluation : Look → ℤ
+evaluation look = tapered (sums_of look)
+
+-- they are the sums of the board
+abbrev pub AreSumsOf : Sums → Board → Type 0
+AreSumsOf sums board = sums ≡ sums_of (man_at board)
 
 -- at most so many centipawns, for either side
 pub record IsWithin (most : ℕ) (centipawns : ℤ) : Type 0 where

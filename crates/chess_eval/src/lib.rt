@@ -1,8 +1,9 @@
-//! The evaluation of a board, in centipawns: what each man is worth on its square, White's less Black's.
+//! The evaluation of a board, in centipawns: what each man is worth on its square, White's less Black's, tapered from the
+//! middlegame to the endgame by the weights of the men that are left.
 //!
-//! `worth` is the table; `Sum` keeps the evaluation of a placement and follows its changes. Contracts speak of the
-//! definitions `worth_of` (`specs/Worth.antt`) and `evaluation` (`specs/Evaluation.antt`), and see a `Sum` as a number of
-//! centipawns.
+//! `middle`, `end` and `weight` are the tables; `Sum` keeps the sums of a placement and follows its changes, and `white` is
+//! the evaluation. Contracts speak of the definitions `middle_of`, `end_of` and `weight_of` (`specs/Worth.antt`) and
+//! `evaluation` (`specs/Evaluation.antt`), and see a `Sum` as three numbers.
 #![tactic(auto)]
 
 mod sum;
@@ -11,4 +12,4 @@ mod tests;
 mod worths;
 
 pub use sum::Sum;
-pub use worths::worth;
+pub use worths::{end, middle, weight};

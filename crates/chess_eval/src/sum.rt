@@ -1,112 +1,176 @@
-ghost use Rattle.std.specs.Prelude.{◌≡◌, ◌<◌, None, Some, pos};
+ghost use Rattle.std.specs.Prelude.{◌≡◌, ◌<◌, None, Some, pos, neg_ℤ, ◌≤ℤ◌, int_div};
 ghost use Rattle.std.specs.FinMap as map;
-ghost use Rattle.chess_types.specs.Board.{Board, man_at};
-ghost use Rattle.chess_types.specs.Men.{men_of};
-ghost use Rattle.chess_eval.specs.Evaluation.{worth_there, worth_on as worth_on_of, IsEvaluationOf, IsWithin, HasArmies};
+ghost use Rattle.chess_types.specs.board.Board.{Board, Look, man_at};
+ghost use Rattle.chess_types.specs.board.Men.{men_of};
+ghost use Rattle.chess_eval.specs.Evaluation.{for_white as for_white_of, balance_there, AreSumsOf, tapered as tapered_of, evaluation, IsWithin, HasArmies};
+ghost use Rattle.chess_eval.specs.Worth.{middle_of, end_of};
+ghost use Rattle.chess_eval.specs.Mirror.{IsMirror, mirrored};
+ghost use Rattle.chess_eval.specs.steps.Changes.{with_man, without_man, AreInRange};
 
-use crate::worths::worth;
+use crate::worths::{end, middle, weight};
 use chess_attack::Follower;
 use chess_types::{Colour, Man, Placement, Square};
 use std::marker::Model;
 
-/// What the man is worth to White on the square, in centipawns: less where it is Black's.
-fn worth_to_white(man: Man, square: Square) -> i32
-    ensures { result ≡ worth_there (Some man) square }
+/// A man's worth as White counts it, in centipawns: negative where it is Black's.
+#[inline(always)]
+fn for_white(colour: Colour, worth: i32) -> i32
+    requires low { neg_ℤ (pos 903) ≤ℤ worth }
+    requires high { worth ≤ℤ pos 903 }
+    ensures { result ≡ for_white_of colour worth }
 {
-    match man.colour {
-        Colour::White => worth(man, square),
-        Colour::Black => -worth(man, square),
+    match colour {
+        Colour::White => worth,
+        Colour::Black => -worth,
     }
 }
 
-/// What stands on the square is worth to White, in centipawns: 0 where nothing does.
-fn worth_on(placement: &Placement, square: Square) -> i32
-    ensures { result ≡ worth_on_of (man_at placement.now) square }
+/// What the man is worth to White on the square in the middlegame, in centipawns.
+#[inline(always)]
+fn middle_for_white(man: Man, square: Square) -> i32
+    ensures { result ≡ balance_there middle_of (Some man) square }
 {
-    match placement.get(square) {
-        None => 0,
-        Some(man) => worth_to_white(man, square),
-    }
+    for_white(man.colour, middle(man, square))
 }
 
-/// The evaluation after the man is put on the square.
-fn after_put(white: i32, before: &Placement, at: Square, man: Man) -> i32
-    requires empty { map.get before.now at ≡ None }
-    requires agrees { IsEvaluationOf white before.now }
-    ensures value { IsEvaluationOf result (map.insert before.now at man) }
-    ensures in_range { IsWithin 57792 result }
+/// What the man is worth to White on the square in the endgame, in centipawns.
+#[inline(always)]
+fn end_for_white(man: Man, square: Square) -> i32
+    ensures { result ≡ balance_there end_of (Some man) square }
 {
-    white + worth_to_white(man, at)
+    for_white(man.colour, end(man, square))
 }
 
-/// The evaluation after the square is cleared.
-fn after_clear(white: i32, before: &Placement, at: Square) -> i32
-    requires { IsEvaluationOf white before.now }
-    ensures value { IsEvaluationOf result (map.remove before.now at) }
-    ensures in_range { IsWithin 57792 result }
+/// One part of 24, cut towards 0.
+#[inline(always)]
+fn part_of(parts: i32) -> i32
+    ensures { result ≡ int_div parts (pos 24) }
 {
-    white - worth_on(before, at)
+    parts / 24
 }
 
-/// The evaluation of a placement, kept through its changes. Contracts see the number: centipawns for White, at most
-/// 903 a square either way.
+/// The mean of a middlegame and an endgame sum, by how much of the middlegame is left, of 24. Cut towards 0.
+fn tapered(middle: i32, end: i32, weights: i32) -> i32
+    requires { AreInRange (record { middle = middle; end = end; weights = weights }) }
+    ensures value { result ≡ tapered_of (record { middle = middle; end = end; weights = weights }) }
+{
+    let phase = weights.min(24);
+    let parts = middle * phase + end * (24 - phase);
+    part_of(parts)
+}
+
+/// The evaluation of a placement, kept through its changes as three sums, which contracts see: White's worths less Black's in
+/// the middlegame, and in the endgame, at most 903 centipawns a square either way; and the weights of all men, 0 to 256.
 #[derive(Drop)]
 pub struct Sum {
-    white: i32,
+    middle: i32,
+    end: i32,
+    weights: i32,
 }
 
 impl Model for Sum {
-    ghost use Rattle.std.specs.Prelude.{ℤ};
+    ghost use Rattle.chess_eval.specs.Evaluation.{Sums};
 
-    ghost Value = { ℤ };
+    ghost Value = { Sums };
 
-    ghost view = { λ s. s.white };
+    ghost view = { λ s. record { middle = s.middle; end = s.end; weights = s.weights } };
 
-    ghost use Rattle.chess_eval.specs.Evaluation.{IsWithin};
+    ghost use Rattle.chess_eval.specs.steps.Changes.{AreInRange};
 
-    ghost invariant = { λ s. IsWithin 57792 s.white };
+    ghost invariant = { λ s. AreInRange (record { middle = s.middle; end = s.end; weights = s.weights }) };
 }
 
 impl Sum {
-    /// The evaluation of the empty board, 0.
+    /// The sums of the empty board, 0 each.
     pub fn empty() -> Sum
-        ensures zero { result ≡ pos 0 }
-        ensures agrees { IsEvaluationOf result map.empty }
+        ensures zero { result ≡ record { middle = pos 0; end = pos 0; weights = pos 0 } }
+        ensures agrees { AreSumsOf result map.empty }
     {
-        Sum { white: 0 }
-    }
-
-    /// The evaluation of the placement.
-    pub fn of(placement: &Placement) -> Sum
-        ensures { IsEvaluationOf result placement.now }
-    {
-        let mut white = 0;
-        for number in 0..64u8 {
-            white += worth_on(placement, Square::from_index(number));
+        Sum {
+            middle: 0,
+            end: 0,
+            weights: 0,
         }
-        Sum { white }
     }
 
-    /// The evaluation for White, in centipawns: at most 13,581 either way where each side has a king and 15 men more.
-    pub fn white(&self) -> i32
-        ensures value { result ≡ self.now }
-        ensures in_range { IsWithin 57792 result }
-        ensures with_armies { (board : Board) → IsEvaluationOf self.now board → HasArmies board → IsWithin 13581 result }
+    /// The sums of the placement.
+    pub fn of(placement: &Placement) -> Sum
+        ensures { AreSumsOf result placement.now }
     {
-        self.white
+        let mut sum = Sum::empty();
+        for number in 0..64u8 {
+            let square = Square::from_index(number);
+            if let Some(man) = placement.get(square) {
+                sum.add(man, square);
+            }
+        }
+        sum
+    }
+
+    /// The evaluation for White, in centipawns: at most 13,605 either way where each side has a king and 15 men more.
+    pub fn white(&self) -> i32
+        ensures value { result ≡ tapered_of self.now }
+        ensures of_board { (board : Board) → AreSumsOf self.now board → result ≡ evaluation (man_at board) }
+        ensures in_range { IsWithin 57792 result }
+        ensures with_armies { (board : Board) → AreSumsOf self.now board → HasArmies board → IsWithin 13605 result }
+    {
+        tapered(self.middle, self.end, self.weights)
+    }
+
+    /// The sums of the board seen from the other side, its ranks turned round and the men's colours changed: the evaluation is
+    /// the negative.
+    pub fn mirrored(&self) -> Sum
+        ensures value { result ≡ record { middle = neg_ℤ self.now.middle; end = neg_ℤ self.now.end; weights = self.now.weights } }
+        ensures agrees { (board other : Board) → IsMirror board other → AreSumsOf self.now board → AreSumsOf result other }
+        ensures negative { tapered_of result ≡ neg_ℤ (tapered_of self.now) }
+        ensures law { (look : Look) → evaluation (mirrored look) ≡ neg_ℤ (evaluation look) }
+    {
+        Sum {
+            middle: -self.middle,
+            end: -self.end,
+            weights: self.weights,
+        }
+    }
+
+    // Adds what the man counts on the square.
+    #[inline(always)]
+    fn add(&mut self, man: Man, square: Square)
+        requires { AreInRange (with_man self.old man square) }
+        ensures { self.new ≡ with_man self.old man square }
+    {
+        *self = Sum {
+            middle: self.middle + middle_for_white(man, square),
+            end: self.end + end_for_white(man, square),
+            weights: self.weights + weight(man.kind),
+        };
+    }
+
+    // Takes away what the man counts on the square.
+    #[inline(always)]
+    fn subtract(&mut self, man: Man, square: Square)
+        requires { AreInRange (without_man self.old man square) }
+        ensures { self.new ≡ without_man self.old man square }
+    {
+        *self = Sum {
+            middle: self.middle - middle_for_white(man, square),
+            end: self.end - end_for_white(man, square),
+            weights: self.weights - weight(man.kind),
+        };
     }
 }
 
 impl Follower for Sum {
-    ghost use Rattle.chess_eval.specs.Evaluation.{IsEvaluationOf};
+    ghost use Rattle.chess_eval.specs.Evaluation.{AreSumsOf};
 
-    ghost agrees = { IsEvaluationOf };
+    ghost agrees = { AreSumsOf };
 
     fn put(&mut self, before: &Placement, at: Square, man: Man) {
-        self.white = after_put(self.white, before, at, man);
+        self.add(man, at);
     }
 
     fn clear(&mut self, before: &Placement, at: Square) {
-        self.white = after_clear(self.white, before, at);
+        if let Some(man) = before.get(at) {
+            self.subtract(man, at);
+        }
     }
 }

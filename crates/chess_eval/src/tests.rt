@@ -1,4 +1,6 @@
-use crate::{Sum, worth};
+ghost use Rattle.chess_eval.specs.Evaluation.{AreSumsOf};
+
+use crate::{Sum, end, middle, weight};
 use chess_attack::Follower;
 use chess_types::{Colour, Kind, Man, Placement, Square};
 use std::process::Abort;
@@ -55,34 +57,80 @@ fn start(rt: &impl Abort) -> Placement {
 
 #[test]
 fn men_on_their_squares(rt: HostRuntime) {
-    for (letter, name, want) in [
-        (b'P', "e2", 109),
-        (b'P', "e4", 117),
-        (b'N', "b1", 314),
-        (b'N', "c3", 332),
-        (b'p', "e7", 109),
-        (b'p', "e5", 117),
-        (b'n', "b8", 314),
-        (b'n', "c6", 332),
-        (b'B', "a1", 324),
-        (b'b', "d4", 342),
-        (b'R', "a7", 510),
-        (b'R', "a2", 500),
-        (b'r', "h2", 510),
-        (b'q', "e5", 903),
-        (b'K', "e1", -18),
-        (b'k', "d5", -36),
+    for (letter, name, in_middle, at_end) in [
+        (b'P', "e2", 109, 110),
+        (b'P', "e4", 117, 130),
+        (b'P', "a7", 120, 160),
+        (b'N', "b1", 314, 314),
+        (b'N', "c3", 332, 332),
+        (b'p', "e7", 109, 110),
+        (b'p', "e5", 117, 130),
+        (b'n', "b8", 314, 314),
+        (b'n', "c6", 332, 332),
+        (b'B', "a1", 324, 324),
+        (b'b', "d4", 342, 342),
+        (b'R', "a7", 510, 510),
+        (b'R', "a2", 500, 500),
+        (b'r', "h2", 510, 510),
+        (b'q', "e5", 903, 903),
+        (b'K', "e1", -18, 30),
+        (b'k', "d5", -36, 60),
     ] {
         let man = man_of(letter).expect(&rt, "a man's letter");
         let square = Square::parse(name.as_bytes()).expect(&rt, "a square's name");
-        assert_eq!(rt; worth(man, square), want, "{letter} on {name}");
+        assert_eq!(rt; middle(man, square), in_middle, "{letter} on {name}");
+        assert_eq!(rt; end(man, square), at_end, "{letter} on {name}");
     }
+}
+
+#[test]
+fn weights_of_the_kinds(rt: HostRuntime) {
+    assert_eq!(rt; weight(Kind::Pawn), 0);
+    assert_eq!(rt; weight(Kind::Knight), 1);
+    assert_eq!(rt; weight(Kind::Bishop), 1);
+    assert_eq!(rt; weight(Kind::Rook), 2);
+    assert_eq!(rt; weight(Kind::Queen), 4);
+    assert_eq!(rt; weight(Kind::King), 0);
+}
+
+/// Fifteen queens and a king a side, White's queens nearer the middle.
+fn queens(rt: &impl Abort) -> Placement {
+    board(
+        rt,
+        [
+            b"kqqqqqqq",
+            b"qqqqqqqq",
+            b"........",
+            b"QQQQQQQQ",
+            b".QQQQQ..",
+            b"........",
+            b"......QQ",
+            b".......K",
+        ],
+    )
+}
+
+/// The placement seen from the other side.
+fn mirror(rt: &impl Abort, placement: &Placement) -> Placement {
+    let mut mirrored = Placement::empty();
+    for number in 0..64u8 {
+        let square = Square::from_index(number);
+        if let Some(man) = placement.get(square) {
+            let at = Square::from_index(8 * (7 - square.rank()) + square.file());
+            let colour = man.colour.opponent();
+            assert!(rt; mirrored.get(at).is_none());
+            assert!(rt; mirrored.men(colour) < 16);
+            mirrored.put(at, Man { colour, ..man });
+        }
+    }
+    mirrored
 }
 
 #[test]
 fn whole_boards(rt: HostRuntime) {
     assert_eq!(rt; Sum::of(&start(&rt)).white(), 0);
     assert_eq!(rt; Sum::of(&Placement::empty()).white(), 0);
+    // no weight
     let pawn_up = board(
         &rt,
         [
@@ -96,50 +144,85 @@ fn whole_boards(rt: HostRuntime) {
             b"....K...",
         ],
     );
-    assert_eq!(rt; Sum::of(&pawn_up).white(), 109);
+    assert_eq!(rt; Sum::of(&pawn_up).white(), 110);
+    // 14,638 of 24 parts
+    let rook_up = board(
+        &rt,
+        [
+            b"....k...",
+            b"........",
+            b"........",
+            b"........",
+            b"........",
+            b"........",
+            b"....P...",
+            b"R...K...",
+        ],
+    );
+    assert_eq!(rt; Sum::of(&rook_up).white(), 609);
+    assert_eq!(rt; Sum::of(&mirror(&rt, &rook_up)).white(), -609);
+    assert_eq!(rt; Sum::of(&rook_up).mirrored().white(), -609);
+    // a weight of 120
+    assert_eq!(rt; Sum::of(&queens(&rt)).white(), 33);
+    assert_eq!(rt; Sum::of(&mirror(&rt, &queens(&rt))).white(), -33);
+    assert_eq!(rt; Sum::of(&queens(&rt)).mirrored().white(), -33);
 }
 
-/// Puts the man on the board, and the sum follows; it is that of the board before and after.
-fn put(rt: &impl Abort, sum: &mut Sum, placement: &mut Placement, at: Square, man: Man) {
-    assert_eq!(rt; sum.white(), Sum::of(placement).white());
-    assert!(rt; placement.get(at).is_none());
-    assert!(rt; placement.men(man.colour) < 16);
-    sum.put(placement, at, man);
-    placement.put(at, man);
-    assert_eq!(rt; sum.white(), Sum::of(placement).white());
+/// A board with its sums.
+#[derive(Drop)]
+struct Kept {
+    placement: Placement,
+    sum: Sum,
+    ghost agrees: { AreSumsOf sum placement },
 }
 
-/// Clears the square of the board, and the sum follows; it is that of the board before and after.
-fn clear(rt: &impl Abort, sum: &mut Sum, placement: &mut Placement, at: Square) {
-    assert_eq!(rt; sum.white(), Sum::of(placement).white());
-    assert!(rt; placement.get(at).is_some());
-    sum.clear(placement, at);
-    placement.clear(at);
-    assert_eq!(rt; sum.white(), Sum::of(placement).white());
+impl Kept {
+    fn empty() -> Kept {
+        Kept {
+            placement: Placement::empty(),
+            sum: Sum::empty(),
+        }
+    }
+
+    /// Puts the man, and the evaluation is that of the board.
+    fn put(&mut self, rt: &impl Abort, at: Square, man: Man) {
+        assert!(rt; self.placement.get(at).is_none());
+        assert!(rt; self.placement.men(man.colour) < 16);
+        self.sum.put(&self.placement, at, man);
+        self.placement.put(at, man);
+        assert_eq!(rt; self.sum.white(), Sum::of(&self.placement).white());
+    }
+
+    /// Clears the square, and the evaluation is that of the board.
+    fn clear(&mut self, rt: &impl Abort, at: Square) {
+        assert!(rt; self.placement.get(at).is_some());
+        self.sum.clear(&self.placement, at);
+        self.placement.clear(at);
+        assert_eq!(rt; self.sum.white(), Sum::of(&self.placement).white());
+    }
 }
 
 #[test]
 fn every_man_put_and_cleared(rt: HostRuntime) {
     let whole = start(&rt);
-    let mut sum = Sum::empty();
-    let mut placement = Placement::empty();
+    let mut kept = Kept::empty();
     for number in 0..64u8 {
         let at = Square::from_index(number);
         if let Some(man) = whole.get(at) {
-            put(&rt, &mut sum, &mut placement, at, man);
+            kept.put(&rt, at, man);
         }
     }
-    assert_eq!(rt; sum.white(), 0);
+    assert_eq!(rt; kept.sum.white(), 0);
     for turn in 0..64u8 {
         // every square once, in another order
         let at = Square::from_index((turn ^ 42) % 64);
         if whole.get(at).is_some() {
-            clear(&rt, &mut sum, &mut placement, at);
+            kept.clear(&rt, at);
         }
     }
-    assert_eq!(rt; sum.white(), Sum::empty().white());
+    assert_eq!(rt; kept.sum.white(), Sum::empty().white());
     assert_eq!(rt;
-        placement.men(Colour::White) + placement.men(Colour::Black),
+        kept.placement.men(Colour::White) + kept.placement.men(Colour::Black),
         0
     );
 }

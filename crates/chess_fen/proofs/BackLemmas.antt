@@ -1,6 +1,6 @@
 -- What is written of a position is read back.
 use Rattle.std.proofs.Common.{◌≡◌, ℕ, zero, suc, ◌+◌, ◌<◌, ◌≤◌, max, Bool, true, false, ◌&&◌, List, [], ◌∷◌, get_or, map, Option, Some, None, Ok, refl, sym, ap, ◌∙◌, inl, inr, arith}
-use Rattle.std.specs.Prelude.{bytes_eq, codes, decimal, is_none}
+use Rattle.std.specs.Prelude.{bytes_eq, codes, decimal}
 use Rattle.std.specs.List.{AllByRecursion, range_with_len, list_any}
 use Rattle.std.specs.Str.Parse.{AllDigits}
 use Rattle.std.proofs.lemmas.Bool.{and_from, and_left, and_right, eq-eqb, le-leb, cases_lt, cases_Bool}
@@ -9,22 +9,23 @@ use Rattle.std.proofs.lemmas.Fmt.{decimal_is_IsNumeral}
 use Rattle.std.proofs.lemmas.List.{get_or_past}
 use Rattle.std.proofs.lemmas.List.FromFn.{get_or-map-range_with_len, length-map-range_with_len}
 use Rattle.std.proofs.lemmas.Str.Parse.{digit_from_value}
-use Rattle.chess_types.specs.declared.man.Colour.{Colour}
-use Rattle.chess_types.specs.declared.man.Colour.TheVariants.{White, Black}
-use Rattle.chess_types.specs.declared.man.Kind.{Kind}
-use Rattle.chess_types.specs.declared.man.Kind.TheVariants.{Pawn, King, Rook}
-use Rattle.chess_types.specs.declared.position.Rights.{Rights}
-use Rattle.chess_types.specs.declared.position.Wing.{Wing}
-use Rattle.chess_types.specs.declared.position.Wing.TheVariants.{KingSide, QueenSide}
-use Rattle.chess_types.specs.Squares.{squares}
-use Rattle.chess_types.specs.Board.{Board, Look, man_at}
-use Rattle.chess_types.specs.Cells.{board_of}
-use Rattle.chess_types.specs.Men.{holds_pawn}
-use Rattle.chess_types.specs.Position.{State, IsSetup, IsExplained, IsWellFormed, look, holds}
-use Rattle.chess_types.specs.Texts.{square_text}
+use Rattle.chess_types.specs.declared.board.man.Colour.{Colour}
+use Rattle.chess_types.specs.declared.board.man.Colour.TheVariants.{White, Black}
+use Rattle.chess_types.specs.declared.board.man.Kind.TheVariants.{King, Rook}
+use Rattle.chess_types.specs.declared.board.position.Rights.{Rights}
+use Rattle.chess_types.specs.declared.board.position.Wing.{Wing}
+use Rattle.chess_types.specs.declared.board.position.Wing.TheVariants.{KingSide, QueenSide}
+use Rattle.chess_types.specs.board.Squares.{squares}
+use Rattle.chess_types.specs.board.Board.{Board, Look, man_at}
+use Rattle.chess_types.specs.board.Cells.{board_of}
+use Rattle.chess_types.specs.board.Men.{holds_pawn, is_man}
+use Rattle.chess_types.specs.board.Position.{State, IsSetup, is_explained, IsWellFormed, look, holds}
+use Rattle.chess_types.specs.board.Texts.{square_text}
 use Rattle.chess_types.proofs.BoardLaws.{same_board}
 use Rattle.chess_types.proofs.CellLemmas.{get-board_of}
-use Rattle.chess_fen.specs.Reading.{fields_in, board_in, has_one_king_each, has_at_most_16_each, has_pawn_on_edge, is_edge, side_in, castling_in, is_man, is_home, kept_rights, target_in, is_explained, kept_target, reading}
+use Rattle.chess_types.proofs.SameLemmas.{is_man-own}
+use Rattle.chess_types.proofs.TargetLemmas.{explained_inside}
+use Rattle.chess_fen.specs.Reading.{fields_in, board_in, has_one_king_each, has_at_most_16_each, has_pawn_on_edge, is_edge, side_in, castling_in, is_home, kept_rights, target_in, kept_target, reading}
 use Rattle.chess_fen.specs.Writing.{placement_text, side_text, right_text, or_dash, rights_text, target_text, written}
 use Rattle.chess_fen.proofs.FieldLemmas.{square_named, counter_written}
 use Rattle.chess_fen.proofs.PartLemmas.{Above, Above-append, IsWord, words-joined}
@@ -107,24 +108,10 @@ unfolding target_in target_text
 target_back None inside = refl
 target_back (Some t) inside = rw (no_dash t, square_named (square_text t) t (inside t refl) refl) refl
 
-is_man-own : (c : Colour) (k : Kind) → is_man (Some (record { colour = c; kind = k })) c k ≡ true
-is_man-own White k = eq-eqb _ _ refl
-is_man-own Black k = eq-eqb _ _ refl
-
-explained_test : (side : Colour) (look : Look) (t : ℕ) → IsExplained side look t → is_explained side look t ≡ true
-explained_test White look t is =
-    and_from _ _ (and_from _ _ (and_from _ _ (eq-eqb _ _ is.0) (ap is_none is.1)) (ap is_none is.2)) (ap (λ cell. is_man cell Black Pawn) is.3)
-explained_test Black look t is =
-    and_from _ _ (and_from _ _ (and_from _ _ (eq-eqb _ _ is.0) (ap is_none is.1)) (ap is_none is.2)) (ap (λ cell. is_man cell White Pawn) is.3)
-
-target_kept : (side : Colour) (look : Look) (target : Option ℕ) → ((t : ℕ) → target ≡ Some t → IsExplained side look t) → kept_target side look target ≡ target
+target_kept : (side : Colour) (look : Look) (target : Option ℕ) → ((t : ℕ) → target ≡ Some t → is_explained side look t ≡ true) → kept_target side look target ≡ target
 unfolding kept_target
 target_kept side look None explained = refl
-target_kept side look (Some t) explained = rw (explained_test side look t (explained t refl)) refl
-
-explained_inside : (side : Colour) (look : Look) (t : ℕ) → IsExplained side look t → t < 64
-explained_inside White look t is = omega (arith, is.0)
-explained_inside Black look t is = omega (arith, is.0)
+target_kept side look (Some t) explained = rw (explained t refl) refl
 
 -- a right that is held has its king and rook at home
 held_kept : (held home : Bool) → (held ≡ true → home ≡ true) → (held && home) ≡ held

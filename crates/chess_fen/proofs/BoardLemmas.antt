@@ -5,27 +5,27 @@ use Rattle.std.proofs.lemmas.List.{drop_more, drop-drop}
 use Rattle.std.proofs.Math.Seq.{drop-append_seam}
 use borrow.Rule.Slice.PartMut.{put_mid}
 use Rattle.std.proofs.lemmas.Bool.{ne_eqb}
-use Rattle.chess_types.specs.declared.man.Man.{Man}
-use Rattle.chess_fen.specs.Ranks.{joined, rank_cells, cells_of_ranks, ranks, board_cells}
+use Rattle.chess_types.specs.declared.board.man.Man.{Man}
+use Rattle.chess_fen.specs.Ranks.{both_cells, rank_cells, cells_of_ranks, ranks, board_cells}
 use Rattle.chess_fen.proofs.RankLemmas.{joined_assoc}
 
-joined_nothing : (cells : Option (List (Option Man))) → joined cells (Some []) ≡ cells
+joined_nothing : (cells : Option (List (Option Man))) → both_cells cells (Some []) ≡ cells
 joined_nothing None = refl
 joined_nothing (Some cells) = grind (arith, common_steps)
 
-joined_none : (cells : Option (List (Option Man))) → joined cells None ≡ None
+joined_none : (cells : Option (List (Option Man))) → both_cells cells None ≡ None
 joined_none None = refl
 joined_none (Some cells) = refl
 
-cells_of_ranks-append : (upper lower : List (List ℕ)) → cells_of_ranks (upper ++ lower) ≡ joined (cells_of_ranks lower) (cells_of_ranks upper)
+cells_of_ranks-append : (upper lower : List (List ℕ)) → cells_of_ranks (upper ++ lower) ≡ both_cells (cells_of_ranks lower) (cells_of_ranks upper)
 unfolding cells_of_ranks
 cells_of_ranks-append [] lower = sym (joined_nothing (cells_of_ranks lower))
 cells_of_ranks-append (rank ∷ upper) lower =
-    ap (λ cells. joined cells (rank_cells rank)) (cells_of_ranks-append upper lower) ∙ joined_assoc (cells_of_ranks lower) (cells_of_ranks upper) (rank_cells rank)
+    ap (λ cells. both_cells cells (rank_cells rank)) (cells_of_ranks-append upper lower) ∙ joined_assoc (cells_of_ranks lower) (cells_of_ranks upper) (rank_cells rank)
 
 cells_of_ranks-one : (rank : List ℕ) → cells_of_ranks (rank ∷ []) ≡ rank_cells rank
 unfolding cells_of_ranks
-cells_of_ranks-one rank = elim (rank_cells rank) as (λ cells. joined (Some []) cells ≡ cells) [ None ↦ refl | Some cells ↦ grind (arith, common_steps) ]
+cells_of_ranks-one rank = elim (rank_cells rank) as (λ cells. both_cells (Some []) cells ≡ cells) [ None ↦ refl | Some cells ↦ grind (arith, common_steps) ]
 
 pub no_ranks : Some [] ≡ cells_of_ranks []
 unfolding cells_of_ranks
@@ -42,8 +42,8 @@ bad_rank : (parts : List (List ℕ)) (k : ℕ) (rank : List ℕ) → k < length 
 unfolding cells_of_ranks
 bad_rank parts k rank within is bad =
     let cut : parts ≡ take k parts ++ rank ∷ drop (k + 1) parts = sym (take-append-drop k parts) ∙ ap (λ xs. take k parts ++ xs) (drop_more parts k rank within ∙ ap (λ x. x ∷ drop (k + 1) parts) (sym is)) in
-    let here : cells_of_ranks (rank ∷ drop (k + 1) parts) ≡ None = ap (joined (cells_of_ranks (drop (k + 1) parts))) (sym bad) ∙ joined_none (cells_of_ranks (drop (k + 1) parts)) in
-    ap cells_of_ranks cut ∙ cells_of_ranks-append (take k parts) (rank ∷ drop (k + 1) parts) ∙ ap (λ cells. joined cells (cells_of_ranks (take k parts))) here
+    let here : cells_of_ranks (rank ∷ drop (k + 1) parts) ≡ None = ap (both_cells (cells_of_ranks (drop (k + 1) parts))) (sym bad) ∙ joined_none (cells_of_ranks (drop (k + 1) parts)) in
+    ap cells_of_ranks cut ∙ cells_of_ranks-append (take k parts) (rank ∷ drop (k + 1) parts) ∙ ap (λ cells. both_cells cells (cells_of_ranks (take k parts))) here
 
 abbrev nothing : Option (List (Option Man))
 nothing = None

@@ -4,15 +4,15 @@ use Rattle.std.specs.Prelude.{count_by}
 use Rattle.std.specs.List.{range_with_len, list_any, enumerate_from}
 use Rattle.std.proofs.lemmas.Bool.{and_parts, leb-true}
 use Rattle.std.specs.FinMap.{get}
-use Rattle.chess_types.specs.declared.man.Colour.{Colour}
-use Rattle.chess_types.specs.declared.man.Colour.TheVariants.{White, Black}
-use Rattle.chess_types.specs.declared.man.Man.{Man}
-use Rattle.chess_types.specs.Squares.{squares}
-use Rattle.chess_types.specs.Board.{man_at}
-use Rattle.chess_types.specs.Cells.{board_of}
-use Rattle.chess_types.specs.Men.{holds_pawn, is_of, men_of}
+use Rattle.chess_types.specs.declared.board.man.Colour.{Colour}
+use Rattle.chess_types.specs.declared.board.man.Colour.TheVariants.{White, Black}
+use Rattle.chess_types.specs.declared.board.man.Man.{Man}
+use Rattle.chess_types.specs.board.Squares.{squares}
+use Rattle.chess_types.specs.board.Board.{man_at}
+use Rattle.chess_types.specs.board.Cells.{board_of}
+use Rattle.chess_types.specs.board.Men.{holds_pawn, is_of, men_of}
 use Rattle.chess_types.proofs.CellLemmas.{get-board_of}
-use Rattle.chess_types.proofs.MenLemmas.{census-board_of}
+use Rattle.chess_types.proofs.MenLemmas.{count_squares-board_of}
 use Rattle.chess_fen.specs.Reading.{is_edge, has_pawn_on_edge, has_at_most_16_each}
 
 -- a test of each square and what stands on it
@@ -36,8 +36,8 @@ pub few_of_each : (cells : List (Option Man)) → length cells ≡ 64 → has_at
 few_of_each cells len few White =
     let both : (nat_le (men_of (board_of cells) White) 16 ≡ true) × (nat_le (men_of (board_of cells) Black) 16 ≡ true) = and_parts _ _ few in
     let white : men_of (board_of cells) White ≤ 16 = leb-true _ _ both.0 in
-    omega (arith, census-board_of (is_of White) cells len)
+    omega (arith, count_squares-board_of (is_of White) cells len)
 few_of_each cells len few Black =
     let both : (nat_le (men_of (board_of cells) White) 16 ≡ true) × (nat_le (men_of (board_of cells) Black) 16 ≡ true) = and_parts _ _ few in
     let black : men_of (board_of cells) Black ≤ 16 = leb-true _ _ both.1 in
-    omega (arith, census-board_of (is_of Black) cells len)
+    omega (arith, count_squares-board_of (is_of Black) cells len)

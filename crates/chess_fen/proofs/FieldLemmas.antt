@@ -12,8 +12,8 @@ use Rattle.std.proofs.lemmas.Grind.{common_steps}
 use Rattle.std.proofs.lemmas.Str.Parse.{IsNumeralModel, numerals_by_value, parse_digits}
 use Rattle.std.proofs.lemmas.Str.{IsUtf8-from_ascii}
 use Rattle.std.proofs.lemmas.Fmt.{IsAscii-from_digits, decimal_is_IsNumeral}
-use Rattle.chess_types.specs.Squares.{squares}
-use Rattle.chess_types.specs.Texts.{square_text}
+use Rattle.chess_types.specs.board.Squares.{squares}
+use Rattle.chess_types.specs.board.Texts.{square_text}
 use Rattle.chess_types.proofs.SquareLemmas.{every_square}
 use Rattle.chess_fen.specs.Reading.{square_in, is_counter, counter_in}
 use Rattle.chess_fen.specs.declared.fault.FenFault.TheVariants.{Counter}

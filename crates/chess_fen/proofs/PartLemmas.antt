@@ -4,7 +4,8 @@ use Rattle.std.specs.List.{AllByRecursion, join_with_byte, slice_split}
 use Rattle.std.proofs.lemmas.Bool.Decides.{nat_tests}
 use Rattle.std.proofs.lemmas.List.Elements.{All-from_recursion}
 use Rattle.std.proofs.lemmas.List.Splits.{slice_split_none, slice_split_at}
-use Rattle.chess_types.specs.Words.{word_of, words, words_from}
+use Rattle.chess_types.specs.bytes.Words.{as_word, words, words_from}
+use Rattle.chess_types.proofs.WordLemmas.{word_of-some}
 
 -- each byte is greater
 abbrev pub Above : ℕ → List ℕ → Type 0
@@ -24,23 +25,19 @@ Above-joined n c (part ∷ []) high all = all.0
 Above-joined n c (part ∷ next ∷ parts) high all = Above-append n part (c ∷ join_with_byte c (next ∷ parts)) all.0 (high, Above-joined n c (next ∷ parts) high all.1)
 
 -- the words that a space parts
-words_from-last : (word begun : List ℕ) → Above 32 word → words_from (32 ∷ []) begun word ≡ word_of (begun ++ word)
-words_from-last [] begun high = ap word_of (sym (append-nil begun))
+words_from-last : (word begun : List ℕ) → Above 32 word → words_from (32 ∷ []) begun word ≡ as_word (begun ++ word)
+words_from-last [] begun high = ap as_word (sym (append-nil begun))
 words_from-last (b ∷ bs) begun high =
     let above : 32 < b = high.0 in
     let plain : ((32 == b) || false) ≡ false = grind (arith, nat_tests) in
-    rw plain (words_from-last bs (begun ++ b ∷ []) high.1 ∙ ap word_of (append_assoc begun (b ∷ []) bs))
+    rw plain (words_from-last bs (begun ++ b ∷ []) high.1 ∙ ap as_word (append_assoc begun (b ∷ []) bs))
 
-words_from-next : (word begun rest : List ℕ) → Above 32 word → words_from (32 ∷ []) begun (word ++ 32 ∷ rest) ≡ word_of (begun ++ word) ++ words (32 ∷ []) rest
-words_from-next [] begun rest high = ap (λ w. word_of w ++ words (32 ∷ []) rest) (sym (append-nil begun))
+words_from-next : (word begun rest : List ℕ) → Above 32 word → words_from (32 ∷ []) begun (word ++ 32 ∷ rest) ≡ as_word (begun ++ word) ++ words (32 ∷ []) rest
+words_from-next [] begun rest high = ap (λ w. as_word w ++ words (32 ∷ []) rest) (sym (append-nil begun))
 words_from-next (b ∷ bs) begun rest high =
     let above : 32 < b = high.0 in
     let plain : ((32 == b) || false) ≡ false = grind (arith, nat_tests) in
-    rw plain (words_from-next bs (begun ++ b ∷ []) rest high.1 ∙ ap (λ w. word_of w ++ words (32 ∷ []) rest) (append_assoc begun (b ∷ []) bs))
-
-word_of-some : (word : List ℕ) → 0 < length word → word_of word ≡ word ∷ []
-word_of-some [] some = absurd (omega arith)
-word_of-some (b ∷ bs) some = refl
+    rw plain (words_from-next bs (begun ++ b ∷ []) rest high.1 ∙ ap (λ w. as_word w ++ words (32 ∷ []) rest) (append_assoc begun (b ∷ []) bs))
 
 -- a byte or more, none of them a space
 abbrev pub IsWord : List ℕ → Type 0

@@ -1,27 +1,26 @@
 -- What is read without a fault makes a setup of a position.
-use Rattle.std.proofs.Common.{◌≡◌, ℕ, zero, suc, ◌+◌, ◌<◌, ◌≤◌, ◌==◌, nat_le, Bool, true, false, not, ◌&&◌, ◌||◌, List, Option, Some, None, Ok, refl, sym, ap, subst, ◌∙◌, inl, inr, arith}
-use Rattle.std.specs.Prelude.{ok_or, is_none}
+use Rattle.std.proofs.Common.{◌≡◌, ℕ, zero, suc, ◌+◌, ◌<◌, ◌≤◌, ◌==◌, nat_le, Bool, true, false, not, ◌&&◌, List, Option, Some, None, Ok, refl, sym, ap, subst, ◌∙◌, inl, inr, arith}
+use Rattle.std.specs.Prelude.{ok_or}
 use Rattle.std.specs.List.{range_with_len, list_any}
-use Rattle.std.proofs.lemmas.Bool.{and_parts, cases_eq, true≢false, eqb-true, leb-true}
+use Rattle.std.proofs.lemmas.Bool.{and_parts, or_parts, cases_eq, eqb-true, leb-true}
 use Rattle.std.proofs.lemmas.Bool.Decides.{nat_tests}
 use Rattle.std.proofs.lemmas.Option.{cond_some}
-use Rattle.chess_types.specs.declared.man.Colour.{Colour}
-use Rattle.chess_types.specs.declared.man.Colour.TheVariants.{White, Black}
-use Rattle.chess_types.specs.declared.man.Kind.{Kind}
-use Rattle.chess_types.specs.declared.man.Kind.TheVariants.{Pawn, King, Rook}
-use Rattle.chess_types.specs.declared.man.Man.{Man}
-use Rattle.chess_types.specs.declared.position.Rights.{Rights}
-use Rattle.chess_types.specs.declared.position.Wing.{Wing}
-use Rattle.chess_types.specs.declared.position.Wing.TheVariants.{KingSide, QueenSide}
-use Rattle.chess_types.specs.Squares.{rank_of, squares}
-use Rattle.chess_types.specs.Board.{Board, Look, man_at}
-use Rattle.chess_types.specs.Cells.{board_of}
-use Rattle.chess_types.specs.ManCode.{kind_number, kind_of, kind_of-number}
-use Rattle.chess_types.specs.Men.{same_colour, holds_pawn, men_of, kings_of}
-use Rattle.chess_types.specs.Position.{IsSetup, IsExplained, holds}
+use Rattle.chess_types.specs.declared.board.man.Colour.{Colour}
+use Rattle.chess_types.specs.declared.board.man.Colour.TheVariants.{White, Black}
+use Rattle.chess_types.specs.declared.board.man.Kind.TheVariants.{King, Rook}
+use Rattle.chess_types.specs.declared.board.man.Man.{Man}
+use Rattle.chess_types.specs.declared.board.position.Rights.{Rights}
+use Rattle.chess_types.specs.declared.board.position.Wing.{Wing}
+use Rattle.chess_types.specs.declared.board.position.Wing.TheVariants.{KingSide, QueenSide}
+use Rattle.chess_types.specs.board.Squares.{rank_of, squares}
+use Rattle.chess_types.specs.board.Board.{Board, Look, man_at}
+use Rattle.chess_types.specs.board.Cells.{board_of}
+use Rattle.chess_types.specs.board.Men.{holds_pawn, men_of, kings_of}
+use Rattle.chess_types.specs.board.Position.{IsSetup, is_explained, holds}
 use Rattle.chess_fen.specs.declared.fault.FenFault.TheVariants.{Placement, Kings, PawnRank, TooManyMen}
 use Rattle.chess_fen.specs.Ranks.{board_cells}
-use Rattle.chess_fen.specs.Reading.{◌>>=◌, demand, has_one_king_each, is_edge, has_pawn_on_edge, has_at_most_16_each, board_in, is_man, is_home, kept_rights, is_explained, kept_target}
+use Rattle.chess_fen.specs.Reading.{◌>>=◌, demand, has_one_king_each, is_edge, has_pawn_on_edge, has_at_most_16_each, board_in, is_home, kept_rights, kept_target}
+use Rattle.chess_types.proofs.SameLemmas.{is_man_is}
 
 -- what the demands on the men leave
 pub record HasGoodMen (board : Board) : Type 0 where
@@ -62,14 +61,10 @@ few_each : (board : Board) → HasGoodMen board → (c : Colour) → men_of boar
 few_each board good White = let both : (nat_le (men_of board White) 16 ≡ true) × (nat_le (men_of board Black) 16 ≡ true) = and_parts _ _ good.few in leb-true _ _ both.0
 few_each board good Black = let both : (nat_le (men_of board White) 16 ≡ true) × (nat_le (men_of board Black) 16 ≡ true) = and_parts _ _ good.few in leb-true _ _ both.1
 
-or_false : (a b : Bool) → (a || b) ≡ false → (a ≡ false) × (b ≡ false)
-or_false true b h = absurd (true≢false h)
-or_false false b h = (refl, h)
-
 list_any_at : (p : ℕ → Bool) (a n t : ℕ) → list_any p (range_with_len a n) ≡ false → a ≤ t → t < a + n → p t ≡ false
 list_any_at p a zero t h low high = absurd (omega arith)
 list_any_at p a (suc n) t h low high =
-    let parts : (p a ≡ false) × (list_any p (range_with_len (a + 1) n) ≡ false) = or_false _ _ h in
+    let parts : (p a ≡ false) × (list_any p (range_with_len (a + 1) n) ≡ false) = or_parts _ _ h in
     elim (cases_eq a t) [
       | inl same ↦ ap p (sym same) ∙ parts.0
       | inr other ↦ list_any_at p (a + 1) n t parts.1 (omega arith) (omega arith)
@@ -81,23 +76,6 @@ inner_pawns look none s inside pawn =
     let here : (is_edge s && holds_pawn (look s)) ≡ false = list_any_at (λ x. is_edge x && holds_pawn (look x)) 0 64 s none (omega arith) (omega arith) in
     (grind (arith, nat_tests), grind (arith, nat_tests))
 
-same_is : (a b : Colour) → same_colour a b ≡ true → a ≡ b
-same_is White White h = refl
-same_is White Black h = absurd (true≢false (sym h))
-same_is Black White h = absurd (true≢false (sym h))
-same_is Black Black h = refl
-
-kind_is : (k l : Kind) → kind_number k ≡ kind_number l → k ≡ l
-kind_is k l e = sym (kind_of-number k) ∙ ap kind_of e ∙ kind_of-number l
-
-is_man_is : (cell : Option Man) (c : Colour) (k : Kind) → is_man cell c k ≡ true → cell ≡ Some (record { colour = c; kind = k })
-is_man_is None c k h = absurd (true≢false (sym h))
-is_man_is (Some man) c k h =
-    let both = and_parts _ _ h in
-    let colour : man.colour ≡ c = same_is man.colour c both.0 in
-    let kind : man.kind ≡ k = kind_is man.kind k (eqb-true _ _ both.1) in
-    λ i. Some (record { colour = colour i; kind = kind i })
-
 kept_home : (look : Look) (rights : Rights) (c : Colour) (w : Wing) → holds (kept_rights look rights) c w ≡ true → is_home look c w ≡ true
 unfolding kept_rights
 kept_home look rights White KingSide h = (and_parts _ _ h).1
@@ -105,28 +83,12 @@ kept_home look rights White QueenSide h = (and_parts _ _ h).1
 kept_home look rights Black KingSide h = (and_parts _ _ h).1
 kept_home look rights Black QueenSide h = (and_parts _ _ h).1
 
-is_none_is : {A : Type 0} (o : Option A) → is_none o ≡ true → o ≡ None
-is_none_is None h = refl
-is_none_is (Some x) h = absurd (true≢false (sym h))
-
-explained_is : (side : Colour) (look : Look) (t : ℕ) → is_explained side look t ≡ true → IsExplained side look t
-explained_is White look t h =
-    let last = and_parts _ _ h in
-    let third = and_parts _ _ last.0 in
-    let first = and_parts _ _ third.0 in
-    (eqb-true _ _ first.0, is_none_is _ first.1, is_none_is _ third.1, is_man_is _ Black Pawn last.1)
-explained_is Black look t h =
-    let last = and_parts _ _ h in
-    let third = and_parts _ _ last.0 in
-    let first = and_parts _ _ third.0 in
-    (eqb-true _ _ first.0, is_none_is _ first.1, is_none_is _ third.1, is_man_is _ White Pawn last.1)
-
-kept_explained : (side : Colour) (look : Look) (written : Option ℕ) (t : ℕ) → kept_target side look written ≡ Some t → IsExplained side look t
+kept_explained : (side : Colour) (look : Look) (written : Option ℕ) (t : ℕ) → kept_target side look written ≡ Some t → is_explained side look t ≡ true
 unfolding kept_target
 kept_explained side look None t h = absurd (cc)
 kept_explained side look (Some s) t h =
     let kept = cond_some _ _ _ h in
-    explained_is side look t (ap (is_explained side look) (sym kept.1) ∙ kept.0)
+    ap (is_explained side look) (sym kept.1) ∙ kept.0
 
 pub setup_read : (board : Board) (side : Colour) (rights : Rights) (target : Option ℕ) (clock number : ℕ) → HasGoodMen board → 1 ≤ number →
     IsSetup (record { placement = board; side = side; rights = kept_rights (man_at board) rights; target = kept_target side (man_at board) target; clock = clock; number = number })

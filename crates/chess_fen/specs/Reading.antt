@@ -9,27 +9,25 @@
 --   kept_target    that target, where a pawn's advance just made explains it
 --   counter_in     the halfmove clock or the fullmove number (PGN 16.1.3.5 and 16.1.3.6), at most 99,999
 --   reading        the position, in which the side not to move isn't in check, or the fault
-use Rattle.std.specs.Prelude.{ℕ, ◌+◌, ◌-◌, ◌==◌, nat_le, max, Bool, true, false, not, ◌&&◌, ◌||◌, if◌then◌else◌, List, [], ◌∷◌, length, count_by, Option, Some, None, is_none, option_map, Result, Ok, Err, ok_or, codes, bytes_eq}
+use Rattle.std.specs.Prelude.{ℕ, ◌==◌, nat_le, max, Bool, true, false, not, ◌&&◌, ◌||◌, if◌then◌else◌, List, [], ◌∷◌, length, count_by, Option, Some, None, option_map, Result, Ok, Err, ok_or, codes, bytes_eq}
 use Rattle.std.specs.List.{list_any, list_all, find}
 use Rattle.std.specs.Char.{is_ascii_digit}
 use Rattle.std.specs.Str.Parse.{digits_value}
-use Rattle.chess_types.specs.declared.man.Colour.{Colour}
-use Rattle.chess_types.specs.declared.man.Colour.TheVariants.{White, Black}
-use Rattle.chess_types.specs.declared.man.Kind.{Kind}
-use Rattle.chess_types.specs.declared.man.Kind.TheVariants.{Pawn, Rook, King}
-use Rattle.chess_types.specs.declared.man.Man.{Man}
-use Rattle.chess_types.specs.declared.position.Rights.{Rights}
-use Rattle.chess_types.specs.declared.position.Wing.{Wing}
-use Rattle.chess_types.specs.declared.position.Wing.TheVariants.{KingSide, QueenSide}
-use Rattle.chess_types.specs.Squares.{rank_of, squares}
-use Rattle.chess_types.specs.Board.{Board, Look, man_at}
-use Rattle.chess_types.specs.Cells.{board_of}
-use Rattle.chess_types.specs.ManCode.{kind_number}
-use Rattle.chess_types.specs.Men.{same_colour, opponent, holds_pawn, men_of, kings_of}
-use Rattle.chess_types.specs.Attack.{in_check}
-use Rattle.chess_types.specs.Position.{State, king_home, rook_home}
-use Rattle.chess_types.specs.Texts.{square_text}
-use Rattle.chess_types.specs.Words.{words}
+use Rattle.std.specs.Str.{byte}
+use Rattle.chess_types.specs.declared.board.man.Colour.{Colour}
+use Rattle.chess_types.specs.declared.board.man.Colour.TheVariants.{White, Black}
+use Rattle.chess_types.specs.declared.board.man.Kind.TheVariants.{Rook, King}
+use Rattle.chess_types.specs.declared.board.position.Rights.{Rights}
+use Rattle.chess_types.specs.declared.board.position.Wing.{Wing}
+use Rattle.chess_types.specs.declared.board.position.Wing.TheVariants.{KingSide, QueenSide}
+use Rattle.chess_types.specs.board.Squares.{rank_of, squares}
+use Rattle.chess_types.specs.board.Board.{Board, Look, man_at}
+use Rattle.chess_types.specs.board.Cells.{board_of}
+use Rattle.chess_types.specs.board.Men.{is_man, opponent, holds_pawn, men_of, kings_of}
+use Rattle.chess_types.specs.board.Attack.{in_check}
+use Rattle.chess_types.specs.board.Position.{State, is_explained, king_home, rook_home}
+use Rattle.chess_types.specs.board.Texts.{square_text}
+use Rattle.chess_types.specs.bytes.Words.{words}
 use Rattle.chess_fen.specs.declared.fault.FenFault.{FenFault}
 use Rattle.chess_fen.specs.declared.fault.FenFault.TheVariants.{Fields, Placement, Kings, PawnRank, TooManyMen, Side, Castling, Target, Counter, InCheck}
 use Rattle.chess_fen.specs.Ranks.{board_cells}
@@ -68,7 +66,7 @@ fields_of _ = Err Fields
 
 -- the words that spaces part
 unfoldable pub fields_in : List ℕ → Result FieldTexts FenFault
-fields_in text = fields_of (words (32 ∷ []) text)
+fields_in text = fields_of (words (codes " ") text)
 
 abbrev pub has_one_king_each : Board → Bool
 has_one_king_each board = kings_of board White == 1 && kings_of board Black == 1
@@ -106,26 +104,21 @@ abbrev pub is_castling_letter : List ℕ → ℕ → Bool
 is_castling_letter field letter = has_letter (codes "KQkq") letter && count_by (λ l. l == letter) field == 1
 
 -- one letter of KQkq or more, none twice, in any order
-abbrev pub is_castling : List ℕ → Bool
-is_castling field = nat_le 1 (length field) && list_all (is_castling_letter field) field
+abbrev pub is_castling_field : List ℕ → Bool
+is_castling_field field = nat_le 1 (length field) && list_all (is_castling_letter field) field
 
 -- K, Q, k and q are 75, 81, 107 and 113; an upper-case letter is White's, K and k are of the king's wing
 abbrev pub rights_of : List ℕ → Rights
 rights_of field = record {
-  white_king = has_letter field 75;
-  white_queen = has_letter field 81;
-  black_king = has_letter field 107;
-  black_queen = has_letter field 113;
+  white_king = has_letter field (byte "K");
+  white_queen = has_letter field (byte "Q");
+  black_king = has_letter field (byte "k");
+  black_queen = has_letter field (byte "q");
 }
 
 unfoldable pub castling_in : List ℕ → Result Rights FenFault
 castling_in field =
-    if bytes_eq field (codes "-") then Ok no_rights else (if is_castling field then Ok (rights_of field) else Err Castling)
-
--- that man stands there
-abbrev pub is_man : Option Man → Colour → Kind → Bool
-is_man None _ _ = false
-is_man (Some man) colour kind = same_colour man.colour colour && kind_number man.kind == kind_number kind
+    if bytes_eq field (codes "-") then Ok no_rights else (if is_castling_field field then Ok (rights_of field) else Err Castling)
 
 -- the king and the rook to castle with stand where a game begins
 abbrev pub is_home : Look → Colour → Wing → Bool
@@ -145,12 +138,6 @@ square_in field = find (λ s. bytes_eq field (square_text s)) squares
 
 unfoldable pub target_in : List ℕ → Result (Option ℕ) FenFault
 target_in field = if bytes_eq field (codes "-") then Ok None else ok_or (option_map (λ s. Some s) (square_in field)) Target
-
--- With White to move the target is on rank 6, it and the square behind it are empty, and a black pawn stands on rank 5
--- before it; mirrored for Black.
-abbrev pub is_explained : Colour → Look → ℕ → Bool
-is_explained White look t = rank_of t == 5 && is_none (look t) && is_none (look (t + 8)) && is_man (look (t - 8)) Black Pawn
-is_explained Black look t = rank_of t == 2 && is_none (look t) && is_none (look (t - 8)) && is_man (look (t + 8)) White Pawn
 
 -- the target, where it is explained
 unfoldable pub kept_target : Colour → Look → Option ℕ → Option ℕ

@@ -7,13 +7,14 @@
 use Rattle.std.specs.Prelude.{ℕ, ◌+◌, ◌*◌, ◌==◌, Bool, if◌then◌else◌, List, [], ◌∷◌, ◌++◌, map, Option, Some, None, codes, decimal}
 use Rattle.std.specs.Char.{to_ascii_uppercase}
 use Rattle.std.specs.List.{range_with_len, join_with_byte}
-use Rattle.chess_types.specs.declared.man.Colour.{Colour}
-use Rattle.chess_types.specs.declared.man.Colour.TheVariants.{White, Black}
-use Rattle.chess_types.specs.declared.man.Man.{Man}
-use Rattle.chess_types.specs.declared.position.Rights.{Rights}
-use Rattle.chess_types.specs.Board.{Look}
-use Rattle.chess_types.specs.Position.{State, look}
-use Rattle.chess_types.specs.Texts.{kind_letter, square_text}
+use Rattle.std.specs.Str.{byte}
+use Rattle.chess_types.specs.declared.board.man.Colour.{Colour}
+use Rattle.chess_types.specs.declared.board.man.Colour.TheVariants.{White, Black}
+use Rattle.chess_types.specs.declared.board.man.Man.{Man}
+use Rattle.chess_types.specs.declared.board.position.Rights.{Rights}
+use Rattle.chess_types.specs.board.Board.{Look}
+use Rattle.chess_types.specs.board.Position.{State, look}
+use Rattle.chess_types.specs.board.Texts.{kind_letter, square_text}
 
 -- White's letters are upper-case, Black's lower-case.
 abbrev pub letter_in_case : Colour → ℕ → ℕ
@@ -25,7 +26,7 @@ letter_of man = letter_in_case man.colour (kind_letter man.kind)
 
 -- the digit of so many empty squares, up to eight; nothing for none
 abbrev pub run_text : ℕ → List ℕ
-run_text run = if run == 0 then [] else (48 + run) ∷ []
+run_text run = if run == 0 then [] else (byte "0" + run) ∷ []
 
 -- what stands on some squares, one behind the other, before the first of which stand so many empty ones
 abbrev pub cells_text : ℕ → List (Option Man) → List ℕ
@@ -42,7 +43,7 @@ rank_text look rank = cells_text 0 (map look (rank_squares rank))
 
 -- the ranks, parted by slashes
 unfoldable pub placement_text : Look → List ℕ
-placement_text look = join_with_byte 47 (map (rank_text look) (7 ∷ 6 ∷ 5 ∷ 4 ∷ 3 ∷ 2 ∷ 1 ∷ 0 ∷ []))
+placement_text look = join_with_byte (byte "/") (map (rank_text look) (7 ∷ 6 ∷ 5 ∷ 4 ∷ 3 ∷ 2 ∷ 1 ∷ 0 ∷ []))
 
 abbrev pub side_text : Colour → List ℕ
 side_text White = codes "w"
@@ -57,10 +58,11 @@ abbrev pub or_dash : List ℕ → List ℕ
 or_dash [] = codes "-"
 or_dash (letter ∷ letters) = letter ∷ letters
 
--- the letters of the rights held, in the order KQkq, which are 75, 81, 107 and 113
+-- the letters of the rights held, in the order KQkq
 unfoldable pub rights_text : Rights → List ℕ
 rights_text rights =
-    or_dash (right_text rights.white_king 75 ++ right_text rights.white_queen 81 ++ right_text rights.black_king 107 ++ right_text rights.black_queen 113)
+    or_dash (right_text rights.white_king (byte "K") ++ right_text rights.white_queen (byte "Q") ++ right_text rights.black_king (byte "k") ++
+    right_text rights.black_queen (byte "q"))
 
 unfoldable pub target_text : Option ℕ → List ℕ
 target_text None = codes "-"
@@ -68,4 +70,4 @@ target_text (Some square) = square_text square
 
 unfoldable pub written : State → List ℕ
 written p =
-    join_with_byte 32 (placement_text (look p) ∷ side_text p.side ∷ rights_text p.rights ∷ target_text p.target ∷ decimal p.clock ∷ decimal p.number ∷ [])
+    join_with_byte (byte " ") (placement_text (look p) ∷ side_text p.side ∷ rights_text p.rights ∷ target_text p.target ∷ decimal p.clock ∷ decimal p.number ∷ [])

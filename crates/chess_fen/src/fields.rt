@@ -1,5 +1,5 @@
 ghost use Rattle.std.specs.Prelude.{◌≡◌, ◌∷◌, [], IfOk, IfErr, OnErr};
-ghost use Rattle.chess_types.specs.Words.{words};
+ghost use Rattle.chess_types.specs.bytes.Words.{words};
 ghost use Rattle.chess_fen.specs.Reading.{counters_in, fields_in, side_in};
 
 use super::fault::FenFault;

@@ -1,8 +1,8 @@
 ghost use Rattle.std.specs.Prelude.{◌≡◌, count_by};
-ghost use Rattle.chess_types.specs.Board.{man_at};
-ghost use Rattle.chess_types.specs.Cells.{board_of};
-ghost use Rattle.chess_types.specs.Men.{is_king_of};
-ghost use Rattle.chess_fen.specs.Reading.{is_man, board_in, has_one_king_each, is_edge, has_pawn_on_edge, has_at_most_16_each};
+ghost use Rattle.chess_types.specs.board.Board.{man_at};
+ghost use Rattle.chess_types.specs.board.Cells.{board_of};
+ghost use Rattle.chess_types.specs.board.Men.{is_king_of, is_man};
+ghost use Rattle.chess_fen.specs.Reading.{board_in, has_one_king_each, is_edge, has_pawn_on_edge, has_at_most_16_each};
 
 use super::fault::FenFault;
 use super::ranks::read_cells;

@@ -1,5 +1,5 @@
 ghost use Rattle.std.specs.Prelude.{◌≡◌, ◌==◌, Some, option_map};
-ghost use Rattle.chess_fen.specs.Ranks.{kind_of_letter, colour_of_letter, man_of_letter, is_digit, starts_with_digit, has_adjacent_digits, cells_of_byte, joined, at_most, rank_cells, board_cells};
+ghost use Rattle.chess_fen.specs.Ranks.{kind_of_letter, colour_of_letter, man_of_letter, is_digit, starts_with_digit, has_adjacent_digits, cells_of_byte, both_cells, at_most, rank_cells, board_cells};
 
 use arrayvec::ArrayVec;
 use chess_types::{Colour, Kind, Man};
@@ -69,7 +69,7 @@ fn has_adjacent_digits(text: &[u8]) -> bool
 // Puts the squares that a byte stands for behind those that are there; `None` where there is no room, or none are meant.
 fn push_cells(cells: &mut ArrayVec<Option<Man>, 8>, byte: u8) -> Option<()>
     ensures { option_map (λ _. cells.new.items) result
-        ≡ at_most 8 (joined (Some cells.old.items) (cells_of_byte byte)) }
+        ≡ at_most 8 (both_cells (Some cells.old.items) (cells_of_byte byte)) }
 {
     if is_digit(byte) {
         let run = (byte - b'0') as usize;

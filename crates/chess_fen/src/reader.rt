@@ -1,5 +1,5 @@
 ghost use Rattle.std.specs.Prelude.{◌≡◌, ◌≤◌, IfOk};
-ghost use Rattle.chess_types.specs.Position.{IsWellFormed};
+ghost use Rattle.chess_types.specs.board.Position.{IsWellFormed};
 ghost use Rattle.chess_fen.specs.Reading.{reading};
 
 use super::counters::read_counter;

@@ -1,6 +1,6 @@
 ghost use Rattle.std.specs.Prelude.{◌≡◌, count_by, ◌==◌};
 ghost use Rattle.std.specs.List.{list_all};
-ghost use Rattle.chess_types.specs.Board.{man_at};
+ghost use Rattle.chess_types.specs.board.Board.{man_at};
 ghost use Rattle.chess_fen.specs.Reading.{has_letter, is_castling_letter, rights_of, castling_in, is_home, kept_rights};
 
 use super::fault::FenFault;

@@ -1,6 +1,7 @@
 ghost use Rattle.std.specs.Prelude.{◌≡◌};
-ghost use Rattle.chess_types.specs.Board.{man_at};
-ghost use Rattle.chess_fen.specs.Reading.{target_in, is_explained, kept_target};
+ghost use Rattle.chess_types.specs.board.Board.{man_at};
+ghost use Rattle.chess_types.specs.board.Position.{is_explained};
+ghost use Rattle.chess_fen.specs.Reading.{target_in, kept_target};
 
 use super::fault::FenFault;
 use super::men::is_man;

@@ -1,8 +1,8 @@
 ghost use Rattle.std.specs.Prelude.{◌≡◌, ◌≤◌, ◌<◌, ◌+◌, if◌then◌else◌, List, [], ◌∷◌, ◌++◌, Option, None, Ok, length, ℕ};
 ghost use Rattle.arrayvec.specs.ArrayString.{array_string_len};
-ghost use Rattle.chess_types.specs.declared.man.Man.{Man};
-ghost use Rattle.chess_types.specs.Board.{man_at};
-ghost use Rattle.chess_types.specs.Cells.{board_of};
+ghost use Rattle.chess_types.specs.declared.board.man.Man.{Man};
+ghost use Rattle.chess_types.specs.board.Board.{man_at};
+ghost use Rattle.chess_types.specs.board.Cells.{board_of};
 ghost use Rattle.chess_fen.specs.Reading.{reading};
 ghost use Rattle.chess_fen.specs.Writing.{letter_of, run_text, cells_text, placement_text, side_text, right_text, rights_text, target_text, written};
 

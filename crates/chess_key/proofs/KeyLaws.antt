@@ -3,11 +3,11 @@ use Rattle.std.proofs.Common.{◌≡◌, ◌≢◌, ℕ, ◌+◌, ◌-◌, ◌%�
 use Rattle.std.proofs.Math.Nat.{mod-add-mod, add-mod_right}
 use Rattle.std.specs.Ordering.{nat_cmp}
 use Rattle.std.specs.FinMap.{get, insert, remove, empty, get-empty}
-use Rattle.chess_types.specs.declared.man.Man.{Man}
-use Rattle.chess_types.specs.Board.{Board, Look, man_at}
-use Rattle.chess_types.specs.Squares.{squares}
+use Rattle.chess_types.specs.declared.board.man.Man.{Man}
+use Rattle.chess_types.specs.board.Board.{Board, Look, man_at}
+use Rattle.chess_types.specs.board.Squares.{squares}
 use Rattle.chess_types.proofs.BoardLaws.{boards}
-use Rattle.chess_key.specs.Keys.{word_of, word_there, word_on, key_of}
+use Rattle.chess_key.specs.Keys.{key_word, word_there, word_on, key_of}
 use Rattle.chess_key.proofs.Sums.{run, run-none, run-more, run-zero, run-one}
 
 -- the sum over the first squares
@@ -49,15 +49,15 @@ sum-one words before after at h rest =
 -- a man more
 pub key_of-put :
     (words : List ℕ) (board : Board) (at : ℕ) (man : Man) → at < 64 → get board at ≡ None →
-    (key_of words (man_at board) + word_of words man at) % 2 ^ 64 ≡ key_of words (man_at (insert board at man))
+    (key_of words (man_at board) + key_word words man at) % 2 ^ 64 ≡ key_of words (man_at (insert board at man))
 key_of-put words board at man h none =
     let change = sum-one words (man_at board) (man_at (insert board at man)) at h (λ t apart. grind (arith, boards)) in
     let was : word_on words (man_at board) at ≡ 0 = ap (λ there. word_there words there at) none in
     let here : get (insert board at man) at ≡ Some man = grind (arith, boards) in
-    let now : word_on words (man_at (insert board at man)) at ≡ word_of words man at = ap (λ there. word_there words there at) here in
-    let sum : sum_below words (man_at board) 64 + word_of words man at ≡ sum_below words (man_at (insert board at man)) 64 = omega (arith, change) in
+    let now : word_on words (man_at (insert board at man)) at ≡ key_word words man at = ap (λ there. word_there words there at) here in
+    let sum : sum_below words (man_at board) 64 + key_word words man at ≡ sum_below words (man_at (insert board at man)) 64 = omega (arith, change) in
     rw (key_is_sum words (man_at board), key_is_sum words (man_at (insert board at man)))
-    (mod-add-mod (sum_below words (man_at board) 64) (2 ^ 64) (word_of words man at) ∙ ap (λ x. x % 2 ^ 64) sum)
+    (mod-add-mod (sum_below words (man_at board) 64) (2 ^ 64) (key_word words man at) ∙ ap (λ x. x % 2 ^ 64) sum)
 
 -- a man fewer, or none where there is none
 pub key_of-clear :

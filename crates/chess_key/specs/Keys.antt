@@ -1,6 +1,6 @@
 -- The key of a board: the sum of one word for each man on its square, modulo 2^64. The 768 words are anyone's choice.
 --   place_of     which of the words is that of a man on a square
---   word_of      the word of a man on a square
+--   key_word      the word of a man on a square
 --   word_there   the word of what stands on a square
 --   word_on      the same, on a board
 --   key_of       the sum over the squares
@@ -8,23 +8,23 @@
 --   IsKeyOf      it is the key of the board
 -- Boards with the same men on the same squares have the same key; different boards may have the same key, too.
 use Rattle.std.specs.Prelude.{◌≡◌, ℕ, ◌+◌, ◌*◌, ◌%◌, ◌^◌, List, slice_index, Option, Some, None, sum_by}
-use Rattle.chess_types.specs.declared.man.Man.{Man}
-use Rattle.chess_types.specs.ManCode.{colour_number, kind_number}
-use Rattle.chess_types.specs.Board.{Board, Look, man_at}
-use Rattle.chess_types.specs.Squares.{squares}
+use Rattle.chess_types.specs.declared.board.man.Man.{Man}
+use Rattle.chess_types.specs.board.Men.{colour_number, kind_number}
+use Rattle.chess_types.specs.board.Board.{Board, Look, man_at}
+use Rattle.chess_types.specs.board.Squares.{squares}
 
 -- White's pawn on a1 to h8, then White's knight, bishop, rook, queen and king, then Black's men in that order
 abbrev pub place_of : Man → ℕ → ℕ
 place_of man square = 64 * (6 * colour_number man.colour + kind_number man.kind) + square
 
 -- the word of a man on a square
-abbrev pub word_of : List ℕ → Man → ℕ → ℕ
-word_of words man square = slice_index words (place_of man square)
+abbrev pub key_word : List ℕ → Man → ℕ → ℕ
+key_word words man square = slice_index words (place_of man square)
 
 -- nothing, where no man stands
 abbrev pub word_there : List ℕ → Option Man → ℕ → ℕ
 word_there words None square = 0
-word_there words (Some man) square = word_of words man square
+word_there words (Some man) square = key_word words man square
 
 -- the word of what the board has on the square
 abbrev pub word_on : List ℕ → Look → ℕ → ℕ

@@ -2,8 +2,8 @@ ghost use Rattle.std.specs.Prelude.{◌≡◌, ◌<◌, None, IsSome, IsTrue, na
 ghost use Rattle.std.proofs.Common.{rules};
 ghost use Rattle.std.specs.Cmp.Rules.{comparing};
 ghost use Rattle.std.specs.FinMap as map;
-ghost use Rattle.chess_types.specs.Board.{Board, man_at};
-ghost use Rattle.chess_types.specs.Men.{men_of};
+ghost use Rattle.chess_types.specs.board.Board.{Board, man_at};
+ghost use Rattle.chess_types.specs.board.Men.{men_of};
 ghost use Rattle.chess_key.specs.Keys.{word_on as word_on_of, key_of};
 
 use crate::table::KeyTable;

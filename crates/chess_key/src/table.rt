@@ -1,28 +1,8 @@
-ghost use Rattle.std.specs.Prelude.{◌≡◌, ◌+◌, ◌*◌, ◌<◌};
-ghost use Rattle.chess_types.specs.ManCode.{colour_number, kind_number};
-ghost use Rattle.chess_key.specs.Keys.{word_of};
+ghost use Rattle.std.specs.Prelude.{◌≡◌};
+ghost use Rattle.chess_key.specs.Keys.{key_word};
 
-use chess_types::{Colour, Kind, Man, Square};
+use chess_types::{Man, Square};
 use std::marker::Model;
-
-/// Which of the 12 men it is: 0 to 5 for White's pawn, knight, bishop, rook, queen and king, 6 to 11 for Black's.
-fn man_number(man: Man) -> usize
-    ensures value { result ≡ 6 * colour_number man.colour + kind_number man.kind }
-    ensures below { result < 12 }
-{
-    let kind = match man.kind {
-        Kind::Pawn => 0,
-        Kind::Knight => 1,
-        Kind::Bishop => 2,
-        Kind::Rook => 3,
-        Kind::Queen => 4,
-        Kind::King => 5,
-    };
-    match man.colour {
-        Colour::White => kind,
-        Colour::Black => 6 + kind,
-    }
-}
 
 /// A word for each of the 12 men on each of the 64 squares. Contracts see the list of the 768 words.
 #[derive(Drop)]
@@ -49,8 +29,8 @@ impl KeyTable {
 
     /// The word of the man on the square.
     pub(crate) fn word(&self, man: Man, square: Square) -> u64
-        ensures { result ≡ word_of self.now man square }
+        ensures { result ≡ key_word self.now man square }
     {
-        self.words[64 * man_number(man) + square.index()]
+        self.words[64 * man.number() + square.index()]
     }
 }

@@ -5,23 +5,23 @@ use Rattle.std.proofs.Common.{◌≡◌, ℕ, zero, suc, ◌+◌, ◌*◌, ◌<�
 use Rattle.std.specs.List.{range_with_len, list_all}
 use Rattle.std.proofs.lemmas.List.Sums.{length-filter, count_by-le-length}
 use Rattle.std.proofs.lemmas.Bool.{and_parts, or_cases, or_left, or_right, cases_Bool, true≢false, leb-true}
-use Rattle.chess_types.specs.declared.man.Colour.{Colour}
-use Rattle.chess_types.specs.declared.man.Colour.TheVariants.{White, Black}
-use Rattle.chess_types.specs.declared.man.Kind.{Kind}
-use Rattle.chess_types.specs.declared.man.Kind.TheVariants.{Pawn, Knight, Bishop, Rook, Queen, King}
-use Rattle.chess_types.specs.declared.man.Man.{Man}
-use Rattle.chess_types.specs.declared.position.Wing.TheVariants.{KingSide, QueenSide}
-use Rattle.chess_types.specs.Board.{Look}
-use Rattle.chess_types.specs.Squares.{squares}
-use Rattle.chess_types.specs.Men.{same_colour, is_of, census, men_of}
-use Rattle.chess_types.specs.Attack.{leaps, slides, slides_to, attacks_as, is_clear}
-use Rattle.chess_types.specs.MoveParts.{MoveParts}
-use Rattle.chess_types.specs.Position.{State, look, cell_of}
-use Rattle.chess_types.specs.Pseudo.{reached}
-use Rattle.chess_types.specs.Legal.{is_legal, moves_between, moves_from, legal_moves}
-use Rattle.chess_attack.proofs.Runs.{list_all_at}
-use Rattle.chess_attack.proofs.Counting.{bit, total, total-le, sum_by-range}
-use Rattle.chess_moves.specs.Targets.{move_to, is_forward, may_reach, may_go, promotes, promoted, promotions_between}
+use Rattle.chess_types.specs.declared.board.man.Colour.{Colour}
+use Rattle.chess_types.specs.declared.board.man.Colour.TheVariants.{White, Black}
+use Rattle.chess_types.specs.declared.board.man.Kind.{Kind}
+use Rattle.chess_types.specs.declared.board.man.Kind.TheVariants.{Pawn, Knight, Bishop, Rook, Queen, King}
+use Rattle.chess_types.specs.declared.board.man.Man.{Man}
+use Rattle.chess_types.specs.declared.board.position.Wing.TheVariants.{KingSide, QueenSide}
+use Rattle.chess_types.specs.board.Board.{Look}
+use Rattle.chess_types.specs.board.Squares.{squares}
+use Rattle.chess_types.specs.board.Men.{same_colour, is_of, count_squares, men_of}
+use Rattle.chess_types.specs.board.Attack.{leaps, slides, slides_to, attacks_as, is_clear}
+use Rattle.chess_types.specs.board.MoveParts.{MoveParts}
+use Rattle.chess_types.specs.board.Position.{State, look, cell_of}
+use Rattle.chess_types.specs.board.Pseudo.{reached}
+use Rattle.chess_types.specs.board.Legal.{is_legal, moves_between, moves_from, legal_moves}
+use Rattle.chess_types.proofs.Runs.{list_all_at}
+use Rattle.chess_types.proofs.Sums.{bit, total, total-le, sum_by-range}
+use Rattle.chess_moves.specs.steps.Targets.{move_to, is_forward, is_candidate, is_pseudo_target, promotes, promotion_kinds, promotions_between}
 use Rattle.chess_moves.proofs.Candidates.{go_reach, between_none, between_plain, between_promoted, from_other, own_cell}
 use Rattle.chess_moves.proofs.Pieces.{pieces, pieces_first, from_pieces, all_pieces}
 
@@ -73,8 +73,8 @@ more_reach false a' true c h e = or_left (a' || true) c (or_right a' true refl)
 more_reach false a' false c h e = or_right (a' || false) c e
 
 -- a man goes only where its shape allows
-reach_shape : (p : State) (kind : Kind) (a b : ℕ) → may_reach p kind a b ≡ true → shape kind p.side a b ≡ true
-unfolding may_reach shape
+reach_shape : (p : State) (kind : Kind) (a b : ℕ) → is_candidate p kind a b ≡ true → shape kind p.side a b ≡ true
+unfolding is_candidate shape
 reach_shape p Pawn a b h = more_reach _ _ (is_forward p.side 8 a b) (is_forward p.side 16 a b) (reach_is (record { colour = p.side; kind = Pawn }) (look p) a b) h
 reach_shape p Knight a b h = reach_is (record { colour = p.side; kind = Knight }) (look p) a b h
 reach_shape p Bishop a b h = reach_is (record { colour = p.side; kind = Bishop }) (look p) a b h
@@ -105,7 +105,7 @@ promotes_weight side Queen b h = absurd (true≢false (sym h))
 promotes_weight side King b h = absurd (true≢false (sym h))
 
 promotions_size : (a b : ℕ) → length (promotions_between a b) ≡ 4
-unfolding promoted
+unfolding promotion_kinds
 promotions_size a b = refl
 
 module _ (p : State) (kind : Kind) (a b : ℕ) (here : look p a ≡ cell_of p.side kind) where
@@ -122,7 +122,7 @@ module _ (p : State) (kind : Kind) (a b : ℕ) (here : look p a ≡ cell_of p.si
 
   between_few : length (filter (is_legal p) (moves_between a b)) ≤ weight kind * bit (shape kind p.side a b)
   between_few =
-      elim (cases_Bool (may_go p kind a b)) [
+      elim (cases_Bool (is_pseudo_target p kind a b)) [
         | inl go ↦
             let shaped : shape kind p.side a b ≡ true = reach_shape p kind a b (go_reach p kind a b go) in
             let whole : weight kind * bit (shape kind p.side a b) ≡ weight kind = ap (λ x. weight kind * bit x) shaped ∙ omega arith in
@@ -176,7 +176,7 @@ total_times f a zero = refl
 total_times f a (suc n) = omega (arith, total_times f (a + 1) n)
 
 men_total : (p : State) → men_of p.placement p.side ≡ total (λ a. bit (is_of p.side (look p a))) 0 64
-unfolding census squares
+unfolding count_squares squares
 men_total p = sum_by-range (λ s. bit (is_of p.side (look p s))) 0 64
 
 -- at most 432 legal moves

@@ -1,29 +1,28 @@
 -- Which moves of a man of the side to move are pseudo-legal, and which moves are not legal.
 use Rattle.std.proofs.Common.{◌≡◌, ℕ, zero, suc, drop, get_or, ◌+◌, ◌/◌, ◌<◌, ◌==◌, Bool, true, false, ◌&&◌, ◌||◌, [], ◌∷◌, filter, Option, Some, None, refl, sym, ap, ◌∙◌, arith, inl, inr}
 use Rattle.std.proofs.lemmas.Bool.{and_parts, cases_Bool, true≢false, or_cases, or_left, or_right, eqb-true, eq-eqb}
-use Rattle.chess_types.specs.declared.man.Colour.{Colour}
-use Rattle.chess_types.specs.declared.man.Colour.TheVariants.{White, Black}
-use Rattle.chess_types.specs.declared.man.Kind.{Kind}
-use Rattle.chess_types.specs.declared.man.Kind.TheVariants.{Pawn, Knight, Bishop, Rook, Queen, King}
-use Rattle.chess_types.specs.declared.man.Man.{Man}
-use Rattle.chess_types.specs.declared.position.Wing.TheVariants.{KingSide, QueenSide}
-use Rattle.chess_types.specs.Squares.{squares}
-use Rattle.chess_types.specs.Men.{same_colour, is_of}
-use Rattle.chess_types.specs.Attack.{leaps, attacks_as, slides_to, is_clear}
-use Rattle.chess_types.specs.MoveParts.{MoveParts}
-use Rattle.chess_types.specs.Texts.{names_promotion}
-use Rattle.chess_types.specs.Position.{State, look, cell_of}
-use Rattle.chess_types.specs.Pseudo.{is_ahead, reached, castles, goes, steps_one, steps_two, pawn_takes, moves_as, moves_man, is_pseudo}
-use Rattle.chess_types.specs.Legal.{is_legal, promotions, moves_between, moves_from}
-use Rattle.chess_attack.proofs.Amounts.{same_self}
+use Rattle.chess_types.specs.declared.board.man.Colour.{Colour}
+use Rattle.chess_types.specs.declared.board.man.Colour.TheVariants.{White, Black}
+use Rattle.chess_types.specs.declared.board.man.Kind.{Kind}
+use Rattle.chess_types.specs.declared.board.man.Kind.TheVariants.{Pawn, Knight, Bishop, Rook, Queen, King}
+use Rattle.chess_types.specs.declared.board.man.Man.{Man}
+use Rattle.chess_types.specs.declared.board.position.Wing.TheVariants.{KingSide, QueenSide}
+use Rattle.chess_types.specs.board.Squares.{squares}
+use Rattle.chess_types.specs.board.Men.{same_colour, is_of}
+use Rattle.chess_types.specs.board.Attack.{leaps, attacks_as, slides_to, is_clear}
+use Rattle.chess_types.specs.board.MoveParts.{MoveParts}
+use Rattle.chess_types.specs.board.Texts.{names_promotion}
+use Rattle.chess_types.specs.board.Position.{State, look, cell_of}
+use Rattle.chess_types.specs.board.Pseudo.{is_ahead, reached, castles, moves_as_it_attacks, steps_one, steps_two, pawn_takes, moves_as, moves_man, is_pseudo}
+use Rattle.chess_types.specs.board.Legal.{is_legal, promotions, moves_between, moves_from}
+use Rattle.chess_types.proofs.SameLemmas.{same_self, same_is, none_is}
 use Rattle.chess_play.proofs.CastlingSquares.{castling_parts}
-use Rattle.chess_play.proofs.Pawns.{same_is, none_is}
-use Rattle.chess_moves.specs.Targets.{move_to, is_forward, attacks_from, may_reach, may_go, promotes, names_well, promoted, promotions_between}
+use Rattle.chess_moves.specs.steps.Targets.{move_to, is_forward, attacks_from, is_candidate, is_pseudo_target, promotes, promotion_fits, promotion_kinds, promotions_between}
 use Rattle.chess_moves.proofs.Pieces.{Splits, pieces_none, from_pieces}
 
 -- a man of the side moves so where it goes so, and the move names what fits
-moves_as_is : (p : State) (kind : Kind) (m : MoveParts) → moves_as p kind m ≡ (may_go p kind m.from m.to && names_well p.side kind m)
-unfolding moves_as may_go
+moves_as_is : (p : State) (kind : Kind) (m : MoveParts) → moves_as p kind m ≡ (is_pseudo_target p kind m.from m.to && promotion_fits p.side kind m)
+unfolding moves_as is_pseudo_target
 moves_as_is p Pawn m = refl
 moves_as_is p Knight m = refl
 moves_as_is p Bishop m = refl
@@ -32,14 +31,14 @@ moves_as_is p Queen m = refl
 moves_as_is p King m = refl
 
 -- so its moves are pseudo-legal
-pub pseudo_is : (p : State) (kind : Kind) (m : MoveParts) → look p m.from ≡ cell_of p.side kind → is_pseudo p m ≡ (may_go p kind m.from m.to && names_well p.side kind m)
+pub pseudo_is : (p : State) (kind : Kind) (m : MoveParts) → look p m.from ≡ cell_of p.side kind → is_pseudo p m ≡ (is_pseudo_target p kind m.from m.to && promotion_fits p.side kind m)
 pseudo_is p kind m here = rw (here, same_self p.side) (moves_as_is p kind m)
 
 single : (c : Colour) (a b : ℕ) → is_ahead c a b ≡ true → is_forward c 8 a b ≡ true
 single White a b h = h
 single Black a b h = h
 
-named_kind : (side : Colour) (kind : Kind) (m : MoveParts) → names_well side kind m ≡ true → names_promotion m.promo ≡ true
+named_kind : (side : Colour) (kind : Kind) (m : MoveParts) → promotion_fits side kind m ≡ true → names_promotion m.promo ≡ true
 named_kind side kind m h =
     elim (cases_Bool (promotes side kind m.to)) [
       | inl last ↦ (and_parts _ _ (rw last at h)).1
@@ -63,8 +62,8 @@ unfolding attacks_as
 pawn_attacks p a b h = or_left _ (slides_to Pawn a b && is_clear (look p) a b) h
 
 -- a man goes only where it might
-pub go_reach : (p : State) (kind : Kind) (a b : ℕ) → may_go p kind a b ≡ true → may_reach p kind a b ≡ true
-unfolding may_go may_reach
+pub go_reach : (p : State) (kind : Kind) (a b : ℕ) → is_pseudo_target p kind a b ≡ true → is_candidate p kind a b ≡ true
+unfolding is_pseudo_target is_candidate
 go_reach p Pawn a b h =
     elim (or_cases (steps_one p (move_to a b None) || steps_two p (move_to a b None)) (pawn_takes p (move_to a b None)) h) [
       | inl s ↦ elim (or_cases (steps_one p (move_to a b None)) (steps_two p (move_to a b None)) s) [
@@ -83,8 +82,8 @@ go_reach p Bishop a b h = (and_parts _ _ h).0
 go_reach p Rook a b h = (and_parts _ _ h).0
 go_reach p Queen a b h = (and_parts _ _ h).0
 go_reach p King a b h =
-    elim (or_cases (goes p King (move_to a b None) || castles p KingSide (move_to a b None)) (castles p QueenSide (move_to a b None)) h) [
-      | inl s ↦ or_left _ (reached p.side QueenSide == b) (elim (or_cases (goes p King (move_to a b None)) (castles p KingSide (move_to a b None)) s) [
+    elim (or_cases (moves_as_it_attacks p King (move_to a b None) || castles p KingSide (move_to a b None)) (castles p QueenSide (move_to a b None)) h) [
+      | inl s ↦ or_left _ (reached p.side QueenSide == b) (elim (or_cases (moves_as_it_attacks p King (move_to a b None)) (castles p KingSide (move_to a b None)) s) [
         | inl x ↦ or_left _ (reached p.side KingSide == b) (and_parts _ _ x).0
         | inr x ↦ or_right (attacks_from p King a b) _ (eq-eqb (reached p.side KingSide) b (sym (castling_parts p KingSide (move_to a b None) x).to))
       ])
@@ -112,29 +111,16 @@ plain_of test a b none = rw (none Queen, none Rook, none Bishop, none Knight) re
 
 -- where only those that name a kind may pass
 promoted_of : (test : MoveParts → Bool) (a b : ℕ) → test (move_to a b None) ≡ false → filter test (moves_between a b) ≡ filter test (promotions_between a b)
-unfolding promotions promoted
+unfolding promotions promotion_kinds
 promoted_of test a b none = rw none refl
 
 module _ (p : State) (kind : Kind) (a b : ℕ) (here : look p a ≡ cell_of p.side kind) where
-  -- where the man goes, its move that names what fits is pseudo-legal
-  named_pseudo : (promo : Option Kind) → may_go p kind a b ≡ true → names_well p.side kind (move_to a b promo) ≡ true → is_pseudo p (move_to a b promo) ≡ true
-  named_pseudo promo go named = pseudo_is p kind (move_to a b promo) here ∙ rw (go, named) refl
-
-  -- so is each promotion on the last rank
-  pub promoted_pseudo : may_go p kind a b ≡ true → promotes p.side kind b ≡ true → (other : Kind) → names_promotion (Some other) ≡ true →
-      is_pseudo p (move_to a b (Some other)) ≡ true
-  promoted_pseudo go last other named = named_pseudo (Some other) go (rw last named)
-
-  -- and elsewhere the move that names nothing
-  pub plain_pseudo : may_go p kind a b ≡ true → promotes p.side kind b ≡ false → is_pseudo p (move_to a b None) ≡ true
-  plain_pseudo go stays = named_pseudo None go (rw stays refl)
-
   -- and a move that names what doesn't fit is not legal
-  misnamed : (promo : Option Kind) → names_well p.side kind (move_to a b promo) ≡ false → is_legal p (move_to a b promo) ≡ false
-  misnamed promo named = not_pseudo p _ (pseudo_is p kind (move_to a b promo) here ∙ rw named (never_and (may_go p kind a b)))
+  misnamed : (promo : Option Kind) → promotion_fits p.side kind (move_to a b promo) ≡ false → is_legal p (move_to a b promo) ≡ false
+  misnamed promo named = not_pseudo p _ (pseudo_is p kind (move_to a b promo) here ∙ rw named (never_and (is_pseudo_target p kind a b)))
 
   -- where the man doesn't go, no move is legal
-  pub between_none : may_go p kind a b ≡ false → filter (is_legal p) (moves_between a b) ≡ []
+  pub between_none : is_pseudo_target p kind a b ≡ false → filter (is_legal p) (moves_between a b) ≡ []
   between_none stay = none_of (is_legal p) a b (λ promo. not_pseudo p _ (pseudo_is p kind (move_to a b promo) here ∙ rw stay refl))
 
   -- where it doesn't promote, at most the move that names nothing
@@ -162,7 +148,7 @@ own_cell side man own = ap (λ c. cell_of c man.kind) (same_is man.colour side o
 -- the next of the promotions
 pub promotions_next : (a b i : ℕ) → i < 4 →
     Splits (drop i (promotions_between a b)) (move_to a b (Some (get_or (Queen ∷ Rook ∷ Bishop ∷ Knight ∷ []) i Pawn)) ∷ []) (drop (i + 1) (promotions_between a b))
-unfolding promoted
+unfolding promotion_kinds
 promotions_next a b zero h = record { is = refl }
 promotions_next a b (suc zero) h = record { is = refl }
 promotions_next a b (suc (suc zero)) h = record { is = refl }
@@ -170,5 +156,5 @@ promotions_next a b (suc (suc (suc zero))) h = record { is = refl }
 promotions_next a b (suc (suc (suc (suc i)))) h = absurd (omega arith)
 
 pub promotions_end : (a b i : ℕ) → i ≡ 4 → drop i (promotions_between a b) ≡ []
-unfolding promoted
+unfolding promotion_kinds
 promotions_end a b i e = rw e refl

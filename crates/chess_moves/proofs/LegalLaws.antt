@@ -3,25 +3,19 @@ use Rattle.std.proofs.Common.{◌≡◌, ◌<◌, true, Option, Some, refl, ap, 
 use Rattle.std.specs.List.{All, AllPass, Contains}
 use Rattle.std.proofs.lemmas.List.Elements.{filter_passes, All-filter, All-contains}
 use Rattle.std.proofs.lemmas.Bool.{and_parts, not-true}
-use Rattle.chess_types.specs.declared.man.Colour.{Colour}
-use Rattle.chess_types.specs.declared.man.Colour.TheVariants.{White, Black}
-use Rattle.chess_types.specs.declared.man.Man.{Man}
-use Rattle.chess_types.specs.Men.{opponent}
-use Rattle.chess_types.specs.Attack.{in_check}
-use Rattle.chess_types.specs.MoveParts.{MoveParts}
-use Rattle.chess_types.specs.Position.{State, IsSetup, IsQuiet, IsWellFormed, look}
-use Rattle.chess_types.specs.Pseudo.{is_pseudo}
-use Rattle.chess_types.specs.After.{after, after_by}
-use Rattle.chess_types.specs.Legal.{is_legal, all_moves, legal_moves}
+use Rattle.chess_types.specs.declared.board.man.Colour.{Colour}
+use Rattle.chess_types.specs.declared.board.man.Colour.TheVariants.{White, Black}
+use Rattle.chess_types.specs.declared.board.man.Man.{Man}
+use Rattle.chess_types.specs.board.Men.{opponent}
+use Rattle.chess_types.specs.board.Attack.{in_check}
+use Rattle.chess_types.specs.board.MoveParts.{MoveParts}
+use Rattle.chess_types.specs.board.Position.{State, IsSetup, IsQuiet, IsWellFormed, look}
+use Rattle.chess_types.specs.board.After.{after, after_by}
+use Rattle.chess_types.specs.board.Legal.{is_legal, all_moves, legal_moves}
 use Rattle.chess_types.proofs.AllMoves.{IsMove, all_on_board, passing_listed}
-use Rattle.chess_play.proofs.Facts.{pseudo_man}
+use Rattle.chess_types.proofs.MoveLemmas.{pseudo_man, legal_pseudo}
 use Rattle.chess_play.proofs.Setups.{setup_after_move}
 use Rattle.chess_moves.proofs.Candidates.{pseudo_names}
-
--- a legal move is pseudo-legal
-pub legal_pseudo : (p : State) (m : MoveParts) → is_legal p m ≡ true → is_pseudo p m ≡ true
-unfolding is_legal
-legal_pseudo p m h = (and_parts _ _ h).0
 
 twice : (c : Colour) → opponent (opponent c) ≡ c
 twice White = refl

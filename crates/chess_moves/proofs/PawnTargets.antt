@@ -6,16 +6,16 @@ use Rattle.std.proofs.Math.Bool.{and-false}
 use Rattle.std.specs.Ordering.{nat_cmp}
 use Rattle.std.specs.FinSet.{FinSet, contains, difference, intersection, contains-difference, contains-intersection}
 use Rattle.std.proofs.lemmas.Cmp.{nat_cmp_total}
-use Rattle.chess_types.specs.declared.man.Colour.{Colour}
-use Rattle.chess_types.specs.declared.man.Colour.TheVariants.{White, Black}
-use Rattle.chess_types.specs.declared.man.Man.{Man}
-use Rattle.chess_types.specs.Squares.{rank_of}
-use Rattle.chess_types.specs.KeptSets.{Gathers}
-use Rattle.chess_types.specs.Men.{same_colour, opponent, is_of, is_king, is_king_of}
-use Rattle.chess_types.specs.Position.{State, look}
-use Rattle.chess_types.specs.Pseudo.{is_ahead, is_prey, may_enter, pawn_rank, steps_one, steps_two}
-use Rattle.chess_attack.proofs.Runs.{same_test}
-use Rattle.chess_moves.specs.Targets.{move_to}
+use Rattle.chess_types.specs.declared.board.man.Colour.{Colour}
+use Rattle.chess_types.specs.declared.board.man.Colour.TheVariants.{White, Black}
+use Rattle.chess_types.specs.declared.board.man.Man.{Man}
+use Rattle.chess_types.specs.board.Squares.{rank_of}
+use Rattle.chess_types.specs.steps.KeptSets.{Gathers}
+use Rattle.chess_types.specs.board.Men.{same_colour, opponent, is_of, is_king, is_king_of}
+use Rattle.chess_types.specs.board.Position.{State, look}
+use Rattle.chess_types.specs.board.Pseudo.{is_ahead, is_capturable, may_enter, pawn_rank, steps_one, steps_two}
+use Rattle.chess_types.proofs.Runs.{same_test}
+use Rattle.chess_moves.specs.steps.Targets.{move_to}
 
 -- who may be captured, and where a man may come, by colours and kings
 prey_of : (c side : Colour) (kingly : Bool) → (same_colour c (opponent side) && not (same_colour c (opponent side) && kingly)) ≡ (not (same_colour c side) && not kingly)
@@ -24,7 +24,7 @@ prey_of White Black kingly = refl
 prey_of Black White kingly = refl
 prey_of Black Black kingly = refl
 
-pub prey_is : (side : Colour) (there : Option Man) → (is_of (opponent side) there && not (is_king_of (opponent side) there)) ≡ is_prey side there
+pub prey_is : (side : Colour) (there : Option Man) → (is_of (opponent side) there && not (is_king_of (opponent side) there)) ≡ is_capturable side there
 prey_is side None = refl
 prey_is side (Some man) = prey_of man.colour side (is_king man.kind)
 
@@ -58,7 +58,7 @@ enter_set p attacked other all own kings to is ht of_all of_own of_kings =
 pub prey_set :
     (p : State) (aside : ℕ → Bool) (other : Colour) (all men kings : FinSet nat_cmp) (to : ℕ) → other ≡ opponent p.side → to < 64 →
     contains all to ≡ (ltb to 64 && aside to) → Gathers men (is_of other) (look p) → Gathers kings (is_king_of other) (look p) →
-    contains (difference (intersection all men) kings) to ≡ (aside to && is_prey p.side (look p to))
+    contains (difference (intersection all men) kings) to ≡ (aside to && is_capturable p.side (look p to))
 prey_set p aside other all men kings to is ht of_all of_men of_kings =
     contains-difference nat_cmp_total (intersection all men) kings to
     ∙ ap (λ b. b && not (contains kings to)) (contains-intersection nat_cmp_total all men to)

@@ -1,33 +1,17 @@
 -- Moves in pieces, one for each square, and a list to which they are added piece by piece.
 --   pieces     what passes, of the pieces of some numbers
 --   rest_from  the squares that are still to come, from the n-th on
-use Rattle.std.proofs.Common.{◌≡◌, ℕ, zero, suc, ◌+◌, ◌-◌, ◌<◌, ◌≤◌, Bool, false, List, [], ◌∷◌, ◌++◌, length, filter, refl, sym, ap, ◌∙◌, arith, append_assoc, append-nil, length-append, inl, inr}
+use Rattle.std.proofs.Common.{◌≡◌, ℕ, zero, suc, ◌+◌, ◌<◌, ◌≤◌, Bool, false, List, [], ◌∷◌, ◌++◌, length, filter, refl, sym, ap, ◌∙◌, arith, append_assoc, append-nil, length-append, inl, inr}
 use Rattle.std.specs.List.{range_with_len, flat_map}
 use Rattle.std.proofs.lemmas.List.Elements.{filter-append}
 use Rattle.std.proofs.lemmas.Bool.{cases_Bool}
-use Rattle.chess_types.specs.MoveParts.{MoveParts}
-use Rattle.chess_types.specs.Squares.{squares}
-use Rattle.chess_types.specs.Position.{State}
-use Rattle.chess_types.specs.Legal.{is_legal, moves_between, moves_from, all_moves}
+use Rattle.chess_types.specs.board.MoveParts.{MoveParts}
+use Rattle.chess_types.specs.board.Squares.{squares}
+use Rattle.chess_types.specs.board.Position.{State}
+use Rattle.chess_types.specs.board.Legal.{is_legal, moves_between, moves_from, all_moves}
 
 abbrev pub pieces : (MoveParts → Bool) → (ℕ → List MoveParts) → List ℕ → List MoveParts
 pieces test f xs = filter test (flat_map f xs)
-
-unfoldable pub rest_from : ℕ → List ℕ
-rest_from n = range_with_len n (64 - n)
-
-rest_is : (n k : ℕ) → 64 - n ≡ suc k → range_with_len n (64 - n) ≡ n ∷ range_with_len (n + 1) k
-rest_is n k e = ap (range_with_len n) e
-
--- the first of them
-pub rest_first : (n : ℕ) → n < 64 → rest_from n ≡ n ∷ rest_from (n + 1)
-unfolding rest_from
-rest_first n h = rest_is n (64 - (n + 1)) (omega arith)
-
--- after the last, none
-pub rest_end : (n : ℕ) → n ≡ 64 → rest_from n ≡ []
-unfolding rest_from
-rest_end n e = rw e refl
 
 -- the moves of one origin, by target
 pub from_pieces : (test : MoveParts → Bool) (a : ℕ) → filter test (moves_from a) ≡ pieces test (moves_between a) squares
@@ -85,11 +69,6 @@ splits_legal {p} {now} {whole} {part} {more} same splits =
     ap (filter (is_legal p)) splits.is
     ∙ filter-append (is_legal p) part more
     ∙ ap (λ (x : State). filter (is_legal x) part ++ filter (is_legal p) more) (sym same)
-
--- at first nothing is listed, and all squares are still to come
-pub listed_begin : (p : State) {list : List MoveParts} → list ≡ [] → Listed p [] list all_moves (flat_map moves_from (rest_from 0))
-unfolding rest_from all_moves squares
-listed_begin p none = record { is = ap (λ (xs : List MoveParts). xs ++ filter (is_legal p) (flat_map moves_from (range_with_len 0 64))) none }
 
 -- so it is when the next part has been added; the position is known under two names
 pub listed_next : {p now : State} {old list new all rest part more : List MoveParts} → now ≡ p → Listed p old list all rest → Splits rest part more →

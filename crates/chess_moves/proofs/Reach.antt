@@ -4,17 +4,17 @@ use Rattle.std.specs.List.{list_all, flat_map, range_with_len}
 use Rattle.std.proofs.lemmas.Bool.{cases_Bool}
 use Rattle.std.specs.FinSet.{FinSet, contains}
 use Rattle.std.specs.Ordering.{nat_cmp}
-use Rattle.chess_types.specs.declared.man.Kind.{Kind}
-use Rattle.chess_types.specs.KeptSets.{Gathers}
-use Rattle.chess_types.specs.Men.{is_of}
-use Rattle.chess_types.specs.Position.{State, IsSetup, look, cell_of}
-use Rattle.chess_types.specs.Squares.{squares}
-use Rattle.chess_types.specs.Legal.{is_legal, moves_between, moves_from, all_moves}
-use Rattle.chess_types.specs.MoveParts.{MoveParts}
+use Rattle.chess_types.specs.declared.board.man.Kind.{Kind}
+use Rattle.chess_types.specs.steps.KeptSets.{Gathers}
+use Rattle.chess_types.specs.board.Men.{is_of}
+use Rattle.chess_types.specs.board.Position.{State, IsSetup, look, cell_of}
+use Rattle.chess_types.specs.board.Squares.{squares}
+use Rattle.chess_types.specs.board.Legal.{is_legal, moves_between, moves_from, all_moves}
+use Rattle.chess_types.specs.board.MoveParts.{MoveParts}
 use Rattle.chess_attack.proofs.Lifted.{OnlyKing}
-use Rattle.chess_moves.specs.Targets.{lands}
+use Rattle.chess_moves.specs.steps.Targets.{is_legal_target}
 use Rattle.chess_moves.proofs.Candidates.{from_other}
-use Rattle.chess_moves.proofs.Lands.{lands_none}
+use Rattle.chess_moves.proofs.LegalTargets.{lands_none}
 use Rattle.chess_moves.proofs.Pieces.{Listed, pieces_kept}
 
 all_in : (test keep : ℕ → Bool) (a n : ℕ) → ((x : ℕ) → x < a + n → keep x ≡ true → test x ≡ true) → list_all test (filter keep (range_with_len a n)) ≡ true
@@ -24,12 +24,12 @@ all_in test keep a (suc n) h =
     elim (cases_Bool (keep a)) [ inl kept ↦ rw (kept, h a (omega arith) kept) rest | inr out ↦ rw out rest ]
 
 module _ (p : State) (setup : IsSetup p) (kind : Kind) (from k : ℕ) (hf : from < 64) (here : look p from ≡ cell_of p.side kind)
-    (king : OnlyKing (look p) p.side k) (set : FinSet nat_cmp) (has : (to : ℕ) → to < 64 → contains set to ≡ lands p kind from to) where
+    (king : OnlyKing (look p) p.side k) (set : FinSet nat_cmp) (has : (to : ℕ) → to < 64 → contains set to ≡ is_legal_target p kind from to) where
   module _ (xs : List ℕ) (xs_is : xs ≡ filter (contains set) squares) where
     -- the man's move to each square of the set is legal
-    pub lands_each : list_all (lands p kind from) xs ≡ true
+    pub lands_each : list_all (is_legal_target p kind from) xs ≡ true
     unfolding squares
-    lands_each = ap (list_all (lands p kind from)) xs_is ∙ all_in (lands p kind from) (contains set) 0 64 (λ to within in_set. sym (has to (omega arith)) ∙ in_set)
+    lands_each = ap (list_all (is_legal_target p kind from)) xs_is ∙ all_in (is_legal_target p kind from) (contains set) 0 64 (λ to within in_set. sym (has to (omega arith)) ∙ in_set)
 
     -- and his legal moves are those to the squares of the set, which are all still to come
     pub lands_listed : (old : List MoveParts) → Listed p old old (moves_from from) (flat_map (moves_between from) xs)

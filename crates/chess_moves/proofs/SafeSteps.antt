@@ -1,22 +1,14 @@
 -- A set gone through, and those of its squares kept that pass a test.
-use Rattle.std.proofs.Common.{◌≡◌, ℕ, ◌<◌, ◌==◌, Bool, true, false, ◌&&◌, ◌||◌, cond, List, ◌∷◌, length, filter, get_or, nat_eq, refl, sym, ap, ◌∙◌, zero-add, arith}
-use Rattle.std.specs.List.{list_any, range_with_len}
+use Rattle.std.proofs.Common.{◌≡◌, ℕ, ◌<◌, ◌==◌, Bool, true, false, ◌&&◌, ◌||◌, cond, List, ◌∷◌, filter, nat_eq, refl, sym, ap, ◌∙◌}
+use Rattle.std.specs.List.{list_any}
 use Rattle.std.specs.Ordering.{nat_cmp}
 use Rattle.std.specs.FinSet.{FinSet, contains, insert}
 use Rattle.std.proofs.Math.Bool.{and-true}
-use Rattle.std.proofs.lemmas.Bool.{eqb-true, eq-eqb}
-use Rattle.std.proofs.lemmas.List.Folds.{list_any_at}
-use Rattle.std.proofs.lemmas.List.FromFn.{length-range_with_len, get_or-range_with_len}
+use Rattle.std.proofs.lemmas.Bool.{eqb-true}
 use Rattle.std.proofs.lemmas.Map.Views.{any-filter_same}
-use Rattle.chess_types.specs.Squares.{squares}
-use Rattle.chess_moves.proofs.Lands.{inserted_if}
-
-squares-holds : (i : ℕ) → i < 64 → list_any (λ y. nat_eq y i) squares ≡ true
-unfolding squares
-squares-holds i h =
-    let within : i < length (range_with_len 0 64) = omega (arith, length-range_with_len 0 64) in
-    let here : get_or (range_with_len 0 64) i 0 ≡ i = get_or-range_with_len 0 64 i 0 h ∙ zero-add i in
-    list_any_at (λ y. nat_eq y i) (range_with_len 0 64) i 0 within (eq-eqb _ i here)
+use Rattle.chess_types.specs.board.Squares.{squares}
+use Rattle.chess_types.specs.steps.SetWords.{squares-holds}
+use Rattle.chess_moves.proofs.LegalTargets.{inserted_if}
 
 -- what a set's squares have is what it holds
 pub listed_in : (set : FinSet nat_cmp) (i : ℕ) → i < 64 → list_any (λ y. y == i) (filter (contains set) squares) ≡ contains set i

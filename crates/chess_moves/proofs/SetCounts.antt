@@ -8,18 +8,18 @@ use Rattle.std.proofs.Math.Bool.{and-false}
 use Rattle.std.proofs.lemmas.Cmp.{nat_cmp_total}
 use Rattle.std.proofs.lemmas.Bool.{cases_Bool, lt-ltb}
 use Rattle.std.proofs.lemmas.Bool.Decides.{nat_tests}
-use Rattle.chess_types.specs.declared.man.Kind.{Kind}
-use Rattle.chess_types.specs.Men.{is_pawn}
-use Rattle.chess_types.specs.Position.{State, IsSetup, look, cell_of}
-use Rattle.chess_types.specs.Pseudo.{last_rank}
-use Rattle.chess_types.specs.Squares.{rank_of, squares}
-use Rattle.chess_types.specs.Legal.{is_legal, moves_between, moves_from}
-use Rattle.chess_types.specs.Outcome.{is_without}
-use Rattle.chess_types.specs.MoveParts.{MoveParts}
-use Rattle.chess_attack.proofs.Counting.{bit, total, total-agree, total-zero, sum_by-range}
+use Rattle.chess_types.specs.declared.board.man.Kind.{Kind}
+use Rattle.chess_types.specs.board.Men.{is_pawn}
+use Rattle.chess_types.specs.board.Position.{State, IsSetup, look, cell_of}
+use Rattle.chess_types.specs.board.Pseudo.{last_rank}
+use Rattle.chess_types.specs.board.Squares.{rank_of, squares}
+use Rattle.chess_types.specs.board.Legal.{is_legal, moves_between, moves_from}
+use Rattle.chess_types.specs.board.Outcome.{is_without}
+use Rattle.chess_types.specs.board.MoveParts.{MoveParts}
+use Rattle.chess_types.proofs.Sums.{bit, total, total-agree, total-zero, sum_by-range}
 use Rattle.chess_attack.proofs.Lifted.{OnlyKing}
-use Rattle.chess_moves.specs.Targets.{lands, promotes, promoted, moves_named}
-use Rattle.chess_moves.proofs.Lands.{lands_all, lands_none}
+use Rattle.chess_moves.specs.steps.Targets.{is_legal_target, promotes, promotion_kinds, moves_named}
+use Rattle.chess_moves.proofs.LegalTargets.{lands_all, lands_none}
 use Rattle.chess_moves.proofs.Pieces.{pieces, pieces_first, from_pieces}
 
 pieces_total :
@@ -40,7 +40,7 @@ total_three f g a zero = refl
 total_three f g a (suc n) = omega (arith, total_three f g (a + 1) n)
 
 named_length : (p : State) (kind : Kind) (a b : ℕ) → length (moves_named p.side kind a b) ≡ 1 + 3 * bit (promotes p.side kind b)
-unfolding promoted
+unfolding promotion_kinds
 named_length p kind a b =
     elim (cases_Bool (promotes p.side kind b)) [
       | inl last ↦ rw last refl
@@ -53,7 +53,7 @@ unfolding squares
 counted_total set n is = is ∙ sum_by-range (λ s. bit (contains set s)) 0 64
 
 module _ (p : State) (setup : IsSetup p) (kind : Kind) (from k : ℕ) (hf : from < 64) (here : look p from ≡ cell_of p.side kind)
-    (king : OnlyKing (look p) p.side k) (set : FinSet nat_cmp) (has : (to : ℕ) → to < 64 → contains set to ≡ lands p kind from to) where
+    (king : OnlyKing (look p) p.side k) (set : FinSet nat_cmp) (has : (to : ℕ) → to < 64 → contains set to ≡ is_legal_target p kind from to) where
   between_count : (to : ℕ) → to < 64 → length (filter (is_legal p) (moves_between from to)) ≡ bit (contains set to) + 3 * bit (contains set to && promotes p.side kind to)
   between_count to ht =
       elim (cases_Bool (contains set to)) [

@@ -1,6 +1,6 @@
 ghost use Rattle.std.specs.Prelude.{◌≡◌};
-ghost use Rattle.chess_types.specs.Attack.{in_check as in_check_of};
-ghost use Rattle.chess_types.specs.Position.{look};
+ghost use Rattle.chess_types.specs.board.Attack.{in_check as in_check_of};
+ghost use Rattle.chess_types.specs.board.Position.{look};
 
 use chess_attack::in_check_by;
 use chess_play::Live;

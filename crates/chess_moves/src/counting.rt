@@ -1,11 +1,11 @@
-ghost use Rattle.std.specs.Prelude.{◌≡◌, ◌+◌, ◌<◌, ◌≤◌, ◌&&◌, ◌==◌, ℕ, true, filter, length, nat_lt};
+ghost use Rattle.std.specs.Prelude.{◌≡◌, ◌+◌, ◌≤◌, ◌&&◌, ◌==◌, ℕ, true, filter, length, nat_lt};
 ghost use Rattle.std.specs.FinSet.{contains};
-ghost use Rattle.chess_types.specs.Squares.{rank_of};
-ghost use Rattle.chess_types.specs.Men.{is_of};
-ghost use Rattle.chess_types.specs.Position.{look, cell_of};
-ghost use Rattle.chess_types.specs.Pseudo.{last_rank};
-ghost use Rattle.chess_types.specs.Legal.{is_legal, legal_moves, moves_from};
-ghost use Rattle.chess_moves.specs.Guarded.{IsGuard};
+ghost use Rattle.chess_types.specs.board.Squares.{rank_of};
+ghost use Rattle.chess_types.specs.board.Men.{is_of};
+ghost use Rattle.chess_types.specs.board.Position.{look, cell_of};
+ghost use Rattle.chess_types.specs.board.Pseudo.{last_rank};
+ghost use Rattle.chess_types.specs.board.Legal.{is_legal, legal_moves, moves_from};
+ghost use Rattle.chess_moves.specs.steps.Guarded.{IsGuard};
 
 use crate::guard::{Guard, guard_of};
 use crate::targets::{is_pawn, targets};
@@ -28,8 +28,8 @@ fn last_squares(side: Colour) -> SquareSet
 fn count_own(live: &mut Live, guard: &Guard, kind: Kind, from: Square) -> usize
     requires here { look live.old.position from ≡ cell_of live.old.position.side kind }
     requires guard { IsGuard guard.now live.old.position }
-    requires clock { live.old.position.clock < 1000000 }
-    requires number { live.old.position.number < 1000000 }
+    requires clock { live.old.position.clock ≤ 1000000 }
+    requires number { live.old.position.number ≤ 1000000 }
     ensures count { result ≡ length (filter (is_legal live.old.position) (moves_from from)) }
     ensures position { live.new.position ≡ live.old.position }
     ensures words { live.new.words ≡ live.old.words }
@@ -49,8 +49,8 @@ fn count_own(live: &mut Live, guard: &Guard, kind: Kind, from: Square) -> usize
 fn count_from(live: &mut Live, guard: &Guard, from: Square) -> usize
     requires own { is_of live.old.position.side (look live.old.position from) ≡ true }
     requires guard { IsGuard guard.now live.old.position }
-    requires clock { live.old.position.clock < 1000000 }
-    requires number { live.old.position.number < 1000000 }
+    requires clock { live.old.position.clock ≤ 1000000 }
+    requires number { live.old.position.number ≤ 1000000 }
     ensures count { result ≡ length (filter (is_legal live.old.position) (moves_from from)) }
     ensures position { live.new.position ≡ live.old.position }
     ensures words { live.new.words ≡ live.old.words }
@@ -62,10 +62,10 @@ fn count_from(live: &mut Live, guard: &Guard, from: Square) -> usize
 }
 
 /// How many legal moves there are, at most 432; no list is made (FIDE Laws 3.1 to 3.10). The halfmove clock and the fullmove
-/// number are below 1,000,000. All is as before but for the ticks.
+/// number are at most 1,000,000. All is as before but for the ticks.
 pub fn count_legal(live: &mut Live) -> usize
-    requires clock { live.old.position.clock < 1000000 }
-    requires number { live.old.position.number < 1000000 }
+    requires clock { live.old.position.clock ≤ 1000000 }
+    requires number { live.old.position.number ≤ 1000000 }
     ensures count { result ≡ length (legal_moves live.old.position) }
     ensures at_most { result ≤ 432 }
     ensures position { live.new.position ≡ live.old.position }
@@ -82,10 +82,10 @@ pub fn count_legal(live: &mut Live) -> usize
 }
 
 /// Whether there is a legal move: the men are gone over until one has a move (FIDE Laws 3.1 to 3.10). The halfmove clock and the
-/// fullmove number are below 1,000,000. All is as before but for the ticks.
+/// fullmove number are at most 1,000,000. All is as before but for the ticks.
 pub fn has_legal(live: &mut Live) -> bool
-    requires clock { live.old.position.clock < 1000000 }
-    requires number { live.old.position.number < 1000000 }
+    requires clock { live.old.position.clock ≤ 1000000 }
+    requires number { live.old.position.number ≤ 1000000 }
     ensures value { result ≡ nat_lt 0 (length (legal_moves live.old.position)) }
     ensures position { live.new.position ≡ live.old.position }
     ensures words { live.new.words ≡ live.old.words }

@@ -1,14 +1,14 @@
-ghost use Rattle.std.specs.Prelude.{◌≡◌, ◌<◌, ◌&&◌, ◌||◌, ◌==◌, ℕ, None, true, false, is_none, IfSome, IfNone};
+ghost use Rattle.std.specs.Prelude.{◌≡◌, ◌<◌, ◌≤◌, ◌&&◌, ◌||◌, ◌==◌, ℕ, None, true, false, is_none, IfSome, IfNone};
 ghost use Rattle.std.specs.FinSet.{contains};
-ghost use Rattle.chess_types.specs.declared.man.Kind.TheVariants.{Pawn, King};
-ghost use Rattle.chess_types.specs.Board.{man_at};
-ghost use Rattle.chess_types.specs.Men.{is_pawn};
-ghost use Rattle.chess_types.specs.Attack.{leaps as leaps_of};
-ghost use Rattle.chess_types.specs.Position.{look, cell_of, king_home};
-ghost use Rattle.chess_types.specs.Pseudo.{goes, is_ahead, is_prey, steps_one, steps_two};
+ghost use Rattle.chess_types.specs.declared.board.man.Kind.TheVariants.{Pawn, King};
+ghost use Rattle.chess_types.specs.board.Board.{man_at};
+ghost use Rattle.chess_types.specs.board.Men.{is_pawn};
+ghost use Rattle.chess_types.specs.board.Attack.{leaps as leaps_of};
+ghost use Rattle.chess_types.specs.board.Position.{look, cell_of, king_home};
+ghost use Rattle.chess_types.specs.board.Pseudo.{moves_as_it_attacks, is_ahead, is_capturable, steps_one, steps_two};
 ghost use Rattle.chess_play.specs.Castling.{may_castle};
-ghost use Rattle.chess_moves.specs.Guarded.{IsGuard, is_safe_step};
-ghost use Rattle.chess_moves.specs.Targets.{goes_plain, lands, move_to, promotes};
+ghost use Rattle.chess_moves.specs.steps.Guarded.{IsGuard, is_safe_step};
+ghost use Rattle.chess_moves.specs.steps.Targets.{is_plain_target, is_legal_target, move_to, promotes};
 
 use crate::guard::{Guard, guarded};
 use crate::legal::{is_king, is_safe_tried, king_is_safe};
@@ -76,7 +76,7 @@ fn pawn_steps(setup: &Setup, from: Square) -> SquareSet
 /// The squares on which a pawn captures a man (FIDE Laws 3.7.3).
 #[inline(always)]
 fn pawn_captures(setup: &Setup, from: Square) -> SquareSet
-    ensures { (to : ℕ) → to < 64 → contains result to ≡ (leaps_of setup.now.side Pawn from to && is_prey setup.now.side (look setup.now to)) }
+    ensures { (to : ℕ) → to < 64 → contains result to ≡ (leaps_of setup.now.side Pawn from to && is_capturable setup.now.side (look setup.now to)) }
 {
     let side = setup.side;
     let other = side.opponent();
@@ -88,7 +88,7 @@ fn pawn_captures(setup: &Setup, from: Square) -> SquareSet
 /// The squares that a man of the side to move attacks and may enter (FIDE Laws 3.1 to 3.6, 3.8.1).
 #[inline(always)]
 fn man_targets(setup: &Setup, kind: Kind, from: Square) -> SquareSet
-    ensures { (to : ℕ) → to < 64 → contains result to ≡ goes setup.now kind (move_to from to None) }
+    ensures { (to : ℕ) → to < 64 → contains result to ≡ moves_as_it_attacks setup.now kind (move_to from to None) }
 {
     let side = setup.side;
     let other = side.opponent();
@@ -100,7 +100,7 @@ fn man_targets(setup: &Setup, kind: Kind, from: Square) -> SquareSet
 /// The squares to which a man of the side to move goes, en passant and castling aside (FIDE Laws 3.1 to 3.8).
 #[inline(always)]
 fn plain_targets(setup: &Setup, kind: Kind, from: Square) -> SquareSet
-    ensures { (to : ℕ) → to < 64 → contains result to ≡ goes_plain setup.now kind from to }
+    ensures { (to : ℕ) → to < 64 → contains result to ≡ is_plain_target setup.now kind from to }
 {
     if is_pawn(kind) {
         let steps = pawn_steps(setup, from);
@@ -124,9 +124,9 @@ pub(crate) fn promotes(side: Colour, kind: Kind, to: Square) -> bool
 fn pawn_targets(live: &mut Live, guard: &Guard, from: Square) -> SquareSet
     requires here { look live.old.position from ≡ cell_of live.old.position.side Pawn }
     requires guard { IsGuard guard.now live.old.position }
-    requires clock { live.old.position.clock < 1000000 }
-    requires number { live.old.position.number < 1000000 }
-    ensures lands { (to : ℕ) → to < 64 → contains result to ≡ lands live.old.position Pawn from to }
+    requires clock { live.old.position.clock ≤ 1000000 }
+    requires number { live.old.position.number ≤ 1000000 }
+    ensures is_legal_target { (to : ℕ) → to < 64 → contains result to ≡ is_legal_target live.old.position Pawn from to }
     ensures position { live.new.position ≡ live.old.position }
     ensures words { live.new.words ≡ live.old.words }
 {
@@ -188,9 +188,9 @@ fn is_home(side: Colour, at: Square) -> bool
 fn king_targets(live: &Live, guard: &Guard, from: Square) -> SquareSet
     requires here { look live.now.position from ≡ cell_of live.now.position.side King }
     requires guard { IsGuard guard.now live.now.position }
-    requires clock { live.now.position.clock < 1000000 }
-    requires number { live.now.position.number < 1000000 }
-    ensures { (to : ℕ) → to < 64 → contains result to ≡ lands live.now.position King from to }
+    requires clock { live.now.position.clock ≤ 1000000 }
+    requires number { live.now.position.number ≤ 1000000 }
+    ensures { (to : ℕ) → to < 64 → contains result to ≡ is_legal_target live.now.position King from to }
 {
     let setup = live.position();
     let side = setup.side;
@@ -208,9 +208,9 @@ fn king_targets(live: &Live, guard: &Guard, from: Square) -> SquareSet
 pub(crate) fn targets(live: &mut Live, guard: &Guard, kind: Kind, from: Square) -> SquareSet
     requires here { look live.old.position from ≡ cell_of live.old.position.side kind }
     requires guard { IsGuard guard.now live.old.position }
-    requires clock { live.old.position.clock < 1000000 }
-    requires number { live.old.position.number < 1000000 }
-    ensures lands { (to : ℕ) → to < 64 → contains result to ≡ lands live.old.position kind from to }
+    requires clock { live.old.position.clock ≤ 1000000 }
+    requires number { live.old.position.number ≤ 1000000 }
+    ensures is_legal_target { (to : ℕ) → to < 64 → contains result to ≡ is_legal_target live.old.position kind from to }
     ensures position { live.new.position ≡ live.old.position }
     ensures words { live.new.words ≡ live.old.words }
 {

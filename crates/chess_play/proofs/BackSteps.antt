@@ -3,17 +3,17 @@
 use Rattle.std.proofs.Common.{◌≡◌, ◌<◌, true, false, Some, None, sym, ap, subst, ◌∙◌, inl, inr}
 use Rattle.std.proofs.lemmas.Bool.{and_parts, cases_Bool}
 use Rattle.std.specs.FinMap.{insert, remove}
-use Rattle.chess_types.specs.declared.man.Man.{Man}
-use Rattle.chess_types.specs.declared.position.Wing.{Wing}
-use Rattle.chess_types.specs.declared.position.Wing.TheVariants.{KingSide, QueenSide}
-use Rattle.chess_types.specs.Board.{Board, man_at}
-use Rattle.chess_types.specs.MoveParts.{MoveParts}
-use Rattle.chess_types.specs.Men.{men_of}
-use Rattle.chess_types.specs.Position.{State, IsSetup, look, rook_home}
-use Rattle.chess_types.specs.Pseudo.{crossed, is_pseudo}
-use Rattle.chess_types.specs.After.{captured_at, arriving, carried, is_castling, with_rook, placement_after, rook_of}
+use Rattle.chess_types.specs.declared.board.man.Man.{Man}
+use Rattle.chess_types.specs.declared.board.position.Wing.{Wing}
+use Rattle.chess_types.specs.declared.board.position.Wing.TheVariants.{KingSide, QueenSide}
+use Rattle.chess_types.specs.board.Board.{Board, man_at}
+use Rattle.chess_types.specs.board.MoveParts.{MoveParts}
+use Rattle.chess_types.specs.board.Men.{men_of}
+use Rattle.chess_types.specs.board.Position.{State, IsSetup, look, rook_home}
+use Rattle.chess_types.specs.board.Pseudo.{crossed, is_pseudo}
+use Rattle.chess_types.specs.board.After.{captured_at, arriving, transferred, is_castling, with_rook, placement_after, rook_of}
 use Rattle.chess_types.proofs.BoardLaws.{clear-none, clear-put, put-clear}
-use Rattle.chess_play.specs.Undo.{mover}
+use Rattle.chess_play.specs.steps.Undo.{mover}
 use Rattle.chess_play.proofs.Census.{put_here, put_there, clear_here, clear_there, clear_room}
 use Rattle.chess_play.proofs.CastlingSquares.{apart, castles_where}
 use Rattle.chess_play.proofs.Facts.{Facts, facts}
@@ -44,20 +44,20 @@ pub record Back (p : State) (man : Man) (m : MoveParts) : Type 0 where
   pub mover : mover m.promo (arriving man m.promo) ≡ man
   pub mine : man.colour ≡ p.side
   pub there : man_at (placement_after p man m) m.to ≡ Some (arriving man m.promo)
-  pub castled : (w : Wing) → is_castling man w m ≡ true → placement_after p man m ≡ with_rook man.colour w (carried p man m)
-  pub plain : is_castling man KingSide m ≡ false → is_castling man QueenSide m ≡ false → placement_after p man m ≡ carried p man m
+  pub castled : (w : Wing) → is_castling man w m ≡ true → placement_after p man m ≡ with_rook man.colour w (transferred p man m)
+  pub plain : is_castling man KingSide m ≡ false → is_castling man QueenSide m ≡ false → placement_after p man m ≡ transferred p man m
   pub rook : (w : Wing) → is_castling man w m ≡ true → man_at (placement_after p man m) (crossed man.colour w) ≡ Some (rook_of man.colour)
   pub home_free : (w : Wing) → is_castling man w m ≡ true → man_at (remove (placement_after p man m) (crossed man.colour w)) (rook_home man.colour w) ≡ None
   pub home_room : (w : Wing) → is_castling man w m ≡ true → men_of (remove (placement_after p man m) (crossed man.colour w)) man.colour < 16
   pub rook_lifted : (w : Wing) → is_castling man w m ≡ true →
-      remove (placement_after p man m) (crossed man.colour w) ≡ remove (carried p man m) (rook_home man.colour w)
+      remove (placement_after p man m) (crossed man.colour w) ≡ remove (transferred p man m) (rook_home man.colour w)
   pub rook_back : (w : Wing) → is_castling man w m ≡ true →
-      insert (remove (placement_after p man m) (crossed man.colour w)) (rook_home man.colour w) (rook_of man.colour) ≡ carried p man m
-  pub arrived : man_at (carried p man m) m.to ≡ Some (arriving man m.promo)
-  pub from_free : man_at (remove (carried p man m) m.to) m.from ≡ None
-  pub from_room : men_of (remove (carried p man m) m.to) man.colour < 16
-  pub lifted : remove (carried p man m) m.to ≡ remove (remove p.placement (captured_at p.target man m)) m.from
-  pub man_back : insert (remove (carried p man m) m.to) m.from man ≡ remove p.placement (captured_at p.target man m)
+      insert (remove (placement_after p man m) (crossed man.colour w)) (rook_home man.colour w) (rook_of man.colour) ≡ transferred p man m
+  pub arrived : man_at (transferred p man m) m.to ≡ Some (arriving man m.promo)
+  pub from_free : man_at (remove (transferred p man m) m.to) m.from ≡ None
+  pub from_room : men_of (remove (transferred p man m) m.to) man.colour < 16
+  pub lifted : remove (transferred p man m) m.to ≡ remove (remove p.placement (captured_at p.target man m)) m.from
+  pub man_back : insert (remove (transferred p man m) m.to) m.from man ≡ remove p.placement (captured_at p.target man m)
   pub taken_free : man_at (remove p.placement (captured_at p.target man m)) (captured_at p.target man m) ≡ None
   pub taken_room : (taken : Man) → look p (captured_at p.target man m) ≡ Some taken →
       men_of (remove p.placement (captured_at p.target man m)) taken.colour < 16
@@ -76,18 +76,18 @@ module _ (p : State) (man : Man) (m : MoveParts) (setup : IsSetup p) (from : m.f
   steps = steps_by_facts p man m setup from to facts
 
   module _ (w : Wing) (h : is_castling man w m ≡ true) where
-    castled : placement_after p man m ≡ with_rook man.colour w (carried p man m)
+    castled : placement_after p man m ≡ with_rook man.colour w (transferred p man m)
     castled = placement_castled p man m w h
 
-    rook_lifted : remove (placement_after p man m) (crossed man.colour w) ≡ remove (carried p man m) (rook_home man.colour w)
+    rook_lifted : remove (placement_after p man m) (crossed man.colour w) ≡ remove (transferred p man m) (rook_home man.colour w)
     rook_lifted =
         ap (λ (b : Board). remove b (crossed man.colour w)) castled
-        ∙ clear-put (remove (carried p man m) (rook_home man.colour w)) (crossed man.colour w) (rook_of man.colour) (steps.crossed_free w h)
+        ∙ clear-put (remove (transferred p man m) (rook_home man.colour w)) (crossed man.colour w) (rook_of man.colour) (steps.crossed_free w h)
 
-    rook_back : insert (remove (placement_after p man m) (crossed man.colour w)) (rook_home man.colour w) (rook_of man.colour) ≡ carried p man m
+    rook_back : insert (remove (placement_after p man m) (crossed man.colour w)) (rook_home man.colour w) (rook_of man.colour) ≡ transferred p man m
     rook_back =
         ap (λ (b : Board). insert b (rook_home man.colour w) (rook_of man.colour)) rook_lifted
-        ∙ put-clear (carried p man m) (rook_home man.colour w) (rook_of man.colour) (steps.rook w h)
+        ∙ put-clear (transferred p man m) (rook_home man.colour w) (rook_of man.colour) (steps.rook w h)
 
     -- the king stands where it came to, whatever the rook does
     castled_there : man_at (placement_after p man m) m.to ≡ Some (arriving man m.promo)
@@ -96,12 +96,12 @@ module _ (p : State) (man : Man) (m : MoveParts) (setup : IsSetup p) (from : m.f
         let where_to : m.to ≡ _ = (castles_where man.colour w m a.1).1 in
         let squares = apart man.colour w in
         ap (λ (b : Board). man_at b m.to) castled
-        ∙ put_there (remove (carried p man m) (rook_home man.colour w)) (crossed man.colour w) (rook_of man.colour) m.to
+        ∙ put_there (remove (transferred p man m) (rook_home man.colour w)) (crossed man.colour w) (rook_of man.colour) m.to
         (λ e. squares.crossed_reached (sym e ∙ where_to))
-        ∙ clear_there (carried p man m) (rook_home man.colour w) m.to (λ e. squares.rook_reached (sym e ∙ where_to))
+        ∙ clear_there (transferred p man m) (rook_home man.colour w) m.to (λ e. squares.rook_reached (sym e ∙ where_to))
         ∙ carried_here p man m from to facts
 
-  lifted : remove (carried p man m) m.to ≡ second
+  lifted : remove (transferred p man m) m.to ≡ second
   lifted = clear-put second m.to (arriving man m.promo) (second_to p man m from to facts)
 
   there : man_at (placement_after p man m) m.to ≡ Some (arriving man m.promo)
@@ -124,9 +124,9 @@ module _ (p : State) (man : Man) (m : MoveParts) (setup : IsSetup p) (from : m.f
     plain = placement_plain p man m;
     rook = λ w h.
         ap (λ (b : Board). man_at b (crossed man.colour w)) (castled w h)
-        ∙ put_here (remove (carried p man m) (rook_home man.colour w)) (crossed man.colour w) (rook_of man.colour);
+        ∙ put_here (remove (transferred p man m) (rook_home man.colour w)) (crossed man.colour w) (rook_of man.colour);
     home_free = λ w h.
-        ap (λ (b : Board). man_at b (rook_home man.colour w)) (rook_lifted w h) ∙ clear_here (carried p man m) (rook_home man.colour w);
+        ap (λ (b : Board). man_at b (rook_home man.colour w)) (rook_lifted w h) ∙ clear_here (transferred p man m) (rook_home man.colour w);
     home_room = λ w h. subst (λ (b : Board). men_of b man.colour < 16) (sym (rook_lifted w h)) (steps.crossed_room w h);
     rook_lifted = rook_lifted;
     rook_back = rook_back;

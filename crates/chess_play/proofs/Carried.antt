@@ -2,18 +2,18 @@
 use Rattle.std.proofs.Common.{◌≡◌, ◌≢◌, ℕ, ◌+◌, ◌<◌, Bool, true, false, Option, Some, None, refl, sym, ap, ◌∙◌, arith, inl, inr}
 use Rattle.std.proofs.lemmas.Bool.{and_parts, and_right, cases_Bool, cases_eq, not-true}
 use Rattle.std.specs.FinMap.{remove}
-use Rattle.chess_types.specs.declared.man.Colour.{Colour}
-use Rattle.chess_types.specs.declared.man.Colour.TheVariants.{White, Black}
-use Rattle.chess_types.specs.declared.man.Kind.TheVariants.{Pawn}
-use Rattle.chess_types.specs.declared.man.Man.{Man}
-use Rattle.chess_types.specs.Board.{Board, man_at}
-use Rattle.chess_types.specs.Squares.{rank_of}
-use Rattle.chess_types.specs.MoveParts.{MoveParts}
-use Rattle.chess_types.specs.Men.{opponent, same_colour, is_king, is_king_of, holds_pawn, census}
-use Rattle.chess_types.specs.Position.{State, look}
-use Rattle.chess_types.specs.Pseudo.{may_enter}
-use Rattle.chess_types.specs.After.{is_en_passant, captured_at, arriving, carried}
-use Rattle.chess_attack.proofs.Counting.{bit}
+use Rattle.chess_types.specs.declared.board.man.Colour.{Colour}
+use Rattle.chess_types.specs.declared.board.man.Colour.TheVariants.{White, Black}
+use Rattle.chess_types.specs.declared.board.man.Kind.TheVariants.{Pawn}
+use Rattle.chess_types.specs.declared.board.man.Man.{Man}
+use Rattle.chess_types.specs.board.Board.{Board, man_at}
+use Rattle.chess_types.specs.board.Squares.{rank_of}
+use Rattle.chess_types.specs.board.MoveParts.{MoveParts}
+use Rattle.chess_types.specs.board.Men.{opponent, same_colour, is_king, is_king_of, holds_pawn, count_squares}
+use Rattle.chess_types.specs.board.Position.{State, look}
+use Rattle.chess_types.specs.board.Pseudo.{may_enter}
+use Rattle.chess_types.specs.board.After.{is_en_passant, captured_at, arriving, transferred}
+use Rattle.chess_types.proofs.Sums.{bit}
 use Rattle.chess_play.proofs.Census.{put_here, put_there, clear_here, clear_there, census_put, census_clear}
 use Rattle.chess_play.proofs.CastlingSquares.{OnEdge}
 use Rattle.chess_play.proofs.Facts.{Facts, never}
@@ -92,7 +92,7 @@ module _ (p : State) (man : Man) (m : MoveParts) (from : m.from < 64) (to : m.to
 
   -- on how many squares a test holds: the captured man and the mover are gone
   module _ (test : Option Man → Bool) (none : test None ≡ false) where
-    pub second_census : census test second + bit (test (look p s)) + bit (test (Some man)) ≡ census test p.placement
+    pub second_census : count_squares test second + bit (test (look p s)) + bit (test (Some man)) ≡ count_squares test p.placement
     second_census =
         let a = census_clear test p.placement s cap.inside in
         let b = census_clear test first m.from from in
@@ -101,8 +101,8 @@ module _ (p : State) (man : Man) (m : MoveParts) (from : m.from < 64) (to : m.to
         omega arith
 
     -- and the man that arrives is there
-    pub carried_census : census test (carried p man m) + bit (test (look p s)) + bit (test (Some man))
-        ≡ census test p.placement + bit (test (Some (arriving man m.promo)))
+    pub carried_census : count_squares test (transferred p man m) + bit (test (look p s)) + bit (test (Some man))
+        ≡ count_squares test p.placement + bit (test (Some (arriving man m.promo)))
     carried_census =
         let a = second_census in
         let b = census_put test second m.to (arriving man m.promo) to in
@@ -111,19 +111,19 @@ module _ (p : State) (man : Man) (m : MoveParts) (from : m.from < 64) (to : m.to
         omega arith
 
   -- the man that arrives stands on the last square
-  pub carried_here : man_at (carried p man m) m.to ≡ Some (arriving man m.promo)
+  pub carried_here : man_at (transferred p man m) m.to ≡ Some (arriving man m.promo)
   carried_here = put_here second m.to (arriving man m.promo)
 
   -- the other squares are as before
-  pub carried_there : (q : ℕ) → q ≢ m.from → q ≢ m.to → q ≢ s → man_at (carried p man m) q ≡ look p q
+  pub carried_there : (q : ℕ) → q ≢ m.from → q ≢ m.to → q ≢ s → man_at (transferred p man m) q ≡ look p q
   carried_there q a b c = put_there second m.to (arriving man m.promo) q b ∙ clear_there first m.from q a ∙ clear_there p.placement s q c
 
   -- the first square is empty
-  pub carried_from : man_at (carried p man m) m.from ≡ None
+  pub carried_from : man_at (transferred p man m) m.from ≡ None
   carried_from = put_there second m.to (arriving man m.promo) m.from facts.apart ∙ clear_here first m.from
 
   -- on rank 1 and 8 nothing but the first and the last square of the move changes
-  pub carried_edge : (q : ℕ) → OnEdge q → q ≢ m.from → q ≢ m.to → man_at (carried p man m) q ≡ look p q
+  pub carried_edge : (q : ℕ) → OnEdge q → q ≢ m.from → q ≢ m.to → man_at (transferred p man m) q ≡ look p q
   carried_edge q edge a b = carried_there q a b (λ e.
       let f = cap.far (λ h. b (e ∙ h)) in
       let g : rank_of s ≡ rank_of q = ap rank_of (sym e) in
@@ -131,16 +131,16 @@ module _ (p : State) (man : Man) (m : MoveParts) (from : m.from < 64) (to : m.to
 
   -- no pawn stands on rank 1 or 8
   pub carried_pawns : ((q : ℕ) → q < 64 → holds_pawn (look p q) ≡ true → (0 < rank_of q) × (rank_of q < 7)) →
-      (q : ℕ) → q < 64 → holds_pawn (man_at (carried p man m) q) ≡ true → (0 < rank_of q) × (rank_of q < 7)
+      (q : ℕ) → q < 64 → holds_pawn (man_at (transferred p man m) q) ≡ true → (0 < rank_of q) × (rank_of q < 7)
   carried_pawns before q inside h =
       elim (cases_eq q m.to) [
         | inl same ↦
             let still : holds_pawn (Some (arriving man m.promo)) ≡ true =
-            ap holds_pawn (sym carried_here) ∙ ap (λ x. holds_pawn (man_at (carried p man m) x)) (sym same) ∙ h in
+            ap holds_pawn (sym carried_here) ∙ ap (λ x. holds_pawn (man_at (transferred p man m) x)) (sym same) ∙ h in
             let r = facts.pawn still in
             (rw same r.0, rw same r.1)
         | inr a ↦ elim (cases_eq q m.from) [
-          | inl same ↦ never (ap holds_pawn (sym carried_from) ∙ ap (λ x. holds_pawn (man_at (carried p man m) x)) (sym same) ∙ h)
+          | inl same ↦ never (ap holds_pawn (sym carried_from) ∙ ap (λ x. holds_pawn (man_at (transferred p man m) x)) (sym same) ∙ h)
           | inr b ↦ elim (cases_eq q s) [
             | inl same ↦
                 never
@@ -153,7 +153,7 @@ module _ (p : State) (man : Man) (m : MoveParts) (from : m.from < 64) (to : m.to
       ]
 
   -- where nothing stood, nothing stands, but on the square reached
-  pub carried_none : (q : ℕ) → q ≢ m.to → look p q ≡ None → man_at (carried p man m) q ≡ None
+  pub carried_none : (q : ℕ) → q ≢ m.to → look p q ≡ None → man_at (transferred p man m) q ≡ None
   carried_none q other none =
       put_there second m.to (arriving man m.promo) q other
       ∙ elim (cases_eq q m.from) [

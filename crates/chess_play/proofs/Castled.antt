@@ -2,17 +2,17 @@
 use Rattle.std.proofs.Common.{◌≡◌, ◌≢◌, ◌<◌, ◌≤◌, Bool, true, false, Option, Some, None, refl, sym, ap, ◌∙◌, arith, inl, inr}
 use Rattle.std.proofs.lemmas.Bool.{and_parts, cases_Bool}
 use Rattle.std.specs.FinMap.{remove}
-use Rattle.chess_types.specs.declared.man.Colour.{Colour}
-use Rattle.chess_types.specs.declared.man.Man.{Man}
-use Rattle.chess_types.specs.declared.position.Wing.{Wing}
-use Rattle.chess_types.specs.declared.position.Wing.TheVariants.{KingSide, QueenSide}
-use Rattle.chess_types.specs.Board.{man_at}
-use Rattle.chess_types.specs.MoveParts.{MoveParts}
-use Rattle.chess_types.specs.Men.{same_colour, is_of, census, men_of}
-use Rattle.chess_types.specs.Position.{State, IsSetup, rook_home}
-use Rattle.chess_types.specs.Pseudo.{crossed}
-use Rattle.chess_types.specs.After.{arriving, carried, is_castling, with_rook, rook_of, placement_after}
-use Rattle.chess_attack.proofs.Counting.{bit}
+use Rattle.chess_types.specs.declared.board.man.Colour.{Colour}
+use Rattle.chess_types.specs.declared.board.man.Man.{Man}
+use Rattle.chess_types.specs.declared.board.position.Wing.{Wing}
+use Rattle.chess_types.specs.declared.board.position.Wing.TheVariants.{KingSide, QueenSide}
+use Rattle.chess_types.specs.board.Board.{man_at}
+use Rattle.chess_types.specs.board.MoveParts.{MoveParts}
+use Rattle.chess_types.specs.board.Men.{same_colour, is_of, count_squares, men_of}
+use Rattle.chess_types.specs.board.Position.{State, IsSetup, rook_home}
+use Rattle.chess_types.specs.board.Pseudo.{crossed}
+use Rattle.chess_types.specs.board.After.{arriving, transferred, is_castling, with_rook, rook_of, placement_after}
+use Rattle.chess_types.proofs.Sums.{bit}
 use Rattle.chess_play.proofs.Census.{clear_there, census_put, census_clear}
 use Rattle.chess_play.proofs.Promotions.{colour_kept}
 use Rattle.chess_play.proofs.CastlingSquares.{rook_edge, rook_inside, crossed_inside, apart, same_wing, castles_where, IsCastling, castling_parts, crossed_free}
@@ -22,15 +22,15 @@ use Rattle.chess_play.proofs.Carried.{carried_edge, carried_census}
 -- before the castling rook moves: it stands at home, and the square that the king crossed is empty
 pub record Ready (p : State) (man : Man) (m : MoveParts) (w : Wing) : Type 0 where
   pub castling : IsCastling p w m
-  pub rook : man_at (carried p man m) (rook_home p.side w) ≡ Some (rook_of p.side)
-  pub free : man_at (remove (carried p man m) (rook_home p.side w)) (crossed p.side w) ≡ None
+  pub rook : man_at (transferred p man m) (rook_home p.side w) ≡ Some (rook_of p.side)
+  pub free : man_at (remove (transferred p man m) (rook_home p.side w)) (crossed p.side w) ≡ None
 
 of_test : (c : Colour) (a b : Man) → a.colour ≡ b.colour → is_of c (Some a) ≡ is_of c (Some b)
 of_test c a b e = ap (λ x. same_colour x c) e
 
 module _ (p : State) (man : Man) (m : MoveParts) (setup : IsSetup p) (from : m.from < 64) (to : m.to < 64) (facts : Facts p man m) where
   -- the carried board has at most 16 men of a colour
-  pub few_carried : (c : Colour) → men_of (carried p man m) c ≤ 16
+  pub few_carried : (c : Colour) → men_of (transferred p man m) c ≤ 16
   few_carried c =
       let n = carried_census p man m from to facts (is_of c) refl in
       let e : bit (is_of c (Some (arriving man m.promo))) ≡ bit (is_of c (Some man)) =
@@ -50,20 +50,20 @@ module _ (p : State) (man : Man) (m : MoveParts) (setup : IsSetup p) (from : m.f
         castling = c;
         rook = carried_edge p man m from to facts (rook_home p.side w) (rook_edge p.side w) rook_from rook_to ∙ setup.rook_at_home p.side w c.right;
         free =
-            clear_there (carried p man m) (rook_home p.side w) (crossed p.side w) (λ e. a.rook_crossed (sym e))
+            clear_there (transferred p man m) (rook_home p.side w) (crossed p.side w) (λ e. a.rook_crossed (sym e))
             ∙ carried_edge p man m from to facts (crossed p.side w) a.crossed_edge cross_from cross_to ∙ crossed_free p w m c;
       }
 
 module _ (p : State) (man : Man) (m : MoveParts) where
   -- no test of the squares holds more or less often once the rook has moved
   pub rook_census : (test : Option Man → Bool) → test None ≡ false → (w : Wing) → Ready p man m w →
-      census test (with_rook p.side w (carried p man m)) ≡ census test (carried p man m)
+      count_squares test (with_rook p.side w (transferred p man m)) ≡ count_squares test (transferred p man m)
   rook_census test none w r =
-      let a = census_clear test (carried p man m) (rook_home p.side w) (rook_inside p.side w) in
-      let b = census_put test (remove (carried p man m) (rook_home p.side w)) (crossed p.side w) (rook_of p.side) (crossed_inside p.side w) in
+      let a = census_clear test (transferred p man m) (rook_home p.side w) (rook_inside p.side w) in
+      let b = census_put test (remove (transferred p man m) (rook_home p.side w)) (crossed p.side w) (rook_of p.side) (crossed_inside p.side w) in
       let n : bit (test None) ≡ 0 = ap bit none in
-      let x : bit (test (man_at (carried p man m) (rook_home p.side w))) ≡ bit (test (Some (rook_of p.side))) = ap (λ o. bit (test o)) r.rook in
-      let y : bit (test (man_at (remove (carried p man m) (rook_home p.side w)) (crossed p.side w))) ≡ bit (test None) = ap (λ o. bit (test o)) r.free in
+      let x : bit (test (man_at (transferred p man m) (rook_home p.side w))) ≡ bit (test (Some (rook_of p.side))) = ap (λ o. bit (test o)) r.rook in
+      let y : bit (test (man_at (remove (transferred p man m) (rook_home p.side w)) (crossed p.side w))) ≡ bit (test None) = ap (λ o. bit (test o)) r.free in
       omega arith
 
 -- the square that the king reaches tells the wing
@@ -75,7 +75,7 @@ one_wing man m w v h k =
 
 -- the board after a move that castles
 pub placement_castled : (p : State) (man : Man) (m : MoveParts) (w : Wing) → is_castling man w m ≡ true →
-    placement_after p man m ≡ with_rook man.colour w (carried p man m)
+    placement_after p man m ≡ with_rook man.colour w (transferred p man m)
 placement_castled p man m KingSide h = rw h refl
 placement_castled p man m QueenSide h =
     let other : is_castling man KingSide m ≡ false =
@@ -84,5 +84,5 @@ placement_castled p man m QueenSide h =
 
 -- and after one that does not
 pub placement_plain : (p : State) (man : Man) (m : MoveParts) → is_castling man KingSide m ≡ false → is_castling man QueenSide m ≡ false →
-    placement_after p man m ≡ carried p man m
+    placement_after p man m ≡ transferred p man m
 placement_plain p man m king queen = rw (king, queen) refl

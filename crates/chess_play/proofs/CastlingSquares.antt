@@ -1,16 +1,16 @@
 -- The squares of castling, and what a castling move says (FIDE Laws, article 3.8.2).
 use Rattle.std.proofs.Common.{◌≡◌, ◌≢◌, ℕ, ◌<◌, ◌≤◌, Bool, true, false, ◌&&◌, None, is_none, refl, arith, ◌⊎◌, inl, inr}
 use Rattle.std.proofs.lemmas.Bool.{and_parts, eqb-true}
-use Rattle.chess_types.specs.declared.man.Colour.{Colour}
-use Rattle.chess_types.specs.declared.man.Colour.TheVariants.{White, Black}
-use Rattle.chess_types.specs.declared.position.Wing.{Wing}
-use Rattle.chess_types.specs.declared.position.Wing.TheVariants.{KingSide, QueenSide}
-use Rattle.chess_types.specs.Squares.{rank_of, is_between, squares}
-use Rattle.chess_types.specs.Board.{Look}
-use Rattle.chess_types.specs.MoveParts.{MoveParts}
-use Rattle.chess_types.specs.Attack.{is_clear}
-use Rattle.chess_types.specs.Position.{State, look, king_home, rook_home, holds}
-use Rattle.chess_types.specs.Pseudo.{crossed, reached, castles_to, castles}
+use Rattle.chess_types.specs.declared.board.man.Colour.{Colour}
+use Rattle.chess_types.specs.declared.board.man.Colour.TheVariants.{White, Black}
+use Rattle.chess_types.specs.declared.board.position.Wing.{Wing}
+use Rattle.chess_types.specs.declared.board.position.Wing.TheVariants.{KingSide, QueenSide}
+use Rattle.chess_types.specs.board.Squares.{rank_of, is_between, squares}
+use Rattle.chess_types.specs.board.Board.{Look}
+use Rattle.chess_types.specs.board.MoveParts.{MoveParts}
+use Rattle.chess_types.specs.board.Attack.{is_clear}
+use Rattle.chess_types.specs.board.Position.{State, look, king_home, rook_home, holds}
+use Rattle.chess_types.specs.board.Pseudo.{crossed, reached, castles_to, castles}
 use Rattle.chess_play.specs.Castling.{is_way_free, may_castle}
 use Rattle.chess_attack.proofs.Clear.{clear_at}
 

@@ -2,13 +2,13 @@
 use Rattle.std.proofs.Common.{◌≡◌, ◌≢◌, ℕ, ◌+◌, ◌<◌, ◌≤◌, Bool, Option, Some, None, refl, ap, ◌∙◌, arith}
 use Rattle.std.proofs.lemmas.Bool.{ne_eqb, eq-eqb}
 use Rattle.std.specs.FinMap.{insert, remove}
-use Rattle.chess_types.specs.declared.man.Man.{Man}
-use Rattle.chess_types.specs.Board.{Board, man_at}
-use Rattle.chess_types.specs.Squares.{squares}
-use Rattle.chess_types.specs.Men.{is_of, census, men_of}
+use Rattle.chess_types.specs.declared.board.man.Man.{Man}
+use Rattle.chess_types.specs.board.Board.{Board, man_at}
+use Rattle.chess_types.specs.board.Squares.{squares}
+use Rattle.chess_types.specs.board.Men.{is_of, count_squares, men_of}
 use Rattle.chess_types.proofs.BoardLaws.{get-put, get-clear}
-use Rattle.chess_attack.proofs.Amounts.{same_self}
-use Rattle.chess_attack.proofs.Counting.{bit, total, total-one, sum_by-range}
+use Rattle.chess_types.proofs.SameLemmas.{same_self}
+use Rattle.chess_types.proofs.Sums.{bit, total, total-one, sum_by-range}
 
 -- a man stands where he is put
 pub put_here : (board : Board) (at : ℕ) (man : Man) → man_at (insert board at man) at ≡ Some man
@@ -27,13 +27,13 @@ pub clear_there : (board : Board) (at q : ℕ) → q ≢ at → man_at (remove b
 clear_there board at q other = get-clear board at q ∙ rw (ne_eqb q at other) refl
 
 module _ (test : Option Man → Bool) where
-  census_is_total : (board : Board) → census test board ≡ total (λ s. bit (test (man_at board s))) 0 64
-  unfolding census squares
+  census_is_total : (board : Board) → count_squares test board ≡ total (λ s. bit (test (man_at board s))) 0 64
+  unfolding count_squares squares
   census_is_total board = sum_by-range (λ s. bit (test (man_at board s))) 0 64
 
   -- two boards that differ on one square
   pub census_one : (a b : Board) (at : ℕ) → at < 64 → ((q : ℕ) → q ≢ at → man_at a q ≡ man_at b q) →
-      census test a + bit (test (man_at b at)) ≡ census test b + bit (test (man_at a at))
+      count_squares test a + bit (test (man_at b at)) ≡ count_squares test b + bit (test (man_at a at))
   census_one a b at inside same =
       let e = total-one (λ s. bit (test (man_at a s))) (λ s. bit (test (man_at b s))) at 0 64 (omega arith) inside
       (λ x low high other. ap (λ o. bit (test o)) (same x other)) in
@@ -41,17 +41,17 @@ module _ (test : Option Man → Bool) where
 
   -- after a man is put
   pub census_put : (board : Board) (at : ℕ) (man : Man) → at < 64 →
-      census test (insert board at man) + bit (test (man_at board at)) ≡ census test board + bit (test (Some man))
+      count_squares test (insert board at man) + bit (test (man_at board at)) ≡ count_squares test board + bit (test (Some man))
   census_put board at man inside =
       census_one (insert board at man) board at inside (put_there board at man)
-      ∙ ap (λ o. census test board + bit (test o)) (put_here board at man)
+      ∙ ap (λ o. count_squares test board + bit (test o)) (put_here board at man)
 
   -- after a square is cleared
   pub census_clear : (board : Board) (at : ℕ) → at < 64 →
-      census test (remove board at) + bit (test (man_at board at)) ≡ census test board + bit (test None)
+      count_squares test (remove board at) + bit (test (man_at board at)) ≡ count_squares test board + bit (test None)
   census_clear board at inside =
       census_one (remove board at) board at inside (clear_there board at)
-      ∙ ap (λ o. census test board + bit (test o)) (clear_here board at)
+      ∙ ap (λ o. count_squares test board + bit (test o)) (clear_here board at)
 
 -- it has one man fewer of his colour where a man leaves it
 pub clear_room : (board : Board) (at : ℕ) (man : Man) → at < 64 → man_at board at ≡ Some man → men_of board man.colour ≤ 16 →

@@ -1,36 +1,28 @@
 -- What a pseudo-legal move in a well-formed setup does, whatever man makes it.
-use Rattle.std.proofs.Common.{◌≡◌, ◌≢◌, ℕ, ◌+◌, ◌*◌, ◌<◌, true, false, ◌&&◌, ◌||◌, Option, Some, None, is_none, refl, sym, ap, subst, ◌∙◌, arith, inl, inr}
+use Rattle.std.proofs.Common.{◌≡◌, ◌≢◌, ℕ, ◌+◌, ◌*◌, ◌<◌, true, false, ◌&&◌, ◌||◌, Some, is_none, refl, sym, ap, subst, ◌∙◌, arith, inl, inr}
 use Rattle.std.proofs.lemmas.Bool.{and_parts, or_cases, true≢false, eqb-true, not-true, eq-eqb}
 use Rattle.std.proofs.lemmas.Bool.Decides.{nat_tests}
-use Rattle.chess_types.specs.declared.man.Colour.{Colour}
-use Rattle.chess_types.specs.declared.man.Colour.TheVariants.{White, Black}
-use Rattle.chess_types.specs.declared.man.Kind.{Kind}
-use Rattle.chess_types.specs.declared.man.Kind.TheVariants.{Pawn, Knight, Bishop, Rook, Queen, King}
-use Rattle.chess_types.specs.declared.man.Man.{Man}
-use Rattle.chess_types.specs.declared.position.Wing.{Wing}
-use Rattle.chess_types.specs.declared.position.Wing.TheVariants.{KingSide, QueenSide}
-use Rattle.chess_types.specs.Board.{Look}
-use Rattle.chess_types.specs.Squares.{file_of, rank_of}
-use Rattle.chess_types.specs.MoveParts.{MoveParts}
-use Rattle.chess_types.specs.Men.{is_king, is_pawn}
-use Rattle.chess_types.specs.Attack.{leaps, slides, slides_to, attacks_as}
-use Rattle.chess_types.specs.Position.{State, IsSetup, look, king_home}
-use Rattle.chess_types.specs.Pseudo.{may_enter, reached, castles, goes, moves_as, moves_man, is_pseudo}
-use Rattle.chess_types.specs.After.{is_en_passant, arriving, is_castling, is_advance}
-use Rattle.chess_play.specs.Undo.{mover}
-use Rattle.chess_play.proofs.Pawns.{same_is, target_is, Two, pawn_moves, Further, further, further_apart, pawn_enters, Passed, passes, advances}
+use Rattle.chess_types.specs.declared.board.man.Colour.{Colour}
+use Rattle.chess_types.specs.declared.board.man.Colour.TheVariants.{White, Black}
+use Rattle.chess_types.specs.declared.board.man.Kind.{Kind}
+use Rattle.chess_types.specs.declared.board.man.Kind.TheVariants.{Pawn, Knight, Bishop, Rook, Queen, King}
+use Rattle.chess_types.specs.declared.board.man.Man.{Man}
+use Rattle.chess_types.specs.declared.board.position.Wing.{Wing}
+use Rattle.chess_types.specs.declared.board.position.Wing.TheVariants.{KingSide, QueenSide}
+use Rattle.chess_types.specs.board.Board.{Look}
+use Rattle.chess_types.specs.board.Squares.{file_of, rank_of}
+use Rattle.chess_types.specs.board.MoveParts.{MoveParts}
+use Rattle.chess_types.specs.board.Men.{is_king, is_pawn}
+use Rattle.chess_types.specs.board.Attack.{leaps, slides, slides_to, attacks_as}
+use Rattle.chess_types.specs.board.Position.{State, IsSetup, look, king_home}
+use Rattle.chess_types.specs.board.Pseudo.{may_enter, reached, castles, moves_as_it_attacks, moves_as, is_pseudo}
+use Rattle.chess_types.specs.board.After.{is_en_passant, arriving, is_castling, is_advance}
+use Rattle.chess_types.proofs.SameLemmas.{same_is}
+use Rattle.chess_types.proofs.MoveLemmas.{leaps_self}
+use Rattle.chess_play.specs.steps.Undo.{mover}
+use Rattle.chess_play.proofs.Pawns.{target_is, Two, pawn_moves, Further, further, further_apart, pawn_enters, Passed, passes, advances}
 use Rattle.chess_play.proofs.Promotions.{stays, mover_pawn, mover_plain, pawn_king, pawn_stays, two_plain}
 use Rattle.chess_play.proofs.CastlingSquares.{apart, same_wing, castles_where, castling_parts, reached_free}
-
-leaps_self : (c : Colour) (k : Kind) (a : ℕ) → leaps c k a a ≡ false
-unfolding leaps
-leaps_self c Knight a = grind (arith, nat_tests)
-leaps_self c King a = grind (arith, nat_tests)
-leaps_self White Pawn a = grind (arith, nat_tests)
-leaps_self Black Pawn a = grind (arith, nat_tests)
-leaps_self c Bishop a = refl
-leaps_self c Rook a = refl
-leaps_self c Queen a = refl
 
 slides_self : (k : Kind) (a : ℕ) → slides_to k a a ≡ false
 unfolding slides_to
@@ -99,7 +91,7 @@ module _ (p : State) (m : MoveParts) (setup : IsSetup p) (from : m.from < 64) (t
 
   -- knight, bishop, rook and queen
   piece : (kind : Kind) → is_king kind ≡ false → is_pawn kind ≡ false → look p m.from ≡ Some (mine p kind) →
-      (goes p kind m && is_none m.promo) ≡ true → Facts p (mine p kind) m
+      (moves_as_it_attacks p kind m && is_none m.promo) ≡ true → Facts p (mine p kind) m
   piece kind not_king not_pawn here h =
       let a = and_parts _ _ h in
       let b = and_parts _ _ a.0 in
@@ -171,7 +163,7 @@ module _ (p : State) (m : MoveParts) (setup : IsSetup p) (from : m.from < 64) (t
             subst (λ x. castles p x m ≡ true) wings h;
       }
 
-  walked : look p m.from ≡ Some (mine p King) → goes p King m ≡ true → is_none m.promo ≡ true → Facts p (mine p King) m
+  walked : look p m.from ≡ Some (mine p King) → moves_as_it_attacks p King m ≡ true → is_none m.promo ≡ true → Facts p (mine p King) m
   walked here h plain =
       let b = and_parts _ _ h in
       let same : arriving (mine p King) m.promo ≡ mine p King = stays (mine p King) m.promo plain in
@@ -198,8 +190,8 @@ module _ (p : State) (m : MoveParts) (setup : IsSetup p) (from : m.from < 64) (t
   unfolding moves_as
   king here h =
       let a = and_parts _ _ h in
-      elim (or_cases (goes p King m || castles p KingSide m) (castles p QueenSide m) a.0) [
-        | inl x ↦ elim (or_cases (goes p King m) (castles p KingSide m) x) [
+      elim (or_cases (moves_as_it_attacks p King m || castles p KingSide m) (castles p QueenSide m) a.0) [
+        | inl x ↦ elim (or_cases (moves_as_it_attacks p King m) (castles p KingSide m) x) [
           | inl y ↦ walked here y a.1
           | inr y ↦ castled KingSide here y a.1
         ]
@@ -222,11 +214,3 @@ module _ (p : State) (m : MoveParts) (setup : IsSetup p) (from : m.from < 64) (t
       let colour : p.side ≡ man.colour = sym (same_is man.colour p.side a.0) in
       let is : mine p man.kind ≡ man = λ i. record { colour = colour i; kind = man.kind } in
       subst (λ x. Facts p x m) is (of_kind man.kind (here ∙ ap (λ x. Some x) (sym is)) a.1)
-
-moved_by : (p : State) (o : Option Man) (m : MoveParts) → moves_man p o m ≡ true → (man : Man) × (o ≡ Some man)
-moved_by p None m h = never h
-moved_by p (Some man) m h = (man, refl)
-
--- a man stands on the first square of a pseudo-legal move
-pub pseudo_man : (p : State) (m : MoveParts) → is_pseudo p m ≡ true → (man : Man) × (look p m.from ≡ Some man)
-pseudo_man p m h = moved_by p (look p m.from) m h

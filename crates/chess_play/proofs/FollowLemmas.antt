@@ -2,16 +2,16 @@
 use Rattle.std.proofs.Common.{◌≡◌, ℕ, ◌+◌, ◌<◌, ◌≤◌, ◌^◌, ◌-◌, ◌∙◌, false, ◌||◌, Option, Some, None, inl, inr, refl, sym, arith}
 use Rattle.std.proofs.lemmas.Bool.{cases_Bool}
 use Rattle.std.proofs.lemmas.Option.{none-some}
-use Rattle.chess_types.specs.declared.man.Man.{Man}
-use Rattle.chess_types.specs.declared.position.Wing.{Wing}
-use Rattle.chess_types.specs.declared.position.Wing.TheVariants.{KingSide, QueenSide}
-use Rattle.chess_types.specs.MoveParts.{MoveParts}
-use Rattle.chess_types.specs.After.{is_castling}
-use Rattle.chess_types.specs.Board.{Board, man_at}
+use Rattle.chess_types.specs.declared.board.man.Man.{Man}
+use Rattle.chess_types.specs.declared.board.position.Wing.{Wing}
+use Rattle.chess_types.specs.declared.board.position.Wing.TheVariants.{KingSide, QueenSide}
+use Rattle.chess_types.specs.board.MoveParts.{MoveParts}
+use Rattle.chess_types.specs.board.After.{is_castling}
+use Rattle.chess_types.specs.board.Board.{Board, man_at}
 use Rattle.chess_attack.specs.KeptCounts.{changed_of}
 use Rattle.chess_attack.proofs.Shown.{changed_of-same, changed_of-trans}
-use Rattle.chess_play.specs.Followed.{KeptNumbers, AreKept, Follows}
-use Rattle.chess_play.specs.Boards.{CapturesOrCastles, ticks_of, castling_ticks}
+use Rattle.chess_play.specs.steps.Followed.{KeptNumbers, AreKept, Follows}
+use Rattle.chess_play.specs.steps.Boards.{CapturesOrCastles, ticks_of, castling_ticks}
 
 followed :
     (a b c : KeptNumbers) (x y z : Board) (m n : ℕ) → Follows a b x y m → Follows b c y z n → c.counts.ticks < 2 ^ 32 - 1 →

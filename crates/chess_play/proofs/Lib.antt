@@ -12,4 +12,3 @@ pub mod BackSteps
 pub mod MoveLemmas
 pub mod UndoLemmas
 pub mod FollowLemmas
-pub mod Counters

@@ -2,17 +2,17 @@
 -- castling rook is cleared and put. Each step finds the man that it clears, and an empty square and room for the man that it puts.
 use Rattle.std.proofs.Common.{◌≡◌, ◌<◌, true, Some, None, refl, sym, ap, subst, arith}
 use Rattle.std.specs.FinMap.{remove}
-use Rattle.chess_types.specs.declared.man.Colour.{Colour}
-use Rattle.chess_types.specs.declared.man.Man.{Man}
-use Rattle.chess_types.specs.declared.position.Wing.{Wing}
-use Rattle.chess_types.specs.Board.{man_at}
-use Rattle.chess_types.specs.MoveParts.{MoveParts}
-use Rattle.chess_types.specs.Men.{is_of, men_of}
-use Rattle.chess_types.specs.Position.{State, IsSetup, look, rook_home}
-use Rattle.chess_types.specs.Pseudo.{crossed, is_pseudo}
-use Rattle.chess_types.specs.After.{captured_at, arriving, carried, is_castling, rook_of}
-use Rattle.chess_attack.proofs.Counting.{bit}
-use Rattle.chess_attack.proofs.Amounts.{same_self}
+use Rattle.chess_types.specs.declared.board.man.Colour.{Colour}
+use Rattle.chess_types.specs.declared.board.man.Man.{Man}
+use Rattle.chess_types.specs.declared.board.position.Wing.{Wing}
+use Rattle.chess_types.specs.board.Board.{man_at}
+use Rattle.chess_types.specs.board.MoveParts.{MoveParts}
+use Rattle.chess_types.specs.board.Men.{is_of, men_of}
+use Rattle.chess_types.specs.board.Position.{State, IsSetup, look, rook_home}
+use Rattle.chess_types.specs.board.Pseudo.{crossed, is_pseudo}
+use Rattle.chess_types.specs.board.After.{captured_at, arriving, transferred, is_castling, rook_of}
+use Rattle.chess_types.proofs.Sums.{bit}
+use Rattle.chess_types.proofs.SameLemmas.{same_self}
 use Rattle.chess_play.proofs.Census.{clear_room}
 use Rattle.chess_play.proofs.Promotions.{colour_kept}
 use Rattle.chess_play.proofs.CastlingSquares.{rook_inside}
@@ -35,9 +35,9 @@ pub record Steps (p : State) (man : Man) (m : MoveParts) : Type 0 where
   pub room : men_of (remove (remove p.placement (captured_at p.target man m)) m.from) man.colour < 16
   pub colour : (arriving man m.promo).colour ≡ man.colour
   pub room_arriving : men_of (remove (remove p.placement (captured_at p.target man m)) m.from) (arriving man m.promo).colour < 16
-  pub rook : (w : Wing) → is_castling man w m ≡ true → man_at (carried p man m) (rook_home man.colour w) ≡ Some (rook_of man.colour)
-  pub crossed_free : (w : Wing) → is_castling man w m ≡ true → man_at (remove (carried p man m) (rook_home man.colour w)) (crossed man.colour w) ≡ None
-  pub crossed_room : (w : Wing) → is_castling man w m ≡ true → men_of (remove (carried p man m) (rook_home man.colour w)) man.colour < 16
+  pub rook : (w : Wing) → is_castling man w m ≡ true → man_at (transferred p man m) (rook_home man.colour w) ≡ Some (rook_of man.colour)
+  pub crossed_free : (w : Wing) → is_castling man w m ≡ true → man_at (remove (transferred p man m) (rook_home man.colour w)) (crossed man.colour w) ≡ None
+  pub crossed_room : (w : Wing) → is_castling man w m ≡ true → men_of (remove (transferred p man m) (rook_home man.colour w)) man.colour < 16
 
 module _ (p : State) (man : Man) (m : MoveParts) (setup : IsSetup p) (from : m.from < 64) (to : m.to < 64) (facts : Facts p man m) where
   -- once the captured man and the mover are gone there is room for a man of the mover's colour
@@ -48,14 +48,14 @@ module _ (p : State) (man : Man) (m : MoveParts) (setup : IsSetup p) (from : m.f
       omega (arith, setup.few man.colour)
 
   -- where the king castles, the rook stands at home
-  pub rook_there : (w : Wing) → is_castling man w m ≡ true → man_at (carried p man m) (rook_home man.colour w) ≡ Some (rook_of man.colour)
+  pub rook_there : (w : Wing) → is_castling man w m ≡ true → man_at (transferred p man m) (rook_home man.colour w) ≡ Some (rook_of man.colour)
   rook_there w h =
-      subst (λ (c : Colour). man_at (carried p man m) (rook_home c w) ≡ Some (rook_of c)) (sym facts.mine) (ready p man m setup from to facts w h).rook
+      subst (λ (c : Colour). man_at (transferred p man m) (rook_home c w) ≡ Some (rook_of c)) (sym facts.mine) (ready p man m setup from to facts w h).rook
 
   -- and the square that the king crossed is empty
-  pub rook_free : (w : Wing) → is_castling man w m ≡ true → man_at (remove (carried p man m) (rook_home man.colour w)) (crossed man.colour w) ≡ None
+  pub rook_free : (w : Wing) → is_castling man w m ≡ true → man_at (remove (transferred p man m) (rook_home man.colour w)) (crossed man.colour w) ≡ None
   rook_free w h =
-      subst (λ (c : Colour). man_at (remove (carried p man m) (rook_home c w)) (crossed c w) ≡ None) (sym facts.mine)
+      subst (λ (c : Colour). man_at (remove (transferred p man m) (rook_home c w)) (crossed c w) ≡ None) (sym facts.mine)
       (ready p man m setup from to facts w h).free
 
   -- what each step of making the move finds, from the facts of the move
@@ -73,7 +73,7 @@ module _ (p : State) (man : Man) (m : MoveParts) (setup : IsSetup p) (from : m.f
         rook = rook_there;
         crossed_free = rook_free;
         crossed_room = λ w h.
-            clear_room (carried p man m) (rook_home man.colour w) (rook_of man.colour) (rook_inside man.colour w) (rook_there w h)
+            clear_room (transferred p man m) (rook_home man.colour w) (rook_of man.colour) (rook_inside man.colour w) (rook_there w h)
             (few_carried p man m setup from to facts man.colour);
       }
 

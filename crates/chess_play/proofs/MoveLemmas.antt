@@ -2,34 +2,25 @@
 use Rattle.std.proofs.Common.{◌≡◌, ℕ, ◌<◌, true, false, Option, Some, None, IsSome, IfSome, refl, sym, ap, subst, ◌∙◌, inl, inr}
 use Rattle.std.proofs.lemmas.Bool.{and_parts, cases_Bool}
 use Rattle.std.specs.FinMap.{remove}
-use Rattle.chess_types.specs.declared.man.Colour.{Colour}
-use Rattle.chess_types.specs.declared.man.Kind.{Kind}
-use Rattle.chess_types.specs.declared.man.Kind.TheVariants.{Pawn, Knight, Bishop, Rook, Queen, King}
-use Rattle.chess_types.specs.declared.man.Man.{Man}
-use Rattle.chess_types.specs.declared.position.Rights.{Rights}
-use Rattle.chess_types.specs.declared.position.Wing.{Wing}
-use Rattle.chess_types.specs.declared.position.Wing.TheVariants.{KingSide, QueenSide}
-use Rattle.chess_types.specs.Board.{Board, man_at}
-use Rattle.chess_types.specs.MoveParts.{MoveParts}
-use Rattle.chess_types.specs.Men.{men_of, opponent, is_king, is_pawn}
-use Rattle.chess_types.specs.Position.{State, IsSetup, look}
-use Rattle.chess_types.specs.After.{captured_at, arriving, carried, is_castling, placement_after, rights_after, target_after, clock_after, number_after, after_by, rook_of}
-use Rattle.chess_play.specs.Boards.{CanShift, CanMake, CanTakeBack, carried_back, given, moved, with_castled_back, without_rook}
+use Rattle.chess_types.specs.declared.board.man.Colour.{Colour}
+use Rattle.chess_types.specs.declared.board.man.Man.{Man}
+use Rattle.chess_types.specs.declared.board.position.Rights.{Rights}
+use Rattle.chess_types.specs.declared.board.position.Wing.{Wing}
+use Rattle.chess_types.specs.declared.board.position.Wing.TheVariants.{KingSide, QueenSide}
+use Rattle.chess_types.specs.board.Board.{Board, man_at}
+use Rattle.chess_types.specs.board.MoveParts.{MoveParts}
+use Rattle.chess_types.specs.board.Men.{men_of, opponent, is_pawn}
+use Rattle.chess_types.specs.board.Position.{State, IsSetup, look}
+use Rattle.chess_types.specs.board.After.{captured_at, arriving, transferred, is_castling, placement_after, rights_after, target_after, clock_after, number_after, after_by, rook_of}
+use Rattle.chess_types.proofs.SameLemmas.{king_no_pawn}
+use Rattle.chess_play.specs.steps.Boards.{CanShift, CanMake, CanTakeBack, carried_back, restored, moved, with_castled_back, without_rook}
 use Rattle.chess_play.proofs.CastlingSquares.{castling_parts, reached_free}
-use Rattle.chess_play.proofs.Facts.{Facts, never}
+use Rattle.chess_play.proofs.Facts.{Facts}
 use Rattle.chess_play.proofs.MakeSteps.{Steps, steps_by_facts}
 use Rattle.chess_play.proofs.BackSteps.{Back, back_by_facts}
 
 some_is : (o : Option Man) (man : Man) → o ≡ Some man → IsSome o
 some_is o man e = rw e refl
-
-king_is_no_pawn : (kind : Kind) → is_king kind ≡ true → is_pawn kind ≡ false
-king_is_no_pawn Pawn h = never h
-king_is_no_pawn Knight h = refl
-king_is_no_pawn Bishop h = refl
-king_is_no_pawn Rook h = refl
-king_is_no_pawn Queen h = refl
-king_is_no_pawn King h = refl
 
 king_side_back : (man : Man) (m : MoveParts) (board : Board) → is_castling man KingSide m ≡ true →
     with_castled_back man m board ≡ without_rook man.colour KingSide board
@@ -60,7 +51,7 @@ module _ (p : State) (man : Man) (m : MoveParts) (setup : IsSetup p) (from : m.f
   castling_takes_none : (wing : Wing) → is_castling man wing m ≡ true → look p at ≡ None
   castling_takes_none wing h =
       let a = and_parts _ _ h in
-      let no_pawn : is_pawn man.kind ≡ false = king_is_no_pawn man.kind a.0 in
+      let no_pawn : is_pawn man.kind ≡ false = king_no_pawn man.kind a.0 in
       let c = castling_parts p wing m (facts.castling wing h) in
       let on : at ≡ m.to = rw no_pawn refl in
       ap (look p) (on ∙ c.to) ∙ reached_free p wing m c
@@ -77,7 +68,7 @@ module _ (p : State) (man : Man) (m : MoveParts) (setup : IsSetup p) (from : m.f
   }
 
   -- the rook goes back, where it castled
-  rook_is_back : with_castled_back man m there ≡ carried p man m
+  rook_is_back : with_castled_back man m there ≡ transferred p man m
   rook_is_back =
       elim (cases_Bool (is_castling man KingSide m)) [
         | inl x ↦ king_side_back man m there x ∙ back.rook_back KingSide x
@@ -109,13 +100,13 @@ module _ (p : State) (man : Man) (m : MoveParts) (setup : IsSetup p) (from : m.f
     either = castling_takes_none;
   }
 
-  given_back : (taken : Option Man) → look p at ≡ taken → given at taken (remove p.placement at) ≡ p.placement
+  given_back : (taken : Option Man) → look p at ≡ taken → restored at taken (remove p.placement at) ≡ p.placement
   given_back None h = back.none_back h
   given_back (Some other) h = back.taken_back other h
 
   -- the board is that before the move again
   pub all_is_back : carried_back p.target man m (look p at) there ≡ p.placement
-  all_is_back = ap (λ (b : Board). given at (look p at) b) man_is_back ∙ given_back (look p at) refl
+  all_is_back = ap (λ (b : Board). restored at (look p at) b) man_is_back ∙ given_back (look p at) refl
 
 -- the position after the move, field by field
 pub after_is :

@@ -2,29 +2,19 @@
 use Rattle.std.proofs.Common.{◌≡◌, ◌≢◌, ℕ, ◌+◌, ◌*◌, ◌-◌, ◌/◌, ◌<◌, ◌==◌, Bool, true, ◌&&◌, ◌||◌, Option, Some, None, is_none, refl, sym, ap, ◌∙◌, arith, ◌⊎◌, inl, inr}
 use Rattle.std.proofs.lemmas.Bool.{and_parts, or_cases, true≢false, eqb-true}
 use Rattle.std.proofs.lemmas.Bool.Decides.{nat_tests}
-use Rattle.chess_types.specs.declared.man.Colour.{Colour}
-use Rattle.chess_types.specs.declared.man.Colour.TheVariants.{White, Black}
-use Rattle.chess_types.specs.declared.man.Kind.TheVariants.{Pawn}
-use Rattle.chess_types.specs.declared.man.Man.{Man}
-use Rattle.chess_types.specs.Board.{Look}
-use Rattle.chess_types.specs.Squares.{file_of, rank_of}
-use Rattle.chess_types.specs.MoveParts.{MoveParts}
-use Rattle.chess_types.specs.Men.{opponent, same_colour}
-use Rattle.chess_types.specs.Attack.{gap, leaps}
-use Rattle.chess_types.specs.Position.{IsExplained}
-use Rattle.chess_types.specs.Pseudo.{is_prey, may_enter, is_target, is_ahead, pawn_rank, midway}
-
--- two colours that pass the test are one
-pub same_is : (a b : Colour) → same_colour a b ≡ true → a ≡ b
-same_is White White h = refl
-same_is White Black h = absurd (true≢false (sym h))
-same_is Black White h = absurd (true≢false (sym h))
-same_is Black Black h = refl
-
--- an option that tests as empty is None
-pub none_is : {A : Type 0} (o : Option A) → is_none o ≡ true → o ≡ None
-none_is None h = refl
-none_is (Some x) h = absurd (true≢false (sym h))
+use Rattle.chess_types.specs.declared.board.man.Colour.{Colour}
+use Rattle.chess_types.specs.declared.board.man.Colour.TheVariants.{White, Black}
+use Rattle.chess_types.specs.declared.board.man.Kind.TheVariants.{Pawn}
+use Rattle.chess_types.specs.declared.board.man.Man.{Man}
+use Rattle.chess_types.specs.board.Board.{Look}
+use Rattle.chess_types.specs.board.Squares.{file_of, rank_of}
+use Rattle.chess_types.specs.board.MoveParts.{MoveParts}
+use Rattle.chess_types.specs.board.Men.{opponent}
+use Rattle.chess_types.specs.board.Attack.{distance, leaps}
+use Rattle.chess_types.specs.board.Position.{is_explained}
+use Rattle.chess_types.proofs.TargetLemmas.{Explained, explained_parts, explained_free}
+use Rattle.chess_types.specs.board.Pseudo.{is_capturable, may_enter, is_target, is_ahead, pawn_rank, midway}
+use Rattle.chess_types.proofs.SameLemmas.{none_is}
 
 -- a square that tests as the target is the target
 pub target_is : (target : Option ℕ) (s : ℕ) → is_target target s ≡ true → target ≡ Some s
@@ -47,8 +37,8 @@ Aside Black a b = (file_of a ≢ file_of b) × (rank_of a ≡ rank_of b + 1)
 
 aside_is : (c : Colour) (a b : ℕ) → leaps c Pawn a b ≡ true → Aside c a b
 unfolding leaps
-aside_is White a b h = let p = and_parts (gap (file_of a) (file_of b) == 1) (rank_of b == rank_of a + 1) h in (grind (arith, nat_tests), eqb-true _ _ p.1)
-aside_is Black a b h = let p = and_parts (gap (file_of a) (file_of b) == 1) (rank_of a == rank_of b + 1) h in (grind (arith, nat_tests), eqb-true _ _ p.1)
+aside_is White a b h = let p = and_parts (distance (file_of a) (file_of b) == 1) (rank_of b == rank_of a + 1) h in (grind (arith, nat_tests), eqb-true _ _ p.1)
+aside_is Black a b h = let p = and_parts (distance (file_of a) (file_of b) == 1) (rank_of a == rank_of b + 1) h in (grind (arith, nat_tests), eqb-true _ _ p.1)
 
 -- one square forward, to an empty square
 pub record One (c : Colour) (look : Look) (a b : ℕ) : Type 0 where
@@ -66,7 +56,7 @@ pub record Two (c : Colour) (look : Look) (a b : ℕ) : Type 0 where
 -- diagonally forward, to a man that may be captured there or to the en passant target
 pub record Takes (c : Colour) (look : Look) (target : Option ℕ) (a b : ℕ) : Type 0 where
   pub aside : Aside c a b
-  pub prey : (is_prey c (look b) ≡ true) ⊎ (target ≡ Some b)
+  pub prey : (is_capturable c (look b) ≡ true) ⊎ (target ≡ Some b)
 
 module _ (c : Colour) (look : Look) (target : Option ℕ) (m : MoveParts) where
   abbrev one : Bool
@@ -78,7 +68,7 @@ module _ (c : Colour) (look : Look) (target : Option ℕ) (m : MoveParts) where
       && is_none (look m.to)
 
   abbrev takes : Bool
-  takes = leaps c Pawn m.from m.to && (is_prey c (look m.to) || is_target target m.to)
+  takes = leaps c Pawn m.from m.to && (is_capturable c (look m.to) || is_target target m.to)
 
   -- the tests of a pawn's moves, read
   pub pawn_moves : ((one || two) || takes) ≡ true → One c look m.from m.to ⊎ (Two c look m.from m.to ⊎ Takes c look target m.from m.to)
@@ -143,18 +133,14 @@ pub further_apart : (c : Colour) (a b : ℕ) → Further c a b → a ≢ b
 further_apart White a b h = λ e. omega arith
 further_apart Black a b h = λ e. omega arith
 
-explained_free : (c : Colour) (look : Look) (t : ℕ) → IsExplained c look t → look t ≡ None
-explained_free White look t h = h.1
-explained_free Black look t h = h.1
-
 free_enters : (c : Colour) (o : Option Man) → o ≡ None → may_enter c o ≡ true
 free_enters c o h = rw h refl
 
-prey_enters : (c : Colour) (o : Option Man) → is_prey c o ≡ true → may_enter c o ≡ true
+prey_enters : (c : Colour) (o : Option Man) → is_capturable c o ≡ true → may_enter c o ≡ true
 prey_enters c None h = refl
 prey_enters c (Some man) h = h
 
-module _ (c : Colour) (look : Look) (target : Option ℕ) (explained : (t : ℕ) → target ≡ Some t → IsExplained c look t) where
+module _ (c : Colour) (look : Look) (target : Option ℕ) (explained : (t : ℕ) → target ≡ Some t → is_explained c look t ≡ true) where
   -- it comes to an empty square, or to a man that may be captured
   pub pawn_enters : (a b : ℕ) → PawnMove c look target a b → may_enter c (look b) ≡ true
   pawn_enters a b moves =
@@ -182,7 +168,7 @@ ahead_file : (c : Colour) (a b : ℕ) → Ahead c a b → file_of a ≡ file_of 
 ahead_file White a b h = omega arith
 ahead_file Black a b h = omega arith
 
-passed_at : (c : Colour) (look : Look) (a b : ℕ) → IsExplained c look b → Aside c a b → b < 64 → Passed c look a b (8 * rank_of a + file_of b)
+passed_at : (c : Colour) (look : Look) (a b : ℕ) → Explained c look b → Aside c a b → b < 64 → Passed c look a b (8 * rank_of a + file_of b)
 passed_at White look a b e h inside =
     let at : 8 * rank_of a + file_of b ≡ b - 8 = omega arith in
     record { inside = (omega arith, omega arith); away = λ s. omega arith; aside = λ s. omega arith; free = e.1; man = rw at e.3 }
@@ -194,12 +180,12 @@ two_file : (c : Colour) (look : Look) (a b : ℕ) → Two c look a b → file_of
 two_file c look a b x = ahead_file c a ((a + b) / 2) x.over ∙ ahead_file c ((a + b) / 2) b x.on
 
 -- where a pawn goes to another file and the target, the pawn that it captures stands beside it
-pub passes : (c : Colour) (look : Look) (target : Option ℕ) (a b : ℕ) → b < 64 → PawnMove c look target a b → IsExplained c look b →
+pub passes : (c : Colour) (look : Look) (target : Option ℕ) (a b : ℕ) → b < 64 → PawnMove c look target a b → is_explained c look b ≡ true →
     file_of a ≢ file_of b → Passed c look a b (8 * rank_of a + file_of b)
 passes c look target a b inside moves e other =
     elim moves [
       | inl x ↦ absurd (other (ahead_file c a b x.ahead))
-      | inr y ↦ elim y [ inl x ↦ absurd (other (two_file c look a b x)) | inr x ↦ passed_at c look a b e x.aside inside ]
+      | inr y ↦ elim y [ inl x ↦ absurd (other (two_file c look a b x)) | inr x ↦ passed_at c look a b (explained_parts c look b e) x.aside inside ]
     ]
 
 one_short : (c : Colour) (look : Look) (a b : ℕ) → One c look a b → (b ≡ a + 16) ⊎ (a ≡ b + 16) → ⊥

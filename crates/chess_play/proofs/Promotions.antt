@@ -1,20 +1,21 @@
 -- What becomes of the man that moves: a pawn that promotes is a queen, rook, bishop or knight of its colour (FIDE Laws, article 3.7.3.3).
 use Rattle.std.proofs.Common.{◌≡◌, ◌≢◌, ℕ, ◌<◌, ◌==◌, true, false, ◌&&◌, Option, Some, None, is_none, is_some, refl, sym, ◌∙◌, arith, inl, inr}
 use Rattle.std.proofs.lemmas.Bool.{cases_Bool, true≢false, eq-eqb, ne_eqb}
-use Rattle.chess_types.specs.declared.man.Colour.{Colour}
-use Rattle.chess_types.specs.declared.man.Colour.TheVariants.{White, Black}
-use Rattle.chess_types.specs.declared.man.Kind.{Kind}
-use Rattle.chess_types.specs.declared.man.Kind.TheVariants.{Pawn, Knight, Bishop, Rook, Queen, King}
-use Rattle.chess_types.specs.declared.man.Man.{Man}
-use Rattle.chess_types.specs.Board.{Look}
-use Rattle.chess_types.specs.Squares.{rank_of}
-use Rattle.chess_types.specs.MoveParts.{MoveParts}
-use Rattle.chess_types.specs.Texts.{names_promotion}
-use Rattle.chess_types.specs.Men.{is_king, is_pawn}
-use Rattle.chess_types.specs.Pseudo.{last_rank, names_rightly}
-use Rattle.chess_types.specs.After.{arriving}
-use Rattle.chess_play.specs.Undo.{mover}
-use Rattle.chess_play.proofs.Pawns.{none_is, Two, Further}
+use Rattle.chess_types.specs.declared.board.man.Colour.{Colour}
+use Rattle.chess_types.specs.declared.board.man.Colour.TheVariants.{White, Black}
+use Rattle.chess_types.specs.declared.board.man.Kind.{Kind}
+use Rattle.chess_types.specs.declared.board.man.Kind.TheVariants.{Pawn, Knight, Bishop, Rook, Queen, King}
+use Rattle.chess_types.specs.declared.board.man.Man.{Man}
+use Rattle.chess_types.specs.board.Board.{Look}
+use Rattle.chess_types.specs.board.Squares.{rank_of}
+use Rattle.chess_types.specs.board.MoveParts.{MoveParts}
+use Rattle.chess_types.specs.board.Texts.{names_promotion}
+use Rattle.chess_types.specs.board.Men.{is_king, is_pawn}
+use Rattle.chess_types.specs.board.Pseudo.{last_rank, pawn_promotion_fits}
+use Rattle.chess_types.specs.board.After.{arriving}
+use Rattle.chess_types.proofs.SameLemmas.{none_is}
+use Rattle.chess_play.specs.steps.Undo.{mover}
+use Rattle.chess_play.proofs.Pawns.{Two, Further}
 
 -- the man that arrives has the mover's colour
 pub colour_kept : (man : Man) (promo : Option Kind) → (arriving man promo).colour ≡ man.colour
@@ -55,7 +56,7 @@ promoted_pawn c (Some Queen) h = refl
 promoted_pawn c (Some King) h = absurd (true≢false (sym h))
 
 -- a pawn never becomes a king
-pub pawn_king : (c : Colour) (m : MoveParts) → names_rightly c m ≡ true → is_king (arriving (record { colour = c; kind = Pawn }) m.promo).kind ≡ false
+pub pawn_king : (c : Colour) (m : MoveParts) → pawn_promotion_fits c m ≡ true → is_king (arriving (record { colour = c; kind = Pawn }) m.promo).kind ≡ false
 pawn_king c m h =
     elim (cases_Bool (rank_of m.to == last_rank c)) [
       | inl last ↦ promoted_king c m.promo (rw last at h)
@@ -69,7 +70,7 @@ not_last Black a b inside from h other = (omega arith, omega arith)
 
 -- a pawn that stays one isn't on its last rank
 pub pawn_stays : (c : Colour) (m : MoveParts) → m.to < 64 → (0 < rank_of m.from) × (rank_of m.from < 7) → Further c m.from m.to →
-    names_rightly c m ≡ true → is_pawn (arriving (record { colour = c; kind = Pawn }) m.promo).kind ≡ true → (0 < rank_of m.to) × (rank_of m.to < 7)
+    pawn_promotion_fits c m ≡ true → is_pawn (arriving (record { colour = c; kind = Pawn }) m.promo).kind ≡ true → (0 < rank_of m.to) × (rank_of m.to < 7)
 pawn_stays c m inside from on h still =
     elim (cases_Bool (rank_of m.to == last_rank c)) [
       | inl last ↦ absurd (true≢false (sym still ∙ promoted_pawn c m.promo (rw last at h)))
@@ -81,5 +82,5 @@ two_short White look a b x = λ e. omega arith
 two_short Black look a b x = λ e. omega arith
 
 -- a pawn that advances two squares stays a pawn
-pub two_plain : (c : Colour) (look : Look) (m : MoveParts) → Two c look m.from m.to → names_rightly c m ≡ true → m.promo ≡ None
+pub two_plain : (c : Colour) (look : Look) (m : MoveParts) → Two c look m.from m.to → pawn_promotion_fits c m ≡ true → m.promo ≡ None
 two_plain c look m x h = none_is m.promo (rw (ne_eqb _ _ (two_short c look m.from m.to x)) at h)

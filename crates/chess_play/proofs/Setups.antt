@@ -3,27 +3,29 @@ use Rattle.std.proofs.Common.{◌≡◌, ◌≢◌, ℕ, ◌+◌, ◌-◌, ◌/�
 use Rattle.std.proofs.lemmas.Bool.{and_parts, or_parts, cases_Bool, cases_eq, eqb-false, not-true}
 use Rattle.std.proofs.lemmas.Option.{cond_some}
 use Rattle.std.specs.FinMap.{remove}
-use Rattle.chess_types.specs.declared.man.Colour.{Colour}
-use Rattle.chess_types.specs.declared.man.Colour.TheVariants.{White, Black}
-use Rattle.chess_types.specs.declared.man.Kind.{Kind}
-use Rattle.chess_types.specs.declared.man.Kind.TheVariants.{Pawn, Knight, Bishop, Rook, Queen, King}
-use Rattle.chess_types.specs.declared.man.Man.{Man}
-use Rattle.chess_types.specs.declared.position.Rights.{Rights}
-use Rattle.chess_types.specs.declared.position.Wing.{Wing}
-use Rattle.chess_types.specs.declared.position.Wing.TheVariants.{KingSide, QueenSide}
-use Rattle.chess_types.specs.Board.{Board, Look, man_at}
-use Rattle.chess_types.specs.Squares.{rank_of}
-use Rattle.chess_types.specs.MoveParts.{MoveParts}
-use Rattle.chess_types.specs.Men.{opponent, same_colour, is_king, is_pawn, is_king_of, is_of, holds_pawn, men_of, kings_of}
-use Rattle.chess_types.specs.Position.{State, IsSetup, IsExplained, look, king_home, rook_home, holds}
-use Rattle.chess_types.specs.Pseudo.{midway, crossed, is_pseudo}
-use Rattle.chess_types.specs.After.{captured_at, arriving, carried, is_castling, with_rook, placement_after, rook_of, touches, keeps, rights_after, is_advance, number_after, after_by, after}
-use Rattle.chess_attack.proofs.Counting.{bit}
+use Rattle.chess_types.specs.declared.board.man.Colour.{Colour}
+use Rattle.chess_types.specs.declared.board.man.Colour.TheVariants.{White, Black}
+use Rattle.chess_types.specs.declared.board.man.Kind.TheVariants.{Pawn}
+use Rattle.chess_types.specs.declared.board.man.Man.{Man}
+use Rattle.chess_types.specs.declared.board.position.Rights.{Rights}
+use Rattle.chess_types.specs.declared.board.position.Wing.{Wing}
+use Rattle.chess_types.specs.declared.board.position.Wing.TheVariants.{KingSide, QueenSide}
+use Rattle.chess_types.specs.board.Board.{Board, Look, man_at}
+use Rattle.chess_types.specs.board.Squares.{rank_of}
+use Rattle.chess_types.specs.board.MoveParts.{MoveParts}
+use Rattle.chess_types.specs.board.Men.{opponent, same_colour, is_king, is_king_of, is_of, holds_pawn, men_of, kings_of}
+use Rattle.chess_types.specs.board.Position.{State, IsSetup, is_explained, look, king_home, rook_home, holds}
+use Rattle.chess_types.proofs.TargetLemmas.{explained_from}
+use Rattle.chess_types.specs.board.Pseudo.{midway, crossed, is_pseudo}
+use Rattle.chess_types.specs.board.After.{captured_at, arriving, transferred, is_castling, with_rook, placement_after, rook_of, touches, keeps, rights_after, is_advance, number_after, after_by, after}
+use Rattle.chess_types.proofs.Sums.{bit}
+use Rattle.chess_types.proofs.MoveLemmas.{pseudo_man}
+use Rattle.chess_types.proofs.SameLemmas.{pawn_no_king}
 use Rattle.chess_play.proofs.Census.{put_here, put_there, clear_here, clear_there}
 use Rattle.chess_play.proofs.Pawns.{Two}
 use Rattle.chess_play.proofs.Promotions.{colour_kept}
 use Rattle.chess_play.proofs.CastlingSquares.{king_edge, rook_edge, apart, elsewhere}
-use Rattle.chess_play.proofs.Facts.{Facts, facts, never, pseudo_man}
+use Rattle.chess_play.proofs.Facts.{Facts, facts, never}
 use Rattle.chess_play.proofs.Carried.{cap, carried_here, carried_from, carried_edge, carried_pawns, carried_census, carried_none}
 use Rattle.chess_play.proofs.Castled.{few_carried, ready, rook_census}
 
@@ -68,7 +70,7 @@ king_test c a b e f = λ i. same_colour (e i) c && f i
 
 module _ (p : State) (man : Man) (m : MoveParts) (setup : IsSetup p) (from : m.from < 64) (to : m.to < 64) (facts : Facts p man m) where
   -- the carried board is sound
-  pub carried_sound : Sound p m (carried p man m)
+  pub carried_sound : Sound p m (transferred p man m)
   carried_sound = record {
     kings = λ c.
         let n = carried_census p man m from to facts (is_king_of c) refl in
@@ -83,28 +85,28 @@ module _ (p : State) (man : Man) (m : MoveParts) (setup : IsSetup p) (from : m.f
   }
 
   -- so is the board with the castling rook moved
-  pub castled_sound : (w : Wing) → is_castling man w m ≡ true → Sound p m (with_rook p.side w (carried p man m))
+  pub castled_sound : (w : Wing) → is_castling man w m ≡ true → Sound p m (with_rook p.side w (transferred p man m))
   castled_sound w h =
       let r = ready p man m setup from to facts w h in
       let was = carried_sound in
-      let bare = remove (carried p man m) (rook_home p.side w) in
+      let bare = remove (transferred p man m) (rook_home p.side w) in
       let rook = rook_of p.side in
       let kept : (q : ℕ) → q ≢ crossed p.side w → q ≢ rook_home p.side w →
-      man_at (with_rook p.side w (carried p man m)) q ≡ man_at (carried p man m) q =
-      λ q a b. put_there bare (crossed p.side w) rook q a ∙ clear_there (carried p man m) (rook_home p.side w) q b in
-      let home : man_at (with_rook p.side w (carried p man m)) (rook_home p.side w) ≡ None =
-      put_there bare (crossed p.side w) rook (rook_home p.side w) (apart p.side w).rook_crossed ∙ clear_here (carried p man m) (rook_home p.side w) in
+      man_at (with_rook p.side w (transferred p man m)) q ≡ man_at (transferred p man m) q =
+      λ q a b. put_there bare (crossed p.side w) rook q a ∙ clear_there (transferred p man m) (rook_home p.side w) q b in
+      let home : man_at (with_rook p.side w (transferred p man m)) (rook_home p.side w) ≡ None =
+      put_there bare (crossed p.side w) rook (rook_home p.side w) (apart p.side w).rook_crossed ∙ clear_here (transferred p man m) (rook_home p.side w) in
       record {
         kings = λ c. rook_census p man m (is_king_of c) refl w r ∙ was.kings c;
         few = λ c. omega (arith, rook_census p man m (is_of c) refl w r, was.few c);
         pawns = λ q inside e.
             elim (cases_eq q (crossed p.side w)) [
               | inl same ↦
-                  let there : man_at (with_rook p.side w (carried p man m)) q ≡ Some (rook_of p.side) = rw same (put_here bare (crossed p.side w) rook) in
+                  let there : man_at (with_rook p.side w (transferred p man m)) q ≡ Some (rook_of p.side) = rw same (put_here bare (crossed p.side w) rook) in
                   never (ap holds_pawn (sym there) ∙ e)
               | inr a ↦ elim (cases_eq q (rook_home p.side w)) [
                 | inl same ↦
-                    let none : man_at (with_rook p.side w (carried p man m)) q ≡ None = rw same home in
+                    let none : man_at (with_rook p.side w (transferred p man m)) q ≡ None = rw same home in
                     never (ap holds_pawn (sym none) ∙ e)
                 | inr b ↦ was.pawns q inside (ap holds_pawn (sym (kept q a b)) ∙ e)
               ]
@@ -119,8 +121,8 @@ module _ (p : State) (man : Man) (m : MoveParts) (setup : IsSetup p) (from : m.f
             kept (rook_home c v) x.rook_crossed x.rook_rook ∙ was.rook_home_kept c v u;
       }
 
-  by_man : (w : Wing) → is_castling man w m ≡ true → Sound p m (with_rook man.colour w (carried p man m))
-  by_man w h = subst (λ c. Sound p m (with_rook c w (carried p man m))) (sym facts.mine) (castled_sound w h)
+  by_man : (w : Wing) → is_castling man w m ≡ true → Sound p m (with_rook man.colour w (transferred p man m))
+  by_man w h = subst (λ c. Sound p m (with_rook c w (transferred p man m))) (sym facts.mine) (castled_sound w h)
 
   -- so is the board after the move
   pub placement_sound : Sound p m (placement_after p man m)
@@ -133,15 +135,7 @@ module _ (p : State) (man : Man) (m : MoveParts) (setup : IsSetup p) (from : m.f
         ]
       ]
 
-pawn_no_king : (k : Kind) → is_pawn k ≡ true → is_king k ≡ false
-pawn_no_king Pawn h = refl
-pawn_no_king Knight h = refl
-pawn_no_king Bishop h = refl
-pawn_no_king Rook h = refl
-pawn_no_king Queen h = refl
-pawn_no_king King h = never h
-
-advance_placement : (p : State) (man : Man) (m : MoveParts) → is_advance man m ≡ true → placement_after p man m ≡ carried p man m
+advance_placement : (p : State) (man : Man) (m : MoveParts) → is_advance man m ≡ true → placement_after p man m ≡ transferred p man m
 advance_placement p man m h =
     let a = and_parts _ _ h in
     let k : is_king man.kind ≡ false = pawn_no_king man.kind a.0 in
@@ -149,15 +143,15 @@ advance_placement p man m h =
 
 -- after an advance of two squares the one passed over is explained
 explained : (c : Colour) (was now : Look) (a b : ℕ) → Two c was a b → ((q : ℕ) → q ≢ b → was q ≡ None → now q ≡ None) → now a ≡ None →
-    now b ≡ Some (record { colour = c; kind = Pawn }) → IsExplained (opponent c) now ((a + b) / 2)
+    now b ≡ Some (record { colour = c; kind = Pawn }) → is_explained (opponent c) now ((a + b) / 2) ≡ true
 explained White was now a b x none gone there =
     let back : (a + b) / 2 - 8 ≡ a = omega arith in
     let forth : (a + b) / 2 + 8 ≡ b = omega arith in
-    (omega arith, none ((a + b) / 2) (λ e. omega arith) x.free_over, ap now back ∙ gone, ap now forth ∙ there)
+    explained_from Black now ((a + b) / 2) (omega arith, none ((a + b) / 2) (λ e. omega arith) x.free_over, ap now back ∙ gone, ap now forth ∙ there)
 explained Black was now a b x none gone there =
     let back : (a + b) / 2 - 8 ≡ b = omega arith in
     let forth : (a + b) / 2 + 8 ≡ a = omega arith in
-    (omega arith, none ((a + b) / 2) (λ e. omega arith) x.free_over, ap now forth ∙ gone, ap now back ∙ there)
+    explained_from White now ((a + b) / 2) (omega arith, none ((a + b) / 2) (λ e. omega arith) x.free_over, ap now forth ∙ gone, ap now back ∙ there)
 
 one_at_least : (c : Colour) (n : ℕ) → 1 ≤ n → 1 ≤ number_after c n
 one_at_least White n h = h
@@ -177,13 +171,13 @@ setup_by_facts p man m setup from to facts =
       target = λ t h.
           let x = cond_some _ _ _ h in
           let two = facts.advance x.0 in
-          let there : man_at (carried p man m) m.to ≡ Some (record { colour = p.side; kind = Pawn }) =
+          let there : man_at (transferred p man m) m.to ≡ Some (record { colour = p.side; kind = Pawn }) =
           carried_here p man m from to facts ∙ ap (λ y. Some y) (facts.plain x.0) in
-          let e : IsExplained (opponent p.side) (man_at (carried p man m)) (midway m) =
-          explained p.side (look p) (man_at (carried p man m)) m.from m.to two (carried_none p man m from to facts)
+          let e : is_explained (opponent p.side) (man_at (transferred p man m)) (midway m) ≡ true =
+          explained p.side (look p) (man_at (transferred p man m)) m.from m.to two (carried_none p man m from to facts)
           (carried_from p man m from to facts) there in
-          subst (λ (q : ℕ). IsExplained (opponent p.side) (man_at (placement_after p man m)) q) x.1
-          (subst (λ (b : Board). IsExplained (opponent p.side) (man_at b) (midway m)) (sym (advance_placement p man m x.0)) e);
+          subst (λ (q : ℕ). is_explained (opponent p.side) (man_at (placement_after p man m)) q ≡ true) x.1
+          (subst (λ (b : Board). is_explained (opponent p.side) (man_at b) (midway m) ≡ true) (sym (advance_placement p man m x.0)) e);
       number = one_at_least p.side p.number setup.number;
     }
 

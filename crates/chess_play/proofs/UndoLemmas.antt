@@ -1,16 +1,17 @@
 -- A record that fits: what the man on the move's last square and the record tell of the position before.
 use Rattle.std.proofs.Common.{◌≡◌, ◌≤◌, ◌<◌, ℕ, Option, Some, None, refl, sym, ap, subst, ◌∙◌, arith}
-use Rattle.chess_types.specs.declared.man.Colour.{Colour}
-use Rattle.chess_types.specs.declared.man.Colour.TheVariants.{White, Black}
-use Rattle.chess_types.specs.declared.man.Man.{Man}
-use Rattle.chess_types.specs.Board.{Board, man_at}
-use Rattle.chess_types.specs.MoveParts.{MoveParts}
-use Rattle.chess_types.specs.Position.{State, IsSetup, look}
-use Rattle.chess_types.specs.After.{captured_at, arriving, placement_after, number_after, after_by, after}
-use Rattle.chess_play.specs.Boards.{CanTakeBack, carried_back}
+use Rattle.chess_types.specs.declared.board.man.Colour.{Colour}
+use Rattle.chess_types.specs.declared.board.man.Colour.TheVariants.{White, Black}
+use Rattle.chess_types.specs.declared.board.man.Man.{Man}
+use Rattle.chess_types.specs.board.Board.{Board, man_at}
+use Rattle.chess_types.specs.board.MoveParts.{MoveParts}
+use Rattle.chess_types.specs.board.Position.{State, IsSetup, look}
+use Rattle.chess_types.specs.board.After.{captured_at, arriving, placement_after, number_after, after_by, after}
+use Rattle.chess_types.proofs.MoveLemmas.{pseudo_man}
+use Rattle.chess_play.specs.steps.Boards.{CanTakeBack, carried_back}
 use Rattle.chess_play.specs.Records.{RecordParts, captured_by, IsBefore}
-use Rattle.chess_play.specs.Undo.{mover, number_before, before_by}
-use Rattle.chess_play.proofs.Facts.{Facts, facts, pseudo_man}
+use Rattle.chess_play.specs.steps.Undo.{mover, number_before, before_by}
+use Rattle.chess_play.proofs.Facts.{Facts, facts}
 use Rattle.chess_play.proofs.BackSteps.{back_by_facts}
 use Rattle.chess_play.proofs.MoveLemmas.{can_take_back, all_is_back}
 

@@ -1,14 +1,14 @@
 -- When the king of the side to move may castle, whatever move is meant (FIDE Laws, article 3.8.2).
 use Rattle.std.specs.Prelude.{Bool, not, ◌&&◌, is_none}
-use Rattle.chess_types.specs.declared.man.Colour.{Colour}
-use Rattle.chess_types.specs.declared.man.Colour.TheVariants.{White, Black}
-use Rattle.chess_types.specs.declared.position.Wing.{Wing}
-use Rattle.chess_types.specs.declared.position.Wing.TheVariants.{KingSide, QueenSide}
-use Rattle.chess_types.specs.Board.{Look}
-use Rattle.chess_types.specs.Men.{opponent}
-use Rattle.chess_types.specs.Attack.{is_attacked}
-use Rattle.chess_types.specs.Position.{State, look, king_home, holds}
-use Rattle.chess_types.specs.Pseudo.{crossed, reached}
+use Rattle.chess_types.specs.declared.board.man.Colour.{Colour}
+use Rattle.chess_types.specs.declared.board.man.Colour.TheVariants.{White, Black}
+use Rattle.chess_types.specs.declared.board.position.Wing.{Wing}
+use Rattle.chess_types.specs.declared.board.position.Wing.TheVariants.{KingSide, QueenSide}
+use Rattle.chess_types.specs.board.Board.{Look}
+use Rattle.chess_types.specs.board.Men.{opponent}
+use Rattle.chess_types.specs.board.Attack.{is_attacked}
+use Rattle.chess_types.specs.board.Position.{State, look, king_home, holds}
+use Rattle.chess_types.specs.board.Pseudo.{crossed, reached}
 
 -- no man stands between the king's home and the rook's
 abbrev pub is_way_free : Look → Colour → Wing → Bool

@@ -1,7 +1,5 @@
--- What is kept beside a position while moves are made and taken back.
-pub mod Followed
-pub mod Boards
-pub mod Records
-pub mod Undo
-pub mod LiveParts
+-- What is seen of a position while moves are made and taken back, and of the records of moves. `steps` has words of the code alone.
 pub mod Castling
+pub mod Records
+pub mod LiveParts
+pub mod steps

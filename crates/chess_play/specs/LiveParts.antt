@@ -2,8 +2,8 @@
 -- key are those of the position.
 use Rattle.std.specs.Prelude.{ℕ, List, refl}
 use Rattle.std.specs.Coded.{Coded, code_by, coded×, coded_ℕ, coded_list}
-use Rattle.chess_types.specs.Position.{State}
-use Rattle.chess_types.specs.StateCode.{coded_state}
+use Rattle.chess_types.specs.board.Position.{State}
+use Rattle.chess_types.specs.steps.StateCode.{coded_state}
 
 pub record LiveParts : Type 0 where
   pub position : State

@@ -4,12 +4,12 @@
 --   IsBefore      a position is the one before the move of a record
 --   Fits          there is such a position
 use Rattle.std.specs.Prelude.{◌≡◌, ℕ, true, Option, Some, None}
-use Rattle.chess_types.specs.declared.man.Man.{Man}
-use Rattle.chess_types.specs.declared.position.Rights.{Rights}
-use Rattle.chess_types.specs.MoveParts.{MoveParts}
-use Rattle.chess_types.specs.Position.{State, IsSetup, look}
-use Rattle.chess_types.specs.Pseudo.{is_pseudo}
-use Rattle.chess_types.specs.After.{captured_at, after}
+use Rattle.chess_types.specs.declared.board.man.Man.{Man}
+use Rattle.chess_types.specs.declared.board.position.Rights.{Rights}
+use Rattle.chess_types.specs.board.MoveParts.{MoveParts}
+use Rattle.chess_types.specs.board.Position.{State, IsSetup, look}
+use Rattle.chess_types.specs.board.Pseudo.{is_pseudo}
+use Rattle.chess_types.specs.board.After.{captured_at, after}
 
 pub record RecordParts : Type 0 where
   pub played : MoveParts

@@ -1,7 +1,7 @@
 ghost use Rattle.std.specs.Prelude.{◌≡◌, ◌<◌, None, IsSome};
 ghost use Rattle.std.specs.FinMap as map;
-ghost use Rattle.chess_types.specs.Men.{men_of};
-ghost use Rattle.chess_play.specs.Followed.{AreKept, Follows};
+ghost use Rattle.chess_types.specs.board.Men.{men_of};
+ghost use Rattle.chess_play.specs.steps.Followed.{AreKept, Follows};
 
 use chess_attack::{Counts, Follower};
 use chess_eval::Sum;
@@ -18,15 +18,15 @@ pub struct Followers<'k> {
 }
 
 impl<'k> Model for Followers<'k> {
-    ghost use Rattle.chess_play.specs.Followed.{KeptNumbers};
+    ghost use Rattle.chess_play.specs.steps.Followed.{KeptNumbers};
 
     ghost Value = { KeptNumbers };
 
-    ghost view = { λ f. record { counts = f.counts; white = f.sum; key = f.key } };
+    ghost view = { λ f. record { counts = f.counts; sums = f.sum; key = f.key } };
 }
 
 impl<'k> Followers<'k> {
-    ghost use Rattle.chess_types.specs.Board.{Board};
+    ghost use Rattle.chess_types.specs.board.Board.{Board};
 
     /// Those of the placement, with no tick.
     pub fn of(placement: &Placement, table: &'k KeyTable) -> Followers<'k>

@@ -1,7 +1,7 @@
-ghost use Rattle.std.specs.Prelude.{◌≡◌, ◌<◌, ◌≤◌, IsTrue};
-ghost use Rattle.chess_types.specs.Position.{State, IsSetup, look};
-ghost use Rattle.chess_types.specs.Pseudo.{is_pseudo};
-ghost use Rattle.chess_types.specs.After.{after};
+ghost use Rattle.std.specs.Prelude.{◌≡◌, ◌≤◌, IsTrue};
+ghost use Rattle.chess_types.specs.board.Position.{State, IsSetup, look};
+ghost use Rattle.chess_types.specs.board.Pseudo.{is_pseudo};
+ghost use Rattle.chess_types.specs.board.After.{after};
 ghost use Rattle.chess_attack.specs.KeptCounts.{AreCounts, changed_of};
 ghost use Rattle.chess_eval.specs.Evaluation.{evaluation, IsWithin};
 ghost use Rattle.chess_key.specs.Keys.{IsKeyOf};
@@ -36,8 +36,8 @@ impl<'k> Model for Live<'k> {
     ghost view = { λ l. record { position = l.setup; words = l.kept.key.words; ticks = l.kept.counts.ticks } };
 
     ghost use Rattle.std.specs.Prelude.{◌≤◌};
-    ghost use Rattle.chess_types.specs.Position.{IsSetup};
-    ghost use Rattle.chess_play.specs.Followed.{AreKept};
+    ghost use Rattle.chess_types.specs.board.Position.{IsSetup};
+    ghost use Rattle.chess_play.specs.steps.Followed.{AreKept};
 
     ghost invariant = { λ l. (IsSetup l.setup) × (AreKept l.kept l.setup.placement) × (l.kept.counts.ticks ≤ 216) };
 }
@@ -70,10 +70,10 @@ impl<'k> Live<'k> {
         &self.kept.counts
     }
 
-    /// Its evaluation, in centipawns for White: at most 13,581 either way.
+    /// Its evaluation, in centipawns for White: at most 13,605 either way.
     pub fn white(&self) -> i32
         ensures value { result ≡ evaluation (look self.now.position) }
-        ensures in_range { IsWithin 13581 result }
+        ensures in_range { IsWithin 13605 result }
     {
         self.kept.sum.white()
     }
@@ -94,12 +94,12 @@ impl<'k> Live<'k> {
         self.kept.counts.ticks()
     }
 
-    /// Makes the move, by at most four puts and clears: the position is the one after it (FIDE Laws 3.1 to 3.8). The answer
-    /// must be spent, by `undo` or by `Made::keep`.
+    /// Makes the move, by at most four puts and clears: the position is the one after it (FIDE Laws 3.1 to 3.8). The halfmove
+    /// clock and the fullmove number are at most 1,000,000. The answer must be spent, by `undo` or by `Made::keep`.
     pub fn make(&mut self, m: Move) -> Made
         requires pseudo { IsTrue (is_pseudo self.old.position m) }
-        requires clock { self.old.position.clock < 1000000 }
-        requires number { self.old.position.number < 1000000 }
+        requires clock { self.old.position.clock ≤ 1000000 }
+        requires number { self.old.position.number ≤ 1000000 }
         ensures position { self.new.position ≡ after self.old.position m }
         ensures words { self.new.words ≡ self.old.words }
         ensures record { result ≡ record_of self.old.position m }

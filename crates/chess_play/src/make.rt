@@ -1,8 +1,8 @@
-ghost use Rattle.std.specs.Prelude.{◌≡◌, ◌<◌, ◌≤◌, Some, IsTrue};
-ghost use Rattle.chess_types.specs.Position.{IsSetup, look};
-ghost use Rattle.chess_types.specs.Pseudo.{is_pseudo};
-ghost use Rattle.chess_types.specs.After.{after};
-ghost use Rattle.chess_play.specs.Followed.{AreKept, Follows};
+ghost use Rattle.std.specs.Prelude.{◌≡◌, ◌≤◌, Some, IsTrue};
+ghost use Rattle.chess_types.specs.board.Position.{IsSetup, look};
+ghost use Rattle.chess_types.specs.board.Pseudo.{is_pseudo};
+ghost use Rattle.chess_types.specs.board.After.{after};
+ghost use Rattle.chess_play.specs.steps.Followed.{AreKept, Follows};
 ghost use Rattle.chess_play.specs.Records.{record_of};
 
 use crate::after::{clock_after, number_after, rights_after, target_after};
@@ -15,8 +15,8 @@ use chess_types::{Man, Move, Setup};
 pub fn make(setup: &mut Setup, kept: &mut Followers, man: Man, m: Move) -> Record
     requires here { look setup.old m.from ≡ Some man }
     requires pseudo { IsTrue (is_pseudo setup.old m) }
-    requires clock { setup.old.clock < 1000000 }
-    requires number { setup.old.number < 1000000 }
+    requires clock { setup.old.clock ≤ 1000000 }
+    requires number { setup.old.number ≤ 1000000 }
     requires agrees { AreKept kept.old setup.old.placement }
     ensures position { setup.new ≡ after setup.old m }
     ensures setup { IsSetup setup.new }

@@ -1,7 +1,7 @@
 ghost use Rattle.std.specs.Prelude.{◌≡◌};
-ghost use Rattle.chess_types.specs.Men.{is_king, is_pawn, same_colour};
-ghost use Rattle.chess_types.specs.Pseudo.{is_prey, may_enter};
-ghost use Rattle.chess_types.specs.Texts.{names_promotion};
+ghost use Rattle.chess_types.specs.board.Men.{is_king, is_pawn, same_colour};
+ghost use Rattle.chess_types.specs.board.Pseudo.{is_capturable, may_enter};
+ghost use Rattle.chess_types.specs.board.Texts.{names_promotion};
 
 use chess_types::{Colour, Kind, Man};
 
@@ -27,8 +27,8 @@ pub(crate) fn is_pawn(kind: Kind) -> bool
 }
 
 /// Whether a man of the other side stands there, which isn't its king: a king is never taken (FIDE Laws 1.4.1).
-pub(crate) fn is_prey(side: Colour, there: Option<Man>) -> bool
-    ensures { result ≡ is_prey side there }
+pub(crate) fn is_capturable(side: Colour, there: Option<Man>) -> bool
+    ensures { result ≡ is_capturable side there }
 {
     match there {
         None => false,
@@ -40,7 +40,7 @@ pub(crate) fn is_prey(side: Colour, there: Option<Man>) -> bool
 pub fn may_enter(side: Colour, there: Option<Man>) -> bool
     ensures { result ≡ may_enter side there }
 {
-    there.is_none() || is_prey(side, there)
+    there.is_none() || is_capturable(side, there)
 }
 
 /// Whether a move names no kind, or a queen, rook, bishop or knight (FIDE Laws 3.7.3.3).

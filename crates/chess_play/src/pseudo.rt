@@ -1,12 +1,12 @@
 ghost use Rattle.std.specs.Prelude.{◌≡◌, ◌&&◌, ◌<◌, is_none};
-ghost use Rattle.chess_types.specs.Attack.{is_attacked, leaps};
-ghost use Rattle.chess_types.specs.Position.{look};
+ghost use Rattle.chess_types.specs.board.Attack.{is_attacked, leaps};
+ghost use Rattle.chess_types.specs.board.Position.{look};
 ghost use Rattle.chess_play.specs.Castling.{is_way_free, may_castle};
-ghost use Rattle.chess_types.specs.Pseudo.{castles, castles_to, goes, is_ahead, is_pseudo, is_target, last_rank, midway, moves_as, names_rightly, pawn_rank, pawn_takes, steps_one, steps_two};
-ghost use Rattle.chess_types.specs.declared.man.Kind.TheVariants.{Pawn};
+ghost use Rattle.chess_types.specs.board.Pseudo.{castles, castles_to, moves_as_it_attacks, is_ahead, is_pseudo, is_target, last_rank, midway, moves_as, pawn_promotion_fits, pawn_rank, pawn_takes, steps_one, steps_two};
+ghost use Rattle.chess_types.specs.declared.board.man.Kind.TheVariants.{Pawn};
 ghost use Rattle.chess_attack.specs.KeptCounts.{AreCounts};
 
-use crate::men::{is_prey, may_enter, names_promotion, same_colour};
+use crate::men::{is_capturable, may_enter, names_promotion, same_colour};
 use chess_attack::{Counts, attacks_square, leaps};
 use chess_types::{Colour, Kind, Man, Move, Setup, Square, Wing};
 
@@ -84,12 +84,12 @@ fn pawn_takes(setup: &Setup, m: Move) -> bool
     ensures { result ≡ pawn_takes setup.now m }
 {
     leaps(setup.side, Kind::Pawn, m.from, m.to)
-        && (is_prey(setup.side, setup.placement.get(m.to)) || is_target(setup.target, m.to))
+        && (is_capturable(setup.side, setup.placement.get(m.to)) || is_target(setup.target, m.to))
 }
 
 /// Whether a pawn's move names what it becomes exactly where it reaches the last rank (FIDE Laws 3.7.3.3).
-fn names_rightly(side: Colour, m: Move) -> bool
-    ensures { result ≡ names_rightly side m }
+fn pawn_promotion_fits(side: Colour, m: Move) -> bool
+    ensures { result ≡ pawn_promotion_fits side m }
 {
     if m.to.rank() == last_rank(side) {
         m.promo.is_some() && names_promotion(m.promo)
@@ -103,14 +103,6 @@ pub(crate) fn castles_to(side: Colour, wing: Wing, m: Move) -> bool
     ensures { result ≡ castles_to side wing m }
 {
     m.from == side.king_home() && m.to == wing.reached(side)
-}
-
-/// Whether a man of the colour attacks the square, by the kept counts.
-fn is_attacked(setup: &Setup, counts: &Counts, colour: Colour, s: Square) -> bool
-    requires { AreCounts counts.now setup.now.placement }
-    ensures { result ≡ is_attacked (look setup.now) colour s }
-{
-    counts.count(colour, s) >= 1
 }
 
 /// Whether no man stands there.
@@ -149,9 +141,9 @@ pub(crate) fn may_castle(setup: &Setup, counts: &Counts, wing: Wing) -> bool
     let other = side.opponent();
     setup.rights.holds(side, wing)
         && is_way_free(setup, side, wing)
-        && !is_attacked(setup, counts, other, side.king_home())
-        && !is_attacked(setup, counts, other, wing.crossed(side))
-        && !is_attacked(setup, counts, other, wing.reached(side))
+        && !counts.is_attacked(other, side.king_home())
+        && !counts.is_attacked(other, wing.crossed(side))
+        && !counts.is_attacked(other, wing.reached(side))
 }
 
 /// Whether the king castles to that wing (FIDE Laws 3.8.2).
@@ -164,8 +156,8 @@ fn castles(setup: &Setup, counts: &Counts, wing: Wing, m: Move) -> bool
 }
 
 /// Whether the man of the side goes to a square that it attacks and may enter (FIDE Laws 3.2 to 3.6, 3.8.1).
-fn goes(setup: &Setup, kind: Kind, m: Move) -> bool
-    ensures { result ≡ goes setup.now kind m }
+fn moves_as_it_attacks(setup: &Setup, kind: Kind, m: Move) -> bool
+    ensures { result ≡ moves_as_it_attacks setup.now kind m }
 {
     let man = Man {
         colour: setup.side,
@@ -176,24 +168,24 @@ fn goes(setup: &Setup, kind: Kind, m: Move) -> bool
 }
 
 /// Whether a man of the side to move goes so, by its kind.
-#[tactic(auto, unfolding(chess_types::specs::Pseudo::moves_as))]
+#[tactic(auto, unfolding(chess_types::specs::board::Pseudo::moves_as))]
 fn moves_as(setup: &Setup, counts: &Counts, kind: Kind, m: Move) -> bool
     requires { AreCounts counts.now setup.now.placement }
     ensures { result ≡ moves_as setup.now kind m }
 {
     match kind {
         Kind::Pawn => {
-            names_rightly(setup.side, m)
+            pawn_promotion_fits(setup.side, m)
                 && (steps_one(setup, m) || steps_two(setup, m) || pawn_takes(setup, m))
         }
         Kind::King => {
             m.promo.is_none()
-                && (goes(setup, kind, m)
+                && (moves_as_it_attacks(setup, kind, m)
                     || castles(setup, counts, Wing::KingSide, m)
                     || castles(setup, counts, Wing::QueenSide, m))
         }
         Kind::Knight | Kind::Bishop | Kind::Rook | Kind::Queen => {
-            m.promo.is_none() && goes(setup, kind, m)
+            m.promo.is_none() && moves_as_it_attacks(setup, kind, m)
         }
     }
 }

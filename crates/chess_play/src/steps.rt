@@ -1,9 +1,9 @@
 ghost use Rattle.std.specs.Prelude.{◌≡◌, ◌+◌, ◌<◌, None, IfSome, IsSome};
 ghost use Rattle.std.specs.FinMap as map;
-ghost use Rattle.chess_types.specs.Men.{men_of};
-ghost use Rattle.chess_types.specs.After.{captured_at, rook_of};
-ghost use Rattle.chess_play.specs.Followed.{AreKept, Follows};
-ghost use Rattle.chess_play.specs.Boards.{CanCastle, CanCastleBack, CanMake, CanTakeBack, carried_back, carried_on, castling_ticks, given, moved, ticks_of, with_castled, with_castled_back};
+ghost use Rattle.chess_types.specs.board.Men.{men_of};
+ghost use Rattle.chess_types.specs.board.After.{captured_at, rook_of};
+ghost use Rattle.chess_play.specs.steps.Followed.{AreKept, Follows};
+ghost use Rattle.chess_play.specs.steps.Boards.{CanCastle, CanCastleBack, CanMake, CanTakeBack, carried_back, carried_on, castling_ticks, restored, moved, ticks_of, with_castled, with_castled_back};
 
 use crate::after::{arriving, captured_at, castled};
 use crate::followers::Followers;
@@ -54,7 +54,7 @@ fn give_back(placement: &mut Placement, kept: &mut Followers, at: Square, taken:
     requires empty { map.get placement.old at ≡ None }
     requires room { IfSome taken (λ man. men_of placement.old man.colour < 16) }
     requires agrees { AreKept kept.old placement.old }
-    ensures placement { placement.new ≡ given at taken placement.old }
+    ensures placement { placement.new ≡ restored at taken placement.old }
     ensures follows { Follows kept.old kept.new placement.old placement.new (ticks_of taken) }
 {
     if let Some(man) = taken {

@@ -1,8 +1,8 @@
 ghost use Rattle.std.specs.Prelude.{◌≡◌, ◌≤◌, Some};
-ghost use Rattle.chess_types.specs.Position.{State, look};
-ghost use Rattle.chess_play.specs.Followed.{AreKept, Follows};
+ghost use Rattle.chess_types.specs.board.Position.{State, look};
+ghost use Rattle.chess_play.specs.steps.Followed.{AreKept, Follows};
 ghost use Rattle.chess_play.specs.Records.{Fits, IsBefore};
-ghost use Rattle.chess_play.specs.Undo.{mover, number_before};
+ghost use Rattle.chess_play.specs.steps.Undo.{mover, number_before};
 
 use crate::followers::Followers;
 use crate::record::Record;

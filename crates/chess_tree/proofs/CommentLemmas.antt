@@ -3,8 +3,9 @@ use Rattle.std.proofs.Common.{◌≡◌, ℕ, ◌<◌, ◌==◌, ◌||◌, Bool,
 use Rattle.std.proofs.lemmas.Bool.{false≢true}
 use Rattle.std.specs.Prelude.{if◌then◌else◌}
 use Rattle.std.specs.List.{AllByRecursion, join_with_byte}
-use Rattle.chess_types.specs.Words.{is_gap, word_of, words, words_from}
-use Rattle.chess_tree.specs.Comments.{IsComment, blanks, has_brace, normalised, with_word}
+use Rattle.chess_types.specs.bytes.Words.{is_gap, as_word, words, words_from}
+use Rattle.chess_types.proofs.WordLemmas.{word_of-some}
+use Rattle.chess_tree.specs.Comments.{IsComment, blanks, has_brace, normalised, with_next_word}
 
 -- ---- bytes of a list, each with a property
 
@@ -18,7 +19,7 @@ module _ (P : ℕ → Type 0) where
   all_lists [] b all more = more
   all_lists (x ∷ a) b all more = (all.0, all_lists a b all.1 more)
 
-  all_word : (word : List ℕ) → AllByRecursion P word → AllByRecursion (AllByRecursion P) (word_of word)
+  all_word : (word : List ℕ) → AllByRecursion P word → AllByRecursion (AllByRecursion P) (as_word word)
   all_word [] all = tt
   all_word (b ∷ bs) all = (all, tt)
 
@@ -27,8 +28,8 @@ module _ (P : ℕ → Type 0) where
       → AllByRecursion (AllByRecursion P) (words_from gaps begun text)
   all_words gaps begun [] before all = all_word begun before
   all_words gaps begun (b ∷ bs) before all =
-      elim (is_gap gaps b) as (λ r. AllByRecursion (AllByRecursion P) (if r then word_of begun ++ words_from gaps [] bs else words_from gaps (begun ++ b ∷ []) bs)) [
-        | true ↦ all_lists (word_of begun) (words_from gaps [] bs) (all_word begun before) (all_words gaps [] bs tt all.1)
+      elim (is_gap gaps b) as (λ r. AllByRecursion (AllByRecursion P) (if r then as_word begun ++ words_from gaps [] bs else words_from gaps (begun ++ b ∷ []) bs)) [
+        | true ↦ all_lists (as_word begun) (words_from gaps [] bs) (all_word begun before) (all_words gaps [] bs tt all.1)
         | false ↦ all_words gaps (begun ++ b ∷ []) bs (all_append begun (b ∷ []) before (all.0, tt)) all.1
       ]
 
@@ -43,7 +44,7 @@ module _ (P : ℕ → Type 0) where
 abbrev IsWord : List ℕ → List ℕ → Type 0
 IsWord gaps word = (0 < length word) × AllByRecursion (λ b. is_gap gaps b ≡ false) word
 
-word_is : (gaps word : List ℕ) → AllByRecursion (λ b. is_gap gaps b ≡ false) word → AllByRecursion (IsWord gaps) (word_of word)
+word_is : (gaps word : List ℕ) → AllByRecursion (λ b. is_gap gaps b ≡ false) word → AllByRecursion (IsWord gaps) (as_word word)
 word_is gaps [] all = tt
 word_is gaps (b ∷ bs) all = ((omega arith, all), tt)
 
@@ -55,38 +56,34 @@ words_append gaps (x ∷ a) b all more = (all.0, words_append gaps a b all.1 mor
 are_words : (gaps begun text : List ℕ) → AllByRecursion (λ b. is_gap gaps b ≡ false) begun → AllByRecursion (IsWord gaps) (words_from gaps begun text)
 are_words gaps begun [] before = word_is gaps begun before
 are_words gaps begun (b ∷ bs) before =
-    elim (is_gap gaps b) as (λ r. is_gap gaps b ≡ r → AllByRecursion (IsWord gaps) (if r then word_of begun ++ words_from gaps [] bs else words_from gaps (begun ++ b ∷ []) bs)) [
-      | true ↦ λ _. words_append gaps (word_of begun) (words_from gaps [] bs) (word_is gaps begun before) (are_words gaps [] bs tt)
+    elim (is_gap gaps b) as (λ r. is_gap gaps b ≡ r → AllByRecursion (IsWord gaps) (if r then as_word begun ++ words_from gaps [] bs else words_from gaps (begun ++ b ∷ []) bs)) [
+      | true ↦ λ _. words_append gaps (as_word begun) (words_from gaps [] bs) (word_is gaps begun before) (are_words gaps [] bs tt)
       | false ↦ λ e. are_words gaps (begun ++ b ∷ []) bs (all_append (λ x. is_gap gaps x ≡ false) begun (b ∷ []) before (e, tt))
     ] refl
 
-from_last : (gaps word begun : List ℕ) → AllByRecursion (λ b. is_gap gaps b ≡ false) word → words_from gaps begun word ≡ word_of (begun ++ word)
-from_last gaps [] begun all = ap word_of (sym (append-nil begun))
+from_last : (gaps word begun : List ℕ) → AllByRecursion (λ b. is_gap gaps b ≡ false) word → words_from gaps begun word ≡ as_word (begun ++ word)
+from_last gaps [] begun all = ap as_word (sym (append-nil begun))
 from_last gaps (b ∷ bs) begun all =
-    ap (λ (r : Bool). if r then word_of begun ++ words_from gaps [] bs else words_from gaps (begun ++ b ∷ []) bs) all.0
+    ap (λ (r : Bool). if r then as_word begun ++ words_from gaps [] bs else words_from gaps (begun ++ b ∷ []) bs) all.0
     ∙ from_last gaps bs (begun ++ b ∷ []) all.1
-    ∙ ap word_of (append_assoc begun (b ∷ []) bs)
+    ∙ ap as_word (append_assoc begun (b ∷ []) bs)
 
 from_next : (gaps word begun rest : List ℕ) (gap : ℕ) → is_gap gaps gap ≡ true → AllByRecursion (λ b. is_gap gaps b ≡ false) word
-    → words_from gaps begun (word ++ gap ∷ rest) ≡ word_of (begun ++ word) ++ words gaps rest
+    → words_from gaps begun (word ++ gap ∷ rest) ≡ as_word (begun ++ word) ++ words gaps rest
 from_next gaps [] begun rest gap is all =
-    ap (λ (r : Bool). if r then word_of begun ++ words_from gaps [] rest else words_from gaps (begun ++ gap ∷ []) rest) is
-    ∙ ap (λ (w : List ℕ). word_of w ++ words gaps rest) (sym (append-nil begun))
+    ap (λ (r : Bool). if r then as_word begun ++ words_from gaps [] rest else words_from gaps (begun ++ gap ∷ []) rest) is
+    ∙ ap (λ (w : List ℕ). as_word w ++ words gaps rest) (sym (append-nil begun))
 from_next gaps (b ∷ bs) begun rest gap is all =
-    ap (λ (r : Bool). if r then word_of begun ++ words_from gaps [] (bs ++ gap ∷ rest) else words_from gaps (begun ++ b ∷ []) (bs ++ gap ∷ rest)) all.0
+    ap (λ (r : Bool). if r then as_word begun ++ words_from gaps [] (bs ++ gap ∷ rest) else words_from gaps (begun ++ b ∷ []) (bs ++ gap ∷ rest)) all.0
     ∙ from_next gaps bs (begun ++ b ∷ []) rest gap is all.1
-    ∙ ap (λ (w : List ℕ). word_of w ++ words gaps rest) (append_assoc begun (b ∷ []) bs)
-
-one_word : (word : List ℕ) → 0 < length word → word_of word ≡ word ∷ []
-one_word [] some = absurd (omega arith)
-one_word (b ∷ bs) some = refl
+    ∙ ap (λ (w : List ℕ). as_word w ++ words gaps rest) (append_assoc begun (b ∷ []) bs)
 
 words_joined : (gaps : List ℕ) (ws : List (List ℕ)) → is_gap gaps 32 ≡ true → AllByRecursion (IsWord gaps) ws → words gaps (join_with_byte 32 ws) ≡ ws
 words_joined gaps [] is all = refl
-words_joined gaps (w ∷ []) is all = from_last gaps w [] all.0.1 ∙ one_word w all.0.0
+words_joined gaps (w ∷ []) is all = from_last gaps w [] all.0.1 ∙ word_of-some w all.0.0
 words_joined gaps (w ∷ v ∷ ws) is all =
     from_next gaps w [] (join_with_byte 32 (v ∷ ws)) 32 is all.0.1
-    ∙ ap (λ (x : List (List ℕ)). x ++ words gaps (join_with_byte 32 (v ∷ ws))) (one_word w all.0.0)
+    ∙ ap (λ (x : List (List ℕ)). x ++ words gaps (join_with_byte 32 (v ∷ ws))) (word_of-some w all.0.0)
     ∙ ap (λ (x : List (List ℕ)). w ∷ x) (words_joined gaps (v ∷ ws) is all.1)
 
 -- ---- a normalised text is a comment
@@ -124,7 +121,7 @@ behind [] ws = join_with_byte 32 ws
 behind (b ∷ done) [] = b ∷ done
 behind (b ∷ done) (w ∷ ws) = (b ∷ done) ++ 32 ∷ join_with_byte 32 (w ∷ ws)
 
-behind_next : (done w : List ℕ) (ws : List (List ℕ)) → 0 < length w → behind (with_word done w) ws ≡ behind done (w ∷ ws)
+behind_next : (done w : List ℕ) (ws : List (List ℕ)) → 0 < length w → behind (with_next_word done w) ws ≡ behind done (w ∷ ws)
 behind_next [] [] ws some = absurd (omega arith)
 behind_next [] (x ∷ w) [] some = refl
 behind_next [] (x ∷ w) (v ∷ ws) some = refl
@@ -135,7 +132,7 @@ first_some : (w : List ℕ) (ws all : List (List ℕ)) → all ≡ w ∷ ws → 
 first_some w ws all e are = (subst (AllByRecursion (IsWord blanks)) e are).0.0
 
 pub word_added : (done now w rest others text : List ℕ) → behind done (words blanks rest) ≡ normalised text
-    → words blanks rest ≡ w ∷ words blanks others → now ≡ with_word done w
+    → words blanks rest ≡ w ∷ words blanks others → now ≡ with_next_word done w
     → behind now (words blanks others) ≡ normalised text
 word_added done now w rest others text loop split e =
     let some = first_some w (words blanks others) (words blanks rest) split (are_words blanks [] rest tt) in

@@ -1,8 +1,8 @@
 -- What an edit of a forest leaves: how high it is, how many moves it holds, and where its paths lead.
 use Rattle.std.proofs.Common.{◌≡◌, ℕ, zero, suc, max, ◌+◌, ◌-◌, ◌<◌, ◌≤◌, List, [], ◌∷◌, ◌++◌, length, refl, ap, ◌∙◌, arith}
-use Rattle.chess_types.specs.MoveParts.{MoveParts}
+use Rattle.chess_types.specs.board.MoveParts.{MoveParts}
 use Rattle.chess_tree.specs.Forest.{Forest, Bare, Node, append, below_at, below_child, count, height, moves_held}
-use Rattle.chess_tree.specs.Edits.{annotated, change_below, change_node, commented, in_front, inside, parent, promoted, with_move, without}
+use Rattle.chess_tree.specs.Edits.{annotated, change_below, change_node, commented, in_front, inside, parent, promoted, with_move, without_node}
 use Rattle.chess_tree.specs.WellFormed.{Leads}
 
 -- ---- heights
@@ -38,7 +38,7 @@ height_node g [] f h = omega arith
 height_node g (k ∷ []) f h = h k f
 height_node g (k ∷ j ∷ path) f h = height_inside_le k (change_node g (j ∷ path)) f (height_node g (j ∷ path) (below_child k f) h)
 
-pub height_without : (k : ℕ) (f : Forest) → height (without k f) ≤ height f
+pub height_without : (k : ℕ) (f : Forest) → height (without_node k f) ≤ height f
 height_without k Bare = omega arith
 height_without zero (Node m nags comment below next) = omega arith
 height_without (suc k) (Node m nags comment below next) = omega (arith, height_without k next)
@@ -49,7 +49,7 @@ height_in_front zero (Node m nags comment below next) others = omega arith
 height_in_front (suc k) (Node m nags comment below next) others = omega (arith, height_in_front k next others)
 
 pub height_promoted : (k : ℕ) (f : Forest) → height (promoted k f) ≤ height f
-height_promoted k f = omega (arith, height_in_front k f (without k f), height_without k f)
+height_promoted k f = omega (arith, height_in_front k f (without_node k f), height_without k f)
 
 pub height_commented : (text : List ℕ) (k : ℕ) (f : Forest) → height (commented text k f) ≤ height f
 height_commented text k Bare = omega arith
@@ -119,13 +119,13 @@ held_node g [] f h = refl
 held_node g (k ∷ []) f h = h k f
 held_node g (k ∷ j ∷ path) f h = held_inside_same k (change_node g (j ∷ path)) f (held_node g (j ∷ path) (below_child k f) h)
 
-held_in_front : (k : ℕ) (f others : Forest) → moves_held (in_front k f others) + moves_held (without k f) ≡ moves_held f + moves_held others
+held_in_front : (k : ℕ) (f others : Forest) → moves_held (in_front k f others) + moves_held (without_node k f) ≡ moves_held f + moves_held others
 held_in_front k Bare others = omega arith
 held_in_front zero (Node m nags comment below next) others = omega arith
 held_in_front (suc k) (Node m nags comment below next) others = omega (arith, held_in_front k next others)
 
 pub held_promoted : (k : ℕ) (f : Forest) → moves_held (promoted k f) ≡ moves_held f
-held_promoted k f = omega (arith, held_in_front k f (without k f))
+held_promoted k f = omega (arith, held_in_front k f (without_node k f))
 
 pub held_commented : (text : List ℕ) (k : ℕ) (f : Forest) → moves_held (commented text k f) ≡ moves_held f
 held_commented text k Bare = refl
@@ -137,17 +137,17 @@ held_annotated nag k Bare = refl
 held_annotated nag zero (Node m nags comment below next) = refl
 held_annotated nag (suc k) (Node m nags comment below next) = omega (arith, held_annotated nag k next)
 
-held_without_one : (k : ℕ) (f : Forest) → k < count f → moves_held (without k f) + (1 + moves_held (below_child k f)) ≡ moves_held f
+held_without_one : (k : ℕ) (f : Forest) → k < count f → moves_held (without_node k f) + (1 + moves_held (below_child k f)) ≡ moves_held f
 held_without_one k Bare h = absurd (omega arith)
 held_without_one zero (Node m nags comment below next) h = omega arith
 held_without_one (suc k) (Node m nags comment below next) h = omega (arith, held_without_one k next (omega arith))
 
 pub held_without : (path : List ℕ) (f : Forest) → Leads path f → 0 < length path
-    → moves_held (change_node without path f) + (1 + moves_held (below_at path f)) ≡ moves_held f
+    → moves_held (change_node without_node path f) + (1 + moves_held (below_at path f)) ≡ moves_held f
 held_without [] f h l = absurd (omega arith)
 held_without (k ∷ []) f h l = held_without_one k f h.0
 held_without (k ∷ j ∷ path) f h l =
-    omega (arith, held_inside k (change_node without (j ∷ path)) f h.0, held_without (j ∷ path) (below_child k f) h.1 (omega arith))
+    omega (arith, held_inside k (change_node without_node (j ∷ path)) f h.0, held_without (j ∷ path) (below_child k f) h.1 (omega arith))
 
 -- ---- where paths lead
 
@@ -191,10 +191,10 @@ pub place_added : (m : MoveParts) (path : List ℕ) (f : Forest) → Leads path 
 place_added m path f h =
     omega (arith, ap count (below_changed (with_move m) path f h), count_append (below_at path f) (Node m [] [] Bare Bare))
 
-pub leads_deleted : (path : List ℕ) (f : Forest) → Leads path f → Leads (parent path) (change_node without path f)
+pub leads_deleted : (path : List ℕ) (f : Forest) → Leads path f → Leads (parent path) (change_node without_node path f)
 leads_deleted [] f h = tt
 leads_deleted (k ∷ []) f h = tt
-leads_deleted (k ∷ j ∷ path) f h = leads_inside k (parent (j ∷ path)) (change_node without (j ∷ path)) f h.0 (leads_deleted (j ∷ path) (below_child k f) h.1)
+leads_deleted (k ∷ j ∷ path) f h = leads_inside k (parent (j ∷ path)) (change_node without_node (j ∷ path)) f h.0 (leads_deleted (j ∷ path) (below_child k f) h.1)
 
 count_in_front : (k : ℕ) (f others : Forest) → k < count f → count (in_front k f others) ≡ suc (count others)
 count_in_front k Bare others h = absurd (omega arith)
@@ -203,7 +203,7 @@ count_in_front (suc k) (Node m nags comment below next) others h = count_in_fron
 
 pub leads_promoted : (path : List ℕ) (f : Forest) → Leads path f → 0 < length path → Leads (parent path ++ 0 ∷ []) (change_node promoted path f)
 leads_promoted [] f h l = absurd (omega arith)
-leads_promoted (k ∷ []) f h l = (omega (arith, count_in_front k f (without k f) h.0), tt)
+leads_promoted (k ∷ []) f h l = (omega (arith, count_in_front k f (without_node k f) h.0), tt)
 leads_promoted (k ∷ j ∷ path) f h l =
     leads_inside k (parent (j ∷ path) ++ 0 ∷ []) (change_node promoted (j ∷ path)) f h.0 (leads_promoted (j ∷ path) (below_child k f) h.1 (omega arith))
 

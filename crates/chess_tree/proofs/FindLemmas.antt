@@ -4,15 +4,14 @@ use Rattle.std.specs.Prelude.{option_map, if◌then◌else◌}
 use Rattle.std.specs.Option.{option_eq}
 use Rattle.std.proofs.lemmas.Option.{none-some}
 use denote.Enum.Bare.{sameb}
-use Rattle.chess_types.specs.declared.man.Kind.{Kind}
-use Rattle.chess_types.specs.declared.man.Kind.TheVariants.{Pawn, Knight, Bishop, Rook, Queen, King}
-use Rattle.chess_types.specs.contracts.man.Kind.{the_type}
-use Rattle.chess_types.specs.ManCode.{kind_number}
-use Rattle.chess_types.specs.MoveParts.{MoveParts}
+use Rattle.chess_types.specs.declared.board.man.Kind.{Kind}
+use Rattle.chess_types.specs.declared.board.man.Kind.TheVariants.{Pawn, Knight, Bishop, Rook, Queen, King}
+use Rattle.chess_types.specs.contracts.board.man.Kind.{the_type}
+use Rattle.chess_types.specs.board.Men.{kind_number}
+use Rattle.chess_types.specs.board.MoveParts.{MoveParts}
 use Rattle.chess_tree.specs.Forest.{Forest, Bare, Node, NodeParts, child, count}
 use Rattle.chess_tree.specs.GameTree.{find, is_move}
-use Rattle.chess_tree.specs.Nodes.{Held, shown}
-use Rattle.chess_tree.proofs.ZipLemmas.{in_forest}
+use Rattle.chess_tree.specs.steps.Rooted.{Held, shown}
 
 -- ---- the same move
 
@@ -26,6 +25,11 @@ same_kind King y = elim y as (λ z. sameb the_type King z ≡ (kind_number King 
 
 pub same_move : (m n : MoveParts) → (eqb m.from n.from && (eqb m.to n.to && option_eq (λ x y. sameb the_type x y) m.promo n.promo)) ≡ is_move m n
 same_move m n = λ i. eqb m.from n.from && (eqb m.to n.to && option_eq (λ x y. same_kind x y i) m.promo n.promo)
+
+-- the parts of a node as a forest again
+abbrev pub in_forest : Option NodeParts → Forest → Forest
+in_forest None next = next
+in_forest (Some n) next = elim n.move [ None ↦ next | (Some m) ↦ Node m n.nags n.comment n.below next ]
 
 -- ---- the nodes from a place on
 

@@ -1,17 +1,22 @@
--- Lemmas on forests, paths and what is kept of them.
-pub mod NodeLemmas
+-- Lemmas on forests and paths, and on how they lie in the arena.
 pub mod EditLemmas
 pub mod SoundLemmas
 pub mod LineLemmas
 pub mod TreeLemmas
 pub mod StepLemmas
 pub mod KeptLemmas
-pub mod ZipLemmas
-pub mod ApartLemmas
-pub mod RemoveLemmas
-pub mod ViewLemmas
-pub mod FindLemmas
 pub mod WalkLemmas
+pub mod FindLemmas
 pub mod CommentLemmas
 pub mod TestLemmas
-pub mod KeptLines
+pub mod TimesLemmas
+pub mod LinkLemmas
+pub mod WriteLemmas
+pub mod GroveLemmas
+pub mod SeenLemmas
+pub mod LaidLemmas
+pub mod SiblingLemmas
+pub mod ArenaLemmas
+pub mod ArenaEdits
+pub mod ArenaCalls
+pub mod ViewLemmas

@@ -5,15 +5,16 @@ use Rattle.std.specs.Option.{option_to_list, option_eq}
 use Rattle.std.proofs.lemmas.Bool.{and_parts, false≢true}
 use Rattle.std.proofs.lemmas.List.{length-append}
 use Rattle.std.proofs.Math.Seq.{take-append_seam}
-use Rattle.chess_types.specs.declared.man.Kind.{Kind}
-use Rattle.chess_types.specs.ManCode.{kind_number, kind_of, kind_of-number}
-use Rattle.chess_types.specs.MoveParts.{MoveParts}
-use Rattle.chess_types.specs.Position.{State}
-use Rattle.chess_types.specs.After.{after}
-use Rattle.chess_types.specs.Legal.{is_legal}
-use Rattle.chess_types.specs.Lines.{AreLegal, Line, extended, last, play}
+use Rattle.chess_types.specs.declared.board.man.Kind.{Kind}
+use Rattle.chess_types.specs.board.Men.{kind_number}
+use Rattle.chess_types.specs.steps.ManCode.{kind_of, kind_of-number}
+use Rattle.chess_types.specs.board.MoveParts.{MoveParts}
+use Rattle.chess_types.specs.board.Position.{State}
+use Rattle.chess_types.specs.board.After.{after}
+use Rattle.chess_types.specs.board.Legal.{is_legal}
+use Rattle.chess_types.specs.board.Lines.{AreLegal, Line, extended, last, play}
 use Rattle.chess_tree.specs.Forest.{Forest, Bare, Node, NodeParts, below_at, below_child, child, count}
-use Rattle.chess_tree.specs.Edits.{annotated, change_below, change_node, commented, in_front, inside, parent, promoted, with_move, without}
+use Rattle.chess_tree.specs.Edits.{annotated, change_below, change_node, commented, in_front, inside, parent, promoted, with_move, without_node}
 use Rattle.chess_tree.specs.GameTree.{GameTree, TreeParts, added, annotated_here, at_path, commented_here, commented_tree, deleted, find, here, is_move, line_to, move_of, moves_along, node_of, promoted_here, root_node}
 use Rattle.chess_tree.specs.WellFormed.{IsGameTree, Leads}
 use Rattle.chess_tree.proofs.EditLemmas.{below_changed, below_inside, deeper, leads_parent, path_le_height}
@@ -55,7 +56,7 @@ move_in_front (suc k) (Node m nags comment below next) others h = move_in_front 
 
 along_promoted : (path : List ℕ) (f : Forest) → Leads path f → 0 < length path → moves_along (parent path ++ 0 ∷ []) (change_node promoted path f) ≡ moves_along path f
 along_promoted [] f leads some = absurd (omega arith)
-along_promoted (k ∷ []) f leads some = ap (λ (o : Option MoveParts). option_to_list o ++ []) (move_in_front k f (without k f) leads.0)
+along_promoted (k ∷ []) f leads some = ap (λ (o : Option MoveParts). option_to_list o ++ []) (move_in_front k f (without_node k f) leads.0)
 along_promoted (k ∷ j ∷ path) f leads some =
     along_inside k (parent (j ∷ path) ++ 0 ∷ []) (j ∷ path) (change_node promoted (j ∷ path)) f leads.0 (along_promoted (j ∷ path) (below_child k f) leads.1 (omega arith))
 
@@ -88,7 +89,7 @@ pub line_commented : (text : List ℕ) (t : TreeParts) → IsGameTree t → line
 line_commented text t game = along_commented text t.path t.tree game.cursor
 
 pub line_deleted : (t : TreeParts) → IsGameTree t → line_to (deleted t) ≡ line_to (at_path (parent t.path) t)
-line_deleted t game = ap (from t.tree.start) (along_parent without t.path t.tree.below game.cursor)
+line_deleted t game = ap (from t.tree.start) (along_parent without_node t.path t.tree.below game.cursor)
 
 -- ---- steps
 

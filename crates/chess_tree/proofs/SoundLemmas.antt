@@ -2,13 +2,13 @@
 use Rattle.std.proofs.Common.{◌<◌, arith, ◌≡◌, ℕ, zero, suc, true, List, [], ◌∷◌, ◌++◌, Option, None, Some, refl, sym}
 use Rattle.std.specs.Option.{option_to_list}
 use Rattle.std.proofs.lemmas.Option.{none-some, same_Some}
-use Rattle.chess_types.specs.MoveParts.{MoveParts}
-use Rattle.chess_types.specs.Position.{State}
-use Rattle.chess_types.specs.After.{after}
-use Rattle.chess_types.specs.Legal.{is_legal}
-use Rattle.chess_types.specs.Lines.{AreLegal, play}
+use Rattle.chess_types.specs.board.MoveParts.{MoveParts}
+use Rattle.chess_types.specs.board.Position.{State}
+use Rattle.chess_types.specs.board.After.{after}
+use Rattle.chess_types.specs.board.Legal.{is_legal}
+use Rattle.chess_types.specs.board.Lines.{AreLegal, play}
 use Rattle.chess_tree.specs.Forest.{Forest, Bare, Node, append, below_at, below_child, count}
-use Rattle.chess_tree.specs.Edits.{annotated, change_below, change_node, commented, in_front, inside, promoted, with_move, without}
+use Rattle.chess_tree.specs.Edits.{annotated, change_below, change_node, commented, in_front, inside, promoted, with_move, without_node}
 use Rattle.chess_tree.specs.Comments.{IsComment, normalised}
 use Rattle.chess_tree.specs.GameTree.{move_of, moves_along}
 use Rattle.chess_tree.specs.WellFormed.{AreSound, Leads}
@@ -40,7 +40,7 @@ sound_node g p (k ∷ []) f keeps sound = keeps k p f sound
 sound_node g p (k ∷ j ∷ path) f keeps sound =
     sound_inside p k (change_node g (j ∷ path)) f (λ m e below. sound_node g (after p m) (j ∷ path) (below_child k f) keeps below) sound
 
-pub sound_without : (k : ℕ) (p : State) (f : Forest) → AreSound p f → AreSound p (without k f)
+pub sound_without : (k : ℕ) (p : State) (f : Forest) → AreSound p f → AreSound p (without_node k f)
 sound_without k p Bare sound = tt
 sound_without zero p (Node m nags comment below next) sound = sound.3
 sound_without (suc k) p (Node m nags comment below next) sound = (sound.0, sound.1, sound.2, sound_without k p next sound.3)
@@ -51,7 +51,7 @@ sound_in_front zero p (Node m nags comment below next) others sound rest = (soun
 sound_in_front (suc k) p (Node m nags comment below next) others sound rest = sound_in_front k p next others sound.3 rest
 
 pub sound_promoted : (k : ℕ) (p : State) (f : Forest) → AreSound p f → AreSound p (promoted k f)
-sound_promoted k p f sound = sound_in_front k p f (without k f) sound (sound_without k p f sound)
+sound_promoted k p f sound = sound_in_front k p f (without_node k f) sound (sound_without k p f sound)
 
 pub sound_commented : (text : List ℕ) → IsComment text → (k : ℕ) (p : State) (f : Forest) → AreSound p f → AreSound p (commented text k f)
 sound_commented text is k p Bare sound = tt

@@ -2,13 +2,13 @@
 use Rattle.std.proofs.Common.{◌≡◌, ℕ, zero, suc, ◌<◌, List, [], ◌∷◌, ◌++◌, length, Option, None, Some, refl, sym, subst, ap, ◌∙◌, arith, true}
 use Rattle.std.specs.Prelude.{IfSome}
 use Rattle.std.proofs.lemmas.List.{length-append}
-use Rattle.chess_types.specs.MoveParts.{MoveParts}
-use Rattle.chess_types.specs.Legal.{is_legal}
-use Rattle.chess_types.specs.Lines.{Line, extended, last}
+use Rattle.chess_types.specs.board.MoveParts.{MoveParts}
+use Rattle.chess_types.specs.board.Legal.{is_legal}
+use Rattle.chess_types.specs.board.Lines.{Line, extended, last}
 use Rattle.chess_tree.specs.Forest.{Forest, Bare, Node, below_at, below_child, count}
 use Rattle.chess_tree.specs.Edits.{parent}
 use Rattle.chess_tree.specs.GameTree.{TreeParts, at_path, deleted, find, line_to, move_of, nodes_here}
-use Rattle.chess_tree.specs.Steps.{GoesOn}
+use Rattle.chess_tree.specs.CursorLine.{GoesOn}
 use Rattle.chess_tree.specs.WellFormed.{IsGameTree, Leads}
 use Rattle.chess_tree.proofs.EditLemmas.{leads_parent}
 use Rattle.chess_tree.proofs.TreeLemmas.{game_at}

@@ -4,10 +4,10 @@ use Rattle.std.specs.List.{slice_get}
 use Rattle.std.specs.Option.{option_to_list}
 use Rattle.std.proofs.lemmas.List.{take_more, take_all}
 use Rattle.std.proofs.lemmas.Option.{none-some, same_Some}
-use Rattle.chess_types.specs.MoveParts.{MoveParts}
-use Rattle.chess_types.specs.Position.{State}
-use Rattle.chess_types.specs.After.{after}
-use Rattle.chess_types.specs.Lines.{last, play}
+use Rattle.chess_types.specs.board.MoveParts.{MoveParts}
+use Rattle.chess_types.specs.board.Position.{State}
+use Rattle.chess_types.specs.board.After.{after}
+use Rattle.chess_types.specs.board.Lines.{last, play}
 use Rattle.chess_tree.specs.Forest.{Forest, Bare, Node, NodeParts, below_at, below_child, child}
 use Rattle.chess_tree.specs.GameTree.{TreeParts, added, line_to, move_of, moves_along}
 use Rattle.chess_tree.specs.WellFormed.{IsGameTree}

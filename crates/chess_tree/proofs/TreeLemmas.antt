@@ -1,10 +1,10 @@
 -- Edits and steps of the cursor leave a game tree.
 use Rattle.std.proofs.Common.{◌≡◌, ℕ, ◌<◌, true, List, [], ◌∷◌, length, refl, sym, subst, arith}
-use Rattle.chess_types.specs.MoveParts.{MoveParts}
-use Rattle.chess_types.specs.Legal.{is_legal}
-use Rattle.chess_types.specs.Lines.{last}
+use Rattle.chess_types.specs.board.MoveParts.{MoveParts}
+use Rattle.chess_types.specs.board.Legal.{is_legal}
+use Rattle.chess_types.specs.board.Lines.{last}
 use Rattle.chess_tree.specs.Forest.{moves_held}
-use Rattle.chess_tree.specs.Edits.{annotated, commented, promoted, without}
+use Rattle.chess_tree.specs.Edits.{annotated, commented, promoted, without_node}
 use Rattle.chess_tree.specs.Comments.{IsComment}
 use Rattle.chess_tree.specs.GameTree.{TreeParts, added, annotated_here, at_path, commented_here, deleted, line_to, promoted_here}
 use Rattle.chess_tree.specs.WellFormed.{IsGameTree, Leads}
@@ -24,7 +24,7 @@ game_at path t game leads = record {
 }
 
 pub game_added : (m : MoveParts) (t : TreeParts) → IsGameTree t → is_legal (last (line_to t)) m ≡ true → length t.path < 20000
-    → moves_held t.tree.below < 65536 → IsGameTree (added m t)
+    → moves_held t.tree.below < 1000000 → IsGameTree (added m t)
 unfolding last
 game_added m t game legal shallow few = record {
   start = game.start;
@@ -43,8 +43,8 @@ game_deleted t game below = record {
   clock = game.clock;
   number = game.number;
   comment = game.comment;
-  moves = sound_node without t.tree.start t.path t.tree.below sound_without game.moves;
-  deep = omega (arith, edits.height_node without t.path t.tree.below edits.height_without, game.deep);
+  moves = sound_node without_node t.tree.start t.path t.tree.below sound_without game.moves;
+  deep = omega (arith, edits.height_node without_node t.path t.tree.below edits.height_without, game.deep);
   many = omega (arith, edits.held_without t.path t.tree.below game.cursor below, game.many);
   cursor = edits.leads_deleted t.path t.tree.below game.cursor;
 }

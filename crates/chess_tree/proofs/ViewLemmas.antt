@@ -1,192 +1,248 @@
--- A node of a tree that is kept open, as it is seen.
-use Rattle.std.proofs.Common.{◌≡◌, ℕ, zero, suc, max, ◌<◌, ◌≤◌, List, [], ◌∷◌, ◌++◌, length, get_or, take, Option, None, Some, refl, sym, subst, ap, ◌∙◌, arith, add-one, unwrap_or}
-use Rattle.std.proofs.lemmas.List.{length-map, take_all, take_more}
-use Rattle.std.proofs.lemmas.Option.{none-some}
-use Rattle.std.proofs.lemmas.Bool.Decides.{nat_tests}
-use Rattle.std.proofs.lemmas.Grind.{common_steps}
-use Rattle.chess_tree.specs.declared.zipper.Above.{Above}
-use Rattle.chess_tree.specs.Forest.{Forest, Bare, Node, NodeParts, below_child, child, count, moves_held}
-use Rattle.chess_tree.specs.GameTree.{here, node_of}
-use Rattle.chess_tree.specs.Nodes.{Held, held_or, node_at, placed, shown}
-use Rattle.chess_tree.specs.Views.{IsOnWay, IsSeen, StandsFor, held_at, seen, shown_at, way_on}
-use Rattle.chess_tree.specs.WellFormed.{Leads}
-use Rattle.chess_tree.specs.Zips.{whole, places, zipped, AreThere}
-use Rattle.chess_tree.specs.Zipped.{Zipped}
-use Rattle.chess_tree.proofs.EditLemmas.{count_le}
-use Rattle.chess_tree.proofs.ZipLemmas.{at_whole, count_placed, held_placed}
+-- Nodes looked at, one by one and side by side.
+use Rattle.std.proofs.Common.{◌≡◌, ◌==◌, ℕ, zero, suc, ◌+◌, ◌<◌, ◌≤◌, refl, sym, ap, ◌∙◌, subst, List, [], ◌∷◌, ◌++◌, length, arith, add-one, Option, Some, None}
+use Rattle.std.specs.Prelude.{if◌then◌else◌, unwrap_or}
+use Rattle.chess_types.specs.board.MoveParts.{MoveParts}
+use Rattle.chess_tree.specs.declared.arena.slot.Slot.{Slot}
+use Rattle.chess_tree.specs.Forest.{Forest, NodeParts, child, count}
+use Rattle.chess_tree.specs.Edits.{without_node}
+use Rattle.chess_tree.specs.GameTree.{node_of}
+use Rattle.chess_tree.specs.steps.Rooted.{Noted, Rooted, root_shown}
+use Rattle.chess_tree.specs.steps.Grove.{Grove, Empty, Tree, first_of, times, size, wide, number_of, move_in, under, under_at, number_at, plain, Ways}
+use Rattle.chess_tree.specs.steps.Linked.{Linked, Owns}
+use Rattle.chess_tree.specs.steps.Laid.{IsArena, grove_from, look, seen, Same}
+use Rattle.chess_tree.specs.steps.Viewed.{IsSide, IsViewed, node_seen, side_seen}
+use Rattle.chess_tree.specs.steps.Siblings.{IsAt, IsCount, IsOwner, Owner}
+use Rattle.chess_tree.proofs.TimesLemmas.{tally_same, times_below}
+use Rattle.chess_tree.proofs.LinkLemmas.{linked_one}
+use Rattle.chess_tree.proofs.SeenLemmas.{from_none, grove_is, once_at_most, seen_is}
+use Rattle.chess_tree.proofs.WriteLemmas.{if_none, if_some}
+use Rattle.chess_tree.proofs.GroveLemmas.{number_on, under_on, ways_on, wide_plain}
+use Rattle.chess_tree.proofs.ArenaCalls.{number_any}
+use Rattle.chess_tree.proofs.SiblingLemmas.{child_none, child_plain, number_some, owner_at, walk_end, walk_in, walk_move, walk_on, walk_range}
 
--- ---- children
+owner : (slots : List Slot) (i : ℕ) (v : IsViewed slots i) → Owner slots i (under_at v.path v.game)
+owner slots i v = subst (λ (x : ℕ). Owner slots x (under_at v.path v.game)) (sym v.is) (owner_at slots v.free v.game v.freed Empty v.path v.laid v.ways)
 
-child_held : (k : ℕ) (f : Forest) (n : Held) → k < count f → child k f ≡ Some (shown (held_or k f n))
-child_held k Bare n h = absurd (omega arith)
-child_held zero (Node m nags comment below next) n h = refl
-child_held (suc k) (Node m nags comment below next) n h = child_held k next n (omega arith)
+pub owner_seen : (slots : List Slot) (i : ℕ) → IsViewed slots i → IsOwner slots i
+owner_seen slots i v = (under_at v.path v.game, owner slots i v)
 
-below_held : (k : ℕ) (f : Forest) (n : Held) → k < count f → (held_or k f n).below ≡ below_child k f
-below_held k Bare n h = absurd (omega arith)
-below_held zero (Node m nags comment below next) n h = refl
-below_held (suc k) (Node m nags comment below next) n h = below_held k next n (omega arith)
+pub viewed_range : (slots : List Slot) (i : ℕ) → IsViewed slots i → i < length slots
+viewed_range slots i v = (owner slots i v).there
 
-pub no_child : (k : ℕ) (f : Forest) → count f ≤ k → child k f ≡ None
-no_child k Bare h = refl
-no_child zero (Node m nags comment below next) h = absurd (omega arith)
-no_child (suc k) (Node m nags comment below next) h = no_child k next (omega arith)
+pub viewed_few : (slots : List Slot) (i : ℕ) → IsViewed slots i → length slots ≤ 1000001
+viewed_few slots i v = v.few
 
-other_child : (p k : ℕ) (n : Held) (f : Forest) → (p ≡ k → ⊥) → child k f ≡ child k (placed p n f)
-other_child p k n Bare h = refl
-other_child zero zero n (Node m nags comment below next) h = absurd (h refl)
-other_child zero (suc k) n (Node m nags comment below next) h = refl
-other_child (suc p) zero n (Node m nags comment below next) h = refl
-other_child (suc p) (suc k) n (Node m nags comment below next) h = other_child p k n next (λ e. h (ap (λ (x : ℕ). suc x) e))
+below_is : (slots : List Slot) (i : ℕ) (g : Grove) → Owner slots i g → grove_from (length slots) (look slots) (look slots i).first ≡ g
+below_is slots i g o = ap (λ (x : ℕ). grove_from (length slots) (look slots) x) o.own.first_is ∙ grove_is Same (look slots) i (length slots) g o.no_root (omega (arith, o.few)) o.linked
 
-held_in : Option NodeParts → ℕ
-held_in None = 0
-held_in (Some n) = moves_held n.below
+-- ---- one node
 
-held_in_child : (k : ℕ) (f : Forest) → held_in (child k f) ≤ moves_held f
-unfolding held_in
-held_in_child k Bare = omega arith
-held_in_child zero (Node m nags comment below next) = omega arith
-held_in_child (suc k) (Node m nags comment below next) = omega (arith, held_in_child k next)
+-- a node with that number, above that grove
+abbrev node_with : List Slot → (ℕ → Noted) → ℕ → Grove → NodeParts
+node_with slots noted i g = record {
+  move = if i == 0 then None else Some (look slots i).played;
+  nags = if i == 0 then [] else (noted i).nags;
+  comment = (noted i).comment;
+  below = plain noted g;
+}
 
-few_child : (k : ℕ) (f : Forest) (m : Held) → child k f ≡ Some (shown m) → moves_held m.below ≤ moves_held f
-unfolding held_in
-few_child k f m e = omega (arith, held_in_child k f, ap held_in e)
+with_below_is : (slots : List Slot) (noted : ℕ → Noted) (i : ℕ) (g : Grove) → Owner slots i g → node_seen slots noted i ≡ node_with slots noted i g
+with_below_is slots noted i g o = ap (node_with slots noted i) (below_is slots i g o)
 
--- ---- on the way to the cursor
+-- a child is the node with its number
+child_is : (slots : List Slot) (noted : ℕ → Noted) (at k n : ℕ) (g : Grove) → Owner slots at g → n ≡ number_of 0 k g → 0 < n
+    → Some (node_with slots noted n (under k g)) ≡ child k (plain noted g)
+child_is slots noted at k n g o e h =
+    let move = if_some n None (Some (look slots n).played) h ∙ ap (λ (m : MoveParts). Some m) (walk_move slots at k n g o e h) in
+    let nags = if_some n [] (noted n).nags h ∙ ap (λ (x : ℕ). (noted x).nags) e in
+    let comment = ap (λ (x : ℕ). (noted x).comment) e in
+    (λ j. Some (record { move = move j; nags = nags j; comment = comment j; below = plain noted (under k g) })) ∙ sym (child_plain noted k g (walk_in k n g e h))
 
-node_at_on : (path : List ℕ) (k : ℕ) (n : Held) → node_at (path ++ k ∷ []) n ≡ held_or k (node_at path n).below (node_at path n)
-node_at_on [] k n = refl
-node_at_on (j ∷ path) k n = node_at_on path k (held_or j n.below n)
+below_seen : (slots : List Slot) (noted : ℕ → Noted) (i : ℕ) (n : NodeParts) (v : IsViewed slots i) → node_seen slots noted i ≡ n → n.below ≡ plain noted (under_at v.path v.game)
+below_seen slots noted i n v e = ap (λ (x : NodeParts). x.below) (sym e) ∙ ap (plain noted) (below_is slots i (under_at v.path v.game) (owner slots i v))
 
-few_held : (k : ℕ) (f : Forest) (n : Held) → moves_held (held_or k f n).below ≤ max (moves_held f) (moves_held n.below)
-few_held k Bare n = omega arith
-few_held zero (Node m nags comment below next) n = omega arith
-few_held (suc k) (Node m nags comment below next) n = omega (arith, few_held k next n)
+pub children_seen : (slots : List Slot) (noted : ℕ → Noted) (i k : ℕ) (n : NodeParts) → IsViewed slots i → node_seen slots noted i ≡ n → IsCount slots i k → k ≡ count n.below
+children_seen slots noted i k n v e h =
+    h (under_at v.path v.game) (owner slots i v) ∙ sym (wide_plain noted (under_at v.path v.game)) ∙ ap count (sym (below_seen slots noted i n v e))
 
-few_at : (path : List ℕ) (n : Held) → moves_held (node_at path n).below ≤ moves_held n.below
-few_at [] n = omega arith
-few_at (k ∷ path) n = omega (arith, few_at path (held_or k n.below n), few_held k n.below n)
+pub no_child : (slots : List Slot) (noted : ℕ → Noted) (i place found : ℕ) (n : NodeParts) → IsViewed slots i → node_seen slots noted i ≡ n → IsAt slots i place found → found ≡ 0 → None ≡ child place n.below
+no_child slots noted i place found n v e at h =
+    let b = under_at v.path v.game in
+    let o = owner slots i v in
+    sym (child_none noted place b (walk_end slots i place b o (sym h ∙ at b o))) ∙ ap (child place) (sym (below_seen slots noted i n v e))
 
-module _ {A : Type 0} where
-  all_places : (above : List (Above A)) → take (length above) (places above) ≡ places above
-  all_places above = take_all (length above) (places above) (omega (arith, length-map above (λ (a : Above A). a.place)))
+-- the child at a place is one of the game too
+child_there : (slots : List Slot) (i place found : ℕ) (v : IsViewed slots i) → found ≡ number_of 0 place (under_at v.path v.game) → 0 < found → IsViewed slots found
+child_there slots i place found v is h =
+    let b = under_at v.path v.game in
+    let short : place < wide b = walk_in place found b is h in
+    record {
+      free = v.free;
+      game = v.game;
+      freed = v.freed;
+      path = v.path ++ place ∷ [];
+      laid = v.laid;
+      ways = ways_on v.path place v.game v.ways short;
+      is = is ∙ sym (number_any (number_at v.path 0 v.game) place b short) ∙ sym (number_on v.path place 0 v.game);
+      few = v.few;
+    }
 
-  pub within_places : (above : List (Above A)) (here : Held) (depth : ℕ) (z : Zipped) → zipped above here ≡ z → depth ≤ length z.path
-      → depth ≤ length above
-  within_places above here depth z v h = omega (arith, h, ap (λ (x : Zipped). length x.path) v, length-map above (λ (a : Above A). a.place))
+child_owner : (slots : List Slot) (i place found : ℕ) (v : IsViewed slots i) → found ≡ number_of 0 place (under_at v.path v.game) → 0 < found → Owner slots found (under place (under_at v.path v.game))
+unfolding child_there
+child_owner slots i place found v is h =
+    subst (Owner slots found) (under_on v.path place v.game) (owner slots found (child_there slots i place found v is h))
 
-  pub stands_here : (above : List (Above A)) (here : Held) (depth : ℕ) (z : Zipped) → zipped above here ≡ z → AreThere above → depth ≡ length above
-      → StandsFor z depth here
-  stands_here above here depth z v there d =
-      let at : held_at depth z ≡ here = ap (λ (x : Zipped). held_at depth x) (sym v) ∙ ap (λ (n : ℕ). held_at n (zipped above here)) d ∙ ap (λ (p : List ℕ). node_at p (whole above here)) (all_places above) ∙ at_whole above here there in
-      record {
-        move = ap (λ (n : Held). n.move) (sym at);
-        nags = ap (λ (n : Held). n.nags) (sym at);
-        comment = ap (λ (n : Held). n.comment) (sym at);
-        children = ap (λ (n : Held). count n.below) (sym at);
-        others = λ k _. ap (λ (n : Held). child k n.below) (sym at);
-      }
+pub child_viewed : (slots : List Slot) (noted : ℕ → Noted) (i place found : ℕ) (n : NodeParts) → IsViewed slots i → node_seen slots noted i ≡ n → IsAt slots i place found → 0 < found
+    → IsViewed slots found × (Some (node_seen slots noted found) ≡ child place n.below)
+child_viewed slots noted i place found n v e at h =
+    let b = under_at v.path v.game in
+    let o = owner slots i v in
+    let is : found ≡ number_of 0 place b = at b o in (
+      child_there slots i place found v is h,
+      ap (λ (x : NodeParts). Some x) (with_below_is slots noted found (under place b) (child_owner slots i place found v is h)) ∙ child_is slots noted i place found b o is h
+          ∙ ap (child place) (sym (below_seen slots noted i n v e)),
+    )
 
-  stands_there : (depth : ℕ) (above : List (Above A)) (here : Held) (a d : Above A) → AreThere above → depth < length above
-      → a ≡ get_or above depth d → StandsFor (zipped above here) depth a.node
-  stands_there depth [] here a d there h e = absurd (omega arith)
-  stands_there zero (b ∷ above) here a d there h e = record {
-    move = ap (λ (x : Above A). x.node.move) e;
-    nags = ap (λ (x : Above A). x.node.nags) e;
-    comment = ap (λ (x : Above A). x.node.comment) e;
-    children = ap (λ (x : Above A). count x.node.below) e ∙ sym (count_placed b.place (whole above here) b.node.below);
-    others = λ k other. ap (λ (x : Above A). child k x.node.below) e ∙ other_child b.place k (whole above here) b.node.below (other (omega arith));
-  }
-  stands_there (suc depth) (b ∷ above) here a d there h e =
-      let rest = stands_there depth above here a d there.2 (omega arith) e in
-      let same : held_at (suc depth) (zipped (b ∷ above) here) ≡ held_at depth (zipped above here) =
-      ap (node_at (take depth (places above))) (held_placed b.place (whole above here) (whole (b ∷ above) here) b.node.below there.0) in
-      record {
-        move = rest.move ∙ ap (λ (n : Held). n.move) (sym same);
-        nags = rest.nags ∙ ap (λ (n : Held). n.nags) (sym same);
-        comment = rest.comment ∙ ap (λ (n : Held). n.comment) (sym same);
-        children = rest.children ∙ ap (λ (n : Held). count n.below) (sym same);
-        others = λ k other. rest.others k (λ within. other (omega arith)) ∙ ap (λ (n : Held). child k n.below) (sym same);
-      }
+pub move_root : (slots : List Slot) (noted : ℕ → Noted) (i : ℕ) (n : NodeParts) → node_seen slots noted i ≡ n → i ≡ 0 → None ≡ n.move
+move_root slots noted i n e h = sym (if_none i None (Some (look slots i).played) h) ∙ ap (λ (x : NodeParts). x.move) e
 
-  pub stands_above : (above : List (Above A)) (here : Held) (a : Above A) (depth : ℕ) (z : Zipped) → zipped above here ≡ z → AreThere above
-      → depth < length above → a ≡ get_or above depth a → StandsFor z depth a.node
-  stands_above above here a depth z v there h e = subst (λ (x : Zipped). StandsFor x depth a.node) v (stands_there depth above here a a there h e)
+pub move_seen : (slots : List Slot) (noted : ℕ → Noted) (i : ℕ) (s : Slot) (n : NodeParts) → node_seen slots noted i ≡ n → 0 < i → s ≡ look slots i → Some s.played ≡ n.move
+move_seen slots noted i s n e h r = ap (λ (x : Slot). Some x.played) r ∙ sym (if_some i None (Some (look slots i).played) h) ∙ ap (λ (x : NodeParts). x.move) e
 
--- ---- what is seen
+pub nags_root : (slots : List Slot) (noted : ℕ → Noted) (i : ℕ) (n : NodeParts) → node_seen slots noted i ≡ n → i ≡ 0 → [] ≡ n.nags
+nags_root slots noted i n e h = sym (if_none i [] (noted i).nags h) ∙ ap (λ (x : NodeParts). x.nags) e
 
-leads_take : (depth : ℕ) (path : List ℕ) (f : Forest) → Leads path f → Leads (take depth path) f
-leads_take zero path f leads = tt
-leads_take (suc depth) [] f leads = tt
-leads_take (suc depth) (k ∷ path) f leads = (leads.0, leads_take depth path (below_child k f) leads.1)
+pub nags_seen : (slots : List Slot) (noted : ℕ → Noted) (i : ℕ) (nags : List ℕ) (n : NodeParts) → node_seen slots noted i ≡ n → 0 < i → nags ≡ (noted i).nags → nags ≡ n.nags
+nags_seen slots noted i nags n e h r = r ∙ sym (if_some i [] (noted i).nags h) ∙ ap (λ (x : NodeParts). x.nags) e
 
-node_of_shown : (path : List ℕ) (n : Held) → Leads path n.below → node_of path (shown n) ≡ shown (node_at path n)
-node_of_shown [] n leads = refl
-node_of_shown (k ∷ path) n leads =
-    ap (λ (o : Option NodeParts). node_of path (unwrap_or o (shown n))) (child_held k n.below n leads.0)
-    ∙ node_of_shown path (held_or k n.below n) (subst (Leads path) (sym (below_held k n.below n leads.0)) leads.1)
+-- ---- the root, and the node at the cursor
 
-node_of_root : (path : List ℕ) (root : NodeParts) (n : Held) → root.below ≡ n.below → Leads path n.below → 0 < length path
-    → node_of path root ≡ shown (node_at path n)
-node_of_root [] root n same leads h = absurd (omega arith)
-node_of_root (k ∷ path) root n same leads h =
-    ap (λ (f : Forest). node_of path (unwrap_or (child k f) root)) same
-    ∙ ap (λ (o : Option NodeParts). node_of path (unwrap_or o root)) (child_held k n.below n leads.0)
-    ∙ node_of_shown path (held_or k n.below n) (subst (Leads path) (sym (below_held k n.below n leads.0)) leads.1)
+deep_is : (slots : List Slot) (noted : ℕ → Noted) (path : List ℕ) (i : ℕ) (g : Grove) → Ways path g → Owns (look slots i) g → Linked Same (look slots) i 0 g → times 0 g ≡ 0
+    → node_of path (node_with slots noted i g) ≡ node_with slots noted (number_at path i g) (under_at path g)
+deep_is slots noted [] i g ways own links out = refl
+deep_is slots noted (k ∷ path) i g ways own links out =
+    let one = linked_one Same (look slots) i 0 i k g ways.0 links in
+    let n = number_of i k g in
+    let same : n ≡ number_of 0 k g = number_any i k g ways.0 in
+    let some : 0 < n = omega (arith, same, number_some k g out ways.0) in
+    let move = if_some n None (Some (look slots n).played) some ∙ ap (λ (m : MoveParts). Some m) one.0.move_is in
+    let nags = if_some n [] (noted n).nags some ∙ ap (λ (x : ℕ). (noted x).nags) same in
+    let comment = ap (λ (x : ℕ). (noted x).comment) same in
+    let there : child k (plain noted g) ≡ Some (node_with slots noted n (under k g)) =
+    child_plain noted k g ways.0 ∙ sym (λ j. Some (record { move = move j; nags = nags j; comment = comment j; below = plain noted (under k g) })) in
+    ap (λ (o : Option NodeParts). node_of path (unwrap_or o (node_with slots noted i g))) there
+    ∙ deep_is slots noted path n (under k g) ways.1 (record { first_is = one.0.first_is; last_is = one.0.last_is }) one.1 (omega (arith, out, times_below 0 k g))
 
-pub seen_on_way : (depth : ℕ) (path : List ℕ) (n : Held) → Leads path n.below → depth ≤ length path
-    → shown_at depth (node_at (take depth path) n) ≡ node_of (take depth path) (record { move = None; nags = []; comment = n.comment; below = n.below })
-seen_on_way zero path n leads h = refl
-seen_on_way (suc depth) [] n leads h = absurd (omega arith)
-seen_on_way (suc depth) (k ∷ path) n leads h =
-    sym (node_of_root (k ∷ take depth path) (record { move = None; nags = []; comment = n.comment; below = n.below }) n refl (leads_take (suc depth) (k ∷ path) n.below leads) (omega arith))
+module _ (slots : List Slot) (noted : ℕ → Noted) (free here : ℕ) (trail : List ℕ) (room : ℕ) (z : Rooted) (a : IsArena slots noted free here trail room) (v : seen slots noted here ≡ z) where
+  pub root_viewed : IsViewed slots 0
+  root_viewed = record { free = free; game = a.game; freed = a.freed; path = []; laid = a.laid; ways = tt; is = refl; few = a.few }
 
-pub count_seen : (z : Zipped) (n : Held) (way : Option ℕ) → IsSeen z n way → count n.below ≡ count (seen z n way).below
-count_seen z n None is = refl
-count_seen z n (Some zero) is = is.stands.children
-count_seen z n (Some (suc depth)) is = is.stands.children
+  pub here_viewed : IsViewed slots here
+  here_viewed = record { free = free; game = a.game; freed = a.freed; path = a.path; laid = a.laid; ways = a.ways; is = a.here_is; few = a.few }
 
-pub few_seen : (z : Zipped) (n : Held) (way : Option ℕ) → IsSeen z n way → count n.below ≤ 65536
-few_seen z n None is = omega (arith, is, count_le n.below)
-few_seen z n (Some depth) is =
-    omega (arith, is.stands.children, count_le (held_at depth z).below, few_at (take depth z.path) z.root, is.few)
+  root_with : node_with slots noted 0 a.game ≡ root_shown z.root
+  root_with = ap (λ (x : Rooted). root_shown x.root) (sym (seen_is slots noted free here trail room a) ∙ v)
 
-seen_below : (depth : ℕ) (n : Held) → (shown_at depth n).below ≡ n.below
-seen_below zero n = refl
-seen_below (suc depth) n = refl
+  pub root_seen : node_seen slots noted 0 ≡ root_shown z.root
+  unfolding root_viewed
+  root_seen = with_below_is slots noted 0 a.game (owner slots 0 root_viewed) ∙ root_with
 
--- ---- a child on the way, or elsewhere
+  pub here_seen : node_seen slots noted here ≡ node_of z.path (root_shown z.root)
+  unfolding here_viewed
+  here_seen =
+      with_below_is slots noted here (under_at a.path a.game) (owner slots here here_viewed)
+      ∙ ap (λ (x : ℕ). node_with slots noted x (under_at a.path a.game)) a.here_is
+      ∙ sym (deep_is slots noted a.path 0 a.game a.ways a.laid.root a.laid.linked (omega (arith, once_at_most slots free a.game a.freed Empty a.laid 0, tally_same 0)))
+      ∙ (λ j. node_of (sym (seen_is slots noted free here trail room a) j).path (root_with j))
+      ∙ ap (λ (x : Rooted). node_of x.path (root_shown z.root)) v
 
-pub child_on : (z : Zipped) (n : Held) (depth k : ℕ) → IsOnWay z depth n → depth < length z.path → get_or z.path depth 0 ≡ k → k < count n.below
-    → child k (seen z n (Some depth)).below ≡ Some (shown (held_at (suc depth) z))
-child_on z n depth k is within place some =
-    let path : take (suc depth) z.path ≡ take depth z.path ++ k ∷ [] =
-    ap (λ (d : ℕ). take d z.path) (sym (add-one depth)) ∙ take_more z.path depth 0 within ∙ ap (λ (x : ℕ). take depth z.path ++ x ∷ []) place in
-    let next : held_at (suc depth) z ≡ held_or k (held_at depth z).below (held_at depth z) =
-    ap (λ (p : List ℕ). node_at p z.root) path ∙ node_at_on (take depth z.path) k z.root in
-    ap (child k) (seen_below depth (held_at depth z))
-    ∙ child_held k (held_at depth z).below (held_at depth z) (omega (arith, is.stands.children))
-    ∙ ap (λ (m : Held). Some (shown m)) (sym next)
+-- ---- side by side
 
-off_way : (path : List ℕ) (depth k : ℕ) → way_on path (Some depth) k ≡ None → depth < length path → get_or path depth 0 ≡ k → ⊥
-off_way path depth k e within place = grind (arith, nat_tests, common_steps)
+-- those from a place on
+abbrev rest_of : ℕ → Grove → Grove
+rest_of zero g = g
+rest_of (suc k) Empty = Empty
+rest_of (suc k) (Tree i m below next) = rest_of k next
 
--- what it takes to be on the way
-pub on_way : (path : List ℕ) (depth k deeper : ℕ) → way_on path (Some depth) k ≡ Some deeper
-    → (depth < length path) × (get_or path depth 0 ≡ k) × (deeper ≡ suc depth)
-on_way path depth k deeper e = (grind (arith, nat_tests, common_steps), grind (arith, nat_tests, common_steps), grind (arith, nat_tests, common_steps))
+rest_number : (k : ℕ) (g : Grove) → number_of 0 k g ≡ first_of 0 (rest_of k g)
+rest_number zero Empty = refl
+rest_number zero (Tree i m below next) = refl
+rest_number (suc k) Empty = refl
+rest_number (suc k) (Tree i m below next) = rest_number k next
 
-pub child_way : (z : Zipped) (n : Held) (way : Option ℕ) (k deeper : ℕ) → IsSeen z n way → way_on z.path way k ≡ Some deeper → k < count n.below
-    → child k (seen z n way).below ≡ Some (seen z n (Some deeper))
-child_way z n None k deeper is e h = absurd (none-some deeper e)
-child_way z n (Some depth) k deeper is e h =
-    let on = on_way z.path depth k deeper e in
-    child_on z n depth k is on.0 on.1 h ∙ ap (λ (d : ℕ). Some (shown_at d (held_at d z))) (sym on.2)
+rest_size : (k : ℕ) (g : Grove) → size (rest_of k g) ≤ size g
+rest_size zero g = omega arith
+rest_size (suc k) Empty = omega arith
+rest_size (suc k) (Tree i m below next) = omega (arith, rest_size k next)
 
-pub few_aside : (z : Zipped) (n m : Held) (way : Option ℕ) (k : ℕ) → IsSeen z n way → way_on z.path way k ≡ None → child k n.below ≡ Some (shown m)
-    → moves_held m.below ≤ 65536
-few_aside z n m None k is aside e = omega (arith, is, few_child k n.below m e)
-few_aside z n m (Some depth) k is aside e =
-    let there : child k (held_at depth z).below ≡ Some (shown m) = sym (is.stands.others k (off_way z.path depth k aside)) ∙ e in
-    omega (arith, few_child k (held_at depth z).below m there, few_at (take depth z.path) z.root, is.few)
+rest_times : (j k : ℕ) (g : Grove) → times j (rest_of k g) ≤ times j g
+rest_times j zero g = omega arith
+rest_times j (suc k) Empty = omega arith
+rest_times j (suc k) (Tree i m below next) = omega (arith, rest_times j k next)
+
+rest_linked : (find : ℕ → Slot) (p k : ℕ) (g : Grove) → Linked Same find p 0 g → Linked Same find p 0 (rest_of k g)
+rest_linked find p zero g w = w
+rest_linked find p (suc k) Empty w = tt
+rest_linked find p (suc k) (Tree i m below next) w = rest_linked find p k next w.2
+
+rest_split : (k : ℕ) (g : Grove) → k < wide g → rest_of k g ≡ Tree (number_of 0 k g) (move_in k g) (under k g) (rest_of (suc k) g)
+rest_split k Empty h = absurd (omega (arith, h))
+rest_split zero (Tree i m below next) h = refl
+rest_split (suc k) (Tree i m below next) h = rest_split k next (omega (arith, h))
+
+rest_parted : (k : ℕ) (g : Grove) → k < wide g → rest_of k g ≡ Tree (number_of 0 k g) (move_in k g) (under k g) (rest_of (k + 1) g)
+rest_parted k g h = rest_split k g h ∙ ap (λ (x : ℕ). Tree (number_of 0 k g) (move_in k g) (under k g) (rest_of x g)) (sym (add-one k))
+
+side_is : (slots : List Slot) (at k n : ℕ) (g : Grove) → Owner slots at g → n ≡ number_of 0 k g → grove_from (length slots) (look slots) n ≡ rest_of k g
+side_is slots at k n g o e =
+    ap (λ (x : ℕ). grove_from (length slots) (look slots) x) (e ∙ rest_number k g)
+    ∙ grove_is Same (look slots) at (length slots) (rest_of k g) (omega (arith, o.no_root, rest_times 0 k g)) (omega (arith, o.few, rest_size k g)) (rest_linked (look slots) at k g o.linked)
+
+first_number : (g : Grove) → first_of 0 g ≡ number_of 0 0 g
+first_number Empty = refl
+first_number (Tree i m below next) = refl
+
+pub side_start : (slots : List Slot) (i : ℕ) (s : Slot) → IsViewed slots i → s ≡ look slots i → IsSide slots s.first
+side_start slots i s v e = record {
+  parent = i;
+  viewed = v;
+  place = 0;
+  is = ap (λ (x : Slot). x.first) e ∙ (owner slots i v).own.first_is ∙ first_number (under_at v.path v.game);
+}
+
+pub side_below : (slots : List Slot) (noted : ℕ → Noted) (i : ℕ) (s : Slot) (n : NodeParts) → node_seen slots noted i ≡ n → s ≡ look slots i → side_seen slots noted s.first ≡ n.below
+side_below slots noted i s n e r = ap (λ (x : Slot). side_seen slots noted x.first) r ∙ ap (λ (x : NodeParts). x.below) e
+
+pub side_end : (slots : List Slot) (noted : ℕ → Noted) (i : ℕ) (f : Forest) → side_seen slots noted i ≡ f → i ≡ 0 → (None ≡ child 0 f) × (f ≡ without_node 0 f)
+side_end slots noted i f e h =
+    let none : f ≡ plain noted Empty = sym e ∙ ap (side_seen slots noted) h ∙ ap (plain noted) (from_none (length slots) (look slots)) in
+    (ap (child 0) (sym none), none ∙ ap (without_node 0) (sym none))
+
+pub side_first : (slots : List Slot) (noted : ℕ → Noted) (i : ℕ) (f : Forest) (s : IsSide slots i) → side_seen slots noted i ≡ f → 0 < i
+    → IsViewed slots i × (Some (node_seen slots noted i) ≡ child 0 f)
+side_first slots noted i f s e h =
+    let b = under_at s.viewed.path s.viewed.game in
+    let o = owner slots s.parent s.viewed in
+    let short = walk_in s.place i b s.is h in
+    let all : f ≡ plain noted (Tree (number_of 0 s.place b) (move_in s.place b) (under s.place b) (rest_of (s.place + 1) b)) =
+    sym e ∙ ap (plain noted) (side_is slots s.parent s.place i b o s.is ∙ rest_parted s.place b short) in (
+      child_there slots s.parent s.place i s.viewed s.is h,
+      ap (λ (x : NodeParts). Some x) (with_below_is slots noted i (under s.place b) (child_owner slots s.parent s.place i s.viewed s.is h))
+          ∙ child_is slots noted s.parent s.place i b o s.is h ∙ child_plain noted s.place b short ∙ ap (child 0) (sym all),
+    )
+
+pub side_next : (slots : List Slot) (noted : ℕ → Noted) (i : ℕ) (t : Slot) (f : Forest) (s : IsSide slots i) → side_seen slots noted i ≡ f → 0 < i → t ≡ look slots i
+    → IsSide slots t.next × (side_seen slots noted t.next ≡ without_node 0 f)
+side_next slots noted i t f s e h r =
+    let b = under_at s.viewed.path s.viewed.game in
+    let o = owner slots s.parent s.viewed in
+    let short = walk_in s.place i b s.is h in
+    let next : t.next ≡ number_of 0 (s.place + 1) b = ap (λ (x : Slot). x.next) r ∙ walk_on slots s.parent s.place i b o s.is h in
+    let all : f ≡ plain noted (Tree (number_of 0 s.place b) (move_in s.place b) (under s.place b) (rest_of (s.place + 1) b)) =
+    sym e ∙ ap (plain noted) (side_is slots s.parent s.place i b o s.is ∙ rest_parted s.place b short) in (
+      record { parent = s.parent; viewed = s.viewed; place = s.place + 1; is = next },
+      ap (plain noted) (side_is slots s.parent (s.place + 1) t.next b o next) ∙ ap (without_node 0) (sym all),
+    )
+
+pub side_range : (slots : List Slot) (i : ℕ) → IsSide slots i → 0 < i → i < length slots
+side_range slots i s h = walk_range slots s.parent s.place i (under_at s.viewed.path s.viewed.game) (owner slots s.parent s.viewed) s.is h

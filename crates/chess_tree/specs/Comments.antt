@@ -1,12 +1,12 @@
 -- The text of a comment (PGN 8.2.5).
 --   blanks       the bytes of white space
 --   normalised   the words, one space between two
---   with_word    a word more behind a text, behind a space unless it is the first
+--   with_next_word    a word more behind a text, behind a space unless it is the first
 --   has_brace    a right brace stands in it, which would end the comment
 --   IsComment    the text of a comment: normalised, and without a right brace
 use Rattle.std.specs.Prelude.{◌≡◌, ℕ, Bool, false, ◌==◌, List, [], ◌∷◌, ◌++◌}
 use Rattle.std.specs.List.{join_with_byte, list_any}
-use Rattle.chess_types.specs.Words.{words}
+use Rattle.chess_types.specs.bytes.Words.{words}
 
 -- from the horizontal tab to the carriage return, and the space
 abbrev pub blanks : List ℕ
@@ -17,9 +17,9 @@ unfoldable pub normalised : List ℕ → List ℕ
 normalised text = join_with_byte 32 (words blanks text)
 
 -- a word more
-abbrev pub with_word : List ℕ → List ℕ → List ℕ
-with_word [] word = word
-with_word (b ∷ text) word = (b ∷ text) ++ 32 ∷ word
+abbrev pub with_next_word : List ℕ → List ℕ → List ℕ
+with_next_word [] word = word
+with_next_word (b ∷ text) word = (b ∷ text) ++ 32 ∷ word
 
 -- a right brace stands in the text
 abbrev pub has_brace : List ℕ → Bool

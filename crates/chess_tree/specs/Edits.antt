@@ -1,13 +1,13 @@
 -- The edits of a forest, at a path: the places, from 0, of the nodes on the way down from the root.
 --   change_below  a change of the nodes below the one at the path; at the empty path, of the nodes below the root
 --   change_node   a change of the node at the path, or of its place among its siblings
---   without       the nodes, but for one
+--   without_node       the nodes, but for one
 --   promoted      one of them in front of the others
 --   commented     a comment for one of them, in place of its own
 --   annotated     an annotation number more for one of them
 --   parent        the path one node less deep
 use Rattle.std.specs.Prelude.{ℕ, zero, suc, List, [], ◌∷◌, ◌++◌}
-use Rattle.chess_types.specs.MoveParts.{MoveParts}
+use Rattle.chess_types.specs.board.MoveParts.{MoveParts}
 use Rattle.chess_tree.specs.Forest.{Forest, Bare, Node, append}
 
 -- the nodes below one of them changed
@@ -32,10 +32,10 @@ abbrev pub with_move : MoveParts → Forest → Forest
 with_move m f = append f (Node m [] [] Bare Bare)
 
 -- the others, in their order
-abbrev pub without : ℕ → Forest → Forest
-without k Bare = Bare
-without zero (Node m nags comment below next) = next
-without (suc k) (Node m nags comment below next) = Node m nags comment below (without k next)
+abbrev pub without_node : ℕ → Forest → Forest
+without_node k Bare = Bare
+without_node zero (Node m nags comment below next) = next
+without_node (suc k) (Node m nags comment below next) = Node m nags comment below (without_node k next)
 
 -- that node in front of these
 abbrev pub in_front : ℕ → Forest → Forest → Forest
@@ -45,7 +45,7 @@ in_front (suc k) (Node m nags comment below next) others = in_front k next other
 
 -- that node first, and then the others in their order
 abbrev pub promoted : ℕ → Forest → Forest
-promoted k f = in_front k f (without k f)
+promoted k f = in_front k f (without_node k f)
 
 -- the node at that place has that comment
 abbrev pub commented : List ℕ → ℕ → Forest → Forest

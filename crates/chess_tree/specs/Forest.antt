@@ -7,7 +7,7 @@
 --   moves_held  how many nodes there are
 --   height      how many nodes the longest way down has
 use Rattle.std.specs.Prelude.{ℕ, zero, suc, ◌+◌, max, List, [], ◌∷◌, Option, Some, None}
-use Rattle.chess_types.specs.MoveParts.{MoveParts}
+use Rattle.chess_types.specs.board.MoveParts.{MoveParts}
 
 -- no node, or a node (its move, annotation numbers, comment and the nodes below it) and the nodes after it
 pub data Forest : Type 0 where

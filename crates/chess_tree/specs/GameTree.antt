@@ -12,12 +12,12 @@
 --   added, deleted, promoted_here, commented_here, annotated_here     the tree and the cursor after an edit
 use Rattle.std.specs.Prelude.{ℕ, zero, suc, Bool, true, nat_lt, ◌&&◌, ◌==◌, if◌then◌else◌, List, [], ◌∷◌, ◌++◌, Option, None, Some, unwrap_or, option_map}
 use Rattle.std.specs.Option.{option_to_list, option_eq}
-use Rattle.chess_types.specs.ManCode.{kind_number}
-use Rattle.chess_types.specs.MoveParts.{MoveParts}
-use Rattle.chess_types.specs.Position.{State}
-use Rattle.chess_types.specs.Lines.{Line}
+use Rattle.chess_types.specs.board.Men.{same_kind}
+use Rattle.chess_types.specs.board.MoveParts.{MoveParts}
+use Rattle.chess_types.specs.board.Position.{State}
+use Rattle.chess_types.specs.board.Lines.{Line}
 use Rattle.chess_tree.specs.Forest.{Forest, Bare, Node, NodeParts, below_at, below_child, child, count}
-use Rattle.chess_tree.specs.Edits.{annotated, change_below, change_node, commented, parent, promoted, with_move, without}
+use Rattle.chess_tree.specs.Edits.{annotated, change_below, change_node, commented, parent, promoted, with_move, without_node}
 
 -- the position in which it begins, its comment and its moves
 pub record GameTree : Type 0 where
@@ -87,7 +87,7 @@ added m t = record { tree = changed (change_below (with_move m) t.path) t.tree; 
 
 -- the node and all below it taken out, and the cursor on its parent
 abbrev pub deleted : TreeParts → TreeParts
-deleted t = record { tree = changed (change_node without t.path) t.tree; path = parent t.path }
+deleted t = record { tree = changed (change_node without_node t.path) t.tree; path = parent t.path }
 
 -- the node in front of its siblings, and the cursor still on it
 abbrev pub promoted_here : TreeParts → TreeParts
@@ -110,7 +110,7 @@ commented_here text t = record { tree = commented_tree text t.path t.tree; path 
 
 -- the same move
 abbrev pub is_move : MoveParts → MoveParts → Bool
-is_move m n = (m.from == n.from) && ((m.to == n.to) && option_eq (λ a b. kind_number a == kind_number b) m.promo n.promo)
+is_move m n = (m.from == n.from) && ((m.to == n.to) && option_eq same_kind m.promo n.promo)
 
 -- the place of the first one with that move
 abbrev pub find : MoveParts → Forest → Option ℕ

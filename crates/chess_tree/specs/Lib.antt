@@ -1,15 +1,9 @@
--- Game trees: what they are, their edits, and which of them are well formed; and how one is kept.
+-- What a reader must believe: what a game tree is, its edits, and which trees are well formed. `steps` has words of the code alone.
 pub mod Forest
 pub mod Edits
 pub mod Comments
 pub mod GameTree
 pub mod WellFormed
-pub mod Steps
-pub mod ForestCode
-pub mod TreeCode
+pub mod CursorLine
 pub mod Faults
-pub mod Kept
-pub mod Nodes
-pub mod Zipped
-pub mod Zips
-pub mod Views
+pub mod steps

@@ -3,9 +3,9 @@
 --   Leads        the path leads to a node
 --   IsGameTree   all that is true of each tree
 use Rattle.std.specs.Prelude.{◌≡◌, ℕ, ◌<◌, ◌≤◌, true, List, [], ◌∷◌, ⊤}
-use Rattle.chess_types.specs.Position.{State, IsWellFormed}
-use Rattle.chess_types.specs.After.{after}
-use Rattle.chess_types.specs.Legal.{is_legal}
+use Rattle.chess_types.specs.board.Position.{State, IsWellFormed}
+use Rattle.chess_types.specs.board.After.{after}
+use Rattle.chess_types.specs.board.Legal.{is_legal}
 use Rattle.chess_tree.specs.Forest.{Forest, Bare, Node, below_child, count, height, moves_held}
 use Rattle.chess_tree.specs.Comments.{IsComment}
 use Rattle.chess_tree.specs.GameTree.{TreeParts}
@@ -20,7 +20,7 @@ abbrev pub Leads : List ℕ → Forest → Type 0
 Leads [] f = ⊤
 Leads (k ∷ path) f = (k < count f) × Leads path (below_child k f)
 
--- Both counters of the start are at most 99,999; there are at most 65,536 moves, and at most 20,000 on the way to a node.
+-- Both counters of the start are at most 99,999; there are at most 1,000,000 moves, and at most 20,000 on the way to a node.
 pub record IsGameTree (t : TreeParts) : Type 0 where
   pub start : IsWellFormed t.tree.start
   pub clock : t.tree.start.clock ≤ 99999
@@ -28,5 +28,5 @@ pub record IsGameTree (t : TreeParts) : Type 0 where
   pub comment : IsComment t.tree.comment
   pub moves : AreSound t.tree.start t.tree.below
   pub deep : height t.tree.below ≤ 20000
-  pub many : moves_held t.tree.below ≤ 65536
+  pub many : moves_held t.tree.below ≤ 1000000
   pub cursor : Leads t.path t.tree.below

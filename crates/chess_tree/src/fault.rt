@@ -10,8 +10,8 @@ pub enum TreeFault {
     /// The cursor is at the root, which has no parent, no siblings and no annotation numbers.
     #[error("the cursor is at the root")]
     AtRoot = 2,
-    /// The tree holds 65,536 moves.
-    #[error("the tree holds 65536 moves")]
+    /// The tree holds 1,000,000 moves.
+    #[error("the tree holds 1000000 moves")]
     Full = 3,
     /// A right brace stands in the comment, which would end it (PGN 8.2.5).
     #[error("a right brace stands in the comment")]

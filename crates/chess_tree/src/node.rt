@@ -1,187 +1,166 @@
-ghost use Rattle.std.specs.Prelude.{◌≡◌, ◌<◌, ◌≤◌, ◌+◌, ◌^◌, ◌++◌, ◌∷◌, [], Some, IfSome, IfNone, OnSome, OnOk, OnErr};
-ghost use Rattle.chess_tree.specs.Forest.{Bare, child, count, height, moves_held};
-ghost use Rattle.chess_tree.specs.GameTree.{find, is_move};
-ghost use Rattle.chess_tree.specs.Edits.{promoted, with_move, without};
-ghost use Rattle.chess_tree.specs.Nodes.{leaf, placed, shown, with_below};
+ghost use Rattle.std.specs.Prelude.{◌≡◌};
+ghost use Rattle.chess_tree.specs.Forest.{child, count};
+ghost use Rattle.chess_tree.specs.Edits.{without_node};
+ghost use Rattle.chess_tree.specs.steps.Notes.{noted_in};
+ghost use Rattle.chess_tree.specs.steps.Viewed.{node_seen, IsViewed};
 
+use crate::arena::links::slot;
+use crate::arena::notes::{self, NoteMap};
+use crate::arena::siblings::{child_at, count};
+use crate::arena::slot::Slot;
 use chess_types::Move;
-use smallvec::SmallVec;
-use std::alloc::{AllocError, Allocator};
+use std::alloc::Allocator;
 use std::marker::Model;
-use std::mem;
 
-/// A node, with all that is below it.
+/// The notes of a node: its annotation numbers, in the order in which they were added (PGN 10), and its comment, which is
+/// empty where there is none.
+#[derive(Clone, Copy, Debug, PartialEq, Eq)]
+pub struct Notes<'t> {
+    pub nags: &'t [u8],
+    pub comment: &'t [u8],
+}
+
+/// A node of a tree, to be looked at. Contracts see its move, its notes and what is below it.
 #[derive(Drop)]
-pub(crate) struct Node<'a, A: Allocator> {
-    played: Move,
-    nags: SmallVec<u8, 4, &'a A>,
-    comment: Vec<u8, &'a A>,
-    children: Vec<Node<'a, A>, &'a A>,
+pub struct NodeRef<'t, 'a, A: Allocator> {
+    slots: &'t [Slot],
+    notes: &'t NoteMap<'a, A>,
+    number: u32,
 }
 
-impl<'a, A: Allocator> Model for Node<'a, A> {
-    ghost use Rattle.std.proofs.Common.{arith};
-    ghost use Rattle.chess_tree.specs.Forest.{moves_held};
-    ghost use Rattle.chess_tree.specs.Nodes.{Held, coded_held, forest_of, most_le-moves_held};
+impl<'t, 'a, A: Allocator> Model for NodeRef<'t, 'a, A> {
+    ghost use Rattle.chess_tree.specs.Forest.{NodeParts};
+    ghost use Rattle.chess_tree.specs.steps.ForestCode.{coded_node};
 
-    ghost Value = { Held };
+    ghost Value = { NodeParts };
 
-    ghost coded = { coded_held };
+    ghost coded = { coded_node };
 
-    ghost view = { λ n. record { move = n.played; nags = n.nags.items; comment = n.comment.items; below = forest_of n.children.items } };
+    ghost use Rattle.chess_tree.specs.steps.Notes.{noted_in};
+    ghost use Rattle.chess_tree.specs.steps.Viewed.{node_seen, IsViewed};
 
-    ghost size = { λ n. moves_held n.below };
+    ghost view = { λ r. node_seen r.slots.now (noted_in r.notes.now) r.number };
 
-    ghost size_decreases = { λ n _. Prim.omega (arith, most_le-moves_held n.children.items) };
+    ghost invariant = { λ r. IsViewed r.slots.now r.number };
 }
 
-// Whether the moves are the same, promotion and all.
-#[tactic(auto, using(crate::proofs::FindLemmas::same_move))]
-fn is_move(m: Move, n: Move) -> bool
-    ensures { result ≡ is_move m n }
-{
-    m == n
-}
-
-impl<'a, A: Allocator> Node<'a, A> {
-    /// A node with no notes, and nothing below it.
-    pub(crate) fn new(alloc: &'a A, played: Move) -> Node<'a, A>
-        ensures { result ≡ leaf played }
+impl<'t, 'a, A: Allocator> NodeRef<'t, 'a, A> {
+    // The node with that number.
+    pub(crate) fn new(
+        slots: &'t [Slot],
+        notes: &'t NoteMap<'a, A>,
+        number: u32,
+    ) -> NodeRef<'t, 'a, A>
+        requires { IsViewed slots.now number }
+        ensures { result ≡ node_seen slots.now (noted_in notes.now) number }
     {
-        Node {
-            played,
-            nags: SmallVec::new(alloc),
-            comment: Vec::new(alloc),
-            children: Vec::new(alloc),
+        NodeRef {
+            slots,
+            notes,
+            number,
         }
     }
 
-    /// The move that leads to it.
-    pub(crate) fn played(&self) -> Move
+    /// The same node once more.
+    pub fn again(&self) -> NodeRef<'t, 'a, A>
+        ensures { result ≡ self.now }
+    {
+        NodeRef::new(self.slots, self.notes, self.number)
+    }
+
+    /// The move that leads to the node; `None` at the root.
+    pub fn move_at(&self) -> Option<Move>
         ensures { result ≡ self.now.move }
     {
-        self.played
+        if self.number == 0 {
+            return None;
+        }
+        Some(slot(self.slots, self.number).played)
     }
 
-    /// Its annotation numbers, in the order in which they were added.
-    pub(crate) fn nags(&self) -> &[u8]
-        ensures { result.now ≡ self.now.nags }
+    /// Its notes; the root has no annotation numbers.
+    pub fn notes(&self) -> Notes<'t>
+        ensures nags { result.nags.now ≡ self.now.nags }
+        ensures comment { result.comment.now ≡ self.now.comment }
     {
-        self.nags.as_slice()
+        let comment = notes::comment(self.notes, self.number);
+        if self.number == 0 {
+            return Notes { nags: &[], comment };
+        }
+        Notes {
+            nags: notes::nags(self.notes, self.number),
+            comment,
+        }
     }
 
-    /// Its comment.
-    pub(crate) fn comment(&self) -> &[u8]
-        ensures { result.now ≡ self.now.comment }
-    {
-        self.comment.as_slice()
-    }
-
-    /// How many children it has.
-    #[tactic(auto, using(crate::proofs::NodeLemmas::count_forest_of))]
-    pub(crate) fn child_count(&self) -> usize
+    /// How many children it has, at most 1,000,000. It takes a step for each.
+    pub fn children(&self) -> u32
         ensures { result ≡ count self.now.below }
     {
-        self.children.len()
+        count(self.slots, self.number)
     }
 
-    /// The child at that place.
-    #[tactic(auto, using(crate::proofs::NodeLemmas::count_forest_of, crate::proofs::NodeLemmas::child_read))]
-    pub(crate) fn child(&self, place: usize) -> &Node<'a, A>
-        requires { place < count self.now.below }
-        ensures { child place self.now.below ≡ Some (shown result.now) }
+    /// The child at that place, from 0. It takes a step for each child before it: `below` goes over them all.
+    pub fn child(&self, place: u32) -> Option<NodeRef<'t, 'a, A>>
+        ensures { result ≡ child place self.now.below }
     {
-        &self.children[place]
-    }
-
-    /// The place of the first child with that move.
-    pub(crate) fn find(&self, played: Move) -> Option<u32>
-        requires { count self.now.below < 2 ^ 32 }
-        ensures { result ≡ find played self.now.below }
-    {
-        for place in 0..self.child_count() as u32 {
-            if is_move(self.child(place as usize).played(), played) {
-                return Some(place);
-            }
+        let number = child_at(self.slots, self.number, place);
+        if number == 0 {
+            return None;
         }
-        None
+        Some(NodeRef::new(self.slots, self.notes, number))
     }
 
-    /// Takes out the child at that place, and leaves a bare node in its stead.
-    #[tactic(auto, using(crate::proofs::NodeLemmas::count_forest_of, crate::proofs::NodeLemmas::placed_forest_of, crate::proofs::NodeLemmas::child_read))]
-    pub(crate) fn take_child(&mut self, alloc: &'a A, place: usize) -> Node<'a, A>
-        requires { place < count self.old.below }
-        ensures child { child place self.old.below ≡ Some (shown result) }
-        ensures rest { self.new ≡ with_below (placed place (leaf self.old.move)) self.old }
+    /// Its children, the main continuation first, one a step.
+    pub fn below(&self) -> Children<'t, 'a, A>
+        ensures { result ≡ self.now.below }
     {
-        let bare = Node::new(alloc, self.played);
-        mem::replace(&mut self.children[place], bare)
+        Children {
+            slots: self.slots,
+            notes: self.notes,
+            next: slot(self.slots, self.number).first,
+        }
     }
+}
 
-    /// Puts a node in the stead of a child.
-    #[tactic(auto, using(crate::proofs::NodeLemmas::count_forest_of, crate::proofs::NodeLemmas::placed_forest_of))]
-    pub(crate) fn put_child(&mut self, place: usize, node: Node<'a, A>)
-        requires { place < count self.old.below }
-        ensures { self.new ≡ with_below (placed place node.entry) self.old }
-    {
-        let _bare = mem::replace(&mut self.children[place], node);
-    }
+/// The children of a node that are still to be gone over. Contracts see them, with all that is below them.
+#[derive(Drop)]
+pub struct Children<'t, 'a, A: Allocator> {
+    slots: &'t [Slot],
+    notes: &'t NoteMap<'a, A>,
+    /// The number of the next one; 0 where there is none.
+    next: u32,
+}
 
-    /// Appends a child with that move, which has no notes and no child.
-    #[tactic(auto, using(crate::proofs::NodeLemmas::added_forest_of))]
-    pub(crate) fn add_child(&mut self, alloc: &'a A, played: Move) -> Result<(), AllocError>
-        ensures ok { OnOk result (self.new ≡ with_below (with_move played) self.old) }
-        ensures err { OnErr result (self.new ≡ self.old) }
-    {
-        self.children.push(Node::new(alloc, played))?;
-        Ok(())
-    }
+impl<'t, 'a, A: Allocator> Model for Children<'t, 'a, A> {
+    ghost use Rattle.chess_tree.specs.Forest.{Forest};
+    ghost use Rattle.chess_tree.specs.steps.ForestCode.{coded_forest};
 
-    /// Takes out the child at that place; the later ones move up.
-    #[tactic(auto, using(crate::proofs::NodeLemmas::count_forest_of, crate::proofs::NodeLemmas::without_forest_of, crate::proofs::NodeLemmas::child_read))]
-    pub(crate) fn remove_child(&mut self, place: usize) -> Node<'a, A>
-        requires { place < count self.old.below }
-        ensures child { child place self.old.below ≡ Some (shown result) }
-        ensures rest { self.new ≡ with_below (without place) self.old }
-    {
-        self.children.remove(place)
-    }
+    ghost Value = { Forest };
 
-    /// Takes out the last child.
-    pub(crate) fn pop_child(&mut self) -> Option<Node<'a, A>>
-        ensures none { IfNone result (self.old.below ≡ Bare) }
-        ensures held { IfSome result (λ n. moves_held self.old.below ≡ moves_held self.new.below + moves_held n.below + 1) }
-        ensures height { IfSome result (λ n. height n.below < height self.old.below) }
-        ensures less_high { OnSome result (height self.new.below ≤ height self.old.below) }
-    {
-        self.children.pop()
-    }
+    ghost coded = { coded_forest };
 
-    /// Moves the child at that place in front of the others, which keep their order.
-    #[tactic(auto, using(crate::proofs::NodeLemmas::count_forest_of, crate::proofs::NodeLemmas::promoted_forest_of))]
-    pub(crate) fn promote_child(&mut self, place: usize)
-        requires { place < count self.old.below }
-        ensures { self.new ≡ with_below (promoted place) self.old }
-    {
-        let node = self.children.remove(place);
-        let Ok(()) = self.children.insert(0, node) else {
-            unreachable!()
-        };
-    }
+    ghost use Rattle.chess_tree.specs.steps.Notes.{noted_in};
+    ghost use Rattle.chess_tree.specs.steps.Viewed.{side_seen, IsSide};
 
-    /// Appends an annotation number.
-    pub(crate) fn add_nag(&mut self, nag: u8) -> Result<(), AllocError>
-        ensures ok { OnOk result (self.new ≡ record { move = self.old.move; nags = self.old.nags ++ nag ∷ []; comment = self.old.comment; below = self.old.below }) }
-        ensures err { OnErr result (self.new ≡ self.old) }
-    {
-        self.nags.push(nag)?;
-        Ok(())
-    }
+    ghost view = { λ c. side_seen c.slots.now (noted_in c.notes.now) c.next };
 
-    /// Sets its comment.
-    pub(crate) fn set_comment(&mut self, comment: Vec<u8, &'a A>)
-        ensures { self.new ≡ record { move = self.old.move; nags = self.old.nags; comment = comment.entry.items; below = self.old.below } }
+    ghost invariant = { λ c. IsSide c.slots.now c.next };
+}
+
+impl<'t, 'a, A: Allocator> Children<'t, 'a, A> {
+    /// The next one, if there is one; the others are left.
+    pub fn next(&mut self) -> Option<NodeRef<'t, 'a, A>>
+        ensures first { result ≡ child 0 self.old }
+        ensures rest { self.new ≡ without_node 0 self.old }
     {
-        self.comment = comment;
+        let slots = self.slots;
+        let notes = self.notes;
+        let number = self.next;
+        if number == 0 {
+            return None;
+        }
+        self.next = slot(slots, number).next;
+        Some(NodeRef::new(slots, notes, number))
     }
 }

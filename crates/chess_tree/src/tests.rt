@@ -1,9 +1,10 @@
 ghost use Rattle.std.specs.Prelude.{◌≡◌, ◌≤◌, OnOk, OnErr};
-ghost use Rattle.chess_types.specs.Lines.{last};
+ghost use Rattle.chess_types.specs.board.Lines.{last};
 ghost use Rattle.chess_tree.specs.GameTree.{line_to};
 
 mod edits;
 mod long;
+mod random;
 mod refused;
 
 use crate::{NodeRef, Tree, TreeFault};
@@ -19,7 +20,7 @@ fn a_move(rt: &impl Abort, text: &str) -> Move {
 }
 
 /// The tree of a game that begins.
-#[tactic(auto, unfolding(chess_types::specs::Position::start))]
+#[tactic(auto, unfolding(chess_types::specs::board::Position::start))]
 fn begin<'a, A: Allocator>(alloc: &'a A) -> Result<Tree<'a, A>, TreeFault> {
     Tree::new(alloc, Position::start())
 }

@@ -1,50 +1,46 @@
 ghost use Rattle.std.specs.Prelude.{◌≡◌, ◌<◌, ◌≤◌, ◌++◌, ◌∷◌, [], nat_le, true, length, Err, MatchResult, IfOk, IfErr, OnOk, OnErr};
-ghost use Rattle.chess_types.specs.Legal.{is_legal};
-ghost use Rattle.chess_types.specs.Lines.{extended, last};
+ghost use Rattle.chess_types.specs.board.Legal.{is_legal};
+ghost use Rattle.chess_types.specs.board.Lines.{extended, last};
 ghost use Rattle.chess_tree.specs.declared.fault.TreeFault.TheVariants.{NoSuch, AtRoot, Full, BadComment, Memory};
 ghost use Rattle.chess_tree.specs.Forest.{Bare, count, moves_held};
 ghost use Rattle.chess_tree.specs.Edits.{parent};
 ghost use Rattle.chess_tree.specs.GameTree.{added, at_path, line_to, nodes_here};
 ghost use Rattle.chess_tree.specs.WellFormed.{IsGameTree};
-ghost use Rattle.chess_tree.specs.Steps.{GoesOn};
+ghost use Rattle.chess_tree.specs.CursorLine.{GoesOn};
 
 mod comment;
 mod cursor;
 mod edits;
 mod view;
 
+use crate::arena::Arena;
 use crate::fault::TreeFault;
-use crate::zipper::Zipper;
 use chess_types::{Move, Position};
 use std::alloc::Allocator;
 use std::marker::Model;
-pub use view::{NodeRef, Notes};
-
-/// The most moves that a tree holds.
-const MOST_MOVES: u32 = 65_536;
 
 /// A game tree with a cursor at one of its nodes. Contracts see the nested tree and the path to the cursor
 /// (`specs/GameTree.antt`).
 #[derive(Drop)]
 pub struct Tree<'a, A: Allocator> {
     start: Position,
-    nodes: Zipper<'a, A>,
-    held: u32,
+    nodes: Arena<'a, A>,
 }
 
 impl<'a, A: Allocator> Model for Tree<'a, A> {
     ghost use Rattle.chess_tree.specs.GameTree.{TreeParts};
-    ghost use Rattle.chess_tree.specs.TreeCode.{coded_tree};
+    ghost use Rattle.chess_tree.specs.steps.TreeCode.{coded_tree};
 
     ghost Value = { TreeParts };
 
     ghost coded = { coded_tree };
 
-    ghost use Rattle.chess_tree.specs.Kept.{parts_of, IsKept};
+    ghost use Rattle.chess_tree.specs.WellFormed.{IsGameTree};
+    ghost use Rattle.chess_tree.specs.steps.Rooted.{parts_of};
 
     ghost view = { λ t. parts_of t.start t.nodes };
 
-    ghost invariant = { λ t. IsKept t.start t.nodes t.held };
+    ghost invariant = { λ t. IsGameTree (parts_of t.start t.nodes) };
 }
 
 impl<'a, A: Allocator> Tree<'a, A> {
@@ -55,13 +51,9 @@ impl<'a, A: Allocator> Tree<'a, A> {
         ensures ok { IfOk result (λ t. t ≡ record { tree = record { start = start; comment = []; below = Bare }; path = [] }) }
         ensures memory { IfErr result (λ fault. fault ≡ Memory) }
     {
-        let nodes = Zipper::new(alloc, Move::default())?;
+        let nodes = Arena::new(alloc)?;
         let _ = &start.setup().side;
-        Ok(Tree {
-            start,
-            nodes,
-            held: 0,
-        })
+        Ok(Tree { start, nodes })
     }
 
     /// The position in which the tree begins.
@@ -72,38 +64,35 @@ impl<'a, A: Allocator> Tree<'a, A> {
         &self.start
     }
 
-    /// How many children the node at the cursor has, at most 65,536.
+    /// How many children the node at the cursor has, at most 1,000,000.
     pub fn child_count(&self) -> u32
         ensures { result ≡ count (nodes_here self.now) }
     {
-        self.nodes.here().child_count() as u32
+        self.nodes.child_count()
     }
 
-    /// Whether the tree holds 65,536 moves.
+    /// Whether the tree holds 1,000,000 moves.
     pub fn is_full(&self) -> bool
-        ensures { result ≡ nat_le 65536 (moves_held self.now.tree.below) }
+        ensures { result ≡ nat_le 1000000 (moves_held self.now.tree.below) }
     {
-        self.held == MOST_MOVES
+        self.nodes.is_full()
     }
 
     /// Appends a child with that move, which is legal at the cursor, and steps into it. The node at the cursor is less than
-    /// 20,000 plies deep. `Full` where the tree holds 65,536 moves, else `Memory` where there is none.
+    /// 20,000 plies deep. `Full` where the tree holds 1,000,000 moves, else `Memory` where there is none.
     pub fn add(&mut self, played: Move) -> Result<(), TreeFault>
         requires legal { is_legal (last (line_to self.old)) played ≡ true }
         requires deep { length self.old.path < 20000 }
         ensures ok { OnOk result (self.new ≡ added played self.old) }
         ensures line { OnOk result (line_to self.new ≡ extended (line_to self.old) played) }
         ensures err { OnErr result (self.new ≡ self.old) }
-        ensures full { moves_held self.old.tree.below ≡ 65536 → result ≡ Err Full }
-        ensures memory { moves_held self.old.tree.below < 65536 → IfErr result (λ fault. fault ≡ Memory) }
+        ensures full { moves_held self.old.tree.below ≡ 1000000 → result ≡ Err Full }
+        ensures memory { moves_held self.old.tree.below < 1000000 → IfErr result (λ fault. fault ≡ Memory) }
     {
-        if self.held == MOST_MOVES {
+        if self.nodes.is_full() {
             return Err(TreeFault::Full);
         }
-        let place = self.nodes.here().child_count() as u32;
-        self.nodes.append(played)?;
-        self.nodes.down(place);
-        self.held += 1;
+        self.nodes.add(played)?;
         Ok(())
     }
 
@@ -114,10 +103,9 @@ impl<'a, A: Allocator> Tree<'a, A> {
         ensures err { OnErr result (self.new ≡ self.old) }
         ensures no_such { MatchResult result (λ _. place < count (nodes_here self.old)) (λ fault. (fault ≡ NoSuch) × (count (nodes_here self.old) ≤ place)) }
     {
-        if place as usize >= self.nodes.here().child_count() {
+        if !self.nodes.down(place) {
             return Err(TreeFault::NoSuch);
         }
-        self.nodes.down(place);
         Ok(())
     }
 

@@ -3,12 +3,12 @@ use Rattle.std.proofs.Common.{◌≡◌, ℕ, zero, suc, ◌+◌, ◌<◌, ◌�
 use Rattle.std.specs.List.{range_with_len, flat_map, All, Contains}
 use Rattle.std.proofs.lemmas.List.Elements.{filter-append, All-append, Contains-append_left, Contains-append_right}
 use Rattle.std.proofs.lemmas.Bool.{cases_eq, true≢false}
-use Rattle.chess_types.specs.declared.man.Kind.{Kind}
-use Rattle.chess_types.specs.declared.man.Kind.TheVariants.{Pawn, Knight, Bishop, Rook, Queen, King}
-use Rattle.chess_types.specs.Squares.{squares}
-use Rattle.chess_types.specs.MoveParts.{MoveParts}
-use Rattle.chess_types.specs.Texts.{names_promotion}
-use Rattle.chess_types.specs.Legal.{promotions, moves_between, moves_from, all_moves}
+use Rattle.chess_types.specs.declared.board.man.Kind.{Kind}
+use Rattle.chess_types.specs.declared.board.man.Kind.TheVariants.{Pawn, Knight, Bishop, Rook, Queen, King}
+use Rattle.chess_types.specs.board.Squares.{squares}
+use Rattle.chess_types.specs.board.MoveParts.{MoveParts}
+use Rattle.chess_types.specs.board.Texts.{names_promotion}
+use Rattle.chess_types.specs.board.Legal.{promotions, moves_between, moves_from, all_moves}
 
 -- a move between squares of the board
 pub record IsMove (m : MoveParts) : Type 0 where

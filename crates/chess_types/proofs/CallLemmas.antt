@@ -1,7 +1,6 @@
 -- Calls go on by calls.
-use Rattle.std.specs.Io.KnownBytes.{Consumes, Appends}
-use Rattle.std.proofs.Common.{Option, None, Some, ◌≡◌, ℕ, List, [], ◌∷◌, ◌++◌, refl, ap, sym, subst, ◌∙◌, append_assoc, append-nil}
-use Rattle.chess_types.specs.Calls.{Calls, Carries, joined}
+use Rattle.std.proofs.Common.{◌≡◌, ℕ, List, [], ◌∷◌, ◌++◌, refl, ap, sym, subst, ◌∙◌, append_assoc, append-nil}
+use Rattle.chess_types.specs.bytes.Calls.{Calls, Carries, joined}
 
 pub joined-append : (xs ys : List (List ℕ)) → joined (xs ++ ys) ≡ joined xs ++ joined ys
 joined-append [] ys = refl
@@ -46,38 +45,3 @@ pub Calls-taken : {S : Type 0} (call : S → List ℕ → S → Type 0) (taken :
 Calls-taken call taken one s t [] calls = ap taken (sym calls) ∙ sym (append-nil (taken s))
 Calls-taken call taken one s t (p ∷ ps) calls =
     Calls-taken call taken one calls.0 t ps calls.2 ∙ rw (one s calls.0 p calls.1) (append_assoc (taken s) p (joined ps))
-
--- What no call changes stays.
-pub Calls-same : {S A : Type 0} (call : S → List ℕ → S → Type 0) (part : S → A) → ((s t : S) (p : List ℕ) → call s p t → part t ≡ part s) → (s t : S) (ps : List (List ℕ)) → Calls call s ps t → part t ≡ part s
-Calls-same call part one s t [] calls = ap part (sym calls)
-Calls-same call part one s t (p ∷ ps) calls = Calls-same call part one calls.0 t ps calls.2 ∙ one s calls.0 p calls.1
-
-Consumes-append : (x y z : Option (List ℕ)) (p q : List ℕ) → Consumes x y p → Consumes y z q → Consumes x z (p ++ q)
-Consumes-append None y z p q first second = tt
-Consumes-append (Some a) None z p q first second = absurd first
-Consumes-append (Some a) (Some b) None p q first second = absurd second
-Consumes-append (Some a) (Some b) (Some c) p q first second = first ∙ rw second (sym (append_assoc p q c))
-
-Consumes-none : (x : Option (List ℕ)) → Consumes x x []
-Consumes-none None = tt
-Consumes-none (Some a) = refl
-
--- What is known to be left loses what all the calls gave.
-pub Calls-consumes : {S : Type 0} (left : S → Option (List ℕ)) (s t : S) (ps : List (List ℕ)) → Calls (λ a p b. Consumes (left a) (left b) p) s ps t → Consumes (left s) (left t) (joined ps)
-Calls-consumes left s t [] calls = subst (λ x. Consumes (left s) (left x) []) calls (Consumes-none (left s))
-Calls-consumes left s t (p ∷ ps) calls = Consumes-append (left s) (left calls.0) (left t) p (joined ps) calls.1 (Calls-consumes left calls.0 t ps calls.2)
-
-Appends-append : (x y z : Option (List ℕ)) (p q : List ℕ) → Appends x y p → Appends y z q → Appends x z (p ++ q)
-Appends-append None y z p q first second = tt
-Appends-append (Some a) None z p q first second = absurd first
-Appends-append (Some a) (Some b) None p q first second = absurd second
-Appends-append (Some a) (Some b) (Some c) p q first second = second ∙ rw first (append_assoc a p q)
-
-Appends-none : (x : Option (List ℕ)) → Appends x x []
-Appends-none None = tt
-Appends-none (Some a) = sym (append-nil a)
-
--- What is known to be taken gains what all the calls took.
-pub Calls-appends : {S : Type 0} (taken : S → Option (List ℕ)) (s t : S) (ps : List (List ℕ)) → Calls (λ a p b. Appends (taken a) (taken b) p) s ps t → Appends (taken s) (taken t) (joined ps)
-Calls-appends taken s t [] calls = subst (λ x. Appends (taken s) (taken x) []) calls (Appends-none (taken s))
-Calls-appends taken s t (p ∷ ps) calls = Appends-append (taken s) (taken calls.0) (taken t) p (joined ps) calls.1 (Calls-appends taken calls.0 t ps calls.2)

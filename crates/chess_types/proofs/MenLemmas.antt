@@ -5,12 +5,12 @@ use Rattle.std.specs.List.{range_with_len}
 use Rattle.std.proofs.lemmas.List.Sums.{sum_by-set, sum_by-cons}
 use Rattle.std.proofs.lemmas.List.FromFn.{fill_by_all}
 use Rattle.std.specs.FinMap.{get}
-use Rattle.chess_types.specs.declared.man.Man.{Man}
-use Rattle.chess_types.specs.declared.man.Colour.{Colour}
-use Rattle.chess_types.specs.declared.man.Colour.TheVariants.{White, Black}
-use Rattle.chess_types.specs.Squares.{squares}
-use Rattle.chess_types.specs.Cells.{board_of}
-use Rattle.chess_types.specs.Men.{census, men_of, is_of, same_colour, AtMost16}
+use Rattle.chess_types.specs.declared.board.man.Man.{Man}
+use Rattle.chess_types.specs.declared.board.man.Colour.{Colour}
+use Rattle.chess_types.specs.declared.board.man.Colour.TheVariants.{White, Black}
+use Rattle.chess_types.specs.board.Squares.{squares}
+use Rattle.chess_types.specs.board.Cells.{board_of}
+use Rattle.chess_types.specs.board.Men.{count_squares, men_of, is_of, same_colour, AtMost16}
 use Rattle.chess_types.proofs.CellLemmas.{get-board_of}
 use Rattle.std.proofs.Common.{[], ◌∷◌}
 
@@ -19,14 +19,14 @@ count_by-map p f [] = refl
 count_by-map p f (x ∷ xs) =
     sum_by-cons (λ y. cond (p y) 1 0) (f x) (map f xs) ∙ ap (λ n. cond (p (f x)) 1 0 + n) (count_by-map p f xs) ∙ sym (sum_by-cons (λ y. cond (p (f y)) 1 0) x xs)
 
-pub census-board_of : (test : Option Man → Bool) (cells : List (Option Man)) → length cells ≡ 64 → census test (board_of cells) ≡ count_by test cells
-unfolding census squares
-census-board_of test cells len =
+pub count_squares-board_of : (test : Option Man → Bool) (cells : List (Option Man)) → length cells ≡ 64 → count_squares test (board_of cells) ≡ count_by test cells
+unfolding count_squares squares
+count_squares-board_of test cells len =
     sym (count_by-map test (get (board_of cells)) (range_with_len 0 64))
     ∙ ap (count_by test) (sym (fill_by_all (get (board_of cells)) cells 64 None len (λ k h. sym (get-board_of cells k))))
 
 pub men_of-board_of : (cells : List (Option Man)) (colour : Colour) → length cells ≡ 64 → men_of (board_of cells) colour ≡ count_by (is_of colour) cells
-men_of-board_of cells colour = census-board_of (is_of colour) cells
+men_of-board_of cells colour = count_squares-board_of (is_of colour) cells
 
 -- one man more of that colour, where the cell was empty
 pub count-set_some : (cells : List (Option Man)) (at : ℕ) (man : Man) (colour : Colour) → at < length cells → get_or cells at None ≡ None →

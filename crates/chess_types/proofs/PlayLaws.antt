@@ -1,9 +1,9 @@
 -- A line with one move more.
 use Rattle.std.proofs.Common.{◌≡◌, List, [], ◌∷◌, ◌++◌, refl, ap}
-use Rattle.chess_types.specs.MoveParts.{MoveParts}
-use Rattle.chess_types.specs.Position.{State}
-use Rattle.chess_types.specs.After.{after}
-use Rattle.chess_types.specs.Lines.{Line, extended, last, play, positions_from}
+use Rattle.chess_types.specs.board.MoveParts.{MoveParts}
+use Rattle.chess_types.specs.board.Position.{State}
+use Rattle.chess_types.specs.board.After.{after}
+use Rattle.chess_types.specs.board.Lines.{Line, extended, last, play, positions_from}
 
 -- the position after one move more
 pub play_on : (p : State) (ms : List MoveParts) (m : MoveParts) → play p (ms ++ m ∷ []) ≡ after (play p ms) m

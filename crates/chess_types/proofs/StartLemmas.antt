@@ -3,20 +3,20 @@ use Rattle.std.proofs.Common.{◌≡◌, ℕ, ◌<◌, get_or, Option, None, Boo
 use Rattle.std.specs.Prelude.{count_by, not, ◌&&◌, ◌||◌, nat_lt}
 use Rattle.std.specs.List.{list_all}
 use Rattle.std.proofs.lemmas.Bool.Decides.{nat_tests}
-use Rattle.chess_types.specs.declared.man.Colour.{Colour}
-use Rattle.chess_types.specs.declared.man.Colour.TheVariants.{White, Black}
-use Rattle.chess_types.specs.declared.position.Wing.{Wing}
-use Rattle.chess_types.specs.declared.position.Wing.TheVariants.{KingSide, QueenSide}
-use Rattle.chess_types.specs.Cells.{board_of}
-use Rattle.chess_types.specs.Board.{Look, man_at}
-use Rattle.chess_types.specs.Squares.{squares, is_between, rank_of}
-use Rattle.chess_types.specs.Men.{census, is_of, is_king_of, AtMost16, holds_pawn}
-use Rattle.chess_types.specs.Attack.{in_check, count, attacks_as, is_clear, slides_to, slides, leaps}
-use Rattle.chess_types.specs.Position.{start, start_cells, IsSetup, IsQuiet, king_home, rook_home, cell_of}
-use Rattle.chess_types.specs.declared.man.Man.{Man}
-use Rattle.chess_types.specs.declared.man.Kind.TheVariants.{King, Rook}
+use Rattle.chess_types.specs.declared.board.man.Colour.{Colour}
+use Rattle.chess_types.specs.declared.board.man.Colour.TheVariants.{White, Black}
+use Rattle.chess_types.specs.declared.board.position.Wing.{Wing}
+use Rattle.chess_types.specs.declared.board.position.Wing.TheVariants.{KingSide, QueenSide}
+use Rattle.chess_types.specs.board.Cells.{board_of}
+use Rattle.chess_types.specs.board.Board.{Look, man_at}
+use Rattle.chess_types.specs.board.Squares.{squares, is_between, rank_of}
+use Rattle.chess_types.specs.board.Men.{count_squares, is_of, is_king_of, AtMost16, holds_pawn}
+use Rattle.chess_types.specs.board.Attack.{in_check, count, attacks_as, is_clear, slides_to, slides, leaps}
+use Rattle.chess_types.specs.board.Position.{start, start_cells, IsSetup, IsQuiet, king_home, rook_home, cell_of}
+use Rattle.chess_types.specs.declared.board.man.Man.{Man}
+use Rattle.chess_types.specs.declared.board.man.Kind.TheVariants.{King, Rook}
 use Rattle.chess_types.proofs.CellLemmas.{get-board_of}
-use Rattle.chess_types.proofs.MenLemmas.{census-board_of}
+use Rattle.chess_types.proofs.MenLemmas.{count_squares-board_of}
 use Rattle.chess_types.proofs.SquareLemmas.{every_square}
 
 -- what stands on the squares, as a list gives it
@@ -27,8 +27,8 @@ start_look-is : man_at (board_of start_cells) ≡ start_look
 unfolding start_look
 start_look-is i s = get-board_of start_cells s i
 
-start_census : (test : Option Man → Bool) → census test (board_of start_cells) ≡ count_by test start_cells
-start_census test = census-board_of test start_cells (unfold start_cells in refl)
+start_census : (test : Option Man → Bool) → count_squares test (board_of start_cells) ≡ count_by test start_cells
+start_census test = count_squares-board_of test start_cells (unfold start_cells in refl)
 
 pub start_few : AtMost16 start_cells
 unfolding start_cells

@@ -3,13 +3,13 @@ use Rattle.std.proofs.Common.{◌≡◌, ℕ, zero, suc, ◌+◌, ◌-◌, ◌^�
 use Rattle.std.specs.List.{list_all, sum_by}
 use Rattle.std.proofs.lemmas.Bool.{and_parts, cases_Bool}
 use Rattle.std.proofs.lemmas.List.Sums.{sum_by-cons}
-use Rattle.chess_types.specs.Attack.{in_check}
-use Rattle.chess_types.specs.MoveParts.{MoveParts}
-use Rattle.chess_types.specs.Position.{State, look}
-use Rattle.chess_types.specs.Pseudo.{is_pseudo}
-use Rattle.chess_types.specs.After.{after}
-use Rattle.chess_play.proofs.Counters.{clock_more, number_more}
-use Rattle.chess_types.specs.Legal.{is_legal, legal_moves, all_moves}
+use Rattle.chess_types.specs.board.Attack.{in_check}
+use Rattle.chess_types.specs.board.MoveParts.{MoveParts}
+use Rattle.chess_types.specs.board.Position.{State, look}
+use Rattle.chess_types.specs.board.Pseudo.{is_pseudo}
+use Rattle.chess_types.specs.board.After.{after}
+use Rattle.chess_types.proofs.Counters.{clock_more, number_more}
+use Rattle.chess_types.specs.board.Legal.{is_legal, legal_moves, all_moves}
 use Rattle.perft.specs.Leaves.{leaves_of}
 
 -- the leaves behind one move

@@ -3,7 +3,7 @@ use Rattle.std.proofs.Common.{◌≡◌, ℕ, ◌==◌, inl, inr, Option, Some, 
 use Rattle.std.specs.Io.KnownBytes.{Appends, Consumes, IsAtEnd, Keeps}
 use Rattle.std.proofs.KnownBytes.{Appends-nil, Appends-trans, Appends-kept, Consumes-nil, Consumes-trans, Consumes-whole}
 use Rattle.std.proofs.lemmas.Bool.{cases_Bool}
-use Rattle.perft.specs.Lines.{lines_from, line_after, kept, line_text, text_after, texts, answers}
+use Rattle.perft.specs.InputLines.{lines_from, line_after, kept, line_text, text_after, texts, answers}
 
 -- What was read is `given`, of which `begun` stands behind the last line feed; the lines before it are answered by `done`.
 -- Whatever comes next, what is still to be answered is as if all came at once.

@@ -9,8 +9,8 @@
 --   answer       of a whole line, without its line feed; nothing for a line without words
 use Rattle.std.specs.Prelude.{ℕ, ◌-◌, ◌^◌, min, Bool, if◌then◌else◌, List, [], ◌∷◌, ◌++◌, Option, Some, None, Result, Ok, Err, codes, decimal, bytes_eq}
 use Rattle.std.specs.List.{find, range_with_len}
-use Rattle.chess_types.specs.Position.{State}
-use Rattle.chess_types.specs.Words.{words, skip_gaps, after_word, trimmed}
+use Rattle.chess_types.specs.board.Position.{State}
+use Rattle.chess_types.specs.bytes.Words.{words, skip_gaps, after_word, trimmed}
 use Rattle.chess_fen.specs.declared.fault.FenFault.{FenFault}
 use Rattle.chess_fen.specs.Faults.{number_of, name_of}
 use Rattle.chess_fen.specs.Reading.{reading}

@@ -1,6 +1,6 @@
 ghost use Rattle.std.specs.Prelude.{◌≡◌, ◌++◌, ◌∷◌, [], ℕ, List, OnOk, IfSome, option_map};
 ghost use Rattle.std.specs.Io.KnownBytes.{Appends};
-ghost use Rattle.perft.specs.Lines.{answers, kept, line_after, line_text, text_after};
+ghost use Rattle.perft.specs.InputLines.{answers, kept, line_after, line_text, text_after};
 
 use crate::answer::answer;
 use arrayvec::ArrayVec;

@@ -4,8 +4,8 @@ use super::assert_answers;
 #[test]
 fn plays_and_takes_back(rt: HostRuntime) {
     let input =
-        b"new\nplay e2e4\nfen\neval\ncounts w\nback\nfen\neval\nback\nplay e2e5\nplay e4\nplay\n\
-        play e2e4 e7e5\nback 1\nclaim e2\nclaim e2e5\nclaim\nclaim e2e4\ncount\nstatus\nclaims\n\
+        b"new\nplay e2e4\nfen\neval\ncounts w\nback\nfen\neval\nback\nplay e2e5\nplay e9\nplay\n\
+        play e2e4 e7e5\nback 1\nclaim e\nclaim e2e5\nclaim\nclaim e2e4\ncount\nstatus\nclaims\n\
         count 1\nstatus x\nclaims x\nfen\n";
     let output = b"\
 ok

@@ -88,3 +88,58 @@ fn the_order_of_three_children(rt: HostRuntime) -> Result<(), Fail> {
     assert_eq!(rt; tree.find(a_move(&rt, "c2c3")), Some(0));
     Ok(())
 }
+
+/// The child in the middle is deleted, the last one promoted, and a number taken again has none of the notes that it had.
+#[test]
+fn a_number_is_taken_again_without_its_notes(rt: HostRuntime) -> Result<(), Fail> {
+    let alloc = rt.alloc();
+    let mut tree = begin(&alloc)?;
+    for text in ["a2a3", "b2b3", "c2c3"] {
+        add(&rt, &mut tree, text)?;
+        tree.add_nag(7)?;
+        tree.set_comment(b"noted")?;
+        tree.back()?;
+    }
+    tree.step(1)?;
+    add(&rt, &mut tree, "e7e5")?;
+    tree.set_comment(b"below")?;
+    tree.back()?;
+    tree.delete()?;
+    assert_eq!(rt; child_move(&tree.root(), 0), Some(a_move(&rt, "a2a3")));
+    assert_eq!(rt; child_move(&tree.root(), 1), Some(a_move(&rt, "c2c3")));
+    tree.step(1)?;
+    tree.promote()?;
+    assert_eq!(rt; tree.path()?.as_slice(), [0].as_slice());
+    for text in ["d7d5", "e7e5", "f7f5"] {
+        add(&rt, &mut tree, text)?;
+        assert_eq!(rt;
+            (tree.notes().nags.len(), tree.notes().comment.len()),
+            (0, 0)
+        );
+        tree.back()?;
+    }
+    assert_eq!(rt; tree.notes().nags, [7].as_slice());
+    assert_eq!(rt; tree.notes().comment, b"noted".as_slice());
+    Ok(())
+}
+
+/// The children one by one, and the same node once more.
+#[test]
+fn children_are_gone_over(rt: HostRuntime) -> Result<(), Fail> {
+    let alloc = rt.alloc();
+    let mut tree = begin(&alloc)?;
+    add(&rt, &mut tree, "a2a3")?;
+    add(&rt, &mut tree, "e7e5")?;
+    tree.start();
+    add(&rt, &mut tree, "b2b3")?;
+    let root = tree.root();
+    let mut children = root.again().below();
+    let first = children.next().expect(&rt, "a child");
+    assert_eq!(rt; first.move_at(), Some(a_move(&rt, "a2a3")));
+    assert_eq!(rt; child_move(&first, 0), Some(a_move(&rt, "e7e5")));
+    let second = children.next().expect(&rt, "another child");
+    assert_eq!(rt; second.move_at(), Some(a_move(&rt, "b2b3")));
+    assert!(rt; children.next().is_none());
+    assert!(rt; children.next().is_none());
+    Ok(())
+}

@@ -1,5 +1,5 @@
 use super::{add, begin};
-use crate::TreeFault;
+use crate::{Tree, TreeFault};
 use linked_list_allocator::LocalHeap;
 use std::alloc::Allocator;
 use std::process::Abort;
@@ -42,7 +42,7 @@ fn faults_say_what_they_are(rt: HostRuntime) -> Result<(), Fail> {
     let texts = [
         (TreeFault::NoSuch, "there is no such node"),
         (TreeFault::AtRoot, "the cursor is at the root"),
-        (TreeFault::Full, "the tree holds 65536 moves"),
+        (TreeFault::Full, "the tree holds 1000000 moves"),
         (TreeFault::BadComment, "a right brace stands in the comment"),
         (TreeFault::Memory, "there is no memory"),
     ];
@@ -65,5 +65,63 @@ fn as_before(rt: HostRuntime) -> Result<(), Fail> {
     drop(other);
     tree.set_comment(&comment)?;
     assert_eq!(rt; tree.notes().comment.len(), 2_000);
+    Ok(())
+}
+
+/// One of the calls that may want memory.
+fn a_call<A: Allocator>(
+    rt: &impl Abort,
+    tree: &mut Tree<'_, A>,
+    call: u32,
+) -> Result<(), TreeFault> {
+    match call {
+        0 => add(rt, tree, "e2e4"),
+        1 => tree.set_comment(b"a comment of some words that takes memory of its own"),
+        2..=21 => tree.add_nag(7),
+        22 => add(rt, tree, "e7e5"),
+        23 => {
+            tree.path()?;
+            Ok(())
+        }
+        _ => tree.set_comment(b"another comment"),
+    }
+}
+
+/// Each growth is refused in turn: all is as before then, and the same call is answered once there is memory.
+#[test]
+fn the_same_call_again(rt: HostRuntime) -> Result<(), Fail> {
+    let mut refused = 0u32;
+    for room in 0..80usize {
+        let heap = LocalHeap::new(rt.alloc(), 16_384)?;
+        let mut tree = begin(&heap)?;
+        let taken = 15_500usize
+            .saturating_sub(heap.used())
+            .saturating_sub(room * 32);
+        let mut other: Option<Vec<u8, _>> = Some(Vec::with_capacity(&heap, taken)?);
+        for call in 0..25u32 {
+            let before = (
+                tree.depth(),
+                tree.notes().nags.len(),
+                tree.notes().comment.len(),
+            );
+            if let Err(fault) = a_call(&rt, &mut tree, call) {
+                assert_eq!(rt; fault, TreeFault::Memory);
+                let after = (
+                    tree.depth(),
+                    tree.notes().nags.len(),
+                    tree.notes().comment.len(),
+                );
+                assert_eq!(rt; after, before);
+                refused = refused.saturating_add(1);
+                other = None;
+                a_call(&rt, &mut tree, call)?;
+            }
+        }
+        assert_eq!(rt; tree.path()?.as_slice(), [0, 0].as_slice());
+        tree.back()?;
+        assert_eq!(rt; tree.notes().nags.len(), 20);
+        drop(other);
+    }
+    assert!(rt; refused > 10);
     Ok(())
 }

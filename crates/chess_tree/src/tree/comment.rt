@@ -1,6 +1,6 @@
 ghost use Rattle.std.specs.Prelude.{◌≡◌, true, false, Err, IfOk, IfErr, OnOk, OnErr};
 ghost use Rattle.chess_tree.specs.declared.fault.TreeFault.TheVariants.{BadComment, Memory};
-ghost use Rattle.chess_tree.specs.Comments.{has_brace, normalised, with_word};
+ghost use Rattle.chess_tree.specs.Comments.{has_brace, normalised, with_next_word};
 ghost use Rattle.chess_tree.specs.GameTree.{commented_here, line_to};
 
 use super::Tree;
@@ -13,7 +13,7 @@ const BLANKS: &[u8] = b"\t\n\x0b\x0c\r ";
 
 // Appends a word, behind a space unless it is the first.
 fn add_word<'a, A: Allocator>(comment: &mut Vec<u8, &'a A>, word: &[u8]) -> Result<(), AllocError>
-    ensures { OnOk result (comment.new.items ≡ with_word comment.old.items word.now) }
+    ensures { OnOk result (comment.new.items ≡ with_next_word comment.old.items word.now) }
 {
     if !comment.is_empty() {
         comment.push(b' ')?;
@@ -48,7 +48,7 @@ impl<'a, A: Allocator> Tree<'a, A> {
             return Err(TreeFault::BadComment);
         }
         let comment = normalised(self.nodes.alloc(), text)?;
-        self.nodes.set_comment(comment);
+        self.nodes.set_comment(comment)?;
         Ok(())
     }
 }

@@ -1,10 +1,10 @@
 ghost use Rattle.std.specs.Prelude.{◌≡◌, ◌<◌, ◌≤◌, ◌++◌, ◌∷◌, [], length, true, false, slice_get, IfOk, IfErr, IfSome, MatchResult, OnOk, OnErr};
 ghost use Rattle.chess_tree.specs.declared.fault.TreeFault.TheVariants.{Memory, NoSuch};
 ghost use Rattle.chess_tree.specs.Forest.{count};
-ghost use Rattle.chess_types.specs.Legal.{is_legal};
-ghost use Rattle.chess_types.specs.Lines.{last};
+ghost use Rattle.chess_types.specs.board.Legal.{is_legal};
+ghost use Rattle.chess_types.specs.board.Lines.{last};
 ghost use Rattle.chess_tree.specs.GameTree.{at_path, find, has, line_along, line_to, main_line, moves_along, nodes_here};
-ghost use Rattle.chess_tree.specs.Steps.{GoesOn};
+ghost use Rattle.chess_tree.specs.CursorLine.{GoesOn};
 
 use super::Tree;
 use crate::fault::TreeFault;
@@ -45,7 +45,7 @@ impl<'a, A: Allocator> Tree<'a, A> {
         ensures there { IfSome result (λ place. place < count (nodes_here self.now)) }
         ensures legal { IfSome result (λ _. is_legal (last (line_to self.now)) played ≡ true) }
     {
-        self.nodes.here().find(played)
+        self.nodes.find(played)
     }
 
     /// Steps to child 0, the main continuation. `NoSuch` where there is no child.

@@ -1,15 +1,15 @@
 ghost use Rattle.std.specs.Prelude.{◌≡◌, ◌<◌, [], length, Err, MatchResult, IfErr, OnOk, OnErr};
 ghost use Rattle.chess_tree.specs.declared.fault.TreeFault.TheVariants.{AtRoot, Memory};
 ghost use Rattle.chess_tree.specs.GameTree.{annotated_here, deleted, line_to, promoted_here};
-ghost use Rattle.chess_tree.specs.Steps.{GoesOn};
+ghost use Rattle.chess_tree.specs.CursorLine.{GoesOn};
 
 use super::Tree;
 use crate::fault::TreeFault;
 use std::alloc::Allocator;
 
 impl<'a, A: Allocator> Tree<'a, A> {
-    /// Takes out the node at the cursor and all below it, and steps to its parent; its siblings keep their order. `AtRoot` at
-    /// the root.
+    /// Takes out the node at the cursor and all below it, and steps to its parent; its siblings keep their order. No
+    /// memory is taken. `AtRoot` at the root.
     pub fn delete(&mut self) -> Result<(), TreeFault>
         ensures ok { OnOk result (self.new ≡ deleted self.old) }
         ensures line { OnOk result (GoesOn self.new self.old) }
@@ -19,8 +19,7 @@ impl<'a, A: Allocator> Tree<'a, A> {
         if self.nodes.depth() == 0 {
             return Err(TreeFault::AtRoot);
         }
-        let gone = self.nodes.remove();
-        self.held -= gone;
+        self.nodes.remove();
         Ok(())
     }
 

@@ -1,7 +1,7 @@
 use Rattle.std.proofs.Common.{◌≡◌, ℕ, Bool, ◌+◌, sym, ap, subst, ◌∙◌, arith}
 use Rattle.std.specs.FinSet.{insert}
-use Rattle.chess_types.specs.Board.{Look, man_at}
-use Rattle.chess_types.specs.Attack.{attacks_for}
+use Rattle.chess_types.specs.board.Board.{Look, man_at}
+use Rattle.chess_types.specs.board.Attack.{attacks_for}
 use Rattle.chess_attack.proofs.Kings.{Gathered, gathered_none, gathered_one, gathered_else, gathered_all, checks_at}
 use Rattle.chess_attack.proofs.check.checkers.Goals as goal
 use Rattle.chess_attack.proofs.check.checkers.Goals.{then-attacks_for, else-attacks_for}

@@ -1,5 +1,5 @@
-use Rattle.chess_types.specs.Board.{man_at}
-use Rattle.chess_types.specs.Attack.{attacks_for}
+use Rattle.chess_types.specs.board.Board.{man_at}
+use Rattle.chess_types.specs.board.Attack.{attacks_for}
 use Rattle.chess_attack.proofs.Kings.{Gathered}
 use Rattle.chess_attack.proofs.check.checkers.Given as goal
 

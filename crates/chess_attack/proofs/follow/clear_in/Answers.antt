@@ -1,7 +1,7 @@
 use Rattle.std.proofs.Common.{sym, ◌∙◌, arith}
 use Rattle.std.specs.FinMap.{remove}
-use Rattle.chess_types.specs.declared.man.Man.{Man}
-use Rattle.chess_types.specs.Board.{Board, man_at}
+use Rattle.chess_types.specs.declared.board.man.Man.{Man}
+use Rattle.chess_types.specs.board.Board.{Board, man_at}
 use Rattle.chess_attack.specs.KeptCounts.{AreCounts, Worked}
 use Rattle.chess_attack.proofs.Added.{Adds, adds_clear}
 use Rattle.chess_attack.proofs.Puts.{clear_own, clear_cut, clear_counts}
@@ -17,8 +17,8 @@ mark-requires c =
     let adds : Adds (man_at after) (man_at board) c.args.at man = adds_clear board c.args.at man (omega arith) (sym c.get.ensures ∙ c.in-Some.is) in
     record { room = clear_own after board c.args.at man adds c.args.tally.now c.requires.agrees }
 
-pub relight-requires : goal.relight-requires
-relight-requires c =
+pub update_x_rays-requires : goal.update_x_rays-requires
+update_x_rays-requires c =
     let board : Board = c.args.before.now in
     let man : Man = c.in-Some.man in
     let after : Board = remove board c.args.at in
@@ -31,15 +31,15 @@ returns-in-Some-clause-agrees c =
     let man : Man = c.in-Some.man in
     let after : Board = remove board c.args.at in
     let adds : Adds (man_at after) (man_at board) c.args.at man = adds_clear board c.args.at man (omega arith) (sym c.get.ensures ∙ c.in-Some.is) in
-    clear_counts after board c.args.at man adds c.args.tally.now c.mark.new.tally c.relight.new.tally
-    c.requires.agrees c.mark.ensures.counts c.relight.ensures.counts
+    clear_counts after board c.args.at man adds c.args.tally.now c.mark.new.tally c.update_x_rays.new.tally
+    c.requires.agrees c.mark.ensures.counts c.update_x_rays.ensures.counts
 
 pub returns-in-Some-clause-at_most : goal.returns-in-Some-clause-at_most
-returns-in-Some-clause-at_most c = omega (arith, c.mark.ensures.worked.at_most, c.relight.ensures.worked.at_most)
+returns-in-Some-clause-at_most c = omega (arith, c.mark.ensures.worked.at_most, c.update_x_rays.ensures.worked.at_most)
 
 pub returns-in-Some-clause-at_least : goal.returns-in-Some-clause-at_least
 returns-in-Some-clause-at_least c =
     let after : Board = remove c.args.before.now c.args.at in
-    let agrees : AreCounts c.relight.new.tally after = returns-in-Some-clause-agrees c in
-    let work : Worked c.args.tally.now c.relight.new.tally 54 = worked_more _ _ _ 27 27 c.mark.ensures.worked c.relight.ensures.worked in
-    shown c.args.tally.now c.relight.new.tally c.args.before.now after 54 c.requires.agrees agrees work
+    let agrees : AreCounts c.update_x_rays.new.tally after = returns-in-Some-clause-agrees c in
+    let work : Worked c.args.tally.now c.update_x_rays.new.tally 54 = worked_more _ _ _ 27 27 c.mark.ensures.worked c.update_x_rays.ensures.worked in
+    shown c.args.tally.now c.update_x_rays.new.tally c.args.before.now after 54 c.requires.agrees agrees work

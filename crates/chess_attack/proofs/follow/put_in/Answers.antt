@@ -1,6 +1,6 @@
 use Rattle.std.proofs.Common.{arith}
 use Rattle.std.specs.FinMap.{insert}
-use Rattle.chess_types.specs.Board.{Board, man_at}
+use Rattle.chess_types.specs.board.Board.{Board, man_at}
 use Rattle.chess_attack.specs.KeptCounts.{AreCounts, Worked}
 use Rattle.chess_attack.proofs.Added.{Adds, adds_put}
 use Rattle.chess_attack.proofs.Puts.{put_own, put_cut, put_counts}
@@ -15,8 +15,8 @@ mark-requires c =
     let adds : Adds (man_at board) (man_at after) c.args.at c.args.man = adds_put board c.args.at c.args.man (omega arith) c.requires.empty in
     record { room = put_own board after c.args.at c.args.man adds c.args.tally.now c.requires.agrees }
 
-pub relight-requires : goal.relight-requires
-relight-requires c =
+pub update_x_rays-requires : goal.update_x_rays-requires
+update_x_rays-requires c =
     let board : Board = c.args.before.now in
     let after : Board = insert board c.args.at c.args.man in
     let adds : Adds (man_at board) (man_at after) c.args.at c.args.man = adds_put board c.args.at c.args.man (omega arith) c.requires.empty in
@@ -29,15 +29,15 @@ returns-clause-agrees c =
     let board : Board = c.args.before.now in
     let after : Board = insert board c.args.at c.args.man in
     let adds : Adds (man_at board) (man_at after) c.args.at c.args.man = adds_put board c.args.at c.args.man (omega arith) c.requires.empty in
-    put_counts board after c.args.at c.args.man adds c.args.tally.now c.mark.new.tally c.relight.new.tally
-    c.requires.agrees c.mark.ensures.counts c.relight.ensures.counts
+    put_counts board after c.args.at c.args.man adds c.args.tally.now c.mark.new.tally c.update_x_rays.new.tally
+    c.requires.agrees c.mark.ensures.counts c.update_x_rays.ensures.counts
 
 pub returns-clause-at_most : goal.returns-clause-at_most
-returns-clause-at_most c = omega (arith, c.mark.ensures.worked.at_most, c.relight.ensures.worked.at_most)
+returns-clause-at_most c = omega (arith, c.mark.ensures.worked.at_most, c.update_x_rays.ensures.worked.at_most)
 
 pub returns-clause-at_least : goal.returns-clause-at_least
 returns-clause-at_least c =
     let after : Board = insert c.args.before.now c.args.at c.args.man in
-    let agrees : AreCounts c.relight.new.tally after = returns-clause-agrees c in
-    let work : Worked c.args.tally.now c.relight.new.tally 54 = worked_more _ _ _ 27 27 c.mark.ensures.worked c.relight.ensures.worked in
-    shown c.args.tally.now c.relight.new.tally c.args.before.now after 54 c.requires.agrees agrees work
+    let agrees : AreCounts c.update_x_rays.new.tally after = returns-clause-agrees c in
+    let work : Worked c.args.tally.now c.update_x_rays.new.tally 54 = worked_more _ _ _ 27 27 c.mark.ensures.worked c.update_x_rays.ensures.worked in
+    shown c.args.tally.now c.update_x_rays.new.tally c.args.before.now after 54 c.requires.agrees agrees work

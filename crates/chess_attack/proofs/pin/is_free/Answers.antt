@@ -1,6 +1,6 @@
 use Rattle.std.proofs.Common.{sym, ap, ◌∙◌, nat_eq}
 use Rattle.std.specs.FinSet.{len, intersection}
-use Rattle.chess_types.specs.Board.{man_at}
+use Rattle.chess_types.specs.board.Board.{man_at}
 use Rattle.chess_attack.proofs.PinWalks.{free_half}
 use Rattle.chess_attack.proofs.pin.is_free.Goals as goal
 

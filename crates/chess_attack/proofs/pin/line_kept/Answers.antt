@@ -1,5 +1,5 @@
 use Rattle.std.proofs.Common.{◌∙◌, arith}
-use Rattle.chess_types.specs.Board.{Look, man_at}
+use Rattle.chess_types.specs.board.Board.{Look, man_at}
 use Rattle.chess_attack.proofs.Lifted.{OnlyKing, only_king}
 use Rattle.chess_attack.proofs.PinLines.{on_some_half, first_there, keeps_is}
 use Rattle.chess_attack.proofs.pin.line_kept.Goals as goal

@@ -1,8 +1,8 @@
 use Rattle.std.proofs.Common.{Bool, ◌||◌, ltb, ◌∙◌}
-use Rattle.chess_types.specs.declared.axis.Axis.{Axis}
-use Rattle.chess_types.specs.declared.axis.Axis.TheVariants.{Rank, File, Rising, Falling}
-use Rattle.chess_types.specs.Board.{man_at}
-use Rattle.chess_attack.specs.Pins.{along, shaded_on}
+use Rattle.chess_types.specs.declared.board.axis.Axis.{Axis}
+use Rattle.chess_types.specs.declared.board.axis.Axis.TheVariants.{Rank, File, Rising, Falling}
+use Rattle.chess_types.specs.board.Board.{man_at}
+use Rattle.chess_attack.specs.steps.PinHalves.{along, shaded_on}
 use Rattle.chess_attack.proofs.StopSets.{four_tests, four_sets}
 use Rattle.chess_attack.proofs.pin.shade.Goals as goal
 

@@ -1,7 +1,7 @@
 use Rattle.std.proofs.Common.{◌≡◌, ℕ, ◌<◌, ◌&&◌, filter}
 use Rattle.std.specs.List.{list_all}
 use Rattle.std.specs.FinSet.{contains}
-use Rattle.chess_types.specs.Squares.{squares}
+use Rattle.chess_types.specs.board.Squares.{squares}
 use Rattle.chess_attack.specs.Pins.{stops}
 use Rattle.chess_attack.proofs.pin.stopping_all.Given as goal
 

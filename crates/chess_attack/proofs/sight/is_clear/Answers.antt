@@ -1,5 +1,5 @@
 use Rattle.std.proofs.Common.{sym}
-use Rattle.chess_types.specs.Board.{man_at}
+use Rattle.chess_types.specs.board.Board.{man_at}
 use Rattle.chess_attack.proofs.Sighted.{clear_off}
 use Rattle.chess_attack.proofs.sight.is_clear.Goals as goal
 

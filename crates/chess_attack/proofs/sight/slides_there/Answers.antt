@@ -1,5 +1,5 @@
 use Rattle.std.proofs.Common.{◌≡◌, refl, sym, ◌∙◌, arith}
-use Rattle.chess_types.specs.Attack.{slides, slides_to}
+use Rattle.chess_types.specs.board.Attack.{slides, slides_to}
 use Rattle.chess_attack.proofs.Sighted.{slides_half}
 use Rattle.chess_attack.proofs.Slides.{slides_off}
 use Rattle.chess_attack.proofs.sight.slides_there.Goals as goal

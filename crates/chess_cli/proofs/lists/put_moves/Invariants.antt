@@ -1,6 +1,6 @@
 use Rattle.std.proofs.Common.{◌≡◌, ◌+◌, ◌*◌, ◌≤◌, ◌++◌, map, take, length}
 use Rattle.std.specs.Prelude.{codes}
-use Rattle.chess_types.specs.Texts.{move_text}
+use Rattle.chess_types.specs.board.Texts.{move_text}
 use Rattle.chess_cli.specs.Gaps.{parted_by}
 use Rattle.chess_cli.proofs.lists.put_moves.Given as goal
 

@@ -1,8 +1,8 @@
 use Rattle.std.proofs.Common.{◌≡◌, ◌≤◌, ℕ, List, sym, ap, ◌∙◌, subst, length, filter, arith}
 use Rattle.std.specs.FinSet.{contains}
 use Rattle.arrayvec.specs.ArrayString.{array_string_len}
-use Rattle.chess_types.specs.Squares.{squares}
-use Rattle.chess_cli.specs.Lists.{behind}
+use Rattle.chess_types.specs.board.Squares.{squares}
+use Rattle.chess_cli.specs.steps.Lists.{behind}
 use Rattle.chess_cli.proofs.ListLemmas.{Written, written-start, written-more, squares_few}
 use Rattle.chess_cli.proofs.lists.squares_text.Goals as goal
 

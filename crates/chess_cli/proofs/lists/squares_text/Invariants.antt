@@ -1,7 +1,7 @@
 use Rattle.std.proofs.Common.{◌+◌, ◌*◌, ◌≤◌, filter, length}
 use Rattle.std.specs.FinSet.{contains}
 use Rattle.arrayvec.specs.ArrayString.{array_string_len}
-use Rattle.chess_types.specs.Squares.{squares}
+use Rattle.chess_types.specs.board.Squares.{squares}
 use Rattle.chess_cli.proofs.ListLemmas.{Written}
 use Rattle.chess_cli.proofs.lists.squares_text.Given as goal
 

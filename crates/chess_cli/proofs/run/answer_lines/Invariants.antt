@@ -1,5 +1,5 @@
 use Rattle.std.proofs.Common.{◌≡◌, ℕ, List, length, false}
-use Rattle.chess_cli.specs.Reads.{Holds}
+use Rattle.chess_cli.specs.steps.Reads.{Holds}
 use Rattle.chess_cli.proofs.FeedLemmas.{Going}
 use Rattle.chess_cli.proofs.run.answer_lines.Given as goal
 

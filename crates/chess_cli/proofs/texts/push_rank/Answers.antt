@@ -1,6 +1,6 @@
 use Rattle.std.proofs.Common.{ℕ, ◌+◌, ◌*◌, ◌++◌, ◌≡◌, ap, ◌∙◌, arith}
 use Rattle.std.specs.Prelude.{codes, decimal}
-use Rattle.chess_cli.specs.Answers.{rank_text}
+use Rattle.chess_cli.specs.Answers.{rank_numbers}
 use Rattle.chess_cli.proofs.TextLemmas.{run-next, run-whole}
 use Rattle.chess_cli.proofs.texts.push_rank.Goals as goal
 
@@ -17,7 +17,7 @@ loop-file-preserved g c =
     }
 
 pub returns-clause-bytes : goal.returns-clause-bytes
-unfolding rank_text
+unfolding rank_numbers
 returns-clause-bytes g c =
     let number : c.count.result ≡ g.K.Kept.counts c.args.kept.now c.args.colour (8 * c.args.rank + 0) =
     c.count.ensures ∙ ap (g.K.Kept.counts c.args.kept.now c.args.colour) (c.from_index.ensures ∙ omega arith) in

@@ -1,5 +1,5 @@
 use Rattle.std.proofs.Common.{length}
-use Rattle.chess_cli.specs.Sending.{Sent}
+use Rattle.chess_cli.specs.steps.Sending.{Sent}
 use Rattle.chess_cli.proofs.write.write_all.Given as goal
 
 abbrev pub invariant-loop-rest : goal.invariant-loop-rest

@@ -1,5 +1,5 @@
 use Rattle.std.proofs.Common.{sym, subst}
-use Rattle.chess_types.specs.Position.{State}
+use Rattle.chess_types.specs.board.Position.{State}
 use Rattle.chess_play.specs.Records.{IsBefore}
 use Rattle.chess_draws.proofs.target.advance.Goals as goal
 

@@ -1,5 +1,5 @@
 use Rattle.std.proofs.Common.{sym, ap, ◌∙◌, inl, inr}
-use Rattle.chess_types.specs.Position.{State}
+use Rattle.chess_types.specs.board.Position.{State}
 use Rattle.chess_draws.proofs.TargetLemmas.{no_target, is_taken, one_taken, not_taken, are_beside, target_inside}
 use Rattle.chess_draws.proofs.target.counting_target.Goals as goal
 

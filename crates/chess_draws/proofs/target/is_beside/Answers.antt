@@ -1,6 +1,6 @@
 use Rattle.std.proofs.Common.{sym, ap, subst, ◌∙◌}
 use Rattle.std.proofs.lemmas.Bool.{and_left}
-use Rattle.chess_types.specs.Position.{State, IsSetup}
+use Rattle.chess_types.specs.board.Position.{State, IsSetup}
 use Rattle.chess_draws.proofs.TargetLemmas.{no_target, not_taken, are_beside, target_inside}
 use Rattle.chess_draws.proofs.target.is_beside.Goals as goal
 

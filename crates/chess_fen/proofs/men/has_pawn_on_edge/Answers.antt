@@ -2,8 +2,8 @@ use Rattle.std.proofs.Common.{ℕ, ◌∙◌, sym, Option, ◌&&◌, rules, test
 use Rattle.std.proofs.lemmas.Iterator.{YieldsList-from_slice}
 use Rattle.std.proofs.lemmas.Iterator.Consumers.{YieldsList-from_enumerate}
 use Rattle.std.proofs.lemmas.Iterator.Search.{any_from_yields_List}
-use Rattle.chess_types.specs.declared.man.Man.{Man}
-use Rattle.chess_types.specs.Men.{holds_pawn}
+use Rattle.chess_types.specs.declared.board.man.Man.{Man}
+use Rattle.chess_types.specs.board.Men.{holds_pawn}
 use Rattle.chess_fen.specs.Reading.{is_edge}
 use Rattle.chess_fen.proofs.CountLemmas.{has_pawn_on_edge-board_of}
 use Rattle.chess_fen.proofs.men.has_pawn_on_edge.Goals as goal

@@ -1,7 +1,7 @@
 use Rattle.std.proofs.Common.{◌≡◌, ◌+◌, ◌*◌, ◌≤◌, ◌++◌}
 use Rattle.arrayvec.specs.ArrayString.{array_string_len}
-use Rattle.chess_types.specs.Board.{man_at}
-use Rattle.chess_types.specs.Cells.{board_of}
+use Rattle.chess_types.specs.board.Board.{man_at}
+use Rattle.chess_types.specs.board.Cells.{board_of}
 use Rattle.chess_fen.specs.Writing.{rank_text, placement_text}
 use Rattle.chess_fen.proofs.WriteLemmas.{below}
 use Rattle.chess_fen.proofs.writer.placement_text.Given as goal

@@ -1,8 +1,8 @@
 use Rattle.std.proofs.Common.{◌≡◌, [], ◌∷◌, sym, ap, subst, ◌∙◌}
 use Rattle.std.specs.Prelude.{decimal}
 use Rattle.std.specs.List.{join_with_byte}
-use Rattle.chess_types.specs.Board.{Board, man_at}
-use Rattle.chess_types.specs.Position.{State, IsSetup, IsWellFormed, look}
+use Rattle.chess_types.specs.board.Board.{Board, man_at}
+use Rattle.chess_types.specs.board.Position.{State, IsSetup, IsWellFormed, look}
 use Rattle.chess_fen.specs.Writing.{placement_text, side_text, rights_text, target_text, written}
 use Rattle.chess_fen.specs.Reading.{reading}
 use Rattle.chess_fen.proofs.BackLemmas.{IsOnBoard, read_back}

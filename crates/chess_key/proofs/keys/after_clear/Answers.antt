@@ -1,5 +1,5 @@
 use Rattle.std.proofs.Common.{◌<◌, ◌^◌, arith}
-use Rattle.chess_types.specs.Board.{man_at}
+use Rattle.chess_types.specs.board.Board.{man_at}
 use Rattle.chess_key.specs.Keys.{word_on}
 use Rattle.chess_key.proofs.KeyLaws.{key_of-clear}
 use Rattle.chess_key.proofs.keys.after_clear.Goals as goal

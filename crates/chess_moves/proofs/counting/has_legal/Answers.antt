@@ -1,8 +1,8 @@
 use Rattle.std.proofs.Common.{[], length, ap, subst, ◌∙◌, refl}
-use Rattle.chess_types.specs.KeptSets.{Gathers}
-use Rattle.chess_types.specs.Men.{is_of}
-use Rattle.chess_types.specs.Legal.{legal_moves}
-use Rattle.chess_types.specs.Position.{State, look}
+use Rattle.chess_types.specs.steps.KeptSets.{Gathers}
+use Rattle.chess_types.specs.board.Men.{is_of}
+use Rattle.chess_types.specs.board.Legal.{legal_moves}
+use Rattle.chess_types.specs.board.Position.{State, look}
 use Rattle.chess_moves.proofs.Reach.{own_each, own_listed}
 use Rattle.chess_moves.proofs.counting.has_legal.Goals as goal
 

@@ -1,8 +1,8 @@
 use Rattle.std.proofs.Common.{◌≡◌, true, length, filter}
 use Rattle.std.specs.List.{list_all, flat_map}
-use Rattle.chess_types.specs.Legal.{is_legal, moves_from, legal_moves}
-use Rattle.chess_types.specs.Men.{is_of}
-use Rattle.chess_types.specs.Position.{look}
+use Rattle.chess_types.specs.board.Legal.{is_legal, moves_from, legal_moves}
+use Rattle.chess_types.specs.board.Men.{is_of}
+use Rattle.chess_types.specs.board.Position.{look}
 use Rattle.chess_moves.proofs.counting.has_legal.Given as goal
 
 -- a man of the side to move stands on each square still to come, and all legal moves are from there

@@ -1,8 +1,8 @@
 use Rattle.std.proofs.Common.{◌≡◌, ℕ, ◌==◌, ◌&&◌, ltb, refl, sym, ap, ◌∙◌}
 use Rattle.std.specs.FinSet.{contains}
-use Rattle.chess_types.specs.Bits.{set_of, word_where}
-use Rattle.chess_types.specs.Squares.{rank_of, squares}
-use Rattle.chess_types.specs.Pseudo.{last_rank}
+use Rattle.chess_types.specs.board.Bits.{set_of, word_where}
+use Rattle.chess_types.specs.board.Squares.{rank_of, squares}
+use Rattle.chess_types.specs.board.Pseudo.{last_rank}
 use Rattle.chess_types.proofs.BitLemmas.{contains-word_where}
 use Rattle.chess_moves.proofs.counting.last_squares.Goals as goal
 

@@ -2,11 +2,12 @@ use Rattle.std.proofs.Common.{◌≡◌, ℕ, ◌<◌, true, false, ◌&&◌, sy
 use Rattle.std.proofs.lemmas.Bool.{lt-ltb}
 use Rattle.std.specs.FinSet.{contains, contains-empty}
 use Rattle.std.specs.Ordering.{nat_cmp}
-use Rattle.chess_types.specs.Position.{State, look}
-use Rattle.chess_types.specs.Men.{is_king_of, opponent}
-use Rattle.chess_types.specs.Attack.{checks_from, count, is_attacked}
+use Rattle.chess_types.specs.board.Position.{State, look}
+use Rattle.chess_types.specs.board.Men.{is_king_of, opponent}
+use Rattle.chess_types.specs.board.Attack.{checks_from, count, is_attacked}
 use Rattle.chess_attack.specs.KeptCounts.{count_in}
-use Rattle.chess_attack.specs.Pins.{is_pinned, round, shaded_on}
+use Rattle.chess_attack.specs.Pins.{is_pinned}
+use Rattle.chess_attack.specs.steps.PinHalves.{round, shaded_on}
 use Rattle.chess_attack.proofs.Lifted.{OnlyKing, only_king}
 use Rattle.chess_attack.proofs.StopSets.{no_shade}
 use Rattle.chess_moves.proofs.GuardLemmas.{permits_is, permits_all}

@@ -2,7 +2,7 @@ use Rattle.std.proofs.Common.{◌≡◌, ◌&&◌, false, sym, ap, ◌∙◌, ar
 use Rattle.std.proofs.Math.Bool.{and-true}
 use Rattle.std.specs.FinSet.{contains, contains-intersection}
 use Rattle.std.proofs.lemmas.Cmp.{nat_cmp_total}
-use Rattle.chess_types.specs.Position.{State, look}
+use Rattle.chess_types.specs.board.Position.{State, look}
 use Rattle.chess_attack.specs.Pins.{keeps_line, permits, is_pinned}
 use Rattle.chess_attack.proofs.PinLines.{unpinned}
 use Rattle.chess_moves.proofs.guard.guarded.Goals as goal

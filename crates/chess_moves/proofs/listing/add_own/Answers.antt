@@ -1,12 +1,12 @@
 use Rattle.std.proofs.Common.{◌≡◌, ◌+◌, ◌≤◌, true, List, ◌++◌, length, sym, ap, subst, ◌∙◌, refl, arith}
 use Rattle.std.proofs.lemmas.Bool.{and_parts}
 use Rattle.std.specs.List.{list_all}
-use Rattle.chess_types.specs.Legal.{moves_between}
-use Rattle.chess_types.specs.MoveParts.{MoveParts}
-use Rattle.chess_types.specs.Position.{State, look}
+use Rattle.chess_types.specs.board.Legal.{moves_between}
+use Rattle.chess_types.specs.board.MoveParts.{MoveParts}
+use Rattle.chess_types.specs.board.Position.{State, look}
 use Rattle.chess_attack.proofs.Lifted.{OnlyKing, only_king}
-use Rattle.chess_moves.specs.Targets.{lands, moves_named}
-use Rattle.chess_moves.proofs.Lands.{lands_all}
+use Rattle.chess_moves.specs.steps.Targets.{is_legal_target, moves_named}
+use Rattle.chess_moves.proofs.LegalTargets.{lands_all}
 use Rattle.chess_moves.proofs.Pieces.{listed_next, room_next, next_piece}
 use Rattle.chess_moves.proofs.Reach.{lands_each, lands_listed}
 use Rattle.chess_moves.proofs.listing.add_own.Goals as goal
@@ -21,9 +21,9 @@ loop-to-init c =
     record {
       can = tt;
       finite = tt;
-      lands = lands_each p setup c.args.kind c.args.from c.args.guard.now.king (omega arith) c.requires.here king c.targets-squares.result c.targets-squares.ensures.lands
+      is_legal_target = lands_each p setup c.args.kind c.args.from c.args.guard.now.king (omega arith) c.requires.here king c.targets-squares.result c.targets-squares.ensures.is_legal_target
           c.into_iter-to-iterator.result xs;
-      listed = lands_listed p setup c.args.kind c.args.from c.args.guard.now.king (omega arith) c.requires.here king c.targets-squares.result c.targets-squares.ensures.lands
+      listed = lands_listed p setup c.args.kind c.args.from c.args.guard.now.king (omega arith) c.requires.here king c.targets-squares.result c.targets-squares.ensures.is_legal_target
           c.into_iter-to-iterator.result xs c.args.list.now.items;
     }
 
@@ -33,8 +33,8 @@ add_named-requires c =
     let setup = c.position.ensures.setup in
     let king : OnlyKing (look p) p.side c.args.guard.now.king =
     only_king p.placement p.side c.args.guard.now.king (setup.kings p.side) c.requires.guard.on_board c.requires.guard.king in
-    let on : lands p c.args.kind c.args.from c.in-Some.to ≡ true =
-    (and_parts _ _ (sym (ap (list_all (lands p c.args.kind c.args.from)) c.in-Some.ensures.steps) ∙ c.loop-to.invariant.lands)).0 in
+    let on : is_legal_target p c.args.kind c.args.from c.in-Some.to ≡ true =
+    (and_parts _ _ (sym (ap (list_all (is_legal_target p c.args.kind c.args.from)) c.in-Some.ensures.steps) ∙ c.loop-to.invariant.is_legal_target)).0 in
     let same = c.behind-live.view_is ∙ c.position.ensures.value in
     record {
       room = subst (λ (xs : List MoveParts). length c.loop-to.list.items + length xs ≤ 432)
@@ -49,13 +49,13 @@ loop-to-preserved c =
     let setup = c.position.ensures.setup in
     let king : OnlyKing (look p) p.side c.args.guard.now.king =
     only_king p.placement p.side c.args.guard.now.king (setup.kings p.side) c.requires.guard.on_board c.requires.guard.king in
-    let parts : (lands p c.args.kind c.args.from c.in-Some.to ≡ true) × (list_all (lands p c.args.kind c.args.from) c.next.new.self ≡ true) =
-    and_parts _ _ (sym (ap (list_all (lands p c.args.kind c.args.from)) c.in-Some.ensures.steps) ∙ c.loop-to.invariant.lands) in
+    let parts : (is_legal_target p c.args.kind c.args.from c.in-Some.to ≡ true) × (list_all (is_legal_target p c.args.kind c.args.from) c.next.new.self ≡ true) =
+    and_parts _ _ (sym (ap (list_all (is_legal_target p c.args.kind c.args.from)) c.in-Some.ensures.steps) ∙ c.loop-to.invariant.is_legal_target) in
     let same = c.behind-live.view_is ∙ c.position.ensures.value in
     record {
       can = tt;
       finite = tt;
-      lands = parts.1;
+      is_legal_target = parts.1;
       listed = listed_next {now = p} refl c.loop-to.invariant.listed (next_piece (moves_between c.args.from) c.in-Some.ensures.steps)
           (c.add_named.ensures.added
           ∙ ap (λ (xs : List MoveParts). c.loop-to.list.items ++ xs)

@@ -1,7 +1,7 @@
 use Rattle.std.proofs.Common.{◌≡◌, true}
 use Rattle.std.specs.List.{list_all, flat_map}
-use Rattle.chess_types.specs.Legal.{moves_between, moves_from}
-use Rattle.chess_moves.specs.Targets.{lands}
+use Rattle.chess_types.specs.board.Legal.{moves_between, moves_from}
+use Rattle.chess_moves.specs.steps.Targets.{is_legal_target}
 use Rattle.chess_moves.proofs.Pieces.{Listed}
 use Rattle.chess_moves.proofs.listing.add_own.Given as goal
 
@@ -10,6 +10,6 @@ abbrev pub invariant-loop-to : goal.invariant-loop-to
 invariant-loop-to l = record {
   can : (goal.iterator-loop-to).can_next l.to-iterator;
   finite : (goal.iterator-loop-to).is_finite l.to-iterator;
-  lands : list_all (lands l.fn.live.position l.kind l.from) l.to-iterator ≡ true;
+  is_legal_target : list_all (is_legal_target l.fn.live.position l.kind l.from) l.to-iterator ≡ true;
   listed : Listed l.fn.live.position l.fn.list.items l.list.items (moves_from l.from) (flat_map (moves_between l.from) l.to-iterator);
 }

@@ -1,6 +1,6 @@
 use Rattle.std.proofs.Common.{◌≡◌, ◌+◌, ◌<◌, ◌≤◌, List, [], ◌∷◌, ◌++◌, length, drop, sym, ap, ◌∙◌, arith, append_assoc, append-nil, length-append}
-use Rattle.chess_types.specs.MoveParts.{MoveParts}
-use Rattle.chess_moves.specs.Targets.{promotions_between}
+use Rattle.chess_types.specs.board.MoveParts.{MoveParts}
+use Rattle.chess_moves.specs.steps.Targets.{promotions_between}
 use Rattle.chess_moves.proofs.Candidates.{promotions_next, promotions_end}
 use Rattle.chess_moves.proofs.listing.add_promotions.Goals as goal
 

@@ -1,5 +1,5 @@
 use Rattle.std.proofs.Common.{◌≡◌, ◌++◌, drop}
-use Rattle.chess_moves.specs.Targets.{promotions_between}
+use Rattle.chess_moves.specs.steps.Targets.{promotions_between}
 use Rattle.chess_moves.proofs.listing.add_promotions.Given as goal
 
 -- what is listed, and what is still to come

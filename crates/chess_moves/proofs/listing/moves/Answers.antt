@@ -1,6 +1,6 @@
 use Rattle.std.proofs.Common.{ℕ, ◌≢◌, ◌<◌, List, length, get_or, sym, subst}
 use Rattle.std.specs.List.{Contains}
-use Rattle.chess_types.specs.MoveParts.{MoveParts}
+use Rattle.chess_types.specs.board.MoveParts.{MoveParts}
 use Rattle.chess_moves.proofs.LegalLaws.{listed_legal, legal_listed}
 use Rattle.chess_moves.proofs.Order.{moves_apart}
 use Rattle.chess_moves.proofs.listing.moves.Goals as goal

@@ -1,9 +1,9 @@
 use Rattle.std.proofs.Common.{◌≤◌, length, ap, subst, ◌∙◌, refl, arith}
 use Rattle.std.specs.List.{flat_map}
-use Rattle.chess_types.specs.KeptSets.{Gathers}
-use Rattle.chess_types.specs.Men.{is_of}
-use Rattle.chess_types.specs.Legal.{moves_from, legal_moves}
-use Rattle.chess_types.specs.Position.{State, look}
+use Rattle.chess_types.specs.steps.KeptSets.{Gathers}
+use Rattle.chess_types.specs.board.Men.{is_of}
+use Rattle.chess_types.specs.board.Legal.{moves_from, legal_moves}
+use Rattle.chess_types.specs.board.Position.{State, look}
 use Rattle.chess_moves.proofs.Bound.{legal_few}
 use Rattle.chess_moves.proofs.Pieces.{room_next, listed_end, next_piece}
 use Rattle.chess_moves.proofs.Reach.{own_each, own_listed}

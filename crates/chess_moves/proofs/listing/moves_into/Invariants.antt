@@ -1,8 +1,8 @@
 use Rattle.std.proofs.Common.{◌≡◌, true, []}
 use Rattle.std.specs.List.{list_all, flat_map}
-use Rattle.chess_types.specs.Legal.{moves_from, all_moves}
-use Rattle.chess_types.specs.Men.{is_of}
-use Rattle.chess_types.specs.Position.{look}
+use Rattle.chess_types.specs.board.Legal.{moves_from, all_moves}
+use Rattle.chess_types.specs.board.Men.{is_of}
+use Rattle.chess_types.specs.board.Position.{look}
 use Rattle.chess_moves.proofs.Pieces.{Listed}
 use Rattle.chess_moves.proofs.listing.moves_into.Given as goal
 

@@ -2,11 +2,11 @@ use Rattle.std.proofs.Common.{◌≡◌, ℕ, ◌<◌, ◌==◌, Bool, true, fal
 use Rattle.std.specs.Ordering.{nat_cmp}
 use Rattle.std.specs.FinSet.{FinSet, contains, insert, contains-empty}
 use Rattle.std.proofs.lemmas.Bool.{eq-eqb, ne_eqb}
-use Rattle.chess_types.specs.Squares.{rank_of}
-use Rattle.chess_types.specs.Position.{State}
-use Rattle.chess_types.specs.Pseudo.{pawn_rank, steps_one, steps_two}
+use Rattle.chess_types.specs.board.Squares.{rank_of}
+use Rattle.chess_types.specs.board.Position.{State}
+use Rattle.chess_types.specs.board.Pseudo.{pawn_rank, steps_one, steps_two}
 use Rattle.chess_attack.proofs.Reached.{inserted}
-use Rattle.chess_moves.specs.Targets.{move_to}
+use Rattle.chess_moves.specs.steps.Targets.{move_to}
 use Rattle.chess_moves.proofs.PawnTargets.{steps_are, steps_nowhere, second_step}
 use Rattle.chess_moves.proofs.targets.pawn_steps.Goals as goal
 

@@ -2,7 +2,7 @@ use Rattle.std.proofs.Common.{Bool, ◌==◌, ◌&&◌, ◌||◌, ap, ◌∙◌}
 use Rattle.std.specs.List.{list_any}
 use Rattle.std.specs.FinSet.{contains, contains-empty}
 use Rattle.std.specs.Ordering.{nat_cmp}
-use Rattle.chess_moves.specs.Guarded.{is_safe_step}
+use Rattle.chess_moves.specs.steps.Guarded.{is_safe_step}
 use Rattle.chess_moves.proofs.SafeSteps.{listed_in, safe_next}
 use Rattle.chess_moves.proofs.targets.safe_steps.Goals as goal
 

@@ -1,7 +1,7 @@
 use Rattle.std.proofs.Common.{◌≡◌, ℕ, ◌<◌, ◌==◌, ◌&&◌, ◌||◌}
 use Rattle.std.specs.List.{list_any}
 use Rattle.std.specs.FinSet.{contains}
-use Rattle.chess_moves.specs.Guarded.{is_safe_step}
+use Rattle.chess_moves.specs.steps.Guarded.{is_safe_step}
 use Rattle.chess_moves.proofs.targets.safe_steps.Given as goal
 
 -- the safe squares are among those found, and those still to come

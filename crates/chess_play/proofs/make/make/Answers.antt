@@ -1,7 +1,7 @@
 use Rattle.std.proofs.Common.{◌<◌, Some, sym, ap, subst, ◌∙◌, arith}
-use Rattle.chess_types.specs.Position.{State, IsSetup}
-use Rattle.chess_types.specs.After.{clock_after, after_by, after}
-use Rattle.chess_play.specs.Boards.{CanMake}
+use Rattle.chess_types.specs.board.Position.{State, IsSetup}
+use Rattle.chess_types.specs.board.After.{clock_after, after_by, after}
+use Rattle.chess_play.specs.steps.Boards.{CanMake}
 use Rattle.chess_play.proofs.Facts.{facts}
 use Rattle.chess_play.proofs.Setups.{setup_after}
 use Rattle.chess_play.proofs.MoveLemmas.{after_is, can_make}

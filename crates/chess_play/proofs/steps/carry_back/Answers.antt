@@ -1,5 +1,5 @@
 use Rattle.std.proofs.Common.{◌≤◌, ◌+◌, arith}
-use Rattle.chess_play.specs.Boards.{ticks_of, castling_ticks}
+use Rattle.chess_play.specs.steps.Boards.{ticks_of, castling_ticks}
 use Rattle.chess_play.proofs.FollowLemmas.{follows_three, few_ticks}
 use Rattle.chess_play.proofs.steps.carry_back.Goals as goal
 

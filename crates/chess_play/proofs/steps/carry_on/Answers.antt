@@ -1,8 +1,8 @@
 use Rattle.std.proofs.Common.{◌≤◌, ◌+◌, ◌≡◌, Option, sym, ◌∙◌, ap, subst, arith}
 use Rattle.std.specs.FinMap.{get}
-use Rattle.chess_types.specs.declared.man.Man.{Man}
-use Rattle.chess_types.specs.After.{captured_at}
-use Rattle.chess_play.specs.Boards.{CapturesOrCastles, ticks_of, castling_ticks}
+use Rattle.chess_types.specs.declared.board.man.Man.{Man}
+use Rattle.chess_types.specs.board.After.{captured_at}
+use Rattle.chess_play.specs.steps.Boards.{CapturesOrCastles, ticks_of, castling_ticks}
 use Rattle.chess_play.proofs.FollowLemmas.{follows_three, few_ticks}
 use Rattle.chess_play.proofs.steps.carry_on.Goals as goal
 

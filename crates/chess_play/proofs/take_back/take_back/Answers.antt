@@ -1,7 +1,7 @@
 use Rattle.std.proofs.Common.{◌≡◌, sym, ap, ◌∙◌, arith}
 use Rattle.std.proofs.lemmas.Option.{none-some}
-use Rattle.chess_types.specs.MoveParts.{MoveParts}
-use Rattle.chess_types.specs.Position.{look}
+use Rattle.chess_types.specs.board.MoveParts.{MoveParts}
+use Rattle.chess_types.specs.board.Position.{look}
 use Rattle.chess_play.specs.Records.{RecordParts}
 use Rattle.chess_play.proofs.UndoLemmas.{stands_there}
 use Rattle.chess_play.proofs.take_back.take_back.Goals as goal

@@ -1,9 +1,9 @@
 use Rattle.std.proofs.Common.{◌≡◌, sym, ap, subst, ◌∙◌, arith}
-use Rattle.chess_types.specs.declared.man.Man.{Man}
-use Rattle.chess_types.specs.Position.{State, IsSetup}
-use Rattle.chess_play.specs.Boards.{CanTakeBack, carried_back}
+use Rattle.chess_types.specs.declared.board.man.Man.{Man}
+use Rattle.chess_types.specs.board.Position.{State, IsSetup}
+use Rattle.chess_play.specs.steps.Boards.{CanTakeBack, carried_back}
 use Rattle.chess_play.specs.Records.{RecordParts}
-use Rattle.chess_play.specs.Undo.{mover, number_before, before_by}
+use Rattle.chess_play.specs.steps.Undo.{mover, number_before, before_by}
 use Rattle.chess_play.proofs.UndoLemmas.{undoing}
 use Rattle.chess_play.proofs.take_back.take_back_by.Goals as goal
 

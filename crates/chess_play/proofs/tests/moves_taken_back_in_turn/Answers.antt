@@ -1,5 +1,5 @@
 use Rattle.std.proofs.Common.{sym, subst}
-use Rattle.chess_types.specs.Position.{State}
+use Rattle.chess_types.specs.board.Position.{State}
 use Rattle.chess_play.specs.Records.{IsBefore}
 use Rattle.chess_play.proofs.tests.moves_taken_back_in_turn.Goals as goal
 

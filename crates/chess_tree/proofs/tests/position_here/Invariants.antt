@@ -1,5 +1,5 @@
 use Rattle.std.proofs.Common.{◌≡◌, take}
-use Rattle.chess_types.specs.Lines.{play}
+use Rattle.chess_types.specs.board.Lines.{play}
 use Rattle.chess_tree.specs.Forest.{below_at}
 use Rattle.chess_tree.specs.GameTree.{moves_along}
 use Rattle.chess_tree.proofs.tests.position_here.Given as goal

@@ -1,8 +1,8 @@
 use Rattle.std.proofs.Common.{◌+◌, drop, sym, ap, subst, ◌∙◌, refl, arith}
 use Rattle.std.proofs.Math.ListN.{drop_of_length-le}
-use Rattle.chess_types.specs.Position.{State}
-use Rattle.chess_types.specs.After.{after}
-use Rattle.chess_types.specs.Legal.{legal_moves}
+use Rattle.chess_types.specs.board.Position.{State}
+use Rattle.chess_types.specs.board.After.{after}
+use Rattle.chess_types.specs.board.Legal.{legal_moves}
 use Rattle.chess_play.specs.Records.{IsBefore}
 use Rattle.perft.proofs.LeafLemmas.{counted_begin, counted_next, counted_end, next_move, next_pseudo, no_ply, one_ply, clock_room, number_room}
 use Rattle.perft.proofs.leaves.+leaves.Goals as goal

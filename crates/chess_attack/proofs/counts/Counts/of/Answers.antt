@@ -1,10 +1,10 @@
 use Rattle.std.proofs.Common.{◌≡◌, ◌*◌, ◌+◌, sym, ap, ◌∙◌, subst, arith}
 use Rattle.std.specs.Ordering.{nat_cmp}
 use Rattle.std.specs.FinMap.{empty, get-empty}
-use Rattle.chess_types.specs.Board.{Look, man_at}
+use Rattle.chess_types.specs.board.Board.{Look, man_at}
 use Rattle.chess_attack.specs.declared.change.Change.TheVariants.{Raise}
 use Rattle.chess_attack.specs.KeptCounts.{AreCounts}
-use Rattle.chess_attack.specs.Marks.{Moves, own}
+use Rattle.chess_attack.specs.steps.Marks.{Moves, own}
 use Rattle.chess_attack.proofs.FirstSquares.{AreCountsBelow, below_start, below_room, below_man, below_none, below_all}
 use Rattle.chess_attack.proofs.Shown.{shown, counts_none}
 use Rattle.chess_attack.proofs.Work.{worked_start, worked_more, worked_within}

@@ -1,5 +1,5 @@
 use Rattle.std.proofs.Common.{◌*◌}
-use Rattle.chess_types.specs.Board.{man_at}
+use Rattle.chess_types.specs.board.Board.{man_at}
 use Rattle.chess_attack.specs.KeptCounts.{Worked}
 use Rattle.chess_attack.proofs.FirstSquares.{AreCountsBelow}
 use Rattle.chess_attack.proofs.counts.Counts.of.Given as goal

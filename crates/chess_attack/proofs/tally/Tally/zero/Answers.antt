@@ -1,5 +1,5 @@
 use Rattle.std.proofs.lemmas.List.{get_or-replicate}
-use Rattle.chess_types.specs.declared.man.Colour.TheVariants.{White, Black}
+use Rattle.chess_types.specs.declared.board.man.Colour.TheVariants.{White, Black}
 use Rattle.chess_attack.proofs.tally.Tally.zero.Goals as goal
 
 pub returns-clause-counts : goal.returns-clause-counts

@@ -1,10 +1,10 @@
 use Rattle.std.proofs.Common.{◌∷◌, [], ◌++◌, List, ℕ, map, filter, ap, ◌∙◌}
 use Rattle.std.specs.FinSet.{contains}
-use Rattle.chess_types.specs.Squares.{squares}
-use Rattle.chess_types.specs.Board.{man_at}
-use Rattle.chess_types.specs.Attack.{checks_from}
-use Rattle.chess_types.specs.Position.{State, look}
-use Rattle.chess_types.specs.Texts.{square_text}
+use Rattle.chess_types.specs.board.Squares.{squares}
+use Rattle.chess_types.specs.board.Board.{man_at}
+use Rattle.chess_types.specs.board.Attack.{checks_from}
+use Rattle.chess_types.specs.board.Position.{State, look}
+use Rattle.chess_types.specs.board.Texts.{square_text}
 use Rattle.chess_cli.specs.Answers.{list_text}
 use Rattle.chess_cli.proofs.ListLemmas.{same_squares}
 use Rattle.chess_cli.proofs.machine.Board.checks.Goals as goal

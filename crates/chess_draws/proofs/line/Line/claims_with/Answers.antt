@@ -1,9 +1,9 @@
 use Rattle.std.proofs.Common.{◌≡◌, Some, ap, ◌∙◌, arith}
-use Rattle.chess_types.specs.declared.outcome.Claims.{Claims}
-use Rattle.chess_types.specs.Legal.{is_legal}
-use Rattle.chess_types.specs.Lines.{Line, last, extended}
-use Rattle.chess_types.specs.Repetition.{repetitions}
-use Rattle.chess_types.specs.Outcome.{status}
+use Rattle.chess_types.specs.declared.board.outcome.Claims.{Claims}
+use Rattle.chess_types.specs.board.Legal.{is_legal}
+use Rattle.chess_types.specs.board.Lines.{Line, last, extended}
+use Rattle.chess_types.specs.board.Repetition.{repetitions}
+use Rattle.chess_types.specs.board.Outcome.{status}
 use Rattle.chess_draws.specs.LineParts.{LineParts}
 use Rattle.chess_draws.proofs.LineLemmas.{legal_last, here_clock, here_number}
 use Rattle.chess_draws.proofs.AnswerLemmas.{claims_with_is, claims_with_none}

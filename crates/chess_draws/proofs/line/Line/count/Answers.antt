@@ -1,8 +1,8 @@
 use Rattle.std.proofs.Common.{◌≡◌, ◌+◌, ℕ, List, sym, ap, subst, ◌∙◌}
 use Rattle.std.specs.List.{All, count_by}
-use Rattle.chess_types.specs.Repetition.{repetitions}
+use Rattle.chess_types.specs.board.Repetition.{repetitions}
 use Rattle.chess_draws.specs.declared.ply.Ply.{Ply}
-use Rattle.chess_draws.specs.Stands.{StandParts, same_stand}
+use Rattle.chess_draws.specs.steps.Stands.{StandParts, same_stand}
 use Rattle.chess_draws.specs.LineParts.{LineParts}
 use Rattle.chess_draws.proofs.LineLemmas.{all_words, here_count}
 use Rattle.chess_draws.proofs.line.Line.count.Goals as goal

@@ -1,14 +1,14 @@
 use Rattle.std.proofs.Common.{◌≡◌, ℕ, ◌+◌, List, sym, ap, subst, ◌∙◌, arith}
 use Rattle.std.specs.List.{All, count_by}
-use Rattle.chess_types.specs.Position.{State}
-use Rattle.chess_types.specs.After.{after}
-use Rattle.chess_types.specs.Lines.{extended}
-use Rattle.chess_types.specs.Repetition.{counting_target, repetitions}
+use Rattle.chess_types.specs.board.Position.{State}
+use Rattle.chess_types.specs.board.After.{after}
+use Rattle.chess_types.specs.board.Lines.{extended}
+use Rattle.chess_types.specs.board.Repetition.{counting_target, repetitions}
 use Rattle.chess_play.specs.Records.{IsBefore}
-use Rattle.chess_play.proofs.Counters.{clock_more, number_more}
-use Rattle.chess_moves.proofs.LegalLaws.{legal_pseudo}
+use Rattle.chess_types.proofs.Counters.{clock_more, number_more}
+use Rattle.chess_types.proofs.MoveLemmas.{legal_pseudo}
 use Rattle.chess_draws.specs.declared.ply.Ply.{Ply}
-use Rattle.chess_draws.specs.Stands.{StandParts, same_stand, stand_of}
+use Rattle.chess_draws.specs.steps.Stands.{StandParts, same_stand, stand_of}
 use Rattle.chess_draws.specs.LineParts.{LineParts}
 use Rattle.chess_draws.proofs.LineLemmas.{legal_here, next_last, here_clock, here_number, all_words, next_count, stand_is}
 use Rattle.chess_draws.proofs.line.Line.count_with.Goals as goal

@@ -1,5 +1,5 @@
 use Rattle.std.proofs.Common.{subst}
-use Rattle.chess_types.specs.Position.{IsWellFormed}
+use Rattle.chess_types.specs.board.Position.{IsWellFormed}
 use Rattle.chess_draws.proofs.LineLemmas.{here_last, here_well_formed}
 use Rattle.chess_draws.proofs.line.Line.live.Goals as goal
 

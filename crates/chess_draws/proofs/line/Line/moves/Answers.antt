@@ -1,5 +1,5 @@
 use Rattle.std.proofs.Common.{ap, ◌∙◌, arith}
-use Rattle.chess_types.specs.Legal.{legal_moves}
+use Rattle.chess_types.specs.board.Legal.{legal_moves}
 use Rattle.chess_draws.proofs.LineLemmas.{here_last, here_clock, here_number}
 use Rattle.chess_draws.proofs.line.Line.moves.Goals as goal
 

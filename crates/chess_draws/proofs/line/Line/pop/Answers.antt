@@ -1,6 +1,6 @@
 use Rattle.std.proofs.Common.{map}
-use Rattle.chess_types.specs.Lines.{play}
-use Rattle.chess_draws.specs.Plies.{move_of}
+use Rattle.chess_types.specs.board.Lines.{play}
+use Rattle.chess_draws.specs.steps.Plies.{move_of}
 use Rattle.chess_draws.proofs.LineLemmas.{here_ends, here_last, before_last, line_less, changed_there}
 use Rattle.chess_draws.proofs.line.Line.pop.Goals as goal
 

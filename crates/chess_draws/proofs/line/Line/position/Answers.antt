@@ -1,5 +1,5 @@
 use Rattle.std.proofs.Common.{◌≡◌, sym, ap, subst, ◌∙◌, arith}
-use Rattle.chess_types.specs.Position.{State, IsQuiet, IsWellFormed}
+use Rattle.chess_types.specs.board.Position.{State, IsQuiet, IsWellFormed}
 use Rattle.chess_draws.proofs.LineLemmas.{here_last, here_clock, here_number, here_well_formed}
 use Rattle.chess_draws.proofs.line.Line.position.Goals as goal
 

@@ -1,5 +1,5 @@
 use Rattle.std.proofs.Common.{◌<◌, length, sym, ap, ◌∙◌, arith}
-use Rattle.chess_types.specs.Repetition.{counting_target}
+use Rattle.chess_types.specs.board.Repetition.{counting_target}
 use Rattle.chess_draws.proofs.LineLemmas.{here_ends, here_last, legal_here, plies_moves, here_clock, here_number, stand_is, line_more, changed_there}
 use Rattle.chess_draws.proofs.line.Line.push_prepared.Goals as goal
 

@@ -1,5 +1,5 @@
 use Rattle.std.proofs.Common.{subst}
-use Rattle.chess_types.specs.Lines.{AreLegal}
+use Rattle.chess_types.specs.board.Lines.{AreLegal}
 use Rattle.chess_draws.specs.LineParts.{LineParts}
 use Rattle.chess_draws.proofs.LineLemmas.{here_legal}
 use Rattle.chess_draws.proofs.line.Line.root.Goals as goal

@@ -1,5 +1,5 @@
 use Rattle.std.proofs.Common.{ap, ◌∙◌, arith}
-use Rattle.chess_types.specs.Lines.{last}
+use Rattle.chess_types.specs.board.Lines.{last}
 use Rattle.chess_draws.proofs.LineLemmas.{here_last, here_clock, here_number}
 use Rattle.chess_draws.proofs.AnswerLemmas.{status_is}
 use Rattle.chess_draws.proofs.line.Line.status.Goals as goal

@@ -1,7 +1,7 @@
 use Rattle.std.proofs.Common.{sym, ap, subst, ◌∙◌}
 use Rattle.std.proofs.lemmas.Bool.{not-true, eqb-false}
 use Rattle.chess_key.specs.Keys.{IsKeyOf}
-use Rattle.chess_draws.specs.Stands.{StandParts}
+use Rattle.chess_draws.specs.steps.Stands.{StandParts}
 use Rattle.chess_draws.proofs.StandLemmas.{other_key}
 use Rattle.chess_draws.proofs.stand.Stand.is_same.Goals as goal
 

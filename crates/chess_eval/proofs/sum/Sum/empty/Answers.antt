@@ -1,6 +1,6 @@
 use Rattle.std.proofs.Common.{sym}
-use Rattle.chess_eval.proofs.Evaluations.{evaluation_empty}
+use Rattle.chess_eval.proofs.Evaluations.{sums_empty}
 use Rattle.chess_eval.proofs.sum.Sum.empty.Goals as goal
 
 pub returns-clause-agrees : goal.returns-clause-agrees
-returns-clause-agrees c = sym evaluation_empty
+returns-clause-agrees c = sym sums_empty

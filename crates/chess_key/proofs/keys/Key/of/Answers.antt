@@ -1,5 +1,5 @@
 use Rattle.std.proofs.Common.{◌≡◌, ap, sym, ◌∙◌, arith}
-use Rattle.chess_types.specs.Board.{Look, man_at}
+use Rattle.chess_types.specs.board.Board.{Look, man_at}
 use Rattle.chess_key.proofs.KeyLaws.{key_below, key_below-none, key_below-more, key_below-all}
 use Rattle.chess_key.proofs.keys.Key.of.Goals as goal
 

@@ -1,5 +1,5 @@
 use Rattle.std.proofs.Common.{◌≡◌}
-use Rattle.chess_types.specs.Board.{man_at}
+use Rattle.chess_types.specs.board.Board.{man_at}
 use Rattle.chess_key.proofs.KeyLaws.{key_below}
 use Rattle.chess_key.proofs.keys.Key.of.Given as goal
 

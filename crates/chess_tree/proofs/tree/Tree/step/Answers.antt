@@ -1,14 +1,8 @@
-use Rattle.std.proofs.Common.{arith, ap}
-use Rattle.chess_tree.specs.Forest.{count}
 use Rattle.chess_tree.proofs.KeptLemmas.{kept_down}
-use Rattle.chess_tree.proofs.KeptLines.{kept_goes_down}
 use Rattle.chess_tree.proofs.tree.Tree.step.Goals as goal
 
-pub invariant_of-self : goal.invariant_of-self
-invariant_of-self g c =
-    kept_down _ _ _ _ _ c.self.invariant c.down.ensures.root c.down.ensures.path (omega (arith, c.if-place-child_count.false, c.child_count.ensures, ap count c.here.ensures))
+pub invariant_of-self-2 : goal.invariant_of-self-2
+invariant_of-self-2 g c = (kept_down _ _ c.self.invariant _ c.args.place c.down.result c.down.ensures.there c.if-not-down.false (c.down.ensures.path c.if-not-down.false)).0
 
 pub returns-clause-line : goal.returns-clause-line
-returns-clause-line g c =
-    rw (← c.self.view_is)
-    (kept_goes_down _ _ _ _ _ c.self.invariant c.down.ensures.root c.down.ensures.path (omega (arith, c.if-place-child_count.false, c.child_count.ensures, ap count c.here.ensures)))
+returns-clause-line g c = rw (← c.self.view_is) (kept_down _ _ c.self.invariant _ c.args.place c.down.result c.down.ensures.there c.if-not-down.false (c.down.ensures.path c.if-not-down.false)).1

@@ -1,0 +1,56 @@
+use Rattle.std.proofs.Common.{◌≡◌, Some, sym, subst, ◌∙◌, arith}
+use Rattle.chess_types.specs.board.Board.{Look, man_at}
+use Rattle.chess_attack.specs.steps.Halves.{opposite, half_length}
+use Rattle.chess_attack.specs.KeptCounts.{count_in}
+use Rattle.chess_attack.specs.steps.Marks.{swept}
+use Rattle.chess_attack.specs.steps.Through.{IsFirstAt, IsBare, cut_on}
+use Rattle.chess_attack.proofs.Amounts.{moved_none, moves_by, room_by}
+use Rattle.chess_attack.proofs.XRays.{relit, unlit, unlit_bare}
+use Rattle.chess_attack.proofs.Work.{worked_start, worked_within}
+use Rattle.chess_attack.proofs.x_rays.update_x_rays_from_first.Goals as goal
+
+pub sweep-requires : goal.sweep-requires
+sweep-requires c =
+    let look : Look = man_at c.args.placement.now in
+    let first : IsFirstAt look c.args.axis (opposite c.args.way) c.args.at c.in-Some.square =
+    subst (λ w. IsFirstAt look c.args.axis w c.args.at c.in-Some.square) c.opposite.ensures c.in-Some.ensures.found in
+    let holds : look c.in-Some.square ≡ Some c.in-Some-get.man = sym c.get.ensures ∙ c.in-Some-get.is in
+    record {
+      room = room_by c.args.change c.args.tally.now (cut_on look c.args.axis c.args.way c.args.at)
+          (swept c.in-Some-get.man.colour look c.args.axis c.args.way c.args.at) c.requires.room (λ k s hs.
+          sym (relit look c.args.axis c.args.way c.args.at c.in-Some.square c.in-Some-get.man first holds (sym c.slides.ensures ∙ c.if-slides.true) k s));
+    }
+
+pub returns-then-slides-clause-counts : goal.returns-then-slides-clause-counts
+returns-then-slides-clause-counts c =
+    let look : Look = man_at c.args.placement.now in
+    let first : IsFirstAt look c.args.axis (opposite c.args.way) c.args.at c.in-Some.square =
+    subst (λ w. IsFirstAt look c.args.axis w c.args.at c.in-Some.square) c.opposite.ensures c.in-Some.ensures.found in
+    let holds : look c.in-Some.square ≡ Some c.in-Some-get.man = sym c.get.ensures ∙ c.in-Some-get.is in
+    moves_by c.args.change c.args.tally.now c.sweep.new.tally (swept c.in-Some-get.man.colour look c.args.axis c.args.way c.args.at)
+    (cut_on look c.args.axis c.args.way c.args.at) c.sweep.ensures.counts (λ k s hs.
+    relit look c.args.axis c.args.way c.args.at c.in-Some.square c.in-Some-get.man first holds (sym c.slides.ensures ∙ c.if-slides.true) k s)
+
+pub returns-else-slides-clause-counts : goal.returns-else-slides-clause-counts
+returns-else-slides-clause-counts c =
+    let look : Look = man_at c.args.placement.now in
+    let first : IsFirstAt look c.args.axis (opposite c.args.way) c.args.at c.in-Some.square =
+    subst (λ w. IsFirstAt look c.args.axis w c.args.at c.in-Some.square) c.opposite.ensures c.in-Some.ensures.found in
+    let holds : look c.in-Some.square ≡ Some c.in-Some-get.man = sym c.get.ensures ∙ c.in-Some-get.is in
+    λ k s hs. moved_none c.args.change (count_in c.args.tally.now k s) _
+    (unlit look c.args.axis c.args.way c.args.at c.in-Some.square c.in-Some-get.man first holds (sym c.slides.ensures ∙ c.if-slides.false) k s)
+
+pub returns-else-slides-clause-worked : goal.returns-else-slides-clause-worked
+returns-else-slides-clause-worked c =
+    worked_within c.args.tally.now c.args.tally.now 0 (half_length c.args.axis c.args.way c.args.at) (omega arith) (worked_start c.args.tally.now)
+
+pub returns-in_default-clause-counts : goal.returns-in_default-clause-counts
+returns-in_default-clause-counts c =
+    let look : Look = man_at c.args.placement.now in
+    let bare : IsBare look c.args.axis (opposite c.args.way) c.args.at =
+    subst (λ w. IsBare look c.args.axis w c.args.at) c.opposite.ensures c.in_default.ensures.none in
+    λ k s hs. moved_none c.args.change (count_in c.args.tally.now k s) _ (unlit_bare look c.args.axis c.args.way c.args.at bare k s)
+
+pub returns-in_default-clause-worked : goal.returns-in_default-clause-worked
+returns-in_default-clause-worked c =
+    worked_within c.args.tally.now c.args.tally.now 0 (half_length c.args.axis c.args.way c.args.at) (omega arith) (worked_start c.args.tally.now)

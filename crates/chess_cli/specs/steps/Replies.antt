@@ -1,0 +1,18 @@
+-- What the board's code puts on the page, and what it does with the word behind `goto`.
+--   IsOnPage         this text is put behind what stood on the page, or is the path to the cursor, which is still to be written
+--   path_effect   to the node at a path, where a word writes one
+use Rattle.std.specs.Prelude.{◌≡◌, ℕ, List, [], ◌∷◌, ◌++◌, Option, Some, None}
+use Rattle.chess_tree.specs.GameTree.{TreeParts, at_path, has}
+use Rattle.chess_cli.specs.declared.answer.Told.{Told}
+use Rattle.chess_cli.specs.declared.answer.Told.TheVariants.{Whole, Path}
+use Rattle.chess_cli.specs.declared.refusal.Refusal.TheVariants.{Argument}
+use Rattle.chess_cli.specs.Numbers.{path_text}
+use Rattle.chess_cli.specs.Answers.{Effect, Refuses, if_there}
+
+abbrev pub IsOnPage : Told → TreeParts → List ℕ → List ℕ → List ℕ → Type 0
+IsOnPage Whole t page page1 text = page1 ≡ page ++ text
+IsOnPage Path t page page1 text = (page1 ≡ page) × (path_text t.path ++ 10 ∷ [] ≡ text)
+
+abbrev pub path_effect : TreeParts → Option (List ℕ) → Effect
+path_effect t None = Refuses Argument
+path_effect t (Some path) = if_there (has path t.tree.below) (at_path path t)

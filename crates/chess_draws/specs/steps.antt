@@ -1,0 +1,3 @@
+-- The words of the code's steps: what a line keeps of each position and of each move.
+pub mod Stands
+pub mod Plies

@@ -1,0 +1,30 @@
+-- Three sums, a man more or fewer at a time.
+--   with_man, without_man   what the man counts on the square is added, or taken away
+--   AreInRange              no board's sums are larger
+use Rattle.std.specs.Prelude.{ℕ, pos, ◌+ℤ◌, ◌-ℤ◌, ◌≤ℤ◌, Some}
+use Rattle.chess_types.specs.declared.board.man.Man.{Man}
+use Rattle.chess_eval.specs.Worth.{middle_of, end_of}
+use Rattle.chess_eval.specs.Evaluation.{Sums, balance_there, weight_there, IsWithin}
+
+abbrev pub with_man : Sums → Man → ℕ → Sums
+with_man sums man square =
+    record {
+      middle = sums.middle +ℤ balance_there middle_of (Some man) square;
+      end = sums.end +ℤ balance_there end_of (Some man) square;
+      weights = sums.weights +ℤ weight_there (Some man) square;
+    }
+
+abbrev pub without_man : Sums → Man → ℕ → Sums
+without_man sums man square =
+    record {
+      middle = sums.middle -ℤ balance_there middle_of (Some man) square;
+      end = sums.end -ℤ balance_there end_of (Some man) square;
+      weights = sums.weights -ℤ weight_there (Some man) square;
+    }
+
+-- 903 for each square, and a weight of 4
+pub record AreInRange (sums : Sums) : Type 0 where
+  pub middle : IsWithin 57792 sums.middle
+  pub end : IsWithin 57792 sums.end
+  pub weights_low : pos 0 ≤ℤ sums.weights
+  pub weights_high : sums.weights ≤ℤ pos 256

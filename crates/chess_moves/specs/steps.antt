@@ -1,0 +1,3 @@
+-- The words of the code's steps: where the men of the side to move might go, and what leaves their king unattacked.
+pub mod Targets
+pub mod Guarded

@@ -1,0 +1,21 @@
+-- What decides which moves leave the mover's king unattacked: where he stands, the squares that stop a check, those behind him on
+-- the lines of the men that check, and which men are pinned.
+use Rattle.std.specs.Prelude.{ℕ, ◌≡◌, ◌<◌, Bool, true, not, ◌&&◌}
+use Rattle.std.specs.FinSet.{contains}
+use Rattle.chess_types.specs.board.Men.{is_king_of, opponent}
+use Rattle.chess_types.specs.board.Attack.{is_attacked}
+use Rattle.chess_types.specs.board.Position.{State, look}
+use Rattle.chess_attack.specs.Pins.{is_pinned, permits}
+use Rattle.chess_attack.specs.steps.PinHalves.{round, shaded_on}
+use Rattle.chess_moves.specs.declared.guard.Guard.{Guard}
+
+pub record IsGuard (guard : Guard) (p : State) : Type 0 where
+  pub on_board : guard.king < 64
+  pub king : is_king_of p.side (look p guard.king) ≡ true
+  pub stopping : (to : ℕ) → to < 64 → contains guard.stopping to ≡ permits (look p) p.side guard.king to
+  pub shade : (to : ℕ) → to < 64 → contains guard.shade to ≡ round (shaded_on (look p) p.side guard.king to)
+  pub pinned : (s : ℕ) → s < 64 → contains guard.pinned s ≡ is_pinned (look p) p.side s
+
+-- the king isn't attacked on the square to which he steps from his own: the other side doesn't attack it now, and it has no shade
+abbrev pub is_safe_step : State → ℕ → ℕ → Bool
+is_safe_step p king to = not (is_attacked (look p) (opponent p.side) to) && not (round (shaded_on (look p) p.side king to))

@@ -1,0 +1,11 @@
+pub mod WriteLemmas
+pub mod OnlyLemmas
+pub mod TextLemmas
+pub mod EndLemmas
+pub mod ReadLemmas
+pub mod SameLemmas
+pub mod PawnLemmas
+pub mod LawLemmas
+pub mod ListLemmas
+pub mod GoesLemmas
+pub mod OriginLemmas

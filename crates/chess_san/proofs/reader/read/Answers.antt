@@ -1,0 +1,11 @@
+use Rattle.std.proofs.Common.{rules}
+use Rattle.chess_san.specs.Naming.{reading}
+use Rattle.chess_san.proofs.GoesLemmas.{read_legal}
+use Rattle.chess_san.proofs.reader.read.Goals as goal
+
+pub returns-in-Some-clause-value : goal.returns-in-Some-clause-value
+unfolding reading
+returns-in-Some-clause-value c = search rules
+
+pub returns-in-Some-clause-legal : goal.returns-in-Some-clause-legal
+returns-in-Some-clause-legal c = read_legal c.args.live.now.position c.args.text.now c.named.result (returns-in-Some-clause-value c)

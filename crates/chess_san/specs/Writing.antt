@@ -1,0 +1,109 @@
+-- The one text of a legal move in standard algebraic notation (PGN 8.2.3).
+--   rivals      the legal moves of other men of like kind to the target
+--   origin_of   what tells the man from them: nothing, its file, its rank, or both (PGN 8.2.3.4)
+--   mark_text   # for mate, + for check (PGN 8.2.3.5)
+--   san         the text
+use Rattle.std.specs.Prelude.{ℕ, ◌+◌, ◌==◌, Bool, not, ◌&&◌, ◌||◌, if◌then◌else◌, List, [], ◌∷◌, ◌++◌, filter, Option, Some, None, is_some, codes}
+use Rattle.std.specs.Str.{byte}
+use Rattle.std.specs.List.{list_any}
+use Rattle.chess_types.specs.declared.board.man.Kind.{Kind}
+use Rattle.chess_types.specs.declared.board.man.Kind.TheVariants.{Pawn, Knight, Bishop, Rook, Queen, King}
+use Rattle.chess_types.specs.declared.board.man.Man.{Man}
+use Rattle.chess_types.specs.declared.board.position.Wing.TheVariants.{KingSide, QueenSide}
+use Rattle.chess_types.specs.board.Squares.{file_of, rank_of}
+use Rattle.chess_types.specs.board.Attack.{in_check}
+use Rattle.chess_types.specs.board.MoveParts.{MoveParts}
+use Rattle.chess_types.specs.board.Texts.{square_text}
+use Rattle.chess_types.specs.board.Position.{State, look}
+use Rattle.chess_types.specs.board.After.{after, is_castling, is_en_passant}
+use Rattle.chess_types.specs.board.Legal.{legal_moves}
+use Rattle.chess_types.specs.board.Outcome.{is_without}
+use Rattle.chess_san.specs.declared.form.Origin.{Origin}
+use Rattle.chess_san.specs.Naming.{is_kind}
+
+-- the letter of a kind, in upper case: P, N, B, R, Q, K
+abbrev pub piece_letter : Kind → ℕ
+piece_letter Pawn = byte "P"
+piece_letter Knight = byte "N"
+piece_letter Bishop = byte "B"
+piece_letter Rook = byte "R"
+piece_letter Queen = byte "Q"
+piece_letter King = byte "K"
+
+abbrev pub file_letter : Option ℕ → List ℕ
+file_letter None = []
+file_letter (Some file) = (byte "a" + file) ∷ []
+
+abbrev pub rank_digit : Option ℕ → List ℕ
+rank_digit None = []
+rank_digit (Some rank) = (byte "1" + rank) ∷ []
+
+-- a man of the kind on another square goes to the target
+abbrev pub is_rival : State → Kind → ℕ → ℕ → MoveParts → Bool
+is_rival p kind from to n = n.to == to && not (n.from == from) && is_kind kind (look p n.from)
+
+unfoldable pub rivals : State → Kind → ℕ → ℕ → List MoveParts
+rivals p kind from to = filter (is_rival p kind from to) (legal_moves p)
+
+-- one of them comes from the file, or from the rank
+abbrev pub share_file : List MoveParts → ℕ → Bool
+share_file moves from = list_any (λ n. file_of n.from == file_of from) moves
+
+abbrev pub share_rank : List MoveParts → ℕ → Bool
+share_rank moves from = list_any (λ n. rank_of n.from == rank_of from) moves
+
+-- nothing where there is none; the file, where none shares it; else the rank, where none shares that; else both
+abbrev pub origin_by : (none file rank : Bool) → ℕ → Origin
+origin_by none file rank from =
+    if none then record { file = None; rank = None }
+    else (if not file then record { file = Some (file_of from); rank = None }
+    else (if not rank then record { file = None; rank = Some (rank_of from) }
+    else record { file = Some (file_of from); rank = Some (rank_of from) }))
+
+-- what tells a man from others
+unfoldable pub origin_among : List MoveParts → ℕ → Origin
+origin_among others from = origin_by (is_without others) (share_file others from) (share_rank others from) from
+
+abbrev pub origin_of : State → Kind → MoveParts → Origin
+origin_of p kind m = origin_among (rivals p kind m.from m.to) m.from
+
+-- a man stands on the target, or a pawn captures en passant
+abbrev pub captures : State → Man → MoveParts → Bool
+captures p man m = is_some (look p m.to) || is_en_passant p.target man m
+
+abbrev pub capture_text : Bool → List ℕ
+capture_text taken = if taken then codes "x" else []
+
+abbrev pub becoming_text : Option Kind → List ℕ
+becoming_text None = []
+becoming_text (Some kind) = byte "=" ∷ piece_letter kind ∷ []
+
+-- a pawn: where it captures, its file and x; the target; what it becomes
+unfoldable pub pawn_text : Bool → MoveParts → List ℕ
+pawn_text taken m = file_letter (if taken then Some (file_of m.from) else None) ++ (capture_text taken ++ (square_text m.to ++ becoming_text m.promo))
+
+-- another man: its letter, what tells it from others, x where it captures, the target
+unfoldable pub piece_text : Kind → Origin → Bool → ℕ → List ℕ
+piece_text kind origin taken to = piece_letter kind ∷ (file_letter origin.file ++ (rank_digit origin.rank ++ (capture_text taken ++ square_text to)))
+
+-- a man that doesn't castle
+abbrev pub step_text : State → Kind → Man → MoveParts → List ℕ
+step_text p Pawn man m = pawn_text (captures p man m) m
+step_text p Knight man m = piece_text Knight (origin_of p Knight m) (captures p man m) m.to
+step_text p Bishop man m = piece_text Bishop (origin_of p Bishop m) (captures p man m) m.to
+step_text p Rook man m = piece_text Rook (origin_of p Rook m) (captures p man m) m.to
+step_text p Queen man m = piece_text Queen (origin_of p Queen m) (captures p man m) m.to
+step_text p King man m = piece_text King (origin_of p King m) (captures p man m) m.to
+
+abbrev pub bare_text : State → Option Man → MoveParts → List ℕ
+bare_text p None m = []
+bare_text p (Some man) m =
+    if is_castling man KingSide m then codes "O-O"
+    else (if is_castling man QueenSide m then codes "O-O-O" else step_text p man.kind man m)
+
+-- # where the side to move is mated, else + where it is in check
+unfoldable pub mark_text : State → List ℕ
+mark_text p = if in_check (look p) p.side then (if is_without (legal_moves p) then codes "#" else codes "+") else []
+
+unfoldable pub san : State → MoveParts → List ℕ
+san p m = bare_text p (look p m.from) m ++ mark_text (after p m)

@@ -1,0 +1,21 @@
+//! Moves in standard algebraic notation (SAN, PGN 8.2.3), read and written.
+//!
+//! `write` gives the one text of a legal move, which stands in `specs/Writing.antt`. `read` answers with the legal move that a
+//! text names, or says why there is none; the forms of texts stand in `specs/Forms.antt`, and which moves they name in
+//! `specs/Naming.antt`. What is written of a move names that move alone.
+#![tactic(auto)]
+
+mod course;
+mod fault;
+mod form;
+mod names;
+mod origins;
+mod reader;
+mod writer;
+
+pub use fault::SanFault;
+pub use reader::read;
+pub use writer::write;
+
+#[cfg(test)]
+mod tests;

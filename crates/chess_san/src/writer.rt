@@ -1,0 +1,340 @@
+ghost use Rattle.std.specs.Prelude.{◌≡◌, ◌+◌, ◌<◌, ◌≤◌, ◌++◌, ◌∷◌, [], IfSome, IsTrue, Ok, Some, false, length, filter, None, ◌==◌};
+ghost use Rattle.std.specs.List.{list_any};
+ghost use Rattle.std.specs.FinSet.{contains};
+ghost use Rattle.chess_types.specs.board.Squares.{file_of, rank_of, squares};
+ghost use Rattle.arrayvec.specs.ArrayString.{array_string_len};
+ghost use Rattle.chess_types.specs.board.Men.{is_pawn};
+ghost use Rattle.chess_types.specs.board.Texts.{square_text};
+ghost use Rattle.chess_types.specs.board.Position.{look};
+ghost use Rattle.chess_types.specs.board.Legal.{is_legal};
+ghost use Rattle.chess_san.specs.steps.Origins.{Begins, BeginsAmong, from_each, legal_and};
+ghost use Rattle.chess_san.specs.Naming.{named, reading};
+ghost use Rattle.chess_san.specs.Writing.{piece_letter, captures, capture_text, file_letter, rank_digit, becoming_text, pawn_text, piece_text, rivals, is_rival, origin_by, origin_among, mark_text, bare_text, san};
+
+use crate::form::Origin;
+use crate::names::{is_castling, is_kind};
+use crate::origins::origins;
+use arrayvec::ArrayString;
+use chess_moves::{has_legal, in_check, is_legal};
+use chess_play::Live;
+use chess_types::{Kind, Man, Move, Setup, Square, SquareSet, Wing};
+
+fn piece_letter(kind: Kind) -> char
+    ensures value { result ≡ piece_letter kind }
+    ensures ascii { result < 128 }
+{
+    match kind {
+        Kind::Pawn => 'P',
+        Kind::Knight => 'N',
+        Kind::Bishop => 'B',
+        Kind::Rook => 'R',
+        Kind::Queen => 'Q',
+        Kind::King => 'K',
+    }
+}
+
+fn is_rival(setup: &Setup, kind: Kind, from: Square, to: Square, other: Move) -> bool
+    ensures { result ≡ is_rival setup.now kind from to other }
+{
+    other.to == to && other.from != from && is_kind(kind, setup.placement.get(other.from))
+}
+
+/// Whether the move is that of a rival, and legal.
+fn is_legal_rival(live: &mut Live, kind: Kind, from: Square, to: Square, other: Move) -> bool
+    requires clock { live.old.position.clock ≤ 1000000 }
+    requires number { live.old.position.number ≤ 1000000 }
+    ensures value { result ≡ legal_and (is_rival live.old.position kind from to) live.old.position other }
+    ensures position { live.new.position ≡ live.old.position }
+    ensures words { live.new.words ≡ live.old.words }
+{
+    is_rival(live.position(), kind, from, to, other) && is_legal(live, other)
+}
+
+/// Those of the squares from which rivals have a legal move to the target.
+fn rivals_among(live: &mut Live, kind: Kind, all: SquareSet, from: Square, to: Square) -> SquareSet
+    requires clock { live.old.position.clock ≤ 1000000 }
+    requires number { live.old.position.number ≤ 1000000 }
+    ensures rivals { BeginsAmong all result (is_rival live.old.position kind from to) live.old.position to None }
+    ensures position { live.new.position ≡ live.old.position }
+    ensures words { live.new.words ≡ live.old.words }
+{
+    let mut others = SquareSet::empty();
+    for other in all.iter() {
+        let m = Move {
+            from: other,
+            to,
+            promo: None,
+        };
+        let passes = is_legal_rival(live, kind, from, to, m);
+        others.insert_if(other, passes);
+    }
+    others
+}
+
+/// All of them.
+fn rivals(live: &mut Live, kind: Kind, from: Square, to: Square) -> SquareSet
+    requires clock { live.old.position.clock ≤ 1000000 }
+    requires number { live.old.position.number ≤ 1000000 }
+    ensures rivals { Begins result (is_rival live.old.position kind from to) live.old.position to None }
+    ensures position { live.new.position ≡ live.old.position }
+    ensures words { live.new.words ≡ live.old.words }
+{
+    let all = origins(live.position(), kind, to);
+    rivals_among(live, kind, all, from, to)
+}
+
+/// Whether there is none of them.
+fn are_none(others: SquareSet) -> bool
+    ensures { result ≡ (length (filter (contains others) squares) == 0) }
+{
+    others.iter().next().is_none()
+}
+
+/// Whether one of them is on the file of the square.
+fn share_file(others: SquareSet, from: Square) -> bool
+    ensures { result ≡ list_any (λ s. file_of s == file_of from) (filter (contains others) squares) }
+{
+    for other in others.iter() {
+        if other.file() == from.file() {
+            return true;
+        }
+    }
+    false
+}
+
+/// Whether one of them is on the rank of the square.
+fn share_rank(others: SquareSet, from: Square) -> bool
+    ensures { result ≡ list_any (λ s. rank_of s == rank_of from) (filter (contains others) squares) }
+{
+    for other in others.iter() {
+        if other.rank() == from.rank() {
+            return true;
+        }
+    }
+    false
+}
+
+/// What tells a man from others: whether there are none, and whether one of them shares its file, or its rank (PGN 8.2.3.4).
+fn origin_by(none: bool, file: bool, rank: bool, from: Square) -> Origin
+    ensures value { result ≡ origin_by none file rank from }
+    ensures file { IfSome result.file (λ f. f < 8) }
+    ensures rank { IfSome result.rank (λ r. r < 8) }
+{
+    if none {
+        Origin {
+            file: None,
+            rank: None,
+        }
+    } else if !file {
+        Origin {
+            file: Some(from.file()),
+            rank: None,
+        }
+    } else if !rank {
+        Origin {
+            file: None,
+            rank: Some(from.rank()),
+        }
+    } else {
+        Origin {
+            file: Some(from.file()),
+            rank: Some(from.rank()),
+        }
+    }
+}
+
+/// What tells the man that moves from its rivals.
+fn origin_of(live: &mut Live, kind: Kind, from: Square, to: Square) -> Origin
+    requires plain { is_pawn kind ≡ false }
+    requires clock { live.old.position.clock ≤ 1000000 }
+    requires number { live.old.position.number ≤ 1000000 }
+    ensures value { result ≡ origin_among (rivals live.old.position kind from to) from }
+    ensures file { IfSome result.file (λ f. f < 8) }
+    ensures rank { IfSome result.rank (λ r. r < 8) }
+    ensures position { live.new.position ≡ live.old.position }
+    ensures words { live.new.words ≡ live.old.words }
+{
+    let others = rivals(live, kind, from, to);
+    let none = are_none(others);
+    let file = share_file(others, from);
+    let rank = share_rank(others, from);
+    origin_by(none, file, rank, from)
+}
+
+fn captures(setup: &Setup, man: Man, m: Move) -> bool
+    ensures { result ≡ captures setup.now man m }
+{
+    setup.placement.get(m.to).is_some()
+        || (man.kind == Kind::Pawn && setup.target == Some(m.to) && m.from.file() != m.to.file())
+}
+
+fn push_file(text: &mut ArrayString<8>, file: Option<u8>)
+    requires below { IfSome file (λ f. f < 8) }
+    requires room { array_string_len text.old + 1 ≤ 8 }
+    ensures bytes { text.new.bytes ≡ text.old.bytes ++ file_letter file }
+    ensures len { array_string_len text.new ≤ array_string_len text.old + 1 }
+{
+    if let Some(file) = file {
+        text.push(char::from(b'a' + file));
+    }
+}
+
+fn push_rank(text: &mut ArrayString<8>, rank: Option<u8>)
+    requires below { IfSome rank (λ r. r < 8) }
+    requires room { array_string_len text.old + 1 ≤ 8 }
+    ensures bytes { text.new.bytes ≡ text.old.bytes ++ rank_digit rank }
+    ensures len { array_string_len text.new ≤ array_string_len text.old + 1 }
+{
+    if let Some(rank) = rank {
+        text.push(char::from(b'1' + rank));
+    }
+}
+
+fn push_capture(text: &mut ArrayString<8>, taken: bool)
+    requires room { array_string_len text.old + 1 ≤ 8 }
+    ensures bytes { text.new.bytes ≡ text.old.bytes ++ capture_text taken }
+    ensures len { array_string_len text.new ≤ array_string_len text.old + 1 }
+{
+    if taken {
+        text.push_str("x");
+    }
+}
+
+fn push_square(text: &mut ArrayString<8>, square: Square)
+    requires room { array_string_len text.old + 2 ≤ 8 }
+    ensures bytes { text.new.bytes ≡ text.old.bytes ++ square_text square }
+    ensures len { array_string_len text.new ≤ array_string_len text.old + 2 }
+{
+    text.push_str(&square.text());
+}
+
+fn push_letter(text: &mut ArrayString<8>, kind: Kind)
+    requires room { array_string_len text.old + 1 ≤ 8 }
+    ensures bytes { text.new.bytes ≡ text.old.bytes ++ piece_letter kind ∷ [] }
+    ensures len { array_string_len text.new ≤ array_string_len text.old + 1 }
+{
+    text.push(piece_letter(kind));
+}
+
+fn push_promotion(text: &mut ArrayString<8>, promo: Option<Kind>)
+    requires room { array_string_len text.old + 2 ≤ 8 }
+    ensures bytes { text.new.bytes ≡ text.old.bytes ++ becoming_text promo }
+    ensures len { array_string_len text.new ≤ array_string_len text.old + 2 }
+{
+    if let Some(kind) = promo {
+        text.push_str("=");
+        push_letter(text, kind);
+    }
+}
+
+// A pawn's move; the file that it leaves is given where it captures.
+#[tactic(auto, unfolding(crate::specs::Writing::pawn_text))]
+fn pawn_text(taken: bool, m: Move) -> ArrayString<8>
+    ensures bytes { result.bytes ≡ pawn_text taken m }
+    ensures len { array_string_len result ≤ 6 }
+{
+    let file = if taken { Some(m.from.file()) } else { None };
+    let mut text = ArrayString::new();
+    push_file(&mut text, file);
+    push_capture(&mut text, taken);
+    push_square(&mut text, m.to);
+    push_promotion(&mut text, m.promo);
+    text
+}
+
+#[tactic(auto, unfolding(crate::specs::Writing::piece_text))]
+fn piece_text(kind: Kind, origin: Origin, taken: bool, to: Square) -> ArrayString<8>
+    requires file { IfSome origin.file (λ f. f < 8) }
+    requires rank { IfSome origin.rank (λ r. r < 8) }
+    ensures bytes { result.bytes ≡ piece_text kind origin taken to }
+    ensures len { array_string_len result ≤ 6 }
+{
+    let mut text = ArrayString::new();
+    push_letter(&mut text, kind);
+    push_file(&mut text, origin.file);
+    push_rank(&mut text, origin.rank);
+    push_capture(&mut text, taken);
+    push_square(&mut text, to);
+    text
+}
+
+// The text of a man's move without the mark of check or mate.
+fn bare_text(live: &mut Live, man: Man, m: Move) -> ArrayString<8>
+    requires here { look live.old.position m.from ≡ Some man }
+    requires clock { live.old.position.clock ≤ 1000000 }
+    requires number { live.old.position.number ≤ 1000000 }
+    ensures bytes { result.bytes ≡ bare_text live.old.position (Some man) m }
+    ensures len { array_string_len result ≤ 6 }
+    ensures position { live.new.position ≡ live.old.position }
+    ensures words { live.new.words ≡ live.old.words }
+{
+    if is_castling(man, Wing::KingSide, m) {
+        let mut text = ArrayString::new();
+        text.push_str("O-O");
+        return text;
+    }
+    if is_castling(man, Wing::QueenSide, m) {
+        let mut text = ArrayString::new();
+        text.push_str("O-O-O");
+        return text;
+    }
+    let taken = captures(live.position(), man, m);
+    match man.kind {
+        Kind::Pawn => pawn_text(taken, m),
+        Kind::Knight | Kind::Bishop | Kind::Rook | Kind::Queen | Kind::King => {
+            let origin = origin_of(live, man.kind, m.from, m.to);
+            piece_text(man.kind, origin, taken, m.to)
+        }
+    }
+}
+
+// The mark of a position that a move has led to.
+#[tactic(auto, unfolding(crate::specs::Writing::mark_text))]
+fn mark_text(live: &mut Live) -> &'static str
+    requires clock { live.old.position.clock ≤ 1000000 }
+    requires number { live.old.position.number ≤ 1000000 }
+    ensures value { result.now ≡ mark_text live.old.position }
+    ensures len { length result.now ≤ 1 }
+    ensures position { live.new.position ≡ live.old.position }
+    ensures words { live.new.words ≡ live.old.words }
+{
+    if !in_check(live) {
+        ""
+    } else if has_legal(live) {
+        "+"
+    } else {
+        "#"
+    }
+}
+
+fn man_at(setup: &Setup, square: Square) -> Option<Man>
+    ensures { result ≡ look setup.now square }
+{
+    setup.placement.get(square)
+}
+
+/// The text of a legal move in standard algebraic notation (PGN 8.2.3), at most 7 bytes. It names that move alone, and `read`
+/// answers it. The halfmove clock and the fullmove number are below 1,000,000. All is as before but for the ticks.
+#[tactic(auto, unfolding(crate::specs::Writing::san))]
+pub fn write(live: &mut Live, m: Move) -> ArrayString<8>
+    requires legal { IsTrue (is_legal live.old.position m) }
+    requires clock { live.old.position.clock < 1000000 }
+    requires number { live.old.position.number < 1000000 }
+    ensures bytes { result.bytes ≡ san live.old.position m }
+    ensures named { named live.old.position result.bytes ≡ m ∷ [] }
+    ensures read_back { reading live.old.position result.bytes ≡ Ok m }
+    ensures position { live.new.position ≡ live.old.position }
+    ensures words { live.new.words ≡ live.old.words }
+{
+    match man_at(live.position(), m.from) {
+        None => unreachable!(),
+        Some(man) => {
+            let mut text = bare_text(live, man, m);
+            let made = live.make(m);
+            let mark = mark_text(live);
+            live.undo(made);
+            text.push_str(mark);
+            text
+        }
+    }
+}

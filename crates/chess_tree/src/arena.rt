@@ -1,0 +1,237 @@
+ghost use Rattle.std.specs.Prelude.{◌≡◌, ◌<◌, ◌≤◌, ◌++◌, ◌∷◌, [], nat_le, nat_lt, true, false, length, slice_index, IfOk, OnOk, OnErr};
+ghost use Rattle.chess_tree.specs.Forest.{below_at, count, moves_held};
+ghost use Rattle.chess_tree.specs.Edits.{parent};
+ghost use Rattle.chess_tree.specs.GameTree.{find, node_of};
+ghost use Rattle.chess_tree.specs.steps.Rooted.{added_root, annotated_root, commented_root, deleted_root, leaf, path_root, promoted_root, root_shown};
+ghost use Rattle.chess_tree.specs.steps.Grove.{no_move};
+
+pub(crate) mod links;
+pub(crate) mod notes;
+pub(crate) mod siblings;
+pub(crate) mod slot;
+
+use crate::node::NodeRef;
+use chess_types::Move;
+use links::{hang_first, hang_last, put, set_next, slot, unlink};
+use notes::NoteMap;
+use slot::Slot;
+use std::alloc::{AllocError, Allocator};
+use std::collections::BTreeMap;
+use std::marker::Model;
+
+/// The most nodes: a million, and the root.
+const MOST_NODES: usize = 1_000_001;
+
+/// A tree with a cursor, in one vector of nodes, each named by its number. The root's is 0.
+///
+/// The nodes deleted stand in the same links, as a forest of their own: `add` takes the first of them, and those below it come in
+/// its stead.
+#[derive(Drop)]
+pub(crate) struct Arena<'a, A: Allocator> {
+    alloc: &'a A,
+    slots: Vec<Slot, &'a A>,
+    notes: NoteMap<'a, A>,
+    /// The first freed number; 0 where there is none.
+    free: u32,
+    /// The number of the node at the cursor.
+    here: u32,
+    /// The numbers of the nodes on the way to it, itself the last. There is room for those on the way to each node, so that no step takes memory.
+    trail: Vec<u32, &'a A>,
+}
+
+impl<'a, A: Allocator> Model for Arena<'a, A> {
+    ghost use Rattle.std.specs.Prelude.{vec_capacity};
+    ghost use Rattle.chess_tree.specs.steps.Rooted.{Rooted, coded_rooted};
+    ghost use Rattle.chess_tree.specs.steps.Notes.{noted_in};
+
+    ghost Value = { Rooted };
+
+    ghost coded = { coded_rooted };
+
+    ghost use Rattle.chess_tree.specs.steps.Laid.{seen, IsArena};
+
+    ghost view = { λ a. seen a.slots.items (noted_in a.notes) a.here };
+
+    ghost invariant = { λ a. IsArena a.slots.items (noted_in a.notes) a.free a.here a.trail.items (vec_capacity a.trail) };
+}
+
+impl<'a, A: Allocator> Arena<'a, A> {
+    /// A root, and no more.
+    pub(crate) fn new(alloc: &'a A) -> Result<Arena<'a, A>, AllocError>
+        ensures { IfOk result (λ a. a ≡ record { root = leaf no_move; path = [] }) }
+    {
+        let mut slots = Vec::new(alloc);
+        slots.push(Slot::leaf(Move::default(), 0))?;
+        Ok(Arena {
+            alloc,
+            slots,
+            notes: BTreeMap::new(alloc),
+            free: 0,
+            here: 0,
+            trail: Vec::new(alloc),
+        })
+    }
+
+    /// The allocator.
+    pub(crate) fn alloc(&self) -> &'a A {
+        self.alloc
+    }
+
+    /// Whether it holds 1,000,000 nodes beside the root.
+    pub(crate) fn is_full(&self) -> bool
+        ensures full { result ≡ nat_le 1000000 (moves_held self.now.root.below) }
+        ensures few { moves_held self.now.root.below ≤ 1000000 }
+    {
+        self.free == 0 && self.slots.len() == MOST_NODES
+    }
+
+    /// The root.
+    pub(crate) fn root(&self) -> NodeRef<'_, 'a, A>
+        ensures { result ≡ root_shown self.now.root }
+    {
+        NodeRef::new(self.slots.as_slice(), &self.notes, 0)
+    }
+
+    /// The node at the cursor.
+    pub(crate) fn node_here(&self) -> NodeRef<'_, 'a, A>
+        ensures { result ≡ node_of self.now.path (root_shown self.now.root) }
+    {
+        NodeRef::new(self.slots.as_slice(), &self.notes, self.here)
+    }
+
+    /// How many children the node at the cursor has.
+    pub(crate) fn child_count(&self) -> u32
+        ensures { result ≡ count (below_at self.now.path self.now.root.below) }
+    {
+        siblings::count(self.slots.as_slice(), self.here)
+    }
+
+    /// The place of the first child of the node at the cursor that has that move.
+    pub(crate) fn find(&self, played: Move) -> Option<u32>
+        ensures { result ≡ find played (below_at self.now.path self.now.root.below) }
+    {
+        siblings::find(self.slots.as_slice(), self.here, played)
+    }
+
+    /// How deep the cursor stands.
+    pub(crate) fn depth(&self) -> usize
+        ensures { result ≡ length self.now.path }
+    {
+        self.trail.len()
+    }
+
+    /// The place on the path at that depth.
+    pub(crate) fn place(&self, depth: usize) -> u32
+        requires { depth < length self.now.path }
+        ensures { result ≡ slice_index self.now.path depth }
+    {
+        let at = siblings::above(self.trail.as_slice(), depth);
+        siblings::place_of(self.slots.as_slice(), at, self.trail[depth])
+    }
+
+    /// The places on the path.
+    pub(crate) fn places(&self) -> Result<Vec<u32, &'a A>, AllocError>
+        ensures { IfOk result (λ places. places.items ≡ self.now.path) }
+    {
+        let mut places = Vec::with_capacity(self.alloc, self.trail.len())?;
+        for depth in 0..self.trail.len() {
+            places.push(self.place(depth))?;
+        }
+        Ok(places)
+    }
+
+    /// Steps down to the child at that place, if there is one.
+    pub(crate) fn down(&mut self, place: u32) -> bool
+        ensures there { result ≡ nat_lt place (count (below_at self.old.path self.old.root.below)) }
+        ensures path { result ≡ true → self.new ≡ path_root (self.old.path ++ place ∷ []) self.old }
+        ensures stays { result ≡ false → self.new ≡ self.old }
+    {
+        let child = siblings::child_at(self.slots.as_slice(), self.here, place);
+        if child == 0 {
+            return false;
+        }
+        let Ok(()) = self.trail.push(child) else {
+            unreachable!()
+        };
+        self.here = child;
+        true
+    }
+
+    /// Steps up to the parent.
+    pub(crate) fn up(&mut self)
+        requires { 0 < length self.old.path }
+        ensures { self.new ≡ path_root (parent self.old.path) self.old }
+    {
+        let Some(_gone) = self.trail.pop() else {
+            unreachable!()
+        };
+        self.here = slot(self.slots.as_slice(), self.here).parent;
+    }
+
+    /// Appends a child with that move at the cursor, and steps into it.
+    pub(crate) fn add(&mut self, played: Move) -> Result<(), AllocError>
+        requires { moves_held self.old.root.below < 1000000 }
+        ensures ok { OnOk result (self.new ≡ added_root played self.old) }
+        ensures err { OnErr result (self.new ≡ self.old) }
+    {
+        let here = self.here;
+        self.trail.reserve(1)?;
+        let number = put(&mut self.slots, &mut self.free, Slot::leaf(played, here))?;
+        notes::forget(&mut self.notes, number);
+        hang_last(&mut self.slots, here, number);
+        let Ok(()) = self.trail.push(number) else {
+            unreachable!()
+        };
+        self.here = number;
+        Ok(())
+    }
+
+    /// Takes out the node at the cursor and all below it, and steps up. No memory is taken, and the time doesn't depend on how
+    /// many they are: they are freed as the first of them is. Their notes are given back as their numbers are taken again.
+    pub(crate) fn remove(&mut self)
+        requires { 0 < length self.old.path }
+        ensures { self.new ≡ deleted_root self.old }
+    {
+        let child = self.here;
+        let at = slot(self.slots.as_slice(), child).parent;
+        let before = siblings::prior(self.slots.as_slice(), at, child);
+        unlink(&mut self.slots, at, before, child);
+        set_next(&mut self.slots, child, self.free);
+        self.free = child;
+        let Some(_gone) = self.trail.pop() else {
+            unreachable!()
+        };
+        self.here = at;
+    }
+
+    /// Moves the node at the cursor in front of its siblings.
+    pub(crate) fn promote(&mut self)
+        requires { 0 < length self.old.path }
+        ensures { self.new ≡ promoted_root self.old }
+    {
+        let child = self.here;
+        let at = slot(self.slots.as_slice(), child).parent;
+        let before = siblings::prior(self.slots.as_slice(), at, child);
+        unlink(&mut self.slots, at, before, child);
+        hang_first(&mut self.slots, at, child);
+    }
+
+    /// Appends an annotation number at the cursor.
+    pub(crate) fn add_nag(&mut self, nag: u8) -> Result<(), AllocError>
+        requires { 0 < length self.old.path }
+        ensures ok { OnOk result (self.new ≡ annotated_root nag self.old) }
+        ensures err { OnErr result (self.new ≡ self.old) }
+    {
+        notes::add_nag(&mut self.notes, self.alloc, self.here, nag)?;
+        Ok(())
+    }
+
+    /// Sets the comment at the cursor.
+    pub(crate) fn set_comment(&mut self, comment: Vec<u8, &'a A>) -> Result<(), AllocError>
+        ensures ok { OnOk result (self.new ≡ commented_root comment.entry.items self.old) }
+        ensures err { OnErr result (self.new ≡ self.old) }
+    {
+        notes::set_comment(&mut self.notes, self.alloc, self.here, comment)?;
+        Ok(())
+    }
+}

@@ -1,0 +1,6 @@
+use Rattle.chess_types.specs.steps.KeptSets.{SetsAreKept}
+use Rattle.chess_types.proofs.KeptLemmas.{so_far}
+use Rattle.chess_types.proofs.board.placement.Placement.from_cells.Given as goal
+
+abbrev pub invariant-loop-number : goal.invariant-loop-number
+invariant-loop-number l = SetsAreKept l.kept (so_far l.fn.cells l.number)

@@ -1,0 +1,17 @@
+-- A board: a finite map from squares to men (FIDE Laws, article 2.1; PGN 16.1.3.1).
+--   Board    the map
+--   Look     what stands on each square; the definitions of the Laws read a board by this alone
+--   man_at   the look of a board
+use Rattle.std.specs.Prelude.{ℕ, Option}
+use Rattle.std.specs.Ordering.{nat_cmp}
+use Rattle.std.specs.FinMap.{FinMap, get}
+use Rattle.chess_types.specs.declared.board.man.Man.{Man}
+
+abbrev pub Board : Type 0
+Board = FinMap nat_cmp Man
+
+abbrev pub Look : Type 0
+Look = ℕ → Option Man
+
+abbrev pub man_at : Board → Look
+man_at board square = get board square

@@ -1,0 +1,54 @@
+-- How a line stands, and which draws may be claimed (FIDE Laws, articles 5.1, 5.2, 9.2, 9.3 and 9.6).
+--   status_at     the first that holds of mate, stalemate, dead, fivefold, seventyfive and play, from the position and its repetitions
+--   status        of a line
+--   claims_at     what may be claimed in play
+--   claims        of a line; claims_with, with a named move that is not made yet
+-- After dead, fivefold and seventyfive the game is over, but analysis may go on: further moves are made as ever.
+use Rattle.std.specs.Prelude.{ℕ, nat_le, Bool, true, false, ◌&&◌, if◌then◌else◌, List, [], ◌∷◌, Option, Some, None}
+use Rattle.chess_types.specs.declared.board.outcome.Status.{Status}
+use Rattle.chess_types.specs.declared.board.outcome.Status.TheVariants.{Mate, Stalemate, Dead, Fivefold, Seventyfive, Play}
+use Rattle.chess_types.specs.declared.board.outcome.Claims.{Claims}
+use Rattle.chess_types.specs.board.Attack.{in_check}
+use Rattle.chess_types.specs.board.MoveParts.{MoveParts}
+use Rattle.chess_types.specs.board.Position.{State, look}
+use Rattle.chess_types.specs.board.Legal.{is_legal, legal_moves}
+use Rattle.chess_types.specs.board.Lines.{Line, last, extended}
+use Rattle.chess_types.specs.board.Repetition.{repetitions}
+use Rattle.chess_types.specs.board.Dead.{is_dead}
+
+-- the list has no move
+abbrev pub is_without : List MoveParts → Bool
+is_without [] = true
+is_without (m ∷ moves) = false
+
+-- mate (5.1.1), stalemate (5.2.1), dead (5.2.2), five times the same position (9.6.1), 75 moves without a capture or a pawn's move
+-- (9.6.2), a mate on the last of them apart; else the game goes on
+unfoldable pub status_at : State → ℕ → Status
+status_at p count =
+    if is_without (legal_moves p) then (if in_check (look p) p.side then Mate else Stalemate)
+    else (if is_dead p then Dead else (if nat_le 5 count then Fivefold else (if nat_le 150 p.clock then Seventyfive else Play)))
+
+unfoldable pub status : Line → Status
+status line = status_at (last line) (repetitions line)
+
+abbrev pub is_play : Status → Bool
+is_play Mate = false
+is_play Stalemate = false
+is_play Dead = false
+is_play Fivefold = false
+is_play Seventyfive = false
+is_play Play = true
+
+-- three times the same position (9.2), 50 moves without a capture or a pawn's move (9.3); neither where the game is over
+abbrev pub claims_at : Bool → ℕ → ℕ → Claims
+claims_at in_play count clock = record { threefold = in_play && nat_le 3 count; fifty = in_play && nat_le 100 clock }
+
+-- in the position as it stands (9.2.2, 9.3.2)
+unfoldable pub claims : Line → Claims
+claims line = claims_at (is_play (status line)) (repetitions line) (last line).clock
+
+-- with a legal move that the player means to make, in the position after it (9.2.1, 9.3.1); none with any other move
+unfoldable pub claims_with : Line → MoveParts → Option Claims
+claims_with line m =
+    if is_legal (last line) m
+    then Some (claims_at (is_play (status line)) (repetitions (extended line m)) (last (extended line m)).clock) else None

@@ -1,0 +1,22 @@
+//! Squares, men, moves as texts, placements and positions.
+
+mod axis;
+mod cell;
+mod kept;
+mod man;
+mod moves;
+mod outcome;
+mod placement;
+mod position;
+mod square;
+mod square_set;
+
+pub use axis::Axis;
+pub use cell::{holds_pawn, is_king_of, is_of, men_in};
+pub use man::{Colour, Kind, Man};
+pub use moves::Move;
+pub use outcome::{Claims, Status};
+pub use placement::Placement;
+pub use position::{Position, Rights, Setup, Wing};
+pub use square::Square;
+pub use square_set::{SquareSet, SquareSetIter};

@@ -1,0 +1,41 @@
+ghost use Rattle.std.specs.Prelude.{◌≡◌, count_by};
+ghost use Rattle.chess_types.specs.board.Men.{is_of, is_king_of, holds_pawn};
+
+use super::man::{Colour, Kind, Man};
+
+/// Whether a man of the colour stands on a square that holds this.
+pub fn is_of(colour: Colour, cell: Option<Man>) -> bool
+    ensures { result ≡ is_of colour cell }
+{
+    match cell {
+        None => false,
+        Some(man) => man.colour == colour,
+    }
+}
+
+/// Whether the king of the colour stands on a square that holds this.
+pub fn is_king_of(colour: Colour, cell: Option<Man>) -> bool
+    ensures { result ≡ is_king_of colour cell }
+{
+    match cell {
+        None => false,
+        Some(man) => man.colour == colour && man.kind == Kind::King,
+    }
+}
+
+/// Whether a pawn stands on a square that holds this.
+pub fn holds_pawn(cell: Option<Man>) -> bool
+    ensures { result ≡ holds_pawn cell }
+{
+    match cell {
+        None => false,
+        Some(man) => man.kind == Kind::Pawn,
+    }
+}
+
+/// How many of the cells hold a man of the colour.
+pub fn men_in(cells: &[Option<Man>], colour: Colour) -> usize
+    ensures { result ≡ count_by (is_of colour) cells.now }
+{
+    cells.iter().filter(|cell| is_of(colour, **cell)).count()
+}

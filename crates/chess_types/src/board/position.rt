@@ -1,0 +1,263 @@
+ghost use Rattle.std.specs.Prelude.{◌≡◌, replicate, ⊤};
+ghost use Rattle.chess_types.specs.declared.board.man.Kind.TheVariants.{Pawn};
+ghost use Rattle.chess_types.specs.board.Position.{IsQuiet, back_rank, cell_of, holds, king_home, rook_home, start, start_cells};
+ghost use Rattle.chess_types.specs.board.Pseudo.{crossed, reached};
+
+use super::man::{Colour, Kind, Man};
+use super::placement::Placement;
+use super::square::Square;
+use std::alloc::AllocError;
+use std::marker::Model;
+
+/// The two sides of the board to castle to (FIDE Laws 3.8.2).
+#[derive(Clone, Copy, Debug, PartialEq, Eq)]
+pub enum Wing {
+    KingSide,
+    QueenSide,
+}
+
+impl Colour {
+    /// Where the king stands as a game begins: e1 or e8.
+    pub fn king_home(self) -> Square
+        ensures { result ≡ king_home self }
+    {
+        Square::from_index(match self {
+            Colour::White => 4,
+            Colour::Black => 60,
+        })
+    }
+}
+
+impl Wing {
+    /// Where that wing's rook stands as a game begins: h1, a1, h8 or a8.
+    pub fn rook_home(self, colour: Colour) -> Square
+        ensures { result ≡ rook_home colour self }
+    {
+        Square::from_index(match (colour, self) {
+            (Colour::White, Wing::KingSide) => 7,
+            (Colour::White, Wing::QueenSide) => 0,
+            (Colour::Black, Wing::KingSide) => 63,
+            (Colour::Black, Wing::QueenSide) => 56,
+        })
+    }
+
+    /// The square that the king crosses when it castles to that wing, and that the rook comes to: f1, d1, f8 or d8.
+    pub fn crossed(self, colour: Colour) -> Square
+        ensures { result ≡ crossed colour self }
+    {
+        Square::from_index(match (colour, self) {
+            (Colour::White, Wing::KingSide) => 5,
+            (Colour::White, Wing::QueenSide) => 3,
+            (Colour::Black, Wing::KingSide) => 61,
+            (Colour::Black, Wing::QueenSide) => 59,
+        })
+    }
+
+    /// The square that the king reaches when it castles to that wing: g1, c1, g8 or c8.
+    pub fn reached(self, colour: Colour) -> Square
+        ensures { result ≡ reached colour self }
+    {
+        Square::from_index(match (colour, self) {
+            (Colour::White, Wing::KingSide) => 6,
+            (Colour::White, Wing::QueenSide) => 2,
+            (Colour::Black, Wing::KingSide) => 62,
+            (Colour::Black, Wing::QueenSide) => 58,
+        })
+    }
+}
+
+/// The castling rights, one for each colour and wing.
+#[derive(Clone, Copy, Debug, PartialEq, Eq)]
+pub struct Rights {
+    pub white_king: bool,
+    pub white_queen: bool,
+    pub black_king: bool,
+    pub black_queen: bool,
+}
+
+impl Rights {
+    /// Whether the colour may still castle to that wing.
+    pub fn holds(self, colour: Colour, wing: Wing) -> bool
+        ensures { result ≡ holds self colour wing }
+    {
+        match (colour, wing) {
+            (Colour::White, Wing::KingSide) => self.white_king,
+            (Colour::White, Wing::QueenSide) => self.white_queen,
+            (Colour::Black, Wing::KingSide) => self.black_king,
+            (Colour::Black, Wing::QueenSide) => self.black_queen,
+        }
+    }
+}
+
+/// The six fields of a position, with every part of 'well formed' but the last: the side not to move may be in check.
+/// Contracts see the record `State` of `specs/Position.antt`.
+#[derive(Drop)]
+pub struct Setup {
+    /// The men.
+    pub placement: Placement,
+    /// The side to move.
+    pub side: Colour,
+    /// The castling rights, each held only where that king and rook stand at home.
+    pub rights: Rights,
+    /// The en passant target: the square passed over by a pawn's advance of two squares just made.
+    pub target: Option<Square>,
+    /// The halfmove clock: plies since the last pawn move or capture.
+    pub clock: u32,
+    /// The fullmove number, at least 1, one more after each move of Black.
+    pub number: u32,
+}
+
+impl Model for Setup {
+    ghost use Rattle.chess_types.specs.board.Position.{State};
+    ghost use Rattle.chess_types.specs.steps.StateCode.{coded_state};
+
+    ghost Value = { State };
+
+    ghost coded = { coded_state };
+
+    ghost use Rattle.chess_types.specs.board.Position.{IsSetup};
+
+    ghost view = { λ s. record { placement = s.placement; side = s.side; rights = s.rights; target = s.target; clock = s.clock; number = s.number } };
+
+    ghost invariant = { λ s. IsSetup (record { placement = s.placement; side = s.side; rights = s.rights; target = s.target; clock = s.clock; number = s.number }) };
+}
+
+impl Clone for Setup {
+    ghost is_clone = { λ setup copy. copy ≡ setup };
+
+    ghost is_infallible = { λ _. ⊤ };
+
+    /// The same six fields; never an error.
+    fn clone(&self) -> Result<Setup, AllocError> {
+        Ok(Setup {
+            placement: self.placement.clone()?,
+            side: self.side,
+            rights: self.rights,
+            target: self.target,
+            clock: self.clock,
+            number: self.number,
+        })
+    }
+}
+
+// A man on a square.
+fn cell_of(colour: Colour, kind: Kind) -> Option<Man>
+    ensures { result ≡ cell_of colour kind }
+{
+    Some(Man { colour, kind })
+}
+
+// A side's men behind its pawns, from file a.
+fn back_rank(colour: Colour) -> [Option<Man>; 8]
+    ensures { result ≡ back_rank colour }
+{
+    [
+        cell_of(colour, Kind::Rook),
+        cell_of(colour, Kind::Knight),
+        cell_of(colour, Kind::Bishop),
+        cell_of(colour, Kind::Queen),
+        cell_of(colour, Kind::King),
+        cell_of(colour, Kind::Bishop),
+        cell_of(colour, Kind::Knight),
+        cell_of(colour, Kind::Rook),
+    ]
+}
+
+// A side's pawns.
+fn pawns(colour: Colour) -> [Option<Man>; 8]
+    ensures { result ≡ replicate 8 (cell_of colour Pawn) }
+{
+    [cell_of(colour, Kind::Pawn); 8]
+}
+
+// The 64 squares as a game begins.
+fn start_cells() -> [Option<Man>; 64]
+    ensures { result ≡ start_cells }
+{
+    let mut cells = [None; 64];
+    cells[..8].copy_from_slice(&back_rank(Colour::White));
+    cells[8..16].copy_from_slice(&pawns(Colour::White));
+    cells[48..56].copy_from_slice(&pawns(Colour::Black));
+    cells[56..].copy_from_slice(&back_rank(Colour::Black));
+    cells
+}
+
+/// A well-formed position: a setup in which the side not to move isn't in check.
+#[derive(Drop)]
+pub struct Position {
+    setup: Setup,
+}
+
+impl Model for Position {
+    ghost use Rattle.chess_types.specs.board.Position.{State};
+    ghost use Rattle.chess_types.specs.steps.StateCode.{coded_state};
+
+    ghost Value = { State };
+
+    ghost coded = { coded_state };
+
+    ghost use Rattle.chess_types.specs.board.Position.{IsQuiet};
+
+    ghost view = { λ p. p.setup };
+
+    ghost invariant = { λ p. IsQuiet p.setup };
+}
+
+impl Clone for Position {
+    ghost is_clone = { λ position copy. copy ≡ position };
+
+    ghost is_infallible = { λ _. ⊤ };
+
+    /// The same position; never an error.
+    fn clone(&self) -> Result<Position, AllocError> {
+        Ok(Position {
+            setup: self.setup.clone()?,
+        })
+    }
+}
+
+impl Position {
+    /// The position of these fields, in which the side not to move isn't in check.
+    pub fn new(setup: Setup) -> Position
+        requires { IsQuiet setup }
+        ensures { result ≡ setup }
+    {
+        Position { setup }
+    }
+
+    /// The position in which a game begins (FIDE Laws 2.3).
+    pub fn start() -> Position
+        ensures { result ≡ start }
+    {
+        Position::new(Setup {
+            placement: Placement::from_cells(start_cells()),
+            side: Colour::White,
+            rights: Rights {
+                white_king: true,
+                white_queen: true,
+                black_king: true,
+                black_queen: true,
+            },
+            target: None,
+            clock: 0,
+            number: 1,
+        })
+    }
+
+    /// The fields.
+    pub fn setup(&self) -> &Setup
+        ensures value { result.now ≡ self.now }
+        ensures quiet { IsQuiet self.now }
+    {
+        &self.setup
+    }
+
+    /// The fields, for whom the position is no longer needed.
+    pub fn into_setup(self) -> Setup
+        ensures value { result ≡ self }
+        ensures quiet { IsQuiet self }
+    {
+        let Position { setup } = self;
+        setup
+    }
+}
