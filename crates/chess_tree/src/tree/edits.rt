@@ -10,6 +10,8 @@ use std::alloc::Allocator;
 impl<'a, A: Allocator> Tree<'a, A> {
     /// Takes out the node at the cursor and all below it, and steps to its parent; its siblings keep their order. No
     /// memory is taken. `AtRoot` at the root.
+    ///
+    /// The notes of the nodes taken out are given back when their room is taken again, or with the tree.
     pub fn delete(&mut self) -> Result<(), TreeFault>
         ensures ok { OnOk result (self.new ≡ deleted self.old) }
         ensures line { OnOk result (GoesOn self.new self.old) }
