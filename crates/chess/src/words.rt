@@ -53,6 +53,7 @@ Lines of board:
   status       mate, stalemate, dead, fivefold, seventyfive or play
   claims       the draws that may be claimed
   claim MOVE   those that may be claimed with that move
+  best DEPTH   the best move, 1 to 16 plies deep, and its score
 An answer `refused N NAME` changes nothing; docs/FORMATS.md lists the refusals.";
 
 fn matched<S: AsStr>(alloc: Global, words: &[S]) -> Result<Option<Asked>, Error> {

@@ -1,17 +1,22 @@
 //! Measures puts and clears: how many a second the attack counts and the evaluation follow, and how many counts each changes. Then moves
-//! written in standard algebraic notation and read back: how many a second.
+//! written in standard algebraic notation and read back: how many a second. Then searches: how many positions each asks for, and how
+//! many a second.
 //!
 //! Men are taken from the boards of a fixed list and put on others of their squares, chosen by a fixed seed. What is counted
 //! goes to standard output and is the same at each run; the rate goes to standard error.
 #![tactic(auto)]
 
 mod exercise;
+mod searches;
 mod texts;
 
+use chess_draws::Line;
 use chess_fen::read;
 use chess_key::KeyTable;
 use chess_play::Live;
+use chess_search::{Nodes, score_text};
 use exercise::{Exercise, Ticks};
+use searches::best_of_all;
 use std::io;
 use std::time::Instant;
 use texts::Texts;
@@ -29,6 +34,11 @@ const CHANGES: u32 = 400_000;
 
 /// How often each legal move of a position is written and read.
 const ROUNDS: u32 = 1_000;
+
+/// How many of the positions are searched, and how deep.
+const SEARCHED: usize = 3;
+
+const DEPTH: u8 = 5;
 
 /// So many a second.
 fn rate(number: u64, micros: u128) -> u64 {
@@ -58,6 +68,26 @@ fn exchange(rt: &HostRuntime) -> io::Result<()> {
     eprintln!(rt; "{rate} a second")
 }
 
+/// The best move of a position, and how many positions were asked for.
+fn search(rt: &HostRuntime, fen: &str) -> io::Result<()> {
+    let Ok(position) = read(fen.as_bytes()) else {
+        return println!(rt; "no position: {fen}");
+    };
+    let table = KeyTable::new([0; 768]);
+    let mut line = Line::start(rt.alloc(), position, &table);
+    let mut nodes = Nodes::new();
+    let begun = Instant::now(rt)?;
+    let best = best_of_all(&mut line, DEPTH, &mut nodes);
+    let elapsed = begun.elapsed(rt)?;
+    let asked = nodes.nodes();
+    let rate = rate(asked, elapsed.as_micros());
+    if let Some((m, value)) = best {
+        let (text, score) = (m.text(), score_text(value));
+        println!(rt; "{DEPTH} plies deep: {text} {score}, {asked} positions")?;
+    }
+    eprintln!(rt; "{rate} a second")
+}
+
 fn main(rt: HostRuntime) -> io::Result<()> {
     let begun = Instant::now(&rt)?;
     let mut all = Ticks::default();
@@ -80,5 +110,9 @@ fn main(rt: HostRuntime) -> io::Result<()> {
     println!(rt; "{changes} puts and clears; ticks: {whole}.{part:02} on average, {most} at most")?;
     let rate = rate(changes, elapsed.as_micros());
     eprintln!(rt; "{rate} a second")?;
-    exchange(&rt)
+    exchange(&rt)?;
+    for fen in &POSITIONS[..SEARCHED] {
+        search(&rt, fen)?;
+    }
+    Ok(())
 }

@@ -6,7 +6,6 @@ pub mod LineLemmas
 pub mod RunLemmas
 pub mod TextLemmas
 pub mod ListLemmas
-pub mod CursorLemmas
 pub mod SendingLemmas
 pub mod FeedLemmas
 pub mod AnswerLemmas

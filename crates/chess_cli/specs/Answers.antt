@@ -1,7 +1,7 @@
 -- What the board answers to a line of the input, and its game tree and cursor afterwards. Nothing here keeps a number: the counts, the
 -- evaluation, the repetitions and the status are those that the definitions give afresh for the starting position and the moves from the
 -- root to the cursor.
-use Rattle.std.specs.Prelude.{◌≡◌, ℕ, ◌+◌, ◌*◌, ◌<◌, nat_le, nat_lt, Bool, true, false, if◌then◌else◌, ◌⊎◌, ⊤, List, [], ◌∷◌, ◌++◌, length, map, filter, Option, Some, None, Result, Ok, Err, codes, decimal}
+use Rattle.std.specs.Prelude.{◌≡◌, ℕ, ◌+◌, ◌*◌, ◌<◌, nat_le, nat_lt, Bool, true, false, if◌then◌else◌, ◌⊎◌, ⊤, List, [], ◌∷◌, ◌++◌, length, map, filter, Option, Some, None, Result, Ok, Err, codes, decimal, ℤ}
 use Rattle.std.specs.Fmt.{signed_decimal}
 use Rattle.std.specs.List.{range_with_len}
 use Rattle.chess_types.specs.declared.board.man.Colour.{Colour}
@@ -21,6 +21,8 @@ use Rattle.chess_fen.specs.Reading.{reading}
 use Rattle.chess_fen.specs.Writing.{written}
 use Rattle.chess_san.specs.declared.fault.SanFault.{SanFault}
 use Rattle.chess_san.specs.Naming.{reading as move_reading}
+use Rattle.chess_search.specs.Best.{best}
+use Rattle.chess_search.specs.Scores.{score_text}
 use Rattle.chess_tree.specs.Forest.{Bare, count as count_children, moves_held}
 use Rattle.chess_tree.specs.Edits.{parent}
 use Rattle.chess_tree.specs.Comments.{has_brace, normalised}
@@ -31,7 +33,7 @@ use Rattle.chess_cli.specs.Refusals.{number_of, name_of, san_refusal}
 use Rattle.chess_cli.specs.Gaps.{parted_by}
 use Rattle.chess_cli.specs.Numbers.{path_text}
 use Rattle.chess_cli.specs.Outcomes.{status_text, claims_text}
-use Rattle.chess_cli.specs.Requests.{Request, Blank, New, Set, Counts, Eval, Fen, Moves, Checks, Play, Back, Step, Start, End, Goto, Path, Promote, Delete, Comment, Nag, Count, Status, Claims, Claim, Unknown, Malformed, request}
+use Rattle.chess_cli.specs.Requests.{Request, Blank, New, Set, Counts, Eval, Fen, Moves, Checks, Play, Back, Step, Start, End, Goto, Path, Promote, Delete, Comment, Nag, Count, Status, Claims, Claim, Best, Unknown, Malformed, request}
 
 abbrev pub ok : List ℕ
 ok = codes "ok\n"
@@ -131,6 +133,11 @@ counts_of p colour = counts_text (count (look p) colour)
 abbrev pub checks_of : State → List ℕ
 checks_of p = list_text (map square_text (filter (checks_from (look p) p.side) squares))
 
+-- a move and its score, parted by one space
+abbrev pub best_text : Option (MoveParts × ℤ) → List ℕ
+best_text None = codes "none"
+best_text (Some (m, value)) = move_text m ++ codes " " ++ score_text value
+
 -- what a request does to a tree, where it is asked at the cursor
 abbrev pub effect : TreeParts → Request → Effect
 effect t Blank = Says []
@@ -156,6 +163,7 @@ effect t Count = says_line (decimal (repetitions (line_to t)))
 effect t Status = says_line (status_text (status (line_to t)))
 effect t Claims = says_line (claims_text (claims (line_to t)))
 effect t (Claim word) = claim_effect (line_to t) (move_reading (last (line_to t)) word)
+effect t (Best depth) = says_line (best_text (best false depth (line_to t) (legal_moves (last (line_to t)))))
 effect t Unknown = Refuses Command
 effect t Malformed = Refuses Argument
 
@@ -202,6 +210,7 @@ takes_memory Count = false
 takes_memory Status = false
 takes_memory Claims = false
 takes_memory (Claim word) = false
+takes_memory (Best depth) = false
 takes_memory Unknown = false
 takes_memory Malformed = false
 

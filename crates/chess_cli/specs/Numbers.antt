@@ -1,6 +1,7 @@
 -- Numbers and paths in commands.
 --   is_number   the word writes a number
 --   number_in   the number that a word writes
+--   depth_in    the depth that a word writes
 --   path_in     the path that a word writes
 --   path_text   the word that writes a path
 --   ReadsPath   a word is read as a path
@@ -20,6 +21,10 @@ is_number word = list_all is_ascii_digit word && nat_le 1 (length word) && nat_l
 -- the number that its digits write
 unfoldable pub number_in : List ℕ → Option ℕ
 number_in word = if is_number word then Some (digits_value 10 word) else None
+
+-- a depth of a search is one of 1 to 16 plies
+abbrev pub depth_in : List ℕ → Option ℕ
+depth_in word = option_and_then (λ depth. if nat_le 1 depth && nat_le depth 16 then Some depth else None) (number_in word)
 
 -- the numbers that all the words write
 abbrev pub numbers_in : List (List ℕ) → Option (List ℕ)

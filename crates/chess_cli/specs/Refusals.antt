@@ -5,6 +5,8 @@ use Rattle.chess_san.specs.declared.fault.SanFault.{SanFault}
 use Rattle.chess_san.specs.declared.fault.SanFault.TheVariants as san
 use Rattle.chess_tree.specs.declared.fault.TreeFault.{TreeFault}
 use Rattle.chess_tree.specs.declared.fault.TreeFault.TheVariants as tree
+use Rattle.chess_tree.specs.declared.fault.PlayFault.{PlayFault}
+use Rattle.chess_tree.specs.declared.fault.PlayFault.TheVariants as play
 use Rattle.chess_cli.specs.declared.refusal.Refusal.{Refusal}
 use Rattle.chess_cli.specs.declared.refusal.Refusal.TheVariants.{Fen, Form, NoSuch, Illegal, TooLong, AtRoot, Ambiguous, Full, BadComment, Memory, Command, Argument, LongLine}
 
@@ -45,6 +47,13 @@ tree_refusal tree.AtRoot = AtRoot
 tree_refusal tree.Full = Full
 tree_refusal tree.BadComment = BadComment
 tree_refusal tree.Memory = Memory
+
+-- why a move isn't played, as the board tells it
+abbrev pub play_refusal : PlayFault → Refusal
+play_refusal play.Illegal = Illegal
+play_refusal play.TooLong = TooLong
+play_refusal play.Full = Full
+play_refusal play.Memory = Memory
 
 -- a text that names no one move, as the board tells it
 abbrev pub san_refusal : SanFault → Refusal

@@ -4,7 +4,7 @@ use Rattle.std.specs.Str.{bytes_eq}
 use Rattle.chess_types.specs.declared.board.man.Colour.{Colour}
 use Rattle.chess_types.specs.declared.board.man.Colour.TheVariants.{White, Black}
 use Rattle.chess_types.specs.bytes.Words.{words, skip_gaps, after_word, trimmed}
-use Rattle.chess_cli.specs.Numbers.{number_in, path_in}
+use Rattle.chess_cli.specs.Numbers.{number_in, depth_in, path_in}
 
 pub data Request : Type 0 where
   -- nothing: the line has no words
@@ -52,6 +52,8 @@ pub data Request : Type 0 where
   Claims : Request
   -- `claim M`: those that may be claimed with a move
   Claim : List ℕ → Request
+  -- `best D`: the best move, so many plies deep
+  Best : ℕ → Request
   -- another first word
   Unknown : Request
   -- a command with the wrong words behind it
@@ -128,6 +130,7 @@ asked line (word ∷ others) =
     else if bytes_eq word (codes "status") then alone Status others
     else if bytes_eq word (codes "claims") then alone Claims others
     else if bytes_eq word (codes "claim") then with_word Claim others
+    else if bytes_eq word (codes "best") then with_value depth_in Best others
     else Unknown
 
 abbrev pub request : List ℕ → Request

@@ -1,7 +1,7 @@
 ghost use Rattle.std.specs.Prelude.{◌≡◌, Some, None, IfSome, IfNone};
 ghost use Rattle.chess_types.specs.bytes.Words.{words};
-ghost use Rattle.chess_cli.specs.Requests.{gaps, request, without_return, alone, only_word as only_word_of, with_colour, with_word, with_value, nag_in, Counts as CountsOf, Play as PlayOf, Claim as ClaimOf, Goto as GotoOf, Step as StepOf, Nag as NagOf};
-ghost use Rattle.chess_cli.specs.Numbers.{number_in as number_in_of, path_in};
+ghost use Rattle.chess_cli.specs.Requests.{gaps, request, without_return, alone, only_word as only_word_of, with_colour, with_word, with_value, nag_in, Best as BestOf, Counts as CountsOf, Play as PlayOf, Claim as ClaimOf, Goto as GotoOf, Step as StepOf, Nag as NagOf};
+ghost use Rattle.chess_cli.specs.Numbers.{depth_in, number_in as number_in_of, path_in};
 ghost use Rattle.chess_cli.specs.steps.Commands.{request_of};
 
 use super::numbers::number_in;
@@ -57,6 +57,8 @@ pub enum Command<'a> {
     Claims,
     /// Those that may be claimed with the move of a text.
     Claim(&'a [u8]),
+    /// The best move, as deep as a word writes; a word that writes no depth is as wrong as a wrong number of them.
+    Best(&'a [u8]),
     /// Another first word.
     Unknown,
     /// Wrong words behind a command.
@@ -168,6 +170,16 @@ fn nag(rest: &[u8]) -> Command<'_>
     }
 }
 
+// The depth of the word behind `best`.
+fn best(rest: &[u8]) -> Command<'_>
+    ensures { request_of result ≡ with_value depth_in BestOf (words gaps rest.now) }
+{
+    match only_word(rest) {
+        None => Command::Malformed,
+        Some(word) => Command::Best(word),
+    }
+}
+
 /// What the line asks for.
 pub fn asked(line: &[u8]) -> Command<'_>
     ensures { request_of result ≡ request line.now }
@@ -219,6 +231,8 @@ pub fn asked(line: &[u8]) -> Command<'_>
         alone(Command::Claims, rest)
     } else if word == b"claim".as_slice() {
         claim(rest)
+    } else if word == b"best".as_slice() {
+        best(rest)
     } else {
         Command::Unknown
     }

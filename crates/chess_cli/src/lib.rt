@@ -7,7 +7,6 @@
 mod answer;
 mod buffers;
 mod command;
-mod cursor;
 mod ended;
 mod engine;
 mod keys;

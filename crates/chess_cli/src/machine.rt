@@ -1,4 +1,4 @@
-ghost use Rattle.std.specs.Prelude.{◌≡◌, ℕ, List, ◌+◌, ◌≤◌, ◌++◌, ◌∷◌, [], IfOk, decimal, length, map};
+ghost use Rattle.std.specs.Prelude.{◌≡◌, ℕ, List, ◌+◌, ◌≤◌, ◌++◌, ◌∷◌, [], IfOk, decimal, length, map, nat_lt, false};
 ghost use Rattle.std.specs.Fmt.{signed_decimal};
 ghost use Rattle.chess_types.specs.board.Texts.{move_text};
 ghost use Rattle.chess_types.specs.board.Legal.{legal_moves};
@@ -7,11 +7,13 @@ ghost use Rattle.chess_types.specs.board.Repetition.{repetitions};
 ghost use Rattle.chess_types.specs.board.Outcome.{status, claims};
 ghost use Rattle.chess_types.specs.board.Position.{start, look};
 ghost use Rattle.chess_eval.specs.Evaluation.{evaluation};
-ghost use Rattle.chess_tree.specs.GameTree.{TreeParts, annotated_here, at_path, line_to, promoted_here};
+ghost use Rattle.chess_tree.specs.Forest.{count as count_children};
+ghost use Rattle.chess_tree.specs.Edits.{parent};
+ghost use Rattle.chess_tree.specs.GameTree.{TreeParts, annotated_here, at_path, deleted, line_to, main_line, nodes_here, promoted_here};
 ghost use Rattle.chess_cli.specs.Outcomes.{claims_text, status_text};
-ghost use Rattle.chess_cli.specs.Numbers.{path_in};
-ghost use Rattle.chess_cli.specs.Answers.{Answers, Does, HasEffect, HasEffectSurely, Tells, TellsBy, beginning, checks_of, claim_effect, comment_effect, counts_of, list_text, off_root, play_effect, set_effect, told, tree_from};
-ghost use Rattle.chess_cli.specs.steps.Replies.{IsOnPage, path_effect};
+ghost use Rattle.chess_cli.specs.Numbers.{depth_in, path_in};
+ghost use Rattle.chess_cli.specs.Answers.{Answers, Does, HasEffect, HasEffectSurely, Tells, TellsBy, beginning, checks_of, claim_effect, comment_effect, counts_of, if_there, list_text, off_root, play_effect, set_effect, told, tree_from};
+ghost use Rattle.chess_cli.specs.steps.Replies.{IsOnPage, best_effect, path_effect};
 ghost use Rattle.chess_cli.specs.Requests.{request};
 ghost use Rattle.chess_cli.specs.steps.Sending.{Sends};
 ghost use Rattle.chess_fen.specs.Reading.{reading};
@@ -21,31 +23,28 @@ ghost use Rattle.chess_fen.specs.Writing.{written};
 use super::answer::{Told, put_done, put_refused};
 use super::buffers::filled;
 use super::command::{Command, asked};
-use super::cursor;
 use super::engine::Engine;
 use super::lists::{put_moves, squares_text};
-use super::numbers::{PLACES, PathWord, read_path};
-use super::outcomes::{claims_text, status_text};
+use super::numbers::{PLACES, PathWord, depth_in, read_path};
+use super::outcomes::{best_text, claims_text, status_text};
 use super::page::Page;
 use super::path::write_path;
-use super::refusal::{Refusal, of_san, of_tree};
+use super::refusal::{Refusal, of_play, of_san, of_tree};
 use super::texts::{counts_text, eval_text};
 use super::unfinished::{Reading, Unfinished};
 use chess_attack::checkers;
-use chess_draws::Line;
 use chess_key::KeyTable;
 use chess_play::Live;
-use chess_tree::{Tree, TreeFault};
+use chess_tree::{Analysis, Tree, TreeFault};
 use chess_types::{Colour, Failed, Position, Sink};
 use itoa::Buffer;
 use std::alloc::Allocator;
 use std::marker::Model;
 
-/// The board between two lines of input: a game tree with a cursor, and the line from the root to it.
+/// The board between two lines of input: an analysis, which is a game tree with a cursor and the line from the root to it.
 #[derive(Drop)]
 pub struct Board<'k, A: Allocator> {
-    tree: Tree<'k, A>,
-    line: Line<'k, &'k A>,
+    analysis: Analysis<'k, A>,
     // The path of a `goto` is read into it.
     places: Vec<u32, &'k A>,
     alloc: &'k A,
@@ -60,12 +59,11 @@ impl<'k, A: Allocator> Model for Board<'k, A> {
 
     ghost coded = { coded_tree };
 
-    ghost view = { λ b. b.tree };
+    ghost view = { λ b. b.analysis };
 
     ghost use Rattle.std.specs.Prelude.{◌≡◌, vec_len};
-    ghost use Rattle.chess_tree.specs.GameTree.{line_to};
 
-    ghost invariant = { λ b. (b.line.line ≡ line_to b.tree) × (vec_len b.places ≡ 20000) };
+    ghost invariant = { λ b. vec_len b.places ≡ 20000 };
 }
 
 // The position in which a game begins.
@@ -84,11 +82,9 @@ impl<'k, A: Allocator> Board<'k, A> {
         ensures { IfOk result (λ board. board ≡ beginning) }
     {
         let places = filled(alloc, 0, PLACES)?;
-        let tree = Tree::new(alloc, start_position())?;
-        let line = Line::start(alloc, start_position(), table);
+        let analysis = Analysis::new(alloc, start_position(), table)?;
         Ok(Board {
-            tree,
-            line,
+            analysis,
             places,
             alloc,
             table,
@@ -99,7 +95,7 @@ impl<'k, A: Allocator> Board<'k, A> {
     pub fn tree(&self) -> &Tree<'k, A>
         ensures { result.now ≡ self.now }
     {
-        &self.tree
+        self.analysis.tree()
     }
 
     /// The position at the cursor with the numbers kept for it. The move that led to it, made or taken back, changed at most 216 counts.
@@ -107,7 +103,7 @@ impl<'k, A: Allocator> Board<'k, A> {
         ensures position { result.now.position ≡ last (line_to self.now) }
         ensures at_most { result.now.ticks ≤ 216 }
     {
-        self.line.live()
+        self.analysis.live()
     }
 
     /// Answers a line that was read whole, behind what stands on the page; of the answer to `path` there is nothing yet.
@@ -125,22 +121,21 @@ impl<'k, A: Allocator> Board<'k, A> {
             Command::Moves => self.moves(page),
             Command::Checks => self.checks(page),
             Command::Play(word) => put_done(page, self.play(word)),
-            Command::Back => put_done(page, cursor::back(&mut self.tree, &mut self.line)),
-            Command::Step(place) => {
-                put_done(page, cursor::step(&mut self.tree, &mut self.line, place));
-            }
+            Command::Back => put_done(page, self.back()),
+            Command::Step(place) => put_done(page, self.step(place)),
             Command::Start => put_done(page, self.start()),
-            Command::End => put_done(page, cursor::end(&mut self.tree, &mut self.line)),
+            Command::End => put_done(page, self.end()),
             Command::Goto(word) => put_done(page, self.goto(word)),
             Command::Path => return Told::Path,
             Command::Promote => put_done(page, self.promote()),
-            Command::Delete => put_done(page, cursor::delete(&mut self.tree, &mut self.line)),
+            Command::Delete => put_done(page, self.delete()),
             Command::Comment(comment) => put_done(page, self.comment(comment)),
             Command::Nag(nag) => put_done(page, self.nag(nag)),
             Command::Count => self.count(page),
             Command::Status => self.status(page),
             Command::Claims => self.claims(page),
             Command::Claim(word) => self.claim(word, page),
+            Command::Best(word) => self.best(word, page),
             Command::Unknown => put_refused(page, Refusal::Command),
             Command::Malformed => put_refused(page, Refusal::Argument),
         }
@@ -159,7 +154,7 @@ impl<'k, A: Allocator> Board<'k, A> {
     {
         match self.tell(line, page) {
             Told::Whole => {}
-            Told::Path => return write_path(&self.tree, page, writer),
+            Told::Path => return write_path(self.tree(), page, writer),
         }
         Ok(())
     }
@@ -170,11 +165,7 @@ impl<'k, A: Allocator> Board<'k, A> {
         requires number { position.number ≤ 99999 }
         ensures { HasEffect (Does (tree_from position)) self.old result self.new }
     {
-        let Ok(root) = position.clone() else {
-            unreachable!();
-        };
-        self.tree = Tree::new(self.alloc, root).map_err(of_tree)?;
-        self.line = Line::start(self.alloc, position, self.table);
+        self.analysis = Analysis::new(self.alloc, position, self.table).map_err(of_tree)?;
         Ok(())
     }
 
@@ -209,7 +200,7 @@ impl<'k, A: Allocator> Board<'k, A> {
         requires room { length page.old + 2600 ≤ 65536 }
         ensures { page.new ≡ page.old ++ (written (last (line_to self.now)) ++ 10 ∷ []) }
     {
-        page.put_line(chess_fen::write(&self.line.position()).as_str());
+        page.put_line(chess_fen::write(&self.analysis.position()).as_str());
     }
 
     // The legal moves.
@@ -218,7 +209,7 @@ impl<'k, A: Allocator> Board<'k, A> {
         ensures text { page.new ≡ page.old ++ (list_text (map move_text (legal_moves (last (line_to self.old)))) ++ 10 ∷ []) }
         ensures state { self.new ≡ self.old }
     {
-        let moves = self.line.moves();
+        let moves = self.analysis.moves();
         put_moves(page, moves.as_slice());
         page.put(b"\n");
     }
@@ -236,17 +227,39 @@ impl<'k, A: Allocator> Board<'k, A> {
     fn play(&mut self, word: &[u8]) -> Result<(), Refusal>
         ensures { HasEffect (play_effect self.old (move_reading (last (line_to self.old)) word.now)) self.old result self.new }
     {
-        match self.line.read_move(word) {
-            Ok(m) => cursor::play(&mut self.tree, &mut self.line, m),
+        match self.analysis.read_move(word) {
+            Ok(m) => self.analysis.play(m).map_err(of_play),
             Err(fault) => Err(of_san(fault)),
         }
+    }
+
+    // Steps to the parent.
+    fn back(&mut self) -> Result<(), Refusal>
+        ensures { HasEffectSurely (off_root self.old.path (at_path (parent self.old.path) self.old)) self.old result self.new }
+    {
+        self.analysis.back().map_err(of_tree)
+    }
+
+    // Steps to a child.
+    fn step(&mut self, place: u32) -> Result<(), Refusal>
+        ensures { HasEffectSurely (if_there (nat_lt place (count_children (nodes_here self.old))) (at_path (self.old.path ++ place ∷ []) self.old)) self.old result self.new }
+    {
+        self.analysis.step(place).map_err(of_tree)
     }
 
     // Goes to the root.
     fn start(&mut self) -> Result<(), Refusal>
         ensures { HasEffectSurely (Does (at_path [] self.old)) self.old result self.new }
     {
-        cursor::start(&mut self.tree, &mut self.line);
+        self.analysis.start();
+        Ok(())
+    }
+
+    // Goes along the main continuations.
+    fn end(&mut self) -> Result<(), Refusal>
+        ensures { HasEffectSurely (Does (at_path (self.old.path ++ main_line (nodes_here self.old)) self.old)) self.old result self.new }
+    {
+        self.analysis.end();
         Ok(())
     }
 
@@ -254,14 +267,16 @@ impl<'k, A: Allocator> Board<'k, A> {
     fn goto(&mut self, word: &[u8]) -> Result<(), Refusal>
         ensures { HasEffect (path_effect self.old (path_in word.now)) self.old result self.new }
     {
-        // No node of a tree is more than 20,000 plies deep.
-        let _start = self.tree.position();
         match read_path(word, self.places.as_mut_slice()) {
             PathWord::Malformed => Err(Refusal::Argument),
-            PathWord::TooLong => Err(Refusal::NoSuch),
+            PathWord::TooLong => {
+                // No node is more than 20,000 plies deep, as the clause `game` tells.
+                let _tree = self.analysis.tree();
+                Err(Refusal::NoSuch)
+            }
             PathWord::Read(count) => {
                 let path = &self.places.as_slice()[..count];
-                cursor::goto(&mut self.tree, &mut self.line, path)
+                self.analysis.goto(path).map_err(of_tree)
             }
         }
     }
@@ -270,21 +285,28 @@ impl<'k, A: Allocator> Board<'k, A> {
     fn promote(&mut self) -> Result<(), Refusal>
         ensures { HasEffectSurely (off_root self.old.path (promoted_here self.old)) self.old result self.new }
     {
-        self.tree.promote().map_err(of_tree)
+        self.analysis.promote().map_err(of_tree)
+    }
+
+    // Takes out the node and all below it.
+    fn delete(&mut self) -> Result<(), Refusal>
+        ensures { HasEffectSurely (off_root self.old.path (deleted self.old)) self.old result self.new }
+    {
+        self.analysis.delete().map_err(of_tree)
     }
 
     // A text for the node's comment.
     fn comment(&mut self, comment: &[u8]) -> Result<(), Refusal>
         ensures { HasEffect (comment_effect self.old comment.now) self.old result self.new }
     {
-        self.tree.set_comment(comment).map_err(of_tree)
+        self.analysis.set_comment(comment).map_err(of_tree)
     }
 
     // An annotation number more.
     fn nag(&mut self, nag: u8) -> Result<(), Refusal>
         ensures { HasEffect (off_root self.old.path (annotated_here nag self.old)) self.old result self.new }
     {
-        self.tree.add_nag(nag).map_err(of_tree)
+        self.analysis.add_nag(nag).map_err(of_tree)
     }
 
     // How often the position has come up.
@@ -293,7 +315,7 @@ impl<'k, A: Allocator> Board<'k, A> {
         ensures text { page.new ≡ page.old ++ (decimal (repetitions (line_to self.old)) ++ 10 ∷ []) }
         ensures state { self.new ≡ self.old }
     {
-        page.put_line(Buffer::new().format(self.line.count()));
+        page.put_line(Buffer::new().format(self.analysis.count()));
     }
 
     // How the game stands.
@@ -302,7 +324,7 @@ impl<'k, A: Allocator> Board<'k, A> {
         ensures text { page.new ≡ page.old ++ (status_text (status (line_to self.old)) ++ 10 ∷ []) }
         ensures state { self.new ≡ self.old }
     {
-        page.put_line(status_text(self.line.status()));
+        page.put_line(status_text(self.analysis.status()));
     }
 
     // The draws that may be claimed.
@@ -311,7 +333,7 @@ impl<'k, A: Allocator> Board<'k, A> {
         ensures text { page.new ≡ page.old ++ (claims_text (claims (line_to self.old)) ++ 10 ∷ []) }
         ensures state { self.new ≡ self.old }
     {
-        page.put_line(claims_text(self.line.claims()));
+        page.put_line(claims_text(self.analysis.claims()));
     }
 
     // Those that may be claimed with the move of the text.
@@ -320,13 +342,25 @@ impl<'k, A: Allocator> Board<'k, A> {
         ensures text { page.new ≡ page.old ++ told (claim_effect (line_to self.old) (move_reading (last (line_to self.old)) word.now)) }
         ensures state { self.new ≡ self.old }
     {
-        let m = match self.line.read_move(word) {
+        let m = match self.analysis.read_move(word) {
             Ok(m) => m,
             Err(fault) => return put_refused(page, of_san(fault)),
         };
-        match self.line.claims_with(m) {
+        match self.analysis.claims_with(m) {
             None => put_refused(page, Refusal::Illegal),
             Some(claims) => page.put_line(claims_text(claims)),
+        }
+    }
+
+    // The best move, as deep as the word writes.
+    fn best<B: Allocator>(&mut self, word: &[u8], page: &mut Page<B>)
+        requires room { length page.old + 2600 ≤ 65536 }
+        ensures text { page.new ≡ page.old ++ told (best_effect self.old (depth_in word.now)) }
+        ensures state { self.new ≡ self.old }
+    {
+        match depth_in(word) {
+            None => put_refused(page, Refusal::Argument),
+            Some(depth) => page.put_line(best_text(self.analysis.best(depth)).as_str()),
         }
     }
 }

@@ -1,7 +1,7 @@
-ghost use Rattle.std.specs.Prelude.{◌≡◌, length};
+ghost use Rattle.std.specs.Prelude.{◌≡◌, ◌≤◌, IfSome, length};
 ghost use Rattle.std.specs.Char.{is_ascii_digit};
 ghost use Rattle.std.specs.List.{list_all};
-ghost use Rattle.chess_cli.specs.Numbers.{is_number, number_in, ReadsPath};
+ghost use Rattle.chess_cli.specs.Numbers.{depth_in, is_number, number_in, ReadsPath};
 
 /// The most places of a path: no node of a tree is deeper.
 pub const PLACES: usize = 20_000;
@@ -32,6 +32,17 @@ pub fn number_in(word: &[u8]) -> Option<u32>
         return None;
     };
     text.parse::<u32>().ok()
+}
+
+/// The depth of a search that the word writes, 1 to 16 plies.
+pub fn depth_in(word: &[u8]) -> Option<u8>
+    ensures value { result ≡ depth_in word.now }
+    ensures in_range { IfSome result (λ depth. (1 ≤ depth) × (depth ≤ 16)) }
+{
+    match number_in(word) {
+        Some(depth @ 1..=16) => Some(depth as u8),
+        _ => None,
+    }
 }
 
 /// How a word was read as a path.

@@ -1,7 +1,11 @@
 ghost use Rattle.std.specs.Prelude.{◌≡◌, ◌≤◌, length};
+ghost use Rattle.chess_search.specs.Slices.{IsInRange};
 ghost use Rattle.chess_cli.specs.Outcomes.{claims_text, status_text};
+ghost use Rattle.chess_cli.specs.Answers.{best_text};
 
-use chess_types::{Claims, Status};
+use arrayvec::ArrayString;
+use chess_search::score_text;
+use chess_types::{Claims, Move, Status};
 
 /// How a game stands.
 pub fn status_text(status: Status) -> &'static str
@@ -29,4 +33,21 @@ pub fn claims_text(claims: Claims) -> &'static str
         (false, true) => "fifty",
         (true, true) => "threefold fifty",
     }
+}
+
+/// The move and its score, parted by one space; `none` where there is no move.
+pub fn best_text(best: Option<(Move, i32)>) -> ArrayString<32>
+    requires { IsInRange best }
+    ensures { result.bytes ≡ best_text best }
+{
+    let mut text = ArrayString::new();
+    match best {
+        None => text.push_str("none"),
+        Some((m, value)) => {
+            text.push_str(m.text().as_str());
+            text.push_str(" ");
+            text.push_str(score_text(value).as_str());
+        }
+    }
+    text
 }

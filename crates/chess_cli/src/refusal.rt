@@ -1,9 +1,9 @@
 ghost use Rattle.std.specs.Prelude.{◌≡◌};
-ghost use Rattle.chess_cli.specs.Refusals.{san_refusal, tree_refusal};
+ghost use Rattle.chess_cli.specs.Refusals.{play_refusal, san_refusal, tree_refusal};
 
 use chess_fen::FenFault;
 use chess_san::SanFault;
-use chess_tree::TreeFault;
+use chess_tree::{PlayFault, TreeFault};
 
 /// Why a line of the board is refused. Number and name together tell which.
 #[derive(Clone, Copy, Debug, PartialEq, Eq)]
@@ -90,6 +90,18 @@ pub fn of_tree(fault: TreeFault) -> Refusal
         TreeFault::Full => Refusal::Full,
         TreeFault::BadComment => Refusal::BadComment,
         TreeFault::Memory => Refusal::Memory,
+    }
+}
+
+/// The refusal of a move that isn't played.
+pub fn of_play(fault: PlayFault) -> Refusal
+    ensures { result ≡ play_refusal fault }
+{
+    match fault {
+        PlayFault::Illegal => Refusal::Illegal,
+        PlayFault::TooLong => Refusal::TooLong,
+        PlayFault::Full => Refusal::Full,
+        PlayFault::Memory => Refusal::Memory,
     }
 }
 

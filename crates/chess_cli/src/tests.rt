@@ -1,5 +1,6 @@
 mod lines;
 mod live;
+mod long;
 mod paths;
 mod tree;
 

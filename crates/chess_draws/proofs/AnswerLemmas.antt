@@ -1,5 +1,5 @@
 -- What is answered of a line, by what is found out of its last position.
-use Rattle.std.proofs.Common.{◌≡◌, ℕ, ◌<◌, ◌≤◌, true, false, Some, None, Ok, Err, length, refl, ap, ◌∙◌}
+use Rattle.std.proofs.Common.{◌≡◌, ℕ, ◌<◌, ◌≤◌, Bool, ◌&&◌, ◌||◌, true, false, Some, None, Ok, Err, length, refl, ap, ◌∙◌}
 use Rattle.std.proofs.lemmas.Bool.{le-leb, lt-leb}
 use Rattle.chess_types.specs.declared.board.outcome.Status.{Status}
 use Rattle.chess_types.specs.board.MoveParts.{MoveParts}
@@ -9,6 +9,7 @@ use Rattle.chess_types.specs.board.Lines.{Line, last, extended}
 use Rattle.chess_types.specs.board.Repetition.{repetitions}
 use Rattle.chess_types.specs.board.Outcome.{status_at, status, is_play, claims_at, claims, claims_with}
 use Rattle.chess_draws.specs.declared.fault.LineFault.TheVariants.{Illegal, TooLong}
+use Rattle.chess_draws.specs.Draws.{is_drawn_at, is_claimable_at, is_drawn, is_claimable}
 use Rattle.chess_draws.specs.Pushes.{push_answer}
 
 -- how a line stands, from the position and the count
@@ -39,6 +40,12 @@ claims_with_is line m now count clock legal status_is count_is clock_is =
 pub claims_with_none : (line : Line) (m : MoveParts) → is_legal (last line) m ≡ false → None ≡ claims_with line m
 unfolding claims_with
 claims_with_none line m illegal = rw illegal refl
+
+-- whether it is a draw where there is a legal move
+pub drawn_is : (line : Line) (p : State) (count : ℕ) (claims : Bool) → p ≡ last line → count ≡ repetitions line →
+    (is_drawn_at p count || (claims && is_claimable_at p count)) ≡ (is_drawn line || (claims && is_claimable line))
+unfolding is_drawn is_claimable
+drawn_is line p count claims position is = λ i. is_drawn_at (position i) (is i) || (claims && is_claimable_at (position i) (is i))
 
 -- the answers to a move
 pub answer_illegal : (line : Line) (m : MoveParts) → is_legal (last line) m ≡ false → push_answer line m ≡ Err Illegal

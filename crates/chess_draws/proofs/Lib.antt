@@ -1,8 +1,12 @@
 -- Lemmas on lines: which positions are the same, which targets count, what the plies tell, what holds of a line, and what is answered
 -- of it.
 pub mod StandLemmas
+pub mod SetLemmas
 pub mod TargetLemmas
 pub mod SameLemmas
 pub mod PlyLemmas
 pub mod LineLemmas
+pub mod Weights
+pub mod Repeats
+pub mod LookBack
 pub mod AnswerLemmas

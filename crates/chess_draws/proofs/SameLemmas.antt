@@ -1,5 +1,5 @@
 -- Which positions are the same: each is the same as itself, and none as the one that a move makes of it.
-use Rattle.std.proofs.Common.{◌≡◌, ℕ, ◌==◌, Bool, true, false, List, [], ◌∷◌, Option, Some, None, refl, ap, ◌∙◌}
+use Rattle.std.proofs.Common.{◌≡◌, ℕ, ◌==◌, true, false, List, [], ◌∷◌, Option, Some, None, refl, ap, ◌∙◌}
 use Rattle.std.specs.List.{list_all}
 use Rattle.std.proofs.lemmas.Bool.{eq-eqb}
 use Rattle.chess_types.specs.declared.board.man.Colour.{Colour}
@@ -13,22 +13,14 @@ use Rattle.chess_types.specs.board.MoveParts.{MoveParts}
 use Rattle.chess_types.specs.board.Position.{State, look}
 use Rattle.chess_types.specs.board.After.{after, after_by}
 use Rattle.chess_types.specs.board.Legal.{is_legal}
-use Rattle.chess_types.specs.board.Repetition.{same_bool, same_man, same_rights, same_target, counting_target, is_same}
-use Rattle.chess_types.proofs.SameLemmas.{same_self, kind_self}
+use Rattle.chess_types.specs.board.Repetition.{same_man, same_rights, same_target, counting_target, is_same}
+use Rattle.chess_types.proofs.SameLemmas.{same_self}
 use Rattle.chess_types.proofs.MoveLemmas.{pseudo_man, legal_pseudo}
-use Rattle.chess_draws.specs.steps.Stands.{same_stand, stand_of}
-
-man_self : (there : Option Man) → same_man there there ≡ true
-man_self None = refl
-man_self (Some man) = rw (same_self man.colour, kind_self man.kind) refl
+use Rattle.chess_draws.proofs.StandLemmas.{man_self, bool_self}
 
 men_self : (men : Look) (squares : List ℕ) → list_all (λ s. same_man (men s) (men s)) squares ≡ true
 men_self men [] = refl
 men_self men (s ∷ squares) = rw (man_self (men s), men_self men squares) refl
-
-bool_self : (b : Bool) → same_bool b b ≡ true
-bool_self true = refl
-bool_self false = refl
 
 rights_self : (r : Rights) → same_rights r r ≡ true
 rights_self r = rw (bool_self r.white_king, bool_self r.white_queen, bool_self r.black_king, bool_self r.black_queen) refl
@@ -45,11 +37,11 @@ pub is_same_self : (p : State) → is_same p p ≡ true
 unfolding is_same
 is_same_self p = rw (same_self p.side, men_self (look p) squares, rights_self p.rights, target_self (counting_target p)) refl
 
-other_side : (c : Colour) → same_colour (opponent c) c ≡ false
+pub other_side : (c : Colour) → same_colour (opponent c) c ≡ false
 other_side White = refl
 other_side Black = refl
 
-sides_differ : (p q : State) → same_colour p.side q.side ≡ false → is_same p q ≡ false
+pub sides_differ : (p q : State) → same_colour p.side q.side ≡ false → is_same p q ≡ false
 unfolding is_same
 sides_differ p q h = rw h refl
 
@@ -62,8 +54,3 @@ unfolding after
 same_after p m h =
     let (man, here) : (man : Man) × (look p m.from ≡ Some man) = pseudo_man p m (legal_pseudo p m h) in
     sides_differ (after p m) p (side_on p (look p m.from) m man here)
-
--- what is kept of two positions tells whether they are the same
-pub same_stands : (words : List ℕ) (p q : State) → is_same p q ≡ same_stand (stand_of words p) (stand_of words q)
-unfolding is_same same_stand
-same_stands words p q = refl

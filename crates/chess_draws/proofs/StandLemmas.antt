@@ -1,17 +1,29 @@
--- Positions that are the same have the same key.
-use Rattle.std.proofs.Common.{◌≡◌, ℕ, zero, suc, ◌+◌, ◌<◌, ◌&&◌, ◌%◌, ◌^◌, Bool, true, false, List, Option, Some, None, refl, sym, ap, ◌∙◌, arith}
-use Rattle.std.specs.List.{sum_by, list_all, range_with_len}
-use Rattle.std.proofs.lemmas.List.Sums.{sum_by-cons}
+-- What is kept of a position tells it from others.
+use Rattle.std.proofs.Common.{◌≡◌, ℕ, ◌<◌, Bool, true, false, not, ◌&&◌, ◌||◌, Option, Some, None, refl, sym, ap, ◌∙◌}
+use Rattle.std.specs.List.{list_all}
+use Rattle.std.specs.Ordering.{nat_cmp}
+use Rattle.std.specs.FinSet.{FinSet, contains, union, difference, contains-union, contains-difference}
 use Rattle.std.proofs.lemmas.Bool.{and_parts, true≢false, false_from_ne_true}
+use Rattle.std.proofs.lemmas.Cmp.{nat_cmp_total}
+use Rattle.chess_types.specs.declared.board.man.Colour.{Colour}
+use Rattle.chess_types.specs.declared.board.man.Colour.TheVariants.{White, Black}
+use Rattle.chess_types.specs.declared.board.man.Kind.{Kind}
+use Rattle.chess_types.specs.declared.board.man.Kind.TheVariants.{Pawn, Knight, Bishop, Rook, Queen, King}
 use Rattle.chess_types.specs.declared.board.man.Man.{Man}
 use Rattle.chess_types.specs.board.Squares.{squares}
-use Rattle.chess_types.specs.board.Board.{Look, man_at}
-use Rattle.chess_types.specs.board.Men.{same_colour}
-use Rattle.chess_types.specs.board.Repetition.{same_man, same_rights, same_target}
+use Rattle.chess_types.specs.board.Board.{Look}
+use Rattle.chess_types.specs.board.Men.{same_colour, is_of, is_pawn, is_king}
+use Rattle.chess_types.specs.board.Position.{State, look}
+use Rattle.chess_types.specs.board.Repetition.{same_bool, same_man, same_rights, same_target, counting_target, is_same}
+use Rattle.chess_types.specs.steps.KeptSets.{is_straight, is_diagonal, holds_diagonal}
+use Rattle.chess_types.proofs.Runs.{list_all_from, same_test}
 use Rattle.chess_types.proofs.SquareLemmas.{every_square}
-use Rattle.chess_key.specs.Keys.{word_on, word_there, key_of, KeptKey, IsKeyOf}
-use Rattle.chess_types.proofs.SameLemmas.{same_is, kind_is}
-use Rattle.chess_draws.specs.steps.Stands.{StandParts, same_stand}
+use Rattle.chess_types.proofs.SameLemmas.{same_is, kind_is, same_self, kind_self}
+use Rattle.chess_draws.specs.declared.men.Men.{Men}
+use Rattle.chess_draws.specs.declared.stand.Stand.{Stand}
+use Rattle.chess_draws.specs.declared.ply.Ply.{Ply}
+use Rattle.chess_draws.specs.steps.Stands.{holds_straight, holds_short, IsMenOf, IsStandOf, same_set, same_men, same_ply}
+use Rattle.chess_draws.specs.steps.Plies.{IsPly}
 
 -- what passes as the same man is
 pub man_is : (a b : Option Man) → same_man a b ≡ true → a ≡ b
@@ -24,31 +36,156 @@ man_is (Some m) (Some n) h =
     let kinds = kind_is m.kind n.kind both.1 in
     λ i. Some (record { colour = colours i; kind = kinds i })
 
-same_sum : (f g : ℕ → ℕ) (a n : ℕ) → ((s : ℕ) → s < a + n → f s ≡ g s) → sum_by f (range_with_len a n) ≡ sum_by g (range_with_len a n)
-same_sum f g a zero h = refl
-same_sum f g a (suc n) h =
-    let here : f a ≡ g a = h a (omega arith) in
-    let rest = same_sum f g (a + 1) n (λ s below. h s (omega arith)) in
-    sum_by-cons f a (range_with_len (a + 1) n) ∙ (λ i. here i + rest i) ∙ sym (sum_by-cons g a (range_with_len (a + 1) n))
+pub man_self : (there : Option Man) → same_man there there ≡ true
+man_self None = refl
+man_self (Some man) = rw (same_self man.colour, kind_self man.kind) refl
 
--- a key tells only what stands on the 64 squares
-same_key : (words : List ℕ) (a b : Look) → ((s : ℕ) → s < 64 → a s ≡ b s) → key_of words a ≡ key_of words b
-unfolding key_of squares
-same_key words a b h =
-    ap (λ n. n % 2 ^ 64) (same_sum (word_on words a) (word_on words b) 0 64 (λ s below. ap (λ there. word_there words there s) (h s (omega arith))))
+-- the kind and the man that five tests tell
+abbrev kind_by : Bool → Bool → Bool → Kind
+kind_by true true short = Queen
+kind_by true false true = King
+kind_by true false false = Rook
+kind_by false true short = Bishop
+kind_by false false true = Pawn
+kind_by false false false = Knight
 
-second : (a b c d : Bool) → (a && b && c && d) ≡ true → b ≡ true
-second a b c d h = (and_parts a b (and_parts (a && b) c (and_parts (a && b && c) d h).0).0).1
+kind_told : (k : Kind) → kind_by (is_straight k || is_king k) (is_diagonal k) (is_pawn k || is_king k) ≡ k
+kind_told Pawn = refl
+kind_told Knight = refl
+kind_told Bishop = refl
+kind_told Rook = refl
+kind_told Queen = refl
+kind_told King = refl
 
--- so where the keys differ the positions do
-pub other_key : (s t : StandParts) (k l : KeptKey) → k.words ≡ l.words → IsKeyOf k s.placement → IsKeyOf l t.placement → (k.number ≡ l.number → ⊥) →
-    same_stand s t ≡ false
-unfolding same_stand
-other_key s t k l words is_k is_l apart =
-    false_from_ne_true (same_stand s t) (λ h.
-    let men = second (same_colour s.side t.side) (list_all (λ n. same_man (man_at s.placement n) (man_at t.placement n)) squares)
-    (same_rights s.rights t.rights) (same_target s.target t.target) h in
-    let same = same_key k.words (man_at s.placement) (man_at t.placement) (λ n below.
-    man_is (man_at s.placement n) (man_at t.placement n)
-    (every_square (λ q. same_man (man_at s.placement q) (man_at t.placement q)) men n below)) in
-    apart (is_k ∙ same ∙ ap (λ w. key_of w (man_at t.placement)) words ∙ sym is_l))
+abbrev man_by : Bool → Bool → Bool → Bool → Bool → Option Man
+man_by true black straight diagonal short = Some (record { colour = White; kind = kind_by straight diagonal short })
+man_by false true straight diagonal short = Some (record { colour = Black; kind = kind_by straight diagonal short })
+man_by false false straight diagonal short = None
+
+man_told_by : (c : Colour) (k : Kind) →
+    man_by (same_colour c White) (same_colour c Black) (is_straight k || is_king k) (is_diagonal k) (is_pawn k || is_king k)
+    ≡ Some (record { colour = c; kind = k })
+man_told_by White k = ap (λ (x : Kind). Some (record { colour = White; kind = x })) (kind_told k)
+man_told_by Black k = ap (λ (x : Kind). Some (record { colour = Black; kind = x })) (kind_told k)
+
+man_told : (a : Option Man) → man_by (is_of White a) (is_of Black a) (holds_straight a) (holds_diagonal a) (holds_short a) ≡ a
+man_told None = refl
+man_told (Some man) = man_told_by man.colour man.kind
+
+men_agree : (a b : Option Man) → is_of White a ≡ is_of White b → is_of Black a ≡ is_of Black b → holds_straight a ≡ holds_straight b →
+    holds_diagonal a ≡ holds_diagonal b → holds_short a ≡ holds_short b → a ≡ b
+men_agree a b white black straight diagonal short =
+    sym (man_told a) ∙ (λ i. man_by (white i) (black i) (straight i) (diagonal i) (short i)) ∙ man_told b
+
+bool_is : (x y : Bool) → same_bool x y ≡ true → x ≡ y
+bool_is true true h = refl
+bool_is true false h = sym h
+bool_is false true h = h
+bool_is false false h = refl
+
+pub bool_self : (b : Bool) → same_bool b b ≡ true
+bool_self true = refl
+bool_self false = refl
+
+-- sets that hold the same squares
+same_set_at : (a b : FinSet nat_cmp) → same_set a b ≡ true → (s : ℕ) → s < 64 → contains a s ≡ contains b s
+unfolding same_set
+same_set_at a b h s low = bool_is (contains a s) (contains b s) (every_square (λ t. same_bool (contains a t) (contains b t)) h s low)
+
+same_set_from : (a b : FinSet nat_cmp) → ((s : ℕ) → s < 64 → contains a s ≡ contains b s) → same_set a b ≡ true
+unfolding same_set squares
+same_set_from a b h =
+    list_all_from (λ t. same_bool (contains a t) (contains b t)) 0 64
+    (λ t low high. ap (same_bool (contains a t)) (sym (h t high)) ∙ bool_self (contains a t))
+
+-- the squares that one of two sets holds and the other doesn't
+abbrev pub apart : FinSet nat_cmp → FinSet nat_cmp → FinSet nat_cmp
+apart a b = union (difference a b) (difference b a)
+
+abbrev one_of : Bool → Bool → Bool
+one_of x y = (x && not y) || (y && not x)
+
+one_of_none : (x y : Bool) → one_of x y ≡ false → x ≡ y
+one_of_none true true h = refl
+one_of_none true false h = h
+one_of_none false true h = sym h
+one_of_none false false h = refl
+
+one_of_some : (x y : Bool) → one_of x y ≡ true → x ≡ y → ⊥
+one_of_some true true h e = true≢false (sym h)
+one_of_some true false h e = true≢false e
+one_of_some false true h e = true≢false (sym e)
+one_of_some false false h e = true≢false (sym h)
+
+apart_is : (a b : FinSet nat_cmp) (s : ℕ) → contains (apart a b) s ≡ one_of (contains a s) (contains b s)
+apart_is a b s =
+    contains-union nat_cmp_total (difference a b) (difference b a) s
+    ∙ ap (λ x. x || contains (difference b a) s) (contains-difference nat_cmp_total a b s)
+    ∙ ap (λ x. (contains a s && not (contains b s)) || x) (contains-difference nat_cmp_total b a s)
+
+pub sets_same : (a b : FinSet nat_cmp) → ((s : ℕ) → contains (apart a b) s ≡ false) → same_set a b ≡ true
+sets_same a b none =
+    same_set_from a b (λ s low. one_of_none (contains a s) (contains b s) (sym (apart_is a b s) ∙ none s))
+
+pub sets_differ : (a b : FinSet nat_cmp) (s : ℕ) → s < 64 → contains (apart a b) s ≡ true → same_set a b ≡ false
+sets_differ a b s low held =
+    false_from_ne_true (same_set a b) (λ h.
+    one_of_some (contains a s) (contains b s) (sym (apart_is a b s) ∙ held) (same_set_at a b h s low))
+
+-- the same sets, by two boards
+by_look : (a b : FinSet nat_cmp) (test : Option Man → Bool) (x y : Look) → ((s : ℕ) → contains a s ≡ test (x s)) →
+    ((s : ℕ) → contains b s ≡ test (y s)) → ((s : ℕ) → s < 64 → x s ≡ y s) → same_set a b ≡ true
+by_look a b test x y ga gb same = same_set_from a b (λ s low. ga s ∙ ap test (same s low) ∙ sym (gb s))
+
+by_sets : (a b : FinSet nat_cmp) (test : Option Man → Bool) (x y : Look) → ((s : ℕ) → contains a s ≡ test (x s)) →
+    ((s : ℕ) → contains b s ≡ test (y s)) → same_set a b ≡ true → (s : ℕ) → s < 64 → test (x s) ≡ test (y s)
+by_sets a b test x y ga gb same s low = sym (ga s) ∙ same_set_at a b same s low ∙ gb s
+
+-- all five tell whether the men are the same
+men_there : (m n : Men) (x y : Look) → IsMenOf m x → IsMenOf n y → same_men m n ≡ true → (s : ℕ) → s < 64 → x s ≡ y s
+unfolding same_men
+men_there m n x y is_m is_n h s low =
+    let a = and_parts (same_set m.white n.white && same_set m.black n.black && same_set m.straight n.straight && same_set m.diagonal n.diagonal)
+    (same_set m.short n.short) h in
+    let b = and_parts (same_set m.white n.white && same_set m.black n.black && same_set m.straight n.straight) (same_set m.diagonal n.diagonal) a.0 in
+    let c = and_parts (same_set m.white n.white && same_set m.black n.black) (same_set m.straight n.straight) b.0 in
+    let d = and_parts (same_set m.white n.white) (same_set m.black n.black) c.0 in
+    men_agree (x s) (y s)
+    (by_sets m.white n.white (is_of White) x y is_m.white is_n.white d.0 s low)
+    (by_sets m.black n.black (is_of Black) x y is_m.black is_n.black d.1 s low)
+    (by_sets m.straight n.straight holds_straight x y is_m.straight is_n.straight c.1 s low)
+    (by_sets m.diagonal n.diagonal holds_diagonal x y is_m.diagonal is_n.diagonal b.1 s low)
+    (by_sets m.short n.short holds_short x y is_m.short is_n.short a.1 s low)
+
+men_from : (m n : Men) (x y : Look) → IsMenOf m x → IsMenOf n y → ((s : ℕ) → s < 64 → x s ≡ y s) → same_men m n ≡ true
+unfolding same_men
+men_from m n x y is_m is_n same =
+    rw (
+      by_look m.white n.white (is_of White) x y is_m.white is_n.white same,
+      by_look m.black n.black (is_of Black) x y is_m.black is_n.black same,
+      by_look m.straight n.straight holds_straight x y is_m.straight is_n.straight same,
+      by_look m.diagonal n.diagonal holds_diagonal x y is_m.diagonal is_n.diagonal same,
+      by_look m.short n.short holds_short x y is_m.short is_n.short same,
+    ) refl
+
+men_same : (m n : Men) (x y : Look) → IsMenOf m x → IsMenOf n y → same_men m n ≡ list_all (λ s. same_man (x s) (y s)) squares
+unfolding squares
+men_same m n x y is_m is_n =
+    same_test (same_men m n) (list_all (λ s. same_man (x s) (y s)) squares)
+    (λ h. list_all_from (λ s. same_man (x s) (y s)) 0 64 (λ s low high.
+    ap (same_man (x s)) (sym (men_there m n x y is_m is_n h s high)) ∙ man_self (x s)))
+    (λ h. men_from m n x y is_m is_n (λ s low. man_is (x s) (y s) (every_square (λ t. same_man (x t) (y t)) h s low)))
+
+-- and so does what is kept of a position, and of the one before a ply
+pub same_plies : (q p : State) (stand : Stand) (ply : Ply) → IsStandOf stand q → IsPly p ply → is_same q p ≡ same_ply stand ply
+unfolding is_same same_ply
+same_plies q p stand ply is of =
+    let side : q.side ≡ stand.side = sym is.side in
+    let side_then : p.side ≡ ply.side = sym of.side in
+    let men : list_all (λ s. same_man (look q s) (look p s)) squares ≡ same_men stand.men ply.men =
+    sym (men_same stand.men ply.men (look q) (look p) is.men of.men) in
+    let rights : q.rights ≡ stand.rights = sym is.rights in
+    let rights_then : p.rights ≡ ply.past.rights = sym (ap (λ r. r.rights) of.past) in
+    let target : counting_target q ≡ stand.target = sym is.target in
+    let target_then : counting_target p ≡ ply.target = sym of.target in
+    λ i. same_colour (side i) (side_then i) && men i && same_rights (rights i) (rights_then i) && same_target (target i) (target_then i)

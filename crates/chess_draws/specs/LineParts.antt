@@ -1,7 +1,8 @@
 -- What contracts see of a `Line`.
---   LineParts   the line itself, the words of its key table, the ticks of the last move made or taken back, and the room: how many
---               plies it can have without another growth
---   IsAsBefore  all of it but the ticks is as it was
+--   LineParts   the line itself, how many of its last moves are only looked at, the words of its key table, the ticks of the last move
+--               made or taken back, the room: how many plies it can have without another growth, and how many plies the last count
+--               compared
+--   IsAsBefore  all of it but the ticks and the number of plies compared is as it was
 use Rattle.std.specs.Prelude.{◌≡◌, ℕ, List, refl}
 use Rattle.std.specs.Coded.{Coded, code_by, coded×, coded_ℕ, coded_list}
 use Rattle.chess_types.specs.board.Lines.{Line}
@@ -9,19 +10,23 @@ use Rattle.chess_types.specs.steps.LineCode.{coded_line}
 
 pub record LineParts : Type 0 where
   pub line : Line
+  pub looked : ℕ
   pub words : List ℕ
   pub ticks : ℕ
   pub room : ℕ
+  pub compared : ℕ
 
 -- the parts as a tuple, by which a proof tells them apart
 abbrev pub coded_parts : Coded LineParts
 coded_parts =
-    code_by (Line × (List ℕ × (ℕ × ℕ))) (coded× coded_line (coded× (coded_list coded_ℕ) (coded× coded_ℕ coded_ℕ)))
-    (λ l. (l.line, (l.words, (l.ticks, l.room))))
-    (λ p. record { line = p.0; words = p.1.0; ticks = p.1.1.0; room = p.1.1.1 })
+    code_by ((Line × ℕ) × (List ℕ × (ℕ × (ℕ × ℕ))))
+    (coded× (coded× coded_line coded_ℕ) (coded× (coded_list coded_ℕ) (coded× coded_ℕ (coded× coded_ℕ coded_ℕ))))
+    (λ l. ((l.line, l.looked), (l.words, (l.ticks, (l.room, l.compared)))))
+    (λ p. record { line = p.0.0; looked = p.0.1; words = p.1.0; ticks = p.1.1.0; room = p.1.1.1.0; compared = p.1.1.1.1 })
     (λ _. refl)
 
 pub record IsAsBefore (old new : LineParts) : Type 0 where
   pub line : new.line ≡ old.line
+  pub looked : new.looked ≡ old.looked
   pub words : new.words ≡ old.words
   pub room : new.room ≡ old.room

@@ -1,15 +1,19 @@
 //! Lines of moves, and what only the whole line can tell: repetition, status and claims (FIDE Laws, articles 5 and 9).
 //!
 //! A `Line` keeps a starting position and the legal moves made from it. Contracts see just these (`Line` of the definitions in
-//! `chess_types/specs/board/Lines.antt`), the words of the key table, the ticks of the last move and the room that is reserved.
+//! `chess_types/specs/board/Lines.antt`), how many of its last moves are only looked at, the words of the key table, the ticks
+//! of the last move and the room that is reserved.
 #![tactic(auto)]
 
 mod dead;
 mod fault;
 mod line;
+mod look_back;
+mod men;
 mod ply;
 mod stand;
 mod status;
+mod step;
 mod target;
 #[cfg(test)]
 mod tests;

@@ -1,47 +1,54 @@
-ghost use Rattle.std.specs.Prelude.{◌≡◌, ◌+◌, ◌<◌, ◌≤◌, [], true, IsOk, IsTrue, OnOk, IfErr, IfOk, IfSome, MatchOption, count_by, length};
-ghost use Rattle.std.specs.List.{All};
+ghost use Rattle.std.specs.Prelude.{◌≡◌, ◌+◌, ◌++◌, ◌<◌, ◌≤◌, ◌&&◌, ◌||◌, [], true, IsOk, IsTrue, OnOk, IfErr, IfOk, IfSome, MatchOption, List, length, nat_lt};
+ghost use Rattle.chess_types.specs.board.MoveParts.{MoveParts};
 ghost use Rattle.chess_types.specs.board.Position.{IsWellFormed, look};
+ghost use Rattle.chess_types.specs.board.Attack.{in_check as in_check_of};
 ghost use Rattle.chess_types.specs.board.Legal.{is_legal as is_legal_in, legal_moves};
-ghost use Rattle.chess_types.specs.board.Lines.{AreLegal, last, extended};
-ghost use Rattle.chess_types.specs.board.Repetition.{repetitions};
+ghost use Rattle.chess_types.specs.board.Lines.{AreLegal, Line as LineOf, last, play, extended};
+ghost use Rattle.chess_types.specs.board.Repetition.{is_same, repetitions};
 ghost use Rattle.chess_types.specs.board.Outcome.{status, claims, claims_with};
 ghost use Rattle.chess_attack.specs.KeptCounts.{changed_of};
 ghost use Rattle.chess_san.specs.Naming.{reading};
+ghost use Rattle.chess_san.specs.Writing.{san};
 ghost use Rattle.chess_draws.specs.declared.fault.LineFault.TheVariants.{Memory};
-ghost use Rattle.chess_draws.specs.declared.ply.Ply.{Ply as PlyParts};
-ghost use Rattle.chess_draws.specs.steps.Stands.{same_stand};
+ghost use Rattle.chess_draws.specs.Draws.{is_drawn, is_claimable};
 ghost use Rattle.chess_draws.specs.LineParts.{IsAsBefore};
 ghost use Rattle.chess_draws.specs.Pushes.{AnswersPush, line_after};
 
 use crate::fault::LineFault;
+use crate::look_back::look_back;
 use crate::ply::Ply;
 use crate::stand::Stand;
-use crate::status::{claims_at, status_at};
-use crate::target::{advance, counting_target};
-use arrayvec::ArrayVec;
+use crate::status::{claims_at, is_drawn_at, status_at};
+use crate::step::{step, step_back};
+use crate::target::counting_target;
+use arrayvec::{ArrayString, ArrayVec};
 use chess_key::KeyTable;
-use chess_moves::{is_legal, moves};
+use chess_moves::{has_legal, in_check, is_legal, moves};
 use chess_play::Live;
 use chess_san::SanFault;
 use chess_types::{Claims, Move, Position, Status};
 use std::alloc::Allocator;
 use std::marker::Model;
-use std::mem;
 
 /// The most plies of a line.
 const LIMIT: usize = 20_000;
 
-/// A position and the legal moves made from it, one after the other.
+/// A position and the legal moves made from it, one after the other. The last of them may be only looked at, at most 16.
 #[derive(Drop)]
 pub struct Line<'k, A: Allocator> {
     root: Position,
-    plies: Vec<Ply<'k>, A>,
-    here: Stand<'k>,
+    plies: Vec<Ply, A>,
+    // The plies behind them that are only looked at.
+    looked: ArrayVec<Ply, 16>,
+    // What is kept of the last position.
+    here: Stand,
     live: Live<'k>,
+    // How many plies the last count compared.
+    compared: u32,
 }
 
 impl<'k, A: Allocator> Model for Line<'k, A> {
-    ghost use Rattle.std.specs.Prelude.{map, vec_capacity};
+    ghost use Rattle.std.specs.Prelude.{map, ◌++◌, length, vec_capacity};
     ghost use Rattle.chess_draws.specs.LineParts.{LineParts, coded_parts};
     ghost use Rattle.chess_draws.specs.steps.Plies.{move_of};
 
@@ -49,26 +56,11 @@ impl<'k, A: Allocator> Model for Line<'k, A> {
 
     ghost coded = { coded_parts };
 
-    ghost view = { λ l. record { line = record { start = l.root; moves = map move_of l.plies.items }; words = l.live.words; ticks = l.live.ticks; room = vec_capacity l.plies } };
+    ghost view = { λ l. record { line = record { start = l.root; moves = map move_of (l.plies.items ++ l.looked.items) }; looked = length l.looked.items; words = l.live.words; ticks = l.live.ticks; room = vec_capacity l.plies; compared = l.compared } };
 
-    ghost use Rattle.chess_draws.specs.steps.Plies.{IsLine};
+    ghost use Rattle.chess_draws.specs.steps.Plies.{IsHeld};
 
-    ghost invariant = { λ l. IsLine l.root l.plies.items l.live l.here };
-}
-
-// How many of the plies begin in the same position.
-fn count_same(plies: &[Ply], here: &Stand) -> u32
-    requires few { length plies.now ≤ 20000 }
-    requires words { All (λ (ply : PlyParts). here.now.words ≡ ply.before.words) plies.now }
-    ensures { result ≡ count_by (λ (ply : PlyParts). same_stand here.now ply.before) plies.now }
-{
-    let mut count = 0;
-    for ply in plies {
-        if here.is_same(&ply.before) {
-            count += 1;
-        }
-    }
-    count
+    ghost invariant = { λ l. IsHeld l.root l.plies.items l.looked.items l.live l.here };
 }
 
 impl<'k, A: Allocator> Line<'k, A> {
@@ -77,6 +69,7 @@ impl<'k, A: Allocator> Line<'k, A> {
         requires clock { position.clock ≤ 99999 }
         requires number { position.number ≤ 99999 }
         ensures line { result.line ≡ record { start = position; moves = [] } }
+        ensures looked { result.looked ≡ 0 }
         ensures words { result.words ≡ table.now }
     {
         let Ok(root) = position.clone() else {
@@ -88,8 +81,10 @@ impl<'k, A: Allocator> Line<'k, A> {
         Line {
             root,
             plies: Vec::new(alloc),
+            looked: ArrayVec::new(),
             here,
             live,
+            compared: 0,
         }
     }
 
@@ -100,8 +95,10 @@ impl<'k, A: Allocator> Line<'k, A> {
     /// `Illegal` where the move isn't legal, else `TooLong` where the line has 20,000 plies, else `Memory` where it can't grow. The
     /// line is then as before.
     pub fn push(&mut self, m: Move) -> Result<(), LineFault>
+        requires none { self.old.looked ≡ 0 }
         ensures answer { AnswersPush self.old m result }
         ensures line { self.new.line ≡ line_after self.old.line m result }
+        ensures looked { self.new.looked ≡ 0 }
         ensures words { self.new.words ≡ self.old.words }
         ensures room { self.old.room ≤ self.new.room }
         ensures at_most { OnOk result (self.new.ticks ≤ 216) }
@@ -118,11 +115,13 @@ impl<'k, A: Allocator> Line<'k, A> {
     ///
     /// Those of `push`.
     pub fn prepare(&mut self, m: Move) -> Result<(), LineFault>
+        requires none { self.old.looked ≡ 0 }
         ensures answer { AnswersPush self.old m result }
         ensures legal { OnOk result (IsTrue (is_legal_in (last self.old.line) m)) }
         ensures few { OnOk result (length self.old.line.moves < 20000) }
         ensures ready { OnOk result (length self.old.line.moves < self.new.room) }
         ensures line { self.new.line ≡ self.old.line }
+        ensures looked { self.new.looked ≡ 0 }
         ensures words { self.new.words ≡ self.old.words }
         ensures room { self.old.room ≤ self.new.room }
     {
@@ -141,33 +140,67 @@ impl<'k, A: Allocator> Line<'k, A> {
     /// Adds a legal move to a line of fewer than 20,000 plies that has room for it, as after a `prepare` of the move, or after a
     /// `reserve`. Takes no memory.
     pub fn push_prepared(&mut self, m: Move)
+        requires none { self.old.looked ≡ 0 }
         requires legal { IsTrue (is_legal_in (last self.old.line) m) }
         requires few { length self.old.line.moves < 20000 }
         requires room { length self.old.line.moves < self.old.room }
         ensures line { self.new.line ≡ extended self.old.line m }
+        ensures looked { self.new.looked ≡ 0 }
         ensures words { self.new.words ≡ self.old.words }
         ensures room { self.new.room ≡ self.old.room }
         ensures at_most { self.new.ticks ≤ 216 }
         ensures at_least { changed_of (look (last self.old.line)) (look (last self.new.line)) ≤ self.new.ticks }
     {
-        let (past, target) = advance(&mut self.live, m);
-        let here = Stand::of(&self.live, target);
-        let before = mem::replace(&mut self.here, here);
-        self.plies.push_reserved(Ply { before, past });
+        let ply = step(&mut self.live, &mut self.here, m);
+        self.plies.push_reserved(ply);
     }
 
     /// Takes the last move away; `None` at the start of the line.
     pub fn pop(&mut self) -> Option<Move>
+        requires none { self.old.looked ≡ 0 }
         ensures line { MatchOption result ((self.old.line.moves ≡ []) × (self.new.line ≡ self.old.line)) (λ m. self.old.line ≡ extended self.new.line m) }
+        ensures looked { self.new.looked ≡ 0 }
         ensures words { self.new.words ≡ self.old.words }
         ensures room { self.new.room ≡ self.old.room }
         ensures at_most { IfSome result (λ _. self.new.ticks ≤ 216) }
         ensures at_least { IfSome result (λ _. changed_of (look (last self.old.line)) (look (last self.new.line)) ≤ self.new.ticks) }
     {
-        let Ply { before, past } = self.plies.pop()?;
-        self.live.take_back(past);
-        self.here = before;
-        Some(past.played())
+        let ply = self.plies.pop()?;
+        let m = ply.past.played();
+        step_back(&mut self.live, &mut self.here, ply);
+        Some(m)
+    }
+
+    /// Makes a legal move that is only looked at, on a line with fewer than 16 such moves. Takes no memory, and no line is too long
+    /// for it. Till it is taken back by `unlook`, the line's other calls speak of the line with it, or have to wait.
+    pub fn look(&mut self, m: Move)
+        requires legal { IsTrue (is_legal_in (last self.old.line) m) }
+        requires few { self.old.looked < 16 }
+        ensures line { self.new.line ≡ extended self.old.line m }
+        ensures looked { self.new.looked ≡ self.old.looked + 1 }
+        ensures words { self.new.words ≡ self.old.words }
+        ensures room { self.new.room ≡ self.old.room }
+        ensures at_most { self.new.ticks ≤ 216 }
+        ensures at_least { changed_of (look (last self.old.line)) (look (last self.new.line)) ≤ self.new.ticks }
+    {
+        let ply = step(&mut self.live, &mut self.here, m);
+        self.looked.push(ply);
+    }
+
+    /// Takes back the last move that is only looked at: the line is as before its `look`, all but the ticks.
+    pub fn unlook(&mut self)
+        requires some { 0 < self.old.looked }
+        ensures line { (before : LineOf) (m : MoveParts) → self.old.line ≡ extended before m → self.new.line ≡ before }
+        ensures looked { self.new.looked + 1 ≡ self.old.looked }
+        ensures words { self.new.words ≡ self.old.words }
+        ensures room { self.new.room ≡ self.old.room }
+        ensures at_most { self.new.ticks ≤ 216 }
+        ensures at_least { changed_of (look (last self.old.line)) (look (last self.new.line)) ≤ self.new.ticks }
+    {
+        match self.looked.pop() {
+            None => unreachable!(),
+            Some(ply) => step_back(&mut self.live, &mut self.here, ply),
+        }
     }
 
     /// Makes room for more plies: no `push` answers `Memory` on a line that is less than so many plies longer than now.
@@ -176,11 +209,13 @@ impl<'k, A: Allocator> Line<'k, A> {
     ///
     /// `Memory` where the line can't grow so far. The line is then as before.
     pub fn reserve(&mut self, plies: u32) -> Result<(), LineFault>
+        requires none { self.old.looked ≡ 0 }
         ensures answer { IfErr result (λ fault. fault ≡ Memory) }
         ensures room { OnOk result (length self.old.line.moves + plies ≤ self.new.room) }
         ensures enough { length self.old.line.moves + plies ≤ self.old.room → IsOk result }
         ensures kept { self.old.room ≤ self.new.room }
         ensures line { self.new.line ≡ self.old.line }
+        ensures looked { self.new.looked ≡ 0 }
         ensures words { self.new.words ≡ self.old.words }
     {
         if self.plies.reserve(plies as usize).is_err() {
@@ -191,6 +226,7 @@ impl<'k, A: Allocator> Line<'k, A> {
 
     /// How many moves the line has, at most 20,000.
     pub fn plies(&self) -> u32
+        requires none { self.now.looked ≡ 0 }
         ensures value { result ≡ length self.now.line.moves }
         ensures at_most { result ≤ 20000 }
     {
@@ -222,7 +258,7 @@ impl<'k, A: Allocator> Line<'k, A> {
     pub fn position(&self) -> Position
         ensures value { result ≡ last self.now.line }
         ensures well_formed { IsWellFormed (last self.now.line) }
-        ensures counters { (result.clock ≤ 119999) × (result.number ≤ 119999) }
+        ensures counters { (result.clock ≤ 119999 + self.now.looked) × (result.number ≤ 119999 + self.now.looked) }
     {
         let Ok(setup) = self.live.position().clone() else {
             unreachable!();
@@ -238,6 +274,21 @@ impl<'k, A: Allocator> Line<'k, A> {
         moves(&mut self.live)
     }
 
+    /// Whether the side to move has a legal move.
+    pub fn has_legal(&mut self) -> bool
+        ensures value { result ≡ nat_lt 0 (length (legal_moves (last self.old.line))) }
+        ensures as_before { IsAsBefore self.old self.new }
+    {
+        has_legal(&mut self.live)
+    }
+
+    /// Whether the king of the side to move is in check (FIDE Laws 3.9.1).
+    pub fn in_check(&self) -> bool
+        ensures { result ≡ in_check_of (look (last self.now.line)) (last self.now.line).side }
+    {
+        in_check(&self.live)
+    }
+
     /// The legal move of the last position that a text in standard algebraic notation names (PGN 8.2.3).
     ///
     /// # Errors
@@ -251,12 +302,42 @@ impl<'k, A: Allocator> Line<'k, A> {
         chess_san::read(&mut self.live, text)
     }
 
-    /// How many of the line's positions are the same as the last, the last included (FIDE Laws 9.2.2, 9.2.3).
+    /// The text in standard algebraic notation (PGN 8.2.3) of a legal move of the last position, at most 7 bytes.
+    pub fn write_move(&mut self, m: Move) -> ArrayString<8>
+        requires legal { IsTrue (is_legal_in (last self.old.line) m) }
+        ensures value { result.bytes ≡ san (last self.old.line) m }
+        ensures as_before { IsAsBefore self.old self.new }
+    {
+        chess_san::write(&mut self.live, m)
+    }
+
+    /// How many of the line's positions are the same as the last, the last included (FIDE Laws 9.2.2, 9.2.3). It looks back over the
+    /// plies since the last pawn move or capture and no further, as the halfmove clock tells.
     pub fn count(&mut self) -> u32
         ensures value { result ≡ repetitions self.old.line }
         ensures as_before { IsAsBefore self.old self.new }
+        ensures at_least { result ≤ self.new.compared + 1 }
+        ensures at_most { self.new.compared ≤ (last self.old.line).clock }
+        // No position before the last pawn move or capture is the same.
+        ensures recent { (ms : List MoveParts) (ns : List MoveParts) → self.old.line.moves ≡ ms ++ ns → is_same (last self.old.line) (play self.old.line.start ms) ≡ true → length ns ≤ (last self.old.line).clock }
     {
-        count_same(self.plies.as_slice(), &self.here) + 1
+        let clock = self.live.position().clock;
+        let (count, compared) = look_back(
+            self.plies.as_slice(),
+            self.looked.as_slice(),
+            &self.here,
+            clock,
+        );
+        self.compared = compared;
+        count + 1
+    }
+
+    /// How many plies the last count of repetitions compared with the last position, by itself or for `status`, `claims`,
+    /// `claims_with` or `is_drawn`; 0 before any.
+    pub fn compared(&self) -> u32
+        ensures { result ≡ self.now.compared }
+    {
+        self.compared
     }
 
     /// How the game stands (FIDE Laws 5.1.1, 5.2.1, 5.2.2, 9.6).
@@ -268,8 +349,19 @@ impl<'k, A: Allocator> Line<'k, A> {
         status_at(&mut self.live, count)
     }
 
+    /// Whether a position in which there is a legal move is a draw all the same (FIDE Laws 5.2.2, 9.6); with `claims`, also where a
+    /// draw could be claimed there (FIDE Laws 9.2, 9.3).
+    pub fn is_drawn(&mut self, claims: bool) -> bool
+        ensures value { result ≡ (is_drawn self.old.line || (claims && is_claimable self.old.line)) }
+        ensures as_before { IsAsBefore self.old self.new }
+    {
+        let count = self.count();
+        is_drawn_at(self.live.position(), count, claims)
+    }
+
     /// What may be claimed in the last position (FIDE Laws 9.2.2, 9.3.2).
     pub fn claims(&mut self) -> Claims
+        requires none { self.old.looked ≡ 0 }
         ensures value { result ≡ claims self.old.line }
         ensures as_before { IsAsBefore self.old self.new }
     {
@@ -281,6 +373,7 @@ impl<'k, A: Allocator> Line<'k, A> {
     /// What may be claimed with a move that the player means to make, in the position after it (FIDE Laws 9.2.1, 9.3.1); `None`
     /// where the move isn't legal.
     pub fn claims_with(&mut self, m: Move) -> Option<Claims>
+        requires none { self.old.looked ≡ 0 }
         ensures value { result ≡ claims_with self.old.line m }
         ensures as_before { IsAsBefore self.old self.new }
     {
@@ -288,23 +381,10 @@ impl<'k, A: Allocator> Line<'k, A> {
             return None;
         }
         let status = self.status();
-        let (count, clock) = self.count_with(m);
-        Some(claims_at(status, count, clock))
-    }
-
-    // The repetition count and the halfmove clock after the legal move.
-    fn count_with(&mut self, m: Move) -> (u32, u32)
-        requires legal { IsTrue (is_legal_in (last self.old.line) m) }
-        ensures count { result.0 ≡ repetitions (extended self.old.line m) }
-        ensures clock { result.1 ≡ (last (extended self.old.line m)).clock }
-        ensures as_before { IsAsBefore self.old self.new }
-    {
-        let made = self.live.make(m);
-        let target = counting_target(&mut self.live);
-        let next = Stand::of(&self.live, target);
+        self.look(m);
+        let count = self.count();
         let clock = self.live.position().clock;
-        self.live.undo(made);
-        // In the position before the move the other side has the move.
-        (count_same(self.plies.as_slice(), &next) + 1, clock)
+        self.unlook();
+        Some(claims_at(status, count, clock))
     }
 }

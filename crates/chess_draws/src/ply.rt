@@ -1,11 +1,26 @@
-use crate::stand::Stand;
+use crate::men::Men;
 use chess_play::Record;
+use chess_types::{Colour, Square};
 
-/// What is kept of a move of a line.
-#[derive(Drop)]
-pub(crate) struct Ply<'k> {
-    /// The position before it.
-    pub(crate) before: Stand<'k>,
-    /// The record by which it is taken back.
+/// What is kept of a move of a line, in 64 bytes: the position before it, and the record by which it is taken back. The castling
+/// rights before it are the record's.
+#[derive(Clone, Copy)]
+pub(crate) struct Ply {
+    pub(crate) men: Men,
+    pub(crate) side: Colour,
+    /// The en passant target before it, where it counted.
+    pub(crate) target: Option<Square>,
     pub(crate) past: Record,
+}
+
+impl Default for Ply {
+    /// That of no move: it fills the free places of a list of fixed capacity.
+    fn default() -> Ply {
+        Ply {
+            men: Men::none(),
+            side: Colour::White,
+            target: None,
+            past: Record::default(),
+        }
+    }
 }

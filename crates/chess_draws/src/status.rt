@@ -1,10 +1,11 @@
-ghost use Rattle.std.specs.Prelude.{◌≡◌, ◌<◌};
+ghost use Rattle.std.specs.Prelude.{◌≡◌, ◌<◌, ◌&&◌, ◌||◌};
 ghost use Rattle.chess_types.specs.board.Outcome.{status_at, is_play, claims_at};
+ghost use Rattle.chess_draws.specs.Draws.{is_drawn_at, is_claimable_at};
 
 use crate::dead::is_dead;
 use chess_moves::{has_legal, in_check};
 use chess_play::Live;
-use chess_types::{Claims, Status};
+use chess_types::{Claims, Setup, Status};
 
 /// How a line stands that has come to its last position so often (FIDE Laws 5.1.1, 5.2.1, 5.2.2, 9.6). The position is as before.
 #[tactic(auto, using(chess_moves::proofs::SetCounts::some_move), unfolding(chess_types::specs::board::Outcome::status_at))]
@@ -41,4 +42,13 @@ pub(crate) fn claims_at(status: Status, count: u32, clock: u32) -> Claims
         threefold: in_play && count >= 3,
         fifty: in_play && clock >= 100,
     }
+}
+
+/// Whether a position in which there is a legal move is a draw, where it has come so often; with `claims`, also where a draw could be
+/// claimed there.
+pub(crate) fn is_drawn_at(setup: &Setup, count: u32, claims: bool) -> bool
+    ensures { result ≡ (is_drawn_at setup.now count || (claims && is_claimable_at setup.now count)) }
+{
+    let clock = setup.clock;
+    is_dead(setup) || count >= 5 || clock >= 150 || (claims && (count >= 3 || clock >= 100))
 }

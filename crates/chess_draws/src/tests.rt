@@ -1,3 +1,5 @@
+ghost use Rattle.std.specs.Prelude.{◌≡◌, ◌+◌, ◌<◌};
+
 use crate::{Claims, Line, LineFault, Status};
 use chess_fen::read;
 use chess_key::KeyTable;
@@ -13,7 +15,10 @@ fn named(rt: &impl Abort, text: &[u8]) -> Move {
 }
 
 /// Pushes the moves.
-fn push_all<A: Allocator>(rt: &impl Abort, line: &mut Line<A>, texts: &[&[u8]]) {
+fn push_all<A: Allocator>(rt: &impl Abort, line: &mut Line<A>, texts: &[&[u8]])
+    requires none { line.old.looked ≡ 0 }
+    ensures none { line.new.looked ≡ 0 }
+{
     for text in texts {
         let answer = line.push(named(rt, text));
         assert!(rt; answer.is_ok());
@@ -99,6 +104,51 @@ fn ends_at_twenty_thousand_plies(rt: HostRuntime) -> Result<(), Fail> {
     assert_eq!(rt; line.push(named(&rt, b"e2e5")), Err(LineFault::Illegal));
     assert_eq!(rt; line.count(), 5001);
     assert_eq!(rt; line.status(), Status::Fivefold);
+    Ok(())
+}
+
+/// Looks at the move of a text.
+fn look_at<A: Allocator>(rt: &impl Abort, line: &mut Line<A>, text: &[u8])
+    requires few { line.old.looked < 16 }
+    ensures looked { line.new.looked ≡ line.old.looked + 1 }
+{
+    let m = line.read_move(text).expect(rt, "a legal move");
+    line.look(m);
+}
+
+/// The line speaks of the moves that are looked at, and is as before when they are taken back.
+#[test]
+#[tactic(auto, unfolding(chess_types::specs::board::Position::start))]
+fn looks_at_moves(rt: HostRuntime) -> Result<(), Fail> {
+    let table = KeyTable::new([1; 768]);
+    let mut line = Line::start(rt.alloc(), Position::start(), &table);
+    push_all(&rt, &mut line, &[b"g1f3", b"g8f6", b"f3g1"]);
+    look_at(&rt, &mut line, b"Ng8");
+    assert_eq!(rt; line.count(), 2);
+    assert_eq!(rt; line.compared(), 2);
+    look_at(&rt, &mut line, b"e4");
+    assert_eq!(rt; line.count(), 1);
+    assert_eq!(rt; line.compared(), 0);
+    assert!(rt; line.has_legal() && !line.in_check() && !line.is_drawn(true));
+    line.unlook();
+    line.unlook();
+    assert_eq!(rt; line.plies(), 3);
+    assert_eq!(rt; line.pop(), Some(named(&rt, b"f3g1")));
+    Ok(())
+}
+
+/// The halfmove clock of the first position is larger than the line is long.
+#[test]
+fn looks_back_to_the_start(rt: HostRuntime) -> Result<(), Fail> {
+    let table = KeyTable::new([1; 768]);
+    let position = read(b"4k3/8/8/8/8/8/8/R3K3 w - - 40 60").expect(&rt, "a FEN");
+    let mut line = Line::start(rt.alloc(), position, &table);
+    push_all(&rt, &mut line, &[b"a1a5"]);
+    assert_eq!(rt; line.count(), 1);
+    assert!(rt; line.compared() <= 41);
+    push_all(&rt, &mut line, &[b"e8e7", b"a5a1", b"e7e8"]);
+    assert_eq!(rt; line.count(), 2);
+    assert!(rt; line.compared() >= 1 && line.compared() <= 44);
     Ok(())
 }
 

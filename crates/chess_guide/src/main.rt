@@ -15,7 +15,9 @@ use std::process::ExitCode;
 /// carries it over to the tree, since both have the same moves.
 fn play<A: Allocator, B: Allocator>(tree: &mut Tree<A>, line: &mut Line<B>, m: Move) -> bool
     requires together { line.old.line ≡ line_to tree.old }
+    requires none_looked { line.old.looked ≡ 0 }
     ensures together { line.new.line ≡ line_to tree.new }
+    ensures none_looked { line.new.looked ≡ 0 }
 {
     if tree.depth() == 20_000 || line.prepare(m).is_err() || tree.add(m).is_err() {
         return false;

@@ -35,6 +35,32 @@ impl Record {
     {
         self.played
     }
+
+    /// The castling rights before it.
+    #[inline(always)]
+    pub fn rights(&self) -> Rights
+        ensures { result ≡ self.now.rights }
+    {
+        self.rights
+    }
+}
+
+impl Default for Record {
+    /// The record of no move: it fills the free places of a list of fixed capacity.
+    fn default() -> Record {
+        Record {
+            played: Move::default(),
+            captured: None,
+            rights: Rights {
+                white_king: false,
+                white_queen: false,
+                black_king: false,
+                black_queen: false,
+            },
+            target: None,
+            clock: 0,
+        }
+    }
 }
 
 /// What is kept of the move just made. It must be spent: by `Live::undo`, or by `keep`.

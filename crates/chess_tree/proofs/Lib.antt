@@ -6,6 +6,7 @@ pub mod TreeLemmas
 pub mod StepLemmas
 pub mod KeptLemmas
 pub mod WalkLemmas
+pub mod AnalysisLemmas
 pub mod FindLemmas
 pub mod CommentLemmas
 pub mod TestLemmas

@@ -61,7 +61,7 @@ has_place (k ∷ path) (suc i) f h within = has_place path i (below_child k f) (
 
 -- ---- to the root
 
-length_parent : (path : List ℕ) → 0 < length path → length (parent path) + 1 ≡ length path
+pub length_parent : (path : List ℕ) → 0 < length path → length (parent path) + 1 ≡ length path
 length_parent [] h = absurd (omega arith)
 length_parent (k ∷ []) h = omega arith
 length_parent (k ∷ j ∷ path) h = omega (arith, length_parent (j ∷ path) (omega arith))

@@ -9,3 +9,4 @@ pub mod Siblings
 pub mod Viewed
 pub mod ForestCode
 pub mod TreeCode
+pub mod Analysed

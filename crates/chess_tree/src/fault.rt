@@ -57,3 +57,20 @@ impl TreeFault {
         }
     }
 }
+
+/// Why a move isn't played or added. Where several apply, the first in this order is reported.
+#[derive(Clone, Copy, Debug, PartialEq, Eq, Error)]
+pub enum PlayFault {
+    /// The move isn't legal (FIDE Laws 3.10.2).
+    #[error("the move isn't legal")]
+    Illegal,
+    /// The node is 20,000 plies deep.
+    #[error("a line has at most 20000 plies")]
+    TooLong,
+    /// The tree holds 1,000,000 moves.
+    #[error("the tree holds 1000000 moves")]
+    Full,
+    /// There is no memory.
+    #[error("there is no memory")]
+    Memory,
+}

@@ -1,4 +1,4 @@
-ghost use Rattle.std.specs.Prelude.{◌≡◌};
+ghost use Rattle.std.specs.Prelude.{◌≡◌, is_none};
 ghost use Rattle.chess_tree.specs.Forest.{child, count};
 ghost use Rattle.chess_tree.specs.Edits.{without_node};
 ghost use Rattle.chess_tree.specs.steps.Notes.{noted_in};
@@ -149,6 +149,16 @@ impl<'t, 'a, A: Allocator> Model for Children<'t, 'a, A> {
 }
 
 impl<'t, 'a, A: Allocator> Children<'t, 'a, A> {
+    /// Whether there is none.
+    pub fn is_empty(&self) -> bool
+        ensures { result ≡ is_none (child 0 self.now) }
+    {
+        if self.next == 0 {
+            return true;
+        }
+        false
+    }
+
     /// The next one, if there is one; the others are left.
     pub fn next(&mut self) -> Option<NodeRef<'t, 'a, A>>
         ensures first { result ≡ child 0 self.old }

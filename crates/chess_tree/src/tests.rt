@@ -2,9 +2,11 @@ ghost use Rattle.std.specs.Prelude.{◌≡◌, ◌≤◌, OnOk, OnErr};
 ghost use Rattle.chess_types.specs.board.Lines.{last};
 ghost use Rattle.chess_tree.specs.GameTree.{line_to};
 
+mod analysis;
 mod edits;
 mod long;
 mod random;
+mod read;
 mod refused;
 
 use crate::{NodeRef, Tree, TreeFault};

@@ -1,13 +1,17 @@
--- What the board's code puts on the page, and what it does with the word behind `goto`.
+-- What the board's code puts on the page, and what it does with the word behind `goto` or `best`.
 --   IsOnPage         this text is put behind what stood on the page, or is the path to the cursor, which is still to be written
+--   best_effect   the best move, as deep as a word writes
 --   path_effect   to the node at a path, where a word writes one
-use Rattle.std.specs.Prelude.{◌≡◌, ℕ, List, [], ◌∷◌, ◌++◌, Option, Some, None}
-use Rattle.chess_tree.specs.GameTree.{TreeParts, at_path, has}
+use Rattle.std.specs.Prelude.{◌≡◌, ℕ, false, List, [], ◌∷◌, ◌++◌, Option, Some, None}
+use Rattle.chess_types.specs.board.Legal.{legal_moves}
+use Rattle.chess_types.specs.board.Lines.{last}
+use Rattle.chess_search.specs.Best.{best}
+use Rattle.chess_tree.specs.GameTree.{TreeParts, at_path, has, line_to}
 use Rattle.chess_cli.specs.declared.answer.Told.{Told}
 use Rattle.chess_cli.specs.declared.answer.Told.TheVariants.{Whole, Path}
 use Rattle.chess_cli.specs.declared.refusal.Refusal.TheVariants.{Argument}
 use Rattle.chess_cli.specs.Numbers.{path_text}
-use Rattle.chess_cli.specs.Answers.{Effect, Refuses, if_there}
+use Rattle.chess_cli.specs.Answers.{Effect, Refuses, best_text, if_there, says_line}
 
 abbrev pub IsOnPage : Told → TreeParts → List ℕ → List ℕ → List ℕ → Type 0
 IsOnPage Whole t page page1 text = page1 ≡ page ++ text
@@ -16,3 +20,7 @@ IsOnPage Path t page page1 text = (page1 ≡ page) × (path_text t.path ++ 10 �
 abbrev pub path_effect : TreeParts → Option (List ℕ) → Effect
 path_effect t None = Refuses Argument
 path_effect t (Some path) = if_there (has path t.tree.below) (at_path path t)
+
+abbrev pub best_effect : TreeParts → Option ℕ → Effect
+best_effect t None = Refuses Argument
+best_effect t (Some depth) = says_line (best_text (best false depth (line_to t) (legal_moves (last (line_to t)))))

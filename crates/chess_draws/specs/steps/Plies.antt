@@ -1,41 +1,51 @@
 -- What is kept of the moves of a line.
 --   IsPly      it is that of a legal move in a position
 --   ArePlies   they are those of the line from there
---   IsLine     what holds of a line at every moment
-use Rattle.std.specs.Prelude.{◌≡◌, ◌<◌, ◌≤◌, ℕ, true, ⊤, List, [], ◌∷◌, length, map}
+--   IsLine     what holds of a line at every moment, whichever of its moves are only looked at
+--   IsHeld     its plies, and those that are only looked at
+use Rattle.std.specs.Prelude.{◌≡◌, ◌<◌, ◌≤◌, true, ⊤, List, [], ◌∷◌, ◌++◌, length, map}
 use Rattle.chess_types.specs.board.MoveParts.{MoveParts}
-use Rattle.chess_types.specs.board.Position.{State, IsWellFormed}
+use Rattle.chess_types.specs.board.Position.{State, IsWellFormed, look}
 use Rattle.chess_types.specs.board.After.{after}
 use Rattle.chess_types.specs.board.Legal.{is_legal}
 use Rattle.chess_types.specs.board.Lines.{play}
+use Rattle.chess_types.specs.board.Repetition.{counting_target}
 use Rattle.chess_play.specs.LiveParts.{LiveParts}
 use Rattle.chess_play.specs.Records.{record_of}
 use Rattle.chess_draws.specs.declared.ply.Ply.{Ply}
-use Rattle.chess_draws.specs.steps.Stands.{StandParts, stand_of}
+use Rattle.chess_draws.specs.declared.stand.Stand.{Stand}
+use Rattle.chess_draws.specs.steps.Stands.{IsMenOf, IsStandOf}
 
 -- the ply is that of a legal move in the position, between squares of the board
-pub record IsPly (words : List ℕ) (p : State) (ply : Ply) : Type 0 where
-  pub before : ply.before ≡ stand_of words p
+pub record IsPly (p : State) (ply : Ply) : Type 0 where
+  pub men : IsMenOf ply.men (look p)
+  pub side : ply.side ≡ p.side
+  pub target : ply.target ≡ counting_target p
   pub past : ply.past ≡ record_of p ply.past.played
   pub from : ply.past.played.from < 64
   pub to : ply.past.played.to < 64
   pub legal : is_legal p ply.past.played ≡ true
 
 -- each ply is that of a move in the position to which the plies before it lead
-abbrev pub ArePlies : List ℕ → State → List Ply → Type 0
-ArePlies words p [] = ⊤
-ArePlies words p (ply ∷ plies) = IsPly words p ply × ArePlies words (after p ply.past.played) plies
+abbrev pub ArePlies : State → List Ply → Type 0
+ArePlies p [] = ⊤
+ArePlies p (ply ∷ plies) = IsPly p ply × ArePlies (after p ply.past.played) plies
 
 abbrev pub move_of : Ply → MoveParts
 move_of ply = ply.past.played
 
--- the position in which the line begins is well formed, with the counters of a FEN; each ply tells of a legal move, of which there
--- are at most 20,000; what is kept of the last position is that after all of them
-pub record IsLine (start : State) (plies : List Ply) (live : LiveParts) (here : StandParts) : Type 0 where
+-- the position in which the line begins is well formed, with the counters of a FEN; each ply tells of a legal move; what is kept of
+-- the last position is that after all of them
+pub record IsLine (start : State) (plies : List Ply) (live : LiveParts) (here : Stand) : Type 0 where
   pub well_formed : IsWellFormed start
   pub clock : start.clock ≤ 99999
   pub number : start.number ≤ 99999
-  pub few : length plies ≤ 20000
-  pub are_plies : ArePlies live.words start plies
+  pub are_plies : ArePlies start plies
   pub last_is : live.position ≡ play start (map move_of plies)
-  pub here_is : here ≡ stand_of live.words live.position
+  pub here_is : IsStandOf here live.position
+
+-- at most 20,000 plies, and at most 16 more that are only looked at
+pub record IsHeld (start : State) (plies looked : List Ply) (live : LiveParts) (here : Stand) : Type 0 where
+  pub line : IsLine start (plies ++ looked) live here
+  pub few : length plies ≤ 20000
+  pub ahead : length looked ≤ 16

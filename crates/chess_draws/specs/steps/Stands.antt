@@ -1,42 +1,59 @@
 -- What is kept of a position to compare it with others.
---   StandParts    the men, the side to move, the castling rights and the target where it counts
---   stand_of      that of a position
---   same_stand    two of them agree
-use Rattle.std.specs.Prelude.{ℕ, Bool, ◌&&◌, List, Option, refl}
-use Rattle.std.specs.Coded.{Coded, code_by, coded×, coded_ℕ, coded_list, coded_option}
+--   holds_straight, holds_short   a man stands there that is kept among those that go along ranks and files, or with the pawns: the
+--                   kings are in both
+--   IsMenOf         the sets of squares are those of what stands on a board
+--   IsStandOf       what is kept is that of a position
+--   same_ply        it agrees with what is kept of the position before a ply
+use Rattle.std.specs.Prelude.{◌≡◌, Bool, false, ◌&&◌, ◌||◌, Option, Some, None}
+use Rattle.std.specs.Ordering.{nat_cmp}
+use Rattle.std.specs.FinSet.{FinSet, contains}
 use Rattle.std.specs.List.{list_all}
-use Rattle.chess_types.specs.declared.board.man.Colour.{Colour}
-use Rattle.chess_types.specs.declared.board.position.Rights.{Rights}
+use Rattle.chess_types.specs.declared.board.man.Man.{Man}
+use Rattle.chess_types.specs.declared.board.man.Colour.TheVariants.{White, Black}
 use Rattle.chess_types.specs.board.Squares.{squares}
-use Rattle.chess_types.specs.board.Board.{Board, man_at}
-use Rattle.chess_types.specs.board.Men.{same_colour}
-use Rattle.chess_types.specs.board.Position.{State}
-use Rattle.chess_types.specs.steps.StateCode.{coded_board, coded_colour, coded_rights}
-use Rattle.chess_types.specs.board.Repetition.{same_man, same_rights, same_target, counting_target}
+use Rattle.chess_types.specs.board.Board.{Look}
+use Rattle.chess_types.specs.board.Men.{same_colour, is_of, is_pawn, is_king}
+use Rattle.chess_types.specs.board.Position.{State, look}
+use Rattle.chess_types.specs.board.Repetition.{same_bool, same_rights, same_target, counting_target}
+use Rattle.chess_types.specs.steps.KeptSets.{Gathers, is_straight, holds_diagonal}
+use Rattle.chess_draws.specs.declared.men.Men.{Men}
+use Rattle.chess_draws.specs.declared.stand.Stand.{Stand}
+use Rattle.chess_draws.specs.declared.ply.Ply.{Ply}
 
-pub record StandParts : Type 0 where
-  pub placement : Board
-  pub side : Colour
-  pub rights : Rights
-  pub target : Option ℕ
-  -- the words of the key that is kept beside them
-  pub words : List ℕ
+-- a rook, a queen or a king stands there
+abbrev pub holds_straight : Option Man → Bool
+holds_straight None = false
+holds_straight (Some man) = is_straight man.kind || is_king man.kind
 
--- the parts as a tuple, by which a proof tells them apart
-abbrev pub coded_stand : Coded StandParts
-coded_stand =
-    code_by ((Board × Colour) × (Rights × (Option ℕ × List ℕ)))
-    (coded× (coded× coded_board coded_colour) (coded× coded_rights (coded× (coded_option coded_ℕ) (coded_list coded_ℕ))))
-    (λ s. ((s.placement, s.side), (s.rights, (s.target, s.words))))
-    (λ p. record { placement = p.0.0; side = p.0.1; rights = p.1.0; target = p.1.1.0; words = p.1.1.1 })
-    (λ _. refl)
+-- a pawn or a king stands there
+abbrev pub holds_short : Option Man → Bool
+holds_short None = false
+holds_short (Some man) = is_pawn man.kind || is_king man.kind
+
+-- the five sets are those of the board
+pub record IsMenOf (men : Men) (look : Look) : Type 0 where
+  pub white : Gathers men.white (is_of White) look
+  pub black : Gathers men.black (is_of Black) look
+  pub straight : Gathers men.straight holds_straight look
+  pub diagonal : Gathers men.diagonal holds_diagonal look
+  pub short : Gathers men.short holds_short look
 
 -- that of a position
-abbrev pub stand_of : List ℕ → State → StandParts
-stand_of words p = record { placement = p.placement; side = p.side; rights = p.rights; target = counting_target p; words = words }
+pub record IsStandOf (stand : Stand) (p : State) : Type 0 where
+  pub men : IsMenOf stand.men (look p)
+  pub side : stand.side ≡ p.side
+  pub rights : stand.rights ≡ p.rights
+  pub target : stand.target ≡ counting_target p
+
+-- two sets hold the same squares
+unfoldable pub same_set : FinSet nat_cmp → FinSet nat_cmp → Bool
+same_set a b = list_all (λ s. same_bool (contains a s) (contains b s)) squares
+
+unfoldable pub same_men : Men → Men → Bool
+same_men m n =
+    same_set m.white n.white && same_set m.black n.black && same_set m.straight n.straight && same_set m.diagonal n.diagonal
+    && same_set m.short n.short
 
 -- by `is_same`, of positions (9.2.3)
-unfoldable pub same_stand : StandParts → StandParts → Bool
-same_stand s t =
-    same_colour s.side t.side && list_all (λ n. same_man (man_at s.placement n) (man_at t.placement n)) squares && same_rights s.rights t.rights
-    && same_target s.target t.target
+unfoldable pub same_ply : Stand → Ply → Bool
+same_ply s ply = same_colour s.side ply.side && same_men s.men ply.men && same_rights s.rights ply.past.rights && same_target s.target ply.target

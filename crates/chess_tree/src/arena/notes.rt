@@ -62,7 +62,7 @@ pub(crate) fn add_nag<'a, A: Allocator>(
     Ok(())
 }
 
-/// Another comment at a number.
+/// Another comment at a number. Where an empty one leaves no notes, the map has no entry.
 pub(crate) fn set_comment<'a, A: Allocator>(
     notes: &mut NoteMap<'a, A>,
     alloc: &'a A,
@@ -72,6 +72,10 @@ pub(crate) fn set_comment<'a, A: Allocator>(
     ensures ok { OnOk result (IsNotedAt (noted_in notes.old) (noted_in notes.new) number (record { nags = (noted_in notes.old number).nags; comment = comment.entry.items })) }
     ensures err { OnErr result ((j : ℕ) → noted_in notes.new j ≡ noted_in notes.old j) }
 {
+    if comment.is_empty() && nags(notes, number).is_empty() {
+        forget(notes, number);
+        return Ok(());
+    }
     let note = notes.entry(number)?.or_insert(Note::new(alloc));
     note.comment = comment;
     Ok(())

@@ -68,6 +68,18 @@ fn as_before(rt: HostRuntime) -> Result<(), Fail> {
     Ok(())
 }
 
+/// A comment of no words is none.
+#[test]
+fn an_empty_comment_takes_no_memory(rt: HostRuntime) -> Result<(), Fail> {
+    let heap = LocalHeap::new(rt.alloc(), 8_192)?;
+    let mut tree = begin(&heap)?;
+    add(&rt, &mut tree, "e2e4")?;
+    let used = heap.used();
+    tree.set_comment(b" \t ")?;
+    assert_eq!(rt; heap.used(), used);
+    Ok(())
+}
+
 /// One of the calls that may want memory.
 fn a_call<A: Allocator>(
     rt: &impl Abort,

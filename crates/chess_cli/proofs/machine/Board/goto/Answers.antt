@@ -5,4 +5,4 @@ use Rattle.chess_cli.proofs.machine.Board.goto.Goals as goal
 
 pub returns-in-TooLong : goal.returns-in-TooLong
 returns-in-TooLong g c =
-    (inl (too_long c.args.self.now c.args.word.now [] (subst IsGameTree c.self.view_is c.position-start.ensures.game) c.in-TooLong.ensures), c.self.view_is)
+    (inl (too_long c.args.self.now c.args.word.now [] (subst IsGameTree c.self.view_is c.tree-tree.ensures.game) c.in-TooLong.ensures), c.self.view_is)

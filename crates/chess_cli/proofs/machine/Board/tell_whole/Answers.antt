@@ -4,7 +4,7 @@ use Rattle.chess_cli.proofs.machine.Board.tell_whole.Goals as goal
 pub returns-in-Path : goal.returns-in-Path
 returns-in-Path g c =
     told_path g.W.Sink.takes g.W.Sink.failed c.args.self.now c.tell.new.self c.args.line.now c.args.page.now c.tell.new.page c.write_path.new.page c.args.writer.now c.write_path.new.writer c.write_path.result
-    (c.in-Path.ensures) (rw c.self.view_is at c.write_path.ensures)
+    (c.in-Path.ensures) (rw c.tree.ensures at c.write_path.ensures)
 
 pub returns : goal.returns
 returns g c =

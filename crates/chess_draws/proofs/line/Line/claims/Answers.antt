@@ -1,20 +1,20 @@
 use Rattle.std.proofs.Common.{◌≡◌, ap, ◌∙◌, arith}
 use Rattle.chess_types.specs.board.Position.{State}
 use Rattle.chess_types.specs.board.Lines.{last}
-use Rattle.chess_draws.proofs.LineLemmas.{here_last, here_clock, here_number}
+use Rattle.chess_draws.proofs.LineLemmas.{here_last, clock_fits, number_fits}
 use Rattle.chess_draws.proofs.AnswerLemmas.{status_is, claims_is}
 use Rattle.chess_draws.proofs.line.Line.claims.Goals as goal
 
 pub status_at-status-requires-clause-clock : goal.status_at-status-requires-clause-clock
-status_at-status-requires-clause-clock g c = omega (arith, here_clock c.self.invariant)
+status_at-status-requires-clause-clock g c = omega (arith, clock_fits c.self.invariant)
 
 pub status_at-status-requires-clause-number : goal.status_at-status-requires-clause-number
-status_at-status-requires-clause-number g c = omega (arith, here_number c.self.invariant)
+status_at-status-requires-clause-number g c = omega (arith, number_fits c.self.invariant)
 
 pub returns-clause-value : goal.returns-clause-value
 returns-clause-value g c =
     let here : c.self.inside.live.position ≡ last c.args.self.now.line =
-    here_last c.self.invariant c.self.view_is ∙ ap last c.count-count.ensures.as_before.line in
+    here_last c.self.invariant.line c.self.view_is ∙ ap last c.count-count.ensures.as_before.line in
     c.claims_at.ensures
     ∙ claims_is c.args.self.now.line c.status_at-status.result c.count-count.result c.behind-self.inside.clock
     (c.status_at-status.ensures.value ∙ status_is c.args.self.now.line c.self.inside.live.position c.count-count.result here c.count-count.ensures.value)

@@ -1,39 +1,42 @@
 use Rattle.std.proofs.Common.{◌≡◌, Some, ap, ◌∙◌, arith}
 use Rattle.chess_types.specs.declared.board.outcome.Claims.{Claims}
 use Rattle.chess_types.specs.board.Legal.{is_legal}
+use Rattle.chess_types.specs.board.Position.{State}
 use Rattle.chess_types.specs.board.Lines.{Line, last, extended}
 use Rattle.chess_types.specs.board.Repetition.{repetitions}
 use Rattle.chess_types.specs.board.Outcome.{status}
 use Rattle.chess_draws.specs.LineParts.{LineParts}
-use Rattle.chess_draws.proofs.LineLemmas.{legal_last, here_clock, here_number}
+use Rattle.chess_draws.proofs.LineLemmas.{here_last, legal_last, clock_fits, number_fits}
 use Rattle.chess_draws.proofs.AnswerLemmas.{claims_with_is, claims_with_none}
 use Rattle.chess_draws.proofs.line.Line.claims_with.Goals as goal
 
 pub is_legal-requires-clause-clock : goal.is_legal-requires-clause-clock
-is_legal-requires-clause-clock g c = omega (arith, here_clock c.self.invariant)
+is_legal-requires-clause-clock g c = omega (arith, clock_fits c.self.invariant)
 
 pub is_legal-requires-clause-number : goal.is_legal-requires-clause-number
-is_legal-requires-clause-number g c = omega (arith, here_number c.self.invariant)
+is_legal-requires-clause-number g c = omega (arith, number_fits c.self.invariant)
 
 pub returns-then-not-is_legal-clause-value : goal.returns-then-not-is_legal-clause-value
 returns-then-not-is_legal-clause-value g c =
     claims_with_none c.args.self.now.line c.args.m
-    (legal_last c.self.invariant c.self.view_is c.args.m c.is_legal.ensures.value c.if-not-is_legal.true)
+    (legal_last c.self.invariant.line c.self.view_is c.args.m c.is_legal.ensures.value c.if-not-is_legal.true)
 
-pub count_with-count-requires : goal.count_with-count-requires
-count_with-count-requires g c = record {
-  legal =
-      ap (λ (l : Line). is_legal (last l) c.args.m) (c.status-status.ensures.as_before.line ∙ ap (λ (l : LineParts). l.line) c.self.view_is)
-      ∙ legal_last c.self.invariant c.self.view_is c.args.m c.is_legal.ensures.value c.if-not-is_legal.false;
-}
+pub look-requires-clause-legal : goal.look-requires-clause-legal
+look-requires-clause-legal g c =
+    ap (λ (l : Line). is_legal (last l) c.args.m) (c.status-status.ensures.as_before.line ∙ ap (λ (l : LineParts). l.line) c.self.view_is)
+    ∙ legal_last c.self.invariant.line c.self.view_is c.args.m c.is_legal.ensures.value c.if-not-is_legal.false
 
 pub returns-clause-value : goal.returns-clause-value
 returns-clause-value g c =
     let same : c.status-status.new.self.line ≡ c.args.self.now.line =
     c.status-status.ensures.as_before.line ∙ ap (λ (l : LineParts). l.line) c.self.view_is in
+    let longer : c.look.new.self.line ≡ extended c.args.self.now.line c.args.m =
+    c.look.ensures.line ∙ ap (λ (l : Line). extended l c.args.m) same in
     ap (λ (k : Claims). Some k) c.claims_at.ensures
-    ∙ claims_with_is c.args.self.now.line c.args.m c.status-status.result c.count_with-count.result.0 c.count_with-count.result.1
-    (legal_last c.self.invariant c.self.view_is c.args.m c.is_legal.ensures.value c.if-not-is_legal.false)
+    ∙ claims_with_is c.args.self.now.line c.args.m c.status-status.result c.count-count.result c.behind-self.inside.clock
+    (legal_last c.self.invariant.line c.self.view_is c.args.m c.is_legal.ensures.value c.if-not-is_legal.false)
     (c.status-status.ensures.value ∙ ap (λ (l : LineParts). status l.line) c.self.view_is)
-    (c.count_with-count.ensures.count ∙ ap (λ (l : Line). repetitions (extended l c.args.m)) same)
-    (c.count_with-count.ensures.clock ∙ ap (λ (l : Line). (last (extended l c.args.m)).clock) same)
+    (c.count-count.ensures.value ∙ ap repetitions longer)
+    (ap (λ (s : State). s.clock)
+    (c.behind-self.view_is ∙ c.position.ensures.value ∙ here_last c.self-2.invariant.line c.self-2.view_is
+    ∙ ap last (c.count-count.ensures.as_before.line ∙ longer)))

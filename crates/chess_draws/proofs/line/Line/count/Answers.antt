@@ -1,18 +1,31 @@
-use Rattle.std.proofs.Common.{◌≡◌, ◌+◌, ℕ, List, sym, ap, subst, ◌∙◌}
-use Rattle.std.specs.List.{All, count_by}
+use Rattle.std.proofs.Common.{◌≡◌, ◌+◌, ◌*◌, ◌++◌, ◌≤◌, ℕ, List, length, ap, subst, ◌∙◌, arith}
+use Rattle.chess_types.specs.board.Position.{State}
+use Rattle.chess_types.specs.board.Lines.{last}
 use Rattle.chess_types.specs.board.Repetition.{repetitions}
 use Rattle.chess_draws.specs.declared.ply.Ply.{Ply}
-use Rattle.chess_draws.specs.steps.Stands.{StandParts, same_stand}
+use Rattle.chess_draws.specs.steps.LookBack.{came_back}
 use Rattle.chess_draws.specs.LineParts.{LineParts}
-use Rattle.chess_draws.proofs.LineLemmas.{all_words, here_count}
+use Rattle.chess_draws.proofs.LineLemmas.{here_last, came_often, recently, IsRecent}
 use Rattle.chess_draws.proofs.line.Line.count.Goals as goal
-
-pub count_same-requires-clause-words : goal.count_same-requires-clause-words
-count_same-requires-clause-words g c =
-    subst (λ (plies : List Ply). All (λ (ply : Ply). c.self.inside.here.words ≡ ply.before.words) plies) (sym c.as_slice.ensures.value) (all_words c.self.invariant (ap (λ (s : StandParts). s.words) c.self.invariant.here_is))
 
 pub returns-clause-value : goal.returns-clause-value
 returns-clause-value g c =
-    let counted : c.count_same.result ≡ count_by (λ (ply : Ply). same_stand c.self.inside.here ply.before) c.self.inside.plies.items =
-    c.count_same.ensures ∙ ap (count_by (λ (ply : Ply). same_stand c.self.inside.here ply.before)) c.as_slice.ensures.value in
-    ap (λ (n : ℕ). n + 1) counted ∙ here_count c.self.invariant ∙ ap (λ (l : LineParts). repetitions l.line) c.self.view_is
+    let all : c.as_slice.result.now ++ c.as_slice-2.result.now ≡ c.self.inside.plies.items ++ c.self.inside.looked.items =
+    λ i. c.as_slice.ensures.value i ++ c.as_slice-2.ensures.value i in
+    let counted = c.look_back-count.ensures.count ∙ ap (λ (xs : List Ply). came_back c.self.inside.here xs c.look_back-count.result.1) all in
+    let clock = ap (λ (s : State). s.clock) (c.behind-self.view_is ∙ c.position.ensures.value) in
+    ap (λ (n : ℕ). n + 1) counted
+    ∙ came_often c.self.invariant.line c.behind-self.inside.clock c.look_back-count.result.1 clock
+    (subst (λ (xs : List Ply). 2 * c.look_back-count.result.1 ≤ length xs) all c.look_back-count.ensures.within)
+    (subst (λ (xs : List Ply). (n : ℕ) → n ≤ c.behind-self.inside.clock → n ≤ length xs → n ≤ 2 * c.look_back-count.result.1 + 1) all
+    c.look_back-count.ensures.reaches)
+    ∙ ap (λ (l : LineParts). repetitions l.line) c.self.view_is
+
+pub returns-clause-at_most : goal.returns-clause-at_most
+returns-clause-at_most g c =
+    let clock : c.behind-self.inside.clock ≡ (last c.args.self.now.line).clock =
+    ap (λ (s : State). s.clock) (c.behind-self.view_is ∙ c.position.ensures.value ∙ here_last c.self.invariant.line c.self.view_is) in
+    omega (arith, clock, c.look_back-count.ensures.at_most)
+
+pub returns-clause-recent : goal.returns-clause-recent
+returns-clause-recent g c = subst (λ (l : LineParts). IsRecent l.line) c.self.view_is (recently c.self.invariant.line)

@@ -1,37 +1,41 @@
 use Rattle.std.proofs.Common.{◌≡◌, ◌+◌, ◌<◌, ◌≤◌, length, vec_capacity, refl, sym, ap, inl, inr, arith, rules}
 use Rattle.chess_draws.specs.LineParts.{LineParts}
-use Rattle.chess_draws.proofs.LineLemmas.{legal_last, plies_moves, here_clock, here_number}
+use Rattle.chess_draws.proofs.LineLemmas.{legal_last, none_looked, all_made, clock_fits, number_fits}
 use Rattle.chess_draws.proofs.AnswerLemmas.{answer_illegal, answer_long, answer_made}
 use Rattle.chess_draws.proofs.line.Line.prepare.Goals as goal
 
 pub is_legal-requires-clause-clock : goal.is_legal-requires-clause-clock
-is_legal-requires-clause-clock g c = omega (arith, here_clock c.self.invariant)
+is_legal-requires-clause-clock g c = omega (arith, clock_fits c.self.invariant)
 
 pub is_legal-requires-clause-number : goal.is_legal-requires-clause-number
-is_legal-requires-clause-number g c = omega (arith, here_number c.self.invariant)
+is_legal-requires-clause-number g c = omega (arith, number_fits c.self.invariant)
 
 pub returns-then-not-is_legal-clause-answer : goal.returns-then-not-is_legal-clause-answer
 returns-then-not-is_legal-clause-answer g c =
     inl (sym (answer_illegal c.args.self.now.line c.args.m
-    (legal_last c.self.invariant c.self.view_is c.args.m c.is_legal.ensures.value c.if-not-is_legal.true)))
+    (legal_last c.self.invariant.line c.self.view_is c.args.m c.is_legal.ensures.value c.if-not-is_legal.true)))
 
 pub returns-then-len-ge-LIMIT-clause-answer : goal.returns-then-len-ge-LIMIT-clause-answer
 returns-then-len-ge-LIMIT-clause-answer g c =
-    let plies : length c.self.inside.plies.items ≡ length c.args.self.now.line.moves = plies_moves c.self.invariant c.self.view_is in
+    let plies : length c.self.inside.plies.items ≡ length c.args.self.now.line.moves =
+    all_made c.self.inside.plies.items c.self.inside.looked.items c.self.invariant.line c.self.view_is
+    (none_looked c.self.inside.looked.items c.args.self.now (ap (λ (l : LineParts). l.looked) c.self.view_is) c.requires.none) in
     let len : c.len.result ≡ length c.self.inside.plies.items = search (rules, arith) in
     inl (sym (answer_long c.args.self.now.line c.args.m
-    (legal_last c.self.invariant c.self.view_is c.args.m c.is_legal.ensures.value c.if-not-is_legal.false)
+    (legal_last c.self.invariant.line c.self.view_is c.args.m c.is_legal.ensures.value c.if-not-is_legal.false)
     (omega (arith, plies, len, c.if-len-ge-LIMIT.true))))
 
 pub returns-then-is_err-clause-answer : goal.returns-then-is_err-clause-answer
 returns-then-is_err-clause-answer g c =
-    let plies : length c.self.inside.plies.items ≡ length c.args.self.now.line.moves = plies_moves c.self.invariant c.self.view_is in
+    let plies : length c.self.inside.plies.items ≡ length c.args.self.now.line.moves =
+    all_made c.self.inside.plies.items c.self.inside.looked.items c.self.invariant.line c.self.view_is
+    (none_looked c.self.inside.looked.items c.args.self.now (ap (λ (l : LineParts). l.looked) c.self.view_is) c.requires.none) in
     let len : c.len.result ≡ length c.self.inside.plies.items = search (rules, arith) in
     let room : vec_capacity c.self.inside.plies ≡ c.args.self.now.room = ap (λ (l : LineParts). l.room) c.self.view_is in
     let full : vec_capacity c.self.inside.plies < c.len.result + 1 = search (rules, arith) in
     inr (
       answer_made c.args.self.now.line c.args.m
-          (legal_last c.self.invariant c.self.view_is c.args.m c.is_legal.ensures.value c.if-not-is_legal.false)
+          (legal_last c.self.invariant.line c.self.view_is c.args.m c.is_legal.ensures.value c.if-not-is_legal.false)
           (omega (arith, plies, len, c.if-len-ge-LIMIT.false)),
       refl,
       omega (arith, plies, len, room, full),
@@ -39,24 +43,30 @@ returns-then-is_err-clause-answer g c =
 
 pub returns-clause-answer : goal.returns-clause-answer
 returns-clause-answer g c =
-    let plies : length c.self.inside.plies.items ≡ length c.args.self.now.line.moves = plies_moves c.self.invariant c.self.view_is in
+    let plies : length c.self.inside.plies.items ≡ length c.args.self.now.line.moves =
+    all_made c.self.inside.plies.items c.self.inside.looked.items c.self.invariant.line c.self.view_is
+    (none_looked c.self.inside.looked.items c.args.self.now (ap (λ (l : LineParts). l.looked) c.self.view_is) c.requires.none) in
     let len : c.len.result ≡ length c.self.inside.plies.items = search (rules, arith) in
     inl (sym (answer_made c.args.self.now.line c.args.m
-    (legal_last c.self.invariant c.self.view_is c.args.m c.is_legal.ensures.value c.if-not-is_legal.false)
+    (legal_last c.self.invariant.line c.self.view_is c.args.m c.is_legal.ensures.value c.if-not-is_legal.false)
     (omega (arith, plies, len, c.if-len-ge-LIMIT.false))))
 
 pub returns-clause-legal : goal.returns-clause-legal
-returns-clause-legal g c = legal_last c.self.invariant c.self.view_is c.args.m c.is_legal.ensures.value c.if-not-is_legal.false
+returns-clause-legal g c = legal_last c.self.invariant.line c.self.view_is c.args.m c.is_legal.ensures.value c.if-not-is_legal.false
 
 pub returns-clause-few : goal.returns-clause-few
 returns-clause-few g c =
-    let plies : length c.self.inside.plies.items ≡ length c.args.self.now.line.moves = plies_moves c.self.invariant c.self.view_is in
+    let plies : length c.self.inside.plies.items ≡ length c.args.self.now.line.moves =
+    all_made c.self.inside.plies.items c.self.inside.looked.items c.self.invariant.line c.self.view_is
+    (none_looked c.self.inside.looked.items c.args.self.now (ap (λ (l : LineParts). l.looked) c.self.view_is) c.requires.none) in
     let len : c.len.result ≡ length c.self.inside.plies.items = search (rules, arith) in
     omega (arith, plies, len, c.if-len-ge-LIMIT.false)
 
 pub returns-clause-ready : goal.returns-clause-ready
 returns-clause-ready g c =
-    let plies : length c.self.inside.plies.items ≡ length c.args.self.now.line.moves = plies_moves c.self.invariant c.self.view_is in
+    let plies : length c.self.inside.plies.items ≡ length c.args.self.now.line.moves =
+    all_made c.self.inside.plies.items c.self.inside.looked.items c.self.invariant.line c.self.view_is
+    (none_looked c.self.inside.looked.items c.args.self.now (ap (λ (l : LineParts). l.looked) c.self.view_is) c.requires.none) in
     let len : c.len.result ≡ length c.self.inside.plies.items = search (rules, arith) in
     let room : c.len.result + 1 ≤ vec_capacity c.reserve.new.self = grind arith in
     omega (arith, plies, len, room)

@@ -3,17 +3,17 @@ use Rattle.std.specs.Result.{IfOk}
 use Rattle.chess_types.specs.board.Position.{State}
 use Rattle.chess_types.specs.board.Legal.{is_legal}
 use Rattle.chess_san.specs.Naming.{reading}
-use Rattle.chess_draws.proofs.LineLemmas.{here_last, here_clock, here_number}
+use Rattle.chess_draws.proofs.LineLemmas.{here_last, clock_fits, number_fits}
 use Rattle.chess_draws.proofs.line.Line.read_move.Goals as goal
 
 pub read-requires-clause-clock : goal.read-requires-clause-clock
-read-requires-clause-clock g c = omega (arith, here_clock c.self.invariant)
+read-requires-clause-clock g c = omega (arith, clock_fits c.self.invariant)
 
 pub read-requires-clause-number : goal.read-requires-clause-number
-read-requires-clause-number g c = omega (arith, here_number c.self.invariant)
+read-requires-clause-number g c = omega (arith, number_fits c.self.invariant)
 
 pub returns-clause-value : goal.returns-clause-value
-returns-clause-value g c = c.read.ensures.value ∙ ap (λ (p : State). reading p c.args.text.now) (here_last c.self.invariant c.self.view_is)
+returns-clause-value g c = c.read.ensures.value ∙ ap (λ (p : State). reading p c.args.text.now) (here_last c.self.invariant.line c.self.view_is)
 
 pub returns-clause-legal : goal.returns-clause-legal
-returns-clause-legal g c = subst (λ (p : State). IfOk c.read.result (λ m. is_legal p m ≡ true)) (here_last c.self.invariant c.self.view_is) c.read.ensures.legal
+returns-clause-legal g c = subst (λ (p : State). IfOk c.read.result (λ m. is_legal p m ≡ true)) (here_last c.self.invariant.line c.self.view_is) c.read.ensures.legal

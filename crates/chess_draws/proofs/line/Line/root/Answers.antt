@@ -5,4 +5,4 @@ use Rattle.chess_draws.proofs.LineLemmas.{here_legal}
 use Rattle.chess_draws.proofs.line.Line.root.Goals as goal
 
 pub returns-clause-legal : goal.returns-clause-legal
-returns-clause-legal g c = subst (λ (l : LineParts). AreLegal l.line.start l.line.moves) c.self.view_is (here_legal c.self.invariant)
+returns-clause-legal g c = subst (λ (l : LineParts). AreLegal l.line.start l.line.moves) c.self.view_is (here_legal c.self.invariant.line)

@@ -1,0 +1,207 @@
+-- How often a line has come to its last position, seen from its end: every second ply, as far back as the halfmove clock tells.
+use Rattle.std.proofs.Common.{◌≡◌, ℕ, zero, suc, ◌+◌, ◌-◌, ◌*◌, ◌<◌, ◌≤◌, true, false, List, [], ◌∷◌, ◌++◌, length, get_or, map, take, drop, refl, sym, ap, ◌∙◌, arith}
+use Rattle.std.specs.List.{count_by}
+use Rattle.std.proofs.lemmas.Bool.{false_from_ne_true, true≢false}
+use Rattle.std.proofs.Math.Seq.{drop-append-add}
+use Rattle.std.proofs.lemmas.List.{length-map}
+use Rattle.std.proofs.lemmas.List.Sums.{sum_by-cons}
+use Rattle.chess_types.specs.declared.board.man.Colour.{Colour}
+use Rattle.chess_types.specs.declared.board.man.Colour.TheVariants.{White, Black}
+use Rattle.chess_types.specs.board.Men.{same_colour, opponent}
+use Rattle.chess_types.specs.board.MoveParts.{MoveParts}
+use Rattle.chess_types.specs.board.Position.{State, IsSetup}
+use Rattle.chess_types.specs.board.After.{after, after_by}
+use Rattle.chess_types.specs.board.Legal.{is_legal}
+use Rattle.chess_types.specs.board.Lines.{play, AreLegal, positions_from}
+use Rattle.chess_types.specs.board.Repetition.{is_same}
+use Rattle.chess_types.proofs.MoveLemmas.{pseudo_man, legal_pseudo}
+use Rattle.chess_moves.proofs.LegalLaws.{legal_well_formed}
+use Rattle.chess_draws.specs.declared.ply.Ply.{Ply}
+use Rattle.chess_draws.specs.declared.stand.Stand.{Stand}
+use Rattle.chess_draws.specs.steps.Stands.{IsStandOf, same_ply}
+use Rattle.chess_draws.specs.steps.Plies.{ArePlies, move_of}
+use Rattle.chess_draws.specs.steps.LookBack.{first_same, came_back}
+use Rattle.chess_draws.proofs.StandLemmas.{same_plies}
+use Rattle.chess_draws.proofs.SameLemmas.{is_same_self, other_side, sides_differ}
+use Rattle.chess_draws.proofs.PlyLemmas.{one_if}
+use Rattle.chess_draws.proofs.Repeats.{AreOnBoard, as_far_as_clock}
+
+-- how many positions from the k-th on are the same as q
+abbrev pub from_place : State → State → List MoveParts → ℕ → ℕ
+from_place q start ms k = count_by (is_same q) (positions_from (play start (take k ms)) (drop k ms))
+
+-- one place less
+one_back : (q start : State) (ms : List MoveParts) (k : ℕ) → k < length ms →
+    from_place q start ms k ≡ one_if (is_same q (play start (take k ms))) + from_place q start ms (suc k)
+one_back q start [] k h = absurd (omega arith)
+one_back q start (m ∷ ms) zero h = sum_by-cons (λ (s : State). one_if (is_same q s)) start (positions_from (after start m) ms)
+one_back q start (m ∷ ms) (suc k) h = one_back q (after start m) ms k (omega arith)
+
+-- at the end the last position is left
+at_end : (q start : State) (ms : List MoveParts) → q ≡ play start ms → from_place q start ms (length ms) ≡ 1
+at_end q start [] is =
+    let one : one_if (is_same q start) ≡ 1 = ap (λ (s : State). one_if (is_same q s)) (sym is) ∙ ap one_if (is_same_self q) in
+    omega (arith, one, sum_by-cons (λ (s : State). one_if (is_same q s)) start [])
+at_end q start (m ∷ ms) is = at_end q (after start m) ms is
+
+-- a place divides the line
+rest_plays : (start : State) (ms : List MoveParts) (k : ℕ) → play (play start (take k ms)) (drop k ms) ≡ play start ms
+rest_plays start ms zero = refl
+rest_plays start [] (suc k) = refl
+rest_plays start (m ∷ ms) (suc k) = rest_plays (after start m) ms k
+
+-- what holds from there on
+record Rest (p : State) (ms : List MoveParts) (n : ℕ) : Type 0 where
+  pub setup : IsSetup p
+  pub legal : AreLegal p ms
+  pub on_board : AreOnBoard ms
+  pub many : length ms ≡ n
+
+rest_of : (start : State) (ms : List MoveParts) (k : ℕ) → IsSetup start → AreLegal start ms → AreOnBoard ms → k ≤ length ms →
+    Rest (play start (take k ms)) (drop k ms) (length ms - k)
+rest_of start ms zero setup legal on h = record { setup = setup; legal = legal; on_board = on; many = omega arith }
+rest_of start [] (suc k) setup legal on h = absurd (omega arith)
+rest_of start (m ∷ ms) (suc k) setup legal on h =
+    let rest : Rest (play (after start m) (take k ms)) (drop k ms) (length ms - k) =
+    rest_of (after start m) ms k (legal_well_formed start m setup on.0 on.1 legal.0).setup legal.1 on.2 (omega arith) in
+    record { setup = rest.setup; legal = rest.legal; on_board = rest.on_board; many = omega (arith, rest.many) }
+
+-- the side that has the move after some moves
+abbrev turned : ℕ → Colour → Colour
+turned zero c = c
+turned (suc n) c = turned n (opponent c)
+
+side_then : (p : State) (m : MoveParts) → is_legal p m ≡ true → (after p m).side ≡ opponent p.side
+unfolding after
+side_then p m legal =
+    let mover = pseudo_man p m (legal_pseudo p m legal) in
+    ap (λ x. (after_by p x m).side) mover.1
+
+side_at : (p : State) (ms : List MoveParts) → AreLegal p ms → (play p ms).side ≡ turned (length ms) p.side
+side_at p [] legal = refl
+side_at p (m ∷ ms) legal = side_at (after p m) ms legal.1 ∙ ap (turned (length ms)) (side_then p m legal.0)
+
+twice : (c : Colour) → opponent (opponent c) ≡ c
+twice White = refl
+twice Black = refl
+
+turned_odd : (half n : ℕ) (c : Colour) → n ≡ 2 * half + 1 → turned n c ≡ opponent c
+turned_odd half zero c is = absurd (omega arith)
+turned_odd half (suc zero) c is = refl
+turned_odd zero (suc (suc n)) c is = absurd (omega arith)
+turned_odd (suc half) (suc (suc n)) c is = ap (turned n) (twice c) ∙ turned_odd half n c (omega arith)
+
+-- an odd number of moves back the other side has the move
+odd_differs : (p : State) (ms : List MoveParts) (half : ℕ) → AreLegal p ms → length ms ≡ 2 * half + 1 → is_same (play p ms) p ≡ false
+odd_differs p ms half legal odd =
+    sides_differ (play p ms) p
+    (ap (λ c. same_colour c p.side) (side_at p ms legal ∙ turned_odd half (length ms) p.side odd) ∙ other_side p.side)
+
+module _ (start : State) (ms : List MoveParts) (setup : IsSetup start) (legal : AreLegal start ms) (on : AreOnBoard ms) where
+  -- a place an odd number of moves before the end
+  odd_place : (k half : ℕ) → k ≤ length ms → length ms - k ≡ 2 * half + 1 → is_same (play start ms) (play start (take k ms)) ≡ false
+  odd_place k half within odd =
+      let rest = rest_of start ms k setup legal on within in
+      ap (λ (q : State). is_same q (play start (take k ms))) (sym (rest_plays start ms k))
+      ∙ odd_differs (play start (take k ms)) (drop k ms) half rest.legal (rest.many ∙ odd)
+
+  -- a place where the position is the same is no further back than the clock tells
+  pub within_clock : (k : ℕ) → k ≤ length ms → is_same (play start ms) (play start (take k ms)) ≡ true → length ms - k ≤ (play start ms).clock
+  within_clock k within same =
+      let rest = rest_of start ms k setup legal on within in
+      let there : is_same (play (play start (take k ms)) (drop k ms)) (play start (take k ms)) ≡ true =
+      ap (λ (q : State). is_same q (play start (take k ms))) (rest_plays start ms k) ∙ same in
+      let far = as_far_as_clock (play start (take k ms)) (drop k ms) rest.setup rest.legal rest.on_board there in
+      let clock : (play (play start (take k ms)) (drop k ms)).clock ≡ (play start ms).clock = ap (λ (q : State). q.clock) (rest_plays start ms k) in
+      omega (arith, far, clock, rest.many)
+
+  -- two places less
+  two_back : (k half : ℕ) → k + 2 ≤ length ms → length ms - (k + 1) ≡ 2 * half + 1 →
+      from_place (play start ms) start ms k ≡ one_if (is_same (play start ms) (play start (take k ms))) + from_place (play start ms) start ms (k + 2)
+  two_back k half within odd =
+      let none : one_if (is_same (play start ms) (play start (take (suc k) ms))) ≡ 0 = ap one_if (odd_place (suc k) half (omega arith) (omega (arith, odd))) in
+      let two : suc (suc k) ≡ k + 2 = omega arith in
+      let next : from_place (play start ms) start ms (suc (suc k)) ≡ from_place (play start ms) start ms (k + 2) =
+      ap (from_place (play start ms) start ms) two in
+      omega (arith, none, next, one_back (play start ms) start ms k (omega arith), one_back (play start ms) start ms (suc k) (omega arith))
+
+  -- where nothing before a place is the same
+  none_before : (k : ℕ) → k ≤ length ms → ((j : ℕ) → j < k → is_same (play start ms) (play start (take j ms)) ≡ false) →
+      from_place (play start ms) start ms 0 ≡ from_place (play start ms) start ms k
+  none_before zero within none = refl
+  none_before (suc k) within none =
+      let zero_there : one_if (is_same (play start ms) (play start (take k ms))) ≡ 0 = ap one_if (none k (omega arith)) in
+      omega (
+        arith,
+        zero_there,
+        none_before k (omega arith) (λ j low. none j (omega arith)),
+        one_back (play start ms) start ms k (omega arith),
+      )
+
+  -- so it's enough to look back as far as the clock tells
+  far_enough : (half clock : ℕ) → clock ≡ (play start ms).clock → 2 * half ≤ length ms → ((n : ℕ) → n ≤ clock → n ≤ length ms → n ≤ 2 * half + 1) →
+      from_place (play start ms) start ms 0 ≡ from_place (play start ms) start ms (length ms - 2 * half)
+  far_enough half clock is within reaches =
+      none_before (length ms - 2 * half) (omega arith) (λ j low.
+      false_from_ne_true (is_same (play start ms) (play start (take j ms))) (λ same.
+      let far : length ms - j ≤ clock = omega (arith, is, within_clock j (omega arith) same) in
+      let near = reaches (length ms - j) far (omega arith) in
+      true≢false (sym same ∙ odd_place j half (omega arith) (omega (arith, near, low)))))
+
+-- what is kept of the ply there tells whether the position there is the same
+first_is : (q start : State) (stand : Stand) (plies : List Ply) (k : ℕ) → IsStandOf stand q → ArePlies start plies → k < length plies →
+    first_same stand (drop k plies) ≡ is_same q (play start (take k (map move_of plies)))
+first_is q start stand [] k is are h = absurd (omega arith)
+first_is q start stand (ply ∷ plies) zero is are h = sym (same_plies q start stand ply is are.0)
+first_is q start stand (ply ∷ plies) (suc k) is are h = first_is q (after start ply.past.played) stand plies k is are.1 (omega arith)
+
+-- the plies' moves
+pub plies_on_board : (start : State) (plies : List Ply) → ArePlies start plies → AreOnBoard (map move_of plies)
+plies_on_board start [] are = tt
+plies_on_board start (ply ∷ plies) are = (are.0.from, are.0.to, plies_on_board (after start ply.past.played) plies are.1)
+
+module _ (start : State) (plies : List Ply) (stand : Stand) (setup : IsSetup start) (legal : AreLegal start (map move_of plies))
+    (are : ArePlies start plies) (is : IsStandOf stand (play start (map move_of plies))) where
+  -- every second ply back
+  came : (half : ℕ) → 2 * half ≤ length plies →
+      came_back stand plies half + 1 ≡ from_place (play start (map move_of plies)) start (map move_of plies) (length plies - 2 * half)
+  came zero within =
+      let end : length plies - 2 * 0 ≡ length (map move_of plies) = omega (arith, length-map plies move_of) in
+      sym (ap (from_place (play start (map move_of plies)) start (map move_of plies)) end ∙ at_end (play start (map move_of plies)) start (map move_of plies) refl)
+  came (suc half) within =
+      let long : length (map move_of plies) ≡ length plies = length-map plies move_of in
+      let q : State = play start (map move_of plies) in
+      let here : one_if (first_same stand (drop (length plies - 2 * suc half) plies)) ≡ one_if (is_same q (play start (take (length plies - 2 * suc half) (map move_of plies)))) =
+      ap one_if (first_is q start stand plies (length plies - 2 * suc half) is are (omega arith)) in
+      let two : length plies - 2 * suc half + 2 ≡ length plies - 2 * half = omega arith in
+      let next : from_place q start (map move_of plies) (length plies - 2 * suc half + 2) ≡ from_place q start (map move_of plies) (length plies - 2 * half) =
+      ap (from_place q start (map move_of plies)) two in
+      let back = two_back start (map move_of plies) setup legal (plies_on_board start plies are) (length plies - 2 * suc half) half (omega (arith, long, within)) (omega (arith, long, within)) in
+      omega (arith, here, next, back, came half (omega arith))
+
+  pub looked_back : (clock half : ℕ) → clock ≡ (play start (map move_of plies)).clock → 2 * half ≤ length plies →
+      ((n : ℕ) → n ≤ clock → n ≤ length plies → n ≤ 2 * half + 1) →
+      came_back stand plies half + 1 ≡ count_by (is_same (play start (map move_of plies))) (positions_from start (map move_of plies))
+  looked_back clock half clock_is within reaches =
+      let long : length (map move_of plies) ≡ length plies = length-map plies move_of in
+      let all = far_enough start (map move_of plies) setup legal (plies_on_board start plies are) half clock clock_is (omega (arith, long, within))
+      (λ n low high. reaches n low (omega (arith, long, high))) in
+      let same : from_place (play start (map move_of plies)) start (map move_of plies) (length (map move_of plies) - 2 * half)
+      ≡ from_place (play start (map move_of plies)) start (map move_of plies) (length plies - 2 * half) =
+      ap (λ n. from_place (play start (map move_of plies)) start (map move_of plies) (n - 2 * half)) long in
+      omega (arith, all, same, came half within)
+
+-- the first of the plies from a place on
+first_there : (stand : Stand) (plies : List Ply) (k : ℕ) (other : Ply) → k < length plies →
+    first_same stand (drop k plies) ≡ same_ply stand (get_or plies k other)
+first_there stand [] k other h = absurd (omega arith)
+first_there stand (ply ∷ plies) zero other h = refl
+first_there stand (ply ∷ plies) (suc k) other h = first_there stand plies k other (omega arith)
+
+-- that of those that are only looked at
+pub first_looked : (stand : Stand) (plies looked : List Ply) (at : ℕ) (there : Ply) → length plies ≤ at → at < length plies + length looked →
+    there ≡ get_or looked (at - length plies) there → same_ply stand there ≡ first_same stand (drop at (plies ++ looked))
+first_looked stand plies looked at there low high is =
+    let place : length plies + (at - length plies) ≡ at = omega arith in
+    ap (same_ply stand) is ∙ sym (first_there stand looked (at - length plies) there (omega arith))
+    ∙ ap (first_same stand) (sym (drop-append-add plies looked (at - length plies)) ∙ ap (λ n. drop n (plies ++ looked)) place)

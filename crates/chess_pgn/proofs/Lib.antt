@@ -1,0 +1,9 @@
+pub mod DigitLemmas
+pub mod RunLemmas
+pub mod ItemLemmas
+pub mod FoundLemmas
+pub mod SpellLemmas
+pub mod LayLemmas
+pub mod AddLemmas
+pub mod TaskLemmas
+pub mod GameLemmas

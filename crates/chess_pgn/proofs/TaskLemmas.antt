@@ -1,0 +1,208 @@
+-- What each task writes, and the tasks that it leaves.
+use Rattle.std.proofs.Common.{◌≡◌, ◌≤◌, ℕ, Bool, true, false, not, ◌||◌, List, [], ◌∷◌, ◌++◌, length, map, Option, Some, None, refl, sym, ap, subst, ◌∙◌, arith, append_assoc, append-nil, codes, length-append}
+use Rattle.std.specs.Prelude.{Result, Ok, Err, OnOk, MatchOption, is_none}
+use Rattle.std.proofs.lemmas.List.{reverse-append}
+use Rattle.chess_types.specs.board.MoveParts.{MoveParts}
+use Rattle.chess_types.specs.board.Position.{State}
+use Rattle.chess_types.specs.board.After.{after}
+use Rattle.chess_types.specs.board.Legal.{is_legal}
+use Rattle.chess_types.specs.board.Lines.{Line, extended, last}
+use Rattle.chess_types.proofs.PlayLaws.{last_extended}
+use Rattle.chess_tree.specs.Forest.{Forest, Bare, Node, NodeParts, child, height}
+use Rattle.chess_tree.specs.Edits.{without_node}
+use Rattle.chess_tree.specs.WellFormed.{AreSound}
+use Rattle.chess_pgn.specs.Written.{is_noted, moves_text, node_text}
+use Rattle.chess_pgn.specs.steps.Adding.{Adds}
+use Rattle.chess_pgn.specs.steps.Tasks.{Todo, Moves, Variations, Below, Close, Back, shortened, without_last, tasks_text, AreTasks}
+use Rattle.chess_pgn.specs.steps.TaskCode.{Steps, Done, todo, todos}
+use Rattle.chess_pgn.proofs.AddLemmas.{adds_on, adds_same}
+use Rattle.chess_pgn.specs.declared.lines.Lines.{Lines}
+use Rattle.chess_pgn.specs.declared.movetext.Task.{Task}
+
+without_last-append : (moves : List MoveParts) (m : MoveParts) → without_last (moves ++ m ∷ []) ≡ moves
+without_last-append [] m = refl
+without_last-append (n ∷ []) m = refl
+without_last-append (n ∷ k ∷ moves) m = ap (λ (x : List MoveParts). n ∷ x) (without_last-append (k ∷ moves) m)
+
+pub shortened_extended : (line : Line) (m : MoveParts) → shortened (extended line m) ≡ line
+shortened_extended line m = ap (λ (x : List MoveParts). record { start = line.start; moves = x }) (without_last-append line.moves m)
+
+-- the end of a variation
+pub step_close : {A E : Type 0} (r : Result (Unit {0}) E) (old new : Lines A) (line : Line) (ts : List Todo) → AreTasks line ts → OnOk r (Adds old new (codes ")")) → OnOk r (Steps old new line line (Close ∷ ts) ts)
+step_close (Ok x) old new line ts are adds = record { more = codes ")"; adds = adds; text = refl; tasks = are; smaller = omega arith }
+step_close (Err x) old new line ts are adds = tt
+
+none_taken : (line line' : Line) → line.moves ≡ [] → line' ≡ line → line' ≡ shortened line
+none_taken line line' none same = same ∙ ap (λ (x : List MoveParts). record { start = line.start; moves = x }) (none ∙ sym (ap without_last none))
+
+popped : (o : Option MoveParts) (line line' : Line) → MatchOption o ((line.moves ≡ []) × (line' ≡ line)) (λ m. line ≡ extended line' m) → line' ≡ shortened line
+popped None line line' e = none_taken line line' e.0 e.1
+popped (Some m) line line' e = sym (ap shortened e ∙ shortened_extended line' m)
+
+-- a move taken back
+pub step_back : {A : Type 0} (lines : Lines A) (o : Option MoveParts) (line line' : Line) (ts : List Todo) → AreTasks (shortened line) ts → MatchOption o ((line.moves ≡ []) × (line' ≡ line)) (λ m. line ≡ extended line' m)
+    → Adds lines lines [] → Steps lines lines line line' (Back ∷ ts) ts
+step_back lines o line line' ts are e adds =
+    let same = popped o line line' e in
+    record { more = []; adds = adds; text = ap (λ (l : Line). tasks_text l ts) (sym same); tasks = subst (λ (l : Line). AreTasks l ts) (sym same) are; smaller = omega arith }
+
+-- nothing is left side by side
+pub no_nodes : (f : Forest) → None ≡ child 0 f → f ≡ Bare
+no_nodes Bare e = refl
+no_nodes (Node m nags comment below next) e = absurd cc
+
+-- the first of some nodes
+pub record First (f : Forest) (m : MoveParts) (nags comment : List ℕ) (below rest : Forest) : Type 0 where
+  pub is : f ≡ Node m nags comment below rest
+
+pub first_node : (f : Forest) (n : NodeParts) (rest : Forest) (m : MoveParts) (nags comment : List ℕ) (below : Forest) → Some n ≡ child 0 f → rest ≡ without_node 0 f → Some m ≡ n.move
+    → nags ≡ n.nags → comment ≡ n.comment → below ≡ n.below → First f m nags comment below rest
+first_node Bare n rest m a c b e r h e1 e2 e3 = absurd cc
+first_node (Node k nags comment below next) n rest m a c b e r h e1 e2 e3 =
+    let s : n ≡ record { move = Some k; nags = nags; comment = comment; below = below } = some_is n _ e in
+    let km : m ≡ k = some_move m k (h ∙ ap (λ (x : NodeParts). x.move) s) in
+    record { is = parts k m nags a comment c below b next rest (sym km) (sym (e1 ∙ ap (λ (x : NodeParts). x.nags) s)) (sym (e2 ∙ ap (λ (x : NodeParts). x.comment) s)) (sym (e3 ∙ ap (λ (x : NodeParts). x.below) s)) (sym r) }
+  where
+    some_is : (x y : NodeParts) → Some x ≡ Some y → x ≡ y
+    some_is x y e = cc
+
+    some_move : (x y : MoveParts) → Some x ≡ Some y → x ≡ y
+    some_move x y e = cc
+
+    parts : (k m : MoveParts) (a b c d : List ℕ) (p q s t : Forest) → k ≡ m → a ≡ b → c ≡ d → p ≡ q → s ≡ t → Node k a c p s ≡ Node m b d q t
+    parts k m a b c d p q s t e1 e2 e3 e4 e5 = cc
+
+-- whatever it is, it has a move
+pub first_moves : (f : Forest) (n : NodeParts) → Some n ≡ child 0 f → None ≡ n.move → ⊥
+first_moves Bare n e h = cc
+first_moves (Node k nags comment below next) n e h =
+    let s : n ≡ record { move = Some k; nags = nags; comment = comment; below = below } = some_is n _ e in
+    let z : None ≡ Some k = h ∙ ap (λ (x : NodeParts). x.move) s in
+    cc
+  where
+    some_is : (x y : NodeParts) → Some x ≡ Some y → x ≡ y
+    some_is x y e = cc
+
+pub first_legal : (p : State) (f : Forest) (m : MoveParts) (nags comment : List ℕ) (below rest : Forest) → First f m nags comment below rest → AreSound p f → is_legal p m ≡ true
+first_legal p f m nags comment below rest first are =
+    let a : AreSound p (Node m nags comment below rest) = subst (λ (x : Forest). AreSound p x) first.is are in
+    a.0
+
+three : (x y z t : List ℕ) → (x ++ (y ++ z)) ++ t ≡ x ++ (y ++ (z ++ t))
+three x y z t = append_assoc x (y ++ z) t ∙ ap (λ (s : List ℕ). x ++ s) (append_assoc y z t)
+
+-- a first node of a line, what is below it, and the others
+pub step_moves : {A : Type 0} (old new : Lines A) (line : Line) (ts : List Todo) (f : Forest) (due : Bool) (m : MoveParts) (nags comment : List ℕ) (below rest : Forest) (due_below : Bool)
+    → First f m nags comment below rest → due_below ≡ is_noted nags comment || not (is_none (child 0 rest)) → AreTasks line (Moves f due ∷ ts)
+    → Adds old new (node_text (codes " ") due (last line) m nags comment) → Steps old new line line (Moves f due ∷ ts) (Variations rest ∷ Below m below due_below ∷ ts)
+step_moves old new line ts f due m nags comment below rest due_below first e are adds =
+    let p = last line in
+    let a : AreTasks line (Moves (Node m nags comment below rest) due ∷ ts) = subst (λ (x : Forest). AreTasks line (Moves x due ∷ ts)) first.is are in
+    record {
+      more = node_text (codes " ") due p m nags comment;
+      adds = adds;
+      text = ap (λ (x : Forest). moves_text false due p x ++ tasks_text line ts) first.is
+          ∙ rw e (three (node_text (codes " ") due p m nags comment) (moves_text true true p rest) (moves_text false (is_noted nags comment || not (is_none (child 0 rest))) (after p m) below) (tasks_text line ts));
+      tasks = (a.0.3, omega (arith, a.1), (a.0.0, a.0.2, omega (arith, a.1), a.2));
+      smaller = rw first.is (omega arith);
+    }
+
+four : (x y z u t : List ℕ) → (x ++ (y ++ (z ++ u))) ++ t ≡ x ++ (y ++ (z ++ (u ++ t)))
+four x y z u t = append_assoc x (y ++ (z ++ u)) t ∙ ap (λ (s : List ℕ). x ++ s) (three y z u t)
+
+-- a first variation, what is below its move, and the others
+pub step_variation : {A : Type 0} (old new : Lines A) (line : Line) (ts : List Todo) (f : Forest) (m : MoveParts) (nags comment : List ℕ) (below rest : Forest) (due_below : Bool)
+    → First f m nags comment below rest → due_below ≡ is_noted nags comment → AreTasks line (Variations f ∷ ts)
+    → Adds old new (node_text (codes " (") true (last line) m nags comment) → Steps old new line (extended line m) (Variations f ∷ ts) (Moves below due_below ∷ Back ∷ Close ∷ Variations rest ∷ ts)
+step_variation old new line ts f m nags comment below rest due_below first e are adds =
+    let p = last line in
+    let next = extended line m in
+    let here : last next ≡ after p m = last_extended line m in
+    let back : shortened next ≡ line = shortened_extended line m in
+    let a : AreTasks line (Variations (Node m nags comment below rest) ∷ ts) = subst (λ (x : Forest). AreTasks line (Variations x ∷ ts)) first.is are in
+    let b : AreTasks line (Close ∷ Variations rest ∷ ts) = (a.0.3, omega (arith, a.1), a.2) in
+    record {
+      more = node_text (codes " (") true p m nags comment;
+      adds = adds;
+      text = ap (λ (x : Forest). moves_text true true p x ++ tasks_text line ts) first.is
+          ∙ four (node_text (codes " (") true p m nags comment) (moves_text false (is_noted nags comment) (after p m) below) (codes ")") (moves_text true true p rest) (tasks_text line ts)
+          ∙ rw (e, here, back) refl;
+      tasks = (subst (λ (x : State). AreSound x below) (sym here) a.0.2, omega (arith, a.1, length-append line.moves (m ∷ [])), subst (λ (x : Line). AreTasks x (Close ∷ Variations rest ∷ ts)) (sym back) b);
+      smaller = rw first.is (omega arith);
+    }
+
+-- what is below a move that is made
+pub step_below : {A : Type 0} (lines : Lines A) (line : Line) (ts : List Todo) (m : MoveParts) (nodes : Forest) (due : Bool) → AreTasks line (Below m nodes due ∷ ts) → Adds lines lines []
+    → Steps lines lines line (extended line m) (Below m nodes due ∷ ts) (Moves nodes due ∷ Back ∷ ts)
+step_below lines line ts m nodes due are adds =
+    let next = extended line m in
+    let here : last next ≡ after (last line) m = last_extended line m in
+    let back : shortened next ≡ line = shortened_extended line m in
+    record {
+      more = [];
+      adds = adds;
+      text = rw (here, back) refl;
+      tasks = (subst (λ (x : State). AreSound x nodes) (sym here) are.1, omega (arith, are.2, length-append line.moves (m ∷ [])), subst (λ (x : Line). AreTasks x ts) (sym back) are.3);
+      smaller = omega arith;
+    }
+
+-- the next nodes are none
+pub step_none : {A : Type 0} (lines : Lines A) (line : Line) (ts : List Todo) (f : Forest) (due : Bool) → None ≡ child 0 f → AreTasks line (Moves f due ∷ ts) → Adds lines lines [] → Steps lines lines line line (Moves f due ∷ ts) ts
+step_none lines line ts f due e are adds =
+    let bare = no_nodes f e in
+    record { more = []; adds = adds; text = rw bare refl; tasks = are.2; smaller = omega arith }
+
+-- the line and the tasks under other names
+pub steps_as : {A : Type 0} (old new : Lines A) (line line1 line2 : Line) (ts ts1 ts2 : List Todo) → line2 ≡ line1 → ts2 ≡ ts1 → Steps old new line line1 ts ts1 → Steps old new line line2 ts ts2
+steps_as old new line line1 line2 ts ts1 ts2 e h s =
+    subst (λ (l : Line). Steps old new line l ts ts2) (sym e) (subst (λ (x : List Todo). Steps old new line line1 ts x) (sym h) s)
+
+pub todos_push : {A : Type 0} (items : List (Task A)) (t : Task A) → todos (items ++ t ∷ []) ≡ todo t ∷ todos items
+todos_push {A} items t = ap (λ (x : List (Task A)). map todo x) (reverse-append items (t ∷ []))
+
+pub no_variations : {A : Type 0} (lines : Lines A) (line : Line) (ts : List Todo) (f : Forest) → None ≡ child 0 f → AreTasks line (Variations f ∷ ts) → Adds lines lines [] → Steps lines lines line line (Variations f ∷ ts) ts
+no_variations lines line ts f e are adds =
+    let bare = no_nodes f e in
+    record { more = []; adds = adds; text = rw bare refl; tasks = are.2; smaller = omega arith }
+
+pub todos_pushed : {A : Type 0} (items items' : List (Task A)) (t : Task A) → items' ≡ items ++ t ∷ [] → todos items' ≡ todo t ∷ todos items
+todos_pushed {A} items items' t e = ap (λ (x : List (Task A)). todos x) e ∙ todos_push items t
+
+-- the same of a call that may fail
+pub on_as : {A : Type 0} {E : Type 0} (r : Result (Unit {0}) E) (x y z : A) → OnOk r (x ≡ y) → y ≡ z → OnOk r (x ≡ z)
+on_as (Ok u) x y z e h = e ∙ h
+on_as (Err u) x y z e h = tt
+
+pub steps_on : {A E : Type 0} (r : Result (Unit {0}) E) (old new1 new2 : Lines A) (line line1 line2 : Line) (ts ts1 ts2 : List Todo) → new2 ≡ new1 → OnOk r (line2 ≡ line1) → OnOk r (ts2 ≡ ts1) → Steps old new1 line line1 ts ts1
+    → OnOk r (Steps old new2 line line2 ts ts2)
+steps_on {A} (Ok u) old new1 new2 line line1 line2 ts ts1 ts2 e h k s = subst (λ (x : Lines A). Steps old x line line2 ts ts2) (sym e) (steps_as old new1 line line1 line2 ts ts1 ts2 h k s)
+steps_on (Err u) old new1 new2 line line1 line2 ts ts1 ts2 e h k s = tt
+
+-- ---- all the tasks
+
+pub done_none : {A : Type 0} (lines : Lines A) (line : Line) (ts : List Todo) → AreTasks line ts → Adds lines lines [] → Done lines lines line line ts ts
+done_none lines line ts are adds = record { more = []; adds = adds; text = refl; tasks = are }
+
+pub done_on : {A : Type 0} (old mid new : Lines A) (line line1 line2 : Line) (ts ts1 ts2 : List Todo) → Done old mid line line1 ts ts1 → Steps mid new line1 line2 ts1 ts2 → Done old new line line2 ts ts2
+done_on old mid new line line1 line2 ts ts1 ts2 d s = record {
+  more = d.more ++ s.more;
+  adds = adds_on old mid new d.more s.more d.adds s.adds;
+  text = d.text ∙ ap (λ (x : List ℕ). d.more ++ x) s.text ∙ sym (append_assoc d.more s.more (tasks_text line2 ts2));
+  tasks = s.tasks;
+}
+
+pub done_all : {A : Type 0} (old new : Lines A) (line line' : Line) (ts ts' : List Todo) → Done old new line line' ts ts' → ts' ≡ [] → Adds old new (tasks_text line ts)
+done_all old new line line' ts ts' d e = adds_same old new d.more (tasks_text line ts) (sym (d.text ∙ ap (λ (x : List Todo). d.more ++ tasks_text line' x) e ∙ append-nil d.more)) d.adds
+
+-- ---- where a game begins
+
+module _ (line : Line) (p start : State) (f below : Forest) (ts : List Todo) (e : line ≡ record { start = p; moves = [] }) (h : p ≡ start) (k : f ≡ below) (t : ts ≡ Moves f true ∷ []) where
+  first_last : last line ≡ start
+  unfolding last
+  first_last = ap last e ∙ h
+
+  pub begins : AreSound start below → height below ≤ 20000 → AreTasks line ts
+  begins are deep = rw (t, k) (rw first_last are, omega (arith, deep, ap (λ (l : Line). length l.moves) e), tt)
+
+  pub begins_text : tasks_text line ts ≡ moves_text false true start below
+  begins_text = rw (t, k, first_last) (append-nil (moves_text false true start below))

@@ -1,0 +1,34 @@
+-- The tasks of the code, the next one last.
+use Rattle.std.specs.Prelude.{◌≡◌, ℕ, ◌<◌, List, ◌++◌, map, reverse}
+use Rattle.chess_types.specs.board.Lines.{Line}
+use Rattle.chess_pgn.specs.steps.Adding.{Adds}
+use Rattle.chess_pgn.specs.steps.Tasks as tasks
+use Rattle.chess_pgn.specs.steps.Tasks.{Todo, tasks_text, AreTasks, work}
+use Rattle.chess_pgn.specs.declared.lines.Lines.{Lines}
+use Rattle.chess_pgn.specs.declared.movetext.Task.{Task}
+use Rattle.chess_pgn.specs.declared.movetext.Task.TheVariants.{Moves, Variations, Below, Close, Back}
+
+abbrev pub todo : {A : Type 0} → Task A → Todo
+todo (Moves nodes due) = tasks.Moves nodes due
+todo (Variations nodes) = tasks.Variations nodes
+todo (Below m nodes due) = tasks.Below m nodes due
+todo Close = tasks.Close
+todo Back = tasks.Back
+
+abbrev pub todos : {A : Type 0} → List (Task A) → List Todo
+todos items = map todo (reverse items)
+
+-- Some of the tasks' text is written, and the others write the rest.
+pub record Steps {A : Type 0} (old new : Lines A) (line line' : Line) (ts ts' : List Todo) : Type 0 where
+  pub more : List ℕ
+  pub adds : Adds old new more
+  pub text : tasks_text line ts ≡ more ++ tasks_text line' ts'
+  pub tasks : AreTasks line' ts'
+  pub smaller : work ts' < work ts
+
+-- So far some of the tasks' text is written, and the others write the rest.
+pub record Done {A : Type 0} (old new : Lines A) (line line' : Line) (ts ts' : List Todo) : Type 0 where
+  pub more : List ℕ
+  pub adds : Adds old new more
+  pub text : tasks_text line ts ≡ more ++ tasks_text line' ts'
+  pub tasks : AreTasks line' ts'

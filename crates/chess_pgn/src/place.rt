@@ -1,0 +1,16 @@
+/// Where in a text an item stands.
+#[derive(Clone, Copy, Debug, PartialEq, Eq)]
+pub enum Place {
+    /// Where the reading of a game begins.
+    GameStart,
+    /// Right behind a line feed.
+    LineStart,
+    /// Elsewhere outside of tags.
+    InLine,
+    /// Right behind a line feed between the parts of a tag.
+    TagLineStart,
+    /// Elsewhere between the parts of a tag.
+    InTag,
+    /// Between the quotation marks of a tag.
+    InValue,
+}

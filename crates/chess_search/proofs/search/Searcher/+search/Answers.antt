@@ -1,0 +1,112 @@
+use Rattle.std.proofs.Common.{◌≡◌, ◌<◌, length, take, map, pos, neg_ℤ, ◌≤ℤ◌, ◌-◌, arith, ◌∙◌, w32, to_z}
+use Rattle.std.proofs.lemmas.Int.{ints, clamps}
+use Rattle.std.proofs.lemmas.List.{length-map}
+use Rattle.std.proofs.lemmas.List.Sorted.{length_permutation}
+use Rattle.std.proofs.Math.Seq.{take-length}
+use Rattle.std.specs.List.Sorted.{IsPermutation}
+use Rattle.chess_types.specs.board.Legal.{legal_moves}
+use Rattle.chess_types.specs.board.Lines.{last}
+use Rattle.chess_search.specs.Value.{worth, greatest}
+use Rattle.chess_search.specs.steps.Windows.{FitsWindow}
+use Rattle.chess_search.proofs.WindowLemmas.{value-any_order, value-ended, ended-drawn, drawn_at, FitsWindow-refl, answered_all, FitsWindow-negated, best_more, upper_more, lower_more, cut_off, within_greatest, legal_at}
+use Rattle.chess_search.proofs.search.Searcher.+search.Goals as goal
+
+pub score-returns-clause-answer : goal.score-returns-clause-answer
+score-returns-clause-answer g t c =
+    FitsWindow-negated c.args.alpha c.args.beta _ _ _ _ _ (omega (arith, ints)) (omega (arith, ints)) (omega (arith, ints)) (rw c.look.ensures.line at c.search-answer.ensures.answer)
+
+pub search-returns-then-is_drawn-clause-answer : goal.search-returns-then-is_drawn-clause-answer
+search-returns-then-is_drawn-clause-answer g t c =
+    let line = c.args.line.now.line in
+    let some : 0 < length (legal_moves (last line)) = rw (← c.moves-moves.ensures.listed) (grind (arith, c.is_empty.ensures, c.if-is_empty.false)) in
+    let drawn = drawn_at c.args.self.now.claims _ _ _ _ c.moves-moves.ensures.as_before.line c.is_drawn.ensures.value c.if-is_drawn.true in
+    rw (value-ended c.args.self.now.claims c.args.depth line c.args.distance (pos 0) (ended-drawn c.args.self.now.claims line c.args.distance some drawn)) (FitsWindow-refl c.args.alpha c.args.beta (pos 0))
+
+pub search-score-answer-requires : goal.search-score-answer-requires
+search-score-answer-requires g t c κs within =
+    let items = c.as_slice-m-items.result.now in
+    let m = c.m-item.result in
+    let i = c.loop-m.invariant in
+    let d = c.decreases in
+    let looked : c.loop-m.line.looked ≡ c.args.line.now.looked = i.line.looked in
+    let permuted : IsPermutation c.moves-moves.result.items items = rw c.as_slice-m-items.ensures.value c.put_in_order.ensures in
+    let legal = legal_at _ _ _ items c.loop-m.m-index m c.moves-moves.ensures.listed permuted (omega arith) c.m-item.is i.line.line in
+    (omega arith, (within, (legal, (omega arith, (omega arith, (omega (arith, ints), (omega (arith, ints, clamps), omega (arith, ints))))))))
+
+pub search-returns-then-best-beta-clause-answer : goal.search-returns-then-best-beta-clause-answer
+search-returns-then-best-beta-clause-answer g t c =
+    let items = c.as_slice-m-items.result.now in
+    let m = c.m-item.result in
+    let claims = c.args.self.now.claims in
+    let line = c.args.line.now.line in
+    let i = c.loop-m.invariant in
+    let moves = c.moves-moves.result.items in
+    let permuted : IsPermutation moves items = rw c.as_slice-m-items.ensures.value c.put_in_order.ensures in
+    let some : 0 < length items = omega arith in
+    let playing = drawn_at claims _ _ _ _ c.moves-moves.ensures.as_before.line c.is_drawn.ensures.value c.if-is_drawn.false in
+    let deep : 0 < c.args.depth = omega arith in
+    let worths = worth claims (c.args.depth - 1) line c.args.distance in
+    let v = worths m in
+    let a = rw (i.line.line, i.claims) at c.score-answer.ensures.answer in
+    let within : v ≤ℤ greatest (map worths items) = within_greatest worths items c.loop-m.m-index m (omega arith) c.m-item.is in
+    rw (value-any_order claims c.args.depth line c.args.distance items some playing deep (rw c.moves-moves.ensures.listed at permuted))
+    (cut_off c.args.alpha c.args.beta (to_z w32 c.loop-m.best-bits) c.score-answer.result _ v _ (omega (arith, ints))
+    (λ h. a.lower (omega (arith, ints, clamps))) (omega (arith, ints, clamps)) (omega (arith, ints)) within (omega (arith, ints)))
+
+pub search-returns-then-best-beta-clause-in_range : goal.search-returns-then-best-beta-clause-in_range
+search-returns-then-best-beta-clause-in_range g t c =
+    let i = c.loop-m.invariant in
+    let a = c.score-answer.ensures.in_range in
+    record { low = omega (arith, ints, clamps, a.low, i.low); high = omega (arith, ints, clamps, a.high, i.high) }
+
+pub search-loop-m-preserved : goal.search-loop-m-preserved
+search-loop-m-preserved g t c =
+    let i = c.loop-m.invariant in
+    let items = c.as_slice-m-items.result.now in
+    let m = c.m-item.result in
+    let claims = c.args.self.now.claims in
+    let line = c.args.line.now.line in
+    let worths = worth claims (c.args.depth - 1) line c.args.distance in
+    let best = to_z w32 c.loop-m.best-bits in
+    let r = c.score-answer.ensures.in_range in
+    let l = c.score-answer.ensures.line in
+    let a = rw (i.line.line, i.claims) at c.score-answer.ensures.answer in
+    let more = best_more worths (neg_ℤ (pos 30001)) items c.loop-m.m-index m (omega arith) c.m-item.is in
+    record {
+      line = record { line = l.line ∙ i.line.line; looked = l.looked ∙ i.line.looked; words = l.words ∙ i.line.words; room = l.room ∙ i.line.room };
+      claims = c.score-answer.ensures.claims ∙ i.claims;
+      below = omega (arith, ints);
+      low = omega (arith, ints, r.low);
+      answered = λ h. omega (arith, ints, r.low);
+      high = omega (arith, ints, clamps, r.high);
+      upper = rw more (upper_more c.args.beta best c.score-answer.result _ _ _ i.upper (λ h. a.upper (omega (arith, ints))) (omega (arith, ints, clamps)) (omega (arith, ints)));
+      lower = rw more (λ h. lower_more c.args.alpha best c.score-answer.result _ _ _ (λ k. i.lower (omega (arith, ints))) (λ k. a.lower (omega (arith, ints, clamps))) (omega (arith, ints, clamps)) (omega (arith, ints)));
+    }
+
+pub search-returns-clause-answer : goal.search-returns-clause-answer
+search-returns-clause-answer g t c =
+    let items = c.as_slice-m-items.result.now in
+    let claims = c.args.self.now.claims in
+    let line = c.args.line.now.line in
+    let best = to_z w32 c.loop-m.best-bits in
+    let moves = c.moves-moves.result.items in
+    let permuted : IsPermutation moves items = rw c.as_slice-m-items.ensures.value c.put_in_order.ensures in
+    let same_length = length_permutation moves items permuted in
+    let some : 0 < length items = grind (arith, c.is_empty.ensures, c.if-is_empty.false, same_length) in
+    let playing = drawn_at claims _ _ _ _ c.moves-moves.ensures.as_before.line c.is_drawn.ensures.value c.if-is_drawn.false in
+    let deep : 0 < c.args.depth = omega arith in
+    let at_end : c.loop-m.m-index ≡ length items = omega arith in
+    let all : take c.loop-m.m-index items ≡ items = rw at_end (take-length items) in
+    let vs = map (worth claims (c.args.depth - 1) line c.args.distance) items in
+    let i = c.loop-m.invariant in
+    let a : FitsWindow c.args.alpha c.args.beta (greatest vs) best = answered_all c.args.alpha c.args.beta best vs (simp length-map (omega arith)) (i.answered (omega arith)) (rw all at i.upper) (λ h. rw all at (i.lower (omega (arith, ints)))) in
+    rw (value-any_order claims c.args.depth line c.args.distance items some playing deep (rw c.moves-moves.ensures.listed at permuted)) a
+
+pub search-returns-clause-in_range : goal.search-returns-clause-in_range
+search-returns-clause-in_range g t c =
+    let items = c.as_slice-m-items.result.now in
+    let moves = c.moves-moves.result.items in
+    let permuted : IsPermutation moves items = rw c.as_slice-m-items.ensures.value c.put_in_order.ensures in
+    let same_length = length_permutation moves items permuted in
+    let some : 0 < length items = grind (arith, c.is_empty.ensures, c.if-is_empty.false, same_length) in
+    record { low = omega (arith, ints, c.loop-m.invariant.answered (omega arith)); high = c.loop-m.invariant.high }

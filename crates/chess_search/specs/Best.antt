@@ -1,0 +1,17 @@
+-- The best of some moves.
+--   best_by   the first of them that is worth most, and its worth
+--   best      the best of some moves of a line, by their worth so many moves deep
+use Rattle.std.specs.Prelude.{ℕ, ◌-◌, Bool, List, map, Option, ℤ, find}
+use Rattle.std.specs.Ordering.{int_eq}
+use Rattle.std.specs.Option.{option_map}
+use Rattle.chess_types.specs.board.MoveParts.{MoveParts}
+use Rattle.chess_types.specs.board.Lines.{Line}
+use Rattle.chess_search.specs.Value.{greatest, worth}
+
+-- none of no moves
+abbrev pub best_by : (MoveParts → ℤ) → List MoveParts → Option (MoveParts × ℤ)
+best_by worth moves = option_map (λ m. (m, greatest (map worth moves))) (find (λ m. int_eq (worth m) (greatest (map worth moves))) moves)
+
+-- at that depth, of at least one move; draws that may be claimed count or don't
+abbrev pub best : Bool → ℕ → Line → List MoveParts → Option (MoveParts × ℤ)
+best claims depth line roots = best_by (worth claims (depth - 1) line 0) roots

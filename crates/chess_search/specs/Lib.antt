@@ -1,0 +1,6 @@
+-- What a search answers. `steps` has words of the code alone.
+pub mod Value
+pub mod Best
+pub mod Scores
+pub mod Slices
+pub mod steps

@@ -1,0 +1,19 @@
+//! The first legal move of greatest plain minimax value, some plies deep.
+//!
+//! `best` searches some legal moves of a line at one depth, `Slices` does it one move at a time. Contracts speak of plain minimax
+//! (`specs/Value.antt`); the code cuts off what can't change the answer (alpha-beta) and tries good moves first.
+#![tactic(auto)]
+
+mod nodes;
+mod order;
+mod roots;
+mod score;
+mod search;
+mod slices;
+#[cfg(test)]
+mod tests;
+
+pub use nodes::Nodes;
+pub use roots::{best, best_counted};
+pub use score::score_text;
+pub use slices::Slices;

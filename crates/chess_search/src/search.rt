@@ -1,0 +1,190 @@
+ghost use Rattle.std.specs.Prelude.{◌≡◌, ◌+◌, ◌-◌, ◌≤◌, ◌<◌, Bool, [], IsTrue, Some, pos, neg_ℤ, ◌<ℤ◌, ◌≤ℤ◌};
+ghost use Rattle.chess_types.specs.board.Legal.{is_legal, legal_moves};
+ghost use Rattle.chess_types.specs.board.Lines.{last};
+ghost use Rattle.chess_draws.specs.LineParts.{IsAsBefore};
+ghost use Rattle.chess_search.specs.Scores.{IsValue};
+ghost use Rattle.chess_search.specs.Value.{ended, evaluation_for, value, worth};
+ghost use Rattle.chess_search.specs.Slices.{IsInRange};
+ghost use Rattle.chess_search.specs.steps.Windows.{FitsWindow, better};
+
+use crate::nodes::Nodes;
+use crate::order::{Killers, put_in_order};
+use chess_draws::Line;
+use chess_play::Live;
+use chess_types::{Colour, Move};
+use std::alloc::Allocator;
+
+/// What a search has beside the line: whether draws that may be claimed count as draws, how many positions it has asked for, and the
+/// moves that cut it off.
+#[derive(Drop)]
+pub(crate) struct Searcher {
+    pub(crate) claims: bool,
+    pub(crate) nodes: Nodes,
+    killers: Killers,
+}
+
+// What a stalemate is worth (FIDE Laws 5.2.1).
+const STALEMATE: i32 = 0;
+
+// What a draw is worth while there are moves.
+const DRAW: i32 = 0;
+
+// The evaluation for the side to move.
+pub(crate) fn evaluation_for(live: &Live) -> i32
+    ensures value { result ≡ evaluation_for live.now.position }
+    ensures in_range { IsValue result }
+{
+    let white = live.white();
+    match live.position().side {
+        Colour::White => white,
+        Colour::Black => -white,
+    }
+}
+
+// The value of a line whose last position has no legal move, so far from the root: mated or stalemate.
+fn end_value<A: Allocator>(line: &Line<'_, A>, distance: u8) -> i32
+    requires none { legal_moves (last line.now.line) ≡ [] }
+    requires distance { distance ≤ 16 }
+    ensures value { (claims : Bool) → ended claims line.now.line distance ≡ Some result }
+    ensures in_range { IsValue result }
+{
+    if !line.in_check() {
+        return STALEMATE;
+    }
+    i32::from(distance) - 30000
+}
+
+// The value of a line that is looked at no deeper.
+fn leaf_value<A: Allocator>(line: &mut Line<'_, A>, distance: u8, claims: bool) -> i32
+    requires distance { distance ≤ 16 }
+    ensures value { result ≡ value claims 0 line.old.line distance }
+    ensures in_range { IsValue result }
+    ensures line { IsAsBefore line.old line.new }
+{
+    if !line.has_legal() {
+        return end_value(line, distance);
+    }
+    if line.is_drawn(claims) {
+        DRAW
+    } else {
+        evaluation_for(line.live())
+    }
+}
+
+impl Searcher {
+    /// A search that begins: its root is asked for.
+    pub(crate) fn new(claims: bool) -> Searcher
+        ensures { result.claims ≡ claims }
+    {
+        let mut nodes = Nodes::new();
+        nodes.tick();
+        Searcher {
+            claims,
+            nodes,
+            killers: Killers::new(),
+        }
+    }
+
+    /// An answer for the line's value in the window from alpha to beta (fail-soft alpha-beta).
+    #[cycle(search)]
+    fn search<A: Allocator>(
+        &mut self,
+        line: &mut Line<'_, A>,
+        depth: u8,
+        distance: u8,
+        alpha: i32,
+        beta: i32,
+    ) -> i32
+        requires room { line.old.looked + depth ≤ 16 }
+        requires distance { distance + depth ≤ 16 }
+        requires alpha { neg_ℤ (pos 30001) ≤ℤ alpha }
+        requires window { alpha <ℤ beta }
+        requires beta { beta ≤ℤ pos 30001 }
+        ensures answer { FitsWindow alpha beta (value self.old.claims depth line.old.line distance) result }
+        ensures in_range { IsValue result }
+        ensures claims { self.new.claims ≡ self.old.claims }
+        ensures line { IsAsBefore line.old line.new }
+    {
+        self.nodes.tick();
+        if depth == 0 {
+            return leaf_value(line, distance, self.claims);
+        }
+        let mut moves = line.moves();
+        if moves.is_empty() {
+            return end_value(line, distance);
+        }
+        if line.is_drawn(self.claims) {
+            return DRAW;
+        }
+        put_in_order(line.live(), &self.killers.at(distance), &mut moves);
+        let mut best: i32 = -30001;
+        for m in moves.as_slice() {
+            let floor = best.max(alpha);
+            let answer = self.score(line, *m, depth - 1, distance, floor, beta);
+            best = best.max(answer);
+            if best >= beta {
+                self.killers.add(line.live(), distance, *m);
+                return best;
+            }
+        }
+        best
+    }
+
+    /// An answer, in the window from alpha to beta, for what a legal move is worth to the side that makes it.
+    #[cycle(search)]
+    pub(crate) fn score<A: Allocator>(
+        &mut self,
+        line: &mut Line<'_, A>,
+        m: Move,
+        depth: u8,
+        distance: u8,
+        alpha: i32,
+        beta: i32,
+    ) -> i32
+        requires legal { IsTrue (is_legal (last line.old.line) m) }
+        requires room { line.old.looked + depth < 16 }
+        requires distance { distance + depth < 16 }
+        requires alpha { neg_ℤ (pos 30001) ≤ℤ alpha }
+        requires window { alpha <ℤ beta }
+        requires beta { beta ≤ℤ pos 30001 }
+        ensures answer { FitsWindow alpha beta (worth self.old.claims depth line.old.line distance m) result }
+        ensures in_range { IsValue result }
+        ensures claims { self.new.claims ≡ self.old.claims }
+        ensures line { IsAsBefore line.old line.new }
+    {
+        line.look(m);
+        let answer = -self.search(line, depth, distance + 1, -beta, -alpha);
+        line.unlook();
+        answer
+    }
+
+    /// The better of what is kept and one root more.
+    pub(crate) fn try_root<A: Allocator>(
+        &mut self,
+        line: &mut Line<'_, A>,
+        kept: Option<(Move, i32)>,
+        m: Move,
+        depth: u8,
+    ) -> Option<(Move, i32)>
+        requires none { line.old.looked ≡ 0 }
+        requires legal { IsTrue (is_legal (last line.old.line) m) }
+        requires deep { 1 ≤ depth }
+        requires shallow { depth ≤ 16 }
+        requires kept { IsInRange kept }
+        ensures better { result ≡ better kept m (worth self.old.claims (depth - 1) line.old.line 0 m) }
+        ensures in_range { IsInRange result }
+        ensures claims { self.new.claims ≡ self.old.claims }
+        ensures line { IsAsBefore line.old line.new }
+    {
+        let floor = match kept {
+            Some((_, value)) => value,
+            None => -30001,
+        };
+        let value = self.score(line, m, depth - 1, 0, floor, 30001);
+        if value > floor {
+            Some((m, value))
+        } else {
+            kept
+        }
+    }
+}

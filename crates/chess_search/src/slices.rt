@@ -1,0 +1,90 @@
+ghost use Rattle.std.specs.Prelude.{◌≡◌, ◌+◌, ◌<◌, ◌≤◌, None, length};
+ghost use Rattle.chess_draws.specs.LineParts.{IsAsBefore};
+ghost use Rattle.chess_search.specs.Best.{best};
+ghost use Rattle.chess_search.specs.Slices.{Progress, IsInRange, GoesWith, sliced, done_of};
+
+use crate::search::Searcher;
+use arrayvec::ArrayVec;
+use chess_draws::Line;
+use chess_types::Move;
+use std::alloc::Allocator;
+use std::marker::Model;
+
+/// A search of some roots of a line at one depth, one root for each call.
+#[derive(Drop)]
+pub struct Slices {
+    depth: u8,
+    roots: ArrayVec<Move, 432>,
+    searched: usize,
+    kept: Option<(Move, i32)>,
+    searcher: Searcher,
+}
+
+impl Model for Slices {
+    ghost use Rattle.std.specs.Prelude.{◌≤◌, length};
+    ghost use Rattle.chess_search.specs.Slices.{Progress, IsInRange};
+
+    ghost Value = { Progress };
+
+    ghost view = { λ s. record { depth = s.depth; claims = s.searcher.claims; roots = s.roots.items; searched = s.searched; kept = s.kept } };
+
+    ghost invariant = { λ s. (1 ≤ s.depth) × (s.depth ≤ 16) × (s.searched ≤ length s.roots.items) × IsInRange s.kept };
+}
+
+impl Slices {
+    /// A search that has not begun: of these roots, 1 to 16 plies deep. Draws that may be claimed count as draws where `claims`.
+    pub fn start(depth: u8, roots: ArrayVec<Move, 432>, claims: bool) -> Slices
+        requires deep { 1 ≤ depth }
+        requires shallow { depth ≤ 16 }
+        ensures { result ≡ record { depth = depth; claims = claims; roots = roots.items; searched = 0; kept = None } }
+    {
+        Slices {
+            depth,
+            roots,
+            searched: 0,
+            kept: None,
+            searcher: Searcher::new(claims),
+        }
+    }
+
+    /// Searches one root more. Not each was searched, the roots are legal moves of the line, and what is kept is the best of those that
+    /// were; no move is looked at.
+    pub fn next<A: Allocator>(&mut self, line: &mut Line<'_, A>)
+        requires not_done { done_of self.old ≡ None }
+        requires some { 0 < length self.old.roots }
+        requires none { line.old.looked ≡ 0 }
+        requires goes { GoesWith line.old.line self.old }
+        ensures slice { self.new ≡ sliced line.old.line self.old }
+        ensures goes { GoesWith line.new.line self.new }
+        ensures done { self.new.searched ≡ length self.new.roots → done_of self.new ≡ best self.new.claims self.new.depth line.new.line self.new.roots }
+        ensures line { IsAsBefore line.old line.new }
+    {
+        let m = self.roots.as_slice()[self.searched];
+        self.kept = self.searcher.try_root(line, self.kept, m, self.depth);
+        self.searched += 1;
+    }
+
+    /// The best of the roots that were searched, with its worth; `None` while none was.
+    pub fn so_far(&self) -> Option<(Move, i32)>
+        ensures kept { result ≡ self.now.kept }
+        ensures in_range { IsInRange result }
+    {
+        self.kept
+    }
+
+    /// The best of all roots once each was searched, else `None`.
+    pub fn done(&self) -> Option<(Move, i32)>
+        ensures { result ≡ done_of self.now }
+    {
+        if self.searched == self.roots.len() {
+            self.kept
+        } else {
+            None
+        }
+    }
+
+    /// The positions whose value this search has asked for, its root included.
+    pub fn nodes(&self) -> u64 {
+        self.searcher.nodes.nodes()
+    }
+}

@@ -1,0 +1,36 @@
+-- What playing a move at the cursor answers, and where it leads.
+--   add_answer    the answer where there is memory and the move is added whether or not a child has it: the first fault that applies
+--   play_answer   the same where a child that has the move is stepped to
+--   played        the tree and the cursor once a move is played
+--   IsAnswer      want of memory is answered only where nothing else is wrong
+use Rattle.std.specs.Prelude.{◌≡◌, ◌⊎◌, ℕ, nat_le, not, if◌then◌else◌, [], ◌∷◌, ◌++◌, length, Option, None, Some, Result, Ok, Err}
+use Rattle.chess_types.specs.board.MoveParts.{MoveParts}
+use Rattle.chess_types.specs.board.Legal.{is_legal}
+use Rattle.chess_types.specs.board.Lines.{last}
+use Rattle.chess_tree.specs.declared.fault.PlayFault.{PlayFault}
+use Rattle.chess_tree.specs.declared.fault.PlayFault.TheVariants.{Illegal, TooLong, Full, Memory}
+use Rattle.chess_tree.specs.Forest.{moves_held}
+use Rattle.chess_tree.specs.GameTree.{TreeParts, added, at_path, find, line_to, nodes_here}
+
+-- a legal move by the child that has it: a new one is added to a node less than 20,000 plies deep, in a tree of fewer than 1,000,000 moves
+abbrev pub legal_answer : TreeParts → Option ℕ → Result (Unit {0}) PlayFault
+legal_answer t (Some place) = Ok tt
+legal_answer t None = if nat_le 20000 (length t.path) then Err TooLong else (if nat_le 1000000 (moves_held t.tree.below) then Err Full else Ok tt)
+
+abbrev pub add_answer : TreeParts → MoveParts → Result (Unit {0}) PlayFault
+add_answer t m = if not (is_legal (last (line_to t)) m) then Err Illegal else legal_answer t None
+
+abbrev pub play_answer : TreeParts → MoveParts → Result (Unit {0}) PlayFault
+play_answer t m = if not (is_legal (last (line_to t)) m) then Err Illegal else legal_answer t (find m (nodes_here t))
+
+-- the cursor on the child at that place, else on a new one with the move
+abbrev pub led_to : MoveParts → TreeParts → Option ℕ → TreeParts
+led_to m t (Some place) = at_path (t.path ++ place ∷ []) t
+led_to m t None = added m t
+
+-- to the first child that has the move, else to a new one
+abbrev pub played : MoveParts → TreeParts → TreeParts
+played m t = led_to m t (find m (nodes_here t))
+
+abbrev pub IsAnswer : Result (Unit {0}) PlayFault → Result (Unit {0}) PlayFault → Type 0
+IsAnswer answer result = (result ≡ answer) ⊎ ((answer ≡ Ok tt) × (result ≡ Err Memory))

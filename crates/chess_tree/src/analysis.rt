@@ -1,0 +1,174 @@
+ghost use Rattle.std.specs.Prelude.{◌≡◌, ◌<◌, ◌≤◌, [], length, true, Err, IfErr, IfOk, Ok, OnErr, OnOk, nat_le, if◌then◌else◌};
+ghost use Rattle.chess_types.specs.board.Legal.{is_legal};
+ghost use Rattle.chess_types.specs.board.Lines.{extended, last};
+ghost use Rattle.chess_tree.specs.declared.fault.TreeFault.TheVariants.{Memory};
+ghost use Rattle.chess_tree.specs.declared.fault.PlayFault.TheVariants.{Full as TreeFull, Memory as NoMemory};
+ghost use Rattle.chess_tree.specs.Forest.{Bare, moves_held};
+ghost use Rattle.chess_tree.specs.GameTree.{added, line_to};
+ghost use Rattle.chess_tree.specs.WellFormed.{IsGameTree};
+ghost use Rattle.chess_tree.specs.Plays.{IsAnswer, add_answer, play_answer, played};
+
+mod asked;
+mod edits;
+mod steps;
+
+use crate::fault::{PlayFault, TreeFault};
+use crate::tree::Tree;
+use chess_draws::{Line, LineFault};
+use chess_key::KeyTable;
+use chess_play::Live;
+use chess_types::{Move, Position};
+use std::alloc::Allocator;
+use std::marker::Model;
+
+/// A game tree with a cursor, and the line of moves from the root to it, which every call keeps together. Contracts see the
+/// tree and the path to the cursor; the line is the one to the cursor (`line_to`).
+///
+/// The line has room for the way down to each node, so that a step takes no memory.
+#[derive(Drop)]
+pub struct Analysis<'a, A: Allocator> {
+    tree: Tree<'a, A>,
+    line: Line<'a, &'a A>,
+}
+
+impl<'a, A: Allocator> Model for Analysis<'a, A> {
+    ghost use Rattle.chess_tree.specs.GameTree.{TreeParts};
+    ghost use Rattle.chess_tree.specs.steps.TreeCode.{coded_tree};
+
+    ghost Value = { TreeParts };
+
+    ghost coded = { coded_tree };
+
+    ghost use Rattle.chess_tree.specs.steps.Analysed.{IsAnalysed};
+
+    ghost view = { λ a. a.tree };
+
+    ghost invariant = { λ a. IsAnalysed a.tree a.line };
+}
+
+// The refusal of a new move for which the line finds no memory: a full tree comes first.
+fn without_room<A: Allocator>(tree: &Tree<'_, A>) -> PlayFault
+    ensures { result ≡ (if nat_le 1000000 (moves_held tree.now.tree.below) then TreeFull else NoMemory) }
+{
+    if tree.is_full() {
+        PlayFault::Full
+    } else {
+        PlayFault::Memory
+    }
+}
+
+// Adds a legal move to the tree alone.
+fn grow<A: Allocator>(tree: &mut Tree<'_, A>, m: Move) -> Result<(), PlayFault>
+    requires legal { is_legal (last (line_to tree.old)) m ≡ true }
+    requires deep { length tree.old.path < 20000 }
+    requires few { moves_held tree.old.tree.below ≤ 1000000 }
+    ensures answer { IsAnswer (if nat_le 1000000 (moves_held tree.old.tree.below) then Err TreeFull else Ok tt) result }
+    ensures ok { OnOk result (tree.new ≡ added m tree.old) }
+    ensures line { OnOk result (line_to tree.new ≡ extended (line_to tree.old) m) }
+    ensures err { OnErr result (tree.new ≡ tree.old) }
+{
+    match tree.add(m) {
+        Ok(()) => Ok(()),
+        Err(TreeFault::Full) => Err(PlayFault::Full),
+        Err(_) => Err(PlayFault::Memory),
+    }
+}
+
+impl<'a, A: Allocator> Analysis<'a, A> {
+    /// An analysis with no move, from that position, whose counters are at most 99,999; keys are kept by the words of the
+    /// table. `Memory` where there is none.
+    pub fn new(
+        alloc: &'a A,
+        start: Position,
+        table: &'a KeyTable,
+    ) -> Result<Analysis<'a, A>, TreeFault>
+        requires clock { start.clock ≤ 99999 }
+        requires number { start.number ≤ 99999 }
+        ensures ok { IfOk result (λ a. a ≡ record { tree = record { start = start; comment = []; below = Bare }; path = [] }) }
+        ensures memory { IfErr result (λ fault. fault ≡ Memory) }
+    {
+        let Ok(root) = start.clone() else {
+            unreachable!();
+        };
+        let tree = Tree::new(alloc, root)?;
+        let line = Line::start(alloc, start, table);
+        Ok(Analysis { tree, line })
+    }
+
+    /// The tree and its cursor, to look at: each move is legal where it is made, and no node is more than 20,000 plies deep.
+    pub fn tree(&self) -> &Tree<'a, A>
+        ensures tree { result.now ≡ self.now }
+        ensures game { IsGameTree self.now }
+    {
+        &self.tree
+    }
+
+    /// The line from the root to the cursor, to look at.
+    pub fn line(&self) -> &Line<'a, &'a A>
+        ensures line { result.now.line ≡ line_to self.now }
+        ensures still { result.now.looked ≡ 0 }
+    {
+        &self.line
+    }
+
+    /// The position at the cursor with the numbers kept for it. The move that led to it, made or taken back, changed at most 216 counts.
+    pub fn live(&self) -> &Live<'a>
+        ensures position { result.now.position ≡ last (line_to self.now) }
+        ensures at_most { result.now.ticks ≤ 216 }
+    {
+        self.line.live()
+    }
+
+    /// The position at the cursor.
+    pub fn position(&self) -> Position
+        ensures { result ≡ last (line_to self.now) }
+    {
+        self.line.position()
+    }
+
+    /// Plays a move: steps to the first child that has it, else adds it.
+    ///
+    /// # Errors
+    ///
+    /// Those of `add`; but for `Illegal` none where a child has the move. All is then as before.
+    #[tactic(auto, using(crate::proofs::AnalysisLemmas::found_line))]
+    pub fn play(&mut self, m: Move) -> Result<(), PlayFault>
+        ensures answer { IsAnswer (play_answer self.old m) result }
+        ensures ok { OnOk result (self.new ≡ played m self.old) }
+        ensures line { OnOk result (line_to self.new ≡ extended (line_to self.old) m) }
+        ensures err { OnErr result (self.new ≡ self.old) }
+    {
+        let Some(place) = self.tree.find(m) else {
+            return self.add(m);
+        };
+        let Ok(()) = self.step(place) else {
+            unreachable!();
+        };
+        Ok(())
+    }
+
+    /// Adds a move as a child of its own, behind the others, whether or not one of them has it, and steps into it.
+    ///
+    /// # Errors
+    ///
+    /// `Illegal` where the move isn't legal, else `TooLong` where the cursor is 20,000 plies deep, else `Full` where the tree holds
+    /// 1,000,000 moves, else `Memory` where there is none. All is then as before.
+    pub fn add(&mut self, m: Move) -> Result<(), PlayFault>
+        ensures answer { IsAnswer (add_answer self.old m) result }
+        ensures ok { OnOk result (self.new ≡ added m self.old) }
+        ensures line { OnOk result (line_to self.new ≡ extended (line_to self.old) m) }
+        ensures err { OnErr result (self.new ≡ self.old) }
+    {
+        match self.line.prepare(m) {
+            Ok(()) => {}
+            Err(LineFault::Illegal) => return Err(PlayFault::Illegal),
+            Err(LineFault::TooLong) => return Err(PlayFault::TooLong),
+            Err(LineFault::Memory) => return Err(without_room(&self.tree)),
+        }
+        if let Err(fault) = grow(&mut self.tree, m) {
+            return Err(fault);
+        }
+        self.line.push_prepared(m);
+        Ok(())
+    }
+}

@@ -1,0 +1,86 @@
+ghost use Rattle.std.specs.Prelude.{◌≡◌, ◌≤◌, true, false, IfOk};
+ghost use Rattle.chess_types.specs.board.Legal.{is_legal, legal_moves};
+ghost use Rattle.chess_types.specs.board.Lines.{last};
+ghost use Rattle.chess_types.specs.board.Repetition.{repetitions};
+ghost use Rattle.chess_types.specs.board.Outcome.{status, claims, claims_with};
+ghost use Rattle.chess_san.specs.Naming.{reading};
+ghost use Rattle.chess_search.specs.Best.{best};
+ghost use Rattle.chess_search.specs.Slices.{IsInRange};
+ghost use Rattle.chess_tree.specs.GameTree.{line_to};
+
+use super::Analysis;
+use arrayvec::ArrayVec;
+use chess_san::SanFault;
+use chess_types::{Claims, Move, Status};
+use std::alloc::Allocator;
+
+impl<'a, A: Allocator> Analysis<'a, A> {
+    /// The legal moves at the cursor, in order (FIDE Laws 3.1 to 3.10).
+    pub fn moves(&mut self) -> ArrayVec<Move, 432>
+        ensures listed { result.items ≡ legal_moves (last (line_to self.old)) }
+        ensures as_before { self.new ≡ self.old }
+    {
+        self.line.moves()
+    }
+
+    /// The legal move at the cursor that a text in standard algebraic notation names (PGN 8.2.3).
+    ///
+    /// # Errors
+    ///
+    /// As `chess_san::read`: none of the forms, no legal move, or more than one.
+    pub fn read_move(&mut self, text: &[u8]) -> Result<Move, SanFault>
+        ensures value { result ≡ reading (last (line_to self.old)) text.now }
+        ensures legal { IfOk result (λ m. is_legal (last (line_to self.old)) m ≡ true) }
+        ensures as_before { self.new ≡ self.old }
+    {
+        self.line.read_move(text)
+    }
+
+    /// How many of the positions from the root to the cursor are the same as that at the cursor, itself included (FIDE Laws
+    /// 9.2.2, 9.2.3).
+    pub fn count(&mut self) -> u32
+        ensures value { result ≡ repetitions (line_to self.old) }
+        ensures as_before { self.new ≡ self.old }
+    {
+        self.line.count()
+    }
+
+    /// How the game stands at the cursor (FIDE Laws 5.1.1, 5.2.1, 5.2.2, 9.6).
+    pub fn status(&mut self) -> Status
+        ensures value { result ≡ status (line_to self.old) }
+        ensures as_before { self.new ≡ self.old }
+    {
+        self.line.status()
+    }
+
+    /// What may be claimed at the cursor (FIDE Laws 9.2.2, 9.3.2).
+    pub fn claims(&mut self) -> Claims
+        ensures value { result ≡ claims (line_to self.old) }
+        ensures as_before { self.new ≡ self.old }
+    {
+        self.line.claims()
+    }
+
+    /// What may be claimed with a move that the player means to make, in the position after it (FIDE Laws 9.2.1, 9.3.1); `None`
+    /// where the move isn't legal.
+    pub fn claims_with(&mut self, m: Move) -> Option<Claims>
+        ensures value { result ≡ claims_with (line_to self.old) m }
+        ensures as_before { self.new ≡ self.old }
+    {
+        self.line.claims_with(m)
+    }
+
+    /// The first legal move at the cursor of greatest plain minimax value so many plies deep, 1 to 16, with its value for the side to
+    /// move: centipawns, or 30,000 less the plies to a mate. `None` where there is no legal move. Takes no memory.
+    #[tactic(auto, using(chess_search::proofs::RootLemmas::roots_legal))]
+    pub fn best(&mut self, depth: u8) -> Option<(Move, i32)>
+        requires deep { 1 ≤ depth }
+        requires shallow { depth ≤ 16 }
+        ensures value { result ≡ best false depth (line_to self.old) (legal_moves (last (line_to self.old))) }
+        ensures in_range { IsInRange result }
+        ensures as_before { self.new ≡ self.old }
+    {
+        let roots = self.line.moves();
+        chess_search::best(&mut self.line, depth, &roots)
+    }
+}
