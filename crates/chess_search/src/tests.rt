@@ -97,7 +97,7 @@ fn plain_best<A: Allocator>(line: &mut Line<'_, A>, depth: u8, claims: bool) -> 
     best
 }
 
-/// Whether both agree on the position, whole and by slices.
+/// Whether both agree on the position.
 fn agrees<A: Allocator>(rt: &impl Abort, alloc: A, fen: &[u8], depth: u8, claims: bool)
     requires deep { 1 ≤ depth }
     requires shallow { depth ≤ 16 }
@@ -210,4 +210,26 @@ fn counts_claimed_draws_where_they_count(rt: HostRuntime) {
         best_move(&mut line, 1, &mut nodes, true),
         Some((named(&rt, b"a1b1"), 0))
     );
+}
+
+/// The first legal move as a search by slices tells it after one slice, and the positions that were asked for.
+#[tactic(auto, using(crate::proofs::RootLemmas::roots_legal))]
+fn one_slice<A: Allocator>(line: &mut Line<'_, A>) -> (Option<(Move, i32)>, u64)
+    requires none { line.old.looked ≡ 0 }
+{
+    let roots = line.moves();
+    if roots.is_empty() {
+        return (None, 0);
+    }
+    let mut slices = Slices::start(1, roots, false);
+    slices.next(line);
+    (slices.so_far(), slices.nodes())
+}
+
+#[test]
+fn searches_a_root_at_a_time(rt: HostRuntime) {
+    let table = KeyTable::new([0; 768]);
+    let mut line = Line::start(rt.alloc(), at(&rt, START), &table);
+    let first = Some((named(&rt, b"b1a3"), 6));
+    assert_eq!(rt; one_slice(&mut line), (first, 2));
 }
