@@ -1,12 +1,15 @@
-//! A chess board over the standard streams: `chess board` answers the lines of the standard input on the standard output.
+//! A chess board and a chess engine over the standard streams: `chess board` answers the lines of the standard input on the standard
+//! output, `chess uci` is a session of the universal chess interface, and `chess pgn` reads games and writes them in export form.
 #![tactic(auto)]
 
+mod clock;
 #[cfg(test)]
 mod tests;
 mod words;
 
-use chess_cli::{Ended, board};
+use chess_cli::{Ended, board, pgn, uci};
 use chess_types::{FromRead, ToWrite};
+use clock::MachineClock;
 use std::process::ExitCode;
 use words::{Asked, Refused, read_words};
 
@@ -18,6 +21,17 @@ fn main(rt: HostRuntime) -> ExitCode {
         Ok(Asked::Board) => board(
             rt.alloc(),
             &mut FromRead::new(rt.stdin()),
+            &mut ToWrite::new(rt.stdout()),
+        ),
+        Ok(Asked::Uci) => uci(
+            rt.alloc(),
+            &mut FromRead::new(rt.stdin()),
+            &mut ToWrite::new(rt.stdout()),
+            MachineClock::new(&rt),
+        ),
+        Ok(Asked::Pgn) => pgn(
+            rt.alloc(),
+            FromRead::new(rt.stdin()),
             &mut ToWrite::new(rt.stdout()),
         ),
         Err(Refused::Words(message)) => {

@@ -15,6 +15,12 @@ fn one_engine_is_asked_for(rt: HostRuntime) {
 }
 
 #[test]
+fn the_other_engines_are_asked_for(rt: HostRuntime) {
+    assert!(rt; matches!(parse_words(rt.alloc(), &["chess", "uci"]), Ok(Asked::Uci)));
+    assert!(rt; matches!(parse_words(rt.alloc(), &["chess", "pgn"]), Ok(Asked::Pgn)));
+}
+
+#[test]
 fn other_words_are_refused(rt: HostRuntime) {
     assert!(rt; is_refused(parse_words(rt.alloc(), &["chess"])));
     assert!(rt; is_refused(parse_words(rt.alloc(), &["chess", "board", "board"])));

@@ -9,6 +9,8 @@ use std::{env, io};
 #[derive(Clone, Copy, Debug, PartialEq, Eq)]
 pub enum Asked {
     Board,
+    Uci,
+    Pgn,
 }
 
 /// Why the words ask for none.
@@ -26,9 +28,13 @@ impl From<AllocError> for Refused {
     }
 }
 
-const ABOUT: &str = "A chess board that answers by the Laws of Chess, line by line.";
+const ABOUT: &str =
+    "A chess board that answers by the Laws of Chess, a chess engine, and a reader and writer of games.";
 
-const ENGINE: &str = "board: answers the lines of the standard input, one line each";
+const ENGINE: &str = "\
+board: answers the lines of the standard input, one line each; \
+uci: plays in a front end for the universal chess interface; \
+pgn: writes the games of the standard input in export form";
 
 const COMMANDS: &str = "\
 Lines of board:
@@ -60,7 +66,7 @@ fn matched<S: AsStr>(alloc: Global, words: &[S]) -> Result<Option<Asked>, Error>
     let engine = Arg::new(alloc, "engine")
         .required(true)
         .help(ENGINE)
-        .value_parser(["board"].as_slice());
+        .value_parser(["board", "uci", "pgn"].as_slice());
     let command = Command::new(alloc, "chess")
         .about(ABOUT)
         .after_help(COMMANDS)
@@ -68,6 +74,8 @@ fn matched<S: AsStr>(alloc: Global, words: &[S]) -> Result<Option<Asked>, Error>
     let matches = command.try_get_matches_from(words)?;
     Ok(match matches.get_str("engine") {
         Some("board") => Some(Asked::Board),
+        Some("uci") => Some(Asked::Uci),
+        Some("pgn") => Some(Asked::Pgn),
         _ => None,
     })
 }

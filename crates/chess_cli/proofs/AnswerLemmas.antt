@@ -1,13 +1,13 @@
 -- What the board may answer.
-use Rattle.std.proofs.Common.{◌≡◌, ℕ, ◌<◌, ◌≤◌, ◌++◌, ◌∷◌, [], Bool, List, length, Result, Ok, true, false, leb, refl, sym, subst, inl, inr, arith}
+use Rattle.std.proofs.Common.{◌≡◌, ℕ, ◌<◌, ◌≤◌, ◌++◌, ◌∷◌, [], Bool, List, length, Result, Ok, true, false, leb, refl, sym, ap, ◌∙◌, subst, inl, inr, arith}
 use Rattle.std.proofs.lemmas.Bool.Decides.{nat_tests}
 use Rattle.chess_types.specs.declared.bytes.source.Failed.{Failed}
 use Rattle.chess_tree.specs.GameTree.{TreeParts}
-use Rattle.chess_cli.specs.declared.answer.Told.TheVariants.{Whole, Path}
-use Rattle.chess_cli.specs.Answers.{Answers, AnswersWithin, Tells, TellsBy, answer, long_line, no_memory, line_limit, line_room}
+use Rattle.chess_cli.specs.declared.answer.Told.TheVariants.{Whole, Path, Game}
+use Rattle.chess_cli.specs.Answers.{Answers, AnswersWithin, IsGranted, Tells, TellsBy, answer, effect, takes_memory, tree_after, long_line, no_memory, line_limit, line_room}
 use Rattle.chess_cli.specs.Numbers.{path_text}
-use Rattle.chess_cli.specs.steps.Replies.{IsOnPage}
-use Rattle.chess_cli.specs.Requests.{request}
+use Rattle.chess_cli.specs.steps.Replies.{IsGameText, IsOnPage}
+use Rattle.chess_cli.specs.Requests.{Pgn, request}
 use Rattle.chess_cli.specs.steps.Sending.{Sends}
 use Rattle.chess_cli.proofs.SendingLemmas.{puts}
 
@@ -39,3 +39,18 @@ module _ {W : Type 0} (takes : W → List ℕ → W → Type 0) (failed : W → 
       (path_text q.path ++ 10 ∷ [], inl (told.0.1, told.1), subst (λ (x : List ℕ). Sends takes failed x w (path_text q.path ++ 10 ∷ []) page2 w1 result) told.0.0 sends)
   told_path p q line page page1 page2 w w1 result (inr told) sends =
       (path_text q.path ++ 10 ∷ [], inr (told.0, told.1, told.2.1, told.3), subst (λ (x : List ℕ). Sends takes failed x w (path_text q.path ++ 10 ∷ []) page2 w1 result) told.2.0 sends)
+
+  game_or_not : (p q : TreeParts) (line page page1 text : List ℕ) → request line ≡ Pgn → TellsBy (IsOnPage Game q page page1) p (request line) q → IsGameText q text → (page1 ≡ page) × Tells p (request line) text q
+  game_or_not p q line page page1 text is (inl told) (inl e) = (told.0.0, inl (e ∙ told.0.1, told.1))
+  game_or_not p q line page page1 text is (inl told) (inr e) =
+      (told.0.0, inr (ap takes_memory is, subst (λ r. IsGranted (effect p r)) (sym is) tt, e, told.1 ∙ ap (tree_after p) is))
+  game_or_not p q line page page1 text is (inr told) (inl e) = (told.2.0, inr (told.0, told.1, e ∙ told.2.1, told.3))
+  game_or_not p q line page page1 text is (inr told) (inr e) = (told.2.0, inr (told.0, told.1, e, told.3))
+
+  -- the game, which is written afterwards
+  pub told_game : (p q : TreeParts) (line page page1 page2 : List ℕ) (w w1 : W) (result : Result (Unit {0}) Failed) → request line ≡ Pgn → TellsBy (IsOnPage Game q page page1) p (request line) q
+      → (text : List ℕ) × IsGameText q text × Sends takes failed page1 w text page2 w1 result
+      → (text : List ℕ) × Tells p (request line) text q × Sends takes failed page w text page2 w1 result
+  told_game p q line page page1 page2 w w1 result is told wrote =
+      let both = game_or_not p q line page page1 wrote.0 is told wrote.1 in
+      (wrote.0, both.1, subst (λ (x : List ℕ). Sends takes failed x w wrote.0 page2 w1 result) both.0 wrote.2)

@@ -13,3 +13,7 @@ pub mod EndLemmas
 pub mod RunEndLemmas
 pub mod PlaceLemmas
 pub mod GotoLemmas
+pub mod EventLemmas
+pub mod WorkLemmas
+pub mod SittingLemmas
+pub mod CollectionLemmas

@@ -78,3 +78,11 @@ module _ {W : Type 0} (takes : W → List ℕ → W → Type 0) (failed : W → 
   pub flows : (w t : W) (page page1 : List ℕ) (result : Result (Unit {0}) Failed) → SentOr takes failed w page page1 t result → Flows takes failed page w page1 t result
   flows w t page page1 (Ok x) wrote = λ start text sent. sent_on start w t text page page1 sent wrote
   flows w t page page1 (Err e) wrote = λ start text sent. broken_on start w t text page sent wrote
+
+  -- a text that is written once the page is empty
+  pub sends_behind : (w w1 w2 : W) (page text : List ℕ) (result : Result (Unit {0}) Failed) → Flows takes failed {X = Unit {0}} {E = Failed} page w [] w1 (Ok tt) → SentOr takes failed w1 text [] w2 result
+      → Sends takes failed page w text [] w2 result
+  sends_behind w w1 w2 page text (Ok x) flows wrote = λ start before sent.
+      sent_on start w1 w2 (before ++ text) text [] (sent_more start w1 before [] text (flows start before sent)) wrote
+  sends_behind w w1 w2 page text (Err e) flows wrote = λ start before sent.
+      broken_on start w1 w2 (before ++ text) text (sent_more start w1 before [] text (flows start before sent)) wrote

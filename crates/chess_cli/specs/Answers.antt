@@ -27,13 +27,15 @@ use Rattle.chess_tree.specs.Forest.{Bare, count as count_children, moves_held}
 use Rattle.chess_tree.specs.Edits.{parent}
 use Rattle.chess_tree.specs.Comments.{has_brace, normalised}
 use Rattle.chess_tree.specs.GameTree.{TreeParts, added, annotated_here, at_path, commented_here, deleted, find, has, line_to, main_line, nodes_here, promoted_here}
+use Rattle.chess_pgn.specs.Games.{untold}
+use Rattle.chess_pgn.specs.Written.{game_text}
 use Rattle.chess_cli.specs.declared.refusal.Refusal.{Refusal}
 use Rattle.chess_cli.specs.declared.refusal.Refusal.TheVariants.{Fen as BadFen, NoSuch, Illegal, TooLong, AtRoot, Full, BadComment, Memory, Command, Argument, LongLine}
 use Rattle.chess_cli.specs.Refusals.{number_of, name_of, san_refusal}
 use Rattle.chess_cli.specs.Gaps.{parted_by}
 use Rattle.chess_cli.specs.Numbers.{path_text}
 use Rattle.chess_cli.specs.Outcomes.{status_text, claims_text}
-use Rattle.chess_cli.specs.Requests.{Request, Blank, New, Set, Counts, Eval, Fen, Moves, Checks, Play, Back, Step, Start, End, Goto, Path, Promote, Delete, Comment, Nag, Count, Status, Claims, Claim, Best, Unknown, Malformed, request}
+use Rattle.chess_cli.specs.Requests.{Request, Blank, New, Set, Counts, Eval, Fen, Moves, Checks, Play, Back, Step, Start, End, Goto, Path, Promote, Delete, Comment, Nag, Count, Status, Claims, Claim, Best, Pgn, Unknown, Malformed, request}
 
 abbrev pub ok : List ℕ
 ok = codes "ok\n"
@@ -164,6 +166,7 @@ effect t Status = says_line (status_text (status (line_to t)))
 effect t Claims = says_line (claims_text (claims (line_to t)))
 effect t (Claim word) = claim_effect (line_to t) (move_reading (last (line_to t)) word)
 effect t (Best depth) = says_line (best_text (best false depth (line_to t) (legal_moves (last (line_to t)))))
+effect t Pgn = Says (game_text (untold t.tree))
 effect t Unknown = Refuses Command
 effect t Malformed = Refuses Argument
 
@@ -211,19 +214,21 @@ takes_memory Status = false
 takes_memory Claims = false
 takes_memory (Claim word) = false
 takes_memory (Best depth) = false
+takes_memory Pgn = true
 takes_memory Unknown = false
 takes_memory Malformed = false
 
-abbrev pub IsDone : Effect → Type 0
-IsDone (Says text) = ⊥
-IsDone (Does new) = ⊤
-IsDone (Refuses refusal) = ⊥
+-- it isn't refused
+abbrev pub IsGranted : Effect → Type 0
+IsGranted (Says text) = ⊤
+IsGranted (Does new) = ⊤
+IsGranted (Refuses refusal) = ⊥
 
 -- What a call that has this effect answers, and what it leaves: the effect is done, or refused; or, where it would be done and there is no
 -- memory for it, refused so, with everything kept.
 abbrev pub HasEffect : {X : Type 0} → Effect → TreeParts → Result X Refusal → TreeParts → Type 0
 HasEffect effect old (Ok _) new = effect ≡ Does new
-HasEffect effect old (Err refusal) new = ((effect ≡ Refuses refusal) ⊎ (IsDone effect × (refusal ≡ Memory))) × (new ≡ old)
+HasEffect effect old (Err refusal) new = ((effect ≡ Refuses refusal) ⊎ (IsGranted effect × (refusal ≡ Memory))) × (new ≡ old)
 
 -- The same of a call that takes no memory.
 abbrev pub HasEffectSurely : {X : Type 0} → Effect → TreeParts → Result X Refusal → TreeParts → Type 0
@@ -235,7 +240,7 @@ HasEffectSurely effect old (Err refusal) new = (effect ≡ Refuses refusal) × (
 abbrev pub TellsBy : (List ℕ → Type 0) → TreeParts → Request → TreeParts → Type 0
 TellsBy answers old request new =
     (answers (answer old request) × (new ≡ tree_after old request))
-    ⊎ ((takes_memory request ≡ true) × IsDone (effect old request) × answers no_memory × (new ≡ old))
+    ⊎ ((takes_memory request ≡ true) × IsGranted (effect old request) × answers no_memory × (new ≡ old))
 
 abbrev pub Tells : TreeParts → Request → List ℕ → TreeParts → Type 0
 Tells old request text new = TellsBy (λ answer. text ≡ answer) old request new

@@ -1,17 +1,25 @@
 -- What a run's end means to the system: the exit status, and the line for the standard error.
-use Rattle.std.specs.Prelude.{ℕ, List, codes}
+use Rattle.std.specs.Prelude.{ℕ, List, ◌++◌, codes, decimal}
+use Rattle.chess_pgn.specs.declared.fault.PgnFault.{PgnFault}
+use Rattle.chess_pgn.specs.Faults.{number_of, name_of}
 use Rattle.chess_cli.specs.declared.ended.Ended.{Ended}
-use Rattle.chess_cli.specs.declared.ended.Ended.TheVariants.{Good, ReadFault, WriteFault, Memory}
+use Rattle.chess_cli.specs.declared.ended.Ended.TheVariants.{Good, Input, ReadFault, WriteFault, Memory}
 
 abbrev pub status_of : Ended → ℕ
 status_of Good = 0
+status_of (Input fault) = 2
 status_of ReadFault = 3
 status_of WriteFault = 3
 status_of Memory = 3
 
+-- the place in bytes from the input's beginning, and the kind by number and name
+abbrev pub fault_text : PgnFault → List ℕ
+fault_text fault = codes "fault " ++ decimal fault.place ++ codes " " ++ decimal (number_of fault.kind) ++ codes " " ++ name_of fault.kind
+
 -- without a line feed; empty where there is nothing to tell
 abbrev pub message_of : Ended → List ℕ
 message_of Good = codes ""
+message_of (Input fault) = fault_text fault
 message_of ReadFault = codes "read fault"
 message_of WriteFault = codes "write fault"
 message_of Memory = codes "out of memory"

@@ -8,5 +8,7 @@ pub mod Numbers
 pub mod Outcomes
 pub mod Answers
 pub mod RunEnds
+pub mod Sittings
+pub mod Collections
 pub mod ExitStatus
 pub mod steps

@@ -54,6 +54,8 @@ pub data Request : Type 0 where
   Claim : List ℕ → Request
   -- `best D`: the best move, so many plies deep
   Best : ℕ → Request
+  -- `pgn`: the whole game in export form
+  Pgn : Request
   -- another first word
   Unknown : Request
   -- a command with the wrong words behind it
@@ -131,6 +133,7 @@ asked line (word ∷ others) =
     else if bytes_eq word (codes "claims") then alone Claims others
     else if bytes_eq word (codes "claim") then with_word Claim others
     else if bytes_eq word (codes "best") then with_value depth_in Best others
+    else if bytes_eq word (codes "pgn") then alone Pgn others
     else Unknown
 
 abbrev pub request : List ℕ → Request

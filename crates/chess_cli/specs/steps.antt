@@ -7,3 +7,5 @@ pub mod Reads
 pub mod Readings
 pub mod Lists
 pub mod Pieces
+pub mod Driving
+pub mod Collecting

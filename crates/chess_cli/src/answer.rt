@@ -6,11 +6,12 @@ use super::refusal::Refusal;
 use itoa::Buffer;
 use std::alloc::Allocator;
 
-/// What there is of the answer to a line on the page: all of it, or nothing of the path to the cursor, which may be long.
+/// What there is of the answer to a line on the page: all of it, or nothing of the path to the cursor or of the game, which may be long.
 #[derive(Clone, Copy, Debug, PartialEq, Eq)]
 pub enum Told {
     Whole,
     Path,
+    Game,
 }
 
 /// `refused N NAME`, and a line feed.

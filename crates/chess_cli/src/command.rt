@@ -59,6 +59,8 @@ pub enum Command<'a> {
     Claim(&'a [u8]),
     /// The best move, as deep as a word writes; a word that writes no depth is as wrong as a wrong number of them.
     Best(&'a [u8]),
+    /// The whole game in export form.
+    Pgn,
     /// Another first word.
     Unknown,
     /// Wrong words behind a command.
@@ -233,6 +235,8 @@ pub fn asked(line: &[u8]) -> Command<'_>
         claim(rest)
     } else if word == b"best".as_slice() {
         best(rest)
+    } else if word == b"pgn".as_slice() {
+        alone(Command::Pgn, rest)
     } else {
         Command::Unknown
     }

@@ -1,11 +1,14 @@
 //! The engines over a reader and a writer: lines in, answers out.
 //!
 //! `board` keeps a game tree by the Laws of Chess and answers a line of input at a time. Its contract is the whole of it, from bytes to
-//! bytes: what the writer takes is what the written machine of `specs/Answers.antt` answers to the lines read.
+//! bytes: what the writer takes is what the written machine of `specs/Answers.antt` answers to the lines read. `uci` keeps a session of the
+//! universal chess interface, by the written machine of `chess_uci` and the clock (`specs/Sittings.antt`), over the same loop.
 #![tactic(auto)]
 
 mod answer;
 mod buffers;
+mod clock;
+mod collection;
 mod command;
 mod ended;
 mod engine;
@@ -20,13 +23,18 @@ mod page;
 mod path;
 mod refusal;
 mod run;
+mod sessions;
+mod sitting;
 mod texts;
 mod unfinished;
 mod write;
 
+pub use clock::Clock;
+pub use collection::pgn;
 pub use ended::Ended;
 pub use over_bytes::board_over_bytes;
 pub use over_streams::board;
+pub use sessions::uci;
 pub use texts::{Kept, counts_text, eval_text};
 
 #[cfg(test)]

@@ -13,8 +13,8 @@ ghost use Rattle.chess_tree.specs.GameTree.{TreeParts, annotated_here, at_path, 
 ghost use Rattle.chess_cli.specs.Outcomes.{claims_text, status_text};
 ghost use Rattle.chess_cli.specs.Numbers.{depth_in, path_in};
 ghost use Rattle.chess_cli.specs.Answers.{Answers, Does, HasEffect, HasEffectSurely, Tells, TellsBy, beginning, checks_of, claim_effect, comment_effect, counts_of, if_there, list_text, off_root, play_effect, set_effect, told, tree_from};
-ghost use Rattle.chess_cli.specs.steps.Replies.{IsOnPage, best_effect, path_effect};
-ghost use Rattle.chess_cli.specs.Requests.{request};
+ghost use Rattle.chess_cli.specs.steps.Replies.{IsGameText, IsOnPage, best_effect, path_effect};
+ghost use Rattle.chess_cli.specs.Requests.{Pgn, request};
 ghost use Rattle.chess_cli.specs.steps.Sending.{Sends};
 ghost use Rattle.chess_fen.specs.Reading.{reading};
 ghost use Rattle.chess_san.specs.Naming.{reading as move_reading};
@@ -34,6 +34,7 @@ use super::texts::{counts_text, eval_text};
 use super::unfinished::{Reading, Unfinished};
 use chess_attack::checkers;
 use chess_key::KeyTable;
+use chess_pgn::write_tree;
 use chess_play::Live;
 use chess_tree::{Analysis, Tree, TreeFault};
 use chess_types::{Colour, Failed, Position, Sink};
@@ -106,10 +107,11 @@ impl<'k, A: Allocator> Board<'k, A> {
         self.analysis.live()
     }
 
-    /// Answers a line that was read whole, behind what stands on the page; of the answer to `path` there is nothing yet.
+    /// Answers a line that was read whole, behind what stands on the page; of the answers to `path` and `pgn` there is nothing yet.
     pub fn tell<B: Allocator>(&mut self, line: &[u8], page: &mut Page<B>) -> Told
         requires { length page.old + 2600 ≤ 65536 }
-        ensures { TellsBy (IsOnPage result self.new page.old page.new) self.old (request line.now) self.new }
+        ensures told { TellsBy (IsOnPage result self.new page.old page.new) self.old (request line.now) self.new }
+        ensures game { result ≡ Told.Game → request line.now ≡ Pgn }
     {
         match asked(line) {
             Command::Blank => {}
@@ -136,6 +138,7 @@ impl<'k, A: Allocator> Board<'k, A> {
             Command::Claims => self.claims(page),
             Command::Claim(word) => self.claim(word, page),
             Command::Best(word) => self.best(word, page),
+            Command::Pgn => return Told::Game,
             Command::Unknown => put_refused(page, Refusal::Command),
             Command::Malformed => put_refused(page, Refusal::Argument),
         }
@@ -155,8 +158,25 @@ impl<'k, A: Allocator> Board<'k, A> {
         match self.tell(line, page) {
             Told::Whole => {}
             Told::Path => return write_path(self.tree(), page, writer),
+            Told::Game => return self.write_game(page, writer),
         }
         Ok(())
+    }
+
+    // The whole game, or that there is no memory for its text.
+    fn write_game<B: Allocator, W: Sink>(
+        &self,
+        page: &mut Page<B>,
+        writer: &mut W,
+    ) -> Result<(), Failed>
+        requires { length page.old + 2600 ≤ 65536 }
+        ensures { (text : List ℕ) × IsGameText self.now text × Sends W.takes W.failed page.old writer.old text page.new writer.new result }
+    {
+        let Ok(text) = write_tree(self.alloc, self.tree()) else {
+            put_refused(page, Refusal::Memory);
+            return Ok(());
+        };
+        page.send(text.as_slice(), writer)
     }
 
     // Begins a tree from the position.

@@ -1,5 +1,6 @@
-ghost use Rattle.std.specs.Prelude.{◌≡◌, ◌≤◌, ◌<◌, ℕ, List, [], ◌++◌, true, false, length, ◌⊎◌};
+ghost use Rattle.std.specs.Prelude.{◌≡◌, ◌≢◌, ◌≤◌, ◌<◌, ℕ, List, [], ◌++◌, true, false, length, ◌⊎◌};
 ghost use Rattle.chess_tree.specs.GameTree.{TreeParts};
+ghost use Rattle.chess_pgn.specs.declared.fault.PgnFault.{PgnFault};
 ghost use Rattle.chess_cli.specs.Answers.{Answers, beginning};
 ghost use Rattle.chess_cli.specs.RunEnds.{IsFront, most_reads};
 ghost use Rattle.chess_cli.specs.InputLines.{lines_of, ended_lines};
@@ -31,6 +32,7 @@ pub fn board_over_bytes<A: Allocator>(
         × Runs Answers beginning lines text state × (text ≡ front ++ rest) × (0 < length rest) × (writer.new.taken ≡ writer.old.taken ++ front)
         × (reader.new.failed ≡ false) × (writer.new.failed ≡ true) }
     ensures memory { result ≡ Ended.Memory → (reader.new ≡ reader.old) × (writer.new ≡ writer.old) }
+    ensures input { (fault : PgnFault) → result ≢ Ended.Input fault }
 {
     board(alloc, reader, writer)
 }

@@ -1,5 +1,6 @@
-ghost use Rattle.std.specs.Prelude.{◌≡◌, false};
+ghost use Rattle.std.specs.Prelude.{◌≡◌, ◌≢◌, false};
 ghost use Rattle.chess_tree.specs.GameTree.{TreeParts};
+ghost use Rattle.chess_pgn.specs.declared.fault.PgnFault.{PgnFault};
 ghost use Rattle.chess_cli.specs.Answers.{Answers, beginning};
 ghost use Rattle.chess_cli.specs.Runs.{Runs};
 ghost use Rattle.chess_cli.specs.RunEnds.{EndsGood, EndsReadFault, EndsWriteFault, most_reads};
@@ -12,7 +13,7 @@ use chess_types::{Sink, Source};
 use std::alloc::Allocator;
 
 /// The most reads of a run.
-const READS: u64 = 1 << 40;
+pub(crate) const READS: u64 = 1 << 40;
 
 // The run of `board`, with at most so many reads.
 pub(crate) fn board_within<A: Allocator, R: Source, W: Sink>(
@@ -30,6 +31,7 @@ pub(crate) fn board_within<A: Allocator, R: Source, W: Sink>(
     ensures write_fault { result ≡ Ended.WriteFault → (state : TreeParts)
         × EndsWriteFault (Runs Answers) beginning R.gives R.failed W.takes W.failed R.ended state reader.old reader.new writer.old writer.new }
     ensures memory { result ≡ Ended.Memory → (reader.new ≡ reader.old) × (writer.new ≡ writer.old) }
+    ensures input { (fault : PgnFault) → result ≢ Ended.Input fault }
 {
     let table = key_table();
     let Ok(mut board) = Board::new(alloc, &table) else {
@@ -54,6 +56,7 @@ pub fn board<A: Allocator, R: Source, W: Sink>(alloc: A, reader: &mut R, writer:
     ensures write_fault { result ≡ Ended.WriteFault → (state : TreeParts)
         × EndsWriteFault (Runs Answers) beginning R.gives R.failed W.takes W.failed R.ended state reader.old reader.new writer.old writer.new }
     ensures memory { result ≡ Ended.Memory → (reader.new ≡ reader.old) × (writer.new ≡ writer.old) }
+    ensures input { (fault : PgnFault) → result ≢ Ended.Input fault }
 {
     board_within(&alloc, reader, writer, READS)
 }

@@ -1,5 +1,5 @@
 ghost use Rattle.std.specs.Prelude.{◌≡◌, ◌+◌, ◌≤◌, [], ◌∷◌, ◌++◌, length, IfOk, OnOk};
-ghost use Rattle.chess_cli.specs.steps.Sending.{Flows};
+ghost use Rattle.chess_cli.specs.steps.Sending.{Flows, Sends};
 
 use super::write::write_all;
 use chess_types::{Failed, Sink};
@@ -78,6 +78,16 @@ impl<A: Allocator> Page<A> {
             return Ok(());
         }
         self.flush(writer)
+    }
+
+    /// Writes all that stands on the page, and then the text, which may be longer than a page.
+    pub fn send<W: Sink>(&mut self, text: &[u8], writer: &mut W) -> Result<(), Failed>
+        ensures { Sends W.takes W.failed self.old writer.old text.now self.new writer.new result }
+    {
+        if let Err(failed) = self.flush(writer) {
+            return Err(failed);
+        }
+        write_all(writer, text)
     }
 
     /// What stands on the page.

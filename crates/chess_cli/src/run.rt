@@ -2,6 +2,7 @@
 //!
 //! The answers to the lines of one read are written before the next, with as few calls as fit a page.
 ghost use Rattle.std.specs.Prelude.{◌≡◌, ◌⊎◌, ◌+◌, ◌≤◌, List, ℕ, [], ◌<◌, ◌≢◌, false, length, OnOk};
+ghost use Rattle.chess_pgn.specs.declared.fault.PgnFault.{PgnFault};
 ghost use Rattle.chess_cli.specs.Runs.{Runs, Partly};
 ghost use Rattle.chess_cli.specs.steps.Reads.{AnswersLine, Feeds, Finishes, Holds};
 ghost use Rattle.chess_cli.specs.RunEnds.{EndsGood, EndsOver, EndsReadFault, EndsWriteFault};
@@ -132,6 +133,7 @@ fn answer_all<E: Engine, A: Allocator, R: Source, W: Sink>(
     ensures write_fault { result ≡ Ended.WriteFault →
         EndsWriteFault (Partly E.step E.cut) engine.old R.gives R.failed W.takes W.failed R.ended engine.new reader.old reader.new writer.old writer.new }
     ensures memory { result ≢ Ended.Memory }
+    ensures input { (fault : PgnFault) → result ≢ Ended.Input fault }
 {
     for _turn in 0..most {
         match reader.read(buffer) {
@@ -175,6 +177,7 @@ pub fn run<E: Engine, A: Allocator, R: Source, W: Sink>(
     ensures write_fault { result ≡ Ended.WriteFault →
         EndsWriteFault (Partly E.step E.cut) engine.old R.gives R.failed W.takes W.failed R.ended engine.new reader.old reader.new writer.old writer.new }
     ensures memory { result ≡ Ended.Memory → (engine.new ≡ engine.old) × (reader.new ≡ reader.old) × (writer.new ≡ writer.old) }
+    ensures input { (fault : PgnFault) → result ≢ Ended.Input fault }
 {
     let (Ok(mut buffer), Ok(mut line), Ok(mut page)) = (
         filled(alloc, 0u8, PIECE),

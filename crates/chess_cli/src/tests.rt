@@ -2,6 +2,7 @@ mod lines;
 mod live;
 mod long;
 mod paths;
+mod sessions;
 mod tree;
 
 use crate::over_streams::board_within;

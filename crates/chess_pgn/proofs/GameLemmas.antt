@@ -1,12 +1,13 @@
 -- A game's text, part by part.
-use Rattle.std.proofs.Common.{◌≡◌, ◌≢◌, ◌<◌, ℕ, ◌+◌, Bool, true, false, cond, List, [], ◌∷◌, ◌++◌, length, take, get_or, refl, sym, ap, ◌∙◌, append_assoc, codes}
-use Rattle.std.specs.Prelude.{Result, Ok, Err, OnOk}
+use Rattle.std.proofs.Common.{◌≡◌, ◌≢◌, ◌<◌, ℕ, ◌+◌, Bool, true, false, cond, List, [], ◌∷◌, ◌++◌, length, take, get_or, refl, sym, ap, ◌∙◌, append_assoc, append-nil, codes}
+use Rattle.std.specs.Prelude.{Result, Ok, Err, OnOk, Option, Vec}
 use Rattle.std.proofs.lemmas.List.{take_more}
 use Rattle.chess_types.specs.bytes.Words.{after_word, as_word, first_word, is_gap, words, words_from}
 use Rattle.chess_types.proofs.WordLemmas.{words_from-first}
 use Rattle.chess_tree.specs.GameTree.{GameTree}
 use Rattle.chess_pgn.specs.Items.{is_escapable}
-use Rattle.chess_pgn.specs.Written.{comment_text, escaped, movetext, moves_text, outcome_text, tag_text}
+use Rattle.chess_pgn.specs.Written.{comment_text, escaped, is_within, movetext, moves_text, others_text, outcome_text, tag_text}
+use Rattle.chess_pgn.specs.steps.OtherCode.{shown}
 use Rattle.chess_pgn.specs.declared.outcome.Outcome.{Outcome}
 use Rattle.chess_pgn.specs.declared.outcome.Outcome.TheVariants.{WhiteWins, BlackWins, Draw, Unfinished}
 
@@ -27,6 +28,25 @@ pub escaped_more : (before mid new value : List ℕ) (i : ℕ) → i < length va
 escaped_more before mid new value i h e k =
     k ∙ ap (λ (x : List ℕ). x ++ escaped (get_or value i 0 ∷ [])) e ∙ append_assoc before (escaped (take i value)) (escaped (get_or value i 0 ∷ []))
     ∙ ap (λ (x : List ℕ). before ++ x) (sym (ap escaped (take_more value i 0 h) ∙ escaped_append (take i value) (get_or value i 0 ∷ [])))
+
+-- ---- the other tags, one by one
+
+module _ (from : List ℕ) (to : Option (List ℕ)) where
+  -- what one of them adds
+  abbrev pub one_text : List ℕ → List ℕ → List ℕ
+  one_text name value = cond (is_within from to name) (tag_text name value) []
+
+  others_end : {A : Type 0} (done : List (Vec ℕ A × Vec ℕ A)) (e : Vec ℕ A × Vec ℕ A) → others_text from to (shown (done ++ e ∷ [])) ≡ others_text from to (shown done) ++ one_text e.0.items e.1.items
+  others_end [] e = append-nil (one_text e.0.items e.1.items)
+  others_end (d ∷ done) e =
+      ap (λ (x : List ℕ). one_text d.0.items d.1.items ++ x) (others_end done e)
+      ∙ sym (append_assoc (one_text d.0.items d.1.items) (others_text from to (shown done)) (one_text e.0.items e.1.items))
+
+  pub others_more : {A : Type 0} (before mid new : List ℕ) (done : List (Vec ℕ A × Vec ℕ A)) (e : Vec ℕ A × Vec ℕ A)
+      → mid ≡ before ++ others_text from to (shown done) → new ≡ mid ++ one_text e.0.items e.1.items → new ≡ before ++ others_text from to (shown (done ++ e ∷ []))
+  others_more before mid new done e h k =
+      k ∙ ap (λ (x : List ℕ). x ++ one_text e.0.items e.1.items) h ∙ append_assoc before (others_text from to (shown done)) (one_text e.0.items e.1.items)
+      ∙ ap (λ (x : List ℕ). before ++ x) (sym (others_end done e))
 
 -- ---- the movetext has a word
 

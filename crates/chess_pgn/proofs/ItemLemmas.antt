@@ -27,7 +27,7 @@ name_high : (b : ℕ) → b ≤ 34 → is_name_byte b ≡ false
 unfolding is_name_byte is_digit
 name_high b e = grind (arith, nat_tests)
 
-glyph_is : (b : ℕ) → is_glyph b ≡ true → (b ≡ 33) ⊎ (b ≡ 63)
+pub glyph_is : (b : ℕ) → is_glyph b ≡ true → (b ≡ 33) ⊎ (b ≡ 63)
 unfolding is_glyph
 glyph_is b e = elim (or_cases (eqb b 33) (eqb b 63) e) [ inl h ↦ inl (eqb-true _ _ h) | inr h ↦ inr (eqb-true _ _ h) ]
 
@@ -131,7 +131,7 @@ tag_goes start _ text next s p = absurd cc
 
 -- ---- in a tag's value
 
-no_eqb : (a b : ℕ) → a ≢ b → eqb a b ≡ false
+pub no_eqb : (a b : ℕ) → a ≢ b → eqb a b ≡ false
 no_eqb a b h = grind (arith, nat_tests)
 
 plain_is : (b : ℕ) → is_plain b ≡ true → (b ≢ 34) × (b ≢ 92) × (b ≢ 10)

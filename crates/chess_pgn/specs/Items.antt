@@ -2,6 +2,7 @@
 --   Item         a token, or what stands between tokens
 --   may_stand    the items that may stand at a place: outside of tags, between the parts of a tag, or in its value
 --   place_after  the place behind an item
+--   is_white     the items that make no game
 --   IsItem       the item that a text spells, at a place and before what follows
 --   Spells       the items that the front of a text spells, one after another, and the rest
 -- A word, a line, a stretch of a value and the like are longest runs: that no item is cut short is said of the bytes that follow it.
@@ -170,6 +171,13 @@ place_after place Quote = if is_in_value place then InTag else InValue
 place_after place (Stretch text) = InValue
 place_after place (Escaped b) = InValue
 place_after place _ = InLine
+
+-- white space, a mark and a hidden line, which make no game
+abbrev pub is_white : Item → Bool
+is_white Mark = true
+is_white (Blank b) = true
+is_white Hidden = true
+is_white _ = false
 
 -- ---- what spells an item
 

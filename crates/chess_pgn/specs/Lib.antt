@@ -4,5 +4,6 @@ pub mod Items
 pub mod Layout
 pub mod Games
 pub mod Written
+pub mod Grammar
 pub mod Faults
 pub mod steps

@@ -1,11 +1,15 @@
 -- The export form of a game (PGN 3.2, 8.2).
+--   others_text    the tags whose names are within two bounds
+--   behind_text    the tags behind the seven
 --   tags_text      the tags, each on a line of its own (PGN 8.1.1)
 --   node_text      a move with its number, where it is due, and its notes
 --   moves_text     moves and variations, each behind a space
 --   movetext       the movetext on one line
 --   game_text      the whole
 -- A game's text is its tags, an empty line, the movetext in lines of at most 79 bytes, and an empty line.
-use Rattle.std.specs.Prelude.{ℕ, ◌||◌, not, if◌then◌else◌, Bool, true, false, List, [], ◌∷◌, ◌++◌, is_none, codes, bytes_eq, decimal}
+use Rattle.std.specs.Prelude.{ℕ, ◌||◌, ◌&&◌, not, if◌then◌else◌, Bool, true, false, List, [], ◌∷◌, ◌++◌, Option, Some, None, is_none, codes, bytes_eq, decimal}
+use Rattle.std.specs.Cmp.Lexicographic.{slice_cmp}
+use Rattle.std.specs.Ordering.{is_lt, nat_cmp}
 use Rattle.std.specs.Str.{byte}
 use Rattle.chess_types.specs.declared.board.man.Colour.{Colour}
 use Rattle.chess_types.specs.declared.board.man.Colour.TheVariants.{White, Black}
@@ -39,9 +43,30 @@ escaped (b ∷ value) = if is_escapable b then byte "\\" ∷ b ∷ escaped value
 abbrev pub tag_text : List ℕ → List ℕ → List ℕ
 tag_text name value = codes "[" ++ (name ++ (codes " \"" ++ (escaped value ++ codes "\"]\n")))
 
--- the position in which a game begins, unless it is the usual one (PGN 9.7)
-abbrev pub start_text : List ℕ → List ℕ
-start_text fen = if bytes_eq fen (written start) then [] else tag_text (codes "FEN") fen ++ tag_text (codes "SetUp") (codes "1")
+-- in ASCII order
+abbrev pub is_before : List ℕ → List ℕ → Bool
+is_before name next = is_lt (slice_cmp nat_cmp name next)
+
+-- whether a name stands from one on and before the other, if there is one
+abbrev pub is_within : (from : List ℕ) → (to : Option (List ℕ)) → List ℕ → Bool
+is_within from None name = not (is_before name from)
+is_within from (Some to) name = not (is_before name from) && is_before name to
+
+-- those of the tags whose names are within those bounds
+abbrev pub others_text : (from : List ℕ) → (to : Option (List ℕ)) → List (List ℕ × List ℕ) → List ℕ
+others_text from to [] = []
+others_text from to (tag ∷ tags) = (if is_within from to tag.0 then tag_text tag.0 tag.1 else []) ++ others_text from to tags
+
+-- The tags behind the seven, by their names in ASCII order (PGN 8.1.1): the others, and the position in which a game begins, unless it is the
+-- usual one (PGN 9.7).
+abbrev pub behind_text : List (List ℕ × List ℕ) → List ℕ → List ℕ
+behind_text others fen =
+    if bytes_eq fen (written start) then others_text [] None others
+    else others_text [] (Some (codes "FEN")) others
+    ++ (tag_text (codes "FEN") fen
+    ++ (others_text (codes "FEN") (Some (codes "SetUp")) others
+    ++ (tag_text (codes "SetUp") (codes "1")
+    ++ others_text (codes "SetUp") None others)))
 
 -- in the order of PGN 8.1.1, the others behind them
 abbrev pub tags_text : Tags → Outcome → State → List ℕ
@@ -52,7 +77,7 @@ tags_text tags outcome p =
     ++ (tag_text (codes "Round") tags.round
     ++ (tag_text (codes "White") tags.white
     ++ (tag_text (codes "Black") tags.black
-    ++ (tag_text (codes "Result") (outcome_text outcome) ++ start_text (written p)))))))
+    ++ (tag_text (codes "Result") (outcome_text outcome) ++ behind_text tags.others (written p)))))))
 
 -- ---- moves
 

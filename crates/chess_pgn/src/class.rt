@@ -1,7 +1,9 @@
-ghost use Rattle.std.specs.Prelude.{◌≡◌, ℕ, ◌≤◌, length};
+ghost use Rattle.std.specs.Prelude.{◌≡◌, ◌==◌, not, ℕ, ◌≤◌, length};
 ghost use Rattle.std.specs.List.{prefix_len};
 ghost use Rattle.chess_pgn.specs.Items.{is_blank, is_escapable};
-ghost use Rattle.chess_pgn.specs.steps.Classes.{has_byte};
+ghost use Rattle.chess_pgn.specs.steps.Classes.{bit_of, has_byte};
+
+use memchr::memchr;
 
 /// What the bytes of a run have in common.
 #[derive(Clone, Copy)]
@@ -21,6 +23,27 @@ pub enum Class {
     Braced,
 }
 
+// The bits of the classes that each byte is of.
+#[rattlefmt::skip]
+static CLASSES: [u8; 256] = [
+    112, 112, 112, 112, 112, 112, 112, 112, 112, 112, 64, 112, 112, 112, 112, 112,
+    112, 112, 112, 112, 112, 112, 112, 112, 112, 112, 112, 112, 112, 112, 112, 112,
+    112, 116, 96, 113, 112, 112, 112, 112, 112, 112, 112, 113, 112, 113, 112, 113,
+    123, 123, 123, 123, 123, 123, 123, 123, 123, 123, 113, 112, 112, 113, 112, 116,
+    112, 121, 121, 121, 121, 121, 121, 121, 121, 121, 121, 121, 121, 121, 121, 121,
+    121, 121, 121, 121, 121, 121, 121, 121, 121, 121, 121, 112, 96, 112, 112, 121,
+    112, 121, 121, 121, 121, 121, 121, 121, 121, 121, 121, 121, 121, 121, 121, 121,
+    121, 121, 121, 121, 121, 121, 121, 121, 121, 121, 121, 112, 112, 48, 112, 112,
+    112, 112, 112, 112, 112, 112, 112, 112, 112, 112, 112, 112, 112, 112, 112, 112,
+    112, 112, 112, 112, 112, 112, 112, 112, 112, 112, 112, 112, 112, 112, 112, 112,
+    112, 112, 112, 112, 112, 112, 112, 112, 112, 112, 112, 112, 112, 112, 112, 112,
+    112, 112, 112, 112, 112, 112, 112, 112, 112, 112, 112, 112, 112, 112, 112, 112,
+    112, 112, 112, 112, 112, 112, 112, 112, 112, 112, 112, 112, 112, 112, 112, 112,
+    112, 112, 112, 112, 112, 112, 112, 112, 112, 112, 112, 112, 112, 112, 112, 112,
+    112, 112, 112, 112, 112, 112, 112, 112, 112, 112, 112, 112, 112, 112, 112, 112,
+    112, 112, 112, 112, 112, 112, 112, 112, 112, 112, 112, 112, 112, 112, 112, 112,
+];
+
 /// White space: from the horizontal tab to the carriage return, and the space.
 #[tactic(auto, unfolding(crate::specs::Items::is_blank))]
 pub fn is_blank(b: u8) -> bool
@@ -36,30 +59,50 @@ pub fn is_escapable(b: u8) -> bool
     matches!(b, b'"' | b'\\')
 }
 
+// How many bytes stand before the first that is this one.
+fn len_before(stop: u8, bytes: &[u8]) -> usize
+    ensures run { result ≡ prefix_len (λ b. not (b == stop)) bytes.now }
+    ensures within { result ≤ length bytes.now }
+{
+    match memchr(stop, bytes) {
+        Some(at) => at,
+        None => bytes.len(),
+    }
+}
+
 impl Class {
-    #[tactic(auto, unfolding(crate::specs::Items::is_digit, crate::specs::Items::is_name_byte, crate::specs::Items::is_word_byte, crate::specs::Items::is_glyph, crate::specs::Items::is_plain))]
+    // Its bit in the table.
+    #[inline(always)]
+    fn bit(self) -> u8
+        ensures { result ≡ bit_of self }
+    {
+        match self {
+            Class::Word => 1,
+            Class::Digit => 2,
+            Class::Glyph => 4,
+            Class::Name => 8,
+            Class::Plain => 16,
+            Class::Line => 32,
+            Class::Braced => 64,
+        }
+    }
+
     #[inline(always)]
     pub fn has(self, b: u8) -> bool
         ensures { result ≡ has_byte self b }
     {
-        match self {
-            Class::Word =>
-                matches!(b, b'0'..=b'9' | b'A'..=b'Z' | b'a'..=b'z' | b'_' | b'+' | b'#' | b'=' | b':' | b'-' | b'/'),
-            Class::Digit => b.is_ascii_digit(),
-            Class::Glyph => matches!(b, b'!' | b'?'),
-            Class::Name => matches!(b, b'0'..=b'9' | b'A'..=b'Z' | b'a'..=b'z' | b'_'),
-            Class::Plain => !matches!(b, b'"' | b'\\' | b'\n'),
-            Class::Line => b != b'\n',
-            Class::Braced => b != b'}',
-        }
+        CLASSES[usize::from(b)] & self.bit() != 0
     }
 
     /// The length of the longest run at the front.
-    #[inline(always)]
     pub fn run_len(self, bytes: &[u8]) -> usize
         ensures run { result ≡ prefix_len (has_byte self) bytes.now }
         ensures within { result ≤ length bytes.now }
     {
-        bytes.iter().take_while(|b| self.has(**b)).count()
+        match self {
+            Class::Line => len_before(b'\n', bytes),
+            Class::Braced => len_before(b'}', bytes),
+            _ => bytes.iter().take_while(|b| self.has(**b)).count(),
+        }
     }
 }

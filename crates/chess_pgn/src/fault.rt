@@ -1,4 +1,6 @@
-use std::alloc::AllocError;
+ghost use Rattle.std.specs.Prelude.{◌≡◌};
+
+use std::alloc::{AllocError, AllocFailed};
 use thiserror::Error;
 
 /// Why a text is no game (PGN), or a game can't be kept or written.
@@ -69,6 +71,16 @@ pub struct PgnFault {
     pub kind: FaultKind,
 }
 
+/// A fault at that place.
+pub fn at_place(at: usize, kind: FaultKind) -> PgnFault
+    ensures { result ≡ record { place = at; kind = kind } }
+{
+    PgnFault {
+        place: at as u64,
+        kind,
+    }
+}
+
 impl From<AllocError> for PgnFault {
     ghost use Rattle.std.specs.Prelude.{◌≡◌};
     ghost use Rattle.chess_pgn.specs.declared.fault.FaultKind.TheVariants.{Memory};
@@ -77,6 +89,21 @@ impl From<AllocError> for PgnFault {
 
     /// That there is no memory, at place 0.
     fn from(_: AllocError) -> Self {
+        Self {
+            place: 0,
+            kind: FaultKind::Memory,
+        }
+    }
+}
+
+impl<X: Drop> From<AllocFailed<X>> for PgnFault {
+    ghost use Rattle.std.specs.Prelude.{◌≡◌};
+    ghost use Rattle.chess_pgn.specs.declared.fault.FaultKind.TheVariants.{Memory};
+
+    ghost from_gives = { λ _ fault. fault ≡ record { place = 0; kind = Memory } };
+
+    /// That there is no memory, at place 0.
+    fn from(_: AllocFailed<X>) -> Self {
         Self {
             place: 0,
             kind: FaultKind::Memory,

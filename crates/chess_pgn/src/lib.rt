@@ -4,23 +4,34 @@
 //! `specs/Written.antt`.
 #![tactic(auto)]
 
+mod at_hand;
+mod blanks;
 mod class;
+mod cut;
 mod fault;
 mod game;
+mod games;
 mod lexer;
 mod lines;
 mod movetext;
+mod others;
 mod outcome;
+mod passing;
 mod place;
+mod reader;
 mod tags;
+mod taker;
+mod taking;
+mod text;
 mod token;
 mod writer;
 
 pub use fault::{FaultKind, PgnFault};
 pub use game::Game;
+pub use games::{Games, GamesFault, read_game};
 pub use outcome::Outcome;
 pub use tags::Tags;
-pub use writer::write_game;
+pub use writer::{write_game, write_tree};
 
 #[cfg(test)]
 mod tests;

@@ -2,6 +2,7 @@ ghost use Rattle.std.specs.Prelude.{◌≡◌, List, ℕ, Option, IfOk, option_m
 ghost use Rattle.chess_pgn.specs.Games.{tag_value, unknown};
 
 use crate::lexer::is;
+use crate::others::OtherTags;
 use std::alloc::{AllocError, Allocator};
 
 /// The tags that each game has, besides Result (PGN 8.1.1).
@@ -13,6 +14,7 @@ pub struct Tags<'a, A: Allocator> {
     pub round: Vec<u8, &'a A>,
     pub white: Vec<u8, &'a A>,
     pub black: Vec<u8, &'a A>,
+    pub others: OtherTags<'a, A>,
 }
 
 fn value<'a, A: Allocator>(alloc: &'a A, text: &[u8]) -> Result<Vec<u8, &'a A>, AllocError>
@@ -21,6 +23,18 @@ fn value<'a, A: Allocator>(alloc: &'a A, text: &[u8]) -> Result<Vec<u8, &'a A>, 
     let mut value = Vec::new(alloc);
     value.extend_from_slice(text)?;
     Ok(value)
+}
+
+/// The value, or where there is none that text.
+pub fn value_or<'a, A: Allocator>(
+    alloc: &'a A,
+    found: Option<Vec<u8, &'a A>>,
+    text: &[u8],
+) -> Result<Vec<u8, &'a A>, AllocError> {
+    match found {
+        Some(found) => Ok(found),
+        None => value(alloc, text),
+    }
 }
 
 impl<'a, A: Allocator> Tags<'a, A> {
@@ -37,6 +51,7 @@ impl<'a, A: Allocator> Tags<'a, A> {
             round: value(alloc, b"?")?,
             white: value(alloc, b"?")?,
             black: value(alloc, b"?")?,
+            others: OtherTags::new(alloc),
         })
     }
 
@@ -58,7 +73,7 @@ impl<'a, A: Allocator> Tags<'a, A> {
         } else if is(name, b"Black") {
             Some(self.black.as_slice())
         } else {
-            None
+            self.others.get(name)
         }
     }
 }

@@ -1,5 +1,9 @@
+mod taking;
+
 ghost use Rattle.std.specs.Prelude.{◌≡◌, OnOk};
 ghost use Rattle.chess_tree.specs.GameTree.{line_to};
+
+mod reads;
 
 use crate::lexer::item;
 use crate::place::Place;

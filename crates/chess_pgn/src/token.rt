@@ -38,6 +38,19 @@ pub enum Token<'t> {
     Escaped(u8),
 }
 
+impl Token<'_> {
+    ghost use Rattle.std.specs.Prelude.{◌≡◌};
+    ghost use Rattle.chess_pgn.specs.Items.{is_white};
+    ghost use Rattle.chess_pgn.specs.steps.Tokens.{item_of};
+
+    /// Whether it is white space, a mark or a hidden line.
+    pub fn is_white(self) -> bool
+        ensures { result ≡ is_white (item_of self.entry) }
+    {
+        matches!(self, Token::Mark | Token::Blank(_) | Token::Hidden)
+    }
+}
+
 impl Place {
     /// The place behind a token that stands here.
     pub fn after(self, token: Token<'_>) -> Place

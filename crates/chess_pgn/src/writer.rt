@@ -1,6 +1,7 @@
-ghost use Rattle.std.specs.Prelude.{◌≡◌, ◌++◌, ◌∷◌, [], List, ℕ, IfOk, IfErr, OnOk};
+ghost use Rattle.std.specs.Prelude.{◌≡◌, ◌++◌, ◌∷◌, [], List, ℕ, if◌then◌else◌, option_map, IfOk, IfErr, OnOk};
 ghost use Rattle.chess_fen.specs.Writing.{written};
-ghost use Rattle.chess_pgn.specs.Written.{escaped, game_text, start_text, tag_text, tags_text};
+ghost use Rattle.chess_pgn.specs.Games.{untold};
+ghost use Rattle.chess_pgn.specs.Written.{behind_text, escaped, game_text, is_before, is_within, others_text, tag_text, tags_text};
 ghost use Rattle.chess_pgn.specs.declared.fault.FaultKind.TheVariants.{Memory};
 ghost use Rattle.chess_pgn.specs.steps.GameCode.{game_of, tags_of};
 
@@ -10,9 +11,11 @@ use crate::game::Game;
 use crate::lexer::is;
 use crate::lines::Lines;
 use crate::movetext::{outcome_text, push_movetext};
+use crate::others::OtherTags;
 use crate::outcome::Outcome;
 use crate::tags::Tags;
 use chess_key::KeyTable;
+use chess_tree::Tree;
 use chess_types::Position;
 use std::alloc::{AllocError, Allocator};
 
@@ -54,20 +57,75 @@ fn push_tag<'a, A: Allocator>(
     text.extend_from_slice(b"\"]\n")
 }
 
-// The position in which a game begins, unless it is the usual one.
-fn push_start<'a, A: Allocator>(
+// Whether a name stands before another in ASCII order.
+fn is_before(name: &[u8], next: &[u8]) -> bool
+    ensures { result ≡ is_before name.now next.now }
+{
+    name < next
+}
+
+// Whether a name stands from one on and before the other, if there is one.
+fn is_within(from: &[u8], to: Option<&[u8]>, name: &[u8]) -> bool
+    ensures { result ≡ is_within from.now (option_map (λ next. next.now) to.entry) name.now }
+{
+    if is_before(name, from) {
+        return false;
+    }
+    match to {
+        Some(next) => is_before(name, next),
+        None => true,
+    }
+}
+
+// A tag, if its name is within those bounds.
+fn push_within<'a, A: Allocator>(
     text: &mut Vec<u8, &'a A>,
+    from: &[u8],
+    to: Option<&[u8]>,
+    name: &[u8],
+    value: &[u8],
+) -> Result<(), AllocError>
+    ensures { OnOk result (text.new.items ≡ text.old.items ++ (if is_within from.now (option_map (λ next. next.now) to.entry) name.now then tag_text name.now value.now else [])) }
+{
+    if is_within(from, to, name) {
+        return push_tag(text, name, value);
+    }
+    Ok(())
+}
+
+// The other tags whose names are within those bounds.
+fn push_others<'a, A: Allocator>(
+    text: &mut Vec<u8, &'a A>,
+    from: &[u8],
+    to: Option<&[u8]>,
+    others: &OtherTags<'a, A>,
+) -> Result<(), AllocError>
+    ensures { OnOk result (text.new.items ≡ text.old.items ++ others_text from.now (option_map (λ next. next.now) to.entry) others.now) }
+{
+    for (name, value) in others.as_map().iter() {
+        push_within(text, from, to, name.as_slice(), value.as_slice())?;
+    }
+    Ok(())
+}
+
+// The other tags, and among them the position in which a game begins, unless it is the usual one.
+fn push_behind<'a, A: Allocator>(
+    text: &mut Vec<u8, &'a A>,
+    others: &OtherTags<'a, A>,
     start: &Position,
 ) -> Result<(), AllocError>
-    ensures { OnOk result (text.new.items ≡ text.old.items ++ start_text (written start.now)) }
+    ensures { OnOk result (text.new.items ≡ text.old.items ++ behind_text others.now (written start.now)) }
 {
     let fen = chess_fen::write(start);
     let usual = chess_fen::write(&Position::start());
     if is(fen.as_bytes(), usual.as_bytes()) {
-        return Ok(());
+        return push_others(text, b"", None, others);
     }
+    push_others(text, b"", Some(b"FEN"), others)?;
     push_tag(text, b"FEN", fen.as_bytes())?;
-    push_tag(text, b"SetUp", b"1")
+    push_others(text, b"FEN", Some(b"SetUp"), others)?;
+    push_tag(text, b"SetUp", b"1")?;
+    push_others(text, b"SetUp", None, others)
 }
 
 // All tags.
@@ -86,7 +144,24 @@ fn push_tags<'a, A: Allocator>(
     push_tag(text, b"White", tags.white.as_slice())?;
     push_tag(text, b"Black", tags.black.as_slice())?;
     push_tag(text, b"Result", outcome_text(outcome).as_bytes())?;
-    push_start(text, start)
+    push_behind(text, &tags.others, start)
+}
+
+// The tags, an empty line, the movetext in lines of at most 79 bytes, and an empty line.
+fn write_parts<'a, A: Allocator>(
+    alloc: &'a A,
+    tags: &Tags<'a, A>,
+    outcome: Outcome,
+    tree: &Tree<'a, A>,
+) -> Result<Vec<u8, &'a A>, PgnFault>
+    ensures ok { IfOk result (λ text. text.items ≡ game_text (record { tags = tags_of tags.now; outcome = outcome; tree = tree.now.tree })) }
+    ensures memory { IfErr result (λ fault. fault ≡ record { place = 0; kind = Memory }) }
+{
+    let table = KeyTable::new([0; 768]);
+    let mut text = Vec::new(alloc);
+    push_tags(&mut text, tags, outcome, tree.position())?;
+    let lines = push_movetext(Lines::new(text)?, alloc, tree, outcome, &table)?;
+    Ok(lines.finish()?)
 }
 
 /// The export form of a game (PGN 3.2): its tags, an empty line, the movetext in lines of at most 79 bytes, and an empty line.
@@ -101,9 +176,21 @@ pub fn write_game<'a, A: Allocator>(
     ensures ok { IfOk result (λ text. text.items ≡ game_text (game_of game.now)) }
     ensures memory { IfErr result (λ fault. fault ≡ record { place = 0; kind = Memory }) }
 {
-    let table = KeyTable::new([0; 768]);
-    let mut tags = Vec::new(alloc);
-    push_tags(&mut tags, &game.tags, game.result, game.tree.position())?;
-    let lines = push_movetext(Lines::new(tags)?, alloc, &game.tree, game.result, &table)?;
-    Ok(lines.finish()?)
+    write_parts(alloc, &game.tags, game.result, &game.tree)
+}
+
+/// The export form of a game of which the moves are known and nothing else: tags `?`, and `*` for how it ended.
+///
+/// # Errors
+///
+/// `Memory` at place 0, where there is none.
+pub fn write_tree<'a, A: Allocator>(
+    alloc: &'a A,
+    tree: &Tree<'a, A>,
+) -> Result<Vec<u8, &'a A>, PgnFault>
+    ensures ok { IfOk result (λ text. text.items ≡ game_text (untold tree.now.tree)) }
+    ensures memory { IfErr result (λ fault. fault ≡ record { place = 0; kind = Memory }) }
+{
+    let tags = Tags::unknown(alloc)?;
+    write_parts(alloc, &tags, Outcome::Unfinished, tree)
 }

@@ -1,6 +1,6 @@
 ghost use Rattle.std.specs.Prelude.{◌≡◌, ◌++◌, ◌≤◌, length};
 ghost use Rattle.std.specs.Fmt.{signed_decimal};
-ghost use Rattle.chess_search.specs.Scores.{IsValue, score_text};
+ghost use Rattle.chess_search.specs.Scores.{score_text};
 
 use arrayvec::ArrayString;
 use itoa::Buffer;
@@ -17,10 +17,9 @@ fn with_number(words: &str, number: i32) -> ArrayString<24>
 }
 
 /// The value for the side to move as UCI writes scores: `mate N` where it mates with its N-th move, `mate -N` where it is mated by the
-/// other side's N-th, else `cp` and the centipawns. The value is one that a search gives, at most 30,000 either way.
+/// other side's N-th, else `cp` and the centipawns.
 #[tactic(auto, unfolding(crate::specs::Scores::score_text))]
 pub fn score_text(value: i32) -> ArrayString<24>
-    requires { IsValue value }
     ensures { result.bytes ≡ score_text value }
 {
     if value >= 29984 {

@@ -8,19 +8,19 @@ ghost use Rattle.chess_search.specs.Slices.{IsInRange};
 ghost use Rattle.chess_search.specs.steps.Windows.{FitsWindow, better};
 
 use crate::nodes::Nodes;
-use crate::order::{Killers, put_in_order};
+use crate::order::{Experience, put_in_order};
 use chess_draws::Line;
 use chess_play::Live;
 use chess_types::{Colour, Move};
 use std::alloc::Allocator;
 
-/// What a search has beside the line: whether draws that may be claimed count as draws, how many positions it has asked for, and the
-/// moves that cut it off.
+/// What a search has beside the line: whether draws that may be claimed count as draws, how many positions it has asked for, and what it has
+/// learned of the order of moves.
 #[derive(Drop)]
 pub(crate) struct Searcher {
     pub(crate) claims: bool,
     pub(crate) nodes: Nodes,
-    killers: Killers,
+    experience: Experience,
 }
 
 // What a stalemate is worth (FIDE Laws 5.2.1).
@@ -81,7 +81,7 @@ impl Searcher {
         Searcher {
             claims,
             nodes,
-            killers: Killers::new(),
+            experience: Experience::new(),
         }
     }
 
@@ -116,14 +116,14 @@ impl Searcher {
         if line.is_drawn(self.claims) {
             return DRAW;
         }
-        put_in_order(line.live(), &self.killers.at(distance), &mut moves);
+        put_in_order(line.live(), &self.experience, distance, &mut moves);
         let mut best: i32 = -30001;
         for m in moves.as_slice() {
             let floor = best.max(alpha);
             let answer = self.score(line, *m, depth - 1, distance, floor, beta);
             best = best.max(answer);
             if best >= beta {
-                self.killers.add(line.live(), distance, *m);
+                self.experience.learn(line.live(), distance, depth, *m);
                 return best;
             }
         }

@@ -64,6 +64,41 @@ impl Slices {
         self.searched += 1;
     }
 
+    /// The search of the same roots at another depth, 1 to 16 plies, which has not begun.
+    pub fn again(&mut self, depth: u8)
+        requires deep { 1 ≤ depth }
+        requires shallow { depth ≤ 16 }
+        ensures { self.new ≡ record { depth = depth; claims = self.old.claims; roots = self.old.roots; searched = 0; kept = None } }
+    {
+        self.depth = depth;
+        self.searched = 0;
+        self.kept = None;
+    }
+
+    /// How many plies deep each root is searched.
+    pub fn depth(&self) -> u8
+        ensures value { result ≡ self.now.depth }
+        ensures deep { 1 ≤ result }
+        ensures shallow { result ≤ 16 }
+    {
+        self.depth
+    }
+
+    /// The roots.
+    pub fn roots(&self) -> &ArrayVec<Move, 432>
+        ensures { result.now.items ≡ self.now.roots }
+    {
+        &self.roots
+    }
+
+    /// How many of the roots were searched.
+    pub fn searched(&self) -> usize
+        ensures value { result ≡ self.now.searched }
+        ensures at_most { result ≤ length self.now.roots }
+    {
+        self.searched
+    }
+
     /// The best of the roots that were searched, with its worth; `None` while none was.
     pub fn so_far(&self) -> Option<(Move, i32)>
         ensures kept { result ≡ self.now.kept }

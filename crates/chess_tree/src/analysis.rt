@@ -103,6 +103,14 @@ impl<'a, A: Allocator> Analysis<'a, A> {
         &self.tree
     }
 
+    /// The tree with its cursor, without the line.
+    pub fn into_tree(self) -> Tree<'a, A>
+        ensures { result ≡ self.entry }
+    {
+        let Analysis { tree, line: _ } = self;
+        tree
+    }
+
     /// The line from the root to the cursor, to look at.
     pub fn line(&self) -> &Line<'a, &'a A>
         ensures line { result.now.line ≡ line_to self.now }

@@ -1,6 +1,6 @@
 -- What a command of the code asks for.
 use Rattle.chess_cli.specs.declared.command.Command.{Command}
-use Rattle.chess_cli.specs.declared.command.Command.TheVariants.{Blank, New, Set, Counts, Eval, Fen, Moves, Checks, Play, Back, Step, Start, End, Goto, Path, Promote, Delete, Comment, Nag, Count, Status, Claims, Claim, Best, Unknown, Malformed}
+use Rattle.chess_cli.specs.declared.command.Command.TheVariants.{Blank, New, Set, Counts, Eval, Fen, Moves, Checks, Play, Back, Step, Start, End, Goto, Path, Promote, Delete, Comment, Nag, Count, Status, Claims, Claim, Best, Pgn, Unknown, Malformed}
 use Rattle.chess_cli.specs.Requests as asks
 use Rattle.chess_cli.specs.Numbers.{depth_in, path_in}
 
@@ -29,5 +29,6 @@ request_of Status = asks.Status
 request_of Claims = asks.Claims
 request_of (Claim word) = asks.Claim word.now
 request_of (Best word) = asks.written_by asks.Best (depth_in word.now)
+request_of Pgn = asks.Pgn
 request_of Unknown = asks.Unknown
 request_of Malformed = asks.Malformed

@@ -1,21 +1,28 @@
 -- What the board's code puts on the page, and what it does with the word behind `goto` or `best`.
---   IsOnPage         this text is put behind what stood on the page, or is the path to the cursor, which is still to be written
+--   IsOnPage      this text is put behind what stood on the page, or is the path to the cursor or the game, which is still to be written
 --   best_effect   the best move, as deep as a word writes
 --   path_effect   to the node at a path, where a word writes one
-use Rattle.std.specs.Prelude.{◌≡◌, ℕ, false, List, [], ◌∷◌, ◌++◌, Option, Some, None}
+use Rattle.std.specs.Prelude.{◌≡◌, ◌⊎◌, ℕ, false, List, [], ◌∷◌, ◌++◌, Option, Some, None}
 use Rattle.chess_types.specs.board.Legal.{legal_moves}
 use Rattle.chess_types.specs.board.Lines.{last}
 use Rattle.chess_search.specs.Best.{best}
 use Rattle.chess_tree.specs.GameTree.{TreeParts, at_path, has, line_to}
+use Rattle.chess_pgn.specs.Games.{untold}
+use Rattle.chess_pgn.specs.Written.{game_text}
 use Rattle.chess_cli.specs.declared.answer.Told.{Told}
-use Rattle.chess_cli.specs.declared.answer.Told.TheVariants.{Whole, Path}
+use Rattle.chess_cli.specs.declared.answer.Told.TheVariants.{Whole, Path, Game}
 use Rattle.chess_cli.specs.declared.refusal.Refusal.TheVariants.{Argument}
 use Rattle.chess_cli.specs.Numbers.{path_text}
-use Rattle.chess_cli.specs.Answers.{Effect, Refuses, best_text, if_there, says_line}
+use Rattle.chess_cli.specs.Answers.{Effect, Refuses, best_text, if_there, no_memory, says_line}
 
 abbrev pub IsOnPage : Told → TreeParts → List ℕ → List ℕ → List ℕ → Type 0
 IsOnPage Whole t page page1 text = page1 ≡ page ++ text
 IsOnPage Path t page page1 text = (page1 ≡ page) × (path_text t.path ++ 10 ∷ [] ≡ text)
+IsOnPage Game t page page1 text = (page1 ≡ page) × (game_text (untold t.tree) ≡ text)
+
+-- the game's text, or that there is no memory for it
+abbrev pub IsGameText : TreeParts → List ℕ → Type 0
+IsGameText t text = (text ≡ game_text (untold t.tree)) ⊎ (text ≡ no_memory)
 
 abbrev pub path_effect : TreeParts → Option (List ℕ) → Effect
 path_effect t None = Refuses Argument

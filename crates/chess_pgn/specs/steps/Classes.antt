@@ -12,3 +12,13 @@ has_byte Name = is_name_byte
 has_byte Plain = is_plain
 has_byte Line = in_line
 has_byte Braced = in_braces
+
+-- its bit in the table
+abbrev pub bit_of : Class → ℕ
+bit_of Word = 1
+bit_of Digit = 2
+bit_of Glyph = 4
+bit_of Name = 8
+bit_of Plain = 16
+bit_of Line = 32
+bit_of Braced = 64

@@ -1,0 +1,95 @@
+-- The events of a line, one after another.
+use Rattle.std.proofs.Common.{◌≡◌, ℕ, ◌+◌, ◌<◌, true, List, [], ◌∷◌, ◌++◌, length, take, get_or, refl, sym, ap, ◌∙◌, subst, append_assoc, append-nil}
+use Rattle.std.proofs.lemmas.List.{take_more}
+use Rattle.chess_uci.specs.declared.reply.Reply.{Reply}
+use Rattle.chess_uci.specs.Replies.{reply_text}
+use Rattle.chess_uci.specs.Machine.{Event, Slice, Moment, State, step}
+use Rattle.chess_uci.specs.Laws.{replies, after}
+use Rattle.chess_uci.specs.steps.Searches.{Does}
+use Rattle.chess_uci.proofs.RunLemmas.{replies-append, after-append}
+use Rattle.chess_cli.specs.Sittings.{AnsweredSoFar, IsLine, Readings, WasFed, events_of, is_fed, reply_lines, slices_of}
+
+pub reply_lines-append : (xs ys : List Reply) → reply_lines (xs ++ ys) ≡ reply_lines xs ++ reply_lines ys
+reply_lines-append [] ys = refl
+reply_lines-append (x ∷ xs) ys =
+    ap (λ (t : List ℕ). (reply_text x ++ 10 ∷ []) ++ t) (reply_lines-append xs ys) ∙ sym (append_assoc (reply_text x ++ 10 ∷ []) (reply_lines xs) (reply_lines ys))
+
+Readings-append : {C : Type 0} (reads : C → ℕ → C → Type 0) (c m d : C) (xs ys : List ℕ) → Readings reads c xs m → Readings reads m ys d → Readings reads c (xs ++ ys) d
+Readings-append reads c m d [] ys first second = subst (λ x. Readings reads x ys d) (sym first) second
+Readings-append reads c m d (x ∷ xs) ys first second = (first.0, first.1, Readings-append reads first.0 m d xs ys first.2 second)
+
+slices_of-append : (xs ys : List ℕ) → slices_of (xs ++ ys) ≡ slices_of xs ++ slices_of ys
+slices_of-append [] ys = refl
+slices_of-append (x ∷ xs) ys = ap (λ (es : List Event). Slice ∷ Moment x ∷ es) (slices_of-append xs ys)
+
+-- one reading more
+fed_more : (s : State) (later : List ℕ) (moment : ℕ) → WasFed s later → is_fed (after s (slices_of later)) ≡ true → WasFed s (later ++ moment ∷ [])
+fed_more s [] moment was here = (here, tt)
+fed_more s (x ∷ xs) moment was here = (was.0, fed_more (after s (Slice ∷ Moment x ∷ [])) xs moment was.1 here)
+
+-- a run with one event more
+replies_more : (s t u : State) (events : List Event) (event : Event) (told more : List Reply) →
+    told ≡ replies s events → t ≡ after s events → Does (step t event) more u →
+    (told ++ more ≡ replies s (events ++ event ∷ [])) × (u ≡ after s (events ++ event ∷ []))
+replies_more s t u events event told more e f does =
+    let g : more ≡ (step (after s events) event).0 = does.0 ∙ ap (λ (x : State). (step x event).0) f in (
+      ap (λ (rs : List Reply). rs ++ more) e ∙ ap (λ (rs : List Reply). replies s events ++ rs) (g ∙ sym (append-nil (step (after s events) event).0)) ∙ sym (replies-append s events (event ∷ [])),
+      does.1 ∙ ap (λ (x : State). (step x event).1) f ∙ sym (after-append s events (event ∷ [])),
+    )
+
+events_more : (first : ℕ) (event : Event) (later : List ℕ) (moment : ℕ) → (events_of first event later ++ Slice ∷ []) ++ Moment moment ∷ [] ≡ events_of first event (later ++ moment ∷ [])
+events_more first event later moment =
+    ap (λ (es : List Event). Moment first ∷ event ∷ es) (append_assoc (slices_of later) (Slice ∷ []) (Moment moment ∷ []) ∙ sym (slices_of-append later (moment ∷ [])))
+
+module _ {C : Type 0} (reads : C → ℕ → C → Type 0) (line : List ℕ) where
+  -- a line's first moment, and the line itself
+  pub answering_starts : (s t u : State) (c d : C) (first : ℕ) (event : Event) (a b : List Reply) →
+      reads c first d → Does (step s (Moment first)) a t → IsLine line event → Does (step t event) b u → AnsweredSoFar reads s c line (reply_lines (a ++ b)) u d
+  answering_starts s t u c d first event a b read one is two =
+      let so_far = replies_more s s t [] (Moment first) [] a refl refl one in
+      let then = replies_more s t u (Moment first ∷ []) event a b so_far.0 so_far.1 two in
+      record {
+        first = first;
+        event = event;
+        later = [];
+        told = a ++ b;
+        is_line = is;
+        clock = (d, read, refl);
+        replied = then.0;
+        state = then.1;
+        each = tt;
+        text_is = refl;
+      }
+
+  -- a slice and a moment more
+  pub answering_goes_on : (s t u v : State) (c d e : C) (text : List ℕ) (a b : List Reply) (moment : ℕ) → AnsweredSoFar reads s c line text t d → is_fed t ≡ true →
+      Does (step t Slice) a u → reads d moment e → Does (step u (Moment moment)) b v → AnsweredSoFar reads s c line ((text ++ reply_lines a) ++ reply_lines b) v e
+  answering_goes_on s t u v c d e text a b moment x here one read two =
+      let events = events_of x.first x.event x.later in
+      let so_far = replies_more s t u events Slice x.told a x.replied x.state one in
+      let then = replies_more s u v (events ++ Slice ∷ []) (Moment moment) (x.told ++ a) b so_far.0 so_far.1 two in
+      let same = events_more x.first x.event x.later moment in
+      record {
+        first = x.first;
+        event = x.event;
+        later = x.later ++ moment ∷ [];
+        told = (x.told ++ a) ++ b;
+        is_line = x.is_line;
+        clock = Readings-append reads c d e (x.first ∷ x.later) (moment ∷ []) x.clock (e, read, refl);
+        replied = then.0 ∙ ap (replies s) same;
+        state = then.1 ∙ ap (after s) same;
+        each = fed_more (after s (Moment x.first ∷ x.event ∷ [])) x.later moment x.each (ap (λ (y : State). is_fed y) (sym x.state) ∙ here);
+        text_is = ap (λ (t : List ℕ). (t ++ reply_lines a) ++ reply_lines b) x.text_is
+            ∙ ap (λ (t : List ℕ). t ++ reply_lines b) (sym (reply_lines-append x.told a)) ∙ sym (reply_lines-append (x.told ++ a) b);
+      }
+
+-- one reply more on the page
+pub replies_on : (page page1 page2 : List ℕ) (rs : List Reply) (i : ℕ) (r : Reply) → i < length rs → r ≡ get_or rs i r → page1 ≡ page ++ reply_lines (take i rs)
+    → page2 ≡ page1 ++ (reply_text r ++ 10 ∷ []) → page2 ≡ page ++ reply_lines (take (i + 1) rs)
+replies_on page page1 page2 rs i r within is so_far put =
+    let more : reply_lines (take (i + 1) rs) ≡ reply_lines (take i rs) ++ (reply_text r ++ 10 ∷ []) =
+    ap reply_lines (take_more rs i r within) ∙ reply_lines-append (take i rs) (get_or rs i r ∷ [])
+    ∙ ap (λ (x : Reply). reply_lines (take i rs) ++ ((reply_text x ++ 10 ∷ []) ++ [])) (sym is)
+    ∙ ap (λ (t : List ℕ). reply_lines (take i rs) ++ t) (append-nil (reply_text r ++ 10 ∷ [])) in
+    put ∙ ap (λ (t : List ℕ). t ++ (reply_text r ++ 10 ∷ [])) so_far ∙ append_assoc page (reply_lines (take i rs)) (reply_text r ++ 10 ∷ [])
+    ∙ ap (λ (t : List ℕ). page ++ t) (sym more)

@@ -1,0 +1,85 @@
+-- What the lines of the input make of a session whose clock tells the time.
+--   reply_lines      replies, each on a line of its own
+--   is_fed           a search runs that is given time before the next line is read
+--   Readings         the clock gives these readings, one after another
+--   events_of        the events that a line makes: a moment, the line, and a slice and a moment for each later reading
+--   AnsweredSoFar    the line has made such events up to now, by the clock's readings, each slice while a search was to be fed
+--   Answered         a line of the input may be answered by this text
+--   AnsweredInPart   the same of a line of which answering was broken off, since a call of the sink failed
+use Rattle.std.specs.Prelude.{◌≡◌, ℕ, ◌<◌, nat_le, Bool, true, false, ◌&&◌, ◌||◌, not, ◌⊎◌, ⊤, List, [], ◌∷◌, ◌++◌, length, Option, is_some, codes}
+use Rattle.chess_uci.specs.declared.reply.Reply.{Reply}
+use Rattle.chess_uci.specs.Replies.{reply_text}
+use Rattle.chess_uci.specs.Machine.{Event, Line, Starved, Slice, Moment, Search, State, beginning, is_infinite, is_waiting, depth_done}
+use Rattle.chess_uci.specs.Laws.{replies, after}
+use Rattle.chess_cli.specs.declared.sitting.Sitting.{Sitting}
+use Rattle.chess_cli.specs.Answers.{line_limit, line_room}
+
+abbrev pub reply_lines : List Reply → List ℕ
+reply_lines [] = []
+reply_lines (reply ∷ others) = (reply_text reply ++ 10 ∷ []) ++ reply_lines others
+
+-- a search is fed until it ends; an infinite one until it waits or depth 5 is complete
+abbrev pub wants_slices : Option Search → Bool
+wants_slices x = is_some x && not (is_infinite x && (is_waiting x || nat_le 5 (depth_done x)))
+
+abbrev pub is_fed : State → Bool
+is_fed s = not s.ended && wants_slices s.search
+
+abbrev pub Readings : {C : Type 0} → (C → ℕ → C → Type 0) → C → List ℕ → C → Type 0
+Readings reads c [] d = c ≡ d
+Readings {C} reads c (moment ∷ moments) d = (mid : C) × reads c moment mid × Readings reads mid moments d
+
+abbrev pub slices_of : List ℕ → List Event
+slices_of [] = []
+slices_of (moment ∷ moments) = Slice ∷ Moment moment ∷ slices_of moments
+
+abbrev pub events_of : ℕ → Event → List ℕ → List Event
+events_of first event later = Moment first ∷ event ∷ slices_of later
+
+-- a search was to be fed before each slice
+abbrev pub WasFed : State → List ℕ → Type 0
+WasFed s [] = ⊤
+WasFed s (moment ∷ moments) = (is_fed s ≡ true) × WasFed (after s (Slice ∷ Moment moment ∷ [])) moments
+
+-- the line, or the line for which a growth of memory is refused
+abbrev pub IsLine : List ℕ → Event → Type 0
+IsLine input event = (event ≡ Line input) ⊎ (event ≡ Starved input)
+
+pub record AnsweredSoFar {C : Type 0} (reads : C → ℕ → C → Type 0) (s : State) (c : C) (input text : List ℕ) (t : State) (d : C) : Type 0 where
+  pub first : ℕ
+  pub event : Event
+  pub later : List ℕ
+  pub told : List Reply
+  pub is_line : IsLine input event
+  pub clock : Readings reads c (first ∷ later) d
+  pub replied : told ≡ replies s (events_of first event later)
+  pub state : t ≡ after s (events_of first event later)
+  pub each : WasFed (after s (Moment first ∷ event ∷ [])) later
+  pub text_is : text ≡ reply_lines told
+
+-- a line over the limit, and one that found no memory while it was read, are skipped
+abbrev pub too_long_line : List ℕ
+too_long_line = codes "info string line too long\n"
+
+abbrev pub no_memory_line : List ℕ
+no_memory_line = codes "info string out of memory\n"
+
+abbrev pub AnsweredWithin : {A C : Type 0} → (C → ℕ → C → Type 0) → Bool → Sitting A C → List ℕ → List ℕ → Sitting A C → Type 0
+AnsweredWithin reads true old input text new =
+    (AnsweredSoFar reads old.session old.clock input text new.session new.clock × (is_fed new.session ≡ false))
+    ⊎ ((line_room < length input) × (text ≡ no_memory_line) × (new ≡ old))
+AnsweredWithin reads false old input text new = (text ≡ too_long_line) × (new ≡ old)
+
+abbrev pub Answered : {A C : Type 0} → (C → ℕ → C → Type 0) → Sitting A C → List ℕ → List ℕ → Sitting A C → Type 0
+Answered reads old input text new = AnsweredWithin reads (nat_le (length input) line_limit) old input text new
+
+abbrev pub AnsweredInPart : {A C : Type 0} → (C → ℕ → C → Type 0) → Sitting A C → List ℕ → List ℕ → Sitting A C → Type 0
+AnsweredInPart reads old input text new = AnsweredSoFar reads old.session old.clock input text new.session new.clock
+
+-- the session as it begins, with its clock
+abbrev pub beginning_with : {A C : Type 0} → C → Sitting A C
+beginning_with clock = record { session = beginning; clock = clock }
+
+-- `quit` came
+abbrev pub has_ended : {A C : Type 0} → Sitting A C → Bool
+has_ended sitting = sitting.session.ended

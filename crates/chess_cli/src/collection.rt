@@ -1,0 +1,78 @@
+ghost use Rattle.std.specs.Prelude.{◌≡◌, false, None};
+ghost use Rattle.chess_pgn.specs.Written.{game_text};
+ghost use Rattle.chess_pgn.specs.declared.fault.PgnFault.{PgnFault};
+ghost use Rattle.chess_pgn.specs.steps.GameCode.{game_of};
+ghost use Rattle.chess_pgn.specs.steps.Next.{IsSound};
+ghost use Rattle.chess_cli.specs.Collections.{EndsInPart, EndsWritten};
+ghost use Rattle.chess_cli.specs.steps.Collecting.{WritesAll, WritesOne};
+
+use super::ended::Ended;
+use super::keys::key_table;
+use super::write::write_all;
+use chess_pgn::{Game, Games, GamesFault, write_game};
+use chess_types::{Sink, Source};
+use std::alloc::Allocator;
+
+/// More games than all reads have bytes.
+const GAMES: u64 = 1 << 57;
+
+// Writes the export form of a game.
+fn write_one<'a, A: Allocator, W: Sink>(
+    alloc: &'a A,
+    game: &Game<'a, A>,
+    writer: &mut W,
+) -> Result<(), Ended>
+    ensures { WritesOne W.takes W.failed (game_text (game_of game.now)) writer.old writer.new result }
+{
+    let Ok(text) = write_game(alloc, game) else {
+        return Err(Ended::Memory);
+    };
+    match write_all(writer, text.as_slice()) {
+        Ok(()) => Ok(()),
+        Err(_) => Err(Ended::WriteFault),
+    }
+}
+
+// Writes each game before it reads the next.
+fn write_games<'a, A: Allocator, R: Source, W: Sink>(
+    alloc: &'a A,
+    games: &mut Games<'a, R, A>,
+    writer: &mut W,
+) -> Ended
+    requires sound { IsSound R.ended games.old }
+    requires writer { W.failed writer.old ≡ false }
+    ensures { WritesAll W.takes W.failed writer.old writer.new result }
+{
+    for _game in 0..GAMES {
+        match games.next() {
+            Ok(None) => return Ended::Good,
+            Ok(Some(game)) => {
+                if let Err(ended) = write_one(alloc, &game, writer) {
+                    return ended;
+                }
+            }
+            Err(GamesFault::Pgn(fault)) => return Ended::Input(fault),
+            Err(GamesFault::Read) => return Ended::ReadFault,
+        }
+    }
+    Ended::ReadFault
+}
+
+/// Reads the games of the reader one after another, and writes each in export form (PGN 3.2) on the writer before it reads the next.
+///
+/// `Good`: the input has ended, and all its games are written. `Input`: what stands at the fault's place is no game; those before it are
+/// written. `ReadFault`: a read failed, or there were 2^40; the games before are written. `WriteFault`: a write failed or took no byte,
+/// and a front of the games is written. `Memory`: there was none for the text of a game; those before it are written.
+pub fn pgn<A: Allocator, R: Source + Drop, W: Sink>(alloc: A, reader: R, writer: &mut W) -> Ended
+    requires reader { R.failed reader ≡ false }
+    requires writer { W.failed writer.old ≡ false }
+    ensures good { result ≡ Ended.Good → EndsWritten W.takes W.failed writer.old writer.new }
+    ensures input { (fault : PgnFault) → result ≡ Ended.Input fault → EndsWritten W.takes W.failed writer.old writer.new }
+    ensures read_fault { result ≡ Ended.ReadFault → EndsWritten W.takes W.failed writer.old writer.new }
+    ensures write_fault { result ≡ Ended.WriteFault → EndsInPart W.takes W.failed writer.old writer.new }
+    ensures memory { result ≡ Ended.Memory → EndsWritten W.takes W.failed writer.old writer.new }
+{
+    let table = key_table();
+    let mut games = Games::new(&alloc, &table, reader);
+    write_games(&alloc, &mut games, writer)
+}

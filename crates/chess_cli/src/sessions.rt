@@ -1,0 +1,76 @@
+ghost use Rattle.std.specs.Prelude.{◌≡◌, ◌≢◌, ◌⊎◌, false};
+ghost use Rattle.chess_pgn.specs.declared.fault.PgnFault.{PgnFault};
+ghost use Rattle.chess_cli.specs.Sittings.{Answered, AnsweredInPart, beginning_with, has_ended};
+ghost use Rattle.chess_cli.specs.Runs.{Runs, Partly};
+ghost use Rattle.chess_cli.specs.declared.sitting.Sitting.{Sitting};
+ghost use Rattle.chess_cli.specs.RunEnds.{EndsGood, EndsOver, EndsReadFault, EndsWriteFault, most_reads};
+
+use super::clock::Clock;
+use super::ended::Ended;
+use super::keys::key_table;
+use super::over_streams::READS;
+use super::run::run;
+use super::sitting::Sitting;
+use chess_types::{Sink, Source};
+use chess_uci::Session;
+use std::alloc::Allocator;
+
+// The run of `uci`, with at most so many reads.
+pub(crate) fn uci_within<A: Allocator, R: Source, W: Sink, C: Clock + Drop>(
+    alloc: &A,
+    reader: &mut R,
+    writer: &mut W,
+    clock: C,
+    most: u64,
+) -> Ended
+    requires reader { R.failed reader.old ≡ false }
+    requires writer { W.failed writer.old ≡ false }
+    ensures good { result ≡ Ended.Good → (last : Sitting A C)
+        × (EndsGood (Runs (Answered C.reads)) (beginning_with clock) R.gives R.failed W.takes W.failed R.ended last reader.old reader.new writer.old writer.new
+        ⊎ EndsOver (Runs (Answered C.reads)) (beginning_with clock) R.gives R.failed W.takes W.failed has_ended last reader.old reader.new writer.old writer.new) }
+    ensures read_fault { result ≡ Ended.ReadFault → (last : Sitting A C)
+        × EndsReadFault (Runs (Answered C.reads)) (beginning_with clock) R.gives R.failed W.takes W.failed most last reader.old reader.new writer.old writer.new }
+    ensures write_fault { result ≡ Ended.WriteFault → (last : Sitting A C)
+        × EndsWriteFault (Partly (Answered C.reads) (AnsweredInPart C.reads)) (beginning_with clock) R.gives R.failed W.takes W.failed R.ended last reader.old reader.new writer.old writer.new }
+    ensures memory { result ≡ Ended.Memory → (reader.new ≡ reader.old) × (writer.new ≡ writer.old) }
+    ensures input { (fault : PgnFault) → result ≢ Ended.Input fault }
+{
+    let table = key_table();
+    let mut sitting = Sitting {
+        session: Session::new(alloc, &table),
+        clock,
+    };
+    run(alloc, &mut sitting, reader, writer, most)
+}
+
+/// Answers the lines of the reader, those of one read before more is read, as a session of the universal chess interface (UCI) whose
+/// time the clock tells, on the writer, until `quit` or the end of the input.
+///
+/// Each line is an event behind a moment by the clock. While a search is to be fed, it is given time root by root, and what it tells is
+/// written before it is given more: a search with a last depth or a budget runs to its end before the next line is read, an infinite one
+/// until depth 5 is complete.
+///
+/// `Good`: the whole input was read, or `quit` came, and the writer took the replies; nothing is read behind the piece that has `quit`.
+/// `ReadFault`: a read failed, or there were 2^40 reads of some bytes each, and the writer took the replies to the lines that had ended.
+/// `WriteFault`: a write failed or took no byte, and the writer took a front of the replies. `Memory`: there was no memory to begin with,
+/// and nothing was read or written. After a call that fails none is made.
+pub fn uci<A: Allocator, R: Source, W: Sink, C: Clock + Drop>(
+    alloc: A,
+    reader: &mut R,
+    writer: &mut W,
+    clock: C,
+) -> Ended
+    requires reader { R.failed reader.old ≡ false }
+    requires writer { W.failed writer.old ≡ false }
+    ensures good { result ≡ Ended.Good → (last : Sitting A C)
+        × (EndsGood (Runs (Answered C.reads)) (beginning_with clock) R.gives R.failed W.takes W.failed R.ended last reader.old reader.new writer.old writer.new
+        ⊎ EndsOver (Runs (Answered C.reads)) (beginning_with clock) R.gives R.failed W.takes W.failed has_ended last reader.old reader.new writer.old writer.new) }
+    ensures read_fault { result ≡ Ended.ReadFault → (last : Sitting A C)
+        × EndsReadFault (Runs (Answered C.reads)) (beginning_with clock) R.gives R.failed W.takes W.failed most_reads last reader.old reader.new writer.old writer.new }
+    ensures write_fault { result ≡ Ended.WriteFault → (last : Sitting A C)
+        × EndsWriteFault (Partly (Answered C.reads) (AnsweredInPart C.reads)) (beginning_with clock) R.gives R.failed W.takes W.failed R.ended last reader.old reader.new writer.old writer.new }
+    ensures memory { result ≡ Ended.Memory → (reader.new ≡ reader.old) × (writer.new ≡ writer.old) }
+    ensures input { (fault : PgnFault) → result ≢ Ended.Input fault }
+{
+    uci_within(&alloc, reader, writer, clock, READS)
+}

@@ -1,0 +1,191 @@
+-- One item is offered.
+use Rattle.std.proofs.Common.{◌<◌, take, drop, ◌+◌, ◌≡◌, ℕ, length-append, ◌≤◌, ◌⊎◌, inl, inr, Bool, true, false, List, [], ◌∷◌, ◌++◌, length, Some, None, refl, sym, ap, subst, ◌∙◌, arith, append_assoc, append-nil, Ok, Err}
+use Rattle.std.proofs.lemmas.List.{take-append-drop, take-append-le}
+use Rattle.chess_types.specs.bytes.Calls.{joined}
+use Rattle.chess_pgn.specs.Items.{Item, is_white, place_after}
+use Rattle.chess_pgn.specs.steps.ItemAt.{Found, item_at}
+use Rattle.chess_pgn.specs.steps.Deciding.{longer, Decides}
+use Rattle.chess_pgn.specs.steps.Texts.{Oversized, Near, MadeReady, Keeps}
+use Rattle.chess_pgn.specs.steps.Taking.{TakesOne, Offered, TakesItem, Rests, Next, Steps}
+use Rattle.chess_pgn.specs.declared.at_hand.Fault.{Fault}
+use Rattle.chess_pgn.specs.declared.place.Place.{Place}
+use Rattle.chess_pgn.specs.declared.taker.Taken.TheVariants.{GoesOn, Ends}
+use Rattle.chess_pgn.specs.declared.taking.Answer.TheVariants as answer
+use Rattle.chess_pgn.specs.declared.taking.Stop.{Stop}
+use Rattle.chess_pgn.specs.declared.taking.Stop.TheVariants as stop
+use Rattle.chess_pgn.specs.declared.taking.Step.TheVariants as step
+use Rattle.chess_pgn.proofs.FoundLemmas.{the, item_taken}
+use Rattle.chess_pgn.proofs.OpenLemmas.{nothing_undecided}
+use Rattle.chess_pgn.proofs.LocalLemmas.{undecided_taken, item_shorter}
+
+decided_item : (place : Place) (hand more : List ℕ) (found : Found) (A : Type 0) → Decides place hand ⊎ A → (A → more ≡ []) → item_at place hand ≡ found → item_at place (hand ++ more) ≡ longer found more
+decided_item place hand more found A (inl d) none e = d more ∙ ap (λ (x : Found). longer x more) e
+decided_item place hand more found A (inr all) none e =
+    subst (λ (x : List ℕ). item_at place (hand ++ x) ≡ longer found x) (sym (none all)) (ap (item_at place) (append-nil hand) ∙ e ∙ whole found)
+  where
+    whole : (f : Found) → f ≡ longer f []
+    whole None = refl
+    whole (Some x) = ap (λ (y : List ℕ). Some (x.0, y)) (sym (append-nil x.1))
+
+near_item : (place : Place) (old hand rest : List ℕ) (item : Item) → Near place old hand → item_at place hand ≡ the item rest → length old ≤ 65536 → length rest ≤ 65536
+near_item place old hand rest item (inl e) found small = (let s = item_shorter place hand item rest found in let l = ap length e in omega (arith, s, l))
+near_item place old hand rest item (inr h) found small =
+    (let s = undecided_taken place h.0 h.1 item rest h.4 (subst (λ (x : List ℕ). item_at place x ≡ the item rest) h.2 found) in omega (arith, s, h.3))
+
+-- a longer front decides too
+decides_longer : (place : Place) (front more : List ℕ) → Decides place front → Decides place (front ++ more)
+decides_longer place front more d = λ further.
+    ap (item_at place) (append_assoc front more further) ∙ d (more ++ further) ∙ longer_twice (item_at place front) more further ∙ ap (λ (x : Found). longer x further) (sym (d more))
+  where
+    longer_twice : (f : Found) (more further : List ℕ) → longer f (more ++ further) ≡ longer (longer f more) further
+    longer_twice None more further = refl
+    longer_twice (Some x) more further = ap (λ (y : List ℕ). Some (x.0, y)) (sym (append_assoc x.1 more further))
+
+none_sized : (most : ℕ) (place : Place) (input : List ℕ) (found : Found) → item_at place input ≡ found → most < length input → (found ≡ None → Decides place (take (most + 1) input) → ⊥) → ((i : Item) (rest : List ℕ) → found ≡ the i rest → most + length rest < length input) → Oversized most place input
+none_sized most place input None e over f g = (over, rw e (f refl))
+none_sized most place input (Some x) e over f g = (over, rw e (g x.0 x.1 refl))
+
+undecided_front : (most : ℕ) (place : Place) (hand more : List ℕ) → most < length hand → (Decides place (take (most + 1) hand) → ⊥) → Decides place (take (most + 1) (hand ++ more)) → ⊥
+undecided_front most place hand more over undecided d = undecided (subst (λ (x : List ℕ). Decides place x) (take-append-le (most + 1) hand more (omega arith)) d)
+
+none_oversized : (most : ℕ) (place : Place) (hand more : List ℕ) → most < length hand → (Decides place (take (most + 1) hand) → ⊥) → item_at place (hand ++ more) ≡ None → Oversized most place (hand ++ more)
+none_oversized most place hand more over undecided e =
+    let l = length-append hand more in
+    none_sized most place (hand ++ more) None e (omega (arith, l)) (λ h. undecided_front most place hand more over undecided) (λ i rest h. absurd (none_the i rest h))
+  where
+    none_the : (i : Item) (rest : List ℕ) → None ≡ the i rest → ⊥
+    none_the i rest h = cc
+
+long_oversized : (most : ℕ) (place : Place) (hand more : List ℕ) (item : Item) (rest : List ℕ) → most + length rest < length hand → item_at place (hand ++ more) ≡ the item (rest ++ more) → Oversized most place (hand ++ more)
+long_oversized most place hand more item rest long e =
+    let l = length-append hand more in
+    let m = length-append rest more in
+    (omega (arith, l), rw e (omega (arith, l, m)))
+
+over_oversized : (most : ℕ) (place : Place) (hand more : List ℕ) → most < length hand → (Decides place hand → ⊥) → Oversized most place (hand ++ more)
+over_oversized most place hand more over undecided =
+    let l = length-append hand more in
+    let shorter : Decides place (take (most + 1) hand) → ⊥ = λ d. undecided (subst (λ (x : List ℕ). Decides place x) (take-append-drop (most + 1) hand) (decides_longer place (take (most + 1) hand) (drop (most + 1) hand) d)) in
+    none_sized most place (hand ++ more) (item_at place (hand ++ more)) refl (omega (arith, l)) (λ h. undecided_front most place hand more over shorter)
+    (λ i rest h. let s = undecided_taken place hand more i rest undecided h in omega (arith, l, s))
+
+module _ {X T : Type 0} (comes : X → List ℕ → X → Type 0) (at_hand : X → List ℕ) (all sound : X → Type 0) (size : X → ℕ) (takes : TakesOne T) (at most : ℕ) (place : Place) (old mid : X) (t : T) where
+  pub step_fault : (e : Fault) → MadeReady comes at_hand all sound size most place old mid (Err e) → Steps comes at_hand all sound size takes at most place old mid t t (Err e)
+  step_fault e r = record { pieces = r.more ∷ []; came = (mid, r.came, refl); after = tt }
+
+  -- too many bytes don't decide the item
+  pub step_undecided : MadeReady comes at_hand all sound size most place old mid (Ok false) → Steps comes at_hand all sound size takes at most place old mid t t (Ok (step.Stops stop.TooLarge))
+  step_undecided r =
+      let a = r.after in
+      record {
+        pieces = r.more ∷ [];
+        came = (mid, r.came, refl);
+        after = (
+          record { longer = a.longer ∙ ap (λ (x : List ℕ). at_hand old ++ x) (sym (append-nil r.more)); at_end = (λ h. (append-nil r.more ∙ (a.at_end h).0, (a.at_end h).1)); sound_still = a.sound_still },
+          λ further none. over_oversized most place (at_hand mid) further a.over a.undecided,
+        );
+      }
+
+  module _ (r : MadeReady comes at_hand all sound size most place old mid (Ok true)) where
+    rests : Rests comes at_hand all sound size takes old (r.more ∷ []) mid
+    rests = record {
+      longer = r.after.longer ∙ ap (λ (x : List ℕ). at_hand old ++ x) (sym (append-nil r.more));
+      at_end = λ h. (append-nil r.more ∙ (r.after.at_end h).0, (r.after.at_end h).1);
+      sound_still = r.after.sound_still;
+    }
+
+    -- no item, and too many bytes for its fault
+    pub step_exceeds : item_at place (at_hand mid) ≡ None → most < length (at_hand mid) → (Decides place (take (most + 1) (at_hand mid)) → ⊥) → Steps comes at_hand all sound size takes at most place old mid t t (Ok (step.Stops stop.TooLarge))
+    step_exceeds e over undecided = record {
+      pieces = r.more ∷ [];
+      came = (mid, r.came, refl);
+      after = (rests, (λ more none. none_oversized most place (at_hand mid) more over undecided (decided_item place (at_hand mid) more None (all mid) r.after.decided none e)));
+    }
+
+    all_came : (hand : List ℕ) → hand ≡ [] → Decides place hand ⊎ all mid → all mid
+    all_came hand e (inl d) = absurd (nothing_undecided place (subst (λ (x : List ℕ). Decides place x) e d))
+    all_came hand e (inr h) = h
+
+    pub step_end : at_hand mid ≡ [] → Steps comes at_hand all sound size takes at most place old mid t t (Ok (step.Stops stop.End))
+    step_end e = record {
+      pieces = r.more ∷ [];
+      came = (mid, r.came, refl);
+      after = (rests, (all_came (at_hand mid) e r.after.decided, e, refl));
+    }
+
+    pub step_none : item_at place (at_hand mid) ≡ None → (most < length (at_hand mid) → Decides place (take (most + 1) (at_hand mid))) → Steps comes at_hand all sound size takes at most place old mid t t (Ok (step.Stops stop.NoItem))
+    step_none e within = record {
+      pieces = r.more ∷ [];
+      came = (mid, r.came, refl);
+      after = (rests, (record { none = (λ more none. decided_item place (at_hand mid) more None (all mid) r.after.decided none e); decided = r.after.decided; within = within }, refl));
+    }
+
+    module _ (item : Item) (rest : List ℕ) (found : item_at place (at_hand mid) ≡ the item rest) where
+      -- the item is too long
+      step_over : most + length rest < length (at_hand mid) → (u : T) → Steps comes at_hand all sound size takes at most place old mid t u (Ok (step.Stops stop.TooLarge))
+      step_over long u = record {
+        pieces = r.more ∷ [];
+        came = (mid, r.came, refl);
+        after = (rests, (λ more none. long_oversized most place (at_hand mid) more item rest long (decided_item place (at_hand mid) more (the item rest) (all mid) r.after.decided none found)));
+      }
+
+      next_item : Next comes at_hand all sound size takes place old mid item
+      next_item = record {
+        rest = rest;
+        found = (λ more none. decided_item place (at_hand mid) more (the item rest) (all mid) r.after.decided none found);
+        near = (λ small. near_item place (at_hand old) (at_hand mid) rest item r.after.near found small);
+      }
+
+      -- it isn't used
+      pub step_stops : (why : Stop) (used : ℕ) (u : T) → used + length rest ≡ length (at_hand mid) → Offered takes at item used most t u (answer.Stops why) → Steps comes at_hand all sound size takes at most place old mid t u (Ok (step.Stops why))
+      step_stops stop.Left used u counts o = record { pieces = r.more ∷ []; came = (mid, r.came, refl); after = (rests, (item, next_item, o)) }
+      step_stops (stop.Refused fault) used u counts o = record { pieces = r.more ∷ []; came = (mid, r.came, refl); after = (rests, (item, next_item, o)) }
+      step_stops stop.TooLarge used u counts o = step_over (omega (arith, counts, o)) u
+      step_stops stop.Full used u counts o = absurd o
+      step_stops stop.End used u counts o = absurd o
+      step_stops stop.NoItem used u counts o = absurd o
+
+      module _ (new : X) (k : Keeps comes at_hand all sound size (length rest) mid new) (used : ℕ) (counts : used + length rest ≡ length (at_hand mid)) (few : used ≤ most) where
+        left : at_hand new ≡ rest
+        left = (let t = item_taken place (at_hand mid) item rest found in k.kept t.0 rest t.1 refl)
+
+        finds : (more : List ℕ) → (all new → more ≡ []) → item_at place (at_hand old ++ (joined (r.more ∷ [] ∷ []) ++ more)) ≡ Some (item, at_hand new ++ more)
+        finds more none =
+            let hand = at_hand mid in
+            let e : hand ++ more ≡ at_hand old ++ ((r.more ++ []) ++ more) =
+            ap (λ (x : List ℕ). x ++ more) r.after.longer ∙ append_assoc (at_hand old) r.more more ∙ ap (λ (x : List ℕ). at_hand old ++ (x ++ more)) (sym (append-nil r.more)) in
+            let d : item_at place (hand ++ more) ≡ the item (rest ++ more) = decided_item place hand more (the item rest) (all mid) r.after.decided (λ h. none (k.at_end h)) found in
+            ap (item_at place) (sym e) ∙ d ∙ ap (λ (x : List ℕ). the item (x ++ more)) (sym left)
+
+        counted : length (at_hand old) + length (joined (r.more ∷ [] ∷ [])) ≡ length (at_hand new) + used
+        counted =
+            let e = ap length r.after.longer in
+            let l = length-append (at_hand old) r.more in
+            let j = ap length (append-nil r.more) in
+            let n = ap length left in
+            omega (arith, e, l, j, n, counts)
+
+        takes_item : TakesItem comes at_hand all sound size takes most place old (r.more ∷ [] ∷ []) new item used
+        takes_item = record {
+          found = finds;
+          near = (λ small. rw left (near_item place (at_hand old) (at_hand mid) rest item r.after.near found small));
+          at_end = (λ h. (append-nil r.more ∙ (r.after.at_end h).0, k.at_end (r.after.at_end h).1));
+          sound_still = k.sound_still;
+          smaller = (let s = item_shorter place (at_hand mid) item rest found in omega (arith, s, k.smaller, r.after.no_larger));
+          counted = counted;
+          few = few;
+        }
+
+        pub step_on : (u : T) → takes t at item (Ok GoesOn) u → (next : Place) (white : Bool) → next ≡ place_after place item → white ≡ is_white item → Steps comes at_hand all sound size takes at most place old new t u (Ok (step.On next used white))
+        step_on u taken next white e h = record {
+          pieces = r.more ∷ [] ∷ [];
+          came = (mid, r.came, (new, k.came, refl));
+          after = (item, takes_item, taken, e, h);
+        }
+
+        pub step_full : (u : T) → takes t at item (Ok Ends) u → (next : Place) (white : Bool) → next ≡ place_after place item → white ≡ is_white item → Steps comes at_hand all sound size takes at most place old new t u (Ok (step.Full next used white))
+        step_full u taken next white e h = record {
+          pieces = r.more ∷ [] ∷ [];
+          came = (mid, r.came, (new, k.came, refl));
+          after = (item, takes_item, taken, e, h);
+        }

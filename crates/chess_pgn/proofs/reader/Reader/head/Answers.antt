@@ -1,0 +1,7 @@
+use Rattle.chess_pgn.specs.steps.Tokens.{item_of}
+use Rattle.chess_pgn.proofs.HeadLemmas.{moved_first}
+use Rattle.chess_pgn.proofs.reader.Reader.head.Goals as goal
+
+pub returns-in_ok-begin_moves-in_default : goal.returns-in_ok-begin_moves-in_default
+returns-in_ok-begin_moves-in_default g c =
+    moved_first (item_of c.args.token) c.movetext.result c.args.self.now c.begin_moves.new.self c.movetext.new.self c.in_ok-begin_moves-in_default.ensures c.movetext.ensures

@@ -1,0 +1,17 @@
+use Rattle.std.proofs.Common.{ap, ◌∙◌, sym, drop, min, length}
+use Rattle.std.specs.Prelude.{if◌then◌else◌}
+use Rattle.chess_tree.specs.Comments.{normalised}
+use Rattle.chess_tree.specs.GameTree.{TreeParts}
+use Rattle.chess_pgn.specs.steps.Readings.{said_here}
+use Rattle.chess_pgn.proofs.StepLemmas.{text_goes}
+use Rattle.chess_pgn.proofs.reader.moves.Moves.word.Goals as goal
+
+pub returns : goal.returns
+returns g c = λ s h.
+    let r = c.args.self.now in
+    let said = normalised (drop (min r.from (length r.comments.items)) r.comments.items) in
+    rw (c.in_ok-add.ensures.played, c.in_ok-add.ensures.interrupted, c.in_ok-note_if.ensures.interrupted, c.in_ok-add.ensures.comments, c.in_ok-add.ensures.from, c.in_ok-note_if.ensures.from)
+    (text_goes r.analysis c.note_if.new.self.analysis c.add.new.self.analysis r.interrupted.items r.played c.is_behind_move.result r.comments.items c.note_if.new.self.comments.items r.from c.args.text.now c.in-Ok.m
+    (sym c.in-Ok.ensures.value) c.is_behind_move.ensures
+    (c.in_ok-note_if.ensures.analysis ∙ ap (λ (z : TreeParts). if c.is_behind_move.result then said_here said z else z) c.in-Ok.ensures.as_before)
+    c.in_ok-note_if.ensures.comments c.in_ok-add.ensures.analysis c.in_ok-add.ensures.line s h)

@@ -1,0 +1,152 @@
+-- Movetext: a line of moves with its annotations, comments and variations, and what it adds to a game (PGN 8.2).
+--   Element      what a line is made of, the blanks apart
+--   elements     the elements among some items
+--   Line         the syntax of a line; elements_of, its elements
+--   Part         what a stretch of a line adds at the move before it
+--   meaning      what a line adds, by the positions before its last move and after it
+--   Derives      the elements of a game's own line give its comment and its moves
+--   few_are_open no more than 128 variations are open at once
+-- A variation takes the place of the last move of the line around it: its first move is a further child of the same parent. Children stand in
+-- the order in which their moves begin.
+use Rattle.std.specs.Prelude.{◌≡◌, ℕ, suc, ◌-◌, nat_lt, ◌&&◌, Bool, true, List, [], ◌∷◌, ◌++◌, Option, Some, None, Result, Ok, Err}
+use Rattle.std.specs.List.{flat_map}
+use Rattle.chess_types.specs.board.MoveParts.{MoveParts}
+use Rattle.chess_types.specs.board.Position.{State}
+use Rattle.chess_types.specs.board.After.{after}
+use Rattle.chess_san.specs.declared.fault.SanFault.{SanFault}
+use Rattle.chess_san.specs.Naming.{reading}
+use Rattle.chess_tree.specs.Forest.{Forest, Bare, Node, append}
+use Rattle.chess_tree.specs.Comments.{normalised}
+use Rattle.chess_pgn.specs.Items as items
+use Rattle.chess_pgn.specs.Items.{Item}
+
+-- ---- syntax
+
+pub data Element : Type 0 where
+  -- a move number or a period
+  Number : Element
+  Annotation : ℕ → Element
+  -- a comment, in which each run of white space is one space
+  Remark : List ℕ → Element
+  -- the parentheses of a variation
+  Open : Element
+  Close : Element
+  -- a move's text
+  Text : List ℕ → Element
+
+abbrev pub element : Item → List Element
+element items.Skipped = Number ∷ []
+element (items.Nag n) = Annotation n ∷ []
+element (items.Comment text) = Remark (normalised text) ∷ []
+element items.Open = Open ∷ []
+element items.Close = Close ∷ []
+element (items.Word word) = Text word ∷ []
+element _ = []
+
+abbrev pub elements : List Item → List Element
+elements is = flat_map element is
+
+pub data Line : Type 0 where
+  End : Line
+  Skip : Line → Line
+  Annotate : ℕ → Line → Line
+  Say : List ℕ → Line → Line
+  Play : List ℕ → Line → Line
+  -- a variation, and the rest of the line around it
+  Vary : Line → Line → Line
+
+abbrev pub elements_of : Line → List Element
+elements_of End = []
+elements_of (Skip line) = Number ∷ elements_of line
+elements_of (Annotate n line) = Annotation n ∷ elements_of line
+elements_of (Say text line) = Remark text ∷ elements_of line
+elements_of (Play word line) = Text word ∷ elements_of line
+elements_of (Vary variation line) = Open ∷ (elements_of variation ++ Close ∷ elements_of line)
+
+-- so many are open already
+abbrev pub few_are_open : ℕ → List Element → Bool
+few_are_open n [] = true
+few_are_open n (Open ∷ es) = nat_lt n 128 && few_are_open (suc n) es
+few_are_open n (Close ∷ es) = few_are_open (n - 1) es
+few_are_open n (Number ∷ es) = few_are_open n es
+few_are_open n (Annotation m ∷ es) = few_are_open n es
+few_are_open n (Remark text ∷ es) = few_are_open n es
+few_are_open n (Text word ∷ es) = few_are_open n es
+
+-- ---- meaning
+
+-- two comments of one move, one after the other
+abbrev pub joined : List ℕ → List ℕ → List ℕ
+joined [] other = other
+joined (b ∷ text) [] = b ∷ text
+joined (b ∷ text) (c ∷ other) = (b ∷ text) ++ 32 ∷ c ∷ other
+
+-- Annotations and a comment of the move before, further children beside it, and what follows it.
+pub record Part : Type 0 where
+  pub nags : List ℕ
+  pub comment : List ℕ
+  pub beside : Forest
+  pub below : Forest
+
+abbrev pub nothing : Part
+nothing = record { nags = []; comment = []; beside = Bare; below = Bare }
+
+-- an annotation number in front of the others
+abbrev pub annotated : ℕ → Part → Part
+annotated n r = record { nags = n ∷ r.nags; comment = r.comment; beside = r.beside; below = r.below }
+
+-- a comment in front of the others
+abbrev pub said : List ℕ → Part → Part
+said text r = record { nags = r.nags; comment = joined text r.comment; beside = r.beside; below = r.below }
+
+-- a move, with what its line has after it
+abbrev pub played : MoveParts → Part → Part
+played m r = record { nags = []; comment = []; beside = Bare; below = Node m r.nags r.comment r.below r.beside }
+
+-- a comment in front of the first move's
+abbrev pub in_front : List ℕ → Forest → Forest
+in_front text Bare = Bare
+in_front text (Node m nags comment below next) = Node m nags (joined text comment) below next
+
+-- A variation: its moves, with the comments before the first of them in front of that move's. One without a move is dropped, and its comments
+-- go to the move before it. Annotations before its first move are ignored.
+abbrev pub varied : Forest → List ℕ → Part → Part
+varied Bare text r = said text r
+varied (Node m nags comment below next) text r =
+    record { nags = r.nags; comment = r.comment; beside = append (in_front text (Node m nags comment below next)) r.beside; below = r.below }
+
+-- the rest, where the first part has a meaning
+infixl 10 ◌>>=◌
+abbrev pub ◌>>=◌ : {A B : Type 0} → Option A → (A → Option B) → Option B
+(Some x) >>= next = next x
+None >>= next = None
+
+abbrev pub move_or_none : Result MoveParts SanFault → Option MoveParts
+move_or_none (Ok m) = Some m
+move_or_none (Err fault) = None
+
+-- the move that a text names (PGN 8.2.3)
+abbrev pub move_in : State → List ℕ → Option MoveParts
+move_in p word = move_or_none (reading p word)
+
+-- There is no position before the last move where the line has none so far; no variation may stand there.
+abbrev pub meaning : Line → Option State → State → Option Part
+meaning End before here = Some nothing
+meaning (Skip line) before here = meaning line before here
+meaning (Annotate n line) before here = meaning line before here >>= λ r. Some (annotated n r)
+meaning (Say text line) before here = meaning line before here >>= λ r. Some (said text r)
+meaning (Play word line) before here =
+    move_in here word >>= λ m. meaning line (Some here) (after here m) >>= λ r. Some (played m r)
+meaning (Vary variation line) None here = None
+meaning (Vary variation line) (Some p) here =
+    meaning variation None p >>= λ v. meaning line (Some p) here >>= λ r. Some (varied v.below v.comment r)
+
+-- The game's own line, in the position in which it begins and behind the comments before its movetext, gives the comment before the first move
+-- and the moves.
+pub record Derives (es : List Element) (start : State) (before comment : List ℕ) (moves : Forest) : Type 0 where
+  pub line : Line
+  pub spelled : es ≡ elements_of line
+  pub part : Part
+  pub means : meaning line None start ≡ Some part
+  pub remarks : comment ≡ joined before part.comment
+  pub tree : moves ≡ part.below

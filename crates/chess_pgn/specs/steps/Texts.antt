@@ -1,0 +1,65 @@
+-- A text that comes bit by bit.
+--   Near        where bytes came, the last read was made where the bytes before it did not decide the item
+--   MadeReady   bytes came until the item at the front is decided or all have come
+--   Keeps       the first bytes are used
+--   Refills     all bytes at hand are used, and more come
+--   Oversized   no item within so many bytes, and that there is none isn't decided by one byte more
+use Rattle.std.specs.Prelude.{◌≡◌, ℕ, ◌+◌, ◌≤◌, ◌<◌, ◌⊎◌, Bool, true, false, List, [], ◌++◌, length, take, MatchOption, Result, Ok, Err}
+use Rattle.chess_pgn.specs.steps.Deciding.{Decides}
+use Rattle.chess_pgn.specs.steps.ItemAt.{item_at}
+use Rattle.chess_pgn.specs.declared.at_hand.Fault.{Fault}
+use Rattle.chess_pgn.specs.declared.place.Place.{Place}
+
+abbrev pub Near : Place → List ℕ → List ℕ → Type 0
+Near place old new = (new ≡ old) ⊎ ((front : List ℕ) × (piece : List ℕ) × (new ≡ front ++ piece) × (length piece ≤ 65536) × (Decides place front → ⊥))
+
+-- more than `most` bytes, of which no item of at most `most` is the first, and the first `most + 1` don't decide that there is none
+abbrev pub Oversized : ℕ → Place → List ℕ → Type 0
+Oversized most place input = (most < length input) × MatchOption (item_at place input) (Decides place (take (most + 1) input) → ⊥) (λ x. most + length x.1 < length input)
+
+module _ {X : Type 0} (comes : X → List ℕ → X → Type 0) (at_hand : X → List ℕ) (all sound : X → Type 0) (size : X → ℕ) where
+  pub record IsReady (most : ℕ) (place : Place) (old : X) (more : List ℕ) (new : X) : Type 0 where
+    pub longer : at_hand new ≡ at_hand old ++ more
+    pub decided : Decides place (at_hand new) ⊎ all new
+    pub near : Near place (at_hand old) (at_hand new)
+    pub at_end : all old → (more ≡ []) × all new
+    pub sound_still : sound new
+    pub no_larger : size new ≤ size old
+    pub held : length (at_hand old) ≤ most + 65536 → length (at_hand new) ≤ most + 65536
+
+  -- too many bytes are at hand, and they don't decide the item
+  pub record IsOver (most : ℕ) (place : Place) (old : X) (more : List ℕ) (new : X) : Type 0 where
+    pub longer : at_hand new ≡ at_hand old ++ more
+    pub over : most < length (at_hand new)
+    pub undecided : Decides place (at_hand new) → ⊥
+    pub at_end : all old → (more ≡ []) × all new
+    pub sound_still : sound new
+    pub held : length (at_hand old) ≤ most + 65536 → length (at_hand new) ≤ most + 65536
+
+  abbrev pub AfterCame : ℕ → Place → X → List ℕ → X → Result Bool Fault → Type 0
+  AfterCame most place old more new (Ok true) = IsReady most place old more new
+  AfterCame most place old more new (Ok false) = IsOver most place old more new
+  AfterCame most place old more new (Err e) = Unit {0}
+
+  pub record MadeReady (most : ℕ) (place : Place) (old new : X) (result : Result Bool Fault) : Type 0 where
+    pub more : List ℕ
+    pub came : comes old more new
+    pub after : AfterCame most place old more new result
+
+  pub record Keeps (left : ℕ) (old new : X) : Type 0 where
+    pub kept : (text rest : List ℕ) → at_hand old ≡ text ++ rest → length rest ≡ left → at_hand new ≡ rest
+    pub came : comes old [] new
+    pub at_end : all old → all new
+    pub not_yet : all new → all old
+    pub sound_still : sound new
+    pub smaller : size new + length (at_hand old) ≤ size old + left
+
+  abbrev pub AfterRefill : X → List ℕ → X → Result Bool Fault → Type 0
+  AfterRefill old more new (Ok true) = (at_hand new ≡ more) × sound new × (size new + 1 ≤ size old) × (all old → ⊥)
+  AfterRefill old more new (Ok false) = (at_hand new ≡ []) × (more ≡ []) × all new × sound new
+  AfterRefill old more new (Err e) = Unit {0}
+
+  pub record Refills (old new : X) (result : Result Bool Fault) : Type 0 where
+    pub more : List ℕ
+    pub came : comes old more new
+    pub after : AfterRefill old more new result

@@ -1,0 +1,197 @@
+//! Games of a text or of a source, one after another.
+
+ghost use Rattle.std.specs.Prelude.{◌≡◌, Some, None, Err, IfErr, IfOk};
+ghost use Rattle.chess_pgn.specs.steps.Next.{IsSound};
+
+use crate::at_hand::{AtHand, Fault};
+use crate::fault::{FaultKind, PgnFault, at_place};
+use crate::game::Game;
+use crate::passing::pass;
+use crate::place::Place;
+use crate::reader::Reader;
+use crate::taking::{Stop, Stopped};
+use crate::text::{Text, Whole};
+use chess_key::KeyTable;
+use chess_types::Source;
+use std::alloc::{AllocError, Allocator};
+use thiserror::Error;
+
+/// The most bytes of a game.
+const LIMIT: usize = 1_048_576;
+
+/// Why no game comes.
+#[derive(Clone, Copy, Debug, PartialEq, Eq, Error)]
+pub enum GamesFault {
+    /// What stands there is no game, or there is no memory for it. The place is counted from the input's beginning.
+    #[error("what stands there is no game")]
+    Pgn(PgnFault),
+    /// A read failed, or there were 2^40 reads.
+    #[error("a read failed")]
+    Read,
+}
+
+impl From<PgnFault> for GamesFault {
+    fn from(fault: PgnFault) -> Self {
+        GamesFault::Pgn(fault)
+    }
+}
+
+impl From<AllocError> for GamesFault {
+    /// That there is no memory, at place 0.
+    fn from(_: AllocError) -> Self {
+        GamesFault::Pgn(at_place(0, FaultKind::Memory))
+    }
+}
+
+// The fault where no item stands: a comment without its end is cut off by the end of the input.
+fn aground<A: Allocator>(
+    reader: &Reader<'_, A>,
+    unread: &[u8],
+    at: usize,
+    place: Place,
+) -> PgnFault {
+    let is_outside = matches!(place, Place::GameStart | Place::LineStart | Place::InLine);
+    if is_outside && unread.first() == Some(&b'{') {
+        return at_place(at.saturating_add(unread.len()), FaultKind::Truncated);
+    }
+    reader.unspelled(at)
+}
+
+// The game whose reading has stopped, and how many bytes it took.
+fn stopped_game<'a, A: Allocator>(
+    reader: Reader<'a, A>,
+    stopped: Stopped,
+    unread: &[u8],
+) -> Result<Option<(Game<'a, A>, usize)>, PgnFault> {
+    let at = stopped.at;
+    match stopped.why {
+        Stop::Full | Stop::Left => Ok(Some((reader.into_game()?, at))),
+        Stop::End => match reader.finish(at)? {
+            Some(game) => Ok(Some((game, at))),
+            None => Ok(None),
+        },
+        Stop::Refused(fault) => Err(fault),
+        Stop::NoItem => Err(aground(&reader, unread, at, stopped.place)),
+        Stop::TooLarge => Err(at_place(LIMIT, FaultKind::TooLarge)),
+    }
+}
+
+// The game at the front of a text, and how many bytes it took.
+fn take_game<'a, X: Text, A: Allocator>(
+    alloc: &'a A,
+    table: &'a KeyTable,
+    text: &mut X,
+) -> Result<Option<(Game<'a, A>, usize)>, GamesFault>
+    requires { X.sound text.old }
+    ensures { IfOk result (λ _. X.sound text.new) }
+{
+    let mut reader = Reader::new(alloc, table)?;
+    let stopped = match pass(text, &mut reader, LIMIT) {
+        Ok(Some(stopped)) => stopped,
+        Ok(None) => return Ok(None),
+        Err(Fault::Memory) => return Err(GamesFault::Pgn(at_place(0, FaultKind::Memory))),
+        Err(Fault::Read) => return Err(GamesFault::Read),
+    };
+    match stopped_game(reader, stopped, text.unread()) {
+        Ok(game) => Ok(game),
+        Err(fault) => Err(GamesFault::Pgn(fault)),
+    }
+}
+
+/// The game at the front of the text, and how many bytes of it that took; `None` where there are only white space and hidden lines. The
+/// table serves the reading alone.
+///
+/// # Errors
+///
+/// The first fault of the text, with its place in bytes from the text's beginning.
+pub fn read_game<'a, A: Allocator>(
+    alloc: &'a A,
+    table: &'a KeyTable,
+    input: &[u8],
+) -> Result<Option<(Game<'a, A>, usize)>, PgnFault> {
+    match take_game(alloc, table, &mut Whole { left: input }) {
+        Ok(game) => Ok(game),
+        Err(GamesFault::Pgn(fault)) => Err(fault),
+        // Nothing is read of a whole text.
+        Err(GamesFault::Read) => Err(at_place(0, FaultKind::Memory)),
+    }
+}
+
+/// The games of a source, one after another. After a fault it tells that fault again.
+#[derive(Drop)]
+pub struct Games<'a, R, A: Allocator> {
+    pub text: AtHand<'a, R, A>,
+    pub fault: Option<GamesFault>,
+    alloc: &'a A,
+    table: &'a KeyTable,
+    used: u64,
+}
+
+impl<'a, R: Source, A: Allocator> Games<'a, R, A> {
+    /// The games of a source of which no call has failed. Takes no memory. The table serves the reading alone.
+    pub fn new(alloc: &'a A, table: &'a KeyTable, source: R) -> Games<'a, R, A>
+        ensures sound { IsSound R.ended result }
+        ensures none { result.fault ≡ None }
+        ensures source { result.text.source ≡ source }
+    {
+        Games {
+            text: AtHand::new(alloc, source),
+            fault: None,
+            alloc,
+            table,
+            used: 0,
+        }
+    }
+
+    // The same with the bytes it took, and a fault's place from the game's beginning.
+    fn take(&mut self) -> Result<Option<(Game<'a, A>, usize)>, GamesFault>
+        requires sound { IsSound R.ended self.old }
+        requires none { self.old.fault ≡ None }
+        ensures sound { IfOk result (λ _. IsSound R.ended self.new) }
+        ensures none { self.new.fault ≡ None }
+    {
+        take_game(self.alloc, self.table, &mut self.text)
+    }
+
+    // The fault with its place from the input's beginning.
+    fn placed(&self, fault: GamesFault) -> GamesFault {
+        match fault {
+            GamesFault::Read => GamesFault::Read,
+            GamesFault::Pgn(PgnFault { place, kind }) => GamesFault::Pgn(PgnFault {
+                place: place.saturating_add(self.used),
+                kind,
+            }),
+        }
+    }
+
+    /// The next game; `None` where there are only white space and hidden lines. It is read before the next: the source is asked for more
+    /// only where the bytes at hand don't decide what they spell.
+    ///
+    /// # Errors
+    ///
+    /// The first fault of the game, `Read` where a read failed. It is told again by each later call, which reads nothing.
+    pub fn next(&mut self) -> Result<Option<Game<'a, A>>, GamesFault>
+        requires { IsSound R.ended self.old }
+        ensures sound { IsSound R.ended self.new }
+        ensures again { (fault : GamesFault) → self.old.fault ≡ Some fault → result ≡ Err fault }
+        ensures untouched { (fault : GamesFault) → self.old.fault ≡ Some fault → self.new ≡ self.old }
+        ensures sticky { IfErr result (λ fault. self.new.fault ≡ Some fault) }
+        ensures good { IfOk result (λ _. self.new.fault ≡ None) }
+    {
+        if let Some(fault) = self.fault {
+            return Err(fault);
+        }
+        match self.take() {
+            Ok(Some((game, used))) => {
+                self.used = self.used.saturating_add(used as u64);
+                Ok(Some(game))
+            }
+            Ok(None) => Ok(None),
+            Err(fault) => {
+                let placed = self.placed(fault);
+                self.fault = Some(placed);
+                Err(placed)
+            }
+        }
+    }
+}

@@ -1,0 +1,205 @@
+ghost use Rattle.std.specs.Prelude.{◌≡◌, false, IfOk, OnOk};
+ghost use Rattle.chess_pgn.specs.steps.ReaderCode.{Begins, Moved, ending_item, takes_when};
+ghost use Rattle.chess_pgn.specs.steps.Readings.{IsRead};
+ghost use Rattle.chess_pgn.specs.steps.Tokens.{item_of};
+
+mod found;
+mod header;
+mod moves;
+
+use crate::fault::{FaultKind, PgnFault, at_place};
+use crate::game::Game;
+use crate::outcome::Outcome;
+use crate::taker::{Taken, Taker};
+use crate::token::Token;
+use chess_key::KeyTable;
+use chess_types::Position;
+use header::Header;
+use moves::Moves;
+use std::alloc::{AllocError, Allocator};
+
+/// Reads a game, item by item (PGN 8). Tags and comments come first; the movetext begins at any other item but white space.
+#[derive(Drop)]
+pub struct Reader<'a, A: Allocator> {
+    alloc: &'a A,
+    table: &'a KeyTable,
+    header: Header<'a, A>,
+    moves: Moves<'a, A>,
+    outcome: Outcome,
+    /// Whether there was more than white space and hidden lines.
+    begun: bool,
+    /// Whether the movetext has begun.
+    moving: bool,
+}
+
+impl<'a, A: Allocator> Reader<'a, A> {
+    /// Nothing read. `Memory` where there is none.
+    #[tactic(auto, unfolding(chess_types::specs::board::Position::start))]
+    pub fn new(alloc: &'a A, table: &'a KeyTable) -> Result<Reader<'a, A>, AllocError> {
+        Ok(Reader {
+            alloc,
+            table,
+            header: Header::new(alloc),
+            moves: Moves::new(alloc, Position::start(), table)?,
+            outcome: Outcome::Unfinished,
+            begun: false,
+            moving: false,
+        })
+    }
+
+    // The end of the tags: the game begins in the position that they give.
+    fn begin_moves(&mut self) -> Result<(), PgnFault>
+        ensures { OnOk result (Begins self.old self.new) }
+    {
+        self.begun = true;
+        self.moving = true;
+        let Some(start) = self.header.start()? else {
+            return Ok(());
+        };
+        self.moves.begin_in(self.alloc, start, self.table)?;
+        Ok(())
+    }
+
+    // What ends the movetext: a marker, or in front of it the bracket of a tag.
+    fn ending(&mut self, at: usize, marker: Option<Outcome>) -> Result<Taken, PgnFault>
+        ensures { Moved (ending_item marker) result self.old self.new }
+    {
+        if self.moves.is_in_variation() {
+            return Err(at_place(at, FaultKind::Variation));
+        }
+        match marker {
+            Some(outcome) => {
+                self.outcome = outcome;
+                Ok(Taken::Ends)
+            }
+            None => Ok(Taken::Leaves),
+        }
+    }
+
+    // An item of the movetext.
+    fn movetext(&mut self, at: usize, token: Token<'_>) -> Result<Taken, PgnFault>
+        ensures { Moved (item_of token.entry) result self.old self.new }
+    {
+        match token {
+            Token::Mark => {}
+            Token::Blank(_) => {}
+            Token::Hidden => {}
+            Token::Skipped => {}
+            Token::Braced(text) => self.moves.comment(text)?,
+            Token::Line(line) => self.moves.line_comment(line)?,
+            Token::Nag(nag) => self.moves.nag(nag)?,
+            Token::Open => self.moves.open(at)?,
+            Token::Close => self.moves.close(at)?,
+            Token::Word(text) => self.moves.word(at, text)?,
+            Token::Marker(outcome) => return self.ending(at, Some(outcome)),
+            Token::TagOpen => return self.ending(at, None),
+            Token::TagClose
+            | Token::Name(_)
+            | Token::Quote
+            | Token::Stretch(_)
+            | Token::Escaped(_) => return Err(at_place(at, FaultKind::Token)),
+        }
+        Ok(Taken::GoesOn)
+    }
+
+    // An item in front of the movetext, or its first one.
+    fn head(&mut self, at: usize, token: Token<'_>) -> Result<Taken, PgnFault>
+        ensures { takes_when false (item_of token.entry) result self.old self.new }
+    {
+        match token {
+            Token::Mark => Ok(Taken::GoesOn),
+            Token::Blank(_) => Ok(Taken::GoesOn),
+            Token::Hidden => Ok(Taken::GoesOn),
+            Token::Braced(text) => {
+                self.begun = true;
+                self.moves.comment(text)?;
+                Ok(Taken::GoesOn)
+            }
+            Token::Line(line) => {
+                self.begun = true;
+                self.moves.line_comment(line)?;
+                Ok(Taken::GoesOn)
+            }
+            Token::TagOpen => {
+                self.begun = true;
+                self.header.open(at);
+                Ok(Taken::GoesOn)
+            }
+            _ => {
+                self.begin_moves()?;
+                self.movetext(at, token)
+            }
+        }
+    }
+
+    /// Whether a tag has begun and not ended.
+    pub fn is_in_tag(&self) -> bool {
+        self.header.is_in_tag()
+    }
+
+    /// The fault where at that place no item stands.
+    pub fn unspelled(&self, at: usize) -> PgnFault {
+        if self.header.is_in_tag() {
+            self.header.malformed()
+        } else {
+            at_place(at, FaultKind::Token)
+        }
+    }
+
+    /// The game that was read.
+    pub fn into_game(self) -> Result<Game<'a, A>, PgnFault>
+        ensures outcome { IfOk result (λ game. game.result ≡ self.entry.outcome) }
+        ensures tree { IfOk result (λ game. IsRead self.entry.moves game.tree) }
+    {
+        let Reader {
+            alloc,
+            table: _,
+            header,
+            moves,
+            outcome,
+            begun: _,
+            moving: _,
+        } = self;
+        Ok(Game {
+            tags: header.into_tags(alloc)?,
+            result: outcome,
+            tree: moves.into_tree()?,
+        })
+    }
+
+    /// The game that was read, where the input ends at that place; `None` where it had white space and hidden lines alone.
+    ///
+    /// # Errors
+    ///
+    /// `Truncated` in a tag or a variation; `Fen` where the tags give no position; `Memory`.
+    pub fn finish(self, at: usize) -> Result<Option<Game<'a, A>>, PgnFault> {
+        let mut reader = self;
+        if !reader.begun {
+            return Ok(None);
+        }
+        if reader.header.is_in_tag() || reader.moves.is_in_variation() {
+            return Err(at_place(at, FaultKind::Truncated));
+        }
+        if !reader.moving {
+            reader.begin_moves()?;
+        }
+        Ok(Some(reader.into_game()?))
+    }
+}
+
+impl<'a, A: Allocator> Taker for Reader<'a, A> {
+    ghost use Rattle.chess_pgn.specs.steps.ReaderCode.{TakesItem};
+
+    ghost takes = { λ old at item result new. TakesItem old item result new };
+
+    fn take(&mut self, at: usize, token: Token<'_>) -> Result<Taken, PgnFault> {
+        if self.moving {
+            return self.movetext(at, token);
+        }
+        if self.header.is_in_tag() {
+            self.header.take(self.alloc, token)?;
+            return Ok(Taken::GoesOn);
+        }
+        self.head(at, token)
+    }
+}

@@ -1,0 +1,298 @@
+ghost use Rattle.std.specs.Prelude.{◌≡◌, ◌<◌, ◌≤◌, if◌then◌else◌, ◌||◌, not, ◌++◌, ◌∷◌, [], List, ℕ, drop, take, length, map, min, true, IfOk, OnOk};
+ghost use Rattle.chess_types.specs.board.Position.{State};
+ghost use Rattle.chess_types.specs.board.Lines.{extended};
+ghost use Rattle.chess_tree.specs.Comments.{normalised};
+ghost use Rattle.chess_tree.specs.Forest.{below_at, count};
+ghost use Rattle.chess_tree.specs.GameTree.{added, at_path, commented_here, line_to};
+ghost use Rattle.chess_pgn.specs.Grammar as grammar;
+ghost use Rattle.chess_pgn.specs.Items.{without_brace};
+ghost use Rattle.chess_pgn.specs.steps.Readings.{IsRead, IsLed, Stands, fresh, is_nil, said_here};
+
+use crate::fault::{FaultKind, PgnFault, at_place};
+use chess_key::KeyTable;
+use chess_tree::{Analysis, PlayFault, Tree};
+use chess_types::{Move, Position};
+use std::alloc::{AllocError, Allocator};
+
+/// The most variations that are open at once.
+const DEEPEST: usize = 128;
+
+/// A line that a variation interrupts, behind its last move.
+#[derive(Clone, Copy)]
+struct Interrupted {
+    /// How many plies come before that move, and its place among its siblings.
+    depth: u32,
+    place: u32,
+    /// Where its comments begin in `comments`.
+    from: usize,
+}
+
+/// Reads movetext (PGN 8.2). The cursor is at the last move of the line that is being read; before its first move, where it begins.
+#[derive(Drop)]
+pub struct Moves<'a, A: Allocator> {
+    alloc: &'a A,
+    analysis: Analysis<'a, A>,
+    /// The lines around the one that is being read, the innermost last.
+    interrupted: Vec<Interrupted, &'a A>,
+    /// Whether that line has a move.
+    played: bool,
+    /// The comments of its last move from `from` on, each behind a space; before that those of the lines around it.
+    comments: Vec<u8, &'a A>,
+    from: usize,
+}
+
+// A comment behind a semicolon, which might stand between braces.
+fn push_line<'a, A: Allocator>(text: &mut Vec<u8, &'a A>, line: &[u8]) -> Result<(), AllocError>
+    ensures { OnOk result (text.new.items ≡ text.old.items ++ map without_brace line.now) }
+{
+    for b in line {
+        text.push(if *b == b'}' { b')' } else { *b })?;
+    }
+    Ok(())
+}
+
+// Sets the comment at the cursor.
+fn set_comment<'a, A: Allocator>(
+    analysis: &mut Analysis<'a, A>,
+    text: &[u8],
+) -> Result<(), AllocError>
+    ensures { OnOk result (analysis.new ≡ commented_here (normalised text.now) analysis.old) }
+{
+    match analysis.set_comment(text) {
+        Ok(()) => Ok(()),
+        Err(_) => Err(AllocError),
+    }
+}
+
+// Adds a comment behind the one at the cursor.
+fn say<'a, A: Allocator>(
+    alloc: &'a A,
+    analysis: &mut Analysis<'a, A>,
+    text: &[u8],
+) -> Result<(), AllocError>
+    ensures { OnOk result (analysis.new ≡ said_here (normalised text.now) analysis.old) }
+{
+    if text.is_empty() {
+        return Ok(());
+    }
+    let said = analysis.tree().notes().comment;
+    if said.is_empty() {
+        return set_comment(analysis, text);
+    }
+    let mut both = Vec::new(alloc);
+    both.extend_from_slice(said)?;
+    both.push(b' ')?;
+    both.extend_from_slice(text)?;
+    set_comment(analysis, both.as_slice())
+}
+
+impl<'a, A: Allocator> Moves<'a, A> {
+    ghost use Rattle.chess_pgn.specs.steps.Readings.{Steps};
+
+    /// No movetext, from that position. `Memory` where there is none.
+    pub fn new(
+        alloc: &'a A,
+        start: Position,
+        table: &'a KeyTable,
+    ) -> Result<Moves<'a, A>, AllocError>
+        requires clock { start.clock ≤ 99999 }
+        requires number { start.number ≤ 99999 }
+        ensures { IfOk result (λ moves. Stands moves (fresh start [])) }
+    {
+        let Ok(analysis) = Analysis::new(alloc, start, table) else {
+            return Err(AllocError);
+        };
+        Ok(Moves {
+            alloc,
+            analysis,
+            interrupted: Vec::new(alloc),
+            played: false,
+            comments: Vec::new(alloc),
+            from: 0,
+        })
+    }
+
+    /// Begins in another position, before any move.
+    pub fn begin_in(
+        &mut self,
+        alloc: &'a A,
+        start: Position,
+        table: &'a KeyTable,
+    ) -> Result<(), AllocError>
+        requires clock { start.clock ≤ 99999 }
+        requires number { start.number ≤ 99999 }
+        ensures { OnOk result ((first : State) (lead : List ℕ) → Stands self.old (fresh first lead) → Stands self.new (fresh start lead)) }
+    {
+        let Ok(analysis) = Analysis::new(alloc, start, table) else {
+            return Err(AllocError);
+        };
+        self.analysis = analysis;
+        Ok(())
+    }
+
+    /// Whether a variation is open.
+    pub fn is_in_variation(&self) -> bool
+        ensures { result ≡ not (is_nil self.now.interrupted.items) }
+    {
+        !self.interrupted.is_empty()
+    }
+
+    /// A comment.
+    pub fn comment(&mut self, text: &[u8]) -> Result<(), AllocError>
+        ensures steps { OnOk result (Steps (grammar.Remark (normalised text.now)) self.old self.new) }
+        ensures first { OnOk result (IsLed (normalised text.now) self.old self.new) }
+    {
+        self.comments.push(b' ')?;
+        self.comments.extend_from_slice(text)?;
+        Ok(())
+    }
+
+    /// A comment behind a semicolon.
+    pub fn line_comment(&mut self, line: &[u8]) -> Result<(), AllocError>
+        ensures steps { OnOk result (Steps (grammar.Remark (normalised (map without_brace line.now))) self.old self.new) }
+        ensures first { OnOk result (IsLed (normalised (map without_brace line.now)) self.old self.new) }
+    {
+        self.comments.push(b' ')?;
+        push_line(&mut self.comments, line)?;
+        Ok(())
+    }
+
+    // Notes the comments at the cursor.
+    fn note(&mut self) -> Result<(), AllocError>
+        ensures analysis { OnOk result (self.new.analysis ≡ said_here (normalised (drop (min self.old.from (length self.old.comments.items)) self.old.comments.items)) self.old.analysis) }
+        ensures comments { OnOk result (self.new.comments.items ≡ take (min self.old.from (length self.old.comments.items)) self.old.comments.items) }
+        ensures from { self.new.from ≡ self.old.from }
+        ensures played { self.new.played ≡ self.old.played }
+        ensures interrupted { self.new.interrupted ≡ self.old.interrupted }
+    {
+        let from = self.from.min(self.comments.len());
+        say(self.alloc, &mut self.analysis, &self.comments[from..])?;
+        self.comments.truncate(from);
+        Ok(())
+    }
+
+    // The same, where they are due.
+    fn note_if(&mut self, due: bool) -> Result<(), AllocError>
+        ensures analysis { OnOk result (self.new.analysis ≡ (if due then said_here (normalised (drop (min self.old.from (length self.old.comments.items)) self.old.comments.items)) self.old.analysis else self.old.analysis)) }
+        ensures comments { OnOk result (self.new.comments.items ≡ (if due then take (min self.old.from (length self.old.comments.items)) self.old.comments.items else self.old.comments.items)) }
+        ensures from { self.new.from ≡ self.old.from }
+        ensures played { self.new.played ≡ self.old.played }
+        ensures interrupted { self.new.interrupted ≡ self.old.interrupted }
+    {
+        if !due {
+            return Ok(());
+        }
+        self.note()
+    }
+
+    /// An annotation number, which is ignored before any move of its line.
+    pub fn nag(&mut self, nag: u8) -> Result<(), AllocError>
+        ensures { OnOk result (Steps (grammar.Annotation nag) self.old self.new) }
+    {
+        if !self.played {
+            return Ok(());
+        }
+        match self.analysis.add_nag(nag) {
+            Ok(()) => Ok(()),
+            Err(_) => Err(AllocError),
+        }
+    }
+
+    // Adds a legal move at the cursor.
+    fn add(&mut self, at: usize, m: Move) -> Result<(), PgnFault>
+        ensures analysis { OnOk result (self.new.analysis ≡ added m self.old.analysis) }
+        ensures line { OnOk result (line_to self.new.analysis ≡ extended (line_to self.old.analysis) m) }
+        ensures comments { OnOk result (self.new.comments ≡ self.old.comments) }
+        ensures from { OnOk result (self.new.from ≡ self.old.from) }
+        ensures played { OnOk result (self.new.played ≡ true) }
+        ensures interrupted { OnOk result (self.new.interrupted ≡ self.old.interrupted) }
+    {
+        match self.analysis.add(m) {
+            Ok(()) => {}
+            Err(PlayFault::Memory) => return Err(AllocError.into()),
+            Err(_) => return Err(at_place(at, FaultKind::TooLarge)),
+        }
+        self.played = true;
+        Ok(())
+    }
+
+    // Whether the comments are the cursor's: behind a move, and before the first move of the game.
+    fn is_behind_move(&self) -> bool
+        ensures { result ≡ (self.now.played || is_nil self.now.interrupted.items) }
+    {
+        self.played || self.interrupted.is_empty()
+    }
+
+    /// A move's text.
+    pub fn word(&mut self, at: usize, text: &[u8]) -> Result<(), PgnFault>
+        ensures { OnOk result (Steps (grammar.Text text.now) self.old self.new) }
+    {
+        let Ok(m) = self.analysis.read_move(text) else {
+            return Err(at_place(at, FaultKind::Move));
+        };
+        self.note_if(self.is_behind_move())?;
+        self.add(at, m)?;
+        Ok(())
+    }
+
+    /// The begin of a variation, which takes the place of the last move.
+    pub fn open(&mut self, at: usize) -> Result<(), PgnFault>
+        ensures { OnOk result (Steps grammar.Open self.old self.new) }
+    {
+        if !self.played {
+            return Err(at_place(at, FaultKind::Variation));
+        }
+        if self.interrupted.len() >= DEEPEST {
+            return Err(at_place(at, FaultKind::Deep));
+        }
+        let tree = self.analysis.tree();
+        let depth = tree.depth().saturating_sub(1);
+        let place = tree.path_at(depth).unwrap_or(0);
+        self.interrupted.push(Interrupted {
+            depth,
+            place,
+            from: self.from,
+        })?;
+        let _stepped = self.analysis.back();
+        self.from = self.comments.len();
+        self.played = false;
+        Ok(())
+    }
+
+    // Goes on with a line behind its last move.
+    fn resume(&mut self, line: Interrupted)
+        ensures analysis { line.place < count (below_at (take line.depth self.old.analysis.path) self.old.analysis.tree.below)
+            → self.new.analysis ≡ at_path (take line.depth self.old.analysis.path ++ line.place ∷ []) self.old.analysis }
+        ensures comments { self.new.comments ≡ self.old.comments }
+        ensures interrupted { self.new.interrupted ≡ self.old.interrupted }
+        ensures from { self.new.from ≡ line.from }
+        ensures played { self.new.played ≡ true }
+    {
+        self.analysis.back_to(line.depth);
+        let _stepped = self.analysis.step(line.place);
+        self.from = line.from;
+        self.played = true;
+    }
+
+    /// The end of a variation. The comments of one without a move are those of the move before it.
+    pub fn close(&mut self, at: usize) -> Result<(), PgnFault>
+        ensures { OnOk result (Steps grammar.Close self.old self.new) }
+    {
+        let Some(line) = self.interrupted.pop() else {
+            return Err(at_place(at, FaultKind::Variation));
+        };
+        self.note_if(self.played)?;
+        self.resume(line);
+        Ok(())
+    }
+
+    /// The tree, with its cursor at the root.
+    pub fn into_tree(self) -> Result<Tree<'a, A>, AllocError>
+        ensures { IfOk result (λ tree. IsRead self.entry tree) }
+    {
+        let mut moves = self;
+        moves.note()?;
+        moves.analysis.start();
+        Ok(moves.analysis.into_tree())
+    }
+}

@@ -1,0 +1,206 @@
+ghost use Rattle.std.specs.Prelude.{◌<◌};
+
+use super::is_written;
+use crate::{FaultKind, Games, GamesFault, PgnFault, read_game, write_game};
+use chess_key::KeyTable;
+use chess_types::FromBytes;
+use std::alloc::Allocator;
+use std::process::Abort;
+use std::test::Fail;
+
+/// Whether the text begins with a game whose movetext that is, and uses so many bytes.
+fn reads(
+    rt: &impl Abort,
+    alloc: &impl Allocator,
+    text: &str,
+    movetext: &str,
+    used: usize,
+) -> Result<bool, PgnFault> {
+    let table = KeyTable::new([0; 768]);
+    let Some((game, count)) = read_game(alloc, &table, text.as_bytes())? else {
+        return Ok(false);
+    };
+    assert_eq!(rt; count, used);
+    is_written(alloc, &game, movetext)
+}
+
+/// The fault of a text, its place first.
+fn fault(alloc: &impl Allocator, text: &str) -> Option<(u64, u8)> {
+    let table = KeyTable::new([0; 768]);
+    match read_game(alloc, &table, text.as_bytes()) {
+        Ok(_) => None,
+        Err(fault) => Some((fault.place, fault.kind.number())),
+    }
+}
+
+#[test]
+fn moves_and_variations(rt: HostRuntime) -> Result<(), Fail> {
+    let alloc = rt.alloc();
+    assert!(&rt;
+        reads(
+            &rt,
+            &alloc,
+            "1.e4 e5 (1...c5 2.Nf3 {x  y} $1) 2.Nf3 *",
+            "1. e4 e5 (1... c5 2. Nf3 $1 {x y}) 2. Nf3 *\n\n",
+            40
+        )?
+    );
+    assert!(&rt; reads(&rt, &alloc, "1. e4 {c} e5", "1. e4 {c} 1... e5 *\n\n", 12)?);
+    assert!(&rt;
+        reads(
+            &rt,
+            &alloc,
+            "{r} $3 e4 {a} ({b} $4 d4 {c} d5) $5 {d} ({e}) (d4 (c4 {f} c5) d6) e5 ;x}\n*%",
+            "{r} 1. e4 $5 {a d e} (1. d4 {b c} 1... d5) (1. d4 d6) (1. c4 {f} 1... c5) 1...\ne5 {x)} *\n\n",
+            74
+        )?
+    );
+    Ok(())
+}
+
+#[test]
+fn tags_of_a_game(rt: HostRuntime) -> Result<(), Fail> {
+    let alloc = rt.alloc();
+    let table = KeyTable::new([0; 768]);
+    let text = b"[FEN \"4k3/4p3/8/8/8/8/4P3/4K3 b - - 0 7\"] e5! {good} e4 1/2-1/2 [White \"x\"]";
+    let (game, used) = read_game(&alloc, &table, text)?.expect(&rt, "a game");
+    assert_eq!(&rt; used, 63);
+    assert_eq!(&rt; game.tag(b"FEN"), None);
+    let written = write_game(&alloc, &game)?;
+    assert!(&rt;
+        written
+            .as_slice()
+            .ends_with(b"\n\n7... e5 $1 {good} 8. e4 1/2-1/2\n\n")
+    );
+    let text =
+        b"[Zed \"1\"][Result\"1-0\"][ Eco \n%x]\n\"a\\\"\\\\\\n\"][Zed \"2\"]{c}[White \"x\"][FEN \"y\"][SetUp \"0\"]";
+    let (game, used) = read_game(&alloc, &table, text)?.expect(&rt, "a game");
+    assert_eq!(&rt; used, text.len());
+    assert_eq!(&rt; game.tag(b"Zed"), Some(b"1".as_slice()));
+    assert_eq!(&rt; game.tag(b"Eco"), Some(b"a\"\\\\n".as_slice()));
+    assert_eq!(&rt; game.tag(b"White"), Some(b"x".as_slice()));
+    assert_eq!(&rt; game.tag(b"Result"), None);
+    assert_eq!(&rt; game.tag(b"SetUp"), None);
+    Ok(())
+}
+
+#[test]
+fn other_tags_in_their_places(rt: HostRuntime) -> Result<(), Fail> {
+    let alloc = rt.alloc();
+    let table = KeyTable::new([0; 768]);
+    let text =
+        b"[Zed \"1\"][SetUq \"2\"][SetU \"3\"][ECO \"A\\\"\"][FEO \"4\"][a \"5\"][FEN \"4k3/8/8/8/8/8/8/4K3 w - - 0 1\"] *";
+    let (game, _) = read_game(&alloc, &table, text)?.expect(&rt, "a game");
+    let written = write_game(&alloc, &game)?;
+    assert!(&rt;
+        written.as_slice().ends_with(
+            b"[Result \"*\"]\n[ECO \"A\\\"\"]\n[FEN \"4k3/8/8/8/8/8/8/4K3 w - - 0 1\"]\n[FEO \"4\"]\n[SetU \"3\"]\n[SetUp \"1\"]\n[SetUq \"2\"]\n[Zed \"1\"]\n[a \"5\"]\n\n*\n\n"
+        )
+    );
+    let text = b"[Zed \"1\"][ECO \"A\"] e4 *";
+    let (game, _) = read_game(&alloc, &table, text)?.expect(&rt, "a game");
+    let written = write_game(&alloc, &game)?;
+    assert!(&rt;
+        written
+            .as_slice()
+            .ends_with(b"[Result \"*\"]\n[ECO \"A\"]\n[Zed \"1\"]\n\n1. e4 *\n\n")
+    );
+    Ok(())
+}
+
+#[test]
+fn faults_of_a_text(rt: HostRuntime) -> Result<(), Fail> {
+    let alloc = rt.alloc();
+    assert_eq!(&rt; fault(&alloc, "1. e4 e5 2. Ke3 *"), Some((12, 3)));
+    assert_eq!(&rt; fault(&alloc, "1. e4 {abc"), Some((10, 6)));
+    assert_eq!(&rt; fault(&alloc, "(1. e4) *"), Some((0, 4)));
+    assert_eq!(&rt; fault(&alloc, "e4 ) *"), Some((3, 4)));
+    assert_eq!(&rt; fault(&alloc, "e4 (d4 *"), Some((7, 4)));
+    assert_eq!(&rt; fault(&alloc, "e4 (d4 [A \"b\"]"), Some((7, 4)));
+    assert_eq!(&rt; fault(&alloc, "e4 (d4"), Some((6, 6)));
+    assert_eq!(&rt; fault(&alloc, "e4 ~"), Some((3, 1)));
+    assert_eq!(&rt; fault(&alloc, "[A ~\"b\"]"), Some((0, 2)));
+    assert_eq!(&rt; fault(&alloc, " [A \"b\" {x}]"), Some((1, 2)));
+    assert_eq!(&rt; fault(&alloc, "[A \"b"), Some((5, 6)));
+    assert_eq!(&rt; fault(&alloc, " [FEN \"b\"] [A \"\"] *"), Some((1, 7)));
+    assert_eq!(&rt; fault(&alloc, " [FEN \"b\"] [A"), Some((13, 6)));
+    assert_eq!(&rt; fault(&alloc, ""), None);
+    let table = KeyTable::new([0; 768]);
+    assert!(&rt; read_game(&alloc, &table, b"\xef\xbb\xbf \n%x\n ")?.is_none());
+    assert!(&rt; read_game(&alloc, &table, b"%x\n{}")?.is_some());
+    Ok(())
+}
+
+/// What the games of a source are until none or a fault comes: how many there were, and the fault.
+fn all_games(alloc: &impl Allocator, text: &[u8], piece: usize) -> (u32, Option<GamesFault>)
+    requires { 0 < piece }
+{
+    let table = KeyTable::new([0; 768]);
+    let mut games = Games::new(alloc, &table, FromBytes::new(text, piece));
+    let mut count = 0u32;
+    for _ in 0..100u32 {
+        match games.next() {
+            Ok(Some(_)) => count = count.saturating_add(1),
+            Ok(None) => return (count, None),
+            Err(fault) => return (count, Some(fault)),
+        }
+    }
+    (count, None)
+}
+
+/// Games come one after another, however the source cuts them; a fault's place is counted from the source's beginning.
+#[test]
+fn games_in_any_pieces(rt: HostRuntime) -> Result<(), Fail> {
+    let alloc = rt.alloc();
+    let refused = |place, kind| Some(GamesFault::Pgn(PgnFault { place, kind }));
+    for piece in [1, 2, 3, 5, 7, 12, 65_536] {
+        let found = all_games(&alloc, b"*\n1. e4 *1-0", piece);
+        assert_eq!(&rt; found, (3, None), "in pieces of {piece}");
+        let found = all_games(&alloc, b"[A \"x\"]\n1. e4 [A \"y\"] d4 e5\n{a}%x\n", piece);
+        assert_eq!(&rt;
+            found,
+            (1, refused(31, FaultKind::Token)),
+            "in pieces of {piece}"
+        );
+        let found = all_games(&alloc, b"*\n1. e4 e5 2. Ke3 *", piece);
+        assert_eq!(&rt;
+            found,
+            (1, refused(14, FaultKind::Move)),
+            "in pieces of {piece}"
+        );
+    }
+    Ok(())
+}
+
+/// A game of so many variations, each in the one before.
+fn nested<'a, A: Allocator>(alloc: &'a A, many: u32) -> Result<Vec<u8, &'a A>, PgnFault> {
+    let mut text = Vec::from_slice(alloc, b"e4 ")?;
+    for depth in 0..many {
+        text.extend_from_slice(if depth % 2 == 0 { b"(d4 " } else { b"(e4 " })?;
+    }
+    for _ in 0..many {
+        text.push(b')')?;
+    }
+    text.push(b'*')?;
+    Ok(text)
+}
+
+#[test]
+fn no_more_than_128_variations_are_open(rt: HostRuntime) -> Result<(), Fail> {
+    let alloc = rt.alloc();
+    let table = KeyTable::new([0; 768]);
+    let text = nested(&alloc, 128)?;
+    assert!(&rt; read_game(&alloc, &table, text.as_slice())?.is_some());
+    let text = nested(&alloc, 129)?;
+    let Err(fault) = read_game(&alloc, &table, text.as_slice()) else {
+        panic!(&rt; "a game");
+    };
+    assert_eq!(&rt;
+        fault,
+        PgnFault {
+            place: 3 + 4 * 128,
+            kind: FaultKind::Deep
+        }
+    );
+    Ok(())
+}

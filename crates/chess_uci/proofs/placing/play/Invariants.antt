@@ -1,0 +1,14 @@
+use Rattle.std.proofs.Common.{◌≡◌, Some, length}
+use Rattle.chess_types.specs.bytes.Words.{words}
+use Rattle.chess_uci.specs.Commands.{gaps}
+use Rattle.chess_uci.specs.Placing.{played}
+use Rattle.chess_uci.proofs.placing.play.Given as goal
+
+abbrev pub invariant-loop-word : goal.invariant-loop-word
+invariant-loop-word g l = record {
+  looked : l.line.looked ≡ 0;
+  played : played (Some l.line.line) (words gaps l.rest) ≡ played (Some l.fn.line.line) (words gaps l.moves);
+}
+
+abbrev pub decreases-loop-word : goal.decreases-loop-word
+decreases-loop-word g l = length (words gaps l.rest)

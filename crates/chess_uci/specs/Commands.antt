@@ -1,0 +1,81 @@
+-- What a line of a session asks for (the UCI protocol's text).
+--   gaps         the bytes that part words
+--   Command      what may be asked for
+--   named        the command that a word names, with the words behind it
+--   asked        what a line asks for
+--   claims_set   what the words behind `setoption` set the option Claims to
+use Rattle.std.specs.Prelude.{ℕ, Bool, true, false, ◌||◌, ◌&&◌, if◌then◌else◌, List, [], ◌∷◌, map, Option, Some, None, unwrap_or, codes}
+use Rattle.std.specs.Char.{to_ascii_lowercase}
+use Rattle.std.specs.Str.{bytes_eq}
+use Rattle.chess_types.specs.bytes.Words.{words}
+
+-- from the horizontal tab to the carriage return, and the space
+abbrev pub gaps : List ℕ
+gaps = 9 ∷ 10 ∷ 11 ∷ 12 ∷ 13 ∷ 32 ∷ []
+
+pub data Command : Type 0 where
+  -- nothing: `debug`, `register`, `ponderhit`, or a line without a command
+  Idle : Command
+  Uci : Command
+  IsReady : Command
+  NewGame : Command
+  -- a position, by the words behind `position`
+  Position : List (List ℕ) → Command
+  -- a position for which there is no memory
+  Unplaced : Command
+  -- a search, by the words behind `go`
+  Go : List (List ℕ) → Command
+  Stop : Command
+  Quit : Command
+  -- an option, by the words behind `setoption`
+  SetOption : List (List ℕ) → Command
+
+abbrev pub is_idle : List ℕ → Bool
+is_idle word = bytes_eq word (codes "debug") || bytes_eq word (codes "register") || bytes_eq word (codes "ponderhit")
+
+abbrev pub named : List ℕ → List (List ℕ) → Option Command
+named word others =
+    if bytes_eq word (codes "uci") then Some Uci
+    else if bytes_eq word (codes "isready") then Some IsReady
+    else if bytes_eq word (codes "ucinewgame") then Some NewGame
+    else if bytes_eq word (codes "position") then Some (Position others)
+    else if bytes_eq word (codes "go") then Some (Go others)
+    else if bytes_eq word (codes "stop") then Some Stop
+    else if bytes_eq word (codes "quit") then Some Quit
+    else if bytes_eq word (codes "setoption") then Some (SetOption others)
+    else if is_idle word then Some Idle
+    else None
+
+-- the first word that is a command decides; words before it are skipped
+abbrev pub command : List (List ℕ) → Command
+command [] = Idle
+command (word ∷ others) = unwrap_or (named word others) (command others)
+
+abbrev pub asked : List ℕ → Command
+asked line = command (words gaps line)
+
+-- the same, where memory is refused: a position alone takes some
+abbrev pub without_memory : Command → Command
+without_memory Idle = Idle
+without_memory Uci = Uci
+without_memory IsReady = IsReady
+without_memory NewGame = NewGame
+without_memory (Position words) = Unplaced
+without_memory Unplaced = Unplaced
+without_memory (Go words) = Go words
+without_memory Stop = Stop
+without_memory Quit = Quit
+without_memory (SetOption words) = SetOption words
+
+-- words that are the same but for the case of their letters
+abbrev pub same_word : List ℕ → List ℕ → Bool
+same_word a b = bytes_eq (map to_ascii_lowercase a) (map to_ascii_lowercase b)
+
+abbrev pub truth_in : List ℕ → Option Bool
+truth_in word = if same_word word (codes "true") then Some true else if same_word word (codes "false") then Some false else None
+
+-- `name Claims value true` or `name Claims value false`, in any case; any other words set nothing
+abbrev pub claims_set : List (List ℕ) → Option Bool
+claims_set (a ∷ b ∷ c ∷ d ∷ []) =
+    if same_word a (codes "name") && same_word b (codes "claims") && same_word c (codes "value") then truth_in d else None
+claims_set _ = None

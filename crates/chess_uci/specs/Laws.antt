@@ -1,0 +1,237 @@
+-- Laws of the machine, over every list of events.
+--   after, replies     the state after some events, and what they are replied
+--   best_moves         how many of some replies tell a best move
+--   taken              how many `go` lines before `quit` are not refused as busy
+--   unfinished         whether a search runs at the end, or ran when `quit` came
+--   AnswersEachGo      as many best moves as such `go` lines, less one where a search is unfinished
+--   cause              the event ends a search, or is a `go` without a legal move
+--   AnswersAtTheEnd    a best move is told exactly there, and once
+--   IsReadyAlone       `isready` is answered at its own event, and all else is as without it
+--   SilentAfterQuit    nothing is answered after `quit`
+--   TellsTheBest       what is told of a depth, and each best move, is the best among the roots
+--   SearchStays        the line, the roots, the last depth and the end of a search stay while it runs
+use Rattle.std.specs.Prelude.{◌≡◌, ⊤, ℕ, zero, suc, ◌+◌, ◌==◌, max, Bool, true, false, ◌&&◌, not, if◌then◌else◌, List, [], ◌∷◌, ◌++◌, length, count_by, Option, Some, None, is_some, ℤ}
+use Rattle.chess_types.specs.board.MoveParts.{MoveParts}
+use Rattle.chess_types.specs.board.Legal.{legal_moves}
+use Rattle.chess_types.specs.board.Lines.{Line as GameLine, last}
+use Rattle.chess_search.specs.Best.{best}
+use Rattle.chess_uci.specs.declared.reply.Reply.{Reply}
+use Rattle.chess_uci.specs.declared.reply.Reply.TheVariants.{Name, Author, ClaimsOption, UciOk, ReadyOk, Refused, OutOfMemory, Busy, Info, BestMove}
+use Rattle.chess_uci.specs.Commands.{Command, Idle, Uci, IsReady, NewGame, Position, Unplaced, Go, Stop, Quit, SetOption, asked, without_memory}
+use Rattle.chess_uci.specs.Go.{fields}
+use Rattle.chess_uci.specs.Machine.{Event, Line, Starved, Slice, Moment, Search, State, beginning, step, is_reached, chosen}
+
+-- the state after some events
+abbrev pub after : State → List Event → State
+after s [] = s
+after s (event ∷ events) = after (step s event).1 events
+
+-- what some events are replied
+abbrev pub replies : State → List Event → List Reply
+replies s [] = []
+replies s (event ∷ events) = (step s event).0 ++ replies (step s event).1 events
+
+abbrev pub one : Bool → ℕ
+one true = 1
+one false = 0
+
+abbrev pub is_best_move : Reply → Bool
+is_best_move Name = false
+is_best_move Author = false
+is_best_move ClaimsOption = false
+is_best_move UciOk = false
+is_best_move ReadyOk = false
+is_best_move Refused = false
+is_best_move OutOfMemory = false
+is_best_move Busy = false
+is_best_move (Info depth m value) = false
+is_best_move (BestMove m) = true
+
+abbrev pub best_moves : List Reply → ℕ
+best_moves rs = count_by is_best_move rs
+
+abbrev pub is_go : Command → Bool
+is_go Idle = false
+is_go Uci = false
+is_go IsReady = false
+is_go NewGame = false
+is_go (Position words) = false
+is_go Unplaced = false
+is_go (Go words) = true
+is_go Stop = false
+is_go Quit = false
+is_go (SetOption words) = false
+
+abbrev pub is_quit : Command → Bool
+is_quit Idle = false
+is_quit Uci = false
+is_quit IsReady = false
+is_quit NewGame = false
+is_quit (Position words) = false
+is_quit Unplaced = false
+is_quit (Go words) = false
+is_quit Stop = false
+is_quit Quit = true
+is_quit (SetOption words) = false
+
+abbrev pub says_go : Event → Bool
+says_go (Line bytes) = is_go (asked bytes)
+says_go (Starved bytes) = is_go (without_memory (asked bytes))
+says_go Slice = false
+says_go (Moment moment) = false
+
+abbrev pub says_quit : Event → Bool
+says_quit (Line bytes) = is_quit (asked bytes)
+says_quit (Starved bytes) = is_quit (without_memory (asked bytes))
+says_quit Slice = false
+says_quit (Moment moment) = false
+
+-- a search runs
+abbrev pub running : State → ℕ
+running s = one (is_some s.search)
+
+-- a `go` line that is not refused as busy
+abbrev pub is_taken : Bool → Bool → Bool → Bool
+is_taken true searching go = false
+is_taken false true go = false
+is_taken false false go = go
+
+-- how many such lines are among the events before `quit`
+abbrev pub taken : State → List Event → ℕ
+taken s [] = 0
+taken s (event ∷ events) = one (is_taken s.ended (is_some s.search) (says_go event)) + taken (step s event).1 events
+
+-- whether a search runs at the end, or ran when `quit` came
+abbrev pub unfinished : State → List Event → ℕ
+unfinished s [] = running s
+unfinished s (event ∷ events) = if says_quit event then running s else unfinished (step s event).1 events
+
+-- As many best moves as `go` lines before `quit` that are not refused as busy, less one where a search runs or ran at `quit`.
+abbrev pub AnswersEachGo : Type 0
+AnswersEachGo =
+    (events : List Event) →
+    best_moves (replies beginning events) + unfinished beginning events ≡ taken beginning events
+
+-- Why an event is replied a best move.
+abbrev pub by_depth : Option Search → Bool
+by_depth None = false
+by_depth (Some x) = x.searched + 1 == length x.roots && x.depth == x.last && not x.infinite
+
+abbrev pub by_time : Option Search → ℕ → Bool
+by_time None moment = false
+by_time (Some x) moment = is_reached x.end moment
+
+-- a `go` without a legal move that is not infinite
+abbrev pub at_once : List MoveParts → Bool → Bool
+at_once [] infinite = not infinite
+at_once (m ∷ ms) infinite = false
+
+abbrev pub by_command : GameLine → Command → Bool
+by_command l Idle = false
+by_command l Uci = false
+by_command l IsReady = false
+by_command l NewGame = false
+by_command l (Position words) = false
+by_command l Unplaced = false
+by_command l (Go words) = at_once (legal_moves (last l)) (fields words).infinite
+by_command l Stop = false
+by_command l Quit = false
+by_command l (SetOption words) = false
+
+abbrev pub is_stop : Command → Bool
+is_stop Idle = false
+is_stop Uci = false
+is_stop IsReady = false
+is_stop NewGame = false
+is_stop (Position words) = false
+is_stop Unplaced = false
+is_stop (Go words) = false
+is_stop Stop = true
+is_stop Quit = false
+is_stop (SetOption words) = false
+
+abbrev pub by_line : GameLine → Option Search → Command → Bool
+by_line l None command = by_command l command
+by_line l (Some x) command = is_stop command
+
+-- a search ends by its last depth, by time or by `stop`, or a `go` is answered at once
+abbrev pub cause : State → Event → Bool
+cause s (Line bytes) = by_line s.line s.search (asked bytes)
+cause s (Starved bytes) = by_line s.line s.search (without_memory (asked bytes))
+cause s Slice = by_depth s.search
+cause s (Moment moment) = by_time s.search (max s.moment moment)
+
+-- A best move is replied exactly there, and once.
+abbrev pub AnswersAtTheEnd : Type 0
+AnswersAtTheEnd =
+    (events : List Event) (event : Event) →
+    let s = after beginning events in
+    s.ended ≡ false → best_moves (step s event).0 ≡ one (cause s event)
+
+-- `isready` is answered at its own event, and all else is as without it.
+abbrev pub IsReadyAlone : Type 0
+IsReadyAlone =
+    (before later : List Event) (line : List ℕ) →
+    let s = after beginning before in
+    asked line ≡ IsReady → s.ended ≡ false →
+    (replies beginning (before ++ Line line ∷ later) ≡ replies beginning before ++ ReadyOk ∷ replies s later)
+    × (replies beginning (before ++ later) ≡ replies beginning before ++ replies s later)
+    × (after beginning (before ++ Line line ∷ later) ≡ after beginning (before ++ later))
+
+-- After `quit` nothing is answered.
+abbrev pub SilentAfterQuit : Type 0
+SilentAfterQuit =
+    (before later : List Event) (line : List ℕ) →
+    asked line ≡ Quit → replies beginning (before ++ Line line ∷ later) ≡ replies beginning before
+
+-- the best at the last completed depth
+abbrev pub best_done : GameLine → Search → ℕ → Option (MoveParts × ℤ)
+best_done l x zero = None
+best_done l x (suc d) = best x.claims (suc d) l x.roots
+
+-- each element of a list
+abbrev pub Each : {X : Type 0} → (X → Type 0) → List X → Type 0
+Each P [] = ⊤
+Each P (x ∷ xs) = P x × Each P xs
+
+-- the last depth that is complete after an event that ends a search
+abbrev pub finished : Search → Event → ℕ
+finished x (Line bytes) = x.done
+finished x (Starved bytes) = x.done
+finished x Slice = x.depth
+finished x (Moment moment) = x.done
+
+-- What a reply tells is the best at its depth among the roots, on the line as it is.
+abbrev pub TellsBest : GameLine → Option Search → Event → Reply → Type 0
+TellsBest l x event Name = ⊤
+TellsBest l x event Author = ⊤
+TellsBest l x event ClaimsOption = ⊤
+TellsBest l x event UciOk = ⊤
+TellsBest l x event ReadyOk = ⊤
+TellsBest l x event Refused = ⊤
+TellsBest l x event OutOfMemory = ⊤
+TellsBest l x event Busy = ⊤
+TellsBest l None event (Info depth m value) = ⊥
+TellsBest l (Some x) event (Info depth m value) = (depth ≡ x.depth) × (best x.claims depth l x.roots ≡ Some (m, value))
+TellsBest l None event (BestMove m) = m ≡ None
+TellsBest l (Some x) event (BestMove m) = m ≡ chosen (best_done l x (finished x event)) x.roots
+
+-- Each `info` and each best move is the best among the roots at the depth that it names, or the last completed, whatever events came before.
+abbrev pub TellsTheBest : Type 0
+TellsTheBest =
+    (events : List Event) (event : Event) →
+    let s = after beginning events in
+    Each (TellsBest s.line s.search event) (step s event).0
+
+-- the same search goes on, on the same line
+abbrev pub GoesOn : GameLine → Search → GameLine → Option Search → Type 0
+GoesOn l x m None = ⊤
+GoesOn l x m (Some y) =
+    (m ≡ l) × (y.claims ≡ x.claims) × (y.roots ≡ x.roots) × (y.last ≡ x.last) × (y.infinite ≡ x.infinite) × (y.end ≡ x.end)
+
+-- While a search runs, its line, its roots, its last depth and its end stay.
+abbrev pub SearchStays : Type 0
+SearchStays =
+    (events : List Event) (event : Event) (x : Search) →
+    let s = after beginning events in
+    s.search ≡ Some x → GoesOn s.line x (step s event).1.line (step s event).1.search

@@ -1,0 +1,76 @@
+-- The line that the words behind `position` name.
+--   start_line   a game as it begins
+--   begun_by     where the line begins: `startpos`, or `fen` and the words of a FEN
+--   named_move   the legal move that a word names in long algebraic notation
+--   played       the line with the moves that the words name, at most 20,000
+--   placed       the line, where there is one
+use Rattle.std.specs.Prelude.{ℕ, Bool, nat_le, if◌then◌else◌, List, [], ◌∷◌, ◌++◌, length, fold, find, Option, Some, None, codes, Result, Ok, Err}
+use Rattle.std.specs.List.{flat_map}
+use Rattle.std.specs.Str.{bytes_eq}
+use Rattle.chess_types.specs.board.MoveParts.{MoveParts}
+use Rattle.chess_types.specs.board.Position.{State, start}
+use Rattle.chess_types.specs.board.Texts.{move_text}
+use Rattle.chess_types.specs.board.Legal.{legal_moves}
+use Rattle.chess_types.specs.board.Lines.{Line, last, extended}
+use Rattle.chess_fen.specs.declared.fault.FenFault.{FenFault}
+use Rattle.chess_fen.specs.Reading.{reading}
+
+-- no move is made from the position
+abbrev pub from_position : State → Line
+from_position p = record { start = p; moves = [] }
+
+abbrev pub start_line : Line
+start_line = from_position start
+
+abbrev pub is_moves : List ℕ → Bool
+is_moves word = bytes_eq word (codes "moves")
+
+-- the words before the first `moves`, and those behind it
+abbrev pub before_moves : List (List ℕ) → List (List ℕ)
+before_moves [] = []
+before_moves (word ∷ words) = if is_moves word then [] else word ∷ before_moves words
+
+abbrev pub behind_moves : List (List ℕ) → List (List ℕ)
+behind_moves [] = []
+behind_moves (word ∷ words) = if is_moves word then words else behind_moves words
+
+-- where there is a position and no fault
+abbrev pub if_read : Result State FenFault → Option Line
+if_read (Ok p) = Some (from_position p)
+if_read (Err fault) = None
+
+-- nothing stands behind `startpos`
+abbrev pub if_alone : List (List ℕ) → Option Line
+if_alone [] = Some start_line
+if_alone (word ∷ words) = None
+
+-- the words, each with a space behind it
+abbrev pub spaced : List (List ℕ) → List ℕ
+spaced words = flat_map (λ word. word ++ codes " ") words
+
+-- the words behind `fen`, parted by spaces, are the FEN
+abbrev pub begun_by : List (List ℕ) → Option Line
+begun_by [] = None
+begun_by (word ∷ words) =
+    if bytes_eq word (codes "startpos") then if_alone words
+    else if bytes_eq word (codes "fen") then if_read (reading (spaced words))
+    else None
+
+abbrev pub named_move : Line → List ℕ → Option MoveParts
+named_move line word = find (λ m. bytes_eq word (move_text m)) (legal_moves (last line))
+
+-- a line has at most 20,000 moves
+abbrev pub with_move : Line → Option MoveParts → Option Line
+with_move line None = None
+with_move line (Some m) = if nat_le 20000 (length line.moves) then None else Some (extended line m)
+
+abbrev pub with_word : Option Line → List ℕ → Option Line
+with_word None word = None
+with_word (Some line) word = with_move line (named_move line word)
+
+-- from left to right; none where a word names no move, or no line is there to begin with
+abbrev pub played : Option Line → List (List ℕ) → Option Line
+played line words = fold with_word line words
+
+abbrev pub placed : List (List ℕ) → Option Line
+placed words = played (begun_by (before_moves words)) (behind_moves words)

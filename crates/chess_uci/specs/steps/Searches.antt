@@ -1,0 +1,71 @@
+-- The code's events, searches and turns as those of the machine.
+--   event_of, starved   an event; the same where memory is refused
+--   search_of, seen     a search that runs, or none
+--   turn_of             what a turn replies and leaves
+--   GoesOn, IsGoing     the search is one of the line, and where it has no root left it is infinite
+--   HasBegun            it has begun at the moment or before
+--   Does, Follows       the replies and the new state are those of a step, or of an event
+use Rattle.std.specs.Prelude.{◌≡◌, ⊤, ℕ, ◌+◌, ◌≤◌, Bool, true, false, ◌⊎◌, List, length, Option, Some, None, option_map}
+use Rattle.chess_types.specs.board.Lines.{Line as GameLine}
+use Rattle.chess_search.specs.Slices.{GoesWith}
+use Rattle.chess_uci.specs.declared.reply.Reply.{Reply}
+use Rattle.chess_uci.specs.declared.search.Search.{Search as Code}
+use Rattle.chess_uci.specs.declared.search.Turn.{Turn as TurnCode}
+use Rattle.chess_uci.specs.declared.event.Event.{Event as EventCode}
+use Rattle.chess_uci.specs.declared.event.Event.TheVariants.{Line as LineCode, Slice as SliceCode, Moment as MomentCode}
+use Rattle.chess_uci.specs.Machine.{Search, State, Step, Turn, Event, Line, Slice, Moment, Starved, step}
+
+abbrev pub event_of : EventCode → Event
+event_of (LineCode line) = Line line.now
+event_of SliceCode = Slice
+event_of (MomentCode moment) = Moment moment
+
+abbrev pub starved : EventCode → Event
+starved (LineCode line) = Starved line.now
+starved SliceCode = Slice
+starved (MomentCode moment) = Moment moment
+
+abbrev pub search_of : Code → Search
+search_of x = record {
+  claims = x.slices.claims;
+  roots = x.slices.roots;
+  last = x.last;
+  infinite = x.infinite;
+  end = option_map (λ b. x.begin + b) x.budget;
+  depth = x.slices.depth;
+  searched = x.slices.searched;
+  done = x.done;
+  completed = x.completed;
+}
+
+abbrev pub seen : Option Code → Option Search
+seen x = option_map search_of x
+
+abbrev pub unless_over : Bool → Code → Option Search
+unless_over true x = None
+unless_over false x = Some (search_of x)
+
+abbrev pub turn_of : TurnCode → Code → Turn
+turn_of t x = (t.replies.items, unless_over t.over x)
+
+pub record GoesOn (line : GameLine) (x : Code) : Type 0 where
+  pub goes : GoesWith line x.slices
+  pub shallow : x.last ≤ 16
+  pub depth : x.slices.depth ≤ x.last
+  pub deep : 1 ≤ x.slices.depth
+  pub waits : length x.slices.roots ≤ x.slices.searched → x.infinite ≡ true
+
+abbrev pub IsGoing : GameLine → Option Code → Type 0
+IsGoing line None = ⊤
+IsGoing line (Some x) = GoesOn line x
+
+abbrev pub HasBegun : ℕ → Option Code → Type 0
+HasBegun moment None = ⊤
+HasBegun moment (Some x) = x.begin ≤ moment
+
+abbrev pub Does : Step → List Reply → State → Type 0
+Does t replies new = (replies ≡ t.0) × (new ≡ t.1)
+
+-- the replies and the new state are those of the event, or of the event for which memory is refused
+abbrev pub Follows : State → EventCode → List Reply → State → Type 0
+Follows old event replies new = Does (step old (event_of event)) replies new ⊎ Does (step old (starved event)) replies new

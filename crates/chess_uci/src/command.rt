@@ -1,0 +1,106 @@
+ghost use Rattle.std.specs.Prelude.{◌≡◌};
+ghost use Rattle.chess_types.specs.bytes.Words.{words};
+ghost use Rattle.chess_uci.specs.Commands.{gaps, asked as asked_of, named as named_by, is_idle, same_word, truth_in, claims_set};
+ghost use Rattle.chess_uci.specs.steps.Commands.{command_of, named_of};
+
+use chess_types::split_word;
+
+/// The bytes that part words.
+pub(crate) const GAPS: &[u8] = b"\t\n\x0b\x0c\r ";
+
+/// What a line asks for, with what stands behind the command.
+#[derive(Clone, Copy, Debug, PartialEq, Eq)]
+pub(crate) enum Command<'a> {
+    Idle,
+    Uci,
+    IsReady,
+    NewGame,
+    Position(&'a [u8]),
+    Go(&'a [u8]),
+    Stop,
+    Quit,
+    SetOption(&'a [u8]),
+}
+
+fn is_idle(word: &[u8]) -> bool
+    ensures { result ≡ is_idle word.now }
+{
+    word == b"debug".as_slice() || word == b"register".as_slice() || word == b"ponderhit".as_slice()
+}
+
+// The command that the word names.
+fn named<'a>(word: &[u8], rest: &'a [u8]) -> Option<Command<'a>>
+    ensures { named_of result ≡ named_by word.now (words gaps rest.now) }
+{
+    if word == b"uci".as_slice() {
+        Some(Command::Uci)
+    } else if word == b"isready".as_slice() {
+        Some(Command::IsReady)
+    } else if word == b"ucinewgame".as_slice() {
+        Some(Command::NewGame)
+    } else if word == b"position".as_slice() {
+        Some(Command::Position(rest))
+    } else if word == b"go".as_slice() {
+        Some(Command::Go(rest))
+    } else if word == b"stop".as_slice() {
+        Some(Command::Stop)
+    } else if word == b"quit".as_slice() {
+        Some(Command::Quit)
+    } else if word == b"setoption".as_slice() {
+        Some(Command::SetOption(rest))
+    } else if is_idle(word) {
+        Some(Command::Idle)
+    } else {
+        None
+    }
+}
+
+/// What the line asks for: its first word that is a command decides.
+pub(crate) fn asked(line: &[u8]) -> Command<'_>
+    ensures { command_of result ≡ asked_of line.now }
+{
+    let mut rest = line;
+    while let Some((word, others)) = split_word(rest, GAPS) {
+        if let Some(command) = named(word, others) {
+            return command;
+        }
+        rest = others;
+    }
+    Command::Idle
+}
+
+fn same_word(word: &[u8], other: &[u8]) -> bool
+    ensures { result ≡ same_word word.now other.now }
+{
+    word.eq_ignore_ascii_case(other)
+}
+
+fn truth_in(word: &[u8]) -> Option<bool>
+    ensures { result ≡ truth_in word.now }
+{
+    if same_word(word, b"true") {
+        Some(true)
+    } else if same_word(word, b"false") {
+        Some(false)
+    } else {
+        None
+    }
+}
+
+/// What the words behind `setoption` set the option Claims to, if they do.
+pub(crate) fn claims_set(rest: &[u8]) -> Option<bool>
+    ensures { result ≡ claims_set (words gaps rest.now) }
+{
+    let (a, rest) = split_word(rest, GAPS)?;
+    let (b, rest) = split_word(rest, GAPS)?;
+    let (c, rest) = split_word(rest, GAPS)?;
+    let (d, rest) = split_word(rest, GAPS)?;
+    if split_word(rest, GAPS).is_some() {
+        return None;
+    }
+    if same_word(a, b"name") && same_word(b, b"claims") && same_word(c, b"value") {
+        truth_in(d)
+    } else {
+        None
+    }
+}

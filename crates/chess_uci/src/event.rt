@@ -1,0 +1,10 @@
+/// What happens to a session.
+#[derive(Clone, Copy, Debug, PartialEq, Eq)]
+pub enum Event<'a> {
+    /// A line is read, given without its line feed.
+    Line(&'a [u8]),
+    /// There is time to search one root more.
+    Slice,
+    /// The clock reads so many milliseconds, from any beginning.
+    Moment(u64),
+}

@@ -1,0 +1,184 @@
+ghost use Rattle.std.specs.Prelude.{◌≡◌, ◌≤◌, ◌<◌, ◌∷◌, ◌++◌, [], ◌+◌, ◌==◌, Some, None, option_map, false, length};
+ghost use Rattle.chess_types.specs.board.Lines.{Line as GameLine};
+ghost use Rattle.chess_search.specs.Slices.{GoesWith, IsInRange};
+ghost use Rattle.chess_draws.specs.LineParts.{IsAsBefore};
+ghost use Rattle.chess_uci.specs.Machine.{slice, is_reached, ended_with, info, chosen, first_root, complete};
+ghost use Rattle.chess_uci.specs.steps.Searches.{GoesOn, search_of, turn_of};
+
+use crate::reply::Reply;
+use arrayvec::ArrayVec;
+use chess_draws::Line;
+use chess_search::Slices;
+use chess_types::Move;
+use std::alloc::Allocator;
+
+/// A search that runs.
+#[derive(Drop)]
+pub(crate) struct Search {
+    pub(crate) slices: Slices,
+    pub(crate) last: u8,
+    pub(crate) infinite: bool,
+    /// The moment at which it began.
+    pub(crate) begin: u64,
+    /// The milliseconds that it may take, if it is timed.
+    pub(crate) budget: Option<u32>,
+    /// The last completed depth, 0 before the first.
+    pub(crate) done: u8,
+    /// The best at that depth.
+    pub(crate) completed: Option<(Move, i32)>,
+}
+
+/// What is replied to a slice, and whether the search has ended.
+#[derive(Drop)]
+pub(crate) struct Turn {
+    pub(crate) replies: ArrayVec<Reply, 4>,
+    pub(crate) over: bool,
+}
+
+/// No reply.
+pub(crate) fn silence() -> ArrayVec<Reply, 4>
+    ensures { result.items ≡ [] }
+{
+    ArrayVec::new()
+}
+
+/// A list of one.
+pub(crate) fn one<T: Default + Drop>(item: T) -> ArrayVec<T, 4>
+    ensures { result.items ≡ item ∷ [] }
+{
+    let mut list = ArrayVec::new();
+    list.push(item);
+    list
+}
+
+// A list of two.
+fn two<T: Default + Drop>(first: T, second: T) -> ArrayVec<T, 4>
+    ensures { result.items ≡ first ∷ second ∷ [] }
+{
+    let mut list = ArrayVec::new();
+    list.push(first);
+    list.push(second);
+    list
+}
+
+// Nothing is replied, and the search goes on.
+fn quiet() -> Turn
+    ensures replies { result.replies.items ≡ [] }
+    ensures over { result.over ≡ false }
+{
+    Turn {
+        replies: silence(),
+        over: false,
+    }
+}
+
+// The first root.
+fn first_root(roots: &ArrayVec<Move, 432>) -> Option<Move>
+    ensures { result ≡ first_root roots.now.items }
+{
+    match roots.as_slice() {
+        [] => None,
+        [first, ..] => Some(*first),
+    }
+}
+
+impl Search {
+    /// What is replied when it ends.
+    pub(crate) fn end(&self) -> ArrayVec<Reply, 4>
+        ensures { result.items ≡ (ended_with self.now.completed self.now.slices.roots).0 }
+    {
+        match self.completed {
+            Some((best, _value)) => one(Reply::BestMove(Some(best))),
+            None => one(Reply::BestMove(first_root(self.slices.roots()))),
+        }
+    }
+
+    // What is told of the completed depth.
+    fn info(&self) -> ArrayVec<Reply, 4>
+        ensures { result.items ≡ info self.now.done self.now.completed }
+    {
+        match self.completed {
+            Some((best, value)) => one(Reply::Info {
+                depth: self.done,
+                best,
+                value,
+            }),
+            None => silence(),
+        }
+    }
+
+    // What is told of it where the search ends with it.
+    fn last_info(&self) -> ArrayVec<Reply, 4>
+        ensures { result.items ≡ info self.now.done self.now.completed ++ Reply.BestMove (chosen self.now.completed self.now.slices.roots) ∷ [] }
+    {
+        match self.completed {
+            Some((best, value)) => two(
+                Reply::Info {
+                    depth: self.done,
+                    best,
+                    value,
+                },
+                Reply::BestMove(Some(best)),
+            ),
+            None => self.end(),
+        }
+    }
+
+    /// Whether the moment ends it.
+    pub(crate) fn is_reached(&self, moment: u64) -> bool
+        requires { self.now.begin ≤ moment }
+        ensures { result ≡ is_reached (option_map (λ b. self.now.begin + b) self.now.budget) moment }
+    {
+        match self.budget {
+            Some(budget) => moment - self.begin >= u64::from(budget),
+            None => false,
+        }
+    }
+
+    // A depth is complete, with its best move.
+    fn complete(&mut self, best: Option<(Move, i32)>) -> Turn
+        requires depth { self.old.slices.depth ≤ self.old.last }
+        requires last { self.old.last ≤ 16 }
+        requires all { self.old.slices.searched ≡ length self.old.slices.roots }
+        ensures turn { turn_of result self.new ≡ complete (self.old.slices.depth == self.old.last) self.old.infinite (search_of self.old) best }
+        ensures going { (line : GameLine) → GoesWith line self.old.slices → 0 < length self.old.slices.roots → result.over ≡ false → GoesOn line self.new }
+        ensures begun { self.new.begin ≡ self.old.begin }
+    {
+        self.done = self.slices.depth();
+        self.completed = best;
+        if self.done == self.last && !self.infinite {
+            return Turn {
+                replies: self.last_info(),
+                over: true,
+            };
+        }
+        if self.done < self.last {
+            self.slices.again(self.done + 1);
+        }
+        Turn {
+            replies: self.info(),
+            over: false,
+        }
+    }
+
+    /// Searches one root more, if one is left.
+    pub(crate) fn slice<A: Allocator>(&mut self, line: &mut Line<'_, A>) -> Turn
+        requires none { line.old.looked ≡ 0 }
+        requires goes { GoesOn line.old.line self.old }
+        ensures turn { turn_of result self.new ≡ slice line.old.line (search_of self.old) }
+        ensures going { result.over ≡ false → GoesOn line.old.line self.new }
+        ensures begun { self.new.begin ≡ self.old.begin }
+        ensures line { IsAsBefore line.old line.new }
+    {
+        let roots = self.slices.roots().len();
+        if self.slices.searched() >= roots {
+            return quiet();
+        }
+        self.slices.next(line);
+        if self.slices.searched() < roots {
+            return quiet();
+        }
+        let best = self.slices.done();
+        self.complete(best)
+    }
+}
