@@ -1,20 +1,14 @@
-ghost use Rattle.std.specs.Prelude.{◌≡◌, ◌+◌, ◌≤◌, true};
-ghost use Rattle.std.specs.List.{All};
-ghost use Rattle.chess_types.specs.board.Legal.{is_legal};
-ghost use Rattle.chess_types.specs.board.Lines.{last};
+ghost use Rattle.std.specs.Prelude.{◌≡◌, ◌+◌, ◌≤◌};
 ghost use Rattle.chess_draws.specs.LineParts.{IsAsBefore};
 ghost use Rattle.chess_search.specs.Scores.{IsValue};
 ghost use Rattle.chess_search.specs.Slices.{IsInRange};
 
 use crate::search::evaluation_for;
 use crate::{Nodes, Slices, best_counted, score_text};
-use arrayvec::ArrayVec;
 use chess_draws::Line;
 use chess_fen::read;
 use chess_key::KeyTable;
 use chess_types::{Move, Position};
-use rand_core::utils::NextWord;
-use rand_pcg::Pcg64;
 use std::alloc::Allocator;
 use std::process::Abort;
 use std::test::Fail;
@@ -81,19 +75,15 @@ fn plain_value<A: Allocator>(line: &mut Line<'_, A>, depth: u8, distance: u8, cl
     best
 }
 
-/// The first of the roots of greatest plain value.
-fn plain_best<A: Allocator>(
-    line: &mut Line<'_, A>,
-    depth: u8,
-    roots: &ArrayVec<Move, 432>,
-    claims: bool,
-) -> Option<(Move, i32)>
+/// The first of the legal moves of greatest plain value.
+#[tactic(auto, using(chess_moves::proofs::LegalLaws::moves_legal))]
+fn plain_best<A: Allocator>(line: &mut Line<'_, A>, depth: u8, claims: bool) -> Option<(Move, i32)>
     requires none { line.old.looked ≡ 0 }
     requires deep { 1 ≤ depth }
     requires shallow { depth ≤ 16 }
-    requires roots { All (λ m. is_legal (last line.old.line) m ≡ true) roots.now.items }
     ensures line { IsAsBefore line.old line.new }
 {
+    let roots = line.moves();
     let mut best = None;
     for m in roots.as_slice() {
         line.look(*m);
@@ -107,27 +97,6 @@ fn plain_best<A: Allocator>(
     best
 }
 
-/// Whether both agree on the first so many of the legal moves.
-#[tactic(auto, using(crate::proofs::RootLemmas::roots_legal, std::proofs::lemmas::List::Elements::All_take))]
-fn agree_on<A: Allocator>(
-    rt: &impl Abort,
-    line: &mut Line<'_, A>,
-    depth: u8,
-    few: usize,
-    claims: bool,
-)
-    requires none { line.old.looked ≡ 0 }
-    requires deep { 1 ≤ depth }
-    requires shallow { depth ≤ 16 }
-    ensures line { IsAsBefore line.old line.new }
-{
-    let mut roots = line.moves();
-    roots.truncate(few);
-    let mut nodes = Nodes::new();
-    let best = best_counted(line, depth, &roots, &mut nodes, claims);
-    assert_eq!(rt; best, plain_best(line, depth, &roots, claims));
-}
-
 /// Whether both agree on the position.
 fn agrees<A: Allocator>(rt: &impl Abort, alloc: A, fen: &[u8], depth: u8, claims: bool)
     requires deep { 1 ≤ depth }
@@ -135,7 +104,9 @@ fn agrees<A: Allocator>(rt: &impl Abort, alloc: A, fen: &[u8], depth: u8, claims
 {
     let table = KeyTable::new([0; 768]);
     let mut line = Line::start(alloc, at(rt, fen), &table);
-    agree_on(rt, &mut line, depth, 432, claims);
+    let mut nodes = Nodes::new();
+    let best = best_move(&mut line, depth, &mut nodes, claims);
+    assert_eq!(rt; best, plain_best(&mut line, depth, claims));
 }
 
 /// The text of the best move of the position and its score.
@@ -214,50 +185,6 @@ fn agrees_with_plain_minimax(rt: HostRuntime) {
     agrees(&rt, rt.alloc(), START, 3, false);
     agrees(&rt, rt.alloc(), fens[1], 3, false);
     agrees(&rt, rt.alloc(), fens[5], 4, true);
-}
-
-/// Some random legal moves are made on the line.
-fn play_on<A: Allocator>(rt: &impl Abort, line: &mut Line<'_, A>, random: &mut Pcg64, plies: u64)
-    requires none { line.old.looked ≡ 0 }
-    ensures none { line.new.looked ≡ 0 }
-{
-    for _ply in 0..plies {
-        let moves = line.moves();
-        if moves.is_empty() {
-            return;
-        }
-        let place = (random.next_word() % (moves.len() as u64)) as usize;
-        let m = moves.as_slice()[place];
-        assert!(rt; line.push(m).is_ok());
-    }
-}
-
-/// How many random lines are searched.
-const LINES: u64 = 2_000;
-
-/// Lines of random moves, to and fro with few men, so that positions come again.
-#[test]
-fn agrees_on_random_lines(rt: HostRuntime) {
-    let fens: [&[u8]; 4] = [
-        START,
-        b"r3k2r/p1ppqpb1/bn2pnp1/3PN3/1p2P3/2N2Q1p/PPPBBPPP/R3K2R w KQkq - 0 1",
-        b"8/2p5/3p4/KP5r/1R3p1k/8/4P1P1/8 w - - 0 1",
-        b"7k/8/8/8/8/8/7P/K6B w - - 94 80",
-    ];
-    let table = KeyTable::new([0; 768]);
-    let mut random = Pcg64::new(5, 11);
-    for number in 0..LINES {
-        let word: u64 = random.next_word();
-        let fen = fens[(word % 4) as usize];
-        let mut line = Line::start(rt.alloc(), at(&rt, fen), &table);
-        play_on(&rt, &mut line, &mut random, word / 4 % 24);
-        let claims = word / 128 % 2 == 0;
-        match number % 8 {
-            0 => agree_on(&rt, &mut line, 3, 2, claims),
-            1..=4 => agree_on(&rt, &mut line, 2, 1 + (word / 256 % 8) as usize, claims),
-            _ => agree_on(&rt, &mut line, 1, 1 + (word / 256 % 40) as usize, claims),
-        }
-    }
 }
 
 #[test]

@@ -37,7 +37,7 @@ fn assert_replies<A: Allocator>(
     input: &[u8],
     output: &[u8],
 ) {
-    for piece in [1, 7, 65_536] {
+    for piece in 1..9usize {
         let mut reader = FromBytes::new(input, piece);
         let mut room = [0; 2000];
         let mut writer = ToBytes::new(&mut room, piece);
