@@ -131,21 +131,31 @@ fn faults_of_a_text(rt: HostRuntime) -> Result<(), Fail> {
     Ok(())
 }
 
-/// What the games of a source are until none or a fault comes: how many there were, and the fault.
+/// How many of the first three games of a source come before none or a fault does, and the fault.
 fn all_games(alloc: &impl Allocator, text: &[u8], piece: usize) -> (u32, Option<GamesFault>)
     requires { 0 < piece }
 {
     let table = KeyTable::new([0; 768]);
     let mut games = Games::new(alloc, &table, FromBytes::new(text, piece));
-    let mut count = 0u32;
-    for _ in 0..100u32 {
-        match games.next() {
-            Ok(Some(_)) => count = count.saturating_add(1),
-            Ok(None) => return (count, None),
-            Err(fault) => return (count, Some(fault)),
-        }
+    match games.next() {
+        Ok(Some(_game)) => {}
+        Ok(None) => return (0, None),
+        Err(fault) => return (0, Some(fault)),
     }
-    (count, None)
+    match games.next() {
+        Ok(Some(_game)) => {}
+        Ok(None) => return (1, None),
+        Err(fault) => return (1, Some(fault)),
+    }
+    match games.next() {
+        Ok(Some(_game)) => {}
+        Ok(None) => return (2, None),
+        Err(fault) => return (2, Some(fault)),
+    }
+    match games.next() {
+        Ok(_) => (3, None),
+        Err(fault) => (3, Some(fault)),
+    }
 }
 
 /// That fault of a source.
