@@ -1,3 +1,4 @@
+mod games;
 mod lines;
 mod live;
 mod long;
