@@ -1,13 +1,15 @@
-ghost use Rattle.std.specs.Prelude.{◌≡◌, ◌≤◌, OnOk, OnErr};
+ghost use Rattle.std.specs.Prelude.{◌≡◌, OnOk, OnErr};
 ghost use Rattle.chess_types.specs.board.Lines.{last};
 ghost use Rattle.chess_tree.specs.GameTree.{line_to};
 
 mod analysis;
+mod calls;
 mod edits;
 mod long;
 mod random;
 mod read;
 mod refused;
+mod walk;
 
 use crate::{NodeRef, Tree, TreeFault};
 use chess_key::KeyTable;
@@ -19,6 +21,11 @@ use std::process::Abort;
 
 fn a_move(rt: &impl Abort, text: &str) -> Move {
     Move::parse(text.as_bytes()).expect(rt, "a move")
+}
+
+/// Words for keys.
+fn a_table() -> KeyTable {
+    KeyTable::new([7; 768])
 }
 
 /// The tree of a game that begins.
@@ -73,7 +80,7 @@ fn add_on<A: Allocator>(
 
 /// Adds the move of that text, which is legal at the cursor.
 fn add<A: Allocator>(rt: &impl Abort, tree: &mut Tree<'_, A>, text: &str) -> Result<(), TreeFault> {
-    let table = KeyTable::new([7; 768]);
+    let table = a_table();
     let mut live = position_here(rt, tree, &table);
     add_on(rt, tree, &mut live, text)
 }

@@ -1,7 +1,7 @@
 ghost use Rattle.std.specs.Prelude.{◌≡◌, ◌<◌, ◌≤◌, ◌++◌, ◌∷◌, [], nat_le, true, length, Err, MatchResult, IfOk, IfErr, OnOk, OnErr};
 ghost use Rattle.chess_types.specs.board.Legal.{is_legal};
 ghost use Rattle.chess_types.specs.board.Lines.{extended, last};
-ghost use Rattle.chess_tree.specs.declared.fault.TreeFault.TheVariants.{NoSuch, AtRoot, Full, BadComment, Memory};
+ghost use Rattle.chess_tree.specs.declared.fault.TreeFault.TheVariants.{NoSuch, AtRoot, Full, Memory};
 ghost use Rattle.chess_tree.specs.Forest.{Bare, count, moves_held};
 ghost use Rattle.chess_tree.specs.Edits.{parent};
 ghost use Rattle.chess_tree.specs.GameTree.{added, at_path, line_to, nodes_here};

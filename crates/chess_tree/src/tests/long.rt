@@ -1,6 +1,9 @@
-use super::{add, add_on, begin, position_here};
+use super::calls::Call::{Add, Back, Delete, Goto, Step};
+use super::calls::Look::{ChildCount, Depth, Path};
+use super::calls::Row::{Does, Fails, Shows};
+use super::calls::run;
+use super::{a_table, add_on, begin, position_here};
 use crate::{Tree, TreeFault};
-use chess_key::KeyTable;
 use std::alloc::Allocator;
 use std::process::Abort;
 use std::test::Fail;
@@ -8,7 +11,7 @@ use std::test::Fail;
 /// 20,000 plies more below the root.
 fn lengthen<A: Allocator>(rt: &impl Abort, tree: &mut Tree<'_, A>) -> Result<(), TreeFault> {
     tree.start();
-    let table = KeyTable::new([7; 768]);
+    let table = a_table();
     let mut live = position_here(rt, tree, &table);
     for _ in 0..5_000u32 {
         add_on(rt, tree, &mut live, "g1f3")?;
@@ -44,12 +47,19 @@ fn a_long_main_line_is_deleted(rt: HostRuntime) -> Result<(), Fail> {
     let mut tree = a_long_line(&rt, &alloc)?;
     tree.start();
     tree.first()?;
-    tree.delete()?;
-    assert_eq!(rt; (tree.depth(), tree.child_count()), (0, 0));
-    add(&rt, &mut tree, "e2e4")?;
-    add(&rt, &mut tree, "e7e5")?;
-    assert_eq!(rt; tree.child_count(), 0);
-    assert_eq!(rt; tree.path()?.as_slice(), [0, 0].as_slice());
+    run(
+        &rt,
+        &mut tree,
+        &[
+            Does(Delete),
+            Shows(Depth(0)),
+            Shows(ChildCount(0)),
+            Does(Add("e2e4")),
+            Does(Add("e7e5")),
+            Shows(ChildCount(0)),
+            Shows(Path(&[0, 0])),
+        ],
+    );
     Ok(())
 }
 
@@ -61,17 +71,24 @@ fn a_full_tree(rt: HostRuntime) -> Result<(), Fail> {
     for _ in 0..50 {
         lengthen(&rt, &mut tree)?;
     }
-    tree.back()?;
-    assert_eq!(rt; add(&rt, &mut tree, "f6g8"), Err(TreeFault::Full));
-    assert_eq!(rt; (tree.depth(), tree.child_count()), (19_999, 1));
-    tree.step(0)?;
-    tree.delete()?;
-    add(&rt, &mut tree, "f6g8")?;
-    tree.back()?;
-    assert_eq!(rt; add(&rt, &mut tree, "f6g8"), Err(TreeFault::Full));
-    tree.goto(&[49])?;
-    tree.delete()?;
-    add(&rt, &mut tree, "e2e4")?;
-    assert_eq!(rt; tree.path()?.as_slice(), [49].as_slice());
+    run(
+        &rt,
+        &mut tree,
+        &[
+            Does(Back),
+            Fails(TreeFault::Full, Add("f6g8")),
+            Shows(Depth(19_999)),
+            Shows(ChildCount(1)),
+            Does(Step(0)),
+            Does(Delete),
+            Does(Add("f6g8")),
+            Does(Back),
+            Fails(TreeFault::Full, Add("f6g8")),
+            Does(Goto(&[49])),
+            Does(Delete),
+            Does(Add("e2e4")),
+            Shows(Path(&[49])),
+        ],
+    );
     Ok(())
 }

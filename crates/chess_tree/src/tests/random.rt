@@ -1,7 +1,7 @@
 //! Random edits of a tree, and the same edits of a list of its nodes in order, each with its depth.
-use super::{a_move, add_on, begin, position_here};
-use crate::{Children, Tree};
-use chess_key::KeyTable;
+use super::walk::{Entry, list_nodes};
+use super::{a_move, a_table, add_on, begin, position_here};
+use crate::{Tree, TreeFault};
 use chess_moves::is_legal;
 use chess_types::Move;
 use rand_core::utils::NextWord;
@@ -15,16 +15,6 @@ const EDITS: u32 = 100_000;
 
 /// From how many nodes on more are deleted.
 const MANY: usize = 400;
-
-/// A node in the order of the text of a game: each before those below it.
-#[derive(Clone, Copy, Debug, PartialEq, Eq)]
-struct Entry {
-    /// How deep it is; a child of the root is 1 deep.
-    depth: usize,
-    played: Move,
-    /// The digit that its comment is; 0 for none.
-    note: u8,
-}
 
 /// Where those below the node at that index end.
 fn end_of(list: &[Entry], index: usize) -> usize {
@@ -80,7 +70,7 @@ fn parent_of(list: &[Entry], at: usize) -> usize {
 }
 
 /// The child at a place that there is.
-fn child_of(list: &[Entry], at: usize, place: u64) -> usize {
+fn child_of(list: &[Entry], at: usize, place: u32) -> usize {
     let mut index = at;
     for _ in 0..place {
         index = end_of(list, index);
@@ -97,36 +87,23 @@ fn all_below(list: &[Entry], at: usize) -> usize {
     }
 }
 
-/// Adds one of the knights' moves, where it is legal: the list, and the node at the cursor.
-fn add_one<'l, A: Allocator>(
-    rt: &impl Abort,
+/// The list with a node more, the last of those below another.
+fn grown<'l, A: Allocator>(
     alloc: &'l A,
-    tree: &mut Tree<'_, A>,
     list: &[Entry],
     at: usize,
-    pick: u64,
-) -> Result<Option<(Vec<Entry, &'l A>, usize)>, Fail> {
-    let texts = [
-        "g1f3", "f3g1", "b1c3", "c3b1", "g8f6", "f6g8", "b8c6", "c6b8",
-    ];
-    let text = texts[(pick % 8) as usize];
-    let table = KeyTable::new([7; 768]);
-    let mut live = position_here(rt, tree, &table);
-    assert!(rt; live.position().clock < 100_000 && live.position().number < 100_000);
-    if tree.depth() >= 12 || !is_legal(&mut live, a_move(rt, text)) {
-        return Ok(None);
-    }
-    add_on(rt, tree, &mut live, text)?;
+    played: Move,
+) -> Result<Vec<Entry, &'l A>, AllocError> {
     let end = all_below(list, at);
     let mut out = Vec::new(alloc);
     copy(&mut out, list, 0, end)?;
     out.push(Entry {
         depth: depth_of(list, at).saturating_add(1),
-        played: a_move(rt, text),
+        played,
         note: 0,
     })?;
     copy(&mut out, list, end, list.len())?;
-    Ok(Some((out, end.saturating_add(1))))
+    Ok(out)
 }
 
 /// The list without a node and those below it.
@@ -178,95 +155,127 @@ fn with_note<'l, A: Allocator>(
     Ok(out)
 }
 
-/// Compares the tree with the list.
-fn assert_same<A: Allocator>(
+/// Adds a move, where it is legal and the tree isn't too deep: whether it was added.
+fn add_legal<A: Allocator>(
     rt: &impl Abort,
-    alloc: &A,
-    tree: &Tree<'_, A>,
-    list: &[Entry],
-) -> Result<(), AllocError> {
-    let mut waiting: Vec<Children<'_, '_, A>, &A> = Vec::new(alloc);
-    waiting.push(tree.root().below())?;
-    let mut index = 0usize;
-    for _ in 0..4_000_000u32 {
-        let Some(mut children) = waiting.pop() else {
-            assert_eq!(rt; index, list.len());
-            return Ok(());
-        };
-        let Some(node) = children.next() else {
-            continue;
-        };
-        waiting.push(children)?;
-        let note = node.notes().comment.first().copied().unwrap_or(0);
-        let entry = Entry {
-            depth: waiting.len(),
-            played: node.move_at().expect(rt, "a move"),
-            note,
-        };
-        assert_eq!(rt; list.get(index).copied(), Some(entry));
-        index = index.saturating_add(1);
-        waiting.push(node.below())?;
+    tree: &mut Tree<'_, A>,
+    text: &str,
+) -> Result<bool, TreeFault> {
+    let table = a_table();
+    let mut live = position_here(rt, tree, &table);
+    assert!(rt; live.position().clock < 100_000 && live.position().number < 100_000);
+    if tree.depth() >= 12 || !is_legal(&mut live, a_move(rt, text)) {
+        return Ok(false);
     }
-    panic!(rt; "the walk did not end");
+    add_on(rt, tree, &mut live, text)?;
+    Ok(true)
+}
+
+/// A tree, and the same tree as a list.
+#[derive(Drop)]
+struct Twins<'l, A: Allocator> {
+    tree: Tree<'l, A>,
+    list: Vec<Entry, &'l A>,
+    /// The node at the cursor: 0 for the root, else one more than its index.
+    at: usize,
+}
+
+impl<'l, A: Allocator> Twins<'l, A> {
+    /// Adds one of the knights' moves, where it is legal.
+    fn add(&mut self, rt: &impl Abort, alloc: &'l A, pick: u64) -> Result<(), Fail> {
+        let texts = [
+            "g1f3", "f3g1", "b1c3", "c3b1", "g8f6", "f6g8", "b8c6", "c6b8",
+        ];
+        let text = texts[(pick % 8) as usize];
+        if add_legal(rt, &mut self.tree, text)? {
+            let end = all_below(&self.list, self.at);
+            self.list = grown(alloc, &self.list, self.at, a_move(rt, text))?;
+            self.at = end.saturating_add(1);
+        }
+        Ok(())
+    }
+
+    fn back(&mut self) {
+        if self.tree.back().is_ok() {
+            self.at = parent_of(&self.list, self.at);
+        }
+    }
+
+    fn step(&mut self, place: u32) {
+        if self.tree.step(place).is_ok() {
+            self.at = child_of(&self.list, self.at, place);
+        }
+    }
+
+    fn promote(&mut self, alloc: &'l A) -> Result<(), AllocError> {
+        if self.tree.promote().is_ok() {
+            let first = parent_of(&self.list, self.at).saturating_add(1);
+            self.list = lifted(alloc, &self.list, self.at)?;
+            self.at = first;
+        }
+        Ok(())
+    }
+
+    fn set_note(&mut self, alloc: &'l A, digit: u8) -> Result<(), TreeFault> {
+        self.tree.set_comment(&[digit])?;
+        if self.at > 0 {
+            self.list = with_note(alloc, &self.list, self.at, digit)?;
+        }
+        Ok(())
+    }
+
+    fn delete(&mut self, alloc: &'l A) -> Result<(), TreeFault> {
+        self.tree.delete()?;
+        let parent = parent_of(&self.list, self.at);
+        self.list = cut(alloc, &self.list, self.at)?;
+        self.at = parent;
+        Ok(())
+    }
+
+    /// An edit of both.
+    fn edit(&mut self, rt: &impl Abort, alloc: &'l A, word: u64) -> Result<(), Fail> {
+        let pick = word / 16;
+        match word % 16 {
+            0..=6 => self.add(rt, alloc, pick)?,
+            7 => self.back(),
+            8..=10 => self.step((pick % 3) as u32),
+            11 | 12 => self.promote(alloc)?,
+            13 => self.set_note(alloc, b'0' + (pick % 10) as u8)?,
+            _ => {
+                if self.tree.depth() > 0 && (self.list.len() >= MANY || pick % 4 == 0) {
+                    self.delete(alloc)?;
+                }
+            }
+        }
+        Ok(())
+    }
+
+    /// Compares the tree with the list.
+    fn compare(&self, rt: &impl Abort, alloc: &A) -> Result<(), AllocError> {
+        let mut nodes = Vec::new(alloc);
+        list_nodes(rt, alloc, &self.tree, &mut nodes)?;
+        assert!(rt; nodes.as_slice() == self.list.as_slice());
+        Ok(())
+    }
 }
 
 /// After each thousand edits the whole game is compared.
 #[test]
 fn random_edits(rt: HostRuntime) -> Result<(), Fail> {
     let alloc = rt.alloc();
-    let mut tree = begin(&alloc)?;
-    let mut list: Vec<Entry, _> = Vec::new(&alloc);
-    let mut at = 0usize;
+    let mut twins = Twins {
+        tree: begin(&alloc)?,
+        list: Vec::new(&alloc),
+        at: 0,
+    };
     let mut random = Pcg64::new(17, 23);
     for edit in 0..EDITS {
-        let word: u64 = random.next_word();
-        let pick = word / 16;
-        match word % 16 {
-            0..=6 => {
-                if let Some((more, new)) = add_one(&rt, &alloc, &mut tree, &list, at, pick)? {
-                    list = more;
-                    at = new;
-                }
-            }
-            7 => {
-                if tree.back().is_ok() {
-                    at = parent_of(&list, at);
-                }
-            }
-            8..=10 => {
-                if tree.step((pick % 3) as u32).is_ok() {
-                    at = child_of(&list, at, pick % 3);
-                }
-            }
-            11 | 12 => {
-                if tree.promote().is_ok() {
-                    let first = parent_of(&list, at).saturating_add(1);
-                    list = lifted(&alloc, &list, at)?;
-                    at = first;
-                }
-            }
-            13 => {
-                let digit = b'0' + (pick % 10) as u8;
-                tree.set_comment(&[digit])?;
-                if at > 0 {
-                    list = with_note(&alloc, &list, at, digit)?;
-                }
-            }
-            _ => {
-                if tree.depth() == 0 || (list.len() < MANY && pick % 4 > 0) {
-                    continue;
-                }
-                tree.delete()?;
-                let parent = parent_of(&list, at);
-                list = cut(&alloc, &list, at)?;
-                at = parent;
-            }
-        }
+        twins.edit(&rt, &alloc, random.next_word())?;
         if edit % 1_000 == 0 {
-            assert_same(&rt, &alloc, &tree, &list)?;
+            twins.compare(&rt, &alloc)?;
         }
     }
-    assert!(rt; list.len() > 100);
-    assert_same(&rt, &alloc, &tree, &list)?;
+    assert!(rt; twins.list.len() > 100);
+    twins.compare(&rt, &alloc)?;
     Ok(())
 }

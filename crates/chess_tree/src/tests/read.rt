@@ -1,7 +1,8 @@
 //! A tree of 100,000 random moves, read by way of its root, and the same moves in a list.
+use super::a_table;
 use super::analysis::begin;
-use crate::{Analysis, Children};
-use chess_key::KeyTable;
+use super::walk::{Entry, list_nodes};
+use crate::Analysis;
 use chess_types::Move;
 use rand_core::utils::NextWord;
 use rand_pcg::Pcg64;
@@ -14,7 +15,7 @@ const MOVES: usize = 100_000;
 
 /// A node of the list. The number 0, the root's, stands for none.
 #[derive(Clone, Copy)]
-struct Entry {
+struct Linked {
     played: Move,
     /// The number of its first child, and of the last.
     first: usize,
@@ -25,12 +26,12 @@ struct Entry {
 
 /// Appends a move to those below a node. The first entry is the root's.
 fn append<A: Allocator>(
-    list: &mut Vec<Entry, &A>,
+    list: &mut Vec<Linked, &A>,
     at: usize,
     played: Move,
 ) -> Result<(), AllocError> {
     let number = list.len();
-    list.push(Entry {
+    list.push(Linked {
         played,
         first: 0,
         last: 0,
@@ -56,7 +57,7 @@ fn append<A: Allocator>(
 }
 
 /// The number of the child at a place; 0 where there is none.
-fn child_of(list: &[Entry], at: usize, place: u64) -> usize {
+fn child_of(list: &[Linked], at: usize, place: u64) -> usize {
     let Some(parent) = list.get(at) else {
         return 0;
     };
@@ -83,35 +84,30 @@ fn pick<A: Allocator>(analysis: &mut Analysis<'_, A>, word: u64) -> Option<Move>
     moves.as_slice().get(index).copied()
 }
 
-/// Compares the tree with the list, node by node.
-fn assert_same<A: Allocator>(
+/// Compares the nodes of the tree with the list, one by one.
+fn compare<A: Allocator>(
     rt: &impl Abort,
     alloc: &A,
-    analysis: &Analysis<'_, A>,
-    list: &[Entry],
+    nodes: &[Entry],
+    list: &[Linked],
 ) -> Result<(), AllocError> {
-    let mut waiting: Vec<Children<'_, '_, A>, &A> = Vec::new(alloc);
-    let mut numbers: Vec<usize, &A> = Vec::new(alloc);
-    waiting.push(analysis.tree().root().below())?;
-    numbers.push(child_of(list, 0, 0))?;
-    let mut seen = 0usize;
+    let mut waiting: Vec<usize, &A> = Vec::new(alloc);
+    waiting.push(child_of(list, 0, 0))?;
+    let mut index = 0usize;
     for _ in 0..4_000_000u32 {
-        let (Some(mut children), Some(number)) = (waiting.pop(), numbers.pop()) else {
-            assert_eq!(rt; seen, MOVES);
+        let Some(number) = waiting.pop() else {
+            assert_eq!(rt; index, nodes.len());
             return Ok(());
         };
-        let Some(node) = children.next() else {
-            assert_eq!(rt; number, 0);
+        if number == 0 {
             continue;
-        };
-        assert!(rt; number > 0);
-        let entry = list.get(number).copied().expect(rt, "an entry");
-        assert_eq!(rt; node.move_at(), Some(entry.played));
-        seen = seen.saturating_add(1);
-        waiting.push(children)?;
-        numbers.push(entry.next)?;
-        waiting.push(node.below())?;
-        numbers.push(entry.first)?;
+        }
+        let linked = list.get(number).copied().expect(rt, "an entry");
+        waiting.push(linked.next)?;
+        let node = nodes.get(index).copied().expect(rt, "a node");
+        assert_eq!(rt; (node.depth, node.played), (waiting.len(), linked.played));
+        index = index.saturating_add(1);
+        waiting.push(linked.first)?;
     }
     panic!(rt; "the walk did not end");
 }
@@ -119,7 +115,7 @@ fn assert_same<A: Allocator>(
 /// A step up, down, or back so far, or a random legal move more. The path has the numbers of the nodes on the way to the cursor.
 fn step_or_add<A: Allocator>(
     analysis: &mut Analysis<'_, A>,
-    list: &mut Vec<Entry, &A>,
+    list: &mut Vec<Linked, &A>,
     path: &mut Vec<usize, &A>,
     word: u64,
 ) -> Result<(), Fail> {
@@ -158,17 +154,18 @@ fn step_or_add<A: Allocator>(
 
 /// Steps and adds until there are so many moves.
 fn grow<A: Allocator>(
+    alloc: &A,
     analysis: &mut Analysis<'_, A>,
-    list: &mut Vec<Entry, &A>,
-    path: &mut Vec<usize, &A>,
+    list: &mut Vec<Linked, &A>,
 ) -> Result<(), Fail> {
     append(list, 0, Move::default())?;
+    let mut path = Vec::new(alloc);
     let mut random = Pcg64::new(29, 31);
     for _ in 0..400_000u32 {
         if list.len() > MOVES {
             return Ok(());
         }
-        step_or_add(analysis, list, path, random.next_word())?;
+        step_or_add(analysis, list, &mut path, random.next_word())?;
     }
     Ok(())
 }
@@ -176,12 +173,14 @@ fn grow<A: Allocator>(
 #[test]
 fn a_tree_is_read(rt: HostRuntime) -> Result<(), Fail> {
     let alloc = rt.alloc();
-    let table = KeyTable::new([7; 768]);
+    let table = a_table();
     let mut analysis = begin(&alloc, &table)?;
     let mut list = Vec::new(&alloc);
-    let mut path = Vec::new(&alloc);
-    grow(&mut analysis, &mut list, &mut path)?;
+    grow(&alloc, &mut analysis, &mut list)?;
     assert_eq!(rt; list.len(), MOVES + 1);
-    assert_same(&rt, &alloc, &analysis, list.as_slice())?;
+    let mut nodes = Vec::new(&alloc);
+    list_nodes(&rt, &alloc, analysis.tree(), &mut nodes)?;
+    assert_eq!(rt; nodes.len(), MOVES);
+    compare(&rt, &alloc, nodes.as_slice(), list.as_slice())?;
     Ok(())
 }

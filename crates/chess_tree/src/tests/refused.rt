@@ -1,3 +1,7 @@
+use super::calls::Call::{Add, Back, SetComment};
+use super::calls::Look::{Comment, Nags, Path};
+use super::calls::Row::{Does, Shows};
+use super::calls::run;
 use super::{add, begin};
 use crate::{Tree, TreeFault};
 use linked_list_allocator::LocalHeap;
@@ -57,11 +61,11 @@ fn faults_say_what_they_are(rt: HostRuntime) -> Result<(), Fail> {
 fn as_before(rt: HostRuntime) -> Result<(), Fail> {
     let heap = LocalHeap::new(rt.alloc(), 8_192)?;
     let mut tree = begin(&heap)?;
-    add(&rt, &mut tree, "e2e4")?;
+    run(&rt, &mut tree, &[Does(Add("e2e4"))]);
     let other: Vec<u8, _> = Vec::with_capacity(&heap, 7_000usize.saturating_sub(heap.used()))?;
     let comment = [b'a'; 2_000];
     assert_eq!(rt; tree.set_comment(&comment), Err(TreeFault::Memory));
-    assert_eq!(rt; tree.notes().comment.len(), 0);
+    run(&rt, &mut tree, &[Shows(Comment(b""))]);
     drop(other);
     tree.set_comment(&comment)?;
     assert_eq!(rt; tree.notes().comment.len(), 2_000);
@@ -73,12 +77,15 @@ fn as_before(rt: HostRuntime) -> Result<(), Fail> {
 fn an_empty_comment_takes_no_memory(rt: HostRuntime) -> Result<(), Fail> {
     let heap = LocalHeap::new(rt.alloc(), 8_192)?;
     let mut tree = begin(&heap)?;
-    add(&rt, &mut tree, "e2e4")?;
+    run(&rt, &mut tree, &[Does(Add("e2e4"))]);
     let used = heap.used();
-    tree.set_comment(b" \t ")?;
+    run(&rt, &mut tree, &[Does(SetComment(b" \t "))]);
     assert_eq!(rt; heap.used(), used);
     Ok(())
 }
+
+/// How many calls there are.
+const CALLS: u32 = 25;
 
 /// One of the calls that may want memory.
 fn a_call<A: Allocator>(
@@ -99,40 +106,50 @@ fn a_call<A: Allocator>(
     }
 }
 
+/// What is compared: the depth, and the notes.
+fn seen<A: Allocator>(tree: &Tree<'_, A>) -> (u32, usize, usize) {
+    let notes = tree.notes();
+    (tree.depth(), notes.nags.len(), notes.comment.len())
+}
+
+/// Calls in order, from one of them on, until one is refused, which leaves all as it was: its number, or how many there are.
+fn first_refused<A: Allocator>(rt: &impl Abort, tree: &mut Tree<'_, A>, from: u32) -> u32 {
+    for call in from..CALLS {
+        let before = seen(tree);
+        if let Err(fault) = a_call(rt, tree, call) {
+            assert_eq!(rt; fault, TreeFault::Memory);
+            assert!(rt; seen(tree) == before);
+            return call;
+        }
+    }
+    CALLS
+}
+
+/// Calls on a heap with so much room, until one is refused, and on from there once there is memory: whether one was.
+fn call_all(rt: &impl Abort, heap: &LocalHeap, room: usize) -> Result<bool, Fail> {
+    let mut tree = begin(heap)?;
+    let taken = 15_500usize.saturating_sub(heap.used()).saturating_sub(room);
+    let other: Vec<u8, _> = Vec::with_capacity(heap, taken)?;
+    let call = first_refused(rt, &mut tree, 0);
+    drop(other);
+    assert_eq!(rt; first_refused(rt, &mut tree, call), CALLS);
+    run(
+        rt,
+        &mut tree,
+        &[Shows(Path(&[0, 0])), Does(Back), Shows(Nags(&[7; 20]))],
+    );
+    Ok(call < CALLS)
+}
+
 /// Each growth is refused in turn: all is as before then, and the same call is answered once there is memory.
 #[test]
 fn the_same_call_again(rt: HostRuntime) -> Result<(), Fail> {
     let mut refused = 0u32;
     for room in 0..80usize {
         let heap = LocalHeap::new(rt.alloc(), 16_384)?;
-        let mut tree = begin(&heap)?;
-        let taken = 15_500usize
-            .saturating_sub(heap.used())
-            .saturating_sub(room * 32);
-        let mut other: Option<Vec<u8, _>> = Some(Vec::with_capacity(&heap, taken)?);
-        for call in 0..25u32 {
-            let before = (
-                tree.depth(),
-                tree.notes().nags.len(),
-                tree.notes().comment.len(),
-            );
-            if let Err(fault) = a_call(&rt, &mut tree, call) {
-                assert_eq!(rt; fault, TreeFault::Memory);
-                let after = (
-                    tree.depth(),
-                    tree.notes().nags.len(),
-                    tree.notes().comment.len(),
-                );
-                assert_eq!(rt; after, before);
-                refused = refused.saturating_add(1);
-                other = None;
-                a_call(&rt, &mut tree, call)?;
-            }
+        if call_all(&rt, &heap, room * 32)? {
+            refused = refused.saturating_add(1);
         }
-        assert_eq!(rt; tree.path()?.as_slice(), [0, 0].as_slice());
-        tree.back()?;
-        assert_eq!(rt; tree.notes().nags.len(), 20);
-        drop(other);
     }
     assert!(rt; refused > 10);
     Ok(())
