@@ -1,5 +1,5 @@
 -- The best of some moves and one more.
-use Rattle.std.proofs.Common.{◌≡◌, ℕ, zero, suc, ◌+◌, ◌<◌, Bool, true, false, List, [], ◌∷◌, ◌++◌, length, map, take, get_or, Option, Some, None, refl, sym, ap, ◌∙◌, subst, arith, ℤ, ◌<ℤ◌, ◌≤ℤ◌, find, int_lt, Contains, ⊎_elim}
+use Rattle.std.proofs.Common.{◌≡◌, ℕ, zero, suc, ◌+◌, ◌<◌, Bool, true, false, List, [], ◌∷◌, ◌++◌, length, map, take, get_or, Option, Some, None, refl, sym, ap, ◌∙◌, subst, arith, ℤ, ◌<ℤ◌, ◌≤ℤ◌, filter, find, int_lt, Contains, ⊎_elim}
 use Rattle.std.proofs.lemmas.Int.{ints, clamps, by_lt_z, fold-int_max_reached}
 use Rattle.std.proofs.lemmas.List.{map-append, length-map, get_or-map, take_more}
 use Rattle.std.proofs.lemmas.List.Folds.{find-append}
@@ -12,7 +12,7 @@ use Rattle.std.specs.Option.{option_map}
 use Rattle.chess_types.specs.board.MoveParts.{MoveParts}
 use Rattle.chess_types.specs.board.Legal.{is_legal, legal_moves}
 use Rattle.chess_types.specs.board.Lines.{Line, last}
-use Rattle.std.proofs.lemmas.List.Elements.{All-get_or}
+use Rattle.std.proofs.lemmas.List.Elements.{All-filter, All-get_or}
 use Rattle.std.specs.List.{All}
 use Rattle.chess_moves.proofs.LegalLaws.{moves_legal}
 use Rattle.chess_search.specs.Value.{greatest}
@@ -117,3 +117,8 @@ root_legal line now roots i m legal inside is same =
 pub roots_legal : (listed line : Line) (roots : List MoveParts) → roots ≡ legal_moves (last listed) → line ≡ listed → All (λ m. is_legal (last line) m ≡ true) roots
 roots_legal listed line roots all same =
     subst (All (λ m. is_legal (last line) m ≡ true)) (sym (all ∙ ap (λ (l : Line). legal_moves (last l)) (sym same))) (moves_legal (last line))
+
+-- those of them that pass a test
+pub part_legal : (p : MoveParts → Bool) (listed line : Line) (moves roots : List MoveParts) → roots ≡ filter p moves → moves ≡ legal_moves (last listed) → line ≡ listed → All (λ m. is_legal (last line) m ≡ true) roots
+part_legal p listed line moves roots part all same =
+    subst (All (λ m. is_legal (last line) m ≡ true)) (sym part) (All-filter p (λ m. is_legal (last line) m ≡ true) moves (roots_legal listed line moves all same))

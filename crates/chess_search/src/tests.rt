@@ -1,10 +1,16 @@
-ghost use Rattle.std.specs.Prelude.{◌≡◌, ◌+◌, ◌≤◌};
+ghost use Rattle.std.specs.Prelude.{◌≡◌, ◌+◌, ◌≤◌, true};
+ghost use Rattle.std.specs.List.{All};
+ghost use Rattle.chess_types.specs.board.Legal.{is_legal};
+ghost use Rattle.chess_types.specs.board.Lines.{last};
 ghost use Rattle.chess_draws.specs.LineParts.{IsAsBefore};
 ghost use Rattle.chess_search.specs.Scores.{IsValue};
 ghost use Rattle.chess_search.specs.Slices.{IsInRange};
 
+mod random;
+
 use crate::search::evaluation_for;
 use crate::{Nodes, Slices, best_counted, score_text};
+use arrayvec::ArrayVec;
 use chess_draws::Line;
 use chess_fen::read;
 use chess_key::KeyTable;
@@ -75,15 +81,19 @@ fn plain_value<A: Allocator>(line: &mut Line<'_, A>, depth: u8, distance: u8, cl
     best
 }
 
-/// The first of the legal moves of greatest plain value.
-#[tactic(auto, using(chess_moves::proofs::LegalLaws::moves_legal))]
-fn plain_best<A: Allocator>(line: &mut Line<'_, A>, depth: u8, claims: bool) -> Option<(Move, i32)>
+/// The first of the roots of greatest plain value.
+fn plain_best<A: Allocator>(
+    line: &mut Line<'_, A>,
+    depth: u8,
+    roots: &ArrayVec<Move, 432>,
+    claims: bool,
+) -> Option<(Move, i32)>
     requires none { line.old.looked ≡ 0 }
     requires deep { 1 ≤ depth }
     requires shallow { depth ≤ 16 }
+    requires roots { All (λ m. is_legal (last line.old.line) m ≡ true) roots.now.items }
     ensures line { IsAsBefore line.old line.new }
 {
-    let roots = line.moves();
     let mut best = None;
     for m in roots.as_slice() {
         line.look(*m);
@@ -97,7 +107,8 @@ fn plain_best<A: Allocator>(line: &mut Line<'_, A>, depth: u8, claims: bool) -> 
     best
 }
 
-/// Whether both agree on the position.
+/// Both agree on the position.
+#[tactic(auto, using(crate::proofs::RootLemmas::roots_legal))]
 fn agrees<A: Allocator>(rt: &impl Abort, alloc: A, fen: &[u8], depth: u8, claims: bool)
     requires deep { 1 ≤ depth }
     requires shallow { depth ≤ 16 }
@@ -105,8 +116,9 @@ fn agrees<A: Allocator>(rt: &impl Abort, alloc: A, fen: &[u8], depth: u8, claims
     let table = KeyTable::new([0; 768]);
     let mut line = Line::start(alloc, at(rt, fen), &table);
     let mut nodes = Nodes::new();
-    let best = best_move(&mut line, depth, &mut nodes, claims);
-    assert_eq!(rt; best, plain_best(&mut line, depth, claims));
+    let roots = line.moves();
+    let best = best_counted(&mut line, depth, &roots, &mut nodes, claims);
+    assert_eq!(rt; best, plain_best(&mut line, depth, &roots, claims));
 }
 
 /// The text of the best move of the position and its score.
@@ -125,6 +137,20 @@ fn tells<A: Allocator>(rt: &impl Abort, alloc: A, fen: &[u8], depth: u8, want: &
         None => assert!(rt; want.is_empty()),
     }
 }
+
+/// Positions of middle games and endings.
+const MIDDLE_GAMES: [&[u8]; 10] = [
+    b"r3k2r/p1ppqpb1/bn2pnp1/3PN3/1p2P3/2N2Q1p/PPPBBPPP/R3K2R w KQkq - 0 1",
+    b"8/2p5/3p4/KP5r/1R3p1k/8/4P1P1/8 w - - 0 1",
+    b"r4rk1/1pp1qppp/p1np1n2/2b1p1B1/2B1P1b1/P1NP1N2/1PP1QPPP/R4RK1 w - - 0 10",
+    b"rnbq1k1r/pp1Pbppp/2p5/8/2B5/8/PPP1NnPP/RNBQK2R w KQ - 1 8",
+    b"r1bqkbnr/pppp1ppp/2n5/4p3/2B1P3/5Q2/PPPP1PPP/RNB1K1NR w KQkq - 2 4",
+    b"8/8/8/2k5/3Pp3/8/8/4K2R b K d3 98 60",
+    b"7k/5Q2/8/6K1/8/8/8/8 w - - 148 99",
+    b"6k1/5ppp/8/8/2q5/8/8/K2R4 b - - 3 40",
+    b"r3k2r/Pppp1ppp/1b3nbN/nP6/BBP1P3/q4N2/Pp1P2PP/R2Q1RK1 w kq - 0 1",
+    b"r2q1rk1/pp2bppp/2n1bn2/3p4/3N4/2N1B1P1/PP2PPBP/R2Q1RK1 b - - 4 11",
+];
 
 const START: &[u8] = b"rnbqkbnr/pppppppp/8/8/8/8/PPPPPPPP/RNBQKBNR w KQkq - 0 1";
 
@@ -168,23 +194,16 @@ fn names_the_first_of_greatest_value(rt: HostRuntime) {
 
 #[test]
 fn agrees_with_plain_minimax(rt: HostRuntime) {
-    let fens: [&[u8]; 8] = [
-        b"r3k2r/p1ppqpb1/bn2pnp1/3PN3/1p2P3/2N2Q1p/PPPBBPPP/R3K2R w KQkq - 0 1",
-        b"8/2p5/3p4/KP5r/1R3p1k/8/4P1P1/8 w - - 0 1",
-        b"r4rk1/1pp1qppp/p1np1n2/2b1p1B1/2B1P1b1/P1NP1N2/1PP1QPPP/R4RK1 w - - 0 10",
-        b"rnbq1k1r/pp1Pbppp/2p5/8/2B5/8/PPP1NnPP/RNBQK2R w KQ - 1 8",
-        b"r1bqkbnr/pppp1ppp/2n5/4p3/2B1P3/5Q2/PPPP1PPP/RNB1K1NR w KQkq - 2 4",
-        b"8/8/8/2k5/3Pp3/8/8/4K2R b K d3 98 60",
-        b"7k/5Q2/8/6K1/8/8/8/8 w - - 148 99",
-        b"6k1/5ppp/8/8/2q5/8/8/K2R4 b - - 3 40",
-    ];
-    for fen in fens {
+    for fen in MIDDLE_GAMES {
         agrees(&rt, rt.alloc(), fen, 1, false);
         agrees(&rt, rt.alloc(), fen, 2, true);
+        agrees(&rt, rt.alloc(), fen, 3, false);
     }
+    agrees(&rt, rt.alloc(), START, 1, false);
+    agrees(&rt, rt.alloc(), START, 2, false);
     agrees(&rt, rt.alloc(), START, 3, false);
-    agrees(&rt, rt.alloc(), fens[1], 3, false);
-    agrees(&rt, rt.alloc(), fens[5], 4, true);
+    agrees(&rt, rt.alloc(), START, 4, false);
+    agrees(&rt, rt.alloc(), MIDDLE_GAMES[5], 4, true);
 }
 
 #[test]

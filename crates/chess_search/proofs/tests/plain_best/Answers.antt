@@ -1,13 +1,11 @@
 use Rattle.std.proofs.Common.{◌∙◌, arith}
-use Rattle.std.proofs.lemmas.List.Sorted.{IsPermutation-refl}
-use Rattle.chess_search.proofs.WindowLemmas.{legal_at}
+use Rattle.chess_search.proofs.RootLemmas.{root_legal}
 use Rattle.chess_search.proofs.tests.plain_best.Goals as goal
 
 pub look-requires-clause-legal : goal.look-requires-clause-legal
 look-requires-clause-legal g c =
     let i = c.loop-m.invariant.line in
-    legal_at c.args.line.now.line _ c.moves-roots.result.items c.as_slice-m-items.result.now c.loop-m.m-index c.m-item.result c.moves-roots.ensures.listed
-    (rw c.as_slice-m-items.ensures.value (IsPermutation-refl _)) (omega arith) c.m-item.is i.line
+    root_legal c.args.line.now.line _ c.as_slice-m-items.result.now c.loop-m.m-index c.m-item.result (rw c.as_slice-m-items.ensures.value c.requires.roots) (omega arith) c.m-item.is i.line
 
 pub loop-m-preserved : goal.loop-m-preserved
 loop-m-preserved g c =
