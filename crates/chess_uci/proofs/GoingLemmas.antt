@@ -1,8 +1,8 @@
 -- A search stays one that goes with its line.
-use Rattle.std.proofs.Common.{◌≡◌, ℕ, ◌+◌, ◌<◌, ◌≤◌, ◌⊎◌, ⊎_elim, Bool, true, List, [], ◌∷◌, length, None, refl, sym, subst, arith}
+use Rattle.std.proofs.Common.{◌≡◌, ℕ, ◌+◌, ◌<◌, ◌≤◌, ◌⊎◌, ⊎_elim, Bool, true, List, [], ◌∷◌, length, None, refl, sym, ap, subst, ◌∙◌, take, arith}
 use Rattle.std.specs.List.{All}
 use Rattle.std.specs.Prelude.{filter}
-use Rattle.std.proofs.lemmas.List.Elements.{All-filter}
+use Rattle.std.proofs.lemmas.List.Elements.{All-filter, All-take}
 use Rattle.chess_types.specs.board.MoveParts.{MoveParts}
 use Rattle.chess_types.specs.board.Legal.{is_legal, legal_moves}
 use Rattle.chess_types.specs.board.Lines.{Line, last}
@@ -70,3 +70,11 @@ going_starts listed line claims named moves x e same is deep shallow some =
       deep = rw is (omega arith);
       waits = rw is (λ h. ⊎_elim (λ (n : 0 < length moves). absurd (omega (arith, h, or_all_some moves (filter named moves) n))) (λ (i : x.infinite ≡ true). i) some);
     }
+
+-- the first of the roots, as a list of roots
+pub front_legal : (listed line : Line) (named : MoveParts → Bool) (moves roots front : List MoveParts) (k : ℕ) → front ≡ take k roots → roots ≡ or_all (filter named moves) moves →
+    moves ≡ legal_moves (last listed) → line ≡ listed → Legal line front
+front_legal listed line named moves roots front k e among all same =
+    let legal : Legal line moves = subst (Legal line) (sym (all ∙ ap (λ (l : Line). legal_moves (last l)) (sym same))) (moves_legal (last line)) in
+    let whole : Legal line roots = subst (Legal line) (sym among) (or_all_legal line moves (filter named moves) legal (All-filter named (λ m. is_legal (last line) m ≡ true) moves legal)) in
+    subst (Legal line) (sym e) (All-take (λ m. is_legal (last line) m ≡ true) k roots whole)

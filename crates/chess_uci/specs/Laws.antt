@@ -16,8 +16,8 @@ use Rattle.chess_types.specs.board.Legal.{legal_moves}
 use Rattle.chess_types.specs.board.Lines.{Line as GameLine, last}
 use Rattle.chess_search.specs.Best.{best}
 use Rattle.chess_uci.specs.declared.reply.Reply.{Reply}
-use Rattle.chess_uci.specs.declared.reply.Reply.TheVariants.{Name, Author, ClaimsOption, UciOk, ReadyOk, Refused, OutOfMemory, Busy, Info, BestMove}
-use Rattle.chess_uci.specs.Commands.{Command, Idle, Uci, IsReady, NewGame, Position, Unplaced, Go, Stop, Quit, SetOption, asked, without_memory}
+use Rattle.chess_uci.specs.declared.reply.Reply.TheVariants.{ReadyOk, Info, BestMove}
+use Rattle.chess_uci.specs.Commands.{Command, IsReady, Go, Stop, Quit, asked, without_memory}
 use Rattle.chess_uci.specs.Go.{fields}
 use Rattle.chess_uci.specs.Machine.{Event, Line, Starved, Slice, Moment, Search, State, beginning, step, is_reached, chosen}
 
@@ -36,43 +36,19 @@ one true = 1
 one false = 0
 
 abbrev pub is_best_move : Reply → Bool
-is_best_move Name = false
-is_best_move Author = false
-is_best_move ClaimsOption = false
-is_best_move UciOk = false
-is_best_move ReadyOk = false
-is_best_move Refused = false
-is_best_move OutOfMemory = false
-is_best_move Busy = false
-is_best_move (Info depth m value) = false
 is_best_move (BestMove m) = true
+is_best_move _ = false
 
 abbrev pub best_moves : List Reply → ℕ
 best_moves rs = count_by is_best_move rs
 
 abbrev pub is_go : Command → Bool
-is_go Idle = false
-is_go Uci = false
-is_go IsReady = false
-is_go NewGame = false
-is_go (Position words) = false
-is_go Unplaced = false
 is_go (Go words) = true
-is_go Stop = false
-is_go Quit = false
-is_go (SetOption words) = false
+is_go _ = false
 
 abbrev pub is_quit : Command → Bool
-is_quit Idle = false
-is_quit Uci = false
-is_quit IsReady = false
-is_quit NewGame = false
-is_quit (Position words) = false
-is_quit Unplaced = false
-is_quit (Go words) = false
-is_quit Stop = false
 is_quit Quit = true
-is_quit (SetOption words) = false
+is_quit _ = false
 
 abbrev pub says_go : Event → Bool
 says_go (Line bytes) = is_go (asked bytes)
@@ -127,28 +103,12 @@ at_once [] infinite = not infinite
 at_once (m ∷ ms) infinite = false
 
 abbrev pub by_command : GameLine → Command → Bool
-by_command l Idle = false
-by_command l Uci = false
-by_command l IsReady = false
-by_command l NewGame = false
-by_command l (Position words) = false
-by_command l Unplaced = false
 by_command l (Go words) = at_once (legal_moves (last l)) (fields words).infinite
-by_command l Stop = false
-by_command l Quit = false
-by_command l (SetOption words) = false
+by_command l _ = false
 
 abbrev pub is_stop : Command → Bool
-is_stop Idle = false
-is_stop Uci = false
-is_stop IsReady = false
-is_stop NewGame = false
-is_stop (Position words) = false
-is_stop Unplaced = false
-is_stop (Go words) = false
 is_stop Stop = true
-is_stop Quit = false
-is_stop (SetOption words) = false
+is_stop _ = false
 
 abbrev pub by_line : GameLine → Option Search → Command → Bool
 by_line l None command = by_command l command
@@ -203,18 +163,11 @@ finished x (Moment moment) = x.done
 
 -- What a reply tells is the best at its depth among the roots, on the line as it is.
 abbrev pub TellsBest : GameLine → Option Search → Event → Reply → Type 0
-TellsBest l x event Name = ⊤
-TellsBest l x event Author = ⊤
-TellsBest l x event ClaimsOption = ⊤
-TellsBest l x event UciOk = ⊤
-TellsBest l x event ReadyOk = ⊤
-TellsBest l x event Refused = ⊤
-TellsBest l x event OutOfMemory = ⊤
-TellsBest l x event Busy = ⊤
 TellsBest l None event (Info depth m value) = ⊥
 TellsBest l (Some x) event (Info depth m value) = (depth ≡ x.depth) × (best x.claims depth l x.roots ≡ Some (m, value))
 TellsBest l None event (BestMove m) = m ≡ None
 TellsBest l (Some x) event (BestMove m) = m ≡ chosen (best_done l x (finished x event)) x.roots
+TellsBest l x event _ = ⊤
 
 -- Each `info` and each best move is the best among the roots at the depth that it names, or the last completed, whatever events came before.
 abbrev pub TellsTheBest : Type 0

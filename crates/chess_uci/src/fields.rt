@@ -1,9 +1,9 @@
-ghost use Rattle.std.specs.Prelude.{◌≡◌, ◌≤◌, min, fold};
+ghost use Rattle.std.specs.Prelude.{◌≡◌, min, fold};
 ghost use Rattle.std.specs.Char.{is_ascii_digit};
 ghost use Rattle.std.specs.List.{list_all};
 ghost use Rattle.chess_types.specs.bytes.Words.{words};
 ghost use Rattle.chess_uci.specs.Commands.{gaps};
-ghost use Rattle.chess_uci.specs.Go.{with_digit, digits, number, is_ignored, is_infinite, name_of, with_number, with_word, given, fields, no_fields};
+ghost use Rattle.chess_uci.specs.Go.{with_digit, digits, number, is_ignored, is_infinite, name_of, with_number, with_word, given, fields};
 
 use crate::command::GAPS;
 use chess_types::split_word;

@@ -1,7 +1,7 @@
 ghost use Rattle.std.specs.Prelude.{◌≡◌, ◌≤◌, []};
 ghost use Rattle.chess_types.specs.bytes.Words.{words};
 ghost use Rattle.chess_uci.specs.Commands.{gaps};
-ghost use Rattle.chess_uci.specs.Go.{is_infinite, is_searchmoves, is_name, behind, is_listed, share, budget, last_depth};
+ghost use Rattle.chess_uci.specs.Go.{is_searchmoves, is_name, behind, is_listed, share, budget, last_depth};
 
 use crate::command::GAPS;
 use crate::fields::{Fields, name_of};

@@ -1,9 +1,8 @@
-ghost use Rattle.std.specs.Prelude.{◌≡◌, ◌++◌, Some, None, OnOk, IfOk, codes};
-ghost use Rattle.std.specs.List.{flat_map};
+ghost use Rattle.std.specs.Prelude.{◌≡◌, ◌++◌, Some, OnOk, IfOk, codes};
 ghost use Rattle.chess_types.specs.board.Position.{start};
 ghost use Rattle.chess_types.specs.bytes.Words.{words};
 ghost use Rattle.chess_uci.specs.Commands.{gaps};
-ghost use Rattle.chess_uci.specs.Placing.{is_moves, before_moves, behind_moves, from_position, start_line, spaced, if_read, if_alone, begun_by, with_word, played, placed};
+ghost use Rattle.chess_uci.specs.Placing.{is_moves, before_moves, behind_moves, start_line, spaced, begun_by, with_word, played, placed};
 ghost use Rattle.chess_uci.specs.steps.Places.{Places, Begins};
 
 use crate::command::GAPS;

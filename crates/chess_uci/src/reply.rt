@@ -1,5 +1,5 @@
-ghost use Rattle.std.specs.Prelude.{◌≡◌, ◌++◌, ◌≤◌, length};
-ghost use Rattle.chess_uci.specs.Replies.{move_or_none, reply_text};
+ghost use Rattle.std.specs.Prelude.{◌≡◌, ◌≤◌, length};
+ghost use Rattle.chess_uci.specs.Replies.{reply_text};
 
 use arrayvec::ArrayString;
 use chess_search::score_text;

@@ -1,6 +1,6 @@
 ghost use Rattle.std.specs.Prelude.{◌≡◌, ◌≤◌, ◌<◌, ◌∷◌, ◌++◌, [], ◌+◌, ◌==◌, Some, None, option_map, false, length};
 ghost use Rattle.chess_types.specs.board.Lines.{Line as GameLine};
-ghost use Rattle.chess_search.specs.Slices.{GoesWith, IsInRange};
+ghost use Rattle.chess_search.specs.Slices.{GoesWith};
 ghost use Rattle.chess_draws.specs.LineParts.{IsAsBefore};
 ghost use Rattle.chess_uci.specs.Machine.{slice, is_reached, ended_with, info, chosen, first_root, complete};
 ghost use Rattle.chess_uci.specs.steps.Searches.{GoesOn, search_of, turn_of};
@@ -51,8 +51,8 @@ pub(crate) fn one<T: Default + Drop>(item: T) -> ArrayVec<T, 4>
     list
 }
 
-// A list of two.
-fn two<T: Default + Drop>(first: T, second: T) -> ArrayVec<T, 4>
+/// A list of two.
+pub(crate) fn two<T: Default + Drop>(first: T, second: T) -> ArrayVec<T, 4>
     ensures { result.items ≡ first ∷ second ∷ [] }
 {
     let mut list = ArrayVec::new();

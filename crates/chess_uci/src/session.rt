@@ -2,7 +2,7 @@ ghost use Rattle.std.specs.Prelude.{◌≡◌, ◌⊎◌, max, None, true, is_so
 ghost use Rattle.chess_types.specs.bytes.Words.{words};
 ghost use Rattle.chess_uci.specs.Commands.{gaps, asked as asked_of, claims_set as claims_set_of, without_memory, Unplaced};
 ghost use Rattle.chess_uci.specs.Placing.{placed};
-ghost use Rattle.chess_uci.specs.Machine.{beginning, slice_step, moment_step, line_step, idle_command, busy_command, placed_at, go, quit, set_claims, introduction, is_infinite, is_waiting, depth_done, so_far, IsAhead};
+ghost use Rattle.chess_uci.specs.Machine.{beginning, slice_step, moment_step, line_step, idle_command, placed_at, go, quit, set_claims, introduction, is_infinite, is_waiting, depth_done, so_far, IsAhead};
 ghost use Rattle.chess_uci.specs.steps.Commands.{command_of};
 ghost use Rattle.chess_uci.specs.steps.Searches.{Does, Follows};
 ghost use Rattle.chess_search.specs.Slices.{IsInRange};
@@ -107,12 +107,10 @@ impl<'a, A: Allocator> Session<'a, A> {
     fn stop(&mut self) -> ArrayVec<Reply, 4>
         ensures { Does (line_step self.old self.old.search (command_of Command.Stop)) result.items self.new }
     {
-        let Some(search) = &self.search else {
+        let Some(search) = self.search.take() else {
             return silence();
         };
-        let replies = search.end();
-        self.search = None;
-        replies
+        search.end()
     }
 
     fn quit(&mut self) -> ArrayVec<Reply, 4>

@@ -1,3 +1,5 @@
+mod interleavings;
+
 use crate::{Event, Reply, Session, session_laws};
 use chess_key::KeyTable;
 use chess_types::Move;
