@@ -1,14 +1,49 @@
 -- The first item of the movetext.
-use Rattle.std.proofs.Common.{false}
+use Rattle.std.proofs.Common.{◌≡◌, ℕ, Bool, true, false, List, refl, sym, ap, ◌∙◌}
+use Rattle.std.specs.Borrow.{Bor}
 use Rattle.std.specs.Prelude.{Result, Ok, Err}
 use mathlib.Core.Logic.{inr}
+use Rattle.chess_pgn.specs.Items as items
 use Rattle.chess_pgn.specs.Items.{Item}
+use Rattle.chess_pgn.specs.Reading.{is_heading, is_movetext}
 use Rattle.chess_pgn.specs.steps.ReaderCode.{Begins, Moved, takes_when}
+use Rattle.chess_pgn.specs.steps.Tokens.{item_of}
 use Rattle.chess_pgn.specs.declared.fault.PgnFault.{PgnFault}
 use Rattle.chess_pgn.specs.declared.reader.Reader.{Reader}
 use Rattle.chess_pgn.specs.declared.taker.Taken.{Taken}
+use Rattle.chess_pgn.specs.declared.taker.Taken.TheVariants.{GoesOn, Ends, Leaves}
+use Rattle.chess_pgn.specs.declared.token.Token.{Token}
+use Rattle.chess_pgn.specs.declared.token.Token.TheVariants.{Mark, Blank, Hidden, Braced, Line, TagOpen, TagClose, Name, Quote, Stretch, Escaped}
+
+abbrev is_end : Item → Bool
+is_end (items.Marker outcome) = true
+is_end items.TagOpen = true
+is_end _ = false
+
+-- what stands in tags alone is refused
+stray : {A : Type 0} (item : Item) (taken : Taken) (old new : Reader A) → is_movetext item ≡ false → is_end item ≡ false → Moved item (Ok taken) old new → ⊥
+stray item GoesOn old new n e m = (let k : true ≡ false = sym m.stands ∙ n in cc)
+stray item Ends old new n e m = (let k : true ≡ false = sym (ap is_end m.marker) ∙ e in cc)
+stray item Leaves old new n e m = (let k : true ≡ false = sym (ap is_end m.bracket) ∙ e in cc)
+
+-- what isn't white, a comment or a bracket, and is taken, stands in no head
+heads_none : {A : Type 0} (token : Token) (taken : Taken) (old new : Reader A) → (token ≡ Mark → ⊥) → ((b : ℕ) → token ≡ Blank b → ⊥) → (token ≡ Hidden → ⊥) → ((text : Bor (List ℕ)) → token ≡ Braced text → ⊥) → ((line : Bor (List ℕ)) → token ≡ Line line → ⊥)
+    → (token ≡ TagOpen → ⊥) → Moved (item_of token) (Ok taken) old new → is_heading (item_of token) ≡ false
+heads_none Mark taken old new m b h t l o moved = absurd (m refl)
+heads_none (Blank x) taken old new m b h t l o moved = absurd (b x refl)
+heads_none Hidden taken old new m b h t l o moved = absurd (h refl)
+heads_none (Braced x) taken old new m b h t l o moved = absurd (t x refl)
+heads_none (Line x) taken old new m b h t l o moved = absurd (l x refl)
+heads_none TagOpen taken old new m b h t l o moved = absurd (o refl)
+heads_none TagClose taken old new m b h t l o moved = absurd (stray items.TagClose taken old new refl refl moved)
+heads_none (Name x) taken old new m b h t l o moved = absurd (stray (items.Name x.now) taken old new refl refl moved)
+heads_none Quote taken old new m b h t l o moved = absurd (stray items.Quote taken old new refl refl moved)
+heads_none (Stretch x) taken old new m b h t l o moved = absurd (stray (items.Stretch x.now) taken old new refl refl moved)
+heads_none (Escaped x) taken old new m b h t l o moved = absurd (stray (items.Escaped x) taken old new refl refl moved)
+heads_none _ taken old new m b h t l o moved = refl
 
 -- the tags end, and the item is read as one of the movetext
-pub moved_first : {A : Type 0} (item : Item) (result : Result Taken PgnFault) (old between new : Reader A) → Begins old between → Moved item result between new → takes_when false item result old new
-moved_first item (Ok taken) old between new b m = inr (between, b, m)
-moved_first item (Err fault) old between new b m = tt
+pub moved_first : {A : Type 0} (token : Token) (result : Result Taken PgnFault) (old between new : Reader A) → (token ≡ Mark → ⊥) → ((b : ℕ) → token ≡ Blank b → ⊥) → (token ≡ Hidden → ⊥) → ((text : Bor (List ℕ)) → token ≡ Braced text → ⊥)
+    → ((line : Bor (List ℕ)) → token ≡ Line line → ⊥) → (token ≡ TagOpen → ⊥) → Begins old between → Moved (item_of token) result between new → takes_when false (item_of token) result old new
+moved_first token (Ok taken) old between new m b h t l o begins moved = inr (heads_none token taken between new m b h t l o moved, between, begins, moved)
+moved_first token (Err fault) old between new m b h t l o begins moved = tt

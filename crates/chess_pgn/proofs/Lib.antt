@@ -30,5 +30,13 @@ pub mod StepLemmas
 pub mod SayLemmas
 pub mod DerivedLemmas
 pub mod TagLemmas
+pub mod HeaderLemmas
+pub mod GivenLemmas
+pub mod StartLemmas
 pub mod HeadLemmas
 pub mod ClassLemmas
+pub mod EndLemmas
+pub mod ChainLemmas
+pub mod FrontLemmas
+pub mod SourceLemmas
+pub mod RefuseLemmas

@@ -2,7 +2,8 @@
 use Rattle.std.proofs.Common.{◌≡◌, ℕ, ◌+◌, ◌*◌, ◌≤◌, inl, inr, Bool, true, false, List, [], ◌∷◌, ◌++◌, length, refl, ap, subst, ◌∙◌, arith, append_assoc, append-nil, length-append, Result, Ok, Err}
 use Rattle.chess_types.specs.bytes.Calls.{Carries, joined}
 use Rattle.chess_pgn.specs.steps.Deciding.{Decides}
-use Rattle.chess_pgn.specs.steps.AtHands.{unread, Needed, AfterAll, Readied}
+use Rattle.chess_pgn.specs.Sources.{unread}
+use Rattle.chess_pgn.specs.steps.AtHands.{Needed, AfterAll, Readied}
 use Rattle.chess_pgn.specs.steps.Texts.{Near, AfterCame, MadeReady}
 use Rattle.chess_pgn.specs.declared.at_hand.AtHand.{AtHand}
 use Rattle.chess_pgn.specs.declared.at_hand.Fault.{Fault}

@@ -1,8 +1,9 @@
 -- One item is offered.
 use Rattle.std.proofs.Common.{◌<◌, take, drop, ◌+◌, ◌≡◌, ℕ, length-append, ◌≤◌, ◌⊎◌, inl, inr, Bool, true, false, List, [], ◌∷◌, ◌++◌, length, Some, None, refl, sym, ap, subst, ◌∙◌, arith, append_assoc, append-nil, Ok, Err}
 use Rattle.std.proofs.lemmas.List.{take-append-drop, take-append-le}
+use Rattle.std.specs.Str.{byte}
 use Rattle.chess_types.specs.bytes.Calls.{joined}
-use Rattle.chess_pgn.specs.Items.{Item, is_white, place_after}
+use Rattle.chess_pgn.specs.Items.{Item, TagOpen, is_white, may_stand, place_after}
 use Rattle.chess_pgn.specs.steps.ItemAt.{Found, item_at}
 use Rattle.chess_pgn.specs.steps.Deciding.{longer, Decides}
 use Rattle.chess_pgn.specs.steps.Texts.{Oversized, Near, MadeReady, Keeps}
@@ -15,6 +16,7 @@ use Rattle.chess_pgn.specs.declared.taking.Stop.{Stop}
 use Rattle.chess_pgn.specs.declared.taking.Stop.TheVariants as stop
 use Rattle.chess_pgn.specs.declared.taking.Step.TheVariants as step
 use Rattle.chess_pgn.proofs.FoundLemmas.{the, item_taken}
+use Rattle.chess_pgn.proofs.ItemLemmas.{item_goes}
 use Rattle.chess_pgn.proofs.OpenLemmas.{nothing_undecided}
 use Rattle.chess_pgn.proofs.LocalLemmas.{undecided_taken, item_shorter}
 
@@ -31,6 +33,25 @@ near_item : (place : Place) (old hand rest : List ℕ) (item : Item) → Near pl
 near_item place old hand rest item (inl e) found small = (let s = item_shorter place hand item rest found in let l = ap length e in omega (arith, s, l))
 near_item place old hand rest item (inr h) found small =
     (let s = undecided_taken place h.0 h.1 item rest h.4 (subst (λ (x : List ℕ). item_at place x ≡ the item rest) h.2 found) in omega (arith, s, h.3))
+
+first : (a b : ℕ) (xs ys : List ℕ) → a ∷ xs ≡ b ∷ ys → a ≡ b
+first a b xs ys e = cc
+
+-- one byte decides a bracket
+bracket_decided : (place : Place) (front : List ℕ) → may_stand place TagOpen ≡ true → Decides place (byte "[" ∷ front)
+bracket_decided place front e = λ more.
+    item_goes place TagOpen (byte "[" ∷ []) (front ++ more) (record { stands = e; spelled = refl })
+    ∙ ap (λ (x : Found). longer x more) (sym (item_goes place TagOpen (byte "[" ∷ []) front (record { stands = e; spelled = refl })))
+
+-- so it was brought by a read for which nothing was at hand
+near_bracket : (place : Place) (old hand rest : List ℕ) → Near place old hand → item_at place hand ≡ the TagOpen rest → length old ≤ 65536 → length hand ≤ 65536
+near_bracket place old hand rest (inl e) found small = (let l = ap length e in omega (arith, l, small))
+near_bracket place old hand rest (inr h) found small = (let t = item_taken place hand TagOpen rest found in by h.0 h.1 h.2 h.3 h.4 t.2.stands (t.1 ∙ ap (λ (x : List ℕ). x ++ rest) t.2.spelled))
+  where
+    by : (front piece : List ℕ) → hand ≡ front ++ piece → length piece ≤ 65536 → (Decides place front → ⊥) → may_stand place TagOpen ≡ true → hand ≡ byte "[" ∷ rest → length hand ≤ 65536
+    by [] piece e few undecided stands is = (let l = ap length e in omega (arith, l, few))
+    by (b ∷ front) piece e few undecided stands is =
+        (let k : b ≡ byte "[" = first b (byte "[") (front ++ piece) rest (sym e ∙ is) in absurd (undecided (subst (λ (x : ℕ). Decides place (x ∷ front)) (sym k) (bracket_decided place front stands))))
 
 -- a longer front decides too
 decides_longer : (place : Place) (front more : List ℕ) → Decides place front → Decides place (front ++ more)
@@ -134,6 +155,7 @@ module _ {X T : Type 0} (comes : X → List ℕ → X → Type 0) (at_hand : X �
         rest = rest;
         found = (λ more none. decided_item place (at_hand mid) more (the item rest) (all mid) r.after.decided none found);
         near = (λ small. near_item place (at_hand old) (at_hand mid) rest item r.after.near found small);
+        bracket = (λ e small. near_bracket place (at_hand old) (at_hand mid) rest r.after.near (subst (λ (i : Item). item_at place (at_hand mid) ≡ the i rest) e found) small);
       }
 
       -- it isn't used

@@ -65,6 +65,7 @@ module _ {X T : Type 0} (comes : X → List ℕ → X → Type 0) (at_hand : X �
           white = (a.items, sym a.took.whites ∙ white, subst (λ (x : List ℕ). SpellsFrom 0 GameStart x a.items []) whole (subst (λ (x : List ℕ). SpellsFrom 0 GameStart (at_hand old ++ (joined r.pieces ++ [])) a.items x) (append-nil (at_hand mid) ∙ a.nothing) spelled));
           ended = a.ended;
           nothing = a.nothing;
+          still = λ h. (a.took.at_end h).0;
         }
 
     -- what is behind the limit is white as well
@@ -90,11 +91,12 @@ module _ {X T : Type 0} (comes : X → List ℕ → X → Type 0) (at_hand : X �
           white = (a.items ++ second.0, white_join a.items second.0 items_white second.1, subst (λ (x : List ℕ). SpellsFrom 0 GameStart x (a.items ++ second.0) []) parts whole);
           ended = k.after.1;
           nothing = k.after.2;
+          still = λ h. (let first_end = a.took.at_end h in joined-append r.pieces k.pieces ∙ ap (λ (x : List ℕ). x ++ joined k.pieces) first_end.0 ∙ k.after.4 first_end.1);
         }
 
     -- something else comes behind the limit
     pub passed_other : (new : X) → s.why ≡ stop.TooLarge → s.white ≡ true → Skips comes at_hand all sound s.place mid new (Ok false) → Passed comes at_hand all sound size takes limit old new t u s
-    passed_other new why white k = record { mid = mid; ran = r; after = inr (record { over = why; white = white; pieces = k.pieces; came = k.came; other = k.after.0 }) }
+    passed_other new why white k = record { mid = mid; ran = r; after = inr (record { over = why; white = white; pieces = k.pieces; came = k.came; other = k.after.0 }); more = λ e. absurd (let h : stop.TooLarge ≡ stop.End = sym why ∙ e in cc) }
 
     pub passed_fault : (new : X) (fault : Fault) → Skips comes at_hand all sound s.place mid new (Err fault) → (pieces : List (List ℕ)) × Calls comes old pieces new
     passed_fault new fault k = (r.pieces ++ k.pieces, Calls-append comes old mid new r.pieces k.pieces r.came k.came)

@@ -4,7 +4,8 @@ use Rattle.std.proofs.lemmas.Bool.{false≢true}
 use Rattle.chess_types.specs.bytes.Calls.{Calls, joined}
 use Rattle.chess_types.proofs.CallLemmas.{Calls-more, joined-more}
 use Rattle.chess_pgn.specs.steps.Deciding.{Decides}
-use Rattle.chess_pgn.specs.steps.AtHands.{unread, Reads, After, Needed, AfterAll, Readied}
+use Rattle.chess_pgn.specs.Sources.{unread}
+use Rattle.chess_pgn.specs.steps.AtHands.{Reads, After, Needed, AfterAll, Readied}
 use Rattle.chess_pgn.specs.declared.at_hand.AtHand.{AtHand}
 use Rattle.chess_pgn.specs.declared.at_hand.Fault.{Fault}
 use Rattle.chess_pgn.specs.declared.at_hand.Fault.TheVariants.{Memory, Read}

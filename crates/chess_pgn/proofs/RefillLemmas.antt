@@ -2,7 +2,8 @@
 use Rattle.std.proofs.Common.{◌≡◌, ℕ, ◌+◌, ◌*◌, ◌≤◌, inl, Bool, true, false, not, List, [], ◌∷◌, ◌++◌, length, refl, sym, ap, subst, ◌∙◌, arith, append-nil, Result, Ok, Err}
 use Rattle.std.proofs.lemmas.Bool.{false≢true}
 use Rattle.chess_types.specs.bytes.Calls.{Calls, Carries, joined}
-use Rattle.chess_pgn.specs.steps.AtHands.{unread, Reads, AfterRefill, Refilled}
+use Rattle.chess_pgn.specs.Sources.{unread}
+use Rattle.chess_pgn.specs.steps.AtHands.{Reads, AfterRefill, Refilled}
 use Rattle.chess_pgn.specs.steps.Texts.{Refills}
 use Rattle.chess_pgn.specs.steps.Texts as texts
 use Rattle.chess_pgn.specs.declared.at_hand.AtHand.{AtHand}

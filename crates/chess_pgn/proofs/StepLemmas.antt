@@ -1,7 +1,7 @@
 -- What each step of a reader of movetext does to the state of reading.
-use Rattle.std.proofs.Common.{◌≡◌, ◌≢◌, ◌⊎◌, ℕ, ◌-◌, ◌<◌, ◌≤◌, min, Bool, true, false, List, [], ◌∷◌, ◌++◌, length, take, drop, reverse, Some, None, refl, sym, subst, ap, ◌∙◌, arith, append_assoc}
-use Rattle.std.specs.Prelude.{Result, Ok, Err, OnOk, MatchResult, if◌then◌else◌, ◌||◌, slice_get, unwrap_or}
-use Rattle.std.proofs.lemmas.List.{append-nil, length-append, take_at, drop_at, reverse-append, reverse-reverse}
+use Rattle.std.proofs.Common.{◌≡◌, ◌≢◌, ◌⊎◌, ℕ, suc, ◌-◌, ◌<◌, ◌≤◌, min, Bool, true, false, List, [], ◌∷◌, ◌++◌, length, take, drop, reverse, Some, None, refl, sym, subst, ap, ◌∙◌, arith, append_assoc}
+use Rattle.std.specs.Prelude.{Result, Ok, Err, OnOk, MatchResult, if◌then◌else◌, ◌||◌, nat_lt, slice_get, unwrap_or}
+use Rattle.std.proofs.lemmas.List.{append-nil, length-append, take_at, drop_at, length-reverse, reverse-append, reverse-reverse}
 use mathlib.Core.Logic.{inl, inr}
 use Rattle.chess_types.specs.board.MoveParts.{MoveParts}
 use Rattle.chess_types.specs.board.Position.{State}
@@ -14,10 +14,10 @@ use Rattle.chess_tree.specs.Forest.{Forest, Bare, count, below_at, below_child}
 use Rattle.chess_tree.specs.GameTree.{TreeParts, added, annotated_here, at_path, line_to}
 use Rattle.chess_tree.specs.Edits.{annotated, change_node, parent}
 use Rattle.chess_tree.specs.WellFormed.{Leads}
-use Rattle.chess_pgn.specs.Grammar.{Element, Annotation, Remark, Open, Close, Text, Part, joined, move_in, move_or_none}
+use Rattle.chess_pgn.specs.Grammar.{Element, Annotation, Remark, Open, Close, Text, Part, few_are_open, joined, move_in, move_or_none}
 use Rattle.chess_pgn.specs.steps.Hanging.{hang, leaf, nag, say}
 use Rattle.chess_pgn.specs.steps.Elements.{Frame, Last, path_of, last_of, end_of}
-use Rattle.chess_pgn.specs.steps.Readings.{Reading, fresh, goes_on, Holds, is_nil, Pends, AreFrames, Nested, position_at, said_here, comment_at, forest_at}
+use Rattle.chess_pgn.specs.steps.Readings.{Goes, Reading, fresh, goes_on, Holds, is_nil, Pends, AreFrames, Nested, position_at, said_here, comment_at, forest_at}
 use Rattle.chess_pgn.specs.declared.reader.moves.Interrupted.{Interrupted}
 use Rattle.chess_tree.specs.declared.fault.TreeFault.{TreeFault}
 use Rattle.chess_tree.specs.declared.fault.TreeFault.TheVariants.{AtRoot, NoSuch}
@@ -29,7 +29,7 @@ use Rattle.chess_pgn.proofs.RemarkLemmas.{normalised_append, normalised_parted, 
 -- what a step gives
 abbrev pub Next : Element → TreeParts → List Interrupted → Bool → List ℕ → ℕ → Reading → Type 0
 Next e t lines played comments from s =
-    (s' : Reading) × Holds t lines played comments from s' × ((es : List Element) → goes_on (e ∷ es) s ≡ goes_on es s')
+    (s' : Reading) × Holds t lines played comments from s' × Goes (e ∷ []) s s'
 
 -- ---- what stays
 
@@ -89,10 +89,10 @@ remark_goes t lines played comments comments' text from s e h = (
     lead = ap (λ (z : List ℕ). joined z (normalised text)) h.lead ∙ sym (normalised_parted h.text text);
     pends = h.pends;
   },
-  λ es. refl,
+  record { start = refl; given = λ es. refl; few = λ es. refl },
 )
 
-no_lines : (texts : List ℕ) (lines : List Interrupted) → Pends texts [] (reverse lines) → lines ≡ []
+pub no_lines : (texts : List ℕ) (lines : List Interrupted) → Pends texts [] (reverse lines) → lines ≡ []
 no_lines texts lines h = by (reverse lines) refl h
   where
     by : (is : List Interrupted) → reverse lines ≡ is → Pends texts [] is → lines ≡ []
@@ -143,12 +143,12 @@ nag_goes t t' lines played comments from n start c f up (Some x) here lead st so
         lead = h.lead;
         pends = h.pends;
       },
-      λ es. refl,
+      record { start = refl; given = λ es. refl; few = λ es. refl },
     )
 
 pub nag_ignored : (t : TreeParts) (lines : List Interrupted) (played : Bool) (comments : List ℕ) (from n : ℕ) (start : State) (c : List ℕ) (f : Forest) (up : List ℕ) (l : Last) (here : State) (lead : List ℕ) (st : List Frame)
     → played ≡ false → Holds t lines played comments from (state start c f up l here lead st) → Next (Annotation n) t lines played comments from (state start c f up l here lead st)
-nag_ignored t lines played comments from n start c f up None here lead st none h = (state start c f up None here lead st, h, λ es. refl)
+nag_ignored t lines played comments from n start c f up None here lead st none h = (state start c f up None here lead st, h, record { start = refl; given = λ es. refl; few = λ es. refl })
 nag_ignored t lines played comments from n start c f up (Some x) here lead st none h = absurd (let k : false ≡ true = sym none ∙ h.played in cc)
 
 -- ---- moves
@@ -202,7 +202,7 @@ said_node t t1 text up i ep e = (
   ap (λ (z : TreeParts). z.path) e ∙ ep,
 )
 
-no_frames : (texts : List ℕ) (x : Frame) (xs : List Frame) (lines : List Interrupted) → lines ≡ [] → Pends texts (x ∷ xs) (reverse lines) → ⊥
+pub no_frames : (texts : List ℕ) (x : Frame) (xs : List Frame) (lines : List Interrupted) → lines ≡ [] → Pends texts (x ∷ xs) (reverse lines) → ⊥
 no_frames texts x xs lines e h = rw e at h
 
 -- a move of a line that has one, or of the game's own line
@@ -245,7 +245,7 @@ word_goes t t1 t2 lines played comments comments' from w m er e1 ec e2 el which 
         lead = sym normalised_none;
         pends = h.pends;
       },
-      λ es. rw er' refl,
+      record { start = refl; given = λ es. rw er' refl; few = λ es. refl },
     )
 word_goes t t1 t2 lines played comments comments' from w m er e1 ec e2 el (inl k) start c f up None here lead (y ∷ ys) h = absurd (let z : true ≡ false = sym k ∙ h.played in cc)
 word_goes t t1 t2 lines played comments comments' from w m er e1 ec e2 el (inr k) start c f up None here lead (y ∷ ys) h = absurd (no_frames h.outer y ys lines k h.pends)
@@ -279,7 +279,7 @@ word_goes t t1 t2 lines played comments comments' from w m er e1 ec e2 el which 
         lead = sym normalised_none;
         pends = h.pends;
       },
-      λ es. rw er' refl,
+      record { start = refl; given = λ es. rw er' refl; few = λ es. refl },
     )
 
 -- the first move of a variation
@@ -312,7 +312,7 @@ first_goes t t' lines played comments from w m er e el none some start c f up No
         lead = h.lead;
         pends = h.pends;
       },
-      λ es. rw er' refl,
+      record { start = refl; given = λ es. rw er' refl; few = λ es. refl },
     )
 
 -- a move, whose line has one, or is the game's own, or is a variation without one so far
@@ -357,18 +357,36 @@ pub stepped_down : {P : Type 0} (r : Result (Unit {0}) TreeFault) (place n : ℕ
 stepped_down (Ok u) place n ok at few = ok
 stepped_down (Err fault) place n ok at few = absurd (omega (arith, at.1, few))
 
+-- as many frames as lines that are interrupted
+pub frames_long : (texts : List ℕ) (xs : List Frame) (is : List Interrupted) → Pends texts xs is → length xs ≡ length is
+frames_long texts [] [] h = refl
+frames_long texts [] (i ∷ is) h = absurd h
+frames_long texts (x ∷ xs) [] h = absurd h
+frames_long texts (x ∷ xs) (i ∷ is) h = ap (λ (n : ℕ). suc n) (frames_long h.0 xs is h.8)
+
+lt_true : (a b : ℕ) → a < b → nat_lt a b ≡ true
+lt_true a b h = grind (arith, h)
+
+-- another may be open
+has_room : (texts : List ℕ) (xs : List Frame) (lines : List Interrupted) → Pends texts xs (reverse lines) → length lines < 128 → nat_lt (length xs) 128 ≡ true
+has_room texts xs lines h few = (let e = frames_long texts xs (reverse lines) h in let r = length-reverse lines in lt_true (length xs) 128 (omega (arith, e, r, few)))
+
+less_one : (n : ℕ) → suc n - 1 ≡ n
+less_one n = omega arith
+
 pub open_goes : (t t' : TreeParts) (lines lines' : List Interrupted) (played : Bool) (comments : List ℕ) (from from' depth place : ℕ)
-    → played ≡ true → depth ≡ length t.path - 1 → place ≡ unwrap_or (slice_get t.path depth) 0
+    → length lines < 128 → played ≡ true → depth ≡ length t.path - 1 → place ≡ unwrap_or (slice_get t.path depth) 0
     → lines' ≡ lines ++ record { depth = depth; place = place; from = from } ∷ [] → (t.path ≢ [] → t' ≡ at_path (parent t.path) t) → from' ≡ length comments
     → (start : State) (c : List ℕ) (f : Forest) (up : List ℕ) (l : Last) (here : State) (lead : List ℕ) (st : List Frame)
     → Holds t lines played comments from (state start c f up l here lead st) → Next Open t' lines' false comments from' (state start c f up l here lead st)
-open_goes t t' lines lines' played comments from from' depth place some ed epl el back ef start c f up None here lead st h = absurd (let k : true ≡ false = sym some ∙ h.played in cc)
-open_goes t t' lines lines' played comments from from' depth place some ed epl el back ef start c f up (Some x) here lead st h =
+open_goes t t' lines lines' played comments from from' depth place few some ed epl el back ef start c f up None here lead st h = absurd (let k : true ≡ false = sym some ∙ h.played in cc)
+open_goes t t' lines lines' played comments from from' depth place few some ed epl el back ef start c f up (Some x) here lead st h =
     let i : Interrupted = record { depth = depth; place = place; from = from } in
     let y : Frame = record { up = up; place = x.0; before = x.1; here = here; lead = lead } in
     let et : t' ≡ at_path (parent t.path) t = back (λ z. not_nil up x.0 (sym h.path ∙ z)) in
     let deep : depth ≡ length up = ed ∙ ap (λ (z : List ℕ). length z - 1) h.path ∙ omega (arith, length-append up (x.0 ∷ [])) in
-    let at : place ≡ x.0 = epl ∙ rw (deep, h.path) (place_last up x.0) in (
+    let at : place ≡ x.0 = epl ∙ rw (deep, h.path) (place_last up x.0) in
+    let room = has_room h.outer st lines h.pends few in (
       state start c f up None x.1 [] (y ∷ st),
       record {
         start = ap (λ (z : TreeParts). z.tree.start) et ∙ h.start;
@@ -391,7 +409,7 @@ open_goes t t' lines lines' played comments from from' depth place some ed epl e
         pends = subst (λ (z : List Interrupted). Pends comments (y ∷ st) z) (sym (ap reverse el ∙ reverse-append lines (i ∷ [])))
             (h.outer, h.text, h.parts, h.from, h.spaced, h.lead, deep, at, h.pends);
       },
-      λ es. refl,
+      record { start = refl; given = λ es. refl; few = λ es. rw room refl },
     )
 
 at_prefix : (u more : List ℕ) → take (length u) (u ++ more) ≡ u
@@ -452,7 +470,7 @@ close_goes t t1 t2 lines rest line played comments comments' from from' el e1 ec
         lead = ap (λ (z : List ℕ). joined z lead) n.5 ∙ ap (joined (normalised n.1)) h.lead ∙ sym (normalised_append n.1 h.text h.spaced);
         pends = n.8;
       },
-      λ es. refl,
+      record { start = refl; given = λ es. refl; few = λ es. ap (λ (n : ℕ). few_are_open n es) (less_one (length xs)) },
     )
 close_goes t t1 t2 lines rest line played comments comments' from from' el e1 ec e2 ef start c f up (Some y) here lead (x ∷ xs) h =
     let p : List ℕ = up ++ y.0 ∷ [] in
@@ -485,7 +503,7 @@ close_goes t t1 t2 lines rest line played comments comments' from from' el e1 ec
         lead = n.5;
         pends = n.8;
       },
-      λ es. refl,
+      record { start = refl; given = λ es. refl; few = λ es. ap (λ (n : ℕ). few_are_open n es) (less_one (length xs)) },
     )
 
 -- ---- the end

@@ -3,7 +3,10 @@
 pub mod Items
 pub mod Layout
 pub mod Games
+pub mod Tags
 pub mod Written
 pub mod Grammar
+pub mod Reading
+pub mod Sources
 pub mod Faults
 pub mod steps

@@ -18,4 +18,6 @@ pub mod Taking
 pub mod Skipping
 pub mod Passing
 pub mod OtherCode
+pub mod HeaderCode
 pub mod Next
+pub mod GameAt

@@ -69,7 +69,8 @@ fn make_buffer<A: Allocator>(alloc: A, buffer: &mut Vec<u8, A>) -> Result<(), Fa
 }
 
 impl<'a, R: Source, A: Allocator> AtHand<'a, R, A> {
-    ghost use Rattle.chess_pgn.specs.steps.AtHands.{unread, Reads, Readied, Refilled};
+    ghost use Rattle.chess_pgn.specs.Sources.{unread};
+    ghost use Rattle.chess_pgn.specs.steps.AtHands.{Reads, Readied, Refilled};
 
     /// The source, nothing of which is at hand.
     pub fn new(alloc: &'a A, source: R) -> AtHand<'a, R, A>

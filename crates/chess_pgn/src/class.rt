@@ -1,4 +1,4 @@
-ghost use Rattle.std.specs.Prelude.{◌≡◌, ◌==◌, not, ℕ, ◌≤◌, length};
+ghost use Rattle.std.specs.Prelude.{◌≡◌, ◌==◌, not, ◌≤◌, length};
 ghost use Rattle.std.specs.List.{prefix_len};
 ghost use Rattle.chess_pgn.specs.Items.{is_blank, is_escapable};
 ghost use Rattle.chess_pgn.specs.steps.Classes.{bit_of, has_byte};

@@ -1,6 +1,6 @@
 //! Whether bytes at hand decide the item at their front.
 
-ghost use Rattle.std.specs.Prelude.{◌≡◌, ◌≤◌, ◌<◌, ℕ, true, take, length, nat_lt, MatchBool};
+ghost use Rattle.std.specs.Prelude.{◌≡◌, ◌≤◌, ◌<◌, true, take, length, nat_lt, MatchBool};
 ghost use Rattle.std.specs.List.{list_all};
 ghost use Rattle.chess_pgn.specs.Items.{digits_value};
 ghost use Rattle.chess_pgn.specs.steps.Classes.{has_byte};

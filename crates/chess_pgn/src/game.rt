@@ -1,4 +1,4 @@
-ghost use Rattle.std.specs.Prelude.{◌≡◌, ◌≤◌, [], List, ℕ, Option, IfOk, IfErr, option_map};
+ghost use Rattle.std.specs.Prelude.{◌≡◌, ◌≤◌, [], Option, IfOk, IfErr, option_map};
 ghost use Rattle.chess_tree.specs.Forest.{Bare};
 ghost use Rattle.chess_pgn.specs.Games.{tag_value, unknown};
 ghost use Rattle.chess_pgn.specs.declared.fault.FaultKind.TheVariants.{Memory};

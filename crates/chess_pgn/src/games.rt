@@ -1,7 +1,13 @@
 //! Games of a text or of a source, one after another.
 
-ghost use Rattle.std.specs.Prelude.{◌≡◌, Some, None, Err, IfErr, IfOk};
+ghost use Rattle.std.specs.Prelude.{◌≡◌, false, [], true, Some, None, Ok, Err, IfErr, IfOk, IfSome};
+ghost use Rattle.chess_types.specs.bytes.Calls.{Carries};
+ghost use Rattle.chess_pgn.specs.Reading.{IsAtFront, IsWhite};
+ghost use Rattle.chess_pgn.specs.Sources.{HasGame, HasNone, unread};
+ghost use Rattle.chess_pgn.specs.steps.GameAt.{TakesGame};
+ghost use Rattle.chess_pgn.specs.steps.GameCode.{game_of};
 ghost use Rattle.chess_pgn.specs.steps.Next.{IsSound};
+ghost use Rattle.chess_pgn.specs.steps.ReaderCode.{Answered};
 
 use crate::at_hand::{AtHand, Fault};
 use crate::fault::{FaultKind, PgnFault, at_place};
@@ -57,19 +63,18 @@ fn aground<A: Allocator>(
     reader.unspelled(at)
 }
 
-// The game whose reading has stopped, and how many bytes it took.
+// The game whose reading has stopped.
 fn stopped_game<'a, A: Allocator>(
     reader: Reader<'a, A>,
     stopped: Stopped,
     unread: &[u8],
-) -> Result<Option<(Game<'a, A>, usize)>, PgnFault> {
+) -> Result<Game<'a, A>, PgnFault>
+    ensures { IfOk result (λ game. Answered stopped.why reader.entry game) }
+{
     let at = stopped.at;
     match stopped.why {
-        Stop::Full | Stop::Left => Ok(Some((reader.into_game()?, at))),
-        Stop::End => match reader.finish(at)? {
-            Some(game) => Ok(Some((game, at))),
-            None => Ok(None),
-        },
+        Stop::Full | Stop::Left => reader.into_game(),
+        Stop::End => reader.finish(at),
         Stop::Refused(fault) => Err(fault),
         Stop::NoItem => Err(aground(&reader, unread, at, stopped.place)),
         Stop::TooLarge => Err(at_place(LIMIT, FaultKind::TooLarge)),
@@ -83,7 +88,8 @@ fn take_game<'a, X: Text, A: Allocator>(
     text: &mut X,
 ) -> Result<Option<(Game<'a, A>, usize)>, GamesFault>
     requires { X.sound text.old }
-    ensures { IfOk result (λ _. X.sound text.new) }
+    ensures sound { IfOk result (λ _. X.sound text.new) }
+    ensures game { TakesGame X.comes X.at_hand X.all text.old text.new result }
 {
     let mut reader = Reader::new(alloc, table)?;
     let stopped = match pass(text, &mut reader, LIMIT) {
@@ -93,7 +99,7 @@ fn take_game<'a, X: Text, A: Allocator>(
         Err(Fault::Read) => return Err(GamesFault::Read),
     };
     match stopped_game(reader, stopped, text.unread()) {
-        Ok(game) => Ok(game),
+        Ok(game) => Ok(Some((game, stopped.at))),
         Err(fault) => Err(GamesFault::Pgn(fault)),
     }
 }
@@ -108,7 +114,11 @@ pub fn read_game<'a, A: Allocator>(
     alloc: &'a A,
     table: &'a KeyTable,
     input: &[u8],
-) -> Result<Option<(Game<'a, A>, usize)>, PgnFault> {
+) -> Result<Option<(Game<'a, A>, usize)>, PgnFault>
+    ensures game { IfOk result (λ found. IfSome found (λ x. IsAtFront input.now (game_of x.0) x.1)) }
+    ensures cursor { IfOk result (λ found. IfSome found (λ x. x.0.tree.path ≡ [])) }
+    ensures none { result ≡ Ok None → IsWhite input.now }
+{
     match take_game(alloc, table, &mut Whole { left: input }) {
         Ok(game) => Ok(game),
         Err(GamesFault::Pgn(fault)) => Err(fault),
@@ -133,6 +143,8 @@ impl<'a, R: Source, A: Allocator> Games<'a, R, A> {
         ensures sound { IsSound R.ended result }
         ensures none { result.fault ≡ None }
         ensures source { result.text.source ≡ source }
+        ensures nothing { unread result.text ≡ [] }
+        ensures goes_on { result.text.has_ended ≡ false }
     {
         Games {
             text: AtHand::new(alloc, source),
@@ -149,6 +161,7 @@ impl<'a, R: Source, A: Allocator> Games<'a, R, A> {
         requires none { self.old.fault ≡ None }
         ensures sound { IfOk result (λ _. IsSound R.ended self.new) }
         ensures none { self.new.fault ≡ None }
+        ensures game { TakesGame (λ s bytes t. Carries R.gives s.source bytes t.source) unread (λ s. s.has_ended ≡ true) self.old.text self.new.text result }
     {
         take_game(self.alloc, self.table, &mut self.text)
     }
@@ -177,6 +190,9 @@ impl<'a, R: Source, A: Allocator> Games<'a, R, A> {
         ensures untouched { (fault : GamesFault) → self.old.fault ≡ Some fault → self.new ≡ self.old }
         ensures sticky { IfErr result (λ fault. self.new.fault ≡ Some fault) }
         ensures good { IfOk result (λ _. self.new.fault ≡ None) }
+        ensures game { IfOk result (λ found. IfSome found (λ game. HasGame R.gives self.old.text self.new.text (game_of game))) }
+        ensures cursor { IfOk result (λ found. IfSome found (λ game. game.tree.path ≡ [])) }
+        ensures none { result ≡ Ok None → HasNone R.gives self.old.text self.new.text }
     {
         if let Some(fault) = self.fault {
             return Err(fault);

@@ -1,4 +1,4 @@
-ghost use Rattle.std.specs.Prelude.{◌≡◌, ◌++◌, [], ◌∷◌, List, ℕ, Some, codes, decimal, OnOk, IfOk, IfSome, IsTrue, is_none, length, ◌<◌, not, ◌||◌, true, false};
+ghost use Rattle.std.specs.Prelude.{◌≡◌, ◌∷◌, Some, OnOk, IfOk, IsTrue, is_none, length, ◌<◌, not, ◌||◌, true, false};
 ghost use Rattle.chess_types.specs.board.Legal.{is_legal};
 ghost use Rattle.chess_types.specs.board.Lines.{extended, last};
 ghost use Rattle.chess_tree.specs.Forest.{child};

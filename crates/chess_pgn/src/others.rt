@@ -1,5 +1,7 @@
-ghost use Rattle.std.specs.Prelude.{◌≡◌, [], Option, option_map, IfErr, IfOk, OnOk};
+ghost use Rattle.std.specs.Prelude.{◌≡◌, [], Option, Some, None, option_map, OnErr, OnOk};
 ghost use Rattle.chess_pgn.specs.Games.{tag_in};
+ghost use Rattle.chess_pgn.specs.Tags.{Ascend};
+ghost use Rattle.chess_pgn.specs.steps.OtherCode.{Sets};
 
 use std::alloc::{AllocError, Allocator};
 use std::collections::BTreeMap;
@@ -49,20 +51,24 @@ impl<'a, A: Allocator> OtherTags<'a, A> {
         &self.values
     }
 
-    /// Sets the value of the tag with that name.
-    pub fn insert(
-        &mut self,
-        name: Vec<u8, &'a A>,
-        value: Vec<u8, &'a A>,
-    ) -> Result<(), AllocError> {
+    /// Sets the value of the tag with that name. Where there is no memory, all is as before.
+    pub fn insert(&mut self, name: Vec<u8, &'a A>, value: Vec<u8, &'a A>) -> Result<(), AllocError>
+        ensures ok { OnOk result (Sets name.entry.items (Some value.entry.items) self.old self.new) }
+        ensures ascend { Ascend self.new }
+        ensures err { OnErr result (self.new ≡ self.old) }
+    {
         match self.values.insert(name, value) {
             Ok(_) => Ok(()),
             Err(_) => Err(AllocError),
         }
     }
 
-    /// Takes a tag out.
-    pub fn remove(&mut self, name: &[u8]) -> Option<Vec<u8, &'a A>> {
+    /// Takes the tag with that name out.
+    pub fn remove(&mut self, name: &[u8]) -> Option<Vec<u8, &'a A>>
+        ensures value { option_map (λ value. value.items) result ≡ tag_in name.now self.old }
+        ensures removed { Sets name.now None self.old self.new }
+        ensures ascend { Ascend self.new }
+    {
         self.values.remove(name)
     }
 }

@@ -1,6 +1,6 @@
 //! Taking the items of a text, and passing over what is white behind the limit.
 
-ghost use Rattle.std.specs.Prelude.{◌≡◌, IfOk};
+ghost use Rattle.std.specs.Prelude.{IfOk};
 ghost use Rattle.chess_pgn.specs.steps.Passing.{Passes};
 
 use crate::at_hand::Fault;

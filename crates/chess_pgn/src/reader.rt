@@ -1,6 +1,6 @@
 ghost use Rattle.std.specs.Prelude.{◌≡◌, false, IfOk, OnOk};
-ghost use Rattle.chess_pgn.specs.steps.ReaderCode.{Begins, Moved, ending_item, takes_when};
-ghost use Rattle.chess_pgn.specs.steps.Readings.{IsRead};
+ghost use Rattle.chess_pgn.specs.steps.HeaderCode.{is_begun};
+ghost use Rattle.chess_pgn.specs.steps.ReaderCode.{Begins, Closed, Finished, IsNew, Moved, ending_item, takes_when};
 ghost use Rattle.chess_pgn.specs.steps.Tokens.{item_of};
 
 mod found;
@@ -26,8 +26,6 @@ pub struct Reader<'a, A: Allocator> {
     header: Header<'a, A>,
     moves: Moves<'a, A>,
     outcome: Outcome,
-    /// Whether there was more than white space and hidden lines.
-    begun: bool,
     /// Whether the movetext has begun.
     moving: bool,
 }
@@ -35,23 +33,24 @@ pub struct Reader<'a, A: Allocator> {
 impl<'a, A: Allocator> Reader<'a, A> {
     /// Nothing read. `Memory` where there is none.
     #[tactic(auto, unfolding(chess_types::specs::board::Position::start))]
-    pub fn new(alloc: &'a A, table: &'a KeyTable) -> Result<Reader<'a, A>, AllocError> {
+    pub fn new(alloc: &'a A, table: &'a KeyTable) -> Result<Reader<'a, A>, AllocError>
+        ensures { IfOk result (λ reader. IsNew reader) }
+    {
         Ok(Reader {
             alloc,
             table,
             header: Header::new(alloc),
             moves: Moves::new(alloc, Position::start(), table)?,
             outcome: Outcome::Unfinished,
-            begun: false,
             moving: false,
         })
     }
 
     // The end of the tags: the game begins in the position that they give.
     fn begin_moves(&mut self) -> Result<(), PgnFault>
+        requires { is_begun self.old.header.part ≡ false }
         ensures { OnOk result (Begins self.old self.new) }
     {
-        self.begun = true;
         self.moving = true;
         let Some(start) = self.header.start()? else {
             return Ok(());
@@ -104,6 +103,7 @@ impl<'a, A: Allocator> Reader<'a, A> {
 
     // An item in front of the movetext, or its first one.
     fn head(&mut self, at: usize, token: Token<'_>) -> Result<Taken, PgnFault>
+        requires { is_begun self.old.header.part ≡ false }
         ensures { takes_when false (item_of token.entry) result self.old self.new }
     {
         match token {
@@ -111,17 +111,14 @@ impl<'a, A: Allocator> Reader<'a, A> {
             Token::Blank(_) => Ok(Taken::GoesOn),
             Token::Hidden => Ok(Taken::GoesOn),
             Token::Braced(text) => {
-                self.begun = true;
                 self.moves.comment(text)?;
                 Ok(Taken::GoesOn)
             }
             Token::Line(line) => {
-                self.begun = true;
                 self.moves.line_comment(line)?;
                 Ok(Taken::GoesOn)
             }
             Token::TagOpen => {
-                self.begun = true;
                 self.header.open(at);
                 Ok(Taken::GoesOn)
             }
@@ -148,8 +145,7 @@ impl<'a, A: Allocator> Reader<'a, A> {
 
     /// The game that was read.
     pub fn into_game(self) -> Result<Game<'a, A>, PgnFault>
-        ensures outcome { IfOk result (λ game. game.result ≡ self.entry.outcome) }
-        ensures tree { IfOk result (λ game. IsRead self.entry.moves game.tree) }
+        ensures { IfOk result (λ game. Closed self.entry game) }
     {
         let Reader {
             alloc,
@@ -157,7 +153,6 @@ impl<'a, A: Allocator> Reader<'a, A> {
             header,
             moves,
             outcome,
-            begun: _,
             moving: _,
         } = self;
         Ok(Game {
@@ -167,23 +162,22 @@ impl<'a, A: Allocator> Reader<'a, A> {
         })
     }
 
-    /// The game that was read, where the input ends at that place; `None` where it had white space and hidden lines alone.
+    /// The game that was read, where the input ends at that place.
     ///
     /// # Errors
     ///
     /// `Truncated` in a tag or a variation; `Fen` where the tags give no position; `Memory`.
-    pub fn finish(self, at: usize) -> Result<Option<Game<'a, A>>, PgnFault> {
+    pub fn finish(self, at: usize) -> Result<Game<'a, A>, PgnFault>
+        ensures { IfOk result (λ game. Finished self.entry game) }
+    {
         let mut reader = self;
-        if !reader.begun {
-            return Ok(None);
-        }
         if reader.header.is_in_tag() || reader.moves.is_in_variation() {
             return Err(at_place(at, FaultKind::Truncated));
         }
         if !reader.moving {
             reader.begin_moves()?;
         }
-        Ok(Some(reader.into_game()?))
+        reader.into_game()
     }
 }
 

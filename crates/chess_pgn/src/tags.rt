@@ -1,4 +1,4 @@
-ghost use Rattle.std.specs.Prelude.{◌≡◌, List, ℕ, Option, IfOk, option_map, codes};
+ghost use Rattle.std.specs.Prelude.{◌≡◌, Option, IfOk, option_map, unwrap_or};
 ghost use Rattle.chess_pgn.specs.Games.{tag_value, unknown};
 
 use crate::lexer::is;
@@ -30,7 +30,9 @@ pub fn value_or<'a, A: Allocator>(
     alloc: &'a A,
     found: Option<Vec<u8, &'a A>>,
     text: &[u8],
-) -> Result<Vec<u8, &'a A>, AllocError> {
+) -> Result<Vec<u8, &'a A>, AllocError>
+    ensures { IfOk result (λ value. value.items ≡ unwrap_or (option_map (λ value. value.items) found.entry) text.now) }
+{
     match found {
         Some(found) => Ok(found),
         None => value(alloc, text),

@@ -1,6 +1,6 @@
 //! Taking the items of a text, one after another.
 
-ghost use Rattle.std.specs.Prelude.{◌≡◌, ◌<◌, ◌≤◌, ◌+◌, length, take, IfOk, MatchBool};
+ghost use Rattle.std.specs.Prelude.{◌<◌, ◌+◌, length, take, IfOk, MatchBool};
 ghost use Rattle.chess_pgn.specs.steps.Deciding.{Decides};
 ghost use Rattle.chess_pgn.specs.steps.Taking.{Offered, Steps, Ran};
 ghost use Rattle.chess_pgn.specs.steps.Tokens.{item_of};

@@ -85,7 +85,7 @@ impl<'a> Text for Whole<'a> {
 impl<'a, R: Source, A: Allocator> Text for AtHand<'a, R, A> {
     ghost use Rattle.std.specs.Prelude.{◌≡◌, ◌+◌, ◌*◌, true, length};
     ghost use Rattle.chess_types.specs.bytes.Calls.{Carries};
-    ghost use Rattle.chess_pgn.specs.steps.AtHands.{unread};
+    ghost use Rattle.chess_pgn.specs.Sources.{unread};
 
     ghost at_hand = { λ s. unread s };
 

@@ -1,4 +1,4 @@
-ghost use Rattle.std.specs.Prelude.{◌≡◌, ◌++◌, ◌∷◌, [], List, ℕ, if◌then◌else◌, option_map, IfOk, IfErr, OnOk};
+ghost use Rattle.std.specs.Prelude.{◌≡◌, ◌++◌, ◌∷◌, [], if◌then◌else◌, option_map, IfOk, IfErr, OnOk};
 ghost use Rattle.chess_fen.specs.Writing.{written};
 ghost use Rattle.chess_pgn.specs.Games.{untold};
 ghost use Rattle.chess_pgn.specs.Written.{behind_text, escaped, game_text, is_before, is_within, others_text, tag_text, tags_text};

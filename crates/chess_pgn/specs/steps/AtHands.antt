@@ -1,19 +1,16 @@
 -- Reads that put bytes at hand.
---   unread    the bytes at hand
 --   Reads     one read
 --   Needed    each read is made where the bytes at hand don't decide the item at their front
 --   Readied   reads, until the item is decided or the source has ended
 --   Refilled  all bytes at hand are used, and one read brings more
-use Rattle.std.specs.Prelude.{◌≡◌, ℕ, ◌+◌, ◌≤◌, ◌<◌, ◌⊎◌, Bool, true, false, List, [], ◌∷◌, ◌++◌, length, drop, Result, Ok, Err}
+use Rattle.std.specs.Prelude.{◌≡◌, ℕ, ◌+◌, ◌≤◌, ◌<◌, ◌⊎◌, Bool, true, false, List, [], ◌∷◌, ◌++◌, length, Result, Ok, Err}
 use Rattle.chess_types.specs.bytes.Calls.{Calls, joined}
+use Rattle.chess_pgn.specs.Sources.{unread}
 use Rattle.chess_pgn.specs.steps.Deciding.{Decides}
 use Rattle.chess_pgn.specs.declared.place.Place.{Place}
 use Rattle.chess_pgn.specs.declared.at_hand.AtHand.{AtHand}
 use Rattle.chess_pgn.specs.declared.at_hand.Fault.{Fault}
 use Rattle.chess_pgn.specs.declared.at_hand.Fault.TheVariants.{Memory, Read}
-
-abbrev pub unread : {R A : Type 0} → AtHand R A → List ℕ
-unread h = drop h.used h.bytes.items
 
 -- what follows a read: its bytes are at hand, it failed, or there was no memory for them
 abbrev pub After : {R A : Type 0} → (R → Type 0) → (R → Bool) → AtHand R A → List ℕ → AtHand R A → Result (Unit {0}) Fault → Type 0

@@ -1,7 +1,7 @@
 -- Items that are taken, where white space and hidden lines behind the limit are passed over.
 --   AreWhite  these bytes are white items, one after another
 --   Passes    items are taken, or the text was white
-use Rattle.std.specs.Prelude.{◌≡◌, ℕ, ◌⊎◌, true, List, [], ◌++◌, Option, Some, None, Result, Ok, Err}
+use Rattle.std.specs.Prelude.{◌≡◌, ℕ, ◌⊎◌, true, false, List, [], ◌++◌, Option, Some, None, Result, Ok, Err}
 use Rattle.chess_types.specs.bytes.Calls.{Calls, joined}
 use Rattle.chess_pgn.specs.Items.{Item}
 use Rattle.chess_pgn.specs.steps.Skipping.{column_at, white_after}
@@ -23,6 +23,7 @@ module _ {X T : Type 0} (comes : X → List ℕ → X → Type 0) (at_hand : X �
     pub white : AreWhite 0 GameStart (at_hand old ++ joined pieces)
     pub ended : all new
     pub nothing : at_hand new ≡ []
+    pub still : all old → joined pieces ≡ []
 
   -- only white items stood before the limit, and behind them comes something else
   pub record NotWhite (stopped : Stopped) (mid new : X) : Type 0 where
@@ -36,6 +37,7 @@ module _ {X T : Type 0} (comes : X → List ℕ → X → Type 0) (at_hand : X �
     pub mid : X
     pub ran : Ran comes at_hand all sound size takes limit old mid t u (Ok stopped)
     pub after : (new ≡ mid) ⊎ NotWhite stopped mid new
+    pub more : stopped.why ≡ stop.End → stopped.white ≡ false
 
   abbrev pub Passes : ℕ → X → X → T → T → Result (Option Stopped) Fault → Type 0
   Passes limit old new t u (Err e) = (pieces : List (List ℕ)) × Calls comes old pieces new

@@ -1,35 +1,38 @@
 -- What a reader of a game does with an item of the movetext.
 --   MovesOn   the elements of an item are read, whatever the state of reading was
---   Moved     what becomes of the item: it is read, it ends the game, or the game ends in front of it
---   Begins    the tags end: the game begins in some position
+--   Moved     what becomes of the item: it is read, it ends the game, the game ends in front of it, or no game goes on so
+--   Begins    the tags end: the game begins in the position that they tell
 --   TakesItem what a reader does with any item
-use Rattle.std.specs.Prelude.{◌≡◌, ◌⊎◌, ℕ, Bool, true, false, List, [], ◌++◌, Option, Some, None, Result, Ok, Err, ⊤}
-use Rattle.chess_types.specs.board.Position.{State}
-use Rattle.chess_tree.specs.Comments.{normalised}
-use Rattle.chess_pgn.specs.Grammar.{Element, element, joined}
+--   IsNew     nothing is read
+--   Closed    the game that was read
+--   Finished  the same at the end of the input
+--   Answered  the game where the reading has stopped
+use Rattle.std.specs.Prelude.{◌≡◌, ◌⊎◌, ℕ, Bool, true, false, List, [], Option, Some, None, Result, Ok, Err, ⊤}
+use Rattle.chess_types.specs.board.Position.{State, start}
+use Rattle.chess_pgn.specs.Grammar.{Element, element}
 use Rattle.chess_pgn.specs.Items as items
 use Rattle.chess_pgn.specs.Items.{Item}
-use Rattle.chess_pgn.specs.steps.Readings.{Reading, Stands, fresh, goes_on}
+use Rattle.chess_pgn.specs.Reading.{is_heading, is_movetext, lead_after}
+use Rattle.chess_pgn.specs.Tags.{is_between, start_in}
+use Rattle.chess_pgn.specs.steps.HeaderCode.{HasFound, HasTaken, Heads as HeadsOn, is_begun}
+use Rattle.chess_pgn.specs.steps.OtherCode.{Finds}
+use Rattle.chess_pgn.specs.steps.Readings.{Fails, FailsHere, Goes, IsRead, Reading, Stands, fresh}
+use Rattle.chess_pgn.specs.declared.fault.FaultKind.{FaultKind}
+use Rattle.chess_pgn.specs.declared.fault.FaultKind.TheVariants.{Memory, TooLarge}
 use Rattle.chess_pgn.specs.declared.fault.PgnFault.{PgnFault}
+use Rattle.chess_pgn.specs.declared.game.Game.{Game}
 use Rattle.chess_pgn.specs.declared.outcome.Outcome.{Outcome}
+use Rattle.chess_pgn.specs.declared.outcome.Outcome.TheVariants.{Unfinished}
 use Rattle.chess_pgn.specs.declared.reader.Reader.{Reader}
+use Rattle.chess_pgn.specs.declared.reader.header.Header.{Header}
 use Rattle.chess_pgn.specs.declared.reader.moves.Moves.{Moves}
+use Rattle.chess_pgn.specs.declared.taking.Stop.{Stop}
+use Rattle.chess_pgn.specs.declared.taking.Stop.TheVariants as stop
 use Rattle.chess_pgn.specs.declared.taker.Taken.{Taken}
 use Rattle.chess_pgn.specs.declared.taker.Taken.TheVariants.{GoesOn, Ends, Leaves}
 
 abbrev pub MovesOn : {A : Type 0} → List Element → Moves A → Moves A → Type 0
-MovesOn some old new = (s : Reading) → Stands old s → (s' : Reading) × Stands new s' × ((es : List Element) → goes_on (some ++ es) s ≡ goes_on es s')
-
--- may stand in movetext, and doesn't end it
-abbrev pub is_movetext : Item → Bool
-is_movetext (items.Marker outcome) = false
-is_movetext items.TagOpen = false
-is_movetext items.TagClose = false
-is_movetext (items.Name name) = false
-is_movetext items.Quote = false
-is_movetext (items.Stretch text) = false
-is_movetext (items.Escaped b) = false
-is_movetext _ = true
+MovesOn some old new = (s : Reading) → Stands old s → (s' : Reading) × Stands new s' × Goes some s s'
 
 pub record Read {A : Type 0} (item : Item) (old new : Reader A) : Type 0 where
   pub stands : is_movetext item ≡ true
@@ -51,11 +54,26 @@ pub record Left {A : Type 0} (item : Item) (old new : Reader A) : Type 0 where
   pub outcome : new.outcome ≡ old.outcome
   pub header : new.header ≡ old.header
 
+-- stands in a tag alone
+abbrev pub is_tagged : Item → Bool
+is_tagged items.TagClose = true
+is_tagged (items.Name name) = true
+is_tagged items.Quote = true
+is_tagged (items.Stretch text) = true
+is_tagged (items.Escaped b) = true
+is_tagged _ = false
+
+-- No movetext goes on with the item, none ends there, or it has no place in movetext.
+abbrev pub RefusesItem : {A : Type 0} → Item → FaultKind → Moves A → Type 0
+RefusesItem item Memory moves = ⊤
+RefusesItem item TooLarge moves = ⊤
+RefusesItem item kind moves = ((is_movetext item ≡ true) × Fails (element item) moves) ⊎ (((is_movetext item ≡ false) × FailsHere moves) ⊎ (is_tagged item ≡ true))
+
 abbrev pub Moved : {A : Type 0} → Item → Result Taken PgnFault → Reader A → Reader A → Type 0
 Moved item (Ok GoesOn) old new = Read item old new
 Moved item (Ok Ends) old new = Ended item old new
 Moved item (Ok Leaves) old new = Left item old new
-Moved item (Err fault) old new = ⊤
+Moved item (Err fault) old new = RefusesItem item fault.kind old.moves
 
 abbrev pub ending_item : Option Outcome → Item
 ending_item (Some outcome) = items.Marker outcome
@@ -63,23 +81,31 @@ ending_item None = items.TagOpen
 
 -- ---- in front of the movetext
 
-abbrev pub lead_after : List ℕ → Item → List ℕ
-lead_after lead (items.Comment text) = joined lead (normalised text)
-lead_after lead _ = lead
+-- it is a part of a tag, or stands between tags
+abbrev pub TakesPart : {A : Type 0} → Item → Header A → Header A → Type 0
+TakesPart item old new = HeadsOn item old new ⊎ ((is_between item ≡ true) × (is_begun old.part ≡ false) × (new ≡ old))
 
 pub record Headed {A : Type 0} (item : Item) (old new : Reader A) : Type 0 where
+  pub heading : is_heading item ≡ true
+  pub tags : TakesPart item old.header new.header
   pub lead : (start : State) (lead : List ℕ) → Stands old.moves (fresh start lead) → Stands new.moves (fresh start (lead_after lead item))
   pub moving : new.moving ≡ old.moving
   pub outcome : new.outcome ≡ old.outcome
 
+-- in the position that the tags tell, where it was to begin in the usual one
+abbrev pub BeginsIn : {A : Type 0} → List (List ℕ × List ℕ) → Moves A → Moves A → Type 0
+BeginsIn read old new = (first : State) × (start_in read ≡ Some first) × ((lead : List ℕ) → Stands old (fresh start lead) → Stands new (fresh first lead))
+
 pub record Begins {A : Type 0} (old new : Reader A) : Type 0 where
-  pub lead : (first : State) (lead : List ℕ) → Stands old.moves (fresh first lead) → (start : State) × Stands new.moves (fresh start lead)
+  pub outside : is_begun old.header.part ≡ false
+  pub header : new.header ≡ old.header
+  pub moves : (read : List (List ℕ × List ℕ)) → Finds read old.header.found.tags → BeginsIn read old.moves new.moves
   pub moving : new.moving ≡ true
   pub outcome : new.outcome ≡ old.outcome
 
 -- it is one of the tags' and the comments before the movetext, or the first of the movetext
 abbrev pub Heads : {A : Type 0} → Item → Result Taken PgnFault → Reader A → Reader A → Type 0
-Heads {A = A} item result old new = ((result ≡ Ok GoesOn) × Headed item old new) ⊎ ((between : Reader A) × Begins old between × Moved item result between new)
+Heads {A = A} item result old new = ((result ≡ Ok GoesOn) × Headed item old new) ⊎ ((is_heading item ≡ false) × (between : Reader A) × Begins old between × Moved item result between new)
 
 abbrev pub takes_when : {A : Type 0} → Bool → Item → Result Taken PgnFault → Reader A → Reader A → Type 0
 takes_when true item result old new = Moved item result old new
@@ -88,3 +114,35 @@ takes_when false item (Err fault) old new = ⊤
 
 abbrev pub TakesItem : {A : Type 0} → Reader A → Item → Result Taken PgnFault → Reader A → Type 0
 TakesItem old item result new = takes_when old.moving item result old new
+
+-- ---- the whole game
+
+pub record IsNew {A : Type 0} (reader : Reader A) : Type 0 where
+  pub tags : HasTaken [] reader.header
+  pub lead : Stands reader.moves (fresh start [])
+  pub moving : reader.moving ≡ false
+  pub outcome : reader.outcome ≡ Unfinished
+
+-- the game begins at the end of the input, where it hasn't begun
+abbrev pub begins_when : {A : Type 0} → Bool → Reader A → Reader A → Type 0
+begins_when true old new = new ≡ old
+begins_when false old new = Begins old new
+
+pub record Closed {A : Type 0} (old : Reader A) (game : Game A) : Type 0 where
+  pub has_tags : HasFound old.header game.tags
+  pub is_outcome : game.result ≡ old.outcome
+  pub is_tree : IsRead old.moves game.tree
+
+pub record Finished {A : Type 0} (old : Reader A) (game : Game A) : Type 0 where
+  pub reader : Reader A
+  pub begins : begins_when old.moving old reader
+  pub closed : old.moves.interrupted.items ≡ []
+  pub ends : Closed reader game
+
+abbrev pub Answered : {A : Type 0} → Stop → Reader A → Game A → Type 0
+Answered stop.Full reader game = Closed reader game
+Answered stop.Left reader game = Closed reader game
+Answered stop.End reader game = Finished reader game
+Answered (stop.Refused fault) reader game = ⊥
+Answered stop.NoItem reader game = ⊥
+Answered stop.TooLarge reader game = ⊥

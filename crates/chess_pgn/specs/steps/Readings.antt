@@ -4,17 +4,22 @@
 --   Pends       the comments of the lines that are open, one behind the other
 --   Stands      the reader is in that state
 --   fresh       the state before any movetext, behind some comments
---   Steps       whatever the state was, it is one from which the other elements give what these gave with one in front
-use Rattle.std.specs.Prelude.{◌≡◌, ℕ, Bool, true, false, is_some, List, [], ◌∷◌, ◌++◌, length, reverse, Option, Some, None, IfSome, ⊤}
+--   Goes        from one state, behind some elements, the others give what they give from another
+--   Steps       whatever the state was, it is one behind that element
+--   Fails       whatever the state was, nothing is derived with some elements in front, or too many variations are open
+--   Refuses     so it is, unless there was no memory or the tree is at one of its limits
+use Rattle.std.specs.Prelude.{◌≡◌, ◌⊎◌, ℕ, Bool, true, false, is_some, List, [], ◌∷◌, ◌++◌, length, reverse, Option, Some, None, IfSome, ⊤}
 use Rattle.chess_types.specs.board.Position.{State}
 use Rattle.chess_types.specs.board.Lines.{last}
 use Rattle.chess_tree.specs.Forest.{Forest, Bare}
 use Rattle.chess_tree.specs.Comments.{normalised}
 use Rattle.chess_tree.specs.GameTree.{TreeParts, moves_along}
 use Rattle.chess_tree.specs.WellFormed.{Leads}
-use Rattle.chess_pgn.specs.Grammar.{Element, joined}
+use Rattle.chess_pgn.specs.Grammar.{Element, few_are_open, joined}
 use Rattle.chess_pgn.specs.steps.Hanging.{hang, say}
 use Rattle.chess_pgn.specs.steps.Elements.{Frame, Last, path_of, end_of, run}
+use Rattle.chess_pgn.specs.declared.fault.FaultKind.{FaultKind}
+use Rattle.chess_pgn.specs.declared.fault.FaultKind.TheVariants.{Memory, TooLarge}
 use Rattle.chess_pgn.specs.declared.reader.moves.Interrupted.{Interrupted}
 use Rattle.chess_pgn.specs.declared.reader.moves.Moves.{Moves}
 
@@ -115,8 +120,25 @@ pub record Holds (t : TreeParts) (lines : List Interrupted) (has_move : Bool) (c
 abbrev pub Stands : {A : Type 0} → Moves A → Reading → Type 0
 Stands moves s = Holds moves.analysis moves.interrupted.items moves.played moves.comments.items moves.from s
 
+pub record Goes (some : List Element) (s s' : Reading) : Type 0 where
+  pub start : s'.start ≡ s.start
+  pub given : (es : List Element) → goes_on (some ++ es) s ≡ goes_on es s'
+  pub few : (es : List Element) → few_are_open (length s.interrupted) (some ++ es) ≡ few_are_open (length s'.interrupted) es
+
+abbrev pub Fails : {A : Type 0} → List Element → Moves A → Type 0
+Fails some moves = (s : Reading) → Stands moves s → (es : List Element) → (goes_on (some ++ es) s ≡ None) ⊎ (few_are_open (length s.interrupted) (some ++ es) ≡ false)
+
+abbrev pub Refuses : {A : Type 0} → List Element → FaultKind → Moves A → Type 0
+Refuses some Memory moves = ⊤
+Refuses some TooLarge moves = ⊤
+Refuses some kind moves = Fails some moves
+
+-- a variation is open
+abbrev pub FailsHere : {A : Type 0} → Moves A → Type 0
+FailsHere moves = (s : Reading) → Stands moves s → goes_on [] s ≡ None
+
 abbrev pub Steps : {A : Type 0} → Element → Moves A → Moves A → Type 0
-Steps e old new = (s : Reading) → Stands old s → (s' : Reading) × Stands new s' × ((es : List Element) → goes_on (e ∷ es) s ≡ goes_on es s')
+Steps e old new = (s : Reading) → Stands old s → (s' : Reading) × Stands new s' × Goes (e ∷ []) s s'
 
 -- The tree of a reader at the end of all lines but the game's own.
 abbrev pub IsRead : {A : Type 0} → Moves A → TreeParts → Type 0

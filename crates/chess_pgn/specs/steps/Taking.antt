@@ -8,7 +8,7 @@
 use Rattle.std.specs.Prelude.{◌≡◌, ℕ, ◌+◌, ◌-◌, ◌≤◌, ◌<◌, ◌⊎◌, take, Bool, List, [], ◌∷◌, ◌++◌, length, Some, None, Result, Ok, Err}
 use Rattle.std.specs.List.{list_all}
 use Rattle.chess_types.specs.bytes.Calls.{Calls, joined}
-use Rattle.chess_pgn.specs.Items.{Item, IsItem, is_white, place_after}
+use Rattle.chess_pgn.specs.Items.{Item, TagOpen, IsItem, is_white, place_after}
 use Rattle.chess_pgn.specs.steps.ItemAt.{item_at}
 use Rattle.chess_pgn.specs.steps.Deciding.{Decides}
 use Rattle.chess_pgn.specs.steps.Texts.{Oversized}
@@ -83,6 +83,7 @@ module _ {X T : Type 0} (comes : X → List ℕ → X → Type 0) (at_hand : X �
     pub rest : List ℕ
     pub found : Whatever new (λ more. item_at place (at_hand new ++ more) ≡ Some (item, rest ++ more))
     pub near : length (at_hand old) ≤ 65536 → length rest ≤ 65536
+    pub bracket : item ≡ TagOpen → length (at_hand old) ≤ 65536 → length (at_hand new) ≤ 65536
 
   -- what comes next is no item
   pub record NoNext (most : ℕ) (place : Place) (new : X) : Type 0 where
@@ -142,6 +143,7 @@ module _ {X T : Type 0} (comes : X → List ℕ → X → Type 0) (at_hand : X �
     pub found : Whatever new (λ more. item_at place (at_hand new ++ more) ≡ Some (item, rest ++ more))
     pub answered : takes mid at item answer u
     pub near : length (at_hand old) ≤ 65536 → length rest ≤ 65536
+    pub bracket : item ≡ TagOpen → length (at_hand old) ≤ 65536 → length (at_hand new) ≤ 65536
 
   -- the text has ended
   pub record RanOut (limit : ℕ) (old : X) (pieces : List (List ℕ)) (new : X) (t u : T) (at : ℕ) (place : Place) (white : Bool) : Type 0 where

@@ -1,5 +1,11 @@
-ghost use Rattle.std.specs.Prelude.{◌≡◌, ◌≤◌, List, ℕ, IfOk, IfSome, OnOk};
-ghost use Rattle.chess_pgn.specs.steps.ReaderCode.{lead_after};
+ghost use Rattle.std.specs.Prelude.{◌≡◌, ◌≤◌, ◌⊎◌, [], List, ℕ, true, false, ◌||◌, ◌&&◌, if◌then◌else◌, is_some, bytes_eq, codes, IfOk, IfErr, IfSome, OnOk};
+ghost use Rattle.chess_pgn.specs.Games.{tag_in};
+ghost use Rattle.chess_pgn.specs.Items.{TagOpen};
+ghost use Rattle.chess_pgn.specs.Reading.{is_heading, lead_after};
+ghost use Rattle.chess_pgn.specs.Tags.{fen_in, is_gap};
+ghost use Rattle.chess_pgn.specs.declared.fault.FaultKind.TheVariants.{Memory, Tag};
+ghost use Rattle.chess_pgn.specs.steps.HeaderCode.{Closes, HasFound, Heads, Refuses, fen_place, fresh, heading, is_begun, is_first_fen, is_spaced, start_told};
+ghost use Rattle.chess_pgn.specs.steps.OtherCode.{Finds};
 ghost use Rattle.chess_pgn.specs.steps.Tokens.{item_of};
 
 use crate::fault::{FaultKind, PgnFault, at_place};
@@ -37,7 +43,10 @@ pub struct Header<'a, A: Allocator> {
 
 impl<'a, A: Allocator> Header<'a, A> {
     /// No tag.
-    pub fn new(alloc: &'a A) -> Header<'a, A> {
+    pub fn new(alloc: &'a A) -> Header<'a, A>
+        ensures none { heading [] result ≡ fresh [] }
+        ensures found { Finds [] result.found.tags }
+    {
         Header {
             found: FoundTags::new(alloc),
             fen_at: 0,
@@ -49,59 +58,119 @@ impl<'a, A: Allocator> Header<'a, A> {
     }
 
     /// Whether a tag has begun and not ended.
-    pub fn is_in_tag(&self) -> bool {
+    pub fn is_in_tag(&self) -> bool
+        ensures { result ≡ is_begun self.now.part }
+    {
         !matches!(self.part, Part::Nothing)
     }
 
     /// The bracket at which a tag begins.
-    pub fn open(&mut self, at: usize) {
+    pub fn open(&mut self, at: usize)
+        ensures opens { is_begun self.old.part ≡ false → Heads TagOpen self.old self.new }
+        ensures place { self.new.at ≡ at }
+        ensures fen { self.new.fen_at ≡ self.old.fen_at }
+    {
         self.at = at;
-        self.name.clear();
-        self.value.clear();
         self.part = Part::Name;
     }
 
     /// That the tag that is being read is malformed.
-    pub fn malformed(&self) -> PgnFault {
+    pub fn malformed(&self) -> PgnFault
+        ensures { result ≡ record { place = self.now.at; kind = Tag } }
+    {
         at_place(self.at, FaultKind::Tag)
     }
 
-    // The end of a tag, which is kept unless one of its name came before, or it is the result's.
-    fn close(&mut self, alloc: &'a A) -> Result<(), AllocError> {
+    // Whether the tag that is being read isn't kept: one of its name came before, or it is the result's.
+    fn is_dropped(&self) -> bool
+        ensures { result ≡ (bytes_eq self.now.name.items (codes "Result") || is_some (tag_in self.now.name.items self.now.found.tags)) }
+    {
+        is(self.name.as_slice(), b"Result") || self.found.has(self.name.as_slice())
+    }
+
+    // The place of the bracket at which the first tag with the name FEN begins, where a tag that is kept ends.
+    fn fen_place(&self) -> usize
+        ensures { result ≡ (if bytes_eq self.now.name.items (codes "FEN") then self.now.at else self.now.fen_at) }
+    {
+        if is(self.name.as_slice(), b"FEN") {
+            self.at
+        } else {
+            self.fen_at
+        }
+    }
+
+    // The end of a tag.
+    fn close(&mut self, alloc: &'a A) -> Result<(), AllocError>
+        ensures ok { OnOk result (Closes self.old self.new) }
+        ensures place { OnOk result (self.new.at ≡ self.old.at) }
+        ensures fen { OnOk result (self.new.fen_at ≡ (if is_first_fen self.old.name.items self.old.found.tags then self.old.at else self.old.fen_at)) }
+    {
         self.part = Part::Nothing;
-        if is(self.name.as_slice(), b"Result") || self.found.has(self.name.as_slice()) {
+        if self.is_dropped() {
+            self.name.clear();
+            self.value.clear();
             return Ok(());
         }
-        if is(self.name.as_slice(), b"FEN") {
-            self.fen_at = self.at;
-        }
+        self.fen_at = self.fen_place();
         let name = mem::replace(&mut self.name, Vec::new(alloc));
         let value = mem::replace(&mut self.value, Vec::new(alloc));
         self.found.add(name, value)
     }
 
+    // Whether an item is white space between the tag's parts.
+    fn passes(&self, token: Token<'_>) -> bool
+        ensures { result ≡ (is_spaced self.now.part && is_gap (item_of token.entry)) }
+    {
+        matches!(self.part, Part::Name | Part::Opening | Part::Closing)
+            && matches!(token, Token::Blank(_) | Token::Hidden)
+    }
+
     /// An item between a tag's brackets, the closing one included.
     pub fn take(&mut self, alloc: &'a A, token: Token<'_>) -> Result<(), PgnFault>
+        ensures heading { OnOk result (is_heading (item_of token.entry) ≡ true) }
+        ensures ok { OnOk result (Heads (item_of token.entry) self.old self.new) }
+        ensures refused { IfErr result (λ fault. (fault ≡ record { place = 0; kind = Memory }) ⊎ Refuses (item_of token.entry) self.old fault) }
+        ensures place { OnOk result (self.new.at ≡ self.old.at) }
+        ensures fen { OnOk result (self.new.fen_at ≡ fen_place self.old (item_of token.entry)) }
         ensures no_comment { OnOk result ((lead : List ℕ) → lead_after lead (item_of token.entry) ≡ lead) }
     {
-        match (self.part, token) {
-            (Part::Name | Part::Opening | Part::Closing, Token::Blank(_) | Token::Hidden) => {}
-            (Part::Name, Token::Name(name)) => {
+        if self.passes(token) {
+            return Ok(());
+        }
+        match self.part {
+            Part::Name => {
+                let Token::Name(name) = token else {
+                    return Err(self.malformed());
+                };
                 self.name.extend_from_slice(name)?;
                 self.part = Part::Opening;
             }
-            (Part::Opening, Token::Quote) => self.part = Part::Value,
-            (Part::Value, Token::Stretch(text)) => self.value.extend_from_slice(text)?,
-            (Part::Value, Token::Escaped(b)) => self.value.push(b)?,
-            (Part::Value, Token::Quote) => self.part = Part::Closing,
-            (Part::Closing, Token::TagClose) => self.close(alloc)?,
-            _ => return Err(self.malformed()),
+            Part::Opening => {
+                let Token::Quote = token else {
+                    return Err(self.malformed());
+                };
+                self.part = Part::Value;
+            }
+            Part::Value => match token {
+                Token::Stretch(text) => self.value.extend_from_slice(text)?,
+                Token::Escaped(b) => self.value.push(b)?,
+                Token::Quote => self.part = Part::Closing,
+                _ => return Err(self.malformed()),
+            },
+            Part::Closing => {
+                let Token::TagClose = token else {
+                    return Err(self.malformed());
+                };
+                self.close(alloc)?;
+            }
+            Part::Nothing => return Err(self.malformed()),
         }
         Ok(())
     }
 
     /// The position that the tags give; `None` where they give none.
     pub fn start(&self) -> Result<Option<Position>, PgnFault>
+        ensures start { (read : List (List ℕ × List ℕ)) → Finds read self.now.found.tags → result ≡ start_told self.now.fen_at (fen_in read) }
         ensures counters { IfOk result (λ start. IfSome start (λ p. (p.clock ≤ 99999) × (p.number ≤ 99999))) }
     {
         let Some(fen) = self.found.value(b"FEN") else {
@@ -117,7 +186,9 @@ impl<'a, A: Allocator> Header<'a, A> {
     }
 
     /// The tags of the game.
-    pub fn into_tags(self, alloc: &'a A) -> Result<Tags<'a, A>, AllocError> {
+    pub fn into_tags(self, alloc: &'a A) -> Result<Tags<'a, A>, AllocError>
+        ensures { IfOk result (λ tags. HasFound self.entry tags) }
+    {
         self.found.into_tags(alloc)
     }
 }

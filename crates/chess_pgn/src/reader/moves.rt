@@ -1,4 +1,4 @@
-ghost use Rattle.std.specs.Prelude.{◌≡◌, ◌<◌, ◌≤◌, if◌then◌else◌, ◌||◌, not, ◌++◌, ◌∷◌, [], List, ℕ, drop, take, length, map, min, true, IfOk, OnOk};
+ghost use Rattle.std.specs.Prelude.{◌≡◌, ◌⊎◌, ◌<◌, ◌≤◌, if◌then◌else◌, ◌||◌, not, ◌++◌, ◌∷◌, [], List, ℕ, drop, take, length, map, min, true, IfErr, IfOk, OnOk};
 ghost use Rattle.chess_types.specs.board.Position.{State};
 ghost use Rattle.chess_types.specs.board.Lines.{extended};
 ghost use Rattle.chess_tree.specs.Comments.{normalised};
@@ -6,6 +6,7 @@ ghost use Rattle.chess_tree.specs.Forest.{below_at, count};
 ghost use Rattle.chess_tree.specs.GameTree.{added, at_path, commented_here, line_to};
 ghost use Rattle.chess_pgn.specs.Grammar as grammar;
 ghost use Rattle.chess_pgn.specs.Items.{without_brace};
+ghost use Rattle.chess_pgn.specs.declared.fault.FaultKind.TheVariants.{Memory, TooLarge};
 ghost use Rattle.chess_pgn.specs.steps.Readings.{IsRead, IsLed, Stands, fresh, is_nil, said_here};
 
 use crate::fault::{FaultKind, PgnFault, at_place};
@@ -87,7 +88,7 @@ fn say<'a, A: Allocator>(
 }
 
 impl<'a, A: Allocator> Moves<'a, A> {
-    ghost use Rattle.chess_pgn.specs.steps.Readings.{Steps};
+    ghost use Rattle.chess_pgn.specs.steps.Readings.{Refuses, Steps};
 
     /// No movetext, from that position. `Memory` where there is none.
     pub fn new(
@@ -206,6 +207,7 @@ impl<'a, A: Allocator> Moves<'a, A> {
         ensures from { OnOk result (self.new.from ≡ self.old.from) }
         ensures played { OnOk result (self.new.played ≡ true) }
         ensures interrupted { OnOk result (self.new.interrupted ≡ self.old.interrupted) }
+        ensures room { IfErr result (λ fault. (fault.kind ≡ Memory) ⊎ (fault.kind ≡ TooLarge)) }
     {
         match self.analysis.add(m) {
             Ok(()) => {}
@@ -225,7 +227,8 @@ impl<'a, A: Allocator> Moves<'a, A> {
 
     /// A move's text.
     pub fn word(&mut self, at: usize, text: &[u8]) -> Result<(), PgnFault>
-        ensures { OnOk result (Steps (grammar.Text text.now) self.old self.new) }
+        ensures steps { OnOk result (Steps (grammar.Text text.now) self.old self.new) }
+        ensures refuses { IfErr result (λ fault. Refuses (grammar.Text text.now ∷ []) fault.kind self.old) }
     {
         let Ok(m) = self.analysis.read_move(text) else {
             return Err(at_place(at, FaultKind::Move));
@@ -237,7 +240,8 @@ impl<'a, A: Allocator> Moves<'a, A> {
 
     /// The begin of a variation, which takes the place of the last move.
     pub fn open(&mut self, at: usize) -> Result<(), PgnFault>
-        ensures { OnOk result (Steps grammar.Open self.old self.new) }
+        ensures steps { OnOk result (Steps grammar.Open self.old self.new) }
+        ensures refuses { IfErr result (λ fault. Refuses (grammar.Open ∷ []) fault.kind self.old) }
     {
         if !self.played {
             return Err(at_place(at, FaultKind::Variation));
@@ -276,7 +280,8 @@ impl<'a, A: Allocator> Moves<'a, A> {
 
     /// The end of a variation. The comments of one without a move are those of the move before it.
     pub fn close(&mut self, at: usize) -> Result<(), PgnFault>
-        ensures { OnOk result (Steps grammar.Close self.old self.new) }
+        ensures steps { OnOk result (Steps grammar.Close self.old self.new) }
+        ensures refuses { IfErr result (λ fault. Refuses (grammar.Close ∷ []) fault.kind self.old) }
     {
         let Some(line) = self.interrupted.pop() else {
             return Err(at_place(at, FaultKind::Variation));

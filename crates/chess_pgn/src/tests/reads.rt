@@ -46,6 +46,7 @@ fn moves_and_variations(rt: HostRuntime) -> Result<(), Fail> {
         )?
     );
     assert!(&rt; reads(&rt, &alloc, "1. e4 {c} e5", "1. e4 {c} 1... e5 *\n\n", 12)?);
+    assert!(&rt; reads(&rt, &alloc, "\n{c}", "{c} *\n\n", 4)?);
     assert!(&rt;
         reads(
             &rt,
@@ -124,6 +125,13 @@ fn faults_of_a_text(rt: HostRuntime) -> Result<(), Fail> {
     assert_eq!(&rt; fault(&alloc, "[A \"b"), Some((5, 6)));
     assert_eq!(&rt; fault(&alloc, " [FEN \"b\"] [A \"\"] *"), Some((1, 7)));
     assert_eq!(&rt; fault(&alloc, " [FEN \"b\"] [A"), Some((13, 6)));
+    assert_eq!(&rt;
+        fault(
+            &alloc,
+            " [FEN \"b\"] [FEN \"4k3/8/8/8/8/8/8/4K3 w - - 0 1\"] *"
+        ),
+        Some((1, 7))
+    );
     assert_eq!(&rt; fault(&alloc, ""), None);
     let table = KeyTable::new([0; 768]);
     assert!(&rt; read_game(&alloc, &table, b"\xef\xbb\xbf \n%x\n ")?.is_none());

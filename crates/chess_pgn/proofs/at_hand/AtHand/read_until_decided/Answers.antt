@@ -1,6 +1,6 @@
 use Rattle.std.proofs.Common.{rules, ◌≤◌, ℕ, List, length, sym, subst}
 use Rattle.chess_pgn.specs.steps.Deciding.{Decides}
-use Rattle.chess_pgn.specs.steps.AtHands.{unread}
+use Rattle.chess_pgn.specs.Sources.{unread}
 use Rattle.chess_pgn.proofs.ReadyLemmas.{Going, going_start, going_on, going_fault}
 use Rattle.chess_pgn.proofs.at_hand.AtHand.read_until_decided.Goals as goal
 

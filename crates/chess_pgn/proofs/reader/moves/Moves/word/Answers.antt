@@ -4,10 +4,12 @@ use Rattle.chess_tree.specs.Comments.{normalised}
 use Rattle.chess_tree.specs.GameTree.{TreeParts}
 use Rattle.chess_pgn.specs.steps.Readings.{said_here}
 use Rattle.chess_pgn.proofs.StepLemmas.{text_goes}
+use mathlib.Core.Logic.{inl}
+use Rattle.chess_pgn.proofs.RefuseLemmas.{text_fails}
 use Rattle.chess_pgn.proofs.reader.moves.Moves.word.Goals as goal
 
-pub returns : goal.returns
-returns g c = λ s h.
+pub returns-clause-steps : goal.returns-clause-steps
+returns-clause-steps g c = λ s h.
     let r = c.args.self.now in
     let said = normalised (drop (min r.from (length r.comments.items)) r.comments.items) in
     rw (c.in_ok-add.ensures.played, c.in_ok-add.ensures.interrupted, c.in_ok-note_if.ensures.interrupted, c.in_ok-add.ensures.comments, c.in_ok-add.ensures.from, c.in_ok-note_if.ensures.from)
@@ -15,3 +17,8 @@ returns g c = λ s h.
     (sym c.in-Ok.ensures.value) c.is_behind_move.ensures
     (c.in_ok-note_if.ensures.analysis ∙ ap (λ (z : TreeParts). if c.is_behind_move.result then said_here said z else z) c.in-Ok.ensures.as_before)
     c.in_ok-note_if.ensures.comments c.in_ok-add.ensures.analysis c.in_ok-add.ensures.line s h)
+
+pub returns-in_default-clause-refuses : goal.returns-in_default-clause-refuses
+returns-in_default-clause-refuses g c =
+    let r = c.args.self.now in
+    rw c.at_place.ensures (λ s h es. inl (text_fails r.analysis r.interrupted.items r.played r.comments.items r.from c.args.text.now (λ m e. c.in_default.not-Ok m (c.read_move.ensures.value ∙ e)) s h es))

@@ -1,0 +1,13 @@
+use Rattle.std.proofs.Common.{[], refl, subst}
+use Rattle.chess_types.specs.board.Position.{State}
+use Rattle.chess_pgn.specs.steps.Readings.{Stands, fresh}
+use Rattle.chess_pgn.proofs.GivenLemmas.{took_none}
+use Rattle.chess_pgn.proofs.reader.Reader.new.Goals as goal
+
+pub returns : goal.returns
+returns g c = record {
+  tags = took_none c.new.result c.new.ensures.none c.new.ensures.found;
+  lead = subst (λ (s : State). Stands c.in_ok-new.field-0 (fresh s [])) c.start.ensures c.in_ok-new.ensures;
+  moving = refl;
+  outcome = refl;
+}

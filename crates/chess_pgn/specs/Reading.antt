@@ -1,0 +1,93 @@
+-- What the front of a text gives as a game (PGN 8).
+--   is_heading   may stand before the movetext: a part of a tag, a comment, or white
+--   is_movetext  may stand in movetext, and doesn't end it
+--   remarks      the comments among some items, behind others
+--   Starts       movetext begins with an item that no head has
+--   HasBegun     movetext has such an item
+--   Ends         how a game ends: with its marker, or without one in front of a tag or at the end of the text
+--   Gives        some items are a head, a movetext and an end: the head's tags are the game's and tell its start, and the movetext derives its comments and moves
+--   IsAtFront    the items of a text's first bytes give a game
+--   IsWhite      a text has white space, a mark and hidden lines alone
+use Rattle.std.specs.Prelude.{◌≡◌, ◌⊎◌, ℕ, ◌+◌, ◌≤◌, Bool, true, false, List, [], ◌∷◌, ◌++◌, length, Some, ⊤}
+use Rattle.std.specs.List.{list_all}
+use Rattle.std.specs.Str.{byte}
+use Rattle.chess_tree.specs.Comments.{normalised}
+use Rattle.chess_pgn.specs.Games.{Game}
+use Rattle.chess_pgn.specs.Grammar.{Derives, elements, few_are_open, joined}
+use Rattle.chess_pgn.specs.Items as items
+use Rattle.chess_pgn.specs.Items.{Item, Spells, is_white}
+use Rattle.chess_pgn.specs.Tags.{AreTags, HasTags, start_in}
+use Rattle.chess_pgn.specs.declared.outcome.Outcome.{Outcome}
+use Rattle.chess_pgn.specs.declared.outcome.Outcome.TheVariants.{Unfinished}
+use Rattle.chess_pgn.specs.declared.place.Place.TheVariants.{GameStart}
+
+abbrev pub is_heading : Item → Bool
+is_heading items.Skipped = false
+is_heading (items.Word word) = false
+is_heading (items.Nag n) = false
+is_heading items.Open = false
+is_heading items.Close = false
+is_heading (items.Marker outcome) = false
+is_heading _ = true
+
+abbrev pub is_movetext : Item → Bool
+is_movetext (items.Marker outcome) = false
+is_movetext items.TagOpen = false
+is_movetext items.TagClose = false
+is_movetext (items.Name name) = false
+is_movetext items.Quote = false
+is_movetext (items.Stretch text) = false
+is_movetext (items.Escaped b) = false
+is_movetext _ = true
+
+abbrev pub lead_after : List ℕ → Item → List ℕ
+lead_after lead (items.Comment text) = joined lead (normalised text)
+lead_after lead _ = lead
+
+abbrev pub remarks : List ℕ → List Item → List ℕ
+remarks lead [] = lead
+remarks lead (item ∷ is) = remarks (lead_after lead item) is
+
+abbrev pub Starts : List Item → Type 0
+Starts [] = ⊤
+Starts (item ∷ is) = is_heading item ≡ false
+
+abbrev pub HasBegun : List Item → Type 0
+HasBegun [] = ⊥
+HasBegun (item ∷ is) = is_heading item ≡ false
+
+-- nothing is used of the bracket of a tag
+abbrev pub Ends : List Item → List Item → Outcome → List ℕ → Type 0
+Ends movetext ending outcome rest =
+    (ending ≡ items.Marker outcome ∷ [])
+    ⊎ ((ending ≡ []) × (outcome ≡ Unfinished) × ((rest ≡ []) ⊎ (HasBegun movetext × (more : List ℕ) × (rest ≡ byte "[" ∷ more))))
+
+pub record Gives (is : List Item) (rest : List ℕ) (game : Game) : Type 0 where
+  pub head : List Item
+  pub movetext : List Item
+  pub ending : List Item
+  pub given : List (List ℕ × List ℕ)
+  pub parts : is ≡ head ++ (movetext ++ ending)
+  pub are_tags : AreTags head given
+  pub has_tags : HasTags given game.tags
+  pub start : start_in given ≡ Some game.tree.start
+  pub starts : Starts movetext
+  pub moving : list_all is_movetext movetext ≡ true
+  pub ends : Ends movetext ending game.outcome rest
+  pub few : few_are_open 0 (elements movetext) ≡ true
+  pub derives : Derives (elements movetext) game.tree.start (remarks [] head) game.tree.comment game.tree.below
+
+-- the first bytes, so many, at most 1,048,576, and not white alone; what follows them cuts no item short
+pub record IsAtFront (input : List ℕ) (game : Game) (used : ℕ) : Type 0 where
+  pub items : List Item
+  pub rest : List ℕ
+  pub spelled : Spells GameStart input items rest
+  pub counted : used + length rest ≡ length input
+  pub few : used ≤ 1048576
+  pub some : list_all is_white items ≡ false
+  pub gives : Gives items rest game
+
+pub record IsWhite (input : List ℕ) : Type 0 where
+  pub items : List Item
+  pub white : list_all is_white items ≡ true
+  pub spelled : Spells GameStart input items []

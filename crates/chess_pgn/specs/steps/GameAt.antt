@@ -1,0 +1,38 @@
+-- A game at the front of a text that comes bit by bit.
+--   HasCome    bytes came, and a game stands at the front of what was at hand and what came, whatever follows
+--   NoneCame   all has come, and was white
+--   Found      one of both, as a game is answered or none
+--   TakesGame  what becomes of a text of which one game is taken
+use Rattle.std.specs.Prelude.{◌≡◌, ◌≤◌, ℕ, List, [], ◌++◌, length, Option, Some, None, Result, Ok, Err, ⊤}
+use Rattle.chess_types.specs.bytes.Calls.{Calls, joined}
+use Rattle.chess_pgn.specs.Reading.{IsAtFront, IsWhite}
+use Rattle.chess_pgn.specs.steps.GameCode.{game_of}
+use Rattle.chess_pgn.specs.declared.game.Game.{Game}
+
+module _ {X : Type 0} (comes : X → List ℕ → X → Type 0) (at_hand : X → List ℕ) (all : X → Type 0) where
+  pub record HasCome {A : Type 0} (old new : X) (game : Game A) (used : ℕ) : Type 0 where
+    pub pieces : List (List ℕ)
+    pub came : Calls comes old pieces new
+    pub reads : (more : List ℕ) → (all new → more ≡ []) → IsAtFront (at_hand old ++ (joined pieces ++ more)) (game_of game) used
+    pub text : List ℕ
+    pub parts : at_hand old ++ joined pieces ≡ text ++ at_hand new
+    pub counted : length text ≡ used
+    pub near : length (at_hand old) ≤ 65536 → length (at_hand new) ≤ 65536
+    pub cursor : game.tree.path ≡ []
+    pub still : all old → (joined pieces ≡ []) × all new
+
+  pub record NoneCame (old new : X) : Type 0 where
+    pub pieces : List (List ℕ)
+    pub came : Calls comes old pieces new
+    pub white : IsWhite (at_hand old ++ joined pieces)
+    pub ended : all new
+    pub nothing : at_hand new ≡ []
+    pub still : all old → joined pieces ≡ []
+
+  abbrev pub Found : {A : Type 0} → X → X → Option (Game A × ℕ) → Type 0
+  Found old new (Some x) = HasCome old new x.0 x.1
+  Found old new None = NoneCame old new
+
+  abbrev pub TakesGame : {A E : Type 0} → X → X → Result (Option (Game A × ℕ)) E → Type 0
+  TakesGame old new (Ok found) = Found old new found
+  TakesGame old new (Err fault) = ⊤
