@@ -190,33 +190,13 @@ tree_after t request = left_by t (effect t request)
 
 -- the requests that may ask for memory
 abbrev pub takes_memory : Request → Bool
-takes_memory Blank = false
 takes_memory New = true
 takes_memory (Set fen) = true
-takes_memory (Counts colour) = false
-takes_memory Eval = false
-takes_memory Fen = false
-takes_memory Moves = false
-takes_memory Checks = false
 takes_memory (Play word) = true
-takes_memory Back = false
-takes_memory (Step place) = true
-takes_memory Start = false
-takes_memory End = true
-takes_memory (Goto path) = true
-takes_memory Path = false
-takes_memory Promote = false
-takes_memory Delete = false
 takes_memory (Comment text) = true
 takes_memory (Nag nag) = true
-takes_memory Count = false
-takes_memory Status = false
-takes_memory Claims = false
-takes_memory (Claim word) = false
-takes_memory (Best depth) = false
 takes_memory Pgn = true
-takes_memory Unknown = false
-takes_memory Malformed = false
+takes_memory _ = false
 
 -- it isn't refused
 abbrev pub IsGranted : Effect → Type 0

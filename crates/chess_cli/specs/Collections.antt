@@ -1,10 +1,14 @@
--- How a run over a collection of games ends: what the writer took.
+-- How a run over a collection of games ends: which games were read, and what the writer took.
 --   games_text    the export forms of games, one behind the other
---   EndsWritten   some games are written whole, and nothing else; no call failed
+--   AreGames      games stand one behind the other at the front of a text, and this is left
+--   Collected     these games stand so at the front of what a source gave, whatever it gives next
+--   EndsWritten   they are written whole, and nothing else; no call failed
+--   EndsWhole     so they are, and what is left of the input is white
 --   EndsInPart    a write failed or took no byte, and was the last call: a front of the games is written
-use Rattle.std.specs.Prelude.{◌≡◌, ℕ, Bool, false, List, [], ◌∷◌, ◌++◌}
+use Rattle.std.specs.Prelude.{◌≡◌, ℕ, Bool, true, false, List, [], ◌∷◌, ◌++◌, length}
 use Rattle.chess_types.specs.bytes.Calls.{Carries}
 use Rattle.chess_pgn.specs.Games.{Game}
+use Rattle.chess_pgn.specs.Reading.{IsAtFront, IsWhite}
 use Rattle.chess_pgn.specs.Written.{game_text}
 use Rattle.chess_cli.specs.RunEnds.{Broken}
 
@@ -12,12 +16,40 @@ abbrev pub games_text : List Game → List ℕ
 games_text [] = []
 games_text (game ∷ games) = game_text game ++ games_text games
 
-module _ {W : Type 0} (takes : W → List ℕ → W → Type 0) (failed : W → Bool) where
-  pub record EndsWritten (old new : W) : Type 0 where
+abbrev pub AreGames : List ℕ → List Game → List ℕ → Type 0
+AreGames input [] rest = input ≡ rest
+AreGames input (game ∷ games) rest =
+    (text others : List ℕ) × (input ≡ text ++ others) × IsAtFront input game (length text) × AreGames others games rest
+
+-- where all of the input was given, nothing comes next
+pub record Collected {R : Type 0} (gives : R → List ℕ → R → Type 0) (reader : R) (games : List Game) : Type 0 where
+  pub bytes : List ℕ
+  pub source : R
+  pub came : Carries gives reader bytes source
+  pub all : Bool
+  pub rest : List ℕ
+  pub are : (more : List ℕ) → (all ≡ true → more ≡ []) → AreGames (bytes ++ more) games (rest ++ more)
+
+module _ {R W : Type 0} (gives : R → List ℕ → R → Type 0) (ended : R → Type 0) (takes : W → List ℕ → W → Type 0) (failed : W → Bool) where
+  pub record EndsWritten (reader : R) (old new : W) : Type 0 where
     pub games : List Game
+    pub reads : Collected gives reader games
     pub writes : Carries takes old (games_text games) new
     pub well_written : failed new ≡ false
 
-  pub record EndsInPart (old new : W) : Type 0 where
+  pub record EndsWhole (reader : R) (old new : W) : Type 0 where
+    pub bytes : List ℕ
+    pub source : R
+    pub came : Carries gives reader bytes source
+    pub all : ended source
     pub games : List Game
+    pub rest : List ℕ
+    pub are : AreGames bytes games rest
+    pub white : IsWhite rest
+    pub writes : Carries takes old (games_text games) new
+    pub well_written : failed new ≡ false
+
+  pub record EndsInPart (reader : R) (old new : W) : Type 0 where
+    pub games : List Game
+    pub reads : Collected gives reader games
     pub broken : Broken takes failed old (games_text games) new

@@ -9,6 +9,7 @@ pub mod Outcomes
 pub mod Answers
 pub mod RunEnds
 pub mod Sittings
+pub mod Endings
 pub mod Collections
 pub mod ExitStatus
 pub mod steps

@@ -1,9 +1,10 @@
-ghost use Rattle.std.specs.Prelude.{◌≡◌, false, None};
+ghost use Rattle.std.specs.Prelude.{◌≡◌, [], false, None};
 ghost use Rattle.chess_pgn.specs.Written.{game_text};
 ghost use Rattle.chess_pgn.specs.declared.fault.PgnFault.{PgnFault};
 ghost use Rattle.chess_pgn.specs.steps.GameCode.{game_of};
 ghost use Rattle.chess_pgn.specs.steps.Next.{IsSound};
-ghost use Rattle.chess_cli.specs.Collections.{EndsInPart, EndsWritten};
+ghost use Rattle.chess_pgn.specs.Sources.{unread};
+ghost use Rattle.chess_cli.specs.Collections.{EndsInPart, EndsWhole, EndsWritten};
 ghost use Rattle.chess_cli.specs.steps.Collecting.{WritesAll, WritesOne};
 
 use super::ended::Ended;
@@ -40,8 +41,9 @@ fn write_games<'a, A: Allocator, R: Source, W: Sink>(
     writer: &mut W,
 ) -> Ended
     requires sound { IsSound R.ended games.old }
+    requires nothing { unread games.old.text ≡ [] }
     requires writer { W.failed writer.old ≡ false }
-    ensures { WritesAll W.takes W.failed writer.old writer.new result }
+    ensures { WritesAll R.gives R.ended W.takes W.failed games.old.text.source writer.old writer.new result }
 {
     for _game in 0..GAMES {
         match games.next() {
@@ -66,11 +68,11 @@ fn write_games<'a, A: Allocator, R: Source, W: Sink>(
 pub fn pgn<A: Allocator, R: Source + Drop, W: Sink>(alloc: A, reader: R, writer: &mut W) -> Ended
     requires reader { R.failed reader ≡ false }
     requires writer { W.failed writer.old ≡ false }
-    ensures good { result ≡ Ended.Good → EndsWritten W.takes W.failed writer.old writer.new }
-    ensures input { (fault : PgnFault) → result ≡ Ended.Input fault → EndsWritten W.takes W.failed writer.old writer.new }
-    ensures read_fault { result ≡ Ended.ReadFault → EndsWritten W.takes W.failed writer.old writer.new }
-    ensures write_fault { result ≡ Ended.WriteFault → EndsInPart W.takes W.failed writer.old writer.new }
-    ensures memory { result ≡ Ended.Memory → EndsWritten W.takes W.failed writer.old writer.new }
+    ensures good { result ≡ Ended.Good → EndsWhole R.gives R.ended W.takes W.failed reader writer.old writer.new }
+    ensures input { (fault : PgnFault) → result ≡ Ended.Input fault → EndsWritten R.gives R.ended W.takes W.failed reader writer.old writer.new }
+    ensures read_fault { result ≡ Ended.ReadFault → EndsWritten R.gives R.ended W.takes W.failed reader writer.old writer.new }
+    ensures write_fault { result ≡ Ended.WriteFault → EndsInPart R.gives R.ended W.takes W.failed reader writer.old writer.new }
+    ensures memory { result ≡ Ended.Memory → EndsWritten R.gives R.ended W.takes W.failed reader writer.old writer.new }
 {
     let table = key_table();
     let mut games = Games::new(&alloc, &table, reader);

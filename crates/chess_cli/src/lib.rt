@@ -33,8 +33,8 @@ pub use clock::Clock;
 pub use collection::pgn;
 pub use ended::Ended;
 pub use over_bytes::board_over_bytes;
-pub use over_streams::board;
-pub use sessions::uci;
+pub use over_streams::{board, board_with};
+pub use sessions::{uci, uci_with};
 pub use texts::{Kept, counts_text, eval_text};
 
 #[cfg(test)]

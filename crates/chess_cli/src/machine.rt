@@ -285,7 +285,7 @@ impl<'k, A: Allocator> Board<'k, A> {
 
     // Goes to the node at the path that the word writes.
     fn goto(&mut self, word: &[u8]) -> Result<(), Refusal>
-        ensures { HasEffect (path_effect self.old (path_in word.now)) self.old result self.new }
+        ensures { HasEffectSurely (path_effect self.old (path_in word.now)) self.old result self.new }
     {
         match read_path(word, self.places.as_mut_slice()) {
             PathWord::Malformed => Err(Refusal::Argument),

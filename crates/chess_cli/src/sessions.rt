@@ -1,9 +1,5 @@
-ghost use Rattle.std.specs.Prelude.{◌≡◌, ◌≢◌, ◌⊎◌, false};
-ghost use Rattle.chess_pgn.specs.declared.fault.PgnFault.{PgnFault};
-ghost use Rattle.chess_cli.specs.Sittings.{Answered, AnsweredInPart, beginning_with, has_ended};
-ghost use Rattle.chess_cli.specs.Runs.{Runs, Partly};
-ghost use Rattle.chess_cli.specs.declared.sitting.Sitting.{Sitting};
-ghost use Rattle.chess_cli.specs.RunEnds.{EndsGood, EndsOver, EndsReadFault, EndsWriteFault, most_reads};
+ghost use Rattle.std.specs.Prelude.{◌≡◌, false};
+ghost use Rattle.chess_cli.specs.Endings.{SittingEnds};
 
 use super::clock::Clock;
 use super::ended::Ended;
@@ -11,37 +7,10 @@ use super::keys::key_table;
 use super::over_streams::READS;
 use super::run::run;
 use super::sitting::Sitting;
+use chess_key::KeyTable;
 use chess_types::{Sink, Source};
 use chess_uci::Session;
 use std::alloc::Allocator;
-
-// The run of `uci`, with at most so many reads.
-pub(crate) fn uci_within<A: Allocator, R: Source, W: Sink, C: Clock + Drop>(
-    alloc: &A,
-    reader: &mut R,
-    writer: &mut W,
-    clock: C,
-    most: u64,
-) -> Ended
-    requires reader { R.failed reader.old ≡ false }
-    requires writer { W.failed writer.old ≡ false }
-    ensures good { result ≡ Ended.Good → (last : Sitting A C)
-        × (EndsGood (Runs (Answered C.reads)) (beginning_with clock) R.gives R.failed W.takes W.failed R.ended last reader.old reader.new writer.old writer.new
-        ⊎ EndsOver (Runs (Answered C.reads)) (beginning_with clock) R.gives R.failed W.takes W.failed has_ended last reader.old reader.new writer.old writer.new) }
-    ensures read_fault { result ≡ Ended.ReadFault → (last : Sitting A C)
-        × EndsReadFault (Runs (Answered C.reads)) (beginning_with clock) R.gives R.failed W.takes W.failed most last reader.old reader.new writer.old writer.new }
-    ensures write_fault { result ≡ Ended.WriteFault → (last : Sitting A C)
-        × EndsWriteFault (Partly (Answered C.reads) (AnsweredInPart C.reads)) (beginning_with clock) R.gives R.failed W.takes W.failed R.ended last reader.old reader.new writer.old writer.new }
-    ensures memory { result ≡ Ended.Memory → (reader.new ≡ reader.old) × (writer.new ≡ writer.old) }
-    ensures input { (fault : PgnFault) → result ≢ Ended.Input fault }
-{
-    let table = key_table();
-    let mut sitting = Sitting {
-        session: Session::new(alloc, &table),
-        clock,
-    };
-    run(alloc, &mut sitting, reader, writer, most)
-}
 
 /// Answers the lines of the reader, those of one read before more is read, as a session of the universal chess interface (UCI) whose
 /// time the clock tells, on the writer, until `quit` or the end of the input.
@@ -62,15 +31,26 @@ pub fn uci<A: Allocator, R: Source, W: Sink, C: Clock + Drop>(
 ) -> Ended
     requires reader { R.failed reader.old ≡ false }
     requires writer { W.failed writer.old ≡ false }
-    ensures good { result ≡ Ended.Good → (last : Sitting A C)
-        × (EndsGood (Runs (Answered C.reads)) (beginning_with clock) R.gives R.failed W.takes W.failed R.ended last reader.old reader.new writer.old writer.new
-        ⊎ EndsOver (Runs (Answered C.reads)) (beginning_with clock) R.gives R.failed W.takes W.failed has_ended last reader.old reader.new writer.old writer.new) }
-    ensures read_fault { result ≡ Ended.ReadFault → (last : Sitting A C)
-        × EndsReadFault (Runs (Answered C.reads)) (beginning_with clock) R.gives R.failed W.takes W.failed most_reads last reader.old reader.new writer.old writer.new }
-    ensures write_fault { result ≡ Ended.WriteFault → (last : Sitting A C)
-        × EndsWriteFault (Partly (Answered C.reads) (AnsweredInPart C.reads)) (beginning_with clock) R.gives R.failed W.takes W.failed R.ended last reader.old reader.new writer.old writer.new }
-    ensures memory { result ≡ Ended.Memory → (reader.new ≡ reader.old) × (writer.new ≡ writer.old) }
-    ensures input { (fault : PgnFault) → result ≢ Ended.Input fault }
+    ensures { SittingEnds R.gives R.failed W.takes W.failed R.ended A C.reads clock result reader.old reader.new writer.old writer.new }
 {
-    uci_within(&alloc, reader, writer, clock, READS)
+    uci_with(alloc, reader, writer, clock, &key_table())
+}
+
+/// `uci` with keys by the table of the caller. No reply depends on it.
+pub fn uci_with<A: Allocator, R: Source, W: Sink, C: Clock + Drop>(
+    alloc: A,
+    reader: &mut R,
+    writer: &mut W,
+    clock: C,
+    table: &KeyTable,
+) -> Ended
+    requires reader { R.failed reader.old ≡ false }
+    requires writer { W.failed writer.old ≡ false }
+    ensures { SittingEnds R.gives R.failed W.takes W.failed R.ended A C.reads clock result reader.old reader.new writer.old writer.new }
+{
+    let mut sitting = Sitting {
+        session: Session::new(&alloc, table),
+        clock,
+    };
+    run(&alloc, &mut sitting, reader, writer, READS)
 }

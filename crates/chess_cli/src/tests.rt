@@ -1,4 +1,5 @@
 mod games;
+mod hostile;
 mod lines;
 mod live;
 mod long;
@@ -6,7 +7,9 @@ mod paths;
 mod sessions;
 mod tree;
 
-use crate::over_streams::board_within;
+use crate::keys::key_table;
+use crate::machine::Board;
+use crate::run::run;
 use crate::{Ended, Kept, board, board_over_bytes, counts_text, eval_text};
 use chess_types::{Colour, Failed, FromBytes, Refusal, Source, Square, ToBytes};
 use linked_list_allocator::LocalHeap;
@@ -301,9 +304,10 @@ impl Source for Endless {
 fn stops_after_the_most_reads(rt: HostRuntime) -> Result<(), Fail> {
     let mut room = [0; 4];
     let mut writer = ToBytes::new(&mut room, 100);
-    let alloc = rt.alloc();
+    let (alloc, table) = (rt.alloc(), key_table());
+    let mut board = Board::new(&alloc, &table)?;
     assert_eq!(rt;
-        board_within(&alloc, &mut Endless, &mut writer, 1000),
+        run(&alloc, &mut board, &mut Endless, &mut writer, 1000),
         Ended::ReadFault
     );
     assert_eq!(rt; writer.taken().len(), 0);

@@ -1,8 +1,14 @@
--- Games that are written one after another.
+-- Games that are read and written one after another.
 --   WritesOne   a game is written, or a front of it, or there is no memory for it
---   WritesAll   how the writing ends
-use Rattle.std.specs.Prelude.{◌≡◌, Bool, List, [], ℕ, Result, Ok, Err}
-use Rattle.chess_cli.specs.Collections.{EndsInPart, EndsWritten}
+--   Reads       games are read, one after another, whatever comes next
+--   SoFar       they are written as well
+--   WritesAll   how the reading and writing ends
+use Rattle.std.specs.Prelude.{◌≡◌, Bool, true, false, List, [], ◌++◌, ℕ, Result, Ok, Err}
+use Rattle.chess_types.specs.bytes.Calls.{Carries}
+use Rattle.chess_pgn.specs.Games.{Game}
+use Rattle.chess_pgn.specs.Sources.{unread}
+use Rattle.chess_pgn.specs.declared.at_hand.AtHand.{AtHand}
+use Rattle.chess_cli.specs.Collections.{AreGames, EndsInPart, EndsWhole, EndsWritten, games_text}
 use Rattle.chess_cli.specs.RunEnds.{Broken}
 use Rattle.chess_cli.specs.steps.Sending.{Sent}
 use Rattle.chess_cli.specs.declared.ended.Ended.{Ended}
@@ -17,9 +23,21 @@ module _ {W : Type 0} (takes : W → List ℕ → W → Type 0) (failed : W → 
   WritesOne text old new (Err WriteFault) = Broken takes failed old text new
   WritesOne text old new (Err Memory) = new ≡ old
 
-  abbrev pub WritesAll : W → W → Ended → Type 0
-  WritesAll old new Good = EndsWritten takes failed old new
-  WritesAll old new (Input fault) = EndsWritten takes failed old new
-  WritesAll old new ReadFault = EndsWritten takes failed old new
-  WritesAll old new WriteFault = EndsInPart takes failed old new
-  WritesAll old new Memory = EndsWritten takes failed old new
+pub record Reads {R A : Type 0} (gives : R → List ℕ → R → Type 0) (old new : AtHand R A) (games : List Game) : Type 0 where
+  pub bytes : List ℕ
+  pub came : Carries gives old.source bytes new.source
+  pub are : (more : List ℕ) → (new.has_ended ≡ true → more ≡ []) → AreGames (unread old ++ (bytes ++ more)) games (unread new ++ more)
+
+module _ {R W : Type 0} (gives : R → List ℕ → R → Type 0) (ended : R → Type 0) (takes : W → List ℕ → W → Type 0) (failed : W → Bool) where
+  pub record SoFar {A : Type 0} (start now : AtHand R A) (old new : W) : Type 0 where
+    pub games : List Game
+    pub reads : Reads gives start now games
+    pub writes : Carries takes old (games_text games) new
+    pub well_written : failed new ≡ false
+
+  abbrev pub WritesAll : R → W → W → Ended → Type 0
+  WritesAll reader old new Good = EndsWhole gives ended takes failed reader old new
+  WritesAll reader old new (Input fault) = EndsWritten gives ended takes failed reader old new
+  WritesAll reader old new ReadFault = EndsWritten gives ended takes failed reader old new
+  WritesAll reader old new WriteFault = EndsInPart gives ended takes failed reader old new
+  WritesAll reader old new Memory = EndsWritten gives ended takes failed reader old new

@@ -5,9 +5,10 @@ use chess_pgn::{FaultKind, PgnFault};
 use chess_types::{FromBytes, Refusal, ToBytes};
 use std::test::Fail;
 
-const INPUT: &[u8] = b"1.e4 e5 (1...c5 2.Nf3 {x  y} $1) 2.Nf3 *\n[White \"A\"][Zed \"1\"] 1-0\n%";
+pub const INPUT: &[u8] =
+    b"1.e4 e5 (1...c5 2.Nf3 {x  y} $1) 2.Nf3 *\n[White \"A\"][Zed \"1\"] 1-0\n%";
 
-const OUTPUT: &[u8] = b"\
+pub const OUTPUT: &[u8] = b"\
 [Event \"?\"]
 [Site \"?\"]
 [Date \"????.??.??\"]
@@ -32,7 +33,7 @@ const OUTPUT: &[u8] = b"\
 ";
 
 /// How many bytes of the output the first game takes.
-const FIRST: usize = 138;
+pub const FIRST: usize = 138;
 
 #[test]
 fn writes_what_it_reads(rt: HostRuntime) -> Result<(), Fail> {

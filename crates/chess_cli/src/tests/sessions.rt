@@ -7,7 +7,7 @@ use std::test::Fail;
 
 /// A clock that reads so many milliseconds more at each call.
 #[derive(Clone, Copy, Drop)]
-struct Ticking {
+pub struct Ticking {
     reading: u64,
     step: u64,
 }
@@ -24,7 +24,7 @@ impl Clock for Ticking {
     }
 }
 
-const STOPPED: Ticking = Ticking {
+pub const STOPPED: Ticking = Ticking {
     reading: 0,
     step: 0,
 };

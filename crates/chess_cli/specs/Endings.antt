@@ -1,0 +1,34 @@
+-- How a run of the board ends, and one of a session.
+--   BoardEnds    the board's answers to the lines that were read are written
+--   SittingEnds  so are a session's replies
+use Rattle.std.specs.Prelude.{◌≡◌, ◌≢◌, ◌⊎◌, ℕ, Bool, List}
+use Rattle.chess_tree.specs.GameTree.{TreeParts}
+use Rattle.chess_pgn.specs.declared.fault.PgnFault.{PgnFault}
+use Rattle.chess_cli.specs.declared.ended.Ended.{Ended}
+use Rattle.chess_cli.specs.declared.ended.Ended.TheVariants.{Good, Input, ReadFault, WriteFault, Memory}
+use Rattle.chess_cli.specs.declared.sitting.Sitting.{Sitting}
+use Rattle.chess_cli.specs.Answers.{Answers, beginning}
+use Rattle.chess_cli.specs.Runs.{Runs, Partly}
+use Rattle.chess_cli.specs.RunEnds.{EndsGood, EndsOver, EndsReadFault, EndsWriteFault, most_reads}
+use Rattle.chess_cli.specs.Sittings.{Answered, AnsweredInPart, beginning_with, has_ended}
+
+module _ {R W : Type 0} (gives : R → List ℕ → R → Type 0) (read_failed : R → Bool) (takes : W → List ℕ → W → Type 0) (write_failed : W → Bool) (ended : R → Type 0) where
+  pub record BoardEnds (result : Ended) (r r' : R) (w w' : W) : Type 0 where
+    pub good : result ≡ Good → (state : TreeParts) × EndsGood (Runs Answers) beginning gives read_failed takes write_failed ended state r r' w w'
+    pub read_fault : result ≡ ReadFault → (state : TreeParts) × EndsReadFault (Runs Answers) beginning gives read_failed takes write_failed most_reads state r r' w w'
+    pub write_fault : result ≡ WriteFault → (state : TreeParts) × EndsWriteFault (Runs Answers) beginning gives read_failed takes write_failed ended state r r' w w'
+    -- there was no memory to begin with
+    pub memory : result ≡ Memory → (r' ≡ r) × (w' ≡ w)
+    pub input : (fault : PgnFault) → result ≢ Input fault
+
+  -- the clock is read by its relation
+  pub record SittingEnds (A : Type 0) {C : Type 0} (reads : C → ℕ → C → Type 0) (clock : C) (result : Ended) (r r' : R) (w w' : W) : Type 0 where
+    pub good : result ≡ Good → (last : Sitting A C)
+        × (EndsGood (Runs (Answered reads)) (beginning_with clock) gives read_failed takes write_failed ended last r r' w w'
+        ⊎ EndsOver (Runs (Answered reads)) (beginning_with clock) gives read_failed takes write_failed has_ended last r r' w w')
+    pub read_fault : result ≡ ReadFault → (last : Sitting A C)
+        × EndsReadFault (Runs (Answered reads)) (beginning_with clock) gives read_failed takes write_failed most_reads last r r' w w'
+    pub write_fault : result ≡ WriteFault → (last : Sitting A C)
+        × EndsWriteFault (Partly (Answered reads) (AnsweredInPart reads)) (beginning_with clock) gives read_failed takes write_failed ended last r r' w w'
+    pub memory : result ≡ Memory → (r' ≡ r) × (w' ≡ w)
+    pub input : (fault : PgnFault) → result ≢ Input fault
