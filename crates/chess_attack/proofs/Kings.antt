@@ -1,16 +1,12 @@
 -- The only king of a colour, and the men that attack it.
-use Rattle.std.proofs.Common.{◌≡◌, ℕ, zero, suc, ◌+◌, ◌<◌, ◌≤◌, Bool, true, false, ◌&&◌, nat_lt, refl, sym, ap, subst, ◌∙◌, arith, inl, inr}
-use Rattle.std.specs.Ordering.{nat_cmp}
-use Rattle.std.specs.FinSet.{FinSet, contains, insert, empty, contains-empty}
+use Rattle.std.proofs.Common.{◌≡◌, ℕ, zero, suc, ◌+◌, ◌<◌, ◌≤◌, Bool, true, false, ◌&&◌, refl, ap, subst, arith, inl, inr}
 use Rattle.std.proofs.lemmas.Bool.{and_parts, and_from, cases_eq, cases_order}
-use Rattle.std.proofs.lemmas.Bool.Decides.{nat_tests}
 use Rattle.chess_types.specs.declared.board.man.Colour.{Colour}
 use Rattle.chess_types.specs.board.Board.{Board, man_at}
 use Rattle.chess_types.specs.board.Squares.{squares}
 use Rattle.chess_types.specs.board.Men.{count_squares, is_king_of, kings_of, opponent}
 use Rattle.chess_types.specs.board.Attack.{attacks_for, checks_from, is_attacked, in_check}
 use Rattle.chess_types.proofs.Sums.{bit, total, sum_by-range, total-at, total-agree, total-zero}
-use Rattle.chess_attack.proofs.Reached.{inserted}
 use Rattle.chess_types.proofs.Runs.{list_any_at, list_any_from, same_test}
 
 -- two values are at most the sum
@@ -84,30 +80,3 @@ checked_at board colour king one hk here =
     let (s, low, high, p) : (s : ℕ) × (0 ≤ s) × (s < 0 + 64) × (test s ≡ true) = list_any_at test 0 64 h in
     let q : (is_king_of colour (man_at board s) ≡ true) × (is_attacked (man_at board) (opponent colour) s ≡ true) = and_parts _ _ p in
     subst (λ x. is_attacked (man_at board) (opponent colour) x ≡ true) (one_king board colour s king one (omega arith) hk q.0 here) q.1)
-
--- the squares below n that pass a test, gathered one by one
-abbrev pub Gathered : FinSet nat_cmp → (ℕ → Bool) → ℕ → Type 0
-Gathered set test n = (s : ℕ) → s < 64 → contains set s ≡ (nat_lt s n && test s)
-
-pub gathered_none : (set : FinSet nat_cmp) (test : ℕ → Bool) → set ≡ empty → Gathered set test 0
-gathered_none set test e s hs = ap (λ x. contains x s) e ∙ contains-empty nat_cmp s ∙ grind (arith, nat_tests)
-
-pub gathered_one :
-    (old new : FinSet nat_cmp) (test : ℕ → Bool) (n : ℕ) → Gathered old test n → new ≡ insert old n → test n ≡ true → Gathered new test (n + 1)
-gathered_one old new test n sofar more passes s hs =
-    let here : contains new s ≡ _ = ap (λ x. contains x s) more ∙ inserted old n s in
-    elim (cases_eq n s) [
-      | inl same ↦ let e : test s ≡ true = ap test (sym same) ∙ passes in grind (arith, nat_tests, here, sofar s hs, e, same)
-      | inr other ↦ grind (arith, nat_tests, here, sofar s hs, other)
-    ]
-
-pub gathered_else :
-    (set : FinSet nat_cmp) (test : ℕ → Bool) (n : ℕ) → Gathered set test n → test n ≡ false → Gathered set test (n + 1)
-gathered_else set test n sofar fails s hs =
-    elim (cases_eq n s) [
-      | inl same ↦ let e : test s ≡ false = ap test (sym same) ∙ fails in grind (arith, nat_tests, sofar s hs, e, same)
-      | inr other ↦ grind (arith, nat_tests, sofar s hs, other)
-    ]
-
-pub gathered_all : (set : FinSet nat_cmp) (test : ℕ → Bool) (s : ℕ) → Gathered set test 64 → s < 64 → contains set s ≡ test s
-gathered_all set test s all hs = all s hs ∙ grind (arith, nat_tests)

@@ -65,11 +65,11 @@ module _ (E F : Look) (at : ℕ) (man : Man) (adds : Adds E F at man) where
       λ axis way. rw (seen_same axis (opposite way) c, reaches_same axis way s) refl in
       omega (arith, each Rank Up, each Rank Down, each File Up, each File Down, each Rising Up, each Rising Down, each Falling Up, each Falling Down)
 
-own_small : (man : Man) (look : Look) (at : ℕ) (c : Colour) (s : ℕ) → own man look at c s ≤ 1
+pub own_small : (man : Man) (look : Look) (at : ℕ) (c : Colour) (s : ℕ) → own man look at c s ≤ 1
 own_small man look at c s = bit_small (same_colour man.colour c && attacks_as man look at s)
 
 -- a man's own attack is counted
-own_counted : (look : Look) (at : ℕ) (man : Man) (c : Colour) (s : ℕ) → at < 64 → look at ≡ Some man → own man look at c s ≤ count look c s
+pub own_counted : (look : Look) (at : ℕ) (man : Man) (c : Colour) (s : ℕ) → at < 64 → look at ≡ Some man → own man look at c s ≤ count look c s
 own_counted look at man c s h holds =
     let e : weight look c s at ≡ own man look at c s = rw holds refl in
     let one : weight look c s at ≤ total (weight look c s) 0 64 = total-at (weight look c s) at 0 64 (omega arith) h in

@@ -6,7 +6,7 @@ ghost use Rattle.chess_types.specs.board.Attack.{is_attacked};
 ghost use Rattle.chess_attack.specs.KeptCounts.{AreCounts, changed_of};
 
 use crate::change::Change;
-use crate::follow::{clear_in, put_in};
+use crate::follow::{clear_in, put_in, replace_in};
 use crate::follower::Follower;
 use crate::mark::mark;
 use crate::tally::Tally;
@@ -117,5 +117,18 @@ impl Follower for Counts {
         ensures at_least { self.new.ticks < u32.MAX → self.old.ticks + changed_of (man_at before.now) (man_at (map.remove before.now at)) ≤ self.new.ticks }
     {
         clear_in(&mut self.tally, before, at);
+    }
+
+    /// Takes the attacks of the man on the square away, and counts those of the man that takes his place. At most 54 ticks
+    /// and, while they have not reached `u32::MAX`, at least as many as the counts change by.
+    fn replace(&mut self, before: &Placement, at: Square, man: Man)
+        requires occupied { IsSome (map.get before.now at) }
+        requires room { men_of (map.remove before.now at) man.colour < 16 }
+        requires agrees { AreCounts self.old before.now }
+        ensures agrees { AreCounts self.new (map.insert before.now at man) }
+        ensures at_most { self.new.ticks ≤ self.old.ticks + 54 }
+        ensures at_least { self.new.ticks < u32.MAX → self.old.ticks + changed_of (man_at before.now) (man_at (map.insert before.now at man)) ≤ self.new.ticks }
+    {
+        replace_in(&mut self.tally, before, at, man);
     }
 }

@@ -34,3 +34,18 @@ pub fn clear_in(tally: &mut Tally, before: &Placement, at: Square)
         update_x_rays(tally, before, at, Change::Raise);
     }
 }
+
+/// The tally follows a man that takes the place of another: the one's attacks go, the other's come. Those through the square
+/// are closed before and afterwards.
+pub fn replace_in(tally: &mut Tally, before: &Placement, at: Square, man: Man)
+    requires occupied { IsSome (map.get before.now at) }
+    requires agrees { AreCounts tally.old before.now }
+    ensures agrees { AreCounts tally.new (map.insert before.now at man) }
+    ensures at_most { tally.new.ticks ≤ tally.old.ticks + 54 }
+    ensures at_least { tally.new.ticks < u32.MAX → tally.old.ticks + changed_of (man_at before.now) (man_at (map.insert before.now at man)) ≤ tally.new.ticks }
+{
+    if let Some(other) = before.get(at) {
+        mark(tally, before, other, at, Change::Lower);
+        mark(tally, before, man, at, Change::Raise);
+    }
+}

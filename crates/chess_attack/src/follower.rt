@@ -5,7 +5,7 @@ ghost use Rattle.chess_types.specs.board.Men.{men_of};
 use chess_types::{Man, Placement, Square};
 
 /// What is kept beside a placement, and follows its changes one man at a time. Code above is proved over this law alone:
-/// after `put` or `clear` the follower agrees with the placement so changed.
+/// after `put`, `clear` or `replace` the follower agrees with the placement so changed.
 pub trait Follower {
     ghost use Rattle.chess_types.specs.board.Board.{Board};
 
@@ -24,4 +24,11 @@ pub trait Follower {
         requires occupied { IsSome (map.get before.now at) }
         requires agrees { agrees self.old before.now }
         ensures { agrees self.new (map.remove before.now at) };
+
+    /// Follows the man that takes the place of the one on an occupied square, where his colour has fewer than 16 without it.
+    fn replace(&mut self, before: &Placement, at: Square, man: Man)
+        requires occupied { IsSome (map.get before.now at) }
+        requires room { men_of (map.remove before.now at) man.colour < 16 }
+        requires agrees { agrees self.old before.now }
+        ensures { agrees self.new (map.insert before.now at man) };
 }

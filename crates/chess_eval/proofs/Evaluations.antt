@@ -1,5 +1,5 @@
 -- How the sums of a board change with one square, and how large they can be.
-use Rattle.std.proofs.Common.{◌≡◌, ◌≢◌, ℕ, ◌<◌, ℤ, pos, ◌≤◌, ◌+◌, ◌+ℤ◌, ◌-ℤ◌, Option, Some, None, refl, ap, subst, ◌∙◌, add-one, arith}
+use Rattle.std.proofs.Common.{◌≡◌, ◌≢◌, ℕ, ◌<◌, ℤ, pos, ◌≤◌, ◌+◌, ◌+ℤ◌, ◌-ℤ◌, Option, Some, None, refl, sym, ap, subst, ◌∙◌, add-one, arith}
 use Rattle.std.proofs.lemmas.Int.{ints}
 use Rattle.std.specs.Ordering.{nat_cmp}
 use Rattle.std.specs.FinMap.{get, insert, remove, empty, get-empty}
@@ -7,6 +7,7 @@ use Rattle.chess_types.specs.declared.board.man.Man.{Man}
 use Rattle.chess_types.specs.board.Board.{Board, Look, man_at}
 use Rattle.chess_types.specs.board.Squares.{squares}
 use Rattle.chess_types.proofs.BoardLaws.{boards}
+use Rattle.chess_attack.proofs.Replaces.{put-again}
 use Rattle.chess_eval.specs.Worth.{middle_of, end_of}
 use Rattle.chess_eval.specs.Evaluation.{balance_there, weight_there, over_board, Sums, sums_of, IsWithin}
 use Rattle.chess_eval.specs.steps.Changes.{with_man, without_man, AreInRange}
@@ -79,6 +80,15 @@ sums-clear board at man h some = λ i.
       end = over_board-clear (balance_there end_of) (λ s. refl) board at man h some i;
       weights = over_board-clear weight_there (λ s. refl) board at man h some i;
     }
+
+-- another man in the place of one
+pub sums-replace : (board : Board) (at : ℕ) (other man : Man) → at < 64 → get board at ≡ Some other →
+    sums_of (man_at (insert board at man)) ≡ with_man (without_man (sums_of (man_at board)) other at) man at
+sums-replace board at other man h some =
+    let none : get (remove board at) at ≡ None = grind (arith, boards) in
+    ap (λ (b : Board). sums_of (man_at b)) (sym (put-again board at man))
+    ∙ sums-put (remove board at) at man h none
+    ∙ ap (λ (s : Sums). with_man s man at) (sums-clear board at other h some)
 
 -- the sums over the first squares
 abbrev pub sums_below : Look → ℕ → Sums

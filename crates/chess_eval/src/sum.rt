@@ -173,4 +173,11 @@ impl Follower for Sum {
             self.subtract(man, at);
         }
     }
+
+    fn replace(&mut self, before: &Placement, at: Square, man: Man) {
+        if let Some(other) = before.get(at) {
+            self.subtract(other, at);
+            self.add(man, at);
+        }
+    }
 }

@@ -7,6 +7,7 @@ use Rattle.chess_types.specs.declared.board.man.Man.{Man}
 use Rattle.chess_types.specs.board.Board.{Board, Look, man_at}
 use Rattle.chess_types.specs.board.Squares.{squares}
 use Rattle.chess_types.proofs.BoardLaws.{boards}
+use Rattle.chess_attack.proofs.Replaces.{put-again}
 use Rattle.chess_key.specs.Keys.{key_word, word_there, word_on, key_of}
 use Rattle.chess_key.proofs.Sums.{run, run-none, run-more, run-zero, run-one}
 
@@ -72,6 +73,14 @@ key_of-clear words board at h fits =
     rw (key_is_sum words (man_at board), key_is_sum words (man_at (remove board at)))
     (mod-add-mod (sum_below words (man_at board) 64) (2 ^ 64) (2 ^ 64 - word_on words (man_at board) at) ∙ ap (λ x. x % 2 ^ 64) sum
     ∙ add-mod_right (sum_below words (man_at (remove board at)) 64) (2 ^ 64))
+
+-- another man in the place of what stands there
+pub key_of-replace :
+    (words : List ℕ) (board : Board) (at : ℕ) (man : Man) → at < 64 →
+    (key_of words (man_at (remove board at)) + key_word words man at) % 2 ^ 64 ≡ key_of words (man_at (insert board at man))
+key_of-replace words board at man h =
+    let none : get (remove board at) at ≡ None = grind (arith, boards) in
+    key_of-put words (remove board at) at man h none ∙ ap (λ (b : Board). key_of words (man_at b)) (put-again board at man)
 
 -- the empty board
 pub key_of-empty : (words : List ℕ) → key_of words (man_at (empty {R = nat_cmp})) ≡ 0

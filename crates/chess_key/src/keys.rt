@@ -39,6 +39,14 @@ fn after_clear(table: &KeyTable, number: u64, before: &Placement, at: Square) ->
     number.wrapping_sub(word_on(table, before, at))
 }
 
+/// The key after the man takes the place of the one on the square.
+fn after_replace(table: &KeyTable, number: u64, before: &Placement, at: Square, man: Man) -> u64
+    requires { number ≡ key_of table.now (man_at before.now) }
+    ensures { result ≡ key_of table.now (man_at (map.insert before.now at man)) }
+{
+    after_clear(table, number, before, at).wrapping_add(table.word(man, at))
+}
+
 /// The key of a placement by the words of a table, kept through its changes. Contracts see the words and the number.
 #[derive(Drop)]
 pub struct Key<'k> {
@@ -115,6 +123,16 @@ impl<'k> Follower for Key<'k> {
         ensures words { self.new.words ≡ self.old.words }
     {
         self.number = after_clear(self.table, self.number, before, at);
+    }
+
+    fn replace(&mut self, before: &Placement, at: Square, man: Man)
+        requires occupied { IsSome (map.get before.now at) }
+        requires room { men_of (map.remove before.now at) man.colour < 16 }
+        requires agrees { IsKeyOf self.old before.now }
+        ensures agrees { IsKeyOf self.new (map.insert before.now at man) }
+        ensures words { self.new.words ≡ self.old.words }
+    {
+        self.number = after_replace(self.table, self.number, before, at, man);
     }
 }
 

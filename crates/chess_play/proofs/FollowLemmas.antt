@@ -40,7 +40,8 @@ follows_none a x kept = record {
   at_least = λ low. omega (arith, changed_of-same (man_at x));
 }
 
-follows_within : (a b : KeptNumbers) (x y : Board) (m n : ℕ) → m ≤ n → Follows a b x y m → Follows a b x y n
+-- a greater bound
+pub follows_within : (a b : KeptNumbers) (x y : Board) (m n : ℕ) → m ≤ n → Follows a b x y m → Follows a b x y n
 follows_within a b x y m n le f = record { agrees = f.agrees; words = f.words; at_most = omega (arith, f.at_most); at_least = f.at_least }
 
 not_castling : (man : Man) (m : MoveParts) (wing : Wing) (other : Man) → CapturesOrCastles man m (Some other) → is_castling man wing m ≡ false
@@ -50,12 +51,10 @@ not_castling man m wing other either =
       | (inr h) ↦ h
     ]
 
--- the three pieces of a move: a capture or the rook's part of castling, but not both, beside a man that goes
-pub follows_three :
-    (a b c d : KeptNumbers) (x y z w : Board) (m k n : ℕ) → Follows a b x y m → Follows b c y z k → Follows c d z w n → m + k + n ≤ 216 →
-    Follows a d x w 216
-follows_three a b c d x y z w m k n f g h le =
-    follows_within a d x w (m + k + n) 216 le (follows_on a c d x z w (m + k) n (follows_on a b c x y z m k f g) h)
+-- the two pieces of a move: a capture or the rook's part of castling, but not both, beside a man that goes
+pub follows_two :
+    (a b c : KeptNumbers) (x y z : Board) (m n : ℕ) → Follows a b x y m → Follows b c y z n → m + n ≤ 216 → Follows a c x z 216
+follows_two a b c x y z m n f g le = follows_within a c x z (m + n) 216 le (follows_on a b c x y z m n f g)
 
 pub few_ticks : (man : Man) (m : MoveParts) (taken : Option Man) → CapturesOrCastles man m taken → ticks_of taken + castling_ticks man m ≤ 108
 few_ticks man m None either =

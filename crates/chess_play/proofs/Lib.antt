@@ -4,6 +4,7 @@ pub mod NamedWrongly
 pub mod CastlingSquares
 pub mod Facts
 pub mod Census
+pub mod Captures
 pub mod Carried
 pub mod Castled
 pub mod Setups

@@ -78,4 +78,16 @@ impl<'k> Follower for Followers<'k> {
         self.sum.clear(before, at);
         self.key.clear(before, at);
     }
+
+    fn replace(&mut self, before: &Placement, at: Square, man: Man)
+        requires occupied { IsSome (map.get before.now at) }
+        requires room { men_of (map.remove before.now at) man.colour < 16 }
+        requires agrees { AreKept self.old before.now }
+        ensures agrees { AreKept self.new (map.insert before.now at man) }
+        ensures follows { Follows self.old self.new before.now (map.insert before.now at man) 54 }
+    {
+        self.counts.replace(before, at, man);
+        self.sum.replace(before, at, man);
+        self.key.replace(before, at, man);
+    }
 }

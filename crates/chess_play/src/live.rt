@@ -94,7 +94,7 @@ impl<'k> Live<'k> {
         self.kept.counts.ticks()
     }
 
-    /// Makes the move, by at most four puts and clears: the position is the one after it (FIDE Laws 3.1 to 3.8). The halfmove
+    /// Makes the move, by at most four puts, clears and replacements: the position is the one after it (FIDE Laws 3.1 to 3.8). The halfmove
     /// clock and the fullmove number are at most 1,000,000. The answer must be spent, by `undo` or by `Made::keep`.
     pub fn make(&mut self, m: Move) -> Made
         requires pseudo { IsTrue (is_pseudo self.old.position m) }

@@ -3,7 +3,7 @@ ghost use Rattle.std.specs.FinMap as map;
 ghost use Rattle.chess_types.specs.board.Men.{men_of};
 ghost use Rattle.chess_types.specs.board.After.{captured_at, rook_of};
 ghost use Rattle.chess_play.specs.steps.Followed.{AreKept, Follows};
-ghost use Rattle.chess_play.specs.steps.Boards.{CanCastle, CanCastleBack, CanMake, CanTakeBack, carried_back, carried_on, castling_ticks, restored, moved, ticks_of, with_castled, with_castled_back};
+ghost use Rattle.chess_play.specs.steps.Boards.{CanCastle, CanCastleBack, CanMake, CanShift, CanTakeBack, carried_back, carried_on, castling_ticks, restored, moved, ticks_of, with_castled, with_castled_back};
 
 use crate::after::{arriving, captured_at, castled};
 use crate::followers::Followers;
@@ -33,33 +33,17 @@ fn clear(placement: &mut Placement, kept: &mut Followers, at: Square)
     placement.clear(at);
 }
 
-/// Takes the man that stands on the square, if one does, and answers it.
-#[tactic(auto, using(crate::proofs::FollowLemmas::follows_none))]
-fn take(placement: &mut Placement, kept: &mut Followers, at: Square) -> Option<Man>
-    requires { AreKept kept.old placement.old }
-    ensures taken { result ≡ map.get placement.old at }
-    ensures placement { placement.new ≡ map.remove placement.old at }
-    ensures follows { Follows kept.old kept.new placement.old placement.new (ticks_of result) }
-{
-    let taken = placement.get(at);
-    if taken.is_some() {
-        clear(placement, kept, at);
-    }
-    taken
-}
-
-/// Puts back the man that was taken from the square, if one was.
-#[tactic(auto, using(crate::proofs::FollowLemmas::follows_none))]
-fn give_back(placement: &mut Placement, kept: &mut Followers, at: Square, taken: Option<Man>)
-    requires empty { map.get placement.old at ≡ None }
-    requires room { IfSome taken (λ man. men_of placement.old man.colour < 16) }
+/// Puts a man in the place of the one on an occupied square, and the followers follow.
+fn replace(placement: &mut Placement, kept: &mut Followers, at: Square, man: Man)
+    requires occupied { IsSome (map.get placement.old at) }
+    requires room { men_of (map.remove placement.old at) man.colour < 16 }
     requires agrees { AreKept kept.old placement.old }
-    ensures placement { placement.new ≡ restored at taken placement.old }
-    ensures follows { Follows kept.old kept.new placement.old placement.new (ticks_of taken) }
+    ensures placement { placement.new ≡ map.insert placement.old at man }
+    ensures follows { Follows kept.old kept.new placement.old placement.new 54 }
 {
-    if let Some(man) = taken {
-        put(placement, kept, at, man);
-    }
+    kept.replace(placement, at, man);
+    placement.clear(at);
+    placement.put(at, man);
 }
 
 /// Clears one square and puts a man on another.
@@ -73,6 +57,103 @@ fn shift(placement: &mut Placement, kept: &mut Followers, from: Square, to: Squa
 {
     clear(placement, kept, from);
     put(placement, kept, to, man);
+}
+
+/// The man goes, and the man on the captured square is gone. Where that is the square to which he goes, he takes the place of
+/// the captured man.
+fn capture(
+    placement: &mut Placement,
+    kept: &mut Followers,
+    at: Square,
+    from: Square,
+    to: Square,
+    man: Man,
+)
+    requires occupied { IsSome (map.get placement.old at) }
+    requires goes { CanShift (map.remove placement.old at) from to man }
+    requires agrees { AreKept kept.old placement.old }
+    ensures placement { placement.new ≡ moved from to man (map.remove placement.old at) }
+    ensures follows { Follows kept.old kept.new placement.old placement.new 162 }
+{
+    if at == to {
+        clear(placement, kept, from);
+        replace(placement, kept, to, man);
+    } else {
+        clear(placement, kept, at);
+        shift(placement, kept, from, to, man);
+    }
+}
+
+/// The man goes, and answers the man that he captures, if he does.
+fn go(
+    placement: &mut Placement,
+    kept: &mut Followers,
+    at: Square,
+    from: Square,
+    to: Square,
+    man: Man,
+) -> Option<Man>
+    requires goes { CanShift (map.remove placement.old at) from to man }
+    requires agrees { AreKept kept.old placement.old }
+    ensures taken { result ≡ map.get placement.old at }
+    ensures placement { placement.new ≡ moved from to man (map.remove placement.old at) }
+    ensures follows { Follows kept.old kept.new placement.old placement.new (108 + ticks_of result) }
+{
+    let taken = placement.get(at);
+    match taken {
+        None => shift(placement, kept, from, to, man),
+        Some(_) => capture(placement, kept, at, from, to, man),
+    }
+    taken
+}
+
+/// The man goes back, and the captured man stands again.
+fn release(
+    placement: &mut Placement,
+    kept: &mut Followers,
+    at: Square,
+    from: Square,
+    to: Square,
+    man: Man,
+    other: Man,
+)
+    requires goes { CanShift placement.old to from man }
+    requires free { map.get (moved to from man placement.old) at ≡ None }
+    requires room { men_of (moved to from man placement.old) other.colour < 16 }
+    requires agrees { AreKept kept.old placement.old }
+    ensures placement { placement.new ≡ map.insert (moved to from man placement.old) at other }
+    ensures follows { Follows kept.old kept.new placement.old placement.new 162 }
+{
+    if at == to {
+        replace(placement, kept, to, other);
+        put(placement, kept, from, man);
+    } else {
+        shift(placement, kept, to, from, man);
+        put(placement, kept, at, other);
+    }
+}
+
+/// The man goes back, and the man that he captured stands again, if he did.
+fn go_back(
+    placement: &mut Placement,
+    kept: &mut Followers,
+    at: Square,
+    from: Square,
+    to: Square,
+    man: Man,
+    taken: Option<Man>,
+)
+    requires goes { CanShift placement.old to from man }
+    requires free { map.get (moved to from man placement.old) at ≡ None }
+    requires room { IfSome taken (λ other. men_of (moved to from man placement.old) other.colour < 16) }
+    requires agrees { AreKept kept.old placement.old }
+    ensures placement { placement.new ≡ restored at taken (moved to from man placement.old) }
+    ensures follows { Follows kept.old kept.new placement.old placement.new (108 + ticks_of taken) }
+{
+    match taken {
+        None => shift(placement, kept, to, from, man),
+        Some(other) => release(placement, kept, at, from, to, man, other),
+    }
 }
 
 fn rook_of(colour: Colour) -> Man
@@ -124,7 +205,7 @@ fn castle_back(placement: &mut Placement, kept: &mut Followers, man: Man, m: Mov
     }
 }
 
-/// Makes the man's move on the board, by at most four puts and clears, and answers the man that it captures. The target is
+/// Makes the man's move on the board, by at most four changes of one square, and answers the man that it captures. The target is
 /// that before the move.
 pub fn carry_on(
     placement: &mut Placement,
@@ -142,8 +223,8 @@ pub fn carry_on(
     let from = m.from;
     let to = m.to;
     let promo = m.promo;
-    let taken = take(placement, kept, captured_at(target, man, m));
-    shift(placement, kept, from, to, arriving(man, promo));
+    let at = captured_at(target, man, m);
+    let taken = go(placement, kept, at, from, to, arriving(man, promo));
     castle(placement, kept, man, m);
     taken
 }
@@ -166,6 +247,6 @@ pub fn carry_back(
     let from = m.from;
     let to = m.to;
     castle_back(placement, kept, man, m);
-    shift(placement, kept, to, from, man);
-    give_back(placement, kept, captured_at(target, man, m), taken);
+    let at = captured_at(target, man, m);
+    go_back(placement, kept, at, from, to, man, taken);
 }

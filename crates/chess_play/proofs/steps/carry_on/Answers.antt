@@ -3,15 +3,15 @@ use Rattle.std.specs.FinMap.{get}
 use Rattle.chess_types.specs.declared.board.man.Man.{Man}
 use Rattle.chess_types.specs.board.After.{captured_at}
 use Rattle.chess_play.specs.steps.Boards.{CapturesOrCastles, ticks_of, castling_ticks}
-use Rattle.chess_play.proofs.FollowLemmas.{follows_three, few_ticks}
+use Rattle.chess_play.proofs.FollowLemmas.{follows_two, few_ticks}
 use Rattle.chess_play.proofs.steps.carry_on.Goals as goal
 
 pub returns-clause-follows : goal.returns-clause-follows
 returns-clause-follows c =
-    let at : c.take-taken.result ≡ get c.args.placement.now (captured_at c.args.target c.args.man c.args.m) =
-    c.take-taken.ensures.taken ∙ ap (λ s. get c.args.placement.now s) c.captured_at.ensures in
-    let either : CapturesOrCastles c.args.man c.args.m c.take-taken.result =
+    let at : c.go-taken.result ≡ get c.args.placement.now (captured_at c.args.target c.args.man c.args.m) =
+    c.go-taken.ensures.taken ∙ ap (λ s. get c.args.placement.now s) c.captured_at-at.ensures in
+    let either : CapturesOrCastles c.args.man c.args.m c.go-taken.result =
     subst (λ (o : Option Man). CapturesOrCastles c.args.man c.args.m o) (sym at) c.requires.can.either in
-    let few : ticks_of c.take-taken.result + castling_ticks c.args.man c.args.m ≤ 108 = few_ticks c.args.man c.args.m c.take-taken.result either in
-    follows_three _ _ _ _ _ _ _ _ (ticks_of c.take-taken.result) 108 (castling_ticks c.args.man c.args.m)
-    c.take-taken.ensures.follows c.shift.ensures.follows c.castle.ensures.follows (omega (arith, few))
+    let few : ticks_of c.go-taken.result + castling_ticks c.args.man c.args.m ≤ 108 = few_ticks c.args.man c.args.m c.go-taken.result either in
+    follows_two _ _ _ _ _ _ (108 + ticks_of c.go-taken.result) (castling_ticks c.args.man c.args.m)
+    c.go-taken.ensures.follows c.castle.ensures.follows (omega (arith, few))

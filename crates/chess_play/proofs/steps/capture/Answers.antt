@@ -1,0 +1,44 @@
+use Rattle.std.proofs.Common.{◌≡◌, IsSome, ◌<◌, sym, ap, subst, ◌∙◌, arith}
+use Rattle.std.specs.FinMap.{remove, insert}
+use Rattle.chess_types.specs.board.Board.{Board, man_at}
+use Rattle.chess_types.specs.board.Men.{men_of}
+use Rattle.chess_play.specs.steps.Boards.{CanShift, moved}
+use Rattle.chess_play.proofs.Captures.{same_square, goes_here, struck, struck_room, struck_board}
+use Rattle.chess_play.proofs.FollowLemmas.{follows_on, follows_within}
+use Rattle.chess_play.proofs.steps.capture.Goals as goal
+
+pub clear-requires-clause-occupied : goal.clear-requires-clause-occupied
+clear-requires-clause-occupied c =
+    let same : c.args.at ≡ c.args.to = same_square c.args.at c.args.to c.eq.result c.eq.ensures c.if-eq.true in
+    goes_here c.args.placement.now c.args.from c.args.to c.args.man
+    (subst (λ n. CanShift (remove c.args.placement.now n) c.args.from c.args.to c.args.man) same c.requires.goes)
+
+pub replace-requires-clause-occupied : goal.replace-requires-clause-occupied
+replace-requires-clause-occupied c =
+    let same : c.args.at ≡ c.args.to = same_square c.args.at c.args.to c.eq.result c.eq.ensures c.if-eq.true in
+    rw c.clear.ensures.placement
+    (struck c.args.placement.now c.args.from c.args.to c.args.man
+    (subst (λ n. CanShift (remove c.args.placement.now n) c.args.from c.args.to c.args.man) same c.requires.goes)
+    (subst (λ n. IsSome (man_at c.args.placement.now n)) same c.requires.occupied))
+
+pub replace-requires-clause-room : goal.replace-requires-clause-room
+replace-requires-clause-room c =
+    let same : c.args.at ≡ c.args.to = same_square c.args.at c.args.to c.eq.result c.eq.ensures c.if-eq.true in
+    subst (λ (b : Board). men_of (remove b c.args.to) c.args.man.colour < 16) (sym c.clear.ensures.placement)
+    (struck_room c.args.placement.now c.args.from c.args.to c.args.man
+    (subst (λ n. CanShift (remove c.args.placement.now n) c.args.from c.args.to c.args.man) same c.requires.goes))
+
+pub returns-then-eq-clause-placement : goal.returns-then-eq-clause-placement
+returns-then-eq-clause-placement c =
+    let same : c.args.at ≡ c.args.to = same_square c.args.at c.args.to c.eq.result c.eq.ensures c.if-eq.true in
+    c.replace.ensures.placement ∙ ap (λ (b : Board). insert b c.args.to c.args.man) c.clear.ensures.placement
+    ∙ struck_board c.args.placement.now c.args.from c.args.to c.args.man
+    (subst (λ n. CanShift (remove c.args.placement.now n) c.args.from c.args.to c.args.man) same c.requires.goes)
+    ∙ ap (λ n. moved c.args.from c.args.to c.args.man (remove c.args.placement.now n)) (sym same)
+
+pub returns-then-eq-clause-follows : goal.returns-then-eq-clause-follows
+returns-then-eq-clause-follows c =
+    follows_within _ _ _ _ 108 162 (omega arith) (follows_on _ _ _ _ _ _ 54 54 c.clear.ensures.follows c.replace.ensures.follows)
+
+pub returns-else-eq-clause-follows : goal.returns-else-eq-clause-follows
+returns-else-eq-clause-follows c = follows_on _ _ _ _ _ _ 54 108 c.clear-else-eq.ensures.follows c.shift.ensures.follows

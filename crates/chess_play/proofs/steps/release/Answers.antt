@@ -1,0 +1,46 @@
+use Rattle.std.proofs.Common.{◌≡◌, ◌<◌, None, sym, ap, subst, ◌∙◌, arith}
+use Rattle.std.specs.FinMap.{insert}
+use Rattle.chess_types.specs.board.Board.{Board, man_at}
+use Rattle.chess_types.specs.board.Men.{men_of}
+use Rattle.chess_play.specs.steps.Boards.{moved}
+use Rattle.chess_play.proofs.Captures.{same_square, freed_room, freed_empty, freed_put, freed_board}
+use Rattle.chess_play.proofs.FollowLemmas.{follows_on, follows_within}
+use Rattle.chess_play.proofs.steps.release.Goals as goal
+
+pub replace-requires-clause-occupied : goal.replace-requires-clause-occupied
+replace-requires-clause-occupied c = c.requires.goes.here
+
+pub replace-requires-clause-room : goal.replace-requires-clause-room
+replace-requires-clause-room c =
+    freed_room c.args.placement.now c.args.from c.args.to c.args.man c.args.other (omega arith) (omega arith) c.requires.goes
+    (subst (λ n. man_at (moved c.args.to c.args.from c.args.man c.args.placement.now) n ≡ None) (same_square c.args.at c.args.to c.eq.result c.eq.ensures c.if-eq.true) c.requires.free)
+    c.requires.room
+
+pub put-requires-clause-empty : goal.put-requires-clause-empty
+put-requires-clause-empty c =
+    rw c.replace.ensures.placement
+    (freed_empty c.args.placement.now c.args.from c.args.to c.args.man c.args.other (omega arith) (omega arith) c.requires.goes
+    (subst (λ n. man_at (moved c.args.to c.args.from c.args.man c.args.placement.now) n ≡ None) (same_square c.args.at c.args.to c.eq.result c.eq.ensures c.if-eq.true) c.requires.free)
+    c.requires.room)
+
+pub put-requires-clause-room : goal.put-requires-clause-room
+put-requires-clause-room c =
+    subst (λ (b : Board). men_of b c.args.man.colour < 16) (sym c.replace.ensures.placement)
+    (freed_put c.args.placement.now c.args.from c.args.to c.args.man c.args.other (omega arith) (omega arith) c.requires.goes
+    (subst (λ n. man_at (moved c.args.to c.args.from c.args.man c.args.placement.now) n ≡ None) (same_square c.args.at c.args.to c.eq.result c.eq.ensures c.if-eq.true) c.requires.free)
+    c.requires.room)
+
+pub returns-then-eq-clause-placement : goal.returns-then-eq-clause-placement
+returns-then-eq-clause-placement c =
+    let same : c.args.at ≡ c.args.to = same_square c.args.at c.args.to c.eq.result c.eq.ensures c.if-eq.true in
+    c.put.ensures.placement ∙ ap (λ (b : Board). insert b c.args.from c.args.man) c.replace.ensures.placement
+    ∙ freed_board c.args.placement.now c.args.from c.args.to c.args.man c.args.other (omega arith) (omega arith) c.requires.goes
+    (subst (λ n. man_at (moved c.args.to c.args.from c.args.man c.args.placement.now) n ≡ None) same c.requires.free) c.requires.room
+    ∙ ap (λ n. insert (moved c.args.to c.args.from c.args.man c.args.placement.now) n c.args.other) (sym same)
+
+pub returns-then-eq-clause-follows : goal.returns-then-eq-clause-follows
+returns-then-eq-clause-follows c =
+    follows_within _ _ _ _ 108 162 (omega arith) (follows_on _ _ _ _ _ _ 54 54 c.replace.ensures.follows c.put.ensures.follows)
+
+pub returns-else-eq-clause-follows : goal.returns-else-eq-clause-follows
+returns-else-eq-clause-follows c = follows_on _ _ _ _ _ _ 108 54 c.shift.ensures.follows c.put-else-eq.ensures.follows
