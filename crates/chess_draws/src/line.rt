@@ -3,12 +3,13 @@ ghost use Rattle.chess_types.specs.board.MoveParts.{MoveParts};
 ghost use Rattle.chess_types.specs.board.Position.{IsWellFormed, look};
 ghost use Rattle.chess_types.specs.board.Attack.{in_check as in_check_of};
 ghost use Rattle.chess_types.specs.board.Legal.{is_legal as is_legal_in, legal_moves};
+ghost use Rattle.chess_types.specs.board.After.{after};
 ghost use Rattle.chess_types.specs.board.Lines.{AreLegal, Line as LineOf, last, play, extended};
 ghost use Rattle.chess_types.specs.board.Repetition.{is_same, repetitions};
 ghost use Rattle.chess_types.specs.board.Outcome.{status, claims, claims_with};
 ghost use Rattle.chess_attack.specs.KeptCounts.{changed_of};
 ghost use Rattle.chess_san.specs.Naming.{reading};
-ghost use Rattle.chess_san.specs.Writing.{san};
+ghost use Rattle.chess_san.specs.Writing.{mark_text, san};
 ghost use Rattle.chess_draws.specs.declared.fault.LineFault.TheVariants.{Memory};
 ghost use Rattle.chess_draws.specs.Draws.{is_drawn, is_claimable};
 ghost use Rattle.chess_draws.specs.LineParts.{IsAsBefore};
@@ -309,6 +310,23 @@ impl<'k, A: Allocator> Line<'k, A> {
         ensures as_before { IsAsBefore self.old self.new }
     {
         chess_san::write(&mut self.live, m)
+    }
+
+    /// That text without the mark of check or mate, at most 6 bytes: `write_mark`, asked once the move is made, gives the rest.
+    pub fn write_unmarked(&mut self, m: Move) -> ArrayString<8>
+        requires legal { IsTrue (is_legal_in (last self.old.line) m) }
+        ensures value { result.bytes ++ mark_text (after (last self.old.line) m) ≡ san (last self.old.line) m }
+        ensures as_before { IsAsBefore self.old self.new }
+    {
+        chess_san::write_unmarked(&mut self.live, m)
+    }
+
+    /// The mark behind the text of the move that led to the last position: `+` where its king is in check, `#` where it is mated.
+    pub fn write_mark(&mut self) -> &'static str
+        ensures value { result.now ≡ mark_text (last self.old.line) }
+        ensures as_before { IsAsBefore self.old self.new }
+    {
+        chess_san::write_mark(&mut self.live)
     }
 
     /// How many of the line's positions are the same as the last, the last included (FIDE Laws 9.2.2, 9.2.3). It looks back over the

@@ -15,7 +15,7 @@ mod writer;
 
 pub use fault::SanFault;
 pub use reader::read;
-pub use writer::write;
+pub use writer::{write, write_mark, write_unmarked};
 
 #[cfg(test)]
 mod tests;

@@ -6,6 +6,7 @@ ghost use Rattle.arrayvec.specs.ArrayString.{array_string_len};
 ghost use Rattle.chess_types.specs.board.Men.{is_pawn};
 ghost use Rattle.chess_types.specs.board.Texts.{square_text};
 ghost use Rattle.chess_types.specs.board.Position.{look};
+ghost use Rattle.chess_types.specs.board.After.{after};
 ghost use Rattle.chess_types.specs.board.Legal.{is_legal};
 ghost use Rattle.chess_san.specs.steps.Origins.{Begins, BeginsAmong, from_each, legal_and};
 ghost use Rattle.chess_san.specs.Naming.{named, reading};
@@ -288,9 +289,10 @@ fn bare_text(live: &mut Live, man: Man, m: Move) -> ArrayString<8>
     }
 }
 
-// The mark of a position that a move has led to.
+/// The mark that stands behind the text of the move that led to a position: `+` where its king is in check, `#` where it is mated,
+/// nothing else (PGN 8.2.3.5). Both counters are at most 1,000,000. All is as before but for the ticks.
 #[tactic(auto, unfolding(crate::specs::Writing::mark_text))]
-fn mark_text(live: &mut Live) -> &'static str
+pub fn write_mark(live: &mut Live) -> &'static str
     requires clock { live.old.position.clock ≤ 1000000 }
     requires number { live.old.position.number ≤ 1000000 }
     ensures value { result.now ≡ mark_text live.old.position }
@@ -313,9 +315,26 @@ fn man_at(setup: &Setup, square: Square) -> Option<Man>
     setup.placement.get(square)
 }
 
+/// The text of a legal move in standard algebraic notation (PGN 8.2.3) without its mark, at most 6 bytes: `write_mark`, asked behind the
+/// move, gives the rest. The halfmove clock and the fullmove number are below 1,000,000. All is as before but for the ticks.
+#[tactic(auto, unfolding(crate::specs::Writing::san))]
+pub fn write_unmarked(live: &mut Live, m: Move) -> ArrayString<8>
+    requires legal { IsTrue (is_legal live.old.position m) }
+    requires clock { live.old.position.clock < 1000000 }
+    requires number { live.old.position.number < 1000000 }
+    ensures bytes { result.bytes ++ mark_text (after live.old.position m) ≡ san live.old.position m }
+    ensures len { array_string_len result ≤ 6 }
+    ensures position { live.new.position ≡ live.old.position }
+    ensures words { live.new.words ≡ live.old.words }
+{
+    match man_at(live.position(), m.from) {
+        None => unreachable!(),
+        Some(man) => bare_text(live, man, m),
+    }
+}
+
 /// The text of a legal move in standard algebraic notation (PGN 8.2.3), at most 7 bytes. It names that move alone, and `read`
 /// answers it. The halfmove clock and the fullmove number are below 1,000,000. All is as before but for the ticks.
-#[tactic(auto, unfolding(crate::specs::Writing::san))]
 pub fn write(live: &mut Live, m: Move) -> ArrayString<8>
     requires legal { IsTrue (is_legal live.old.position m) }
     requires clock { live.old.position.clock < 1000000 }
@@ -326,15 +345,10 @@ pub fn write(live: &mut Live, m: Move) -> ArrayString<8>
     ensures position { live.new.position ≡ live.old.position }
     ensures words { live.new.words ≡ live.old.words }
 {
-    match man_at(live.position(), m.from) {
-        None => unreachable!(),
-        Some(man) => {
-            let mut text = bare_text(live, man, m);
-            let made = live.make(m);
-            let mark = mark_text(live);
-            live.undo(made);
-            text.push_str(mark);
-            text
-        }
-    }
+    let mut text = write_unmarked(live, m);
+    let made = live.make(m);
+    let mark = write_mark(live);
+    live.undo(made);
+    text.push_str(mark);
+    text
 }

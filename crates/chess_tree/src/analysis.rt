@@ -105,7 +105,8 @@ impl<'a, A: Allocator> Analysis<'a, A> {
 
     /// The tree with its cursor, without the line.
     pub fn into_tree(self) -> Tree<'a, A>
-        ensures { result ≡ self.entry }
+        ensures tree { result ≡ self.entry }
+        ensures game { IsGameTree self.entry }
     {
         let Analysis { tree, line: _ } = self;
         tree
