@@ -34,7 +34,7 @@ module _ {X : Type 0} (comes : X → List ℕ → X → Type 0) (at_hand : X →
   skipping_other column now hand s e none = record {
     pieces = s.pieces;
     came = s.came;
-    after = (s.white ∙ ap (white_after (Some column)) (sym e) ∙ sym none, s.sound_still);
+    after = (s.white ∙ ap (white_after (Some column)) (sym e) ∙ sym none, s.sound_still, s.at_end);
   }
 
   module _ (column next : Column) (now new : X) (hand : List ℕ) (s : Skipping column now) (e : hand ≡ at_hand now) (some : Some next ≡ white_after (Some column) hand) where

@@ -8,7 +8,7 @@ use Rattle.chess_pgn.specs.Grammar.{Element, element, elements, few_are_open}
 use Rattle.chess_pgn.specs.Items.{Item}
 use Rattle.chess_pgn.specs.Reading.{HasBegun, Starts, is_heading, is_movetext, lead_after, remarks}
 use Rattle.chess_pgn.specs.Tags.{AreTags, start_in}
-use Rattle.chess_pgn.specs.steps.HeaderCode.{HasTaken}
+use Rattle.chess_pgn.specs.steps.HeaderCode.{HasTaken, is_begun}
 use Rattle.chess_pgn.specs.steps.OtherCode.{Finds}
 use Rattle.chess_pgn.specs.steps.ReaderCode.{Begins, Headed, Heads, IsNew, Read, TakesItem, TakesPart, takes_when}
 use Rattle.chess_pgn.specs.steps.Readings.{Reading, Stands, fresh, goes_on}
@@ -34,6 +34,7 @@ pub record InMovetext {A : Type 0} (head movetext : List Item) (r : Reader A) : 
   pub tags : List (List ℕ × List ℕ)
   pub are_tags : AreTags head tags
   pub finds : Finds tags r.header.found.tags
+  pub outside : is_begun r.header.part ≡ false
   pub first : State
   pub told : start_in tags ≡ Some first
   pub stands : list_all is_movetext movetext ≡ true
@@ -89,6 +90,7 @@ movetext_more {A = A} head movetext item old new h r =
       tags = h.tags;
       are_tags = h.are_tags;
       finds = subst (λ (k : Header A). Finds h.tags k.found.tags) (sym r.header) h.finds;
+      outside = ap (λ (k : Header A). is_begun k.part) r.header ∙ h.outside;
       first = h.first;
       told = h.told;
       stands = all_more is_movetext movetext item h.stands r.stands;
@@ -111,6 +113,7 @@ movetext_first {A = A} is old new h b =
       tags = t.0;
       are_tags = t.1;
       finds = subst (λ (k : Header A). Finds t.0 k.found.tags) (sym b.header) t.2;
+      outside = ap (λ (k : Header A). is_begun k.part) b.header ∙ b.outside;
       first = x.0;
       told = x.1;
       stands = refl;

@@ -9,7 +9,7 @@ use Rattle.chess_types.specs.bytes.Calls.{Calls, joined}
 use Rattle.chess_pgn.specs.Grammar.{Derives, elements, few_are_open}
 use Rattle.chess_pgn.specs.Items as items
 use Rattle.chess_pgn.specs.Items.{IsSpelled, Item, is_white, place_after}
-use Rattle.chess_pgn.specs.Reading.{Ends, Gives, HasBegun, Starts, is_heading, remarks}
+use Rattle.chess_pgn.specs.Reading.{Ends, Gives, HasBegun, IsWithinLimits, Starts, is_heading, remarks}
 use Rattle.chess_pgn.specs.steps.GameCode.{game_of}
 use Rattle.chess_pgn.specs.steps.GameAt.{HasCome, NoneCame}
 use Rattle.chess_pgn.specs.steps.HeaderCode.{HasFound}
@@ -52,11 +52,11 @@ movetext_dark (items.Blank b) h = absurd cc
 movetext_dark items.Hidden h = absurd cc
 movetext_dark _ h = refl
 
-begun_dark : (head movetext : List Item) → HasBegun movetext → list_all is_white (head ++ movetext) ≡ false
+pub begun_dark : (head movetext : List Item) → HasBegun movetext → list_all is_white (head ++ movetext) ≡ false
 begun_dark head [] h = absurd h
 begun_dark head (item ∷ more) h = dark_after head item more (movetext_dark item h)
 
-whites_bare : (is : List (ℕ × Item)) → all_white is ≡ list_all is_white (bare is)
+pub whites_bare : (is : List (ℕ × Item)) → all_white is ≡ list_all is_white (bare is)
 whites_bare [] = refl
 whites_bare (x ∷ is) = ap (λ (b : Bool). is_white x.1 && b) (whites_bare is)
 
@@ -168,8 +168,8 @@ module _ {X A : Type 0} (comes : X → List ℕ → X → Type 0) (at_hand : X �
 
   module _ (pieces : List (List ℕ)) (new : X) (came : Calls comes old pieces new) (at : ℕ) (place : Place) (white : Bool) where
     come : (is : List (ℕ × Item)) → Took comes at_hand all sound size takes limit old pieces new is at place white → list_all is_white (bare is) ≡ false → game.tree.path ≡ [] → (length (at_hand old) ≤ 65536 → length (at_hand new) ≤ 65536)
-        → ((more : List ℕ) → (all new → more ≡ []) → Gives (bare is) (at_hand new ++ more) (game_of game)) → HasCome comes at_hand all old new game at
-    come is took some cursor near gives = let front = spelled_front 0 GameStart (at_hand old ++ (joined pieces ++ [])) is (at_hand new ++ []) (took.spelled [] (λ h. refl)) in record {
+        → IsWithinLimits (game_of game) → ((more : List ℕ) → (all new → more ≡ []) → Gives (bare is) (at_hand new ++ more) (game_of game)) → HasCome comes at_hand all old new game at
+    come is took some cursor near within gives = let front = spelled_front 0 GameStart (at_hand old ++ (joined pieces ++ [])) is (at_hand new ++ []) (took.spelled [] (λ h. refl)) in record {
       pieces = pieces;
       came = came;
       reads = λ more none. record {
@@ -180,6 +180,7 @@ module _ {X A : Type 0} (comes : X → List ℕ → X → Type 0) (at_hand : X �
         few = took.few;
         some = some;
         gives = gives more none;
+        within = within;
       };
       text = front.0;
       parts = ap (λ (z : List ℕ). at_hand old ++ z) (sym (append-nil (joined pieces))) ∙ front.1 ∙ ap (λ (z : List ℕ). front.0 ++ z) (append-nil (at_hand new));
@@ -194,7 +195,7 @@ module _ {X A : Type 0} (comes : X → List ℕ → X → Type 0) (at_hand : X �
         let is = bare r.items in
         let p : Progress is r.mid = progress_all [] r.items t r.mid (progress_new t new_reader) r.taken in
         let g = ended_gives is r.last.1 [] game r.mid u c p r.ends in
-        come (r.items ++ r.last ∷ []) r.took (ap (list_all is_white) (bare_more r.items r.last) ∙ dark_after is r.last.1 [] g.1) g.0.1 r.near
+        come (r.items ++ r.last ∷ []) r.took (ap (list_all is_white) (bare_more r.items r.last) ∙ dark_after is r.last.1 [] g.1) g.0.1 r.near c.within
         (λ more none. subst (λ (z : List Item). Gives z (at_hand new ++ more) (game_of game)) (sym (bare_more r.items r.last)) (ended_gives is r.last.1 (at_hand new ++ more) game r.mid u c p r.ends).0.0)
 
     come_left : RanUpTo comes at_hand all sound size takes limit old pieces new t u at place white (Ok Leaves) → Closed u game → HasCome comes at_hand all old new game at
@@ -202,7 +203,7 @@ module _ {X A : Type 0} (comes : X → List ℕ → X → Type 0) (at_hand : X �
         let is = bare r.items in
         let p : Progress is r.mid = progress_all [] r.items t r.mid (progress_new t new_reader) r.taken in
         let g = left_gives is r.item game r.mid u c p r.answered in
-        come r.items r.took g.1 (g.2 (byte "[" ∷ []) [] refl).1 (r.bracket g.0)
+        come r.items r.took g.1 (g.2 (byte "[" ∷ []) [] refl).1 (r.bracket g.0) c.within
         (λ more none.
         let k = item_taken place (at_hand new ++ more) r.item (r.rest ++ more) (r.found more none) in
         (g.2 (at_hand new ++ more) (r.rest ++ more) (bracket_first k.0 r.item (at_hand new ++ more) (r.rest ++ more) g.0 k.2.spelled k.1)).0)
@@ -212,7 +213,7 @@ module _ {X A : Type 0} (comes : X → List ℕ → X → Type 0) (at_hand : X �
         let is = bare r.items in
         let p : Progress is u = progress_all [] r.items t u (progress_new t new_reader) r.taken in
         let g = finished_gives is game u f p in
-        come r.items r.took (sym (whites_bare r.items) ∙ sym r.took.whites ∙ dark) g.1 (λ h. rw r.nothing (omega arith))
+        come r.items r.took (sym (whites_bare r.items) ∙ sym r.took.whites ∙ dark) g.1 (λ h. rw r.nothing (omega arith)) f.ends.within
         (λ more none. subst (λ (z : List ℕ). Gives is z (game_of game)) (sym (ap (λ (z : List ℕ). z ++ more) r.nothing ∙ none r.ended)) g.0)
 
     come_run : (why : Stop) → AfterRun comes at_hand all sound size takes limit old pieces new t u at place white why → (why ≡ stop.End → white ≡ false) → Answered why u game → HasCome comes at_hand all old new game at
@@ -228,7 +229,7 @@ module _ {X A : Type 0} (comes : X → List ℕ → X → Type 0) (at_hand : X �
       let p : Passed comes at_hand all sound size takes limit old new t u s = subst (λ (o : Option Stopped). Passes comes at_hand all sound size takes limit old new t u (Ok o)) e h in
       let c = come_run p.ran.pieces p.mid p.ran.came s.at s.place s.white s.why p.ran.after p.more a in
       elim p.after [
-        | inl e ↦ subst (λ (x : X). HasCome comes at_hand all old x game s.at) (sym e) c
+        | inl e ↦ subst (λ (x : X). HasCome comes at_hand all old x game s.at) (sym e.0) c
         | inr n ↦ absurd (subst (λ (w : Stop). Answered w u game) n.over a)
       ]
 

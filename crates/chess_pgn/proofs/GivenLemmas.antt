@@ -23,7 +23,7 @@ gaps_pass : (h : Heading) → is_spaced h.part ≡ true → (gaps : List Item) �
 gaps_pass h e [] g rest = refl
 gaps_pass h e (i ∷ is) g rest = on_by h _ (is ++ rest) i (passed h i (rw (e, g.0) refl)) ∙ gaps_pass h e is g.1 rest
 
-between_pass : (read : List (List ℕ × List ℕ)) (front : List Item) → AreBetween front → (rest : List Item) → heads_on (fresh read) (front ++ rest) ≡ heads_on (fresh read) rest
+pub between_pass : (read : List (List ℕ × List ℕ)) (front : List Item) → AreBetween front → (rest : List Item) → heads_on (fresh read) (front ++ rest) ≡ heads_on (fresh read) rest
 between_pass read [] g rest = refl
 between_pass read (i ∷ is) g rest = on_by (fresh read) (Some (fresh read)) (is ++ rest) i (rw g.0 refl) ∙ between_pass read is g.1 rest
 
@@ -254,11 +254,16 @@ took_tags taken header h e =
 pub tags_once : (is : List Item) (tags more : List (List ℕ × List ℕ)) → AreTags is tags → AreTags is more → tags ≡ more
 tags_once is tags more h k = some_is tags more (sym (tags_read [] tags is h) ∙ tags_read [] more is k)
 
--- a malformed tag is the front of no tags
-pub none_go_on : {A : Type 0} (taken : List Item) (item : Item) (old : Header A) (fault : PgnFault) → HasTaken taken old → is_begun old.part ≡ true → Refuses item old fault
+-- an item with which no tag goes on stands among no tags
+pub none_on : {A : Type 0} (taken : List Item) (item : Item) (old : Header A) → HasTaken taken old → ((read : List (List ℕ × List ℕ)) → step (heading read old) item ≡ None)
     → (more : List Item) (tags : List (List ℕ × List ℕ)) → AreTags (taken ++ item ∷ more) tags → ⊥
-none_go_on taken item old fault h begun refuses more tags given =
-    some_none tags (sym (tags_read [] tags (taken ++ item ∷ more) given) ∙ h.2 (item ∷ more) ∙ on_by (heading h.0 old) None more item (refuses.1 begun h.0))
+none_on taken item old h none more tags given =
+    some_none tags (sym (tags_read [] tags (taken ++ item ∷ more) given) ∙ h.2 (item ∷ more) ∙ on_by (heading h.0 old) None more item (none h.0))
   where
     some_none : (all : List (List ℕ × List ℕ)) → Some all ≡ None → ⊥
     some_none all e = cc
+
+-- a malformed tag is the front of no tags
+pub none_go_on : {A : Type 0} (taken : List Item) (item : Item) (old : Header A) (fault : PgnFault) → HasTaken taken old → is_begun old.part ≡ true → Refuses item old fault
+    → (more : List Item) (tags : List (List ℕ × List ℕ)) → AreTags (taken ++ item ∷ more) tags → ⊥
+none_go_on taken item old fault h begun refuses more tags given = none_on taken item old h (refuses.1 begun) more tags given

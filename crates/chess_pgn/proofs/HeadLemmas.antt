@@ -1,12 +1,13 @@
 -- The first item of the movetext.
-use Rattle.std.proofs.Common.{◌≡◌, ℕ, Bool, true, false, List, refl, sym, ap, ◌∙◌}
+use Rattle.std.proofs.Common.{◌≡◌, ◌⊎◌, ℕ, Bool, true, false, List, refl, sym, ap, ◌∙◌}
 use Rattle.std.specs.Borrow.{Bor}
 use Rattle.std.specs.Prelude.{Result, Ok, Err}
-use mathlib.Core.Logic.{inr}
+use mathlib.Core.Logic.{inl, inr}
 use Rattle.chess_pgn.specs.Items as items
 use Rattle.chess_pgn.specs.Items.{Item}
 use Rattle.chess_pgn.specs.Reading.{is_heading, is_movetext}
-use Rattle.chess_pgn.specs.steps.ReaderCode.{Begins, Moved, takes_when}
+use Rattle.chess_pgn.specs.steps.HeaderCode.{is_begun}
+use Rattle.chess_pgn.specs.steps.ReaderCode.{Begins, Moved, RefusesFirst, is_tagged, takes_when}
 use Rattle.chess_pgn.specs.steps.Tokens.{item_of}
 use Rattle.chess_pgn.specs.declared.fault.PgnFault.{PgnFault}
 use Rattle.chess_pgn.specs.declared.reader.Reader.{Reader}
@@ -42,8 +43,29 @@ heads_none (Stretch x) taken old new m b h t l o moved = absurd (stray (items.St
 heads_none (Escaped x) taken old new m b h t l o moved = absurd (stray (items.Escaped x) taken old new refl refl moved)
 heads_none _ taken old new m b h t l o moved = refl
 
+-- what isn't white, a comment or a bracket is of the movetext or stands in tags alone
+first_or_tagged : (token : Token) → (token ≡ Mark → ⊥) → ((b : ℕ) → token ≡ Blank b → ⊥) → (token ≡ Hidden → ⊥) → ((text : Bor (List ℕ)) → token ≡ Braced text → ⊥) → ((line : Bor (List ℕ)) → token ≡ Line line → ⊥)
+    → (token ≡ TagOpen → ⊥) → (is_heading (item_of token) ≡ false) ⊎ (is_tagged (item_of token) ≡ true)
+first_or_tagged Mark m b h t l o = absurd (m refl)
+first_or_tagged (Blank x) m b h t l o = absurd (b x refl)
+first_or_tagged Hidden m b h t l o = absurd (h refl)
+first_or_tagged (Braced x) m b h t l o = absurd (t x refl)
+first_or_tagged (Line x) m b h t l o = absurd (l x refl)
+first_or_tagged TagOpen m b h t l o = absurd (o refl)
+first_or_tagged TagClose m b h t l o = inr refl
+first_or_tagged (Name x) m b h t l o = inr refl
+first_or_tagged Quote m b h t l o = inr refl
+first_or_tagged (Stretch x) m b h t l o = inr refl
+first_or_tagged (Escaped x) m b h t l o = inr refl
+first_or_tagged _ m b h t l o = inl refl
+
+-- no movetext begins with it
+refused_first : {A : Type 0} (item : Item) (fault : PgnFault) (old new : Reader A) → is_begun old.header.part ≡ false → (is_heading item ≡ false) ⊎ (is_tagged item ≡ true) → RefusesFirst item fault.kind old → takes_when false item (Err fault) old new
+refused_first item fault old new outside (inl first) refuses = inr (inr (first, refuses))
+refused_first item fault old new outside (inr tagged) refuses = inr (inl (inr (outside, tagged)))
+
 -- the tags end, and the item is read as one of the movetext
 pub moved_first : {A : Type 0} (token : Token) (result : Result Taken PgnFault) (old between new : Reader A) → (token ≡ Mark → ⊥) → ((b : ℕ) → token ≡ Blank b → ⊥) → (token ≡ Hidden → ⊥) → ((text : Bor (List ℕ)) → token ≡ Braced text → ⊥)
     → ((line : Bor (List ℕ)) → token ≡ Line line → ⊥) → (token ≡ TagOpen → ⊥) → Begins old between → Moved (item_of token) result between new → takes_when false (item_of token) result old new
 moved_first token (Ok taken) old between new m b h t l o begins moved = inr (heads_none token taken between new m b h t l o moved, between, begins, moved)
-moved_first token (Err fault) old between new m b h t l o begins moved = tt
+moved_first token (Err fault) old between new m b h t l o begins moved = refused_first (item_of token) fault old new begins.outside (first_or_tagged token m b h t l o) (inr (between, begins, moved))

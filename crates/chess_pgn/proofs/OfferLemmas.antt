@@ -1,5 +1,5 @@
 -- One item is offered.
-use Rattle.std.proofs.Common.{◌<◌, take, drop, ◌+◌, ◌≡◌, ℕ, length-append, ◌≤◌, ◌⊎◌, inl, inr, Bool, true, false, List, [], ◌∷◌, ◌++◌, length, Some, None, refl, sym, ap, subst, ◌∙◌, arith, append_assoc, append-nil, Ok, Err}
+use Rattle.std.proofs.Common.{◌<◌, take, drop, ◌+◌, ◌≡◌, ◌≢◌, ℕ, length-append, ◌≤◌, ◌⊎◌, inl, inr, Bool, true, false, List, [], ◌∷◌, ◌++◌, length, Some, None, refl, sym, ap, subst, ◌∙◌, arith, append_assoc, append-nil, Ok, Err}
 use Rattle.std.proofs.lemmas.List.{take-append-drop, take-append-le}
 use Rattle.std.specs.Str.{byte}
 use Rattle.chess_types.specs.bytes.Calls.{joined}
@@ -7,7 +7,7 @@ use Rattle.chess_pgn.specs.Items.{Item, TagOpen, is_white, may_stand, place_afte
 use Rattle.chess_pgn.specs.steps.ItemAt.{Found, item_at}
 use Rattle.chess_pgn.specs.steps.Deciding.{longer, Decides}
 use Rattle.chess_pgn.specs.steps.Texts.{Oversized, Near, MadeReady, Keeps}
-use Rattle.chess_pgn.specs.steps.Taking.{TakesOne, Offered, TakesItem, Rests, Next, Steps}
+use Rattle.chess_pgn.specs.steps.Taking.{TakesOne, Brackets, Offered, TakesItem, Rests, Next, Steps}
 use Rattle.chess_pgn.specs.declared.at_hand.Fault.{Fault}
 use Rattle.chess_pgn.specs.declared.place.Place.{Place}
 use Rattle.chess_pgn.specs.declared.taker.Taken.TheVariants.{GoesOn, Ends}
@@ -15,7 +15,7 @@ use Rattle.chess_pgn.specs.declared.taking.Answer.TheVariants as answer
 use Rattle.chess_pgn.specs.declared.taking.Stop.{Stop}
 use Rattle.chess_pgn.specs.declared.taking.Stop.TheVariants as stop
 use Rattle.chess_pgn.specs.declared.taking.Step.TheVariants as step
-use Rattle.chess_pgn.proofs.FoundLemmas.{the, item_taken}
+use Rattle.chess_pgn.proofs.FoundLemmas.{the, item_taken, some_is}
 use Rattle.chess_pgn.proofs.ItemLemmas.{item_goes}
 use Rattle.chess_pgn.proofs.OpenLemmas.{nothing_undecided}
 use Rattle.chess_pgn.proofs.LocalLemmas.{undecided_taken, item_shorter}
@@ -34,6 +34,12 @@ near_item place old hand rest item (inl e) found small = (let s = item_shorter p
 near_item place old hand rest item (inr h) found small =
     (let s = undecided_taken place h.0 h.1 item rest h.4 (subst (λ (x : List ℕ). item_at place x ≡ the item rest) h.2 found) in omega (arith, s, h.3))
 
+none_is_some : (rest : List ℕ) → None ≡ the TagOpen rest → ⊥
+none_is_some rest e = cc
+
+same_item : (i j : Item) (r q : List ℕ) → the i r ≡ the j q → i ≡ j
+same_item i j r q e = ap (λ (x : Item × List ℕ). x.0) (some_is {A = Item × List ℕ} (i, r) (j, q) e)
+
 first : (a b : ℕ) (xs ys : List ℕ) → a ∷ xs ≡ b ∷ ys → a ≡ b
 first a b xs ys e = cc
 
@@ -42,6 +48,14 @@ bracket_decided : (place : Place) (front : List ℕ) → may_stand place TagOpen
 bracket_decided place front e = λ more.
     item_goes place TagOpen (byte "[" ∷ []) (front ++ more) (record { stands = e; spelled = refl })
     ∙ ap (λ (x : Found). longer x more) (sym (item_goes place TagOpen (byte "[" ∷ []) front (record { stands = e; spelled = refl })))
+
+-- so bytes that don't decide the item at their front are no bracket's
+undecided_bracket : (place : Place) (hand more rest : List ℕ) → 0 < length hand → (Decides place hand → ⊥) → item_at place (hand ++ more) ≡ the TagOpen rest → ⊥
+undecided_bracket place [] more rest some undecided found = omega (arith, some)
+undecided_bracket place (b ∷ hand) more rest some undecided found =
+    let t = item_taken place (b ∷ hand ++ more) TagOpen rest found in
+    let k : b ≡ byte "[" = first b (byte "[") (hand ++ more) rest (t.1 ∙ ap (λ (x : List ℕ). x ++ rest) t.2.spelled) in
+    undecided (subst (λ (x : ℕ). Decides place (x ∷ hand)) (sym k) (bracket_decided place hand t.2.stands))
 
 -- so it was brought by a read for which nothing was at hand
 near_bracket : (place : Place) (old hand rest : List ℕ) → Near place old hand → item_at place hand ≡ the TagOpen rest → length old ≤ 65536 → length hand ≤ 65536
@@ -103,7 +117,10 @@ module _ {X T : Type 0} (comes : X → List ℕ → X → Type 0) (at_hand : X �
         came = (mid, r.came, refl);
         after = (
           record { longer = a.longer ∙ ap (λ (x : List ℕ). at_hand old ++ x) (sym (append-nil r.more)); at_end = (λ h. (append-nil r.more ∙ (a.at_end h).0, (a.at_end h).1)); sound_still = a.sound_still },
-          λ further none. over_oversized most place (at_hand mid) further a.over a.undecided,
+          record {
+            over = λ further none. over_oversized most place (at_hand mid) further a.over a.undecided;
+            bracket = λ further none rest found. absurd (undecided_bracket place (at_hand mid) further rest (omega (arith, a.over)) a.undecided found);
+          },
         );
       }
 
@@ -120,7 +137,13 @@ module _ {X T : Type 0} (comes : X → List ℕ → X → Type 0) (at_hand : X �
     step_exceeds e over undecided = record {
       pieces = r.more ∷ [];
       came = (mid, r.came, refl);
-      after = (rests, (λ more none. none_oversized most place (at_hand mid) more over undecided (decided_item place (at_hand mid) more None (all mid) r.after.decided none e)));
+      after = (
+        rests,
+        record {
+          over = λ more none. none_oversized most place (at_hand mid) more over undecided (decided_item place (at_hand mid) more None (all mid) r.after.decided none e);
+          bracket = λ more none rest found. absurd (none_is_some rest (sym (decided_item place (at_hand mid) more None (all mid) r.after.decided none e) ∙ found));
+        },
+      );
     }
 
     all_came : (hand : List ℕ) → hand ≡ [] → Decides place hand ⊎ all mid → all mid
@@ -134,20 +157,26 @@ module _ {X T : Type 0} (comes : X → List ℕ → X → Type 0) (at_hand : X �
       after = (rests, (all_came (at_hand mid) e r.after.decided, e, refl));
     }
 
-    pub step_none : item_at place (at_hand mid) ≡ None → (most < length (at_hand mid) → Decides place (take (most + 1) (at_hand mid))) → Steps comes at_hand all sound size takes at most place old mid t t (Ok (step.Stops stop.NoItem))
-    step_none e within = record {
+    pub step_none : item_at place (at_hand mid) ≡ None → at_hand mid ≢ [] → (most < length (at_hand mid) → Decides place (take (most + 1) (at_hand mid))) → Steps comes at_hand all sound size takes at most place old mid t t (Ok (step.Stops stop.NoItem))
+    step_none e some within = record {
       pieces = r.more ∷ [];
       came = (mid, r.came, refl);
-      after = (rests, (record { none = (λ more none. decided_item place (at_hand mid) more None (all mid) r.after.decided none e); decided = r.after.decided; within = within }, refl));
+      after = (rests, (record { none = (λ more none. decided_item place (at_hand mid) more None (all mid) r.after.decided none e); decided = r.after.decided; within = within; some = some }, refl));
     }
 
     module _ (item : Item) (rest : List ℕ) (found : item_at place (at_hand mid) ≡ the item rest) where
       -- the item is too long
-      step_over : most + length rest < length (at_hand mid) → (u : T) → Steps comes at_hand all sound size takes at most place old mid t u (Ok (step.Stops stop.TooLarge))
-      step_over long u = record {
+      step_over : most + length rest < length (at_hand mid) → (u : T) → (item ≡ TagOpen → Brackets takes at t u) → Steps comes at_hand all sound size takes at most place old mid t u (Ok (step.Stops stop.TooLarge))
+      step_over long u bracket = record {
         pieces = r.more ∷ [];
         came = (mid, r.came, refl);
-        after = (rests, (λ more none. long_oversized most place (at_hand mid) more item rest long (decided_item place (at_hand mid) more (the item rest) (all mid) r.after.decided none found)));
+        after = (
+          rests,
+          record {
+            over = λ more none. long_oversized most place (at_hand mid) more item rest long (decided_item place (at_hand mid) more (the item rest) (all mid) r.after.decided none found);
+            bracket = λ more none other is. bracket (same_item item TagOpen (rest ++ more) other (sym (decided_item place (at_hand mid) more (the item rest) (all mid) r.after.decided none found) ∙ is));
+          },
+        );
       }
 
       next_item : Next comes at_hand all sound size takes place old mid item
@@ -162,7 +191,7 @@ module _ {X T : Type 0} (comes : X → List ℕ → X → Type 0) (at_hand : X �
       pub step_stops : (why : Stop) (used : ℕ) (u : T) → used + length rest ≡ length (at_hand mid) → Offered takes at item used most t u (answer.Stops why) → Steps comes at_hand all sound size takes at most place old mid t u (Ok (step.Stops why))
       step_stops stop.Left used u counts o = record { pieces = r.more ∷ []; came = (mid, r.came, refl); after = (rests, (item, next_item, o)) }
       step_stops (stop.Refused fault) used u counts o = record { pieces = r.more ∷ []; came = (mid, r.came, refl); after = (rests, (item, next_item, o)) }
-      step_stops stop.TooLarge used u counts o = step_over (omega (arith, counts, o)) u
+      step_stops stop.TooLarge used u counts o = step_over (omega (arith, counts, o.0)) u o.1
       step_stops stop.Full used u counts o = absurd o
       step_stops stop.End used u counts o = absurd o
       step_stops stop.NoItem used u counts o = absurd o

@@ -96,7 +96,7 @@ module _ {X T : Type 0} (comes : X → List ℕ → X → Type 0) (at_hand : X �
 
     -- something else comes behind the limit
     pub passed_other : (new : X) → s.why ≡ stop.TooLarge → s.white ≡ true → Skips comes at_hand all sound s.place mid new (Ok false) → Passed comes at_hand all sound size takes limit old new t u s
-    passed_other new why white k = record { mid = mid; ran = r; after = inr (record { over = why; white = white; pieces = k.pieces; came = k.came; other = k.after.0 }); more = λ e. absurd (let h : stop.TooLarge ≡ stop.End = sym why ∙ e in cc) }
+    passed_other new why white k = record { mid = mid; ran = r; after = inr (record { over = why; white = white; pieces = k.pieces; came = k.came; other = k.after.0; still = k.after.2 }); more = λ e. absurd (let h : stop.TooLarge ≡ stop.End = sym why ∙ e in cc) }
 
     pub passed_fault : (new : X) (fault : Fault) → Skips comes at_hand all sound s.place mid new (Err fault) → (pieces : List (List ℕ)) × Calls comes old pieces new
     passed_fault new fault k = (r.pieces ++ k.pieces, Calls-append comes old mid new r.pieces k.pieces r.came k.came)

@@ -12,7 +12,7 @@ use Rattle.chess_tree.specs.Forest.{Forest}
 use Rattle.chess_tree.specs.GameTree.{TreeParts, line_to}
 use Rattle.chess_pgn.specs.Grammar.{Element, Open, Close, Text, few_are_open, move_in, move_or_none}
 use Rattle.chess_pgn.specs.steps.Elements.{Frame, Last}
-use Rattle.chess_pgn.specs.steps.Readings.{Reading, Refuses, goes_on, Holds, Pends, is_nil}
+use Rattle.chess_pgn.specs.steps.Readings.{Exceeds, Reading, Refuses, goes_on, Holds, Pends, is_nil}
 use Rattle.chess_pgn.specs.declared.fault.FaultKind.{FaultKind}
 use Rattle.chess_pgn.specs.declared.fault.FaultKind.TheVariants.{Memory, TooLarge}
 use Rattle.chess_pgn.specs.declared.reader.moves.Interrupted.{Interrupted}
@@ -90,6 +90,6 @@ end_fails t lines played comments from e s h = end_none h.outer lines s.start s.
 
 -- ---- no memory, or a limit of the tree
 
-pub refuses_room : {A : Type 0} (some : List Element) (kind : FaultKind) (moves : Moves A) → (kind ≡ Memory) ⊎ (kind ≡ TooLarge) → Refuses some kind moves
+pub refuses_room : {A : Type 0} (some : List Element) (kind : FaultKind) (moves : Moves A) → (kind ≡ Memory) ⊎ ((kind ≡ TooLarge) × Exceeds some moves) → Refuses some kind moves
 refuses_room some kind moves (inl e) = subst (λ (k : FaultKind). Refuses some k moves) (sym e) tt
-refuses_room some kind moves (inr e) = subst (λ (k : FaultKind). Refuses some k moves) (sym e) tt
+refuses_room some kind moves (inr e) = subst (λ (k : FaultKind). Refuses some k moves) (sym e.0) e.1

@@ -12,7 +12,7 @@ use Rattle.chess_pgn.specs.declared.game.Game.{Game}
 
 -- ---- a whole text
 
-no_bytes : {X : Type 0} (s t : X) (pieces : List (List ℕ)) → Calls (λ x bytes y. bytes ≡ []) s pieces t → joined pieces ≡ []
+pub no_bytes : {X : Type 0} (s t : X) (pieces : List (List ℕ)) → Calls (λ x bytes y. bytes ≡ []) s pieces t → joined pieces ≡ []
 no_bytes s t [] c = refl
 no_bytes s t (p ∷ ps) c = rw (c.1, no_bytes c.0 t ps c.2) refl
 
@@ -41,7 +41,7 @@ module _ {R A : Type 0} (gives : R → List ℕ → R → Type 0) where
   abbrev pub has_all : AtHand R A → Type 0
   has_all s = s.has_ended ≡ true
 
-  all_carried : (s t : AtHand R A) (pieces : List (List ℕ)) → Calls brings s pieces t → Carries gives s.source (joined pieces) t.source
+  pub all_carried : (s t : AtHand R A) (pieces : List (List ℕ)) → Calls brings s pieces t → Carries gives s.source (joined pieces) t.source
   all_carried s t [] c = subst (λ (x : AtHand R A). Carries gives s.source [] x.source) c (Carries-none gives s.source)
   all_carried s t (p ∷ ps) c = Carries-append gives s.source c.0.source t.source p (joined ps) c.1 (all_carried c.0 t ps c.2)
 

@@ -11,7 +11,8 @@ abbrev pub place_behind : Place → List Item → Place
 place_behind place [] = place
 place_behind place (item ∷ items) = place_behind (place_after place item) items
 
-first_found : (place : Place) (input : List ℕ) (item : Item) (items : List Item) (rest : List ℕ) → (s : Spells place input (item ∷ items) rest) → item_at place input ≡ the item s.1
+-- the first item is found at the front
+pub first_found : (place : Place) (input : List ℕ) (item : Item) (items : List Item) (rest : List ℕ) → (s : Spells place input (item ∷ items) rest) → item_at place input ≡ the item s.1
 first_found place input item items rest s = ap (item_at place) s.2 ∙ item_goes place item s.0 s.1 s.3
 
 conses : (i j : Item) (s t : List Item) → i ≡ j → s ≡ t → j ∷ s ≡ i ∷ t

@@ -179,7 +179,7 @@ module _ {X T : Type 0} (comes : X → List ℕ → X → Type 0) (at_hand : X �
       after_stop v (stop.Refused fault) a = record { items = w.items; took = took_rest; mid = u; taken = w.taken; item = a.0; rest = a.1.rest; found = a.1.found; answered = a.2; near = (λ h. a.1.near (w.near h)); bracket = (λ e h. a.1.bracket e (w.near h)) }
       after_stop v stop.End a = record { items = w.items; took = took_rest; taken = subst (λ x. Takes takes t w.items x) (sym a.2) w.taken; ended = a.0; nothing = a.1 }
       after_stop v stop.NoItem a = record { items = w.items; took = took_rest; taken = subst (λ x. Takes takes t w.items x) (sym a.1) w.taken; none = a.0 }
-      after_stop v stop.TooLarge a = record { items = w.items; took = took_rest; mid = u; taken = w.taken; over = a }
+      after_stop v stop.TooLarge a = record { items = w.items; took = took_rest; mid = u; taken = w.taken; exceeds = a }
 
   pub ran : (at : ℕ) (place : Place) (white : Bool) (now new : X) (u v : T) (why : Stop) → Underway at place white now u → Steps comes at_hand all sound size takes at (limit - at) place now new u v (Ok (step.Stops why))
       → Ran comes at_hand all sound size takes limit old new t v (Ok (record { why = why; at = at; place = place; white = white }))

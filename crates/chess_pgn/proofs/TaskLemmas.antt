@@ -8,14 +8,15 @@ use Rattle.chess_types.specs.board.After.{after}
 use Rattle.chess_types.specs.board.Legal.{is_legal}
 use Rattle.chess_types.specs.board.Lines.{Line, extended, last}
 use Rattle.chess_types.proofs.PlayLaws.{last_extended}
+use Rattle.chess_san.specs.Writing.{mark_text, san}
 use Rattle.chess_tree.specs.Forest.{Forest, Bare, Node, NodeParts, child, height}
 use Rattle.chess_tree.specs.Edits.{without_node}
 use Rattle.chess_tree.specs.WellFormed.{AreSound}
 use Rattle.chess_pgn.specs.Written.{is_noted, moves_text, node_text}
 use Rattle.chess_pgn.specs.steps.Adding.{Adds}
 use Rattle.chess_pgn.specs.steps.Tasks.{Todo, Moves, Variations, Below, Close, Back, shortened, without_last, tasks_text, AreTasks}
-use Rattle.chess_pgn.specs.steps.TaskCode.{Steps, Done, todo, todos}
-use Rattle.chess_pgn.proofs.AddLemmas.{adds_on, adds_same}
+use Rattle.chess_pgn.specs.steps.TaskCode.{Steps, Done, returning, todo, todos}
+use Rattle.chess_pgn.proofs.AddLemmas.{adds_none, adds_on, adds_same}
 use Rattle.chess_pgn.specs.declared.lines.Lines.{Lines}
 use Rattle.chess_pgn.specs.declared.movetext.Task.{Task}
 
@@ -26,6 +27,14 @@ without_last-append (n ∷ k ∷ moves) m = ap (λ (x : List MoveParts). n ∷ x
 
 pub shortened_extended : (line : Line) (m : MoveParts) → shortened (extended line m) ≡ line
 shortened_extended line m = ap (λ (x : List MoveParts). record { start = line.start; moves = x }) (without_last-append line.moves m)
+
+-- a move's text in two parts, the second asked behind the move
+pub text_whole : (line l1 l2 l3 : Line) (m : MoveParts) (text bytes mark bytes2 : List ℕ) → l1 ≡ line → l2 ≡ l1 → l3 ≡ extended l2 m → text ++ mark_text (after (last l1) m) ≡ san (last l1) m
+    → bytes ≡ text → bytes2 ≡ mark → mark ≡ mark_text (last l3) → bytes ++ bytes2 ≡ san (last line) m
+text_whole line l1 l2 l3 m text bytes mark bytes2 e1 e2 e3 whole e5 e6 e7 =
+    let k : mark_text (last l3) ≡ mark_text (after (last l1) m) =
+    ap (λ (l : Line). mark_text (last l)) e3 ∙ ap mark_text (last_extended l2 m) ∙ ap (λ (l : Line). mark_text (after (last l) m)) e2 in
+    ap (λ (b : List ℕ). b ++ bytes2) e5 ∙ ap (λ (b : List ℕ). text ++ b) (e6 ∙ e7 ∙ k) ∙ whole ∙ ap (λ (l : Line). san (last l) m) e1
 
 -- the end of a variation
 pub step_close : {A E : Type 0} (r : Result (Unit {0}) E) (old new : Lines A) (line : Line) (ts : List Todo) → AreTasks line ts → OnOk r (Adds old new (codes ")")) → OnOk r (Steps old new line line (Close ∷ ts) ts)
@@ -132,7 +141,7 @@ step_variation old new line ts f m nags comment below rest due_below first e are
     }
 
 -- what is below a move that is made
-pub step_below : {A : Type 0} (lines : Lines A) (line : Line) (ts : List Todo) (m : MoveParts) (nodes : Forest) (due : Bool) → AreTasks line (Below m nodes due ∷ ts) → Adds lines lines []
+step_below : {A : Type 0} (lines : Lines A) (line : Line) (ts : List Todo) (m : MoveParts) (nodes : Forest) (due : Bool) → AreTasks line (Below m nodes due ∷ ts) → Adds lines lines []
     → Steps lines lines line (extended line m) (Below m nodes due ∷ ts) (Moves nodes due ∷ Back ∷ ts)
 step_below lines line ts m nodes due are adds =
     let next = extended line m in
@@ -145,6 +154,39 @@ step_below lines line ts m nodes due are adds =
       tasks = (subst (λ (x : State). AreSound x nodes) (sym here) are.1, omega (arith, are.2, length-append line.moves (m ∷ [])), subst (λ (x : Line). AreTasks x ts) (sym back) are.3);
       smaller = omega arith;
     }
+
+-- the same where nothing is behind it
+step_last : {A : Type 0} (lines : Lines A) (line : Line) (m : MoveParts) (nodes : Forest) (due : Bool) → AreTasks line (Below m nodes due ∷ []) → Adds lines lines []
+    → Steps lines lines line (extended line m) (Below m nodes due ∷ []) (Moves nodes due ∷ [])
+step_last lines line m nodes due are adds =
+    let here : last (extended line m) ≡ after (last line) m = last_extended line m in
+    record {
+      more = [];
+      adds = adds;
+      text = rw here refl;
+      tasks = (subst (λ (x : State). AreSound x nodes) (sym here) are.1, omega (arith, are.2, length-append line.moves (m ∷ [])), tt);
+      smaller = omega arith;
+    }
+
+pub step_made : {A : Type 0} (lines : Lines A) (line : Line) (items : List (Task A)) (m : MoveParts) (nodes : Forest) (due : Bool) → AreTasks line (Below m nodes due ∷ todos items) → Adds lines lines []
+    → Steps lines lines line (extended line m) (Below m nodes due ∷ todos items) (Moves nodes due ∷ returning items)
+step_made lines line [] m nodes due are adds = step_last lines line m nodes due are adds
+step_made lines line (t ∷ ts) m nodes due are adds = step_below lines line (todos (t ∷ ts)) m nodes due are adds
+
+-- one step and another
+steps_then : {A : Type 0} (old mid new : Lines A) (line line1 line2 : Line) (ts ts1 ts2 : List Todo) → Steps old mid line line1 ts ts1 → Steps mid new line1 line2 ts1 ts2 → Steps old new line line2 ts ts2
+steps_then old mid new line line1 line2 ts ts1 ts2 s t = record {
+  more = s.more ++ t.more;
+  adds = adds_on old mid new s.more t.more s.adds t.adds;
+  text = s.text ∙ ap (λ (x : List ℕ). s.more ++ x) t.text ∙ sym (append_assoc s.more t.more (tasks_text line2 ts2));
+  tasks = t.tasks;
+  smaller = omega (arith, s.smaller, t.smaller);
+}
+
+-- some tasks are behind another
+pub returning_pushed : {A : Type 0} (items : List (Task A)) (t : Task A) → returning (items ++ t ∷ []) ≡ Back ∷ todos (items ++ t ∷ [])
+returning_pushed [] t = refl
+returning_pushed (u ∷ items) t = refl
 
 -- the next nodes are none
 pub step_none : {A : Type 0} (lines : Lines A) (line : Line) (ts : List Todo) (f : Forest) (due : Bool) → None ≡ child 0 f → AreTasks line (Moves f due ∷ ts) → Adds lines lines [] → Steps lines lines line line (Moves f due ∷ ts) ts
@@ -165,6 +207,22 @@ no_variations lines line ts f e are adds =
     let bare = no_nodes f e in
     record { more = []; adds = adds; text = rw bare refl; tasks = are.2; smaller = omega arith }
 
+-- the only one of some nodes, whose move is made
+pub step_only : {A : Type 0} (old new : Lines A) (line : Line) (items : List (Task A)) (f : Forest) (due : Bool) (m : MoveParts) (nags comment : List ℕ) (below rest : Forest) (due_below : Bool)
+    → First f m nags comment below rest → None ≡ child 0 rest → due_below ≡ is_noted nags comment || not (is_none (child 0 rest)) → AreTasks line (Moves f due ∷ todos items)
+    → Adds old new (node_text (codes " ") due (last line) m nags comment) → Steps old new line (extended line m) (Moves f due ∷ todos items) (Moves below due_below ∷ returning items)
+step_only {A} old new line items f due m nags comment below rest due_below first none e are adds =
+    let ts = todos items in
+    let one = step_moves old new line ts f due m nags comment below rest due_below first e are adds in
+    let two = no_variations new line (Below m below due_below ∷ ts) rest none one.tasks (adds_none new) in
+    let three = step_made new line items m below due_below two.tasks (adds_none new) in
+    steps_then old new new line line (extended line m) (Moves f due ∷ ts) (Variations rest ∷ Below m below due_below ∷ ts) (Moves below due_below ∷ returning items) one
+    (steps_then new new new line line (extended line m) (Variations rest ∷ Below m below due_below ∷ ts) (Below m below due_below ∷ ts) (Moves below due_below ∷ returning items) two three)
+
+-- a move that is made and taken back
+pub taken_back : (o : Option MoveParts) (line made line' : Line) (m : MoveParts) → made ≡ extended line m → MatchOption o ((made.moves ≡ []) × (line' ≡ made)) (λ n. made ≡ extended line' n) → line' ≡ line
+taken_back o line made line' m e h = popped o made line' h ∙ ap shortened e ∙ shortened_extended line m
+
 pub todos_pushed : {A : Type 0} (items items' : List (Task A)) (t : Task A) → items' ≡ items ++ t ∷ [] → todos items' ≡ todo t ∷ todos items
 todos_pushed {A} items items' t e = ap (λ (x : List (Task A)). todos x) e ∙ todos_push items t
 
@@ -172,6 +230,14 @@ todos_pushed {A} items items' t e = ap (λ (x : List (Task A)). todos x) e ∙ t
 pub on_as : {A : Type 0} {E : Type 0} (r : Result (Unit {0}) E) (x y z : A) → OnOk r (x ≡ y) → y ≡ z → OnOk r (x ≡ z)
 on_as (Ok u) x y z e h = e ∙ h
 on_as (Err u) x y z e h = tt
+
+pub on_ok : {E P : Type 0} (r : Result (Unit {0}) E) → P → OnOk r P
+on_ok (Ok u) h = h
+on_ok (Err u) h = tt
+
+pub none_is : {A : Type 0} (o : Option A) (b : Bool) → b ≡ is_none o → b ≡ true → None ≡ o
+none_is None b e h = refl
+none_is (Some x) b e h = absurd (let k : true ≡ false = sym h ∙ e in cc)
 
 pub steps_on : {A E : Type 0} (r : Result (Unit {0}) E) (old new1 new2 : Lines A) (line line1 line2 : Line) (ts ts1 ts2 : List Todo) → new2 ≡ new1 → OnOk r (line2 ≡ line1) → OnOk r (ts2 ≡ ts1) → Steps old new1 line line1 ts ts1
     → OnOk r (Steps old new2 line line2 ts ts2)

@@ -73,7 +73,7 @@ hidden_white at place b bytes out starts e r =
 abbrev Ok : Option Column → List ℕ → Type 0
 Ok c bytes = is_some (white_after c bytes) ≡ true
 
-nothing_after : (bytes : List ℕ) → white_after None bytes ≡ None
+pub nothing_after : (bytes : List ℕ) → white_after None bytes ≡ None
 nothing_after [] = refl
 nothing_after (b ∷ bytes) = nothing_after bytes
 

@@ -10,3 +10,4 @@ pub mod Reading
 pub mod Sources
 pub mod Faults
 pub mod steps
+pub mod Laws

@@ -6,17 +6,25 @@
 --   HasBegun     movetext has such an item
 --   Ends         how a game ends: with its marker, or without one in front of a tag or at the end of the text
 --   Gives        some items are a head, a movetext and an end: the head's tags are the game's and tell its start, and the movetext derives its comments and moves
+--   IsWithinLimits a game isn't too large to be read
 --   IsAtFront    the items of a text's first bytes give a game
+--   HasNoGame    no game stands at the front of a text
 --   IsWhite      a text has white space, a mark and hidden lines alone
-use Rattle.std.specs.Prelude.{◌≡◌, ◌⊎◌, ℕ, ◌+◌, ◌≤◌, Bool, true, false, List, [], ◌∷◌, ◌++◌, length, Some, ⊤}
+--   IsAnswered   a reader answers that game, unless there is no memory
+use Rattle.std.specs.Prelude.{◌≡◌, ◌⊎◌, ℕ, ◌+◌, ◌≤◌, Bool, true, false, List, [], ◌∷◌, ◌++◌, length, Option, Some, None, Result, Ok, Err, ⊤}
 use Rattle.std.specs.List.{list_all}
 use Rattle.std.specs.Str.{byte}
 use Rattle.chess_tree.specs.Comments.{normalised}
+use Rattle.chess_tree.specs.Forest.{height, moves_held}
 use Rattle.chess_pgn.specs.Games.{Game}
 use Rattle.chess_pgn.specs.Grammar.{Derives, elements, few_are_open, joined}
 use Rattle.chess_pgn.specs.Items as items
 use Rattle.chess_pgn.specs.Items.{Item, Spells, is_white}
 use Rattle.chess_pgn.specs.Tags.{AreTags, HasTags, start_in}
+use Rattle.chess_pgn.specs.steps.GameCode.{game_of}
+use Rattle.chess_pgn.specs.declared.fault.FaultKind.TheVariants.{Memory}
+use Rattle.chess_pgn.specs.declared.fault.PgnFault.{PgnFault}
+use Rattle.chess_pgn.specs.declared.game.Game as code
 use Rattle.chess_pgn.specs.declared.outcome.Outcome.{Outcome}
 use Rattle.chess_pgn.specs.declared.outcome.Outcome.TheVariants.{Unfinished}
 use Rattle.chess_pgn.specs.declared.place.Place.TheVariants.{GameStart}
@@ -77,6 +85,11 @@ pub record Gives (is : List Item) (rest : List ℕ) (game : Game) : Type 0 where
   pub few : few_are_open 0 (elements movetext) ≡ true
   pub derives : Derives (elements movetext) game.tree.start (remarks [] head) game.tree.comment game.tree.below
 
+-- at most 20,000 plies in a line, and 1,000,000 moves in all
+pub record IsWithinLimits (game : Game) : Type 0 where
+  pub deep : height game.tree.below ≤ 20000
+  pub many : moves_held game.tree.below ≤ 1000000
+
 -- the first bytes, so many, at most 1,048,576, and not white alone; what follows them cuts no item short
 pub record IsAtFront (input : List ℕ) (game : Game) (used : ℕ) : Type 0 where
   pub items : List Item
@@ -86,8 +99,18 @@ pub record IsAtFront (input : List ℕ) (game : Game) (used : ℕ) : Type 0 wher
   pub few : used ≤ 1048576
   pub some : list_all is_white items ≡ false
   pub gives : Gives items rest game
+  pub within : IsWithinLimits game
+
+abbrev pub HasNoGame : List ℕ → Type 0
+HasNoGame input = (game : Game) (used : ℕ) → IsAtFront input game used → ⊥
 
 pub record IsWhite (input : List ℕ) : Type 0 where
   pub items : List Item
   pub white : list_all is_white items ≡ true
   pub spelled : Spells GameStart input items []
+
+-- with the number of bytes that it takes
+abbrev pub IsAnswered : {A : Type 0} → Game → ℕ → Result (Option (code.Game A × ℕ)) PgnFault → Type 0
+IsAnswered game used (Ok (Some x)) = (game_of x.0 ≡ game) × (x.1 ≡ used)
+IsAnswered game used (Ok None) = ⊥
+IsAnswered game used (Err fault) = fault.kind ≡ Memory

@@ -1,13 +1,15 @@
 //! Games of a text or of a source, one after another.
 
-ghost use Rattle.std.specs.Prelude.{◌≡◌, false, [], true, Some, None, Ok, Err, IfErr, IfOk, IfSome};
+ghost use Rattle.std.specs.Prelude.{◌≡◌, ◌⊎◌, ℕ, false, [], true, Some, None, Ok, Err, IfErr, IfOk, IfSome};
 ghost use Rattle.chess_types.specs.bytes.Calls.{Carries};
-ghost use Rattle.chess_pgn.specs.Reading.{IsAtFront, IsWhite};
-ghost use Rattle.chess_pgn.specs.Sources.{HasGame, HasNone, unread};
+ghost use Rattle.chess_pgn.specs.Games as games;
+ghost use Rattle.chess_pgn.specs.Reading.{HasNoGame, IsAnswered, IsAtFront, IsWhite};
+ghost use Rattle.chess_pgn.specs.Sources.{HasFault, HasGame, HasNone, unread};
 ghost use Rattle.chess_pgn.specs.steps.GameAt.{TakesGame};
 ghost use Rattle.chess_pgn.specs.steps.GameCode.{game_of};
-ghost use Rattle.chess_pgn.specs.steps.Next.{IsSound};
-ghost use Rattle.chess_pgn.specs.steps.ReaderCode.{Answered};
+ghost use Rattle.chess_pgn.specs.steps.Next.{HasKind, IsSound};
+ghost use Rattle.chess_pgn.specs.steps.ReaderCode.{Answered, Unanswered};
+ghost use Rattle.chess_pgn.specs.declared.fault.FaultKind.TheVariants.{Memory};
 
 use crate::at_hand::{AtHand, Fault};
 use crate::fault::{FaultKind, PgnFault, at_place};
@@ -69,7 +71,8 @@ fn stopped_game<'a, A: Allocator>(
     stopped: Stopped,
     unread: &[u8],
 ) -> Result<Game<'a, A>, PgnFault>
-    ensures { IfOk result (λ game. Answered stopped.why reader.entry game) }
+    ensures game { IfOk result (λ game. Answered stopped.why reader.entry game) }
+    ensures refused { IfErr result (λ fault. Unanswered stopped.why reader.entry fault) }
 {
     let at = stopped.at;
     match stopped.why {
@@ -89,9 +92,11 @@ fn take_game<'a, X: Text, A: Allocator>(
 ) -> Result<Option<(Game<'a, A>, usize)>, GamesFault>
     requires { X.sound text.old }
     ensures sound { IfOk result (λ _. X.sound text.new) }
-    ensures game { TakesGame X.comes X.at_hand X.all text.old text.new result }
+    ensures game { TakesGame X.comes X.at_hand X.all X.sound text.old text.new result }
 {
-    let mut reader = Reader::new(alloc, table)?;
+    let Ok(mut reader) = Reader::new(alloc, table) else {
+        return Err(GamesFault::Pgn(at_place(0, FaultKind::Memory)));
+    };
     let stopped = match pass(text, &mut reader, LIMIT) {
         Ok(Some(stopped)) => stopped,
         Ok(None) => return Ok(None),
@@ -118,6 +123,9 @@ pub fn read_game<'a, A: Allocator>(
     ensures game { IfOk result (λ found. IfSome found (λ x. IsAtFront input.now (game_of x.0) x.1)) }
     ensures cursor { IfOk result (λ found. IfSome found (λ x. x.0.tree.path ≡ [])) }
     ensures none { result ≡ Ok None → IsWhite input.now }
+    ensures white { IsWhite input.now → IfOk result (λ found. found ≡ None) × IfErr result (λ fault. fault.kind ≡ Memory) }
+    ensures fault { IfErr result (λ fault. (fault.kind ≡ Memory) ⊎ HasNoGame input.now) }
+    ensures only { (game : games.Game) (used : ℕ) → IsAtFront input.now game used → IsAnswered game used result }
 {
     match take_game(alloc, table, &mut Whole { left: input }) {
         Ok(game) => Ok(game),
@@ -161,13 +169,15 @@ impl<'a, R: Source, A: Allocator> Games<'a, R, A> {
         requires none { self.old.fault ≡ None }
         ensures sound { IfOk result (λ _. IsSound R.ended self.new) }
         ensures none { self.new.fault ≡ None }
-        ensures game { TakesGame (λ s bytes t. Carries R.gives s.source bytes t.source) unread (λ s. s.has_ended ≡ true) self.old.text self.new.text result }
+        ensures game { TakesGame (λ s bytes t. Carries R.gives s.source bytes t.source) unread (λ s. s.has_ended ≡ true) (λ s. s.has_ended ≡ true → R.ended s.source) self.old.text self.new.text result }
     {
         take_game(self.alloc, self.table, &mut self.text)
     }
 
     // The fault with its place from the input's beginning.
-    fn placed(&self, fault: GamesFault) -> GamesFault {
+    fn placed(&self, fault: GamesFault) -> GamesFault
+        ensures { HasKind fault result }
+    {
         match fault {
             GamesFault::Read => GamesFault::Read,
             GamesFault::Pgn(PgnFault { place, kind }) => GamesFault::Pgn(PgnFault {
@@ -193,6 +203,7 @@ impl<'a, R: Source, A: Allocator> Games<'a, R, A> {
         ensures game { IfOk result (λ found. IfSome found (λ game. HasGame R.gives self.old.text self.new.text (game_of game))) }
         ensures cursor { IfOk result (λ found. IfSome found (λ game. game.tree.path ≡ [])) }
         ensures none { result ≡ Ok None → HasNone R.gives self.old.text self.new.text }
+        ensures fault { self.old.fault ≡ None → IfErr result (λ fault. HasFault R.gives R.ended self.old.text self.new.text fault) }
     {
         if let Some(fault) = self.fault {
             return Err(fault);

@@ -1,6 +1,7 @@
 ghost use Rattle.std.specs.Prelude.{◌≡◌, ◌∷◌, Some, OnOk, IfOk, IsTrue, is_none, length, ◌<◌, not, ◌||◌, true, false};
 ghost use Rattle.chess_types.specs.board.Legal.{is_legal};
 ghost use Rattle.chess_types.specs.board.Lines.{extended, last};
+ghost use Rattle.chess_san.specs.Writing.{san};
 ghost use Rattle.chess_tree.specs.Forest.{child};
 ghost use Rattle.chess_pgn.specs.Written.{comment_text, is_noted, movetext, moves_text, nags_text, node_text, number_text, outcome_text};
 ghost use Rattle.chess_pgn.specs.steps.Adding.{Adds};
@@ -72,7 +73,29 @@ fn is_parted<A: Allocator>(notes: &Notes<'_>, others: &Children<'_, '_, A>) -> b
     is_noted(notes) || !others.is_empty()
 }
 
-// A move of the last position, with its number where it is due, and its notes.
+// Makes a move, and writes its text: its mark is asked behind it.
+fn push_text<'k, 'a, A: Allocator>(
+    lines: &mut Lines<'a, A>,
+    line: &mut Line<'k, &'a A>,
+    played: Move,
+) -> Result<(), AllocError>
+    requires legal { IsTrue (is_legal (last line.old.line) played) }
+    requires few { length line.old.line.moves < 20000 }
+    requires still { line.old.looked ≡ 0 }
+    ensures adds { OnOk result (Adds lines.old lines.new (san (last line.old.line) played)) }
+    ensures line { OnOk result (line.new.line ≡ extended line.old.line played) }
+    ensures still { OnOk result (line.new.looked ≡ 0) }
+{
+    if line.reserve(1).is_err() {
+        return Err(AllocError);
+    }
+    let text = line.write_unmarked(played);
+    line.push_prepared(played);
+    lines.push(text.as_bytes())?;
+    lines.push(line.write_mark().as_bytes())
+}
+
+// Makes a move, and writes it with its number where it is due, and its notes.
 fn push_move<'k, 'a, A: Allocator>(
     lines: &mut Lines<'a, A>,
     line: &mut Line<'k, &'a A>,
@@ -82,14 +105,16 @@ fn push_move<'k, 'a, A: Allocator>(
     notes: &Notes<'_>,
 ) -> Result<(), AllocError>
     requires legal { IsTrue (is_legal (last line.old.line) played) }
+    requires few { length line.old.line.moves < 20000 }
+    requires still { line.old.looked ≡ 0 }
     ensures adds { OnOk result (Adds lines.old lines.new (node_text opening.now due (last line.old.line) played notes.now.nags.now notes.now.comment.now)) }
-    ensures line { line.new.line ≡ line.old.line }
-    ensures looked { line.new.looked ≡ line.old.looked }
+    ensures line { OnOk result (line.new.line ≡ extended line.old.line played) }
+    ensures still { OnOk result (line.new.looked ≡ 0) }
 {
     lines.push(opening)?;
     let setup = line.live().position();
     push_number(lines, due, setup.side, setup.number)?;
-    lines.push(line.write_move(played).as_bytes())?;
+    push_text(lines, line, played)?;
     push_nags(lines, notes.nags)?;
     push_comment(lines, notes.comment)
 }
@@ -121,7 +146,7 @@ struct Writer<'t, 'k, 'a, A: Allocator> {
 impl<'t, 'k, 'a, A: Allocator> Writer<'t, 'k, 'a, A> {
     ghost use Rattle.chess_pgn.specs.steps.Tasks as tasks;
     ghost use Rattle.chess_pgn.specs.steps.Tasks.{AreTasks, tasks_text, work};
-    ghost use Rattle.chess_pgn.specs.steps.TaskCode.{Steps, todo, todos};
+    ghost use Rattle.chess_pgn.specs.steps.TaskCode.{Steps, returning, todo, todos};
 
     fn close(&mut self) -> Result<(), AllocError>
         requires tasks { AreTasks self.old.line.line (tasks.Close ∷ todos self.old.tasks.items) }
@@ -158,6 +183,10 @@ impl<'t, 'k, 'a, A: Allocator> Writer<'t, 'k, 'a, A> {
         let notes = node.notes();
         push_move(&mut self.lines, &mut self.line, b" ", due, played, &notes)?;
         let due_below = is_parted(&notes, &others);
+        if others.is_empty() {
+            return self.go_on(node.below(), due_below);
+        }
+        let _taken = self.line.pop();
         self.tasks
             .push(Task::Below(played, node.below(), due_below))?;
         self.tasks.push(Task::Variations(others))?;
@@ -183,30 +212,20 @@ impl<'t, 'k, 'a, A: Allocator> Writer<'t, 'k, 'a, A> {
         let due_below = is_noted(&notes);
         self.tasks.push(Task::Variations(others))?;
         self.tasks.push(Task::Close)?;
-        self.make(played, node.below(), due_below)
+        self.go_on(node.below(), due_below)
     }
 
-    // Makes a move, and leaves the tasks of what is below it and of taking it back.
-    fn make(
-        &mut self,
-        played: Move,
-        nodes: Children<'t, 'a, A>,
-        due: bool,
-    ) -> Result<(), AllocError>
-        requires legal { IsTrue (is_legal (last self.old.line.line) played) }
-        requires few { length self.old.line.line.moves < 20000 }
-        requires still { self.old.line.looked ≡ 0 }
+    // Behind a move that is made, leaves the tasks of what is below it and of taking it back; the last is left out where no task is
+    // behind it.
+    fn go_on(&mut self, nodes: Children<'t, 'a, A>, due: bool) -> Result<(), AllocError>
         ensures lines { self.new.lines ≡ self.old.lines }
-        ensures still { OnOk result (self.new.line.looked ≡ 0) }
-        ensures line { OnOk result (self.new.line.line ≡ extended self.old.line.line played) }
-        ensures tasks { OnOk result (todos self.new.tasks.items ≡ tasks.Moves nodes.entry due ∷ tasks.Back ∷ todos self.old.tasks.items) }
+        ensures line { self.new.line ≡ self.old.line }
+        ensures tasks { OnOk result (todos self.new.tasks.items ≡ tasks.Moves nodes.entry due ∷ returning self.old.tasks.items) }
     {
-        if self.line.reserve(1).is_err() {
-            return Err(AllocError);
+        if !self.tasks.is_empty() {
+            self.tasks.push(Task::Back)?;
         }
-        self.tasks.push(Task::Back)?;
         self.tasks.push(Task::Moves(nodes, due))?;
-        self.line.push_prepared(played);
         Ok(())
     }
 
@@ -222,7 +241,11 @@ impl<'t, 'k, 'a, A: Allocator> Writer<'t, 'k, 'a, A> {
         ensures steps { OnOk result (Steps self.old.lines self.new.lines self.old.line.line self.new.line.line (tasks.Below played nodes.entry due ∷ todos self.old.tasks.items) (todos self.new.tasks.items)) }
         ensures still { OnOk result (self.new.line.looked ≡ 0) }
     {
-        self.make(played, nodes, due)
+        if self.line.reserve(1).is_err() {
+            return Err(AllocError);
+        }
+        self.line.push_prepared(played);
+        self.go_on(nodes, due)
     }
 
     fn step(&mut self, task: Task<'t, 'a, A>) -> Result<(), AllocError>

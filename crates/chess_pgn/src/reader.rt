@@ -1,6 +1,7 @@
-ghost use Rattle.std.specs.Prelude.{◌≡◌, false, IfOk, OnOk};
+ghost use Rattle.std.specs.Prelude.{◌≡◌, ◌⊎◌, false, IfErr, IfOk, OnOk};
+ghost use Rattle.chess_pgn.specs.declared.fault.FaultKind.TheVariants.{Memory};
 ghost use Rattle.chess_pgn.specs.steps.HeaderCode.{is_begun};
-ghost use Rattle.chess_pgn.specs.steps.ReaderCode.{Begins, Closed, Finished, IsNew, Moved, ending_item, takes_when};
+ghost use Rattle.chess_pgn.specs.steps.ReaderCode.{Begins, Closed, Finished, IsNew, MayNotEnd, Moved, NoStart, ending_item, takes_when};
 ghost use Rattle.chess_pgn.specs.steps.Tokens.{item_of};
 
 mod found;
@@ -49,7 +50,8 @@ impl<'a, A: Allocator> Reader<'a, A> {
     // The end of the tags: the game begins in the position that they give.
     fn begin_moves(&mut self) -> Result<(), PgnFault>
         requires { is_begun self.old.header.part ≡ false }
-        ensures { OnOk result (Begins self.old self.new) }
+        ensures begins { OnOk result (Begins self.old self.new) }
+        ensures none { IfErr result (λ fault. (fault.kind ≡ Memory) ⊎ NoStart self.old.header) }
     {
         self.moving = true;
         let Some(start) = self.header.start()? else {
@@ -145,7 +147,8 @@ impl<'a, A: Allocator> Reader<'a, A> {
 
     /// The game that was read.
     pub fn into_game(self) -> Result<Game<'a, A>, PgnFault>
-        ensures { IfOk result (λ game. Closed self.entry game) }
+        ensures game { IfOk result (λ game. Closed self.entry game) }
+        ensures memory { IfErr result (λ fault. fault.kind ≡ Memory) }
     {
         let Reader {
             alloc,
@@ -168,7 +171,8 @@ impl<'a, A: Allocator> Reader<'a, A> {
     ///
     /// `Truncated` in a tag or a variation; `Fen` where the tags give no position; `Memory`.
     pub fn finish(self, at: usize) -> Result<Game<'a, A>, PgnFault>
-        ensures { IfOk result (λ game. Finished self.entry game) }
+        ensures game { IfOk result (λ game. Finished self.entry game) }
+        ensures refused { IfErr result (λ fault. (fault.kind ≡ Memory) ⊎ MayNotEnd self.entry) }
     {
         let mut reader = self;
         if reader.header.is_in_tag() || reader.moves.is_in_variation() {

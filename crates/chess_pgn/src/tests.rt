@@ -1,9 +1,10 @@
-mod taking;
-
 ghost use Rattle.std.specs.Prelude.{◌≡◌, OnOk};
 ghost use Rattle.chess_tree.specs.GameTree.{line_to};
 
+mod cut;
+mod random;
 mod reads;
+mod taking;
 
 use crate::lexer::item;
 use crate::place::Place;

@@ -2,12 +2,18 @@
 --   HasCome    bytes came, and a game stands at the front of what was at hand and what came, whatever follows
 --   NoneCame   all has come, and was white
 --   Found      one of both, as a game is answered or none
+--   NotCome    bytes came, and no game stands at the front of what was at hand and what came, and more than white, whatever follows; the text
+--              is sound still
+--   IsFault    so it is, or a read failed, or there was no memory
 --   TakesGame  what becomes of a text of which one game is taken
-use Rattle.std.specs.Prelude.{◌≡◌, ◌≤◌, ℕ, List, [], ◌++◌, length, Option, Some, None, Result, Ok, Err, ⊤}
+use Rattle.std.specs.Prelude.{◌≡◌, ◌⊎◌, ◌≤◌, ℕ, List, [], ◌++◌, length, Option, Some, None, Result, Ok, Err, ⊤}
 use Rattle.chess_types.specs.bytes.Calls.{Calls, joined}
-use Rattle.chess_pgn.specs.Reading.{IsAtFront, IsWhite}
+use Rattle.chess_pgn.specs.Reading.{HasNoGame, IsAtFront, IsWhite}
 use Rattle.chess_pgn.specs.steps.GameCode.{game_of}
+use Rattle.chess_pgn.specs.declared.fault.FaultKind.TheVariants.{Memory}
 use Rattle.chess_pgn.specs.declared.game.Game.{Game}
+use Rattle.chess_pgn.specs.declared.games.GamesFault.{GamesFault}
+use Rattle.chess_pgn.specs.declared.games.GamesFault.TheVariants.{Pgn, Read}
 
 module _ {X : Type 0} (comes : X → List ℕ → X → Type 0) (at_hand : X → List ℕ) (all : X → Type 0) where
   pub record HasCome {A : Type 0} (old new : X) (game : Game A) (used : ℕ) : Type 0 where
@@ -33,6 +39,19 @@ module _ {X : Type 0} (comes : X → List ℕ → X → Type 0) (at_hand : X →
   Found old new (Some x) = HasCome old new x.0 x.1
   Found old new None = NoneCame old new
 
-  abbrev pub TakesGame : {A E : Type 0} → X → X → Result (Option (Game A × ℕ)) E → Type 0
-  TakesGame old new (Ok found) = Found old new found
-  TakesGame old new (Err fault) = ⊤
+module _ {X : Type 0} (comes : X → List ℕ → X → Type 0) (at_hand : X → List ℕ) (all sound : X → Type 0) where
+  pub record NotCome (old new : X) : Type 0 where
+    pub pieces : List (List ℕ)
+    pub came : Calls comes old pieces new
+    pub sound_still : sound new
+    pub none : (more : List ℕ) → (all new → more ≡ []) → HasNoGame (at_hand old ++ (joined pieces ++ more))
+    pub dark : (more : List ℕ) → (all new → more ≡ []) → IsWhite (at_hand old ++ (joined pieces ++ more)) → ⊥
+    pub still : all old → (joined pieces ≡ []) × all new
+
+  abbrev pub IsFault : X → X → GamesFault → Type 0
+  IsFault old new Read = ⊤
+  IsFault old new (Pgn fault) = (fault.kind ≡ Memory) ⊎ NotCome old new
+
+  abbrev pub TakesGame : {A : Type 0} → X → X → Result (Option (Game A × ℕ)) GamesFault → Type 0
+  TakesGame old new (Ok found) = Found comes at_hand all old new found
+  TakesGame old new (Err fault) = IsFault old new fault

@@ -32,11 +32,12 @@ module _ {X T : Type 0} (comes : X → List ℕ → X → Type 0) (at_hand : X �
     pub pieces : List (List ℕ)
     pub came : Calls comes mid pieces new
     pub other : white_after (Some (column_at stopped.place)) (at_hand mid ++ joined pieces) ≡ None
+    pub still : all mid → (joined pieces ≡ []) × all new
 
   pub record Passed (limit : ℕ) (old new : X) (t u : T) (stopped : Stopped) : Type 0 where
     pub mid : X
     pub ran : Ran comes at_hand all sound size takes limit old mid t u (Ok stopped)
-    pub after : (new ≡ mid) ⊎ NotWhite stopped mid new
+    pub after : ((new ≡ mid) × (stopped.why ≡ stop.TooLarge → stopped.white ≡ false)) ⊎ NotWhite stopped mid new
     pub more : stopped.why ≡ stop.End → stopped.white ≡ false
 
   abbrev pub Passes : ℕ → X → X → T → T → Result (Option Stopped) Fault → Type 0

@@ -1,22 +1,24 @@
 -- What a reader of a game does with an item of the movetext.
 --   MovesOn   the elements of an item are read, whatever the state of reading was
 --   Moved     what becomes of the item: it is read, it ends the game, the game ends in front of it, or no game goes on so
---   Begins    the tags end: the game begins in the position that they tell
+--   Begins    the tags end: the game begins in the position that they tell; NoStart, they tell none
 --   TakesItem what a reader does with any item
 --   IsNew     nothing is read
 --   Closed    the game that was read
 --   Finished  the same at the end of the input
---   Answered  the game where the reading has stopped
-use Rattle.std.specs.Prelude.{◌≡◌, ◌⊎◌, ℕ, Bool, true, false, List, [], Option, Some, None, Result, Ok, Err, ⊤}
+--   MayNotEnd no game is at its end here
+--   Answered  the game where the reading has stopped; Unanswered, a fault there
+use Rattle.std.specs.Prelude.{◌≡◌, ◌≢◌, ◌⊎◌, ℕ, Bool, true, false, List, [], Option, Some, None, Result, Ok, Err, ⊤}
 use Rattle.chess_types.specs.board.Position.{State, start}
 use Rattle.chess_pgn.specs.Grammar.{Element, element}
 use Rattle.chess_pgn.specs.Items as items
 use Rattle.chess_pgn.specs.Items.{Item}
-use Rattle.chess_pgn.specs.Reading.{is_heading, is_movetext, lead_after}
+use Rattle.chess_pgn.specs.Reading.{IsWithinLimits, is_heading, is_movetext, lead_after}
 use Rattle.chess_pgn.specs.Tags.{is_between, start_in}
-use Rattle.chess_pgn.specs.steps.HeaderCode.{HasFound, HasTaken, Heads as HeadsOn, is_begun}
+use Rattle.chess_pgn.specs.steps.GameCode.{game_of}
+use Rattle.chess_pgn.specs.steps.HeaderCode.{HasFound, HasTaken, Heads as HeadsOn, Refuses, is_begun}
 use Rattle.chess_pgn.specs.steps.OtherCode.{Finds}
-use Rattle.chess_pgn.specs.steps.Readings.{Fails, FailsHere, Goes, IsRead, Reading, Stands, fresh}
+use Rattle.chess_pgn.specs.steps.Readings.{Exceeds, Fails, FailsHere, Goes, IsRead, Reading, Stands, fresh}
 use Rattle.chess_pgn.specs.declared.fault.FaultKind.{FaultKind}
 use Rattle.chess_pgn.specs.declared.fault.FaultKind.TheVariants.{Memory, TooLarge}
 use Rattle.chess_pgn.specs.declared.fault.PgnFault.{PgnFault}
@@ -63,10 +65,10 @@ is_tagged (items.Stretch text) = true
 is_tagged (items.Escaped b) = true
 is_tagged _ = false
 
--- No movetext goes on with the item, none ends there, or it has no place in movetext.
+-- No movetext goes on with the item, none ends there, or it has no place in movetext; or only a game that is too large goes on.
 abbrev pub RefusesItem : {A : Type 0} → Item → FaultKind → Moves A → Type 0
 RefusesItem item Memory moves = ⊤
-RefusesItem item TooLarge moves = ⊤
+RefusesItem item TooLarge moves = (is_movetext item ≡ true) × Exceeds (element item) moves
 RefusesItem item kind moves = ((is_movetext item ≡ true) × Fails (element item) moves) ⊎ (((is_movetext item ≡ false) × FailsHere moves) ⊎ (is_tagged item ≡ true))
 
 abbrev pub Moved : {A : Type 0} → Item → Result Taken PgnFault → Reader A → Reader A → Type 0
@@ -103,6 +105,18 @@ pub record Begins {A : Type 0} (old new : Reader A) : Type 0 where
   pub moving : new.moving ≡ true
   pub outcome : new.outcome ≡ old.outcome
 
+-- the tags tell no position
+abbrev pub NoStart : {A : Type 0} → Header A → Type 0
+NoStart header = (read : List (List ℕ × List ℕ)) → Finds read header.found.tags → start_in read ≡ None
+
+-- no tag goes on with the item, or it stands in tags alone and none has begun
+abbrev pub Strays : {A : Type 0} → Item → PgnFault → Header A → Type 0
+Strays item fault header = ((is_begun header.part ≡ true) × Refuses item header fault) ⊎ ((is_begun header.part ≡ false) × (is_tagged item ≡ true))
+
+-- no movetext begins here, or none with the item
+abbrev pub RefusesFirst : {A : Type 0} → Item → FaultKind → Reader A → Type 0
+RefusesFirst {A = A} item kind old = NoStart old.header ⊎ ((between : Reader A) × Begins old between × RefusesItem item kind between.moves)
+
 -- it is one of the tags' and the comments before the movetext, or the first of the movetext
 abbrev pub Heads : {A : Type 0} → Item → Result Taken PgnFault → Reader A → Reader A → Type 0
 Heads {A = A} item result old new = ((result ≡ Ok GoesOn) × Headed item old new) ⊎ ((is_heading item ≡ false) × (between : Reader A) × Begins old between × Moved item result between new)
@@ -110,7 +124,7 @@ Heads {A = A} item result old new = ((result ≡ Ok GoesOn) × Headed item old n
 abbrev pub takes_when : {A : Type 0} → Bool → Item → Result Taken PgnFault → Reader A → Reader A → Type 0
 takes_when true item result old new = Moved item result old new
 takes_when false item (Ok taken) old new = Heads item (Ok taken) old new
-takes_when false item (Err fault) old new = ⊤
+takes_when false item (Err fault) old new = (fault.kind ≡ Memory) ⊎ (Strays item fault old.header ⊎ ((is_heading item ≡ false) × RefusesFirst item fault.kind old))
 
 abbrev pub TakesItem : {A : Type 0} → Reader A → Item → Result Taken PgnFault → Reader A → Type 0
 TakesItem old item result new = takes_when old.moving item result old new
@@ -132,12 +146,25 @@ pub record Closed {A : Type 0} (old : Reader A) (game : Game A) : Type 0 where
   pub has_tags : HasFound old.header game.tags
   pub is_outcome : game.result ≡ old.outcome
   pub is_tree : IsRead old.moves game.tree
+  pub within : IsWithinLimits (game_of game)
 
 pub record Finished {A : Type 0} (old : Reader A) (game : Game A) : Type 0 where
   pub reader : Reader A
   pub begins : begins_when old.moving old reader
   pub closed : old.moves.interrupted.items ≡ []
   pub ends : Closed reader game
+
+-- in a tag or a variation, or where the movetext is still to begin and the tags tell no position, no game ends
+abbrev pub MayNotEnd : {A : Type 0} → Reader A → Type 0
+MayNotEnd reader = (is_begun reader.header.part ≡ true) ⊎ ((reader.moves.interrupted.items ≢ []) ⊎ ((reader.moving ≡ false) × NoStart reader.header))
+
+abbrev pub Unanswered : {A : Type 0} → Stop → Reader A → PgnFault → Type 0
+Unanswered stop.Full reader fault = fault.kind ≡ Memory
+Unanswered stop.Left reader fault = fault.kind ≡ Memory
+Unanswered stop.End reader fault = (fault.kind ≡ Memory) ⊎ MayNotEnd reader
+Unanswered (stop.Refused why) reader fault = fault ≡ why
+Unanswered stop.NoItem reader fault = ⊤
+Unanswered stop.TooLarge reader fault = ⊤
 
 abbrev pub Answered : {A : Type 0} → Stop → Reader A → Game A → Type 0
 Answered stop.Full reader game = Closed reader game

@@ -7,11 +7,13 @@
 --   Goes        from one state, behind some elements, the others give what they give from another
 --   Steps       whatever the state was, it is one behind that element
 --   Fails       whatever the state was, nothing is derived with some elements in front, or too many variations are open
---   Refuses     so it is, unless there was no memory or the tree is at one of its limits
-use Rattle.std.specs.Prelude.{◌≡◌, ◌⊎◌, ℕ, Bool, true, false, is_some, List, [], ◌∷◌, ◌++◌, length, reverse, Option, Some, None, IfSome, ⊤}
+--   Exceeds     whatever the state was, only a game too large to be read is derived with some elements in front
+--   AtLimit     no move can be added at the cursor
+--   Refuses     so it is, by the kind of the fault, unless there was no memory
+use Rattle.std.specs.Prelude.{◌≡◌, ◌⊎◌, ◌<◌, ◌≤◌, ℕ, Bool, true, false, is_some, List, [], ◌∷◌, ◌++◌, length, reverse, Option, Some, None, IfSome, ⊤}
 use Rattle.chess_types.specs.board.Position.{State}
 use Rattle.chess_types.specs.board.Lines.{last}
-use Rattle.chess_tree.specs.Forest.{Forest, Bare}
+use Rattle.chess_tree.specs.Forest.{Forest, Bare, height, moves_held}
 use Rattle.chess_tree.specs.Comments.{normalised}
 use Rattle.chess_tree.specs.GameTree.{TreeParts, moves_along}
 use Rattle.chess_tree.specs.WellFormed.{Leads}
@@ -128,10 +130,22 @@ pub record Goes (some : List Element) (s s' : Reading) : Type 0 where
 abbrev pub Fails : {A : Type 0} → List Element → Moves A → Type 0
 Fails some moves = (s : Reading) → Stands moves s → (es : List Element) → (goes_on (some ++ es) s ≡ None) ⊎ (few_are_open (length s.interrupted) (some ++ es) ≡ false)
 
+abbrev pub Exceeds : {A : Type 0} → List Element → Moves A → Type 0
+Exceeds some moves =
+    (s : Reading) → Stands moves s → (es : List Element) (c : List ℕ) (f : Forest) → goes_on (some ++ es) s ≡ Some (c, f) → (20000 < height f) ⊎ (1000000 < moves_held f)
+
 abbrev pub Refuses : {A : Type 0} → List Element → FaultKind → Moves A → Type 0
 Refuses some Memory moves = ⊤
-Refuses some TooLarge moves = ⊤
+Refuses some TooLarge moves = Exceeds some moves
 Refuses some kind moves = Fails some moves
+
+-- no move is added at the cursor: it is as deep as any, or the tree holds as many as any
+abbrev pub AtLimit : TreeParts → Type 0
+AtLimit t = (20000 ≤ length t.path) ⊎ (1000000 ≤ moves_held t.tree.below)
+
+-- why a move isn't added that is legal
+abbrev pub IsRoomFault : FaultKind → Bool → TreeParts → Type 0
+IsRoomFault kind legal t = (kind ≡ Memory) ⊎ ((kind ≡ TooLarge) × (legal ≡ true → AtLimit t))
 
 -- a variation is open
 abbrev pub FailsHere : {A : Type 0} → Moves A → Type 0

@@ -30,7 +30,7 @@ column_at place = if starts_line place then First else Later
 module _ {X : Type 0} (comes : X → List ℕ → X → Type 0) (at_hand : X → List ℕ) (all sound : X → Type 0) where
   abbrev pub AfterSkip : Place → X → List (List ℕ) → X → Result Bool Fault → Type 0
   AfterSkip place old pieces new (Ok true) = (is_some (white_after (Some (column_at place)) (at_hand old ++ joined pieces)) ≡ true) × all new × (at_hand new ≡ []) × sound new × (all old → joined pieces ≡ [])
-  AfterSkip place old pieces new (Ok false) = (white_after (Some (column_at place)) (at_hand old ++ joined pieces) ≡ None) × sound new
+  AfterSkip place old pieces new (Ok false) = (white_after (Some (column_at place)) (at_hand old ++ joined pieces) ≡ None) × sound new × (all old → (joined pieces ≡ []) × all new)
   AfterSkip place old pieces new (Err e) = Unit {0}
 
   pub record Skips (place : Place) (old new : X) (result : Result Bool Fault) : Type 0 where

@@ -2,10 +2,11 @@
 --   SpellsFrom  an input is these items, with the number of bytes before each, and then the rest
 --   Takes       the taker took these, and wanted another each time
 --   Whatever    whatever comes after a state, if anything may come
+--   Brackets    the taker took the bracket of a tag
 --   Offered     what becomes of an item that is offered
 --   Steps       one item is taken, or none
 --   Ran         items are taken, and why no more are
-use Rattle.std.specs.Prelude.{◌≡◌, ℕ, ◌+◌, ◌-◌, ◌≤◌, ◌<◌, ◌⊎◌, take, Bool, List, [], ◌∷◌, ◌++◌, length, Some, None, Result, Ok, Err}
+use Rattle.std.specs.Prelude.{◌≡◌, ◌≢◌, ℕ, ◌+◌, ◌-◌, ◌≤◌, ◌<◌, ◌⊎◌, take, Bool, List, [], ◌∷◌, ◌++◌, length, Some, None, Result, Ok, Err}
 use Rattle.std.specs.List.{list_all}
 use Rattle.chess_types.specs.bytes.Calls.{Calls, joined}
 use Rattle.chess_pgn.specs.Items.{Item, TagOpen, IsItem, is_white, place_after}
@@ -47,13 +48,17 @@ behind place (x ∷ items) = behind (place_after place x.1) items
 abbrev pub all_white : List (ℕ × Item) → Bool
 all_white items = list_all (λ (x : ℕ × Item). is_white x.1) items
 
+-- so that no game ended in front of it
+abbrev pub Brackets : {T : Type 0} → TakesOne T → ℕ → T → T → Type 0
+Brackets takes at t u = takes t at TagOpen (Ok GoesOn) u ⊎ takes t at TagOpen (Ok Ends) u
+
 -- an item of so many bytes was offered, which may be at most `most`
 abbrev pub Offered : {T : Type 0} → TakesOne T → ℕ → Item → ℕ → ℕ → T → T → Answer → Type 0
 Offered takes at item used most t u answer.GoesOn = takes t at item (Ok GoesOn) u × (used ≤ most)
 Offered takes at item used most t u answer.Ends = takes t at item (Ok Ends) u × (used ≤ most)
 Offered takes at item used most t u (answer.Stops stop.Left) = takes t at item (Ok Leaves) u
 Offered takes at item used most t u (answer.Stops (stop.Refused fault)) = takes t at item (Err fault) u
-Offered takes at item used most t u (answer.Stops stop.TooLarge) = most < used
+Offered takes at item used most t u (answer.Stops stop.TooLarge) = (most < used) × (item ≡ TagOpen → Brackets takes at t u)
 Offered takes at item used most t u (answer.Stops stop.Full) = ⊥
 Offered takes at item used most t u (answer.Stops stop.End) = ⊥
 Offered takes at item used most t u (answer.Stops stop.NoItem) = ⊥
@@ -90,6 +95,12 @@ module _ {X T : Type 0} (comes : X → List ℕ → X → Type 0) (at_hand : X �
     pub none : Whatever new (λ more. item_at place (at_hand new ++ more) ≡ None)
     pub decided : Decides place (at_hand new) ⊎ all new
     pub within : most < length (at_hand new) → Decides place (take (most + 1) (at_hand new))
+    pub some : at_hand new ≢ []
+
+  -- what comes next is too long, and no bracket in front of which a game ends
+  pub record Exceeds (at most : ℕ) (place : Place) (new : X) (t u : T) : Type 0 where
+    pub over : Whatever new (λ more. Oversized most place (at_hand new ++ more))
+    pub bracket : Whatever new (λ more. (rest : List ℕ) → item_at place (at_hand new ++ more) ≡ Some (TagOpen, rest) → Brackets takes at t u)
 
   abbrev pub AfterStop : ℕ → ℕ → Place → X → X → T → T → Stop → Type 0
   AfterStop at most place old new t u stop.Full = ⊥
@@ -97,7 +108,7 @@ module _ {X T : Type 0} (comes : X → List ℕ → X → Type 0) (at_hand : X �
   AfterStop at most place old new t u (stop.Refused fault) = (item : Item) × Next place old new item × takes t at item (Err fault) u
   AfterStop at most place old new t u stop.End = all new × (at_hand new ≡ []) × (u ≡ t)
   AfterStop at most place old new t u stop.NoItem = NoNext most place new × (u ≡ t)
-  AfterStop at most place old new t u stop.TooLarge = Whatever new (λ more. Oversized most place (at_hand new ++ more))
+  AfterStop at most place old new t u stop.TooLarge = Exceeds at most place new t u
 
   abbrev pub AfterStep : ℕ → ℕ → Place → X → List (List ℕ) → X → T → T → Result Step Fault → Type 0
   AfterStep at most place old pieces new t u (Err e) = Unit {0}
@@ -161,12 +172,12 @@ module _ {X T : Type 0} (comes : X → List ℕ → X → Type 0) (at_hand : X �
     pub none : NoNext (limit - at) place new
 
   -- what comes next reaches past the limit
-  pub record RanOver (limit : ℕ) (old : X) (pieces : List (List ℕ)) (new : X) (t : T) (at : ℕ) (place : Place) (white : Bool) : Type 0 where
+  pub record RanOver (limit : ℕ) (old : X) (pieces : List (List ℕ)) (new : X) (t u : T) (at : ℕ) (place : Place) (white : Bool) : Type 0 where
     pub items : List (ℕ × Item)
     pub took : Took limit old pieces new items at place white
     pub mid : T
     pub taken : Takes takes t items mid
-    pub over : Whatever new (λ more. Oversized (limit - at) place (at_hand new ++ more))
+    pub exceeds : Exceeds at (limit - at) place new mid u
 
   abbrev pub AfterRun : ℕ → X → List (List ℕ) → X → T → T → ℕ → Place → Bool → Stop → Type 0
   AfterRun limit old pieces new t u at place white stop.Full = RanFull limit old pieces new t u at place white
@@ -174,7 +185,7 @@ module _ {X T : Type 0} (comes : X → List ℕ → X → Type 0) (at_hand : X �
   AfterRun limit old pieces new t u at place white (stop.Refused fault) = RanUpTo limit old pieces new t u at place white (Err fault)
   AfterRun limit old pieces new t u at place white stop.End = RanOut limit old pieces new t u at place white
   AfterRun limit old pieces new t u at place white stop.NoItem = RanAground limit old pieces new t u at place white
-  AfterRun limit old pieces new t u at place white stop.TooLarge = RanOver limit old pieces new t at place white
+  AfterRun limit old pieces new t u at place white stop.TooLarge = RanOver limit old pieces new t u at place white
 
   abbrev pub Stops : ℕ → X → List (List ℕ) → X → T → T → Result Stopped Fault → Type 0
   Stops limit old pieces new t u (Err e) = Unit {0}

@@ -1,5 +1,5 @@
 -- The tasks of the code, the next one last.
-use Rattle.std.specs.Prelude.{◌≡◌, ℕ, ◌<◌, List, ◌++◌, map, reverse}
+use Rattle.std.specs.Prelude.{◌≡◌, ℕ, ◌<◌, List, [], ◌∷◌, ◌++◌, map, reverse}
 use Rattle.chess_types.specs.board.Lines.{Line}
 use Rattle.chess_pgn.specs.steps.Adding.{Adds}
 use Rattle.chess_pgn.specs.steps.Tasks as tasks
@@ -17,6 +17,11 @@ todo Back = tasks.Back
 
 abbrev pub todos : {A : Type 0} → List (Task A) → List Todo
 todos items = map todo (reverse items)
+
+-- the tasks behind a move that is made: it is taken back first, where there are any
+abbrev pub returning : {A : Type 0} → List (Task A) → List Todo
+returning [] = []
+returning (t ∷ ts) = tasks.Back ∷ todos (t ∷ ts)
 
 -- Some of the tasks' text is written, and the others write the rest.
 pub record Steps {A : Type 0} (old new : Lines A) (line line' : Line) (ts ts' : List Todo) : Type 0 where

@@ -1,13 +1,14 @@
-ghost use Rattle.std.specs.Prelude.{◌≡◌, ◌⊎◌, ◌<◌, ◌≤◌, if◌then◌else◌, ◌||◌, not, ◌++◌, ◌∷◌, [], List, ℕ, drop, take, length, map, min, true, IfErr, IfOk, OnOk};
+ghost use Rattle.std.specs.Prelude.{◌≡◌, ◌<◌, ◌≤◌, if◌then◌else◌, ◌||◌, not, ◌++◌, ◌∷◌, [], List, ℕ, drop, take, length, map, min, true, IfErr, IfOk, OnOk};
 ghost use Rattle.chess_types.specs.board.Position.{State};
-ghost use Rattle.chess_types.specs.board.Lines.{extended};
+ghost use Rattle.chess_types.specs.board.Legal.{is_legal};
+ghost use Rattle.chess_types.specs.board.Lines.{extended, last};
 ghost use Rattle.chess_tree.specs.Comments.{normalised};
 ghost use Rattle.chess_tree.specs.Forest.{below_at, count};
 ghost use Rattle.chess_tree.specs.GameTree.{added, at_path, commented_here, line_to};
+ghost use Rattle.chess_tree.specs.WellFormed.{IsGameTree};
 ghost use Rattle.chess_pgn.specs.Grammar as grammar;
 ghost use Rattle.chess_pgn.specs.Items.{without_brace};
-ghost use Rattle.chess_pgn.specs.declared.fault.FaultKind.TheVariants.{Memory, TooLarge};
-ghost use Rattle.chess_pgn.specs.steps.Readings.{IsRead, IsLed, Stands, fresh, is_nil, said_here};
+ghost use Rattle.chess_pgn.specs.steps.Readings.{IsRead, IsLed, IsRoomFault, Stands, fresh, is_nil, said_here};
 
 use crate::fault::{FaultKind, PgnFault, at_place};
 use chess_key::KeyTable;
@@ -207,7 +208,7 @@ impl<'a, A: Allocator> Moves<'a, A> {
         ensures from { OnOk result (self.new.from ≡ self.old.from) }
         ensures played { OnOk result (self.new.played ≡ true) }
         ensures interrupted { OnOk result (self.new.interrupted ≡ self.old.interrupted) }
-        ensures room { IfErr result (λ fault. (fault.kind ≡ Memory) ⊎ (fault.kind ≡ TooLarge)) }
+        ensures room { IfErr result (λ fault. IsRoomFault fault.kind (is_legal (last (line_to self.old.analysis)) m) self.old.analysis) }
     {
         match self.analysis.add(m) {
             Ok(()) => {}
@@ -234,7 +235,9 @@ impl<'a, A: Allocator> Moves<'a, A> {
             return Err(at_place(at, FaultKind::Move));
         };
         self.note_if(self.is_behind_move())?;
-        self.add(at, m)?;
+        if let Err(fault) = self.add(at, m) {
+            return Err(fault);
+        }
         Ok(())
     }
 
@@ -293,11 +296,13 @@ impl<'a, A: Allocator> Moves<'a, A> {
 
     /// The tree, with its cursor at the root.
     pub fn into_tree(self) -> Result<Tree<'a, A>, AllocError>
-        ensures { IfOk result (λ tree. IsRead self.entry tree) }
+        ensures read { IfOk result (λ tree. IsRead self.entry tree) }
+        ensures game { IfOk result (λ tree. IsGameTree tree) }
     {
         let mut moves = self;
         moves.note()?;
-        moves.analysis.start();
-        Ok(moves.analysis.into_tree())
+        let mut tree = moves.analysis.into_tree();
+        tree.start();
+        Ok(tree)
     }
 }

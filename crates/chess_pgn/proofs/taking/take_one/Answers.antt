@@ -31,7 +31,8 @@ returns-in_default g c =
     let most = c.args.most in
     let none : item_at place (g.X.Text.at_hand c.ready.new.self) ≡ None = subst (λ (x : List ℕ). item_at place x ≡ None) c.unread-2.ensures (sym c.in_default.ensures) in
     let within = subst (λ (x : List ℕ). most < length x → Decides place (take (most + 1) x)) c.unread-in_default.ensures c.if-exceeds.ensures in
-    step_none g.X.Text.comes g.X.Text.at_hand g.X.Text.all g.X.Text.sound g.X.Text.size g.T.Taker.takes c.args.at c.args.most c.args.place c.args.text.now c.ready.new.self c.args.taker.now r none within
+    let some : g.X.Text.at_hand c.ready.new.self ≡ [] → ⊥ = λ e. (let n : length c.unread.result.now ≡ 0 = ap length (c.unread.ensures ∙ e) in search rules) in
+    step_none g.X.Text.comes g.X.Text.at_hand g.X.Text.all g.X.Text.sound g.X.Text.size g.T.Taker.takes c.args.at c.args.most c.args.place c.args.text.now c.ready.new.self c.args.taker.now r none some within
 
 pub returns-then-exceeds : goal.returns-then-exceeds
 returns-then-exceeds g c =

@@ -1,3 +1,4 @@
+use Rattle.chess_pgn.proofs.AnswerLemmas.{source_fault}
 use Rattle.chess_pgn.proofs.SourceLemmas.{source_game, source_none}
 use Rattle.chess_pgn.proofs.games.Games.next.Goals as goal
 
@@ -7,3 +8,6 @@ returns-in-Ok-Some-clause-game g c =
 
 pub returns-in-Ok-None-clause-none : goal.returns-in-Ok-None-clause-none
 returns-in-Ok-None-clause-none g c = λ e. source_none g.R.Source.gives c.args.self.now.text c.take.new.self.text c.in-Ok-None.field-0 c.in-Ok-None.ensures.game c.in-Ok-None.field-0-is
+
+pub returns-in-Err-clause-fault : goal.returns-in-Err-clause-fault
+returns-in-Err-clause-fault g c = λ e. source_fault g.R.Source.gives g.R.Source.ended c.args.self.now.text c.take.new.self.text c.in-Err.fault c.placed-placed.result c.in-Err.ensures.game c.placed-placed.ensures

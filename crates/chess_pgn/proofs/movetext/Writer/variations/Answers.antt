@@ -1,9 +1,10 @@
 use Rattle.std.proofs.Common.{List, ◌≡◌, Some, ◌∷◌, ◌∙◌, ap, sym}
-use Rattle.chess_types.specs.board.Lines.{Line, extended}
+use Rattle.chess_types.specs.board.Lines.{extended}
+use Rattle.chess_draws.specs.LineParts.{LineParts}
 use Rattle.chess_pgn.specs.steps.Tasks as tasks
-use Rattle.chess_pgn.specs.steps.TaskCode.{todos}
+use Rattle.chess_pgn.specs.steps.TaskCode.{returning, todos}
 use Rattle.chess_pgn.proofs.AddLemmas.{adds_none}
-use Rattle.chess_pgn.proofs.TaskLemmas.{First, first_node, step_variation, no_variations, steps_on, on_as, todos_pushed}
+use Rattle.chess_pgn.proofs.TaskLemmas.{First, first_node, step_variation, no_variations, on_as, on_ok, steps_on, returning_pushed, todos_pushed}
 use Rattle.chess_pgn.specs.declared.movetext.Task.TheVariants.{Variations, Close}
 use Rattle.chess_pgn.proofs.movetext.Writer.variations.Goals as goal
 
@@ -32,7 +33,9 @@ returns-clause-steps g c =
     let one = todos_pushed items c.push.new.self.items (Variations rest) c.in_ok-push.ensures.items in
     let two = todos_pushed c.push.new.self.items c.push-2.new.self.items Close c.in_ok-push-2.ensures.items in
     let pushed : todos c.push-2.new.self.items ≡ tasks.Close ∷ tasks.Variations rest ∷ ts = two ∙ ap (λ (x : List tasks.Todo). tasks.Close ∷ x) one in
-    steps_on c.make.result old new c.make.new.self.lines line (extended line m) c.make.new.self.line.line (tasks.Variations f ∷ ts) (tasks.Moves below due ∷ tasks.Back ∷ tasks.Close ∷ tasks.Variations rest ∷ ts) (todos c.make.new.self.tasks.items)
-    c.make.ensures.lines (on_as c.make.result _ _ _ c.make.ensures.line (ap (λ (l : Line). extended l m) c.in_ok-push_move.ensures.line))
-    (on_as c.make.result _ _ _ c.make.ensures.tasks (ap (λ (x : List tasks.Todo). tasks.Moves below due ∷ tasks.Back ∷ x) pushed))
+    let behind : returning c.push-2.new.self.items ≡ tasks.Back ∷ tasks.Close ∷ tasks.Variations rest ∷ ts =
+    ap returning c.in_ok-push-2.ensures.items ∙ returning_pushed c.push.new.self.items Close ∙ ap (λ (x : List tasks.Todo). tasks.Back ∷ x) (sym (ap todos c.in_ok-push-2.ensures.items) ∙ pushed) in
+    steps_on c.go_on.result old new c.go_on.new.self.lines line (extended line m) c.go_on.new.self.line.line (tasks.Variations f ∷ ts) (tasks.Moves below due ∷ tasks.Back ∷ tasks.Close ∷ tasks.Variations rest ∷ ts) (todos c.go_on.new.self.tasks.items)
+    c.go_on.ensures.lines (on_ok c.go_on.result (ap (λ (l : LineParts). l.line) c.go_on.ensures.line ∙ c.in_ok-push_move.ensures.line))
+    (on_as c.go_on.result _ _ _ c.go_on.ensures.tasks (ap (λ (x : List tasks.Todo). tasks.Moves below due ∷ x) behind))
     (step_variation old new line ts f m nags comment below rest due first c.is_noted-due_below.ensures c.requires.tasks c.in_ok-push_move.ensures.adds)

@@ -5,8 +5,8 @@ use Rattle.chess_pgn.specs.Tags.{fen_in}
 use Rattle.chess_pgn.proofs.StartLemmas.{told, usual}
 use Rattle.chess_pgn.proofs.reader.Reader.begin_moves.Goals as goal
 
-pub returns-in_default : goal.returns-in_default
-returns-in_default g c = record {
+pub returns-in_default-clause-begins : goal.returns-in_default-clause-begins
+returns-in_default-clause-begins g c = record {
   outside = c.requires;
   header = refl;
   moves = λ read finds. (start, usual c.args.self.now.header.fen_at (fen_in read) (sym (c.start.ensures.start read finds) ∙ c.in_ok-start.was ∙ ap Ok c.in_default.is), λ lead h. h);
@@ -14,8 +14,8 @@ returns-in_default g c = record {
   outcome = refl;
 }
 
-pub returns : goal.returns
-returns g c = record {
+pub returns-clause-begins : goal.returns-clause-begins
+returns-clause-begins g c = record {
   outside = c.requires;
   header = refl;
   moves = λ read finds. (

@@ -1,24 +1,34 @@
-use Rattle.std.proofs.Common.{ap, ◌∙◌, sym, drop, min, length}
+use Rattle.std.proofs.Common.{ap, [], ◌∷◌, ◌∙◌, sym, drop, min, length}
 use Rattle.std.specs.Prelude.{if◌then◌else◌}
 use Rattle.chess_tree.specs.Comments.{normalised}
 use Rattle.chess_tree.specs.GameTree.{TreeParts}
+use Rattle.chess_pgn.specs.Grammar as grammar
 use Rattle.chess_pgn.specs.steps.Readings.{said_here}
+use Rattle.chess_pgn.proofs.ExceedLemmas.{ok_of, room_exceeds}
 use Rattle.chess_pgn.proofs.StepLemmas.{text_goes}
 use mathlib.Core.Logic.{inl}
-use Rattle.chess_pgn.proofs.RefuseLemmas.{text_fails}
+use Rattle.chess_pgn.proofs.RefuseLemmas.{refuses_room, text_fails}
 use Rattle.chess_pgn.proofs.reader.moves.Moves.word.Goals as goal
 
 pub returns-clause-steps : goal.returns-clause-steps
 returns-clause-steps g c = λ s h.
     let r = c.args.self.now in
     let said = normalised (drop (min r.from (length r.comments.items)) r.comments.items) in
-    rw (c.in_ok-add.ensures.played, c.in_ok-add.ensures.interrupted, c.in_ok-note_if.ensures.interrupted, c.in_ok-add.ensures.comments, c.in_ok-add.ensures.from, c.in_ok-note_if.ensures.from)
+    rw ((ok_of c.add.result c.in_default-add.not-Err c.add.ensures.played), (ok_of c.add.result c.in_default-add.not-Err c.add.ensures.interrupted), c.in_ok-note_if.ensures.interrupted, (ok_of c.add.result c.in_default-add.not-Err c.add.ensures.comments), (ok_of c.add.result c.in_default-add.not-Err c.add.ensures.from), c.in_ok-note_if.ensures.from)
     (text_goes r.analysis c.note_if.new.self.analysis c.add.new.self.analysis r.interrupted.items r.played c.is_behind_move.result r.comments.items c.note_if.new.self.comments.items r.from c.args.text.now c.in-Ok.m
     (sym c.in-Ok.ensures.value) c.is_behind_move.ensures
     (c.in_ok-note_if.ensures.analysis ∙ ap (λ (z : TreeParts). if c.is_behind_move.result then said_here said z else z) c.in-Ok.ensures.as_before)
-    c.in_ok-note_if.ensures.comments c.in_ok-add.ensures.analysis c.in_ok-add.ensures.line s h)
+    c.in_ok-note_if.ensures.comments (ok_of c.add.result c.in_default-add.not-Err c.add.ensures.analysis) (ok_of c.add.result c.in_default-add.not-Err c.add.ensures.line) s h)
 
 pub returns-in_default-clause-refuses : goal.returns-in_default-clause-refuses
 returns-in_default-clause-refuses g c =
     let r = c.args.self.now in
     rw c.at_place.ensures (λ s h es. inl (text_fails r.analysis r.interrupted.items r.played r.comments.items r.from c.args.text.now (λ m e. c.in_default.not-Ok m (c.read_move.ensures.value ∙ e)) s h es))
+
+pub returns-in-Err-clause-refuses : goal.returns-in-Err-clause-refuses
+returns-in-Err-clause-refuses g c =
+    let r = c.args.self.now in
+    refuses_room (grammar.Text c.args.text.now ∷ []) c.in-Err.fault.kind r
+    (room_exceeds r.analysis c.note_if.new.self.analysis r.interrupted.items r.played c.is_behind_move.result r.comments.items r.from c.args.text.now (normalised (drop (min r.from (length r.comments.items)) r.comments.items)) c.in-Ok.m c.in-Err.fault.kind
+    (c.in_ok-note_if.ensures.analysis ∙ ap (λ (z : TreeParts). if c.is_behind_move.result then said_here (normalised (drop (min r.from (length r.comments.items)) r.comments.items)) z else z) c.in-Ok.ensures.as_before)
+    c.in-Ok.ensures.legal c.in-Err.ensures.room)

@@ -1,0 +1,185 @@
+-- Why the reading of a game stops with a fault: no game stands there, whatever follows.
+use Rattle.std.proofs.Common.{◌≡◌, ◌⊎◌, ℕ, ◌+◌, ◌-◌, Bool, false, List, [], ◌∷◌, ◌++◌, length, Option, Some, None, Ok, Err, refl, sym, ap, subst, ◌∙◌, arith, append_assoc, length-append}
+use Rattle.std.specs.Prelude.{Result}
+use mathlib.Core.Logic.{inl, inr}
+use Rattle.chess_types.specs.bytes.Calls.{joined}
+use Rattle.chess_types.proofs.CallLemmas.{Calls-append, joined-append}
+use Rattle.chess_pgn.specs.Games.{Game}
+use Rattle.chess_pgn.specs.Items as items
+use Rattle.chess_pgn.specs.Items.{IsItem, Item, Spells, is_outside, place_after}
+use Rattle.chess_pgn.specs.Reading.{IsAtFront, IsWhite}
+use Rattle.chess_pgn.specs.steps.GameAt.{NotCome}
+use Rattle.chess_pgn.specs.steps.ItemAt.{item_at}
+use Rattle.chess_pgn.specs.steps.Passing.{NotWhite, Passed, Passes}
+use Rattle.chess_pgn.specs.steps.ReaderCode.{IsNew, MayNotEnd, TakesItem, Unanswered}
+use Rattle.chess_pgn.specs.steps.Skipping.{column_at, white_after}
+use Rattle.chess_pgn.specs.steps.Taking.{AfterRun, Ran, RanAground, RanOut, RanOver, RanUpTo, Takes, Took, behind}
+use Rattle.chess_pgn.specs.steps.Texts.{Oversized}
+use Rattle.chess_pgn.specs.declared.fault.PgnFault.{PgnFault}
+use Rattle.chess_pgn.specs.declared.fault.FaultKind.{FaultKind}
+use Rattle.chess_pgn.specs.declared.fault.FaultKind.TheVariants.{Memory}
+use Rattle.chess_pgn.specs.declared.place.Place.{Place}
+use Rattle.chess_pgn.specs.declared.place.Place.TheVariants.{GameStart}
+use Rattle.chess_pgn.specs.declared.reader.Reader.{Reader}
+use Rattle.chess_pgn.specs.declared.taker.Taken.{Taken}
+use Rattle.chess_pgn.specs.declared.taking.Stop.{Stop}
+use Rattle.chess_pgn.specs.declared.taking.Stop.TheVariants as stop
+use Rattle.chess_pgn.specs.declared.taking.Stopped.{Stopped}
+use Rattle.chess_pgn.proofs.ChainLemmas.{Progress, progress_all, progress_new}
+use Rattle.chess_pgn.proofs.DarkLemmas.{dark_aground, dark_over, dark_refused, dark_taken}
+use Rattle.chess_pgn.proofs.FrontLemmas.{whites_bare}
+use Rattle.chess_pgn.proofs.FoundLemmas.{the}
+use Rattle.chess_pgn.proofs.SpellLemmas.{place_behind}
+use Rattle.chess_pgn.proofs.TakingLemmas.{bare, spells_bare}
+use Rattle.chess_pgn.proofs.NoGameLemmas.{none_aground, none_out, none_over, none_refused}
+
+-- ---- why the reading stops
+
+front_nil : (xs ys : List ℕ) → xs ++ ys ≡ [] → xs ≡ []
+front_nil [] ys e = refl
+front_nil (x ∷ xs) ys e = absurd cc
+
+-- the place behind the items, with and without the bytes before each
+behind_bare : (place : Place) (is : List (ℕ × Item)) → behind place is ≡ place_behind place (bare is)
+behind_bare place [] = refl
+behind_bare place (x ∷ is) = behind_bare (place_after place x.1) is
+
+is_memory : (k : FaultKind) → (k ≡ Memory) ⊎ (k ≡ Memory → ⊥)
+is_memory Memory = inl refl
+is_memory _ = inr (λ e. cc)
+
+module _ {X A : Type 0} (comes : X → List ℕ → X → Type 0) (at_hand : X → List ℕ) (all sound : X → Type 0) (size : X → ℕ) (old : X) (t u : Reader A) (new_reader : IsNew t) where
+  abbrev takes : Reader A → ℕ → Item → Result Taken PgnFault → Reader A → Type 0
+  takes s at item result v = TakesItem s item result v
+
+  abbrev limit : ℕ
+  limit = 1048576
+
+  module _ (pieces : List (List ℕ)) (new : X) (at : ℕ) (place : Place) (white : Bool) (more : List ℕ) (none : all new → more ≡ []) where
+    abbrev whole : List ℕ
+    whole = at_hand old ++ (joined pieces ++ more)
+
+    abbrev rest : List ℕ
+    rest = at_hand new ++ more
+
+    module _ (is : List (ℕ × Item)) (took : Took comes at_hand all sound size takes limit old pieces new is at place white) where
+      spelled : Spells GameStart whole (bare is) rest
+      spelled = spells_bare 0 GameStart whole is rest (took.spelled more none)
+
+      there : place ≡ place_behind GameStart (bare is)
+      there = took.stands ∙ behind_bare GameStart is
+
+      counted : at + length rest ≡ length whole
+      counted =
+          let a = length-append (at_hand new) more in
+          let b = length-append (at_hand old) (joined pieces ++ more) in
+          let c = length-append (joined pieces) more in
+          omega (arith, a, b, c, took.counted)
+
+    taken_so : (is : List (ℕ × Item)) (r : Reader A) → Takes takes t is r → Progress (bare is) r
+    taken_so is r k = progress_all [] is t r (progress_new t new_reader) k
+
+    module _ (g : Game) (n : ℕ) (x : IsAtFront whole g n) where
+      run_refused : (fault : PgnFault) → (fault.kind ≡ Memory → ⊥) → RanUpTo comes at_hand all sound size takes limit old pieces new t u at place white (Err fault) → ⊥
+      run_refused fault kind r =
+          let is = bare r.items in
+          none_refused is r.item fault r.mid u (taken_so r.items r.mid r.taken) r.answered kind whole rest (r.rest ++ more) (spelled r.items r.took)
+          (subst (λ (p : Place). item_at p rest ≡ the r.item (r.rest ++ more)) (there r.items r.took) (r.found more none)) g n x
+
+      run_out : MayNotEnd u → RanOut comes at_hand all sound size takes limit old pieces new t u at place white → ⊥
+      run_out not_yet r =
+          none_out (bare r.items) u (taken_so r.items u r.taken) not_yet whole rest (spelled r.items r.took) (ap (λ (z : List ℕ). z ++ more) r.nothing ∙ none r.ended) g n x
+
+      run_aground : RanAground comes at_hand all sound size takes limit old pieces new t u at place white → ⊥
+      run_aground r =
+          none_aground (bare r.items) u (taken_so r.items u r.taken) whole rest (spelled r.items r.took)
+          (subst (λ (p : Place). item_at p rest ≡ None) (there r.items r.took) (r.none.none more none)) (λ e. r.none.some (front_nil (at_hand new) more e)) g n x
+
+      run_over : RanOver comes at_hand all sound size takes limit old pieces new t u at place white → ⊥
+      run_over r =
+          none_over (bare r.items) r.mid u (taken_so r.items r.mid r.taken) at r.took.few whole rest (spelled r.items r.took) (counted r.items r.took)
+          (subst (λ (p : Place). Oversized (limit - at) p rest) (there r.items r.took) (r.exceeds.over more none))
+          (λ next e. r.exceeds.bracket more none next (subst (λ (p : Place). item_at p rest ≡ the items.TagOpen next) (sym (there r.items r.took)) e)) g n x
+
+      run_none : (why : Stop) (fault : PgnFault) → (fault.kind ≡ Memory → ⊥) → AfterRun comes at_hand all sound size takes limit old pieces new t u at place white why → Unanswered why u fault → ⊥
+      run_none stop.Full fault kind r a = kind a
+      run_none stop.Left fault kind r a = kind a
+      run_none (stop.Refused why) fault kind r a = run_refused why (λ e. kind (ap (λ (f : PgnFault). f.kind) a ∙ e)) r
+      run_none stop.End fault kind r (inl e) = kind e
+      run_none stop.End fault kind r (inr e) = run_out e r
+      run_none stop.NoItem fault kind r a = run_aground r
+      run_none stop.TooLarge fault kind r a = run_over r
+
+    module _ (w : IsWhite whole) where
+      run_dark : (why : Stop) (fault : PgnFault) → (fault.kind ≡ Memory → ⊥) → AfterRun comes at_hand all sound size takes limit old pieces new t u at place white why → Unanswered why u fault
+          → (why ≡ stop.End → white ≡ false) → (why ≡ stop.TooLarge → white ≡ false) → ⊥
+      run_dark stop.Full fault kind r a end over = kind a
+      run_dark stop.Left fault kind r a end over = kind a
+      run_dark (stop.Refused why) fault kind r a end over =
+          dark_refused (bare r.items) whole rest (spelled r.items r.took) w r.item why r.mid u (r.rest ++ more) (taken_so r.items r.mid r.taken) r.answered (λ e. kind (ap (λ (f : PgnFault). f.kind) a ∙ e))
+          (subst (λ (p : Place). item_at p rest ≡ the r.item (r.rest ++ more)) (there r.items r.took) (r.found more none))
+      run_dark stop.End fault kind r a end over = dark_taken (bare r.items) whole rest (spelled r.items r.took) w (sym (whites_bare r.items) ∙ sym r.took.whites ∙ end refl)
+      run_dark stop.NoItem fault kind r a end over =
+          dark_aground (bare r.items) whole rest (spelled r.items r.took) w (subst (λ (p : Place). item_at p rest ≡ None) (there r.items r.took) (r.none.none more none)) (λ e. r.none.some (front_nil (at_hand new) more e))
+      run_dark stop.TooLarge fault kind r a end over = dark_taken (bare r.items) whole rest (spelled r.items r.took) w (sym (whites_bare r.items) ∙ sym r.took.whites ∙ over refl)
+
+      -- behind white space beyond the limit
+      over_dark : (hand behind : List ℕ) → RanOver comes at_hand all sound size takes limit old pieces new t u at place white → rest ≡ hand ++ behind → white_after (Some (column_at place)) hand ≡ None → ⊥
+      over_dark hand behind r parts other =
+          dark_over (bare r.items) at whole rest hand behind (spelled r.items r.took) w (counted r.items r.took) (subst (λ (p : Place). Oversized (limit - at) p rest) (there r.items r.took) (r.exceeds.over more none)) parts
+          (subst (λ (p : Place). white_after (Some (column_at p)) hand ≡ None) (there r.items r.took) other)
+
+  ended_still : (pieces : List (List ℕ)) (new : X) (at : ℕ) (place : Place) (white : Bool) (why : Stop) → AfterRun comes at_hand all sound size takes limit old pieces new t u at place white why → all old → (joined pieces ≡ []) × all new
+  ended_still pieces new at place white stop.Full r = r.took.at_end
+  ended_still pieces new at place white stop.Left r = r.took.at_end
+  ended_still pieces new at place white (stop.Refused why) r = r.took.at_end
+  ended_still pieces new at place white stop.End r = r.took.at_end
+  ended_still pieces new at place white stop.NoItem r = r.took.at_end
+  ended_still pieces new at place white stop.TooLarge r = r.took.at_end
+
+  module _ (s : Stopped) (fault : PgnFault) (kind : fault.kind ≡ Memory → ⊥) (a : Unanswered s.why u fault) (mid : X) (r : Ran comes at_hand all sound size takes limit old mid t u (Ok s)) where
+    still_there : all old → (joined r.pieces ≡ []) × all mid
+    still_there = ended_still r.pieces mid s.at s.place s.white s.why r.after
+
+    here_none : (s.why ≡ stop.End → s.white ≡ false) → (s.why ≡ stop.TooLarge → s.white ≡ false) → sound mid → NotCome comes at_hand all sound old mid
+    here_none end over well = record {
+      pieces = r.pieces;
+      came = r.came;
+      sound_still = well;
+      none = λ more none g n x. run_none r.pieces mid s.at s.place s.white more none g n x s.why fault kind r.after a;
+      dark = λ more none w. run_dark r.pieces mid s.at s.place s.white more none w s.why fault kind r.after a end over;
+      still = still_there;
+    }
+
+    -- behind white space beyond the limit
+    beyond_none : (new : X) → NotWhite comes at_hand all sound size takes s mid new → sound new → NotCome comes at_hand all sound old new
+    beyond_none new w well =
+        let pieces = r.pieces ++ w.pieces in
+        let regroup : (more : List ℕ) → at_hand old ++ (joined pieces ++ more) ≡ at_hand old ++ (joined r.pieces ++ (joined w.pieces ++ more)) =
+        λ more. ap (λ (z : List ℕ). at_hand old ++ z) (ap (λ (z : List ℕ). z ++ more) (joined-append r.pieces w.pieces) ∙ append_assoc (joined r.pieces) (joined w.pieces) more)
+        in
+        let none_before : (more : List ℕ) → (all new → more ≡ []) → all mid → joined w.pieces ++ more ≡ [] = λ more none e. let b = w.still e in ap (λ (z : List ℕ). z ++ more) b.0 ∙ none b.1 in
+        record {
+          pieces = pieces;
+          came = Calls-append comes old mid new r.pieces w.pieces r.came w.came;
+          sound_still = well;
+          none = λ more none g n x.
+              run_none r.pieces mid s.at s.place s.white (joined w.pieces ++ more) (none_before more none) g n (subst (λ (z : List ℕ). IsAtFront z g n) (regroup more) x) s.why fault kind r.after a;
+          dark = λ more none white.
+              over_dark r.pieces mid s.at s.place s.white (joined w.pieces ++ more) (none_before more none) (subst (λ (z : List ℕ). IsWhite z) (regroup more) white) (at_hand mid ++ joined w.pieces) more
+              (subst (λ (y : Stop). AfterRun comes at_hand all sound size takes limit old r.pieces mid t u s.at s.place s.white y) w.over r.after) (sym (append_assoc (at_hand mid) (joined w.pieces) more)) w.other;
+          still = λ e. let b = still_there e in let c = w.still b.1 in (joined-append r.pieces w.pieces ∙ ap (λ (z : List ℕ). z ++ joined w.pieces) b.0 ∙ c.0, c.1);
+        }
+
+  pub no_game_come : (new : X) (found : Option Stopped) (s : Stopped) (fault : PgnFault) → Passes comes at_hand all sound size takes 1048576 old new t u (Ok found) → found ≡ Some s → Unanswered s.why u fault → sound new → (fault.kind ≡ Memory) ⊎ NotCome comes at_hand all sound old new
+  no_game_come new found s fault h e a well = by (is_memory fault.kind)
+    where
+      p : Passed comes at_hand all sound size takes limit old new t u s
+      p = subst (λ (o : Option Stopped). Passes comes at_hand all sound size takes limit old new t u (Ok o)) e h
+
+      by : (fault.kind ≡ Memory) ⊎ (fault.kind ≡ Memory → ⊥) → (fault.kind ≡ Memory) ⊎ NotCome comes at_hand all sound old new
+      by (inl k) = inl k
+      by (inr k) = inr (elim p.after [
+        | inl same ↦ subst (λ (x : X). NotCome comes at_hand all sound old x) (sym same.0) (here_none s fault k a p.mid p.ran p.more same.1 (subst sound same.0 well))
+        | inr w ↦ beyond_none s fault k a p.mid p.ran new w well
+      ])
