@@ -1,16 +1,19 @@
 -- Games that are read and written one after another.
-use Rattle.std.proofs.Common.{◌≡◌, ℕ, Bool, false, List, [], ◌∷◌, ◌++◌, length, refl, sym, ap, subst, ◌∙◌, append_assoc, append-nil, Err}
-use Rattle.std.specs.Prelude.{Result, Ok, Option, Some, IfOk, IfSome}
+use Rattle.std.proofs.Common.{◌≡◌, ℕ, Bool, true, false, List, [], ◌∷◌, ◌++◌, length, refl, sym, ap, subst, ◌∙◌, append_assoc, append-nil, Err, inl, inr}
+use Rattle.std.specs.Prelude.{Result, Ok, Option, Some, IfErr, IfOk, IfSome}
 use Rattle.chess_types.specs.bytes.Calls.{Carries}
 use Rattle.chess_types.proofs.CallLemmas.{Carries-none, Carries-append}
 use Rattle.chess_pgn.specs.Games.{Game}
-use Rattle.chess_pgn.specs.Reading.{IsAtFront}
-use Rattle.chess_pgn.specs.Sources.{HasGame, HasNone, unread}
+use Rattle.chess_pgn.specs.Reading.{HasNoGame, IsAtFront, IsWhite}
+use Rattle.chess_pgn.specs.Sources.{Fails, HasFault, HasGame, HasNone, unread}
 use Rattle.chess_pgn.specs.Written.{game_text}
 use Rattle.chess_pgn.specs.steps.GameCode.{game_of}
 use Rattle.chess_pgn.specs.declared.at_hand.AtHand.{AtHand}
+use Rattle.chess_pgn.specs.declared.fault.PgnFault.{PgnFault}
 use Rattle.chess_pgn.specs.declared.game.Game.{Game as Code}
-use Rattle.chess_cli.specs.Collections.{AreGames, Collected, EndsInPart, EndsWhole, EndsWritten, games_text}
+use Rattle.chess_pgn.specs.declared.games.GamesFault.{GamesFault}
+use Rattle.chess_pgn.specs.declared.games.GamesFault.TheVariants.{Pgn}
+use Rattle.chess_cli.specs.Collections.{AreGames, Collected, EndsAtFault, EndsInPart, EndsWhole, EndsWritten, games_text}
 use Rattle.chess_cli.specs.RunEnds.{Broken}
 use Rattle.chess_cli.specs.steps.Sending.{Sent}
 use Rattle.chess_cli.specs.steps.Collecting.{Reads, SoFar, WritesAll, WritesOne}
@@ -45,15 +48,17 @@ module _ {R A : Type 0} (gives : R → List ℕ → R → Type 0) where
         (are_more (unread s ++ (r.bytes ++ (h.bytes ++ more))) games (unread m ++ (h.bytes ++ more)) h.text (unread n ++ more) game before parts (h.reads more none));
   }
 
-  collected : (s m : AtHand R A) (games : List Game) → unread s ≡ [] → Reads gives s m games → Collected gives s.source games
-  collected s m games e r = record {
-    bytes = r.bytes;
-    source = m.source;
-    came = r.came;
-    all = m.has_ended;
-    rest = unread m;
-    are = λ more none. subst (λ (z : List ℕ). AreGames (z ++ (r.bytes ++ more)) games (unread m ++ more)) e (r.are more none);
-  }
+  module _ (ended : R → Type 0) where
+    collected : (s m : AtHand R A) (games : List Game) → unread s ≡ [] → (m.has_ended ≡ true → ended m.source) → Reads gives s m games → Collected gives ended s.source games
+    collected s m games e told r = record {
+      bytes = r.bytes;
+      source = m.source;
+      came = r.came;
+      all = m.has_ended;
+      told = told;
+      rest = unread m;
+      are = λ more none. subst (λ (z : List ℕ). AreGames (z ++ (r.bytes ++ more)) games (unread m ++ more)) e (r.are more none);
+    }
 
 pub if_ok : {A E : Type 0} (P : Type 0) (result : Result A E) (x : A) → result ≡ Ok x → IfOk result (λ y. P) → P
 if_ok P result x is h = subst (λ r. IfOk r (λ y. P)) is h
@@ -62,6 +67,11 @@ if_ok P result x is h = subst (λ r. IfOk r (λ y. P)) is h
 pub read_one : {R A B E : Type 0} (gives : R → List ℕ → R → Type 0) (old new : AtHand R A) (result : Result (Option (Code B)) E) (game : Code B) → result ≡ Ok (Some game)
     → IfOk result (λ found. IfSome found (λ x. HasGame gives old new (game_of x))) → HasGame gives old new (game_of game)
 read_one gives old new result game is h = subst (λ r. IfOk r (λ found. IfSome found (λ x. HasGame gives old new (game_of x)))) is h
+
+-- what it answers, where it is a fault
+pub read_fault : {R A X : Type 0} (gives : R → List ℕ → R → Type 0) (ended : R → Type 0) (old new : AtHand R A) (result : Result X GamesFault) (fault : GamesFault) → result ≡ Err fault
+    → IfErr result (λ found. HasFault gives ended old new found) → HasFault gives ended old new fault
+read_fault gives ended old new result fault is h = subst (λ r. IfErr r (λ found. HasFault gives ended old new found)) is h
 
 -- ---- what is written
 
@@ -80,8 +90,8 @@ module _ {R W A : Type 0} (gives : R → List ℕ → R → Type 0) (ended : R �
     well_written = sent.well ∙ so_far.well_written;
   }
 
-  pub ends_written : (s m : AtHand R A) (old new : W) → unread s ≡ [] → SoFar gives ended takes failed s m old new → EndsWritten gives ended takes failed s.source old new
-  ends_written s m old new e so_far = record { games = so_far.games; reads = collected gives s m so_far.games e so_far.reads; writes = so_far.writes; well_written = so_far.well_written }
+  pub ends_written : (s m : AtHand R A) (old new : W) → unread s ≡ [] → (m.has_ended ≡ true → ended m.source) → SoFar gives ended takes failed s m old new → EndsWritten gives ended takes failed s.source old new
+  ends_written s m old new e told so_far = record { games = so_far.games; reads = collected gives ended s m so_far.games e told so_far.reads; writes = so_far.writes; well_written = so_far.well_written }
 
   -- the input has no game more
   pub ends_whole : (s m n : AtHand R A) (old new : W) → unread s ≡ [] → SoFar gives ended takes failed s m old new → HasNone gives m n → ended n.source → EndsWhole gives ended takes failed s.source old new
@@ -98,12 +108,54 @@ module _ {R W A : Type 0} (gives : R → List ℕ → R → Type 0) (ended : R �
     well_written = so_far.well_written;
   }
 
+  -- what stands behind the games is refused
+  ends_refused : (s m n : AtHand R A) (old new : W) (fault : PgnFault) → unread s ≡ [] → SoFar gives ended takes failed s m old new → Fails gives ended m n
+      → EndsAtFault gives ended takes failed fault s.source old new
+  ends_refused s m n old new fault e so_far fails = record {
+    bytes = so_far.reads.bytes ++ fails.bytes;
+    source = n.source;
+    came = Carries-append gives s.source m.source n.source so_far.reads.bytes fails.bytes so_far.reads.came fails.came;
+    all = n.has_ended;
+    told = fails.told;
+    games = so_far.games;
+    rest = unread m ++ fails.bytes;
+    are = λ more none.
+        let before = so_far.reads.are (fails.bytes ++ more) (λ h. (let still = fails.still h in ap (λ (z : List ℕ). z ++ more) still.0 ∙ none still.1)) in
+        let bare = subst (λ (z : List ℕ). AreGames (z ++ (so_far.reads.bytes ++ (fails.bytes ++ more))) so_far.games (unread m ++ (fails.bytes ++ more))) e before in
+        let whole = subst (λ (z : List ℕ). AreGames z so_far.games (unread m ++ (fails.bytes ++ more))) (sym (append_assoc so_far.reads.bytes fails.bytes more)) bare in
+        subst (λ (z : List ℕ). AreGames ((so_far.reads.bytes ++ fails.bytes) ++ more) so_far.games z) (sym (append_assoc (unread m) fails.bytes more)) whole;
+    refused = inr (λ more none.
+        let same = sym (append_assoc (unread m) fails.bytes more) in
+        (subst HasNoGame same (fails.none more none), subst (λ (z : List ℕ). IsWhite z → ⊥) same (fails.dark more none)));
+    writes = so_far.writes;
+    well_written = so_far.well_written;
+  }
+
+  pub ends_at_fault : (s m n : AtHand R A) (old new : W) (fault : PgnFault) → unread s ≡ [] → (m.has_ended ≡ true → ended m.source) → SoFar gives ended takes failed s m old new → HasFault gives ended m n (Pgn fault)
+      → EndsAtFault gives ended takes failed fault s.source old new
+  ends_at_fault s m n old new fault e told so_far (inl memory) =
+      let reads = collected gives ended s m so_far.games e told so_far.reads in
+      record {
+        bytes = reads.bytes;
+        source = reads.source;
+        came = reads.came;
+        all = reads.all;
+        told = reads.told;
+        games = so_far.games;
+        rest = reads.rest;
+        are = reads.are;
+        refused = inl memory;
+        writes = so_far.writes;
+        well_written = so_far.well_written;
+      }
+  ends_at_fault s m n old new fault e told so_far (inr fails) = ends_refused s m n old new fault e so_far fails
+
   -- a front of one more
-  broken_more : (s m n : AtHand R A) (old mid new : W) (game : Game) → unread s ≡ [] → failed old ≡ false → SoFar gives ended takes failed s m old mid → HasGame gives m n game
+  broken_more : (s m n : AtHand R A) (old mid new : W) (game : Game) → unread s ≡ [] → (n.has_ended ≡ true → ended n.source) → failed old ≡ false → SoFar gives ended takes failed s m old mid → HasGame gives m n game
       → Broken takes failed mid (game_text game) new → EndsInPart gives ended takes failed s.source old new
-  broken_more s m n old mid new game e first so_far read broken = record {
+  broken_more s m n old mid new game e told first so_far read broken = record {
     games = so_far.games ++ game ∷ [];
-    reads = collected gives s n (so_far.games ++ game ∷ []) e (reads_more gives s m n so_far.games game so_far.reads read);
+    reads = collected gives ended s n (so_far.games ++ game ∷ []) e told (reads_more gives s m n so_far.games game so_far.reads read);
     broken = record {
       front = games_text so_far.games ++ broken.front;
       rest = broken.rest;
@@ -118,10 +170,10 @@ module _ {R W A : Type 0} (gives : R → List ℕ → R → Type 0) (ended : R �
   }
 
   -- why no more is written
-  pub ends_at : (s m n : AtHand R A) (old mid new : W) (game : Game) (why : Ended) → unread s ≡ [] → failed old ≡ false → SoFar gives ended takes failed s m old mid → HasGame gives m n game
+  pub ends_at : (s m n : AtHand R A) (old mid new : W) (game : Game) (why : Ended) → unread s ≡ [] → (m.has_ended ≡ true → ended m.source) → (n.has_ended ≡ true → ended n.source) → failed old ≡ false → SoFar gives ended takes failed s m old mid → HasGame gives m n game
       → WritesOne takes failed {X = Unit {0}} (game_text game) mid new (Err why) → WritesAll gives ended takes failed s.source old new why
-  ends_at s m n old mid new game Good e first so_far read wrote = absurd wrote
-  ends_at s m n old mid new game (Input fault) e first so_far read wrote = absurd wrote
-  ends_at s m n old mid new game ReadFault e first so_far read wrote = absurd wrote
-  ends_at s m n old mid new game WriteFault e first so_far read wrote = broken_more s m n old mid new game e first so_far read wrote
-  ends_at s m n old mid new game Memory e first so_far read wrote = subst (λ (w : W). EndsWritten gives ended takes failed s.source old w) (sym wrote) (ends_written s m old mid e so_far)
+  ends_at s m n old mid new game Good e told still first so_far read wrote = absurd wrote
+  ends_at s m n old mid new game (Input fault) e told still first so_far read wrote = absurd wrote
+  ends_at s m n old mid new game ReadFault e told still first so_far read wrote = absurd wrote
+  ends_at s m n old mid new game WriteFault e told still first so_far read wrote = broken_more s m n old mid new game e still first so_far read wrote
+  ends_at s m n old mid new game Memory e told still first so_far read wrote = subst (λ (w : W). EndsWritten gives ended takes failed s.source old w) (sym wrote) (ends_written s m old mid e told so_far)

@@ -17,3 +17,4 @@ pub mod EventLemmas
 pub mod WorkLemmas
 pub mod SittingLemmas
 pub mod CollectionLemmas
+pub mod AgainLemmas

@@ -4,12 +4,15 @@
 --   Collected     these games stand so at the front of what a source gave, whatever it gives next
 --   EndsWritten   they are written whole, and nothing else; no call failed
 --   EndsWhole     so they are, and what is left of the input is white
+--   EndsAtFault   so they are, and behind them stands no game, and not white alone, whatever comes next; or there was no memory
 --   EndsInPart    a write failed or took no byte, and was the last call: a front of the games is written
-use Rattle.std.specs.Prelude.{◌≡◌, ℕ, Bool, true, false, List, [], ◌∷◌, ◌++◌, length}
+use Rattle.std.specs.Prelude.{◌≡◌, ◌⊎◌, ℕ, Bool, true, false, List, [], ◌∷◌, ◌++◌, length}
 use Rattle.chess_types.specs.bytes.Calls.{Carries}
 use Rattle.chess_pgn.specs.Games.{Game}
-use Rattle.chess_pgn.specs.Reading.{IsAtFront, IsWhite}
+use Rattle.chess_pgn.specs.Reading.{HasNoGame, IsAtFront, IsWhite}
 use Rattle.chess_pgn.specs.Written.{game_text}
+use Rattle.chess_pgn.specs.declared.fault.FaultKind.TheVariants.{Memory}
+use Rattle.chess_pgn.specs.declared.fault.PgnFault.{PgnFault}
 use Rattle.chess_cli.specs.RunEnds.{Broken}
 
 abbrev pub games_text : List Game → List ℕ
@@ -21,19 +24,20 @@ AreGames input [] rest = input ≡ rest
 AreGames input (game ∷ games) rest =
     (text others : List ℕ) × (input ≡ text ++ others) × IsAtFront input game (length text) × AreGames others games rest
 
--- where all of the input was given, nothing comes next
-pub record Collected {R : Type 0} (gives : R → List ℕ → R → Type 0) (reader : R) (games : List Game) : Type 0 where
+-- where all of the input was given, nothing comes next, and the source has ended
+pub record Collected {R : Type 0} (gives : R → List ℕ → R → Type 0) (ended : R → Type 0) (reader : R) (games : List Game) : Type 0 where
   pub bytes : List ℕ
   pub source : R
   pub came : Carries gives reader bytes source
   pub all : Bool
+  pub told : all ≡ true → ended source
   pub rest : List ℕ
   pub are : (more : List ℕ) → (all ≡ true → more ≡ []) → AreGames (bytes ++ more) games (rest ++ more)
 
 module _ {R W : Type 0} (gives : R → List ℕ → R → Type 0) (ended : R → Type 0) (takes : W → List ℕ → W → Type 0) (failed : W → Bool) where
   pub record EndsWritten (reader : R) (old new : W) : Type 0 where
     pub games : List Game
-    pub reads : Collected gives reader games
+    pub reads : Collected gives ended reader games
     pub writes : Carries takes old (games_text games) new
     pub well_written : failed new ≡ false
 
@@ -49,7 +53,20 @@ module _ {R W : Type 0} (gives : R → List ℕ → R → Type 0) (ended : R →
     pub writes : Carries takes old (games_text games) new
     pub well_written : failed new ≡ false
 
+  pub record EndsAtFault (fault : PgnFault) (reader : R) (old new : W) : Type 0 where
+    pub bytes : List ℕ
+    pub source : R
+    pub came : Carries gives reader bytes source
+    pub all : Bool
+    pub told : all ≡ true → ended source
+    pub games : List Game
+    pub rest : List ℕ
+    pub are : (more : List ℕ) → (all ≡ true → more ≡ []) → AreGames (bytes ++ more) games (rest ++ more)
+    pub refused : (fault.kind ≡ Memory) ⊎ ((more : List ℕ) → (all ≡ true → more ≡ []) → HasNoGame (rest ++ more) × (IsWhite (rest ++ more) → ⊥))
+    pub writes : Carries takes old (games_text games) new
+    pub well_written : failed new ≡ false
+
   pub record EndsInPart (reader : R) (old new : W) : Type 0 where
     pub games : List Game
-    pub reads : Collected gives reader games
+    pub reads : Collected gives ended reader games
     pub broken : Broken takes failed old (games_text games) new

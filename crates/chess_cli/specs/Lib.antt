@@ -11,5 +11,6 @@ pub mod RunEnds
 pub mod Sittings
 pub mod Endings
 pub mod Collections
+pub mod Laws
 pub mod ExitStatus
 pub mod steps

@@ -4,7 +4,7 @@ ghost use Rattle.chess_pgn.specs.declared.fault.PgnFault.{PgnFault};
 ghost use Rattle.chess_pgn.specs.steps.GameCode.{game_of};
 ghost use Rattle.chess_pgn.specs.steps.Next.{IsSound};
 ghost use Rattle.chess_pgn.specs.Sources.{unread};
-ghost use Rattle.chess_cli.specs.Collections.{EndsInPart, EndsWhole, EndsWritten};
+ghost use Rattle.chess_cli.specs.Collections.{EndsAtFault, EndsInPart, EndsWhole, EndsWritten};
 ghost use Rattle.chess_cli.specs.steps.Collecting.{WritesAll, WritesOne};
 
 use super::ended::Ended;
@@ -41,6 +41,7 @@ fn write_games<'a, A: Allocator, R: Source, W: Sink>(
     writer: &mut W,
 ) -> Ended
     requires sound { IsSound R.ended games.old }
+    requires none { games.old.fault ≡ None }
     requires nothing { unread games.old.text ≡ [] }
     requires writer { W.failed writer.old ≡ false }
     ensures { WritesAll R.gives R.ended W.takes W.failed games.old.text.source writer.old writer.new result }
@@ -62,14 +63,15 @@ fn write_games<'a, A: Allocator, R: Source, W: Sink>(
 
 /// Reads the games of the reader one after another, and writes each in export form (PGN 3.2) on the writer before it reads the next.
 ///
-/// `Good`: the input has ended, and all its games are written. `Input`: what stands at the fault's place is no game; those before it are
-/// written. `ReadFault`: a read failed, or there were 2^40; the games before are written. `WriteFault`: a write failed or took no byte,
-/// and a front of the games is written. `Memory`: there was none for the text of a game; those before it are written.
+/// `Good`: the input has ended, and all its games are written. `Input`: the games before the fault are written, and no game stands behind
+/// them, whatever comes next, and not white alone; of kind `Memory`, there was none to read on. `ReadFault`: a read failed, or there were
+/// 2^40; the games before are written. `WriteFault`: a write failed or took no byte, and a front of the games is written. `Memory`: there
+/// was none for the text of a game; those before it are written.
 pub fn pgn<A: Allocator, R: Source + Drop, W: Sink>(alloc: A, reader: R, writer: &mut W) -> Ended
     requires reader { R.failed reader ≡ false }
     requires writer { W.failed writer.old ≡ false }
     ensures good { result ≡ Ended.Good → EndsWhole R.gives R.ended W.takes W.failed reader writer.old writer.new }
-    ensures input { (fault : PgnFault) → result ≡ Ended.Input fault → EndsWritten R.gives R.ended W.takes W.failed reader writer.old writer.new }
+    ensures input { (fault : PgnFault) → result ≡ Ended.Input fault → EndsAtFault R.gives R.ended W.takes W.failed fault reader writer.old writer.new }
     ensures read_fault { result ≡ Ended.ReadFault → EndsWritten R.gives R.ended W.takes W.failed reader writer.old writer.new }
     ensures write_fault { result ≡ Ended.WriteFault → EndsInPart R.gives R.ended W.takes W.failed reader writer.old writer.new }
     ensures memory { result ≡ Ended.Memory → EndsWritten R.gives R.ended W.takes W.failed reader writer.old writer.new }

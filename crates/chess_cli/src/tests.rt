@@ -6,6 +6,7 @@ mod long;
 mod paths;
 mod sessions;
 mod tree;
+mod unending;
 
 use crate::keys::key_table;
 use crate::machine::Board;

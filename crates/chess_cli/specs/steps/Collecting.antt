@@ -8,7 +8,7 @@ use Rattle.chess_types.specs.bytes.Calls.{Carries}
 use Rattle.chess_pgn.specs.Games.{Game}
 use Rattle.chess_pgn.specs.Sources.{unread}
 use Rattle.chess_pgn.specs.declared.at_hand.AtHand.{AtHand}
-use Rattle.chess_cli.specs.Collections.{AreGames, EndsInPart, EndsWhole, EndsWritten, games_text}
+use Rattle.chess_cli.specs.Collections.{AreGames, EndsAtFault, EndsInPart, EndsWhole, EndsWritten, games_text}
 use Rattle.chess_cli.specs.RunEnds.{Broken}
 use Rattle.chess_cli.specs.steps.Sending.{Sent}
 use Rattle.chess_cli.specs.declared.ended.Ended.{Ended}
@@ -37,7 +37,7 @@ module _ {R W : Type 0} (gives : R → List ℕ → R → Type 0) (ended : R →
 
   abbrev pub WritesAll : R → W → W → Ended → Type 0
   WritesAll reader old new Good = EndsWhole gives ended takes failed reader old new
-  WritesAll reader old new (Input fault) = EndsWritten gives ended takes failed reader old new
+  WritesAll reader old new (Input fault) = EndsAtFault gives ended takes failed fault reader old new
   WritesAll reader old new ReadFault = EndsWritten gives ended takes failed reader old new
   WritesAll reader old new WriteFault = EndsInPart gives ended takes failed reader old new
   WritesAll reader old new Memory = EndsWritten gives ended takes failed reader old new

@@ -1,6 +1,6 @@
 //! Games that are read and written, and the game of the board.
 use super::assert_answers;
-use crate::{Ended, pgn};
+use crate::{Ended, collection_laws, pgn};
 use chess_pgn::{FaultKind, PgnFault};
 use chess_types::{FromBytes, Refusal, ToBytes};
 use std::test::Fail;
@@ -45,6 +45,16 @@ fn writes_what_it_reads(rt: HostRuntime) -> Result<(), Fail> {
         assert_eq!(rt; writer.taken(), OUTPUT, "in pieces of {piece}");
     }
     Ok(())
+}
+
+#[test]
+fn what_is_written_is_read_as_it_is(rt: HostRuntime) {
+    collection_laws();
+    let mut room = [0; 400];
+    let mut writer = ToBytes::new(&mut room, 400);
+    let ended = pgn(rt.alloc(), FromBytes::new(OUTPUT, 100), &mut writer);
+    assert_eq!(rt; ended, Ended::Good);
+    assert_eq!(rt; writer.taken(), OUTPUT);
 }
 
 /// The games before a fault are written.

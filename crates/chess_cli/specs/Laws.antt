@@ -1,0 +1,23 @@
+-- What holds of games that are written one behind the other.
+--   CanBeRead       a game whose text isn't too long to be read, nor its variations too deep
+--   WrittenAreRead  such games are read again, in their order, and only white space is left
+--   ReadAreGames    what is read one behind the other are games, and their variations not too deep
+use Rattle.std.specs.Prelude.{ℕ, ◌≤◌, false, List, length}
+use Rattle.std.specs.List.{AllByRecursion}
+use Rattle.chess_pgn.specs.Games.{Game}
+use Rattle.chess_pgn.specs.Laws.{IsGame, nesting}
+use Rattle.chess_pgn.specs.Reading.{IsWhite}
+use Rattle.chess_pgn.specs.Written.{game_text}
+use Rattle.chess_cli.specs.Collections.{AreGames, games_text}
+
+abbrev pub IsShallow : Game → Type 0
+IsShallow game = IsGame game × (nesting false game.tree.below ≤ 128)
+
+abbrev pub CanBeRead : Game → Type 0
+CanBeRead game = IsShallow game × (length (game_text game) ≤ 1048576)
+
+abbrev pub WrittenAreRead : Type 0
+WrittenAreRead = (games : List Game) → AllByRecursion CanBeRead games → (rest : List ℕ) × IsWhite rest × AreGames (games_text games) games rest
+
+abbrev pub ReadAreGames : Type 0
+ReadAreGames = (input : List ℕ) (games : List Game) (rest : List ℕ) → AreGames input games rest → AllByRecursion IsShallow games
