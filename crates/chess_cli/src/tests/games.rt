@@ -122,3 +122,34 @@ refused 7 Argument
 ";
     assert_answers(&rt, rt.alloc(), input, output);
 }
+
+#[test]
+fn tells_the_notes_of_a_game(rt: HostRuntime) {
+    let input =
+        b"new\nplay e4\nnag 1\ncomment a  b\nplay e5\nstart\nend\npath\ngoto 0\npath\ncomment }\ngoto 0.1\npgn\n";
+    let output = b"\
+ok
+ok
+ok
+ok
+ok
+ok
+ok
+0.0
+ok
+0
+refused 4 BadComment
+refused 1 NoSuch
+[Event \"?\"]
+[Site \"?\"]
+[Date \"????.??.??\"]
+[Round \"?\"]
+[White \"?\"]
+[Black \"?\"]
+[Result \"*\"]
+
+1. e4 $1 {a b} 1... e5 *
+
+";
+    assert_answers(&rt, rt.alloc(), input, output);
+}
