@@ -1,6 +1,7 @@
--- How a run of the board ends, and one of a session.
---   BoardEnds    the board's answers to the lines that were read are written
---   SittingEnds  so are a session's replies
+-- How a run of the board ends, one of a session, and one over a collection of games.
+--   BoardEnds       the board's answers to the lines that were read are written
+--   SittingEnds     so are a session's replies
+--   CollectionEnds  so are the games that were read
 use Rattle.std.specs.Prelude.{◌≡◌, ◌≢◌, ◌⊎◌, ℕ, Bool, List}
 use Rattle.chess_tree.specs.GameTree.{TreeParts}
 use Rattle.chess_pgn.specs.declared.fault.PgnFault.{PgnFault}
@@ -8,6 +9,7 @@ use Rattle.chess_cli.specs.declared.ended.Ended.{Ended}
 use Rattle.chess_cli.specs.declared.ended.Ended.TheVariants.{Good, Input, ReadFault, WriteFault, Memory}
 use Rattle.chess_cli.specs.declared.sitting.Sitting.{Sitting}
 use Rattle.chess_cli.specs.Answers.{Answers, beginning}
+use Rattle.chess_cli.specs.Collections.{EndsAtFault, EndsInPart, EndsWhole, EndsWritten}
 use Rattle.chess_cli.specs.Runs.{Runs, Partly}
 use Rattle.chess_cli.specs.RunEnds.{EndsGood, EndsOver, EndsReadFault, EndsWriteFault, most_reads}
 use Rattle.chess_cli.specs.Sittings.{Answered, AnsweredInPart, beginning_with, has_ended}
@@ -32,3 +34,11 @@ module _ {R W : Type 0} (gives : R → List ℕ → R → Type 0) (read_failed :
         × EndsWriteFault (Partly (Answered reads) (AnsweredInPart reads)) (beginning_with clock) gives read_failed takes write_failed ended last r r' w w'
     pub memory : result ≡ Memory → (r' ≡ r) × (w' ≡ w)
     pub input : (fault : PgnFault) → result ≢ Input fault
+
+module _ {R W : Type 0} (gives : R → List ℕ → R → Type 0) (ended : R → Type 0) (takes : W → List ℕ → W → Type 0) (write_failed : W → Bool) where
+  pub record CollectionEnds (result : Ended) (r : R) (w w' : W) : Type 0 where
+    pub good : result ≡ Good → EndsWhole gives ended takes write_failed r w w'
+    pub input : (fault : PgnFault) → result ≡ Input fault → EndsAtFault gives ended takes write_failed fault r w w'
+    pub read_fault : result ≡ ReadFault → EndsWritten gives ended takes write_failed r w w'
+    pub write_fault : result ≡ WriteFault → EndsInPart gives ended takes write_failed r w w'
+    pub memory : result ≡ Memory → EndsWritten gives ended takes write_failed r w w'

@@ -1,15 +1,15 @@
 ghost use Rattle.std.specs.Prelude.{◌≡◌, [], false, None};
 ghost use Rattle.chess_pgn.specs.Written.{game_text};
-ghost use Rattle.chess_pgn.specs.declared.fault.PgnFault.{PgnFault};
 ghost use Rattle.chess_pgn.specs.steps.GameCode.{game_of};
 ghost use Rattle.chess_pgn.specs.steps.Next.{IsSound};
 ghost use Rattle.chess_pgn.specs.Sources.{unread};
-ghost use Rattle.chess_cli.specs.Collections.{EndsAtFault, EndsInPart, EndsWhole, EndsWritten};
+ghost use Rattle.chess_cli.specs.Endings.{CollectionEnds};
 ghost use Rattle.chess_cli.specs.steps.Collecting.{WritesAll, WritesOne};
 
 use super::ended::Ended;
 use super::keys::key_table;
 use super::write::write_all;
+use chess_key::KeyTable;
 use chess_pgn::{Game, Games, GamesFault, write_game};
 use chess_types::{Sink, Source};
 use std::alloc::Allocator;
@@ -70,13 +70,22 @@ fn write_games<'a, A: Allocator, R: Source, W: Sink>(
 pub fn pgn<A: Allocator, R: Source + Drop, W: Sink>(alloc: A, reader: R, writer: &mut W) -> Ended
     requires reader { R.failed reader ≡ false }
     requires writer { W.failed writer.old ≡ false }
-    ensures good { result ≡ Ended.Good → EndsWhole R.gives R.ended W.takes W.failed reader writer.old writer.new }
-    ensures input { (fault : PgnFault) → result ≡ Ended.Input fault → EndsAtFault R.gives R.ended W.takes W.failed fault reader writer.old writer.new }
-    ensures read_fault { result ≡ Ended.ReadFault → EndsWritten R.gives R.ended W.takes W.failed reader writer.old writer.new }
-    ensures write_fault { result ≡ Ended.WriteFault → EndsInPart R.gives R.ended W.takes W.failed reader writer.old writer.new }
-    ensures memory { result ≡ Ended.Memory → EndsWritten R.gives R.ended W.takes W.failed reader writer.old writer.new }
+    ensures { CollectionEnds R.gives R.ended W.takes W.failed result reader writer.old writer.new }
 {
-    let table = key_table();
-    let mut games = Games::new(&alloc, &table, reader);
+    pgn_with(alloc, reader, writer, &key_table())
+}
+
+/// `pgn` with keys by the table of the caller. What is written doesn't depend on it.
+pub fn pgn_with<A: Allocator, R: Source + Drop, W: Sink>(
+    alloc: A,
+    reader: R,
+    writer: &mut W,
+    table: &KeyTable,
+) -> Ended
+    requires reader { R.failed reader ≡ false }
+    requires writer { W.failed writer.old ≡ false }
+    ensures { CollectionEnds R.gives R.ended W.takes W.failed result reader writer.old writer.new }
+{
+    let mut games = Games::new(&alloc, table, reader);
     write_games(&alloc, &mut games, writer)
 }

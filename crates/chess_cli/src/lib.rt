@@ -31,7 +31,7 @@ mod unfinished;
 mod write;
 
 pub use clock::Clock;
-pub use collection::pgn;
+pub use collection::{pgn, pgn_with};
 pub use ended::Ended;
 pub use laws::collection_laws;
 pub use over_bytes::board_over_bytes;

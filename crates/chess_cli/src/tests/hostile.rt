@@ -1,7 +1,7 @@
 //! Other key tables, little memory, and lines up to the limit.
 use super::sessions::STOPPED;
 use super::{Letters, games};
-use crate::{Ended, board, board_with, pgn, uci, uci_with};
+use crate::{Ended, board, board_with, pgn, pgn_with, uci, uci_with};
 use chess_key::KeyTable;
 use chess_types::{FromBytes, ToBytes};
 use linked_list_allocator::LocalHeap;
@@ -67,6 +67,21 @@ fn any_keys_serve_a_session(rt: HostRuntime) {
             Ended::Good
         );
         assert_eq!(rt; writer.taken(), REPLIES);
+    }
+}
+
+#[test]
+fn any_keys_serve_games(rt: HostRuntime) {
+    for word in [0, u64::MAX] {
+        let mut room = [0; 400];
+        let mut writer = ToBytes::new(&mut room, 400);
+        let reader = FromBytes::new(games::INPUT, 400);
+        let table = KeyTable::new([word; 768]);
+        assert_eq!(rt;
+            pgn_with(rt.alloc(), reader, &mut writer, &table),
+            Ended::Good
+        );
+        assert_eq!(rt; writer.taken(), games::OUTPUT);
     }
 }
 
