@@ -1,5 +1,5 @@
 -- The first man on one half decides what is opened or closed on the other.
-use Rattle.std.proofs.Common.{◌≡◌, ℕ, true, false, ◌&&◌, Some, None, is_some, refl, sym, ap, ◌∙◌, inl, inr}
+use Rattle.std.proofs.Common.{◌≡◌, ℕ, true, false, ◌&&◌, Option, Some, None, is_some, refl, sym, ap, ◌∙◌, inl, inr}
 use Rattle.std.proofs.Common.{None, ◌<◌, ltb, nat_eq}
 use Rattle.std.specs.Ordering.{nat_cmp}
 use Rattle.std.specs.FinSet.{FinSet, contains, intersection, empty, len, contains-intersection, contains-empty, empty_of_len}
@@ -22,7 +22,7 @@ use Rattle.chess_types.specs.board.Attack.{slides}
 use Rattle.chess_attack.specs.declared.way.Way.{Way}
 use Rattle.chess_attack.specs.steps.Halves.{opposite}
 use Rattle.chess_attack.specs.steps.Marks.{swept}
-use Rattle.chess_attack.specs.steps.Through.{IsFirstAt, IsBare, movers, is_attacked_along, cut_on}
+use Rattle.chess_attack.specs.steps.Through.{IsFirstAt, IsBare, movers, is_slider, is_attacked_along, cut_on}
 use Rattle.chess_attack.proofs.Axes.{between_from, Towards, half_parts}
 use Rattle.chess_attack.proofs.Clear.{clear_at}
 use Rattle.chess_attack.proofs.Cuts.{IsSeen, seen_from, seen_parts}
@@ -67,6 +67,14 @@ seen_is look axis way at f m c first holds = same_test _ _
     let e : m ≡ n = cc in
     rw e (and_from _ _ seen.mine seen.moves))
     (λ h. seen_from look axis way at c f first.on_board (and_from _ _ first.half first.clear) (rw holds h))
+
+pub first_sees : (look : Look) (axis : Axis) (way : Way) (at f : ℕ) (c : Colour) → IsFirstAt look axis way at f →
+    is_attacked_along look axis way at c ≡ is_slider (look f) axis c
+first_sees look axis way at f c first = by_man (look f) refl
+  where
+    by_man : (there : Option Man) → look f ≡ there → is_attacked_along look axis way at c ≡ is_slider there axis c
+    by_man None none = absurd (true≢false (sym first.holds ∙ ap is_some none))
+    by_man (Some man) some = seen_is look axis way at f man c first some
 
 -- and on a bare half nothing is seen
 pub seen_bare :

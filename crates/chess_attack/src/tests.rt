@@ -2,39 +2,19 @@ mod attacking;
 mod following;
 
 use crate::{Counts, in_check};
-use chess_types::{Colour, Kind, Man, Placement, Square};
+use chess_types::{Colour, Man, Placement, Position, Square};
 use std::process::Abort;
 
-/// The man of a letter, as FEN writes it; any other byte is an empty square.
-fn man_of(letter: u8) -> Option<Man> {
-    let kind = match letter.to_ascii_lowercase() {
-        b'p' => Kind::Pawn,
-        b'n' => Kind::Knight,
-        b'b' => Kind::Bishop,
-        b'r' => Kind::Rook,
-        b'q' => Kind::Queen,
-        b'k' => Kind::King,
-        _ => return None,
-    };
-    let colour = if letter.is_ascii_uppercase() {
-        Colour::White
-    } else {
-        Colour::Black
-    };
-    Some(Man { colour, kind })
-}
-
-/// The board of a diagram, whose first row is the eighth rank.
-fn board(rt: &impl Abort, diagram: [&[u8; 8]; 8]) -> Placement {
+/// The board of men such as `Ke1`, a letter as FEN writes it and a square, parted by spaces.
+fn board(rt: &impl Abort, men: &str) -> Placement {
     let mut placement = Placement::empty();
-    for number in 0..64u8 {
-        let square = Square::from_index(number);
-        let letter = diagram[7 - square.rank() as usize][square.file() as usize];
-        if let Some(man) = man_of(letter) {
-            assert!(rt; placement.get(square).is_none());
-            assert!(rt; placement.men(man.colour) < 16);
-            placement.put(square, man);
-        }
+    for name in men.as_bytes().split(|byte| *byte == b' ') {
+        assert!(rt; name.len() == 3);
+        let man = Man::of_letter(name[0]).expect(rt, "a man's letter");
+        let square = Square::parse(&name[1..]).expect(rt, "a square's name");
+        assert!(rt; placement.get(square).is_none());
+        assert!(rt; placement.men(man.colour) < 16);
+        placement.put(square, man);
     }
     placement
 }
@@ -49,25 +29,13 @@ fn row(rt: &impl Abort, counts: &Counts, colour: Colour, rank: u8) -> [u8; 8] {
     row
 }
 
-fn start(rt: &impl Abort) -> Placement {
-    board(
-        rt,
-        [
-            b"rnbqkbnr",
-            b"pppppppp",
-            b"........",
-            b"........",
-            b"........",
-            b"........",
-            b"PPPPPPPP",
-            b"RNBQKBNR",
-        ],
-    )
+fn start() -> Placement {
+    Position::start().into_setup().placement
 }
 
 #[test]
 fn start_position(rt: HostRuntime) {
-    let counts = Counts::of(&start(&rt));
+    let counts = Counts::of(&start());
     let first = [0, 1, 1, 1, 1, 1, 1, 0];
     let second = [1, 1, 1, 4, 4, 1, 1, 1];
     let third = [2, 2, 3, 2, 2, 3, 2, 2];
@@ -83,7 +51,7 @@ fn start_position(rt: HostRuntime) {
     for rank in 0..5u8 {
         assert_eq!(rt; row(&rt, &counts, Colour::Black, rank), [0; 8]);
     }
-    assert!(rt; !in_check(&start(&rt), Colour::White));
+    assert!(rt; !in_check(&start(), Colour::White));
 }
 
 #[test]
@@ -98,19 +66,7 @@ fn empty_board(rt: HostRuntime) {
 
 #[test]
 fn up_to_and_with_the_first_man(rt: HostRuntime) {
-    let counts = Counts::of(&board(
-        &rt,
-        [
-            b"........",
-            b"........",
-            b"........",
-            b"........",
-            b"........",
-            b"........",
-            b"........",
-            b"R..N.p..",
-        ],
-    ));
+    let counts = Counts::of(&board(&rt, "Ra1 Nd1 pf1"));
     // the rook attacks its knight, and nothing beyond it; the knight none of this rank
     assert_eq!(rt;
         row(&rt, &counts, Colour::White, 0),
@@ -128,19 +84,7 @@ fn up_to_and_with_the_first_man(rt: HostRuntime) {
 
 #[test]
 fn checks(rt: HostRuntime) {
-    let checked = board(
-        &rt,
-        [
-            b"....k...",
-            b"........",
-            b"........",
-            b"........",
-            b"........",
-            b"........",
-            b"........",
-            b"....R.K.",
-        ],
-    );
+    let checked = board(&rt, "ke8 Re1 Kg1");
     assert!(rt; in_check(&checked, Colour::Black));
     assert!(rt; !in_check(&checked, Colour::White));
 }

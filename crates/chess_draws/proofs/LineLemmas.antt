@@ -74,34 +74,22 @@ pub here_well_formed : {start : State} {plies : List Ply} {live : LiveParts} {he
 here_well_formed {start} {plies} {live} line =
     subst IsWellFormed (sym line.last_is) (plies_well_formed start plies line.well_formed line.are_plies)
 
--- its counters are small
+-- a counter that a move adds at most one to is small
+counted : (counter : State → ℕ) → ((p : State) (ms : List MoveParts) → counter (play p ms) ≤ counter p + length ms) →
+    {start : State} {plies looked : List Ply} {live : LiveParts} {here : Stand} → IsHeld start plies looked live here → counter start ≤ 99999 →
+    counter live.position ≤ 119999 + length looked
+counted counter grows {start} {plies} {looked} {live} held small =
+    let same : counter live.position ≡ counter (play start (map move_of (plies ++ looked))) = ap counter held.line.last_is in
+    omega (arith, same, grows start (map move_of (plies ++ looked)), small, held.few, length-map (plies ++ looked) move_of, length-append plies looked)
+
+-- both counters are
 pub here_clock : {start : State} {plies looked : List Ply} {live : LiveParts} {here : Stand} → IsHeld start plies looked live here →
     live.position.clock ≤ 119999 + length looked
-here_clock {start} {plies} {looked} {live} held =
-    let same : live.position.clock ≡ (play start (map move_of (plies ++ looked))).clock = ap (λ (s : State). s.clock) held.line.last_is in
-    omega (
-      arith,
-      same,
-      clock_on start (map move_of (plies ++ looked)),
-      held.line.clock,
-      held.few,
-      length-map (plies ++ looked) move_of,
-      length-append plies looked,
-    )
+here_clock held = counted (λ (s : State). s.clock) clock_on held held.line.clock
 
 pub here_number : {start : State} {plies looked : List Ply} {live : LiveParts} {here : Stand} → IsHeld start plies looked live here →
     live.position.number ≤ 119999 + length looked
-here_number {start} {plies} {looked} {live} held =
-    let same : live.position.number ≡ (play start (map move_of (plies ++ looked))).number = ap (λ (s : State). s.number) held.line.last_is in
-    omega (
-      arith,
-      same,
-      number_on start (map move_of (plies ++ looked)),
-      held.line.number,
-      held.few,
-      length-map (plies ++ looked) move_of,
-      length-append plies looked,
-    )
+here_number held = counted (λ (s : State). s.number) number_on held held.line.number
 
 -- and far below a million
 pub clock_fits : {start : State} {plies looked : List Ply} {live : LiveParts} {here : Stand} → IsHeld start plies looked live here →

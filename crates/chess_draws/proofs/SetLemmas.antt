@@ -55,39 +55,27 @@ pawns_left occupied straight diagonal kings rest look are_occupied are_straight 
     ∙ (λ i. are_occupied s i && not ((are_straight s i || are_diagonal s i) || are_kings s i)) in
     ap (λ b. b && holds_pawn (look s)) (listed rest s (below s) ∙ there) ∙ left (look s)
 
--- the kings of both colours
+-- two sets as one, by a test that holds where either does
+pub both_gather : (f g h : Option Man → Bool) (a b both : FinSet nat_cmp) (look : Look) → Gathers a f look → Gathers b g look →
+    ((there : Option Man) → (f there || g there) ≡ h there) → both ≡ union a b → Gathers both h look
+both_gather f g h a b both look are_a are_b either is s =
+    ap (λ (x : FinSet nat_cmp). contains x s) is ∙ contains-union nat_cmp_total a b s ∙ (λ i. are_a s i || are_b s i) ∙ either (look s)
+
 king_of_either : (c : Colour) (king : Bool) → ((same_colour c White && king) || (same_colour c Black && king)) ≡ king
 king_of_either White true = refl
 king_of_either White false = refl
 king_of_either Black true = refl
 king_of_either Black false = refl
 
-kings_there : (there : Option Man) → (is_king_of White there || is_king_of Black there) ≡ holds_king there
+-- the kings of both colours
+pub kings_there : (there : Option Man) → (is_king_of White there || is_king_of Black there) ≡ holds_king there
 kings_there None = refl
 kings_there (Some man) = king_of_either man.colour (is_king man.kind)
 
-pub kings_both : (white black both : FinSet nat_cmp) (look : Look) → Gathers white (is_king_of White) look → Gathers black (is_king_of Black) look →
-    both ≡ union white black → Gathers both holds_king look
-kings_both white black both look are_white are_black is s =
-    ap (λ (x : FinSet nat_cmp). contains x s) is ∙ contains-union nat_cmp_total white black s ∙ (λ i. are_white s i || are_black s i)
-    ∙ kings_there (look s)
-
-straight_or_king : (there : Option Man) → (holds_straight there || holds_king there) ≡ holds_straight_or_king there
+pub straight_or_king : (there : Option Man) → (holds_straight there || holds_king there) ≡ holds_straight_or_king there
 straight_or_king None = refl
 straight_or_king (Some man) = refl
 
-pub straight_kings : (straight kings both : FinSet nat_cmp) (look : Look) → Gathers straight holds_straight look → Gathers kings holds_king look →
-    both ≡ union straight kings → Gathers both holds_straight_or_king look
-straight_kings straight kings both look are_straight are_kings is s =
-    ap (λ (x : FinSet nat_cmp). contains x s) is ∙ contains-union nat_cmp_total straight kings s ∙ (λ i. are_straight s i || are_kings s i)
-    ∙ straight_or_king (look s)
-
-pawn_or_king : (there : Option Man) → (holds_pawn there || holds_king there) ≡ holds_short there
+pub pawn_or_king : (there : Option Man) → (holds_pawn there || holds_king there) ≡ holds_short there
 pawn_or_king None = refl
 pawn_or_king (Some man) = refl
-
-pub pawns_kings : (pawns kings both : FinSet nat_cmp) (look : Look) → Gathers pawns holds_pawn look → Gathers kings holds_king look →
-    both ≡ union pawns kings → Gathers both holds_short look
-pawns_kings pawns kings both look are_pawns are_kings is s =
-    ap (λ (x : FinSet nat_cmp). contains x s) is ∙ contains-union nat_cmp_total pawns kings s ∙ (λ i. are_pawns s i || are_kings s i)
-    ∙ pawn_or_king (look s)

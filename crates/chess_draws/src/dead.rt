@@ -1,30 +1,26 @@
-ghost use Rattle.std.specs.Prelude.{◌≡◌, length, not};
+ghost use Rattle.std.specs.Prelude.{◌≡◌, ◌<◌, ℕ, filter, not};
 ghost use Rattle.std.specs.List.{list_all};
+ghost use Rattle.std.specs.FinSet.{contains};
+ghost use Rattle.chess_types.specs.steps.KeptSets.{Gathers};
 ghost use Rattle.chess_types.specs.board.Squares.{squares};
 ghost use Rattle.chess_types.specs.board.Board.{man_at};
-ghost use Rattle.chess_types.specs.board.Position.{look};
-ghost use Rattle.chess_types.specs.board.Dead.{is_other, holds_bishop, holds_minor, is_light, others, is_lone_minor, is_one_coloured, is_dead};
+ghost use Rattle.chess_types.specs.board.Dead.{holds_bishop, holds_minor, is_light, others, is_lone_minor, is_one_coloured, is_dead};
 
-use chess_types::{Kind, Man, Placement, Setup, Square};
+use chess_types::{Colour, Kind, Man, Placement, Setup, SquareSet};
 
-// Whether a man other than a king stands there.
-fn is_other(there: Option<Man>) -> bool
-    ensures { result ≡ is_other there }
+// The squares of the men other than kings.
+fn others(men: &Placement) -> SquareSet
+    ensures { filter (contains result) squares ≡ others (man_at men.now) }
 {
-    match there {
-        None => false,
-        Some(man) => man.kind != Kind::King,
-    }
+    let kings = men.king(Colour::White).union(men.king(Colour::Black));
+    men.occupied().difference(kings)
 }
 
-// Whether a bishop stands there.
-fn holds_bishop(there: Option<Man>) -> bool
-    ensures { result ≡ holds_bishop there }
+// The squares of the bishops.
+fn bishops(men: &Placement) -> SquareSet
+    ensures { Gathers result holds_bishop (man_at men.now) }
 {
-    match there {
-        None => false,
-        Some(man) => man.kind == Kind::Bishop,
-    }
+    men.diagonal().difference(men.straight())
 }
 
 // Whether a bishop or a knight stands there.
@@ -37,71 +33,53 @@ fn holds_minor(there: Option<Man>) -> bool
     }
 }
 
-// Whether the square is one of the light ones.
-fn is_light(square: Square) -> bool
-    ensures { result ≡ is_light square }
+// The light squares, h1 among them.
+fn light() -> SquareSet
+    ensures { (s : ℕ) → s < 64 → contains result s ≡ is_light s }
 {
-    (square.file() + square.rank()) % 2 == 1
+    SquareSet::from_bits(0x55aa55aa55aa55aa)
 }
 
-// How many men other than kings there are.
-#[tactic(auto, unfolding(chess_types::specs::board::Squares::squares))]
-fn count_others(men: &Placement) -> usize
-    ensures { result ≡ length (others (man_at men.now)) }
+// The dark squares, a1 among them.
+fn dark() -> SquareSet
+    ensures { (s : ℕ) → s < 64 → contains result s ≡ not (is_light s) }
 {
-    (0..64u8)
-        .filter(|s| is_other(men.get(Square::from_index(*s))))
-        .count()
+    SquareSet::from_bits(0xaa55aa55aa55aa55)
 }
 
-#[tactic(auto, unfolding(chess_types::specs::board::Squares::squares))]
-fn all_minor(men: &Placement) -> bool
-    ensures { result ≡ list_all (λ s. holds_minor (man_at men.now s)) (others (man_at men.now)) }
+// Whether the other set holds each square of the set.
+fn is_within(set: SquareSet, other: SquareSet) -> bool
+    ensures { result ≡ list_all (contains other) (filter (contains set) squares) }
 {
-    (0..64u8)
-        .filter(|s| is_other(men.get(Square::from_index(*s))))
-        .all(|s| holds_minor(men.get(Square::from_index(s))))
-}
-
-#[tactic(auto, unfolding(chess_types::specs::board::Squares::squares))]
-fn all_bishops(men: &Placement) -> bool
-    ensures { result ≡ list_all (λ s. holds_bishop (man_at men.now s)) (others (man_at men.now)) }
-{
-    (0..64u8)
-        .filter(|s| is_other(men.get(Square::from_index(*s))))
-        .all(|s| holds_bishop(men.get(Square::from_index(s))))
-}
-
-#[tactic(auto, unfolding(chess_types::specs::board::Squares::squares))]
-fn all_light(men: &Placement) -> bool
-    ensures { result ≡ list_all is_light (others (man_at men.now)) }
-{
-    (0..64u8)
-        .filter(|s| is_other(men.get(Square::from_index(*s))))
-        .all(|s| is_light(Square::from_index(s)))
-}
-
-#[tactic(auto, unfolding(chess_types::specs::board::Squares::squares))]
-fn all_dark(men: &Placement) -> bool
-    ensures { result ≡ list_all (λ s. not (is_light s)) (others (man_at men.now)) }
-{
-    (0..64u8)
-        .filter(|s| is_other(men.get(Square::from_index(*s))))
-        .all(|s| !is_light(Square::from_index(s)))
+    match set.difference(other).lowest() {
+        None => true,
+        Some(_) => false,
+    }
 }
 
 // Whether beside the kings there is at most one man, a knight or a bishop.
 fn is_lone_minor(men: &Placement) -> bool
     ensures { result ≡ is_lone_minor (man_at men.now) }
 {
-    all_minor(men) && count_others(men) <= 1
+    let mut rest = others(men).iter();
+    let Some(at) = rest.next() else {
+        return true;
+    };
+    match rest.next() {
+        None => holds_minor(men.get(at)),
+        Some(_) => false,
+    }
 }
 
 // Whether beside the kings there are only bishops, on squares of one colour.
 fn is_one_coloured(men: &Placement) -> bool
     ensures { result ≡ is_one_coloured (man_at men.now) }
 {
-    all_bishops(men) && (all_light(men) || all_dark(men))
+    let others = others(men);
+    let are_bishops = is_within(others, bishops(men));
+    let are_light = is_within(others, light());
+    let are_dark = is_within(others, dark());
+    are_bishops & (are_light | are_dark)
 }
 
 /// Whether the position is on the list of dead ones (FIDE Laws 5.2.2): king against king; king and one knight or bishop against

@@ -32,7 +32,7 @@ use std::alloc::Allocator;
 use std::marker::Model;
 
 /// The most plies of a line.
-const LIMIT: usize = 20_000;
+const LIMIT: u32 = 20_000;
 
 /// A position and the legal moves made from it, one after the other. The last of them may be only looked at, at most 16.
 #[derive(Drop)]
@@ -126,10 +126,11 @@ impl<'k, A: Allocator> Line<'k, A> {
         ensures words { self.new.words ≡ self.old.words }
         ensures room { self.old.room ≤ self.new.room }
     {
+        let made = self.plies();
         if !is_legal(&mut self.live, m) {
             return Err(LineFault::Illegal);
         }
-        if self.plies.len() >= LIMIT {
+        if made >= LIMIT {
             return Err(LineFault::TooLong);
         }
         if self.plies.reserve(1).is_err() {

@@ -1,11 +1,10 @@
-ghost use Rattle.std.specs.Prelude.{◌≡◌, ℕ, ◌<◌, true, false, not, is_some};
-ghost use Rattle.std.specs.FinSet.{contains};
-ghost use Rattle.chess_types.specs.board.Board.{Look, man_at};
+ghost use Rattle.std.specs.Prelude.{◌≡◌, true, false};
+ghost use Rattle.chess_types.specs.board.Board.{man_at};
 ghost use Rattle.chess_types.specs.board.Men.{holds_pawn};
 ghost use Rattle.chess_types.specs.steps.KeptSets.{Gathers, holds_king};
 ghost use Rattle.chess_draws.specs.steps.Stands.{IsMenOf, same_set as same_set_of, same_men};
 
-use chess_types::{Colour, Kind, Man, Placement, SquareSet};
+use chess_types::{Colour, Placement, SquareSet, holds_pawn};
 
 /// The men of a position as five sets of squares, which tell what stands on each square.
 #[derive(Clone, Copy)]
@@ -18,17 +17,6 @@ pub(crate) struct Men {
     pub(crate) diagonal: SquareSet,
     /// The pawns and the kings.
     pub(crate) short: SquareSet,
-}
-
-// Whether a pawn stands there.
-#[inline(always)]
-fn is_pawn(there: Option<Man>) -> bool
-    ensures { result ≡ holds_pawn there }
-{
-    match there {
-        None => false,
-        Some(man) => man.kind == Kind::Pawn,
-    }
 }
 
 // The squares of the pawns. Where rooks, bishops, queens and kings stand there are none.
@@ -44,7 +32,7 @@ fn pawns(placement: &Placement, kings: SquareSet) -> SquareSet
     let rest = placement.occupied().difference(others);
     let mut found = SquareSet::empty();
     for at in rest.iter() {
-        let holds = is_pawn(placement.get(at));
+        let holds = holds_pawn(placement.get(at));
         found.insert_if(at, holds);
     }
     found

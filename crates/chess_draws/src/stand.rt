@@ -1,5 +1,4 @@
-ghost use Rattle.std.specs.Prelude.{◌≡◌, Option, ℕ};
-ghost use Rattle.chess_types.specs.board.Position.{State};
+ghost use Rattle.std.specs.Prelude.{◌≡◌, Option};
 ghost use Rattle.chess_types.specs.board.Repetition.{counting_target, same_rights, same_target};
 ghost use Rattle.chess_draws.specs.steps.Stands.{IsStandOf, same_ply};
 

@@ -3,7 +3,7 @@ ghost use Rattle.chess_types.specs.board.Position.{State, look};
 ghost use Rattle.chess_types.specs.board.After.{after};
 ghost use Rattle.chess_types.specs.board.Legal.{is_legal as is_legal_in};
 ghost use Rattle.chess_attack.specs.KeptCounts.{changed_of};
-ghost use Rattle.chess_play.specs.Records.{Fits, IsBefore, record_of};
+ghost use Rattle.chess_play.specs.Records.{Fits, IsBefore};
 ghost use Rattle.chess_draws.specs.steps.Stands.{IsStandOf};
 ghost use Rattle.chess_draws.specs.steps.Plies.{IsPly};
 

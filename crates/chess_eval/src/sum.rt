@@ -1,7 +1,6 @@
-ghost use Rattle.std.specs.Prelude.{◌≡◌, ◌<◌, None, Some, pos, neg_ℤ, ◌≤ℤ◌, int_div};
+ghost use Rattle.std.specs.Prelude.{◌≡◌, Some, pos, neg_ℤ, ◌≤ℤ◌, int_div};
 ghost use Rattle.std.specs.FinMap as map;
 ghost use Rattle.chess_types.specs.board.Board.{Board, Look, man_at};
-ghost use Rattle.chess_types.specs.board.Men.{men_of};
 ghost use Rattle.chess_eval.specs.Evaluation.{for_white as for_white_of, balance_there, AreSumsOf, tapered as tapered_of, evaluation, IsWithin, HasArmies};
 ghost use Rattle.chess_eval.specs.Worth.{middle_of, end_of};
 ghost use Rattle.chess_eval.specs.Mirror.{IsMirror, mirrored};

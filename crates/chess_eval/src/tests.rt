@@ -2,26 +2,14 @@ ghost use Rattle.chess_eval.specs.Evaluation.{AreSumsOf};
 
 use crate::{Sum, end, middle, weight};
 use chess_attack::Follower;
-use chess_types::{Colour, Kind, Man, Placement, Square};
+use chess_types::{Colour, Kind, Man, Placement, Position, Square};
 use std::process::Abort;
 
-/// The man of a letter, as FEN writes it; any other byte is an empty square.
-fn man_of(letter: u8) -> Option<Man> {
-    let kind = match letter.to_ascii_lowercase() {
-        b'p' => Kind::Pawn,
-        b'n' => Kind::Knight,
-        b'b' => Kind::Bishop,
-        b'r' => Kind::Rook,
-        b'q' => Kind::Queen,
-        b'k' => Kind::King,
-        _ => return None,
-    };
-    let colour = if letter.is_ascii_uppercase() {
-        Colour::White
-    } else {
-        Colour::Black
-    };
-    Some(Man { colour, kind })
+/// Puts a man on an empty square.
+fn put(rt: &impl Abort, placement: &mut Placement, square: Square, man: Man) {
+    assert!(rt; placement.get(square).is_none());
+    assert!(rt; placement.men(man.colour) < 16);
+    placement.put(square, man);
 }
 
 /// The board of a diagram, whose first row is the eighth rank.
@@ -30,29 +18,15 @@ fn board(rt: &impl Abort, diagram: [&[u8; 8]; 8]) -> Placement {
     for number in 0..64u8 {
         let square = Square::from_index(number);
         let letter = diagram[7 - square.rank() as usize][square.file() as usize];
-        if let Some(man) = man_of(letter) {
-            assert!(rt; placement.get(square).is_none());
-            assert!(rt; placement.men(man.colour) < 16);
-            placement.put(square, man);
+        if let Some(man) = Man::of_letter(letter) {
+            put(rt, &mut placement, square, man);
         }
     }
     placement
 }
 
-fn start(rt: &impl Abort) -> Placement {
-    board(
-        rt,
-        [
-            b"rnbqkbnr",
-            b"pppppppp",
-            b"........",
-            b"........",
-            b"........",
-            b"........",
-            b"PPPPPPPP",
-            b"RNBQKBNR",
-        ],
-    )
+fn start() -> Placement {
+    Position::start().into_setup().placement
 }
 
 #[test]
@@ -76,7 +50,7 @@ fn men_on_their_squares(rt: HostRuntime) {
         (b'K', "e1", -18, 30),
         (b'k', "d5", -36, 60),
     ] {
-        let man = man_of(letter).expect(&rt, "a man's letter");
+        let man = Man::of_letter(letter).expect(&rt, "a man's letter");
         let square = Square::parse(name.as_bytes()).expect(&rt, "a square's name");
         assert_eq!(rt; middle(man, square), in_middle, "{letter} on {name}");
         assert_eq!(rt; end(man, square), at_end, "{letter} on {name}");
@@ -118,9 +92,7 @@ fn mirror(rt: &impl Abort, placement: &Placement) -> Placement {
         if let Some(man) = placement.get(square) {
             let at = Square::from_index(8 * (7 - square.rank()) + square.file());
             let colour = man.colour.opponent();
-            assert!(rt; mirrored.get(at).is_none());
-            assert!(rt; mirrored.men(colour) < 16);
-            mirrored.put(at, Man { colour, ..man });
+            put(rt, &mut mirrored, at, Man { colour, ..man });
         }
     }
     mirrored
@@ -128,7 +100,7 @@ fn mirror(rt: &impl Abort, placement: &Placement) -> Placement {
 
 #[test]
 fn whole_boards(rt: HostRuntime) {
-    assert_eq!(rt; Sum::of(&start(&rt)).white(), 0);
+    assert_eq!(rt; Sum::of(&start()).white(), 0);
     assert_eq!(rt; Sum::of(&Placement::empty()).white(), 0);
     // no weight
     let pawn_up = board(
@@ -146,19 +118,12 @@ fn whole_boards(rt: HostRuntime) {
     );
     assert_eq!(rt; Sum::of(&pawn_up).white(), 110);
     // 14,638 of 24 parts
-    let rook_up = board(
-        &rt,
-        [
-            b"....k...",
-            b"........",
-            b"........",
-            b"........",
-            b"........",
-            b"........",
-            b"....P...",
-            b"R...K...",
-        ],
-    );
+    let mut rook_up = pawn_up;
+    let rook = Man {
+        colour: Colour::White,
+        kind: Kind::Rook,
+    };
+    put(&rt, &mut rook_up, Square::from_index(0), rook);
     assert_eq!(rt; Sum::of(&rook_up).white(), 609);
     assert_eq!(rt; Sum::of(&mirror(&rt, &rook_up)).white(), -609);
     assert_eq!(rt; Sum::of(&rook_up).mirrored().white(), -609);
@@ -204,7 +169,7 @@ impl Kept {
 
 #[test]
 fn every_man_put_and_cleared(rt: HostRuntime) {
-    let whole = start(&rt);
+    let whole = start();
     let mut kept = Kept::empty();
     for number in 0..64u8 {
         let at = Square::from_index(number);

@@ -10,8 +10,9 @@ use Rattle.chess_types.specs.declared.board.man.Kind.TheVariants.{Pawn, Knight, 
 use Rattle.chess_types.specs.declared.board.man.Man.{Man}
 use Rattle.chess_types.specs.board.Board.{Look}
 use Rattle.chess_types.specs.board.Squares.{squares}
-use Rattle.chess_fen.specs.Ranks.{is_digit, man_of_letter, cells_of_byte, cells_of, starts_with_digit, has_adjacent_digits, rank_cells, cells_of_ranks, board_cells, ranks}
-use Rattle.chess_fen.specs.Writing.{letter_of, run_text, cells_text, rank_squares, rank_text, placement_text}
+use Rattle.chess_types.specs.board.Texts.{man_letter, man_of_letter}
+use Rattle.chess_fen.specs.Ranks.{stands_for_empty, cells_of_byte, cells_of, starts_with_digit, has_adjacent_digits, rank_cells, cells_of_ranks, board_cells, ranks}
+use Rattle.chess_fen.specs.Writing.{run_text, cells_text, rank_squares, rank_text, placement_text}
 use Rattle.chess_fen.proofs.PartLemmas.{Above, Above-append, Above-less, Above-joined, IsWord, slice_split-joined}
 
 abbrev none : Option Man
@@ -19,9 +20,9 @@ none = None
 
 -- a man's letter is no digit, and names him
 record IsLetter (man : Man) : Type 0 where
-  plain : is_digit (letter_of man) ≡ false
-  means : man_of_letter (letter_of man) ≡ Some man
-  high : 47 < letter_of man
+  plain : stands_for_empty (man_letter man) ≡ false
+  means : man_of_letter (man_letter man) ≡ Some man
+  high : 47 < man_letter man
 
 letters : (colour : Colour) (kind : Kind) → IsLetter (record { colour = colour; kind = kind })
 letters White Pawn = record { plain = refl; means = refl; high = omega arith }
@@ -47,18 +48,18 @@ run_text-some n = let some : (suc n == 0) ≡ false = grind (arith, nat_tests) i
 run_text-apart : (run : ℕ) (rest : List ℕ) → starts_with_digit rest ≡ false → has_adjacent_digits rest ≡ false → has_adjacent_digits (run_text run ++ rest) ≡ false
 run_text-apart zero rest starts others = others
 run_text-apart (suc n) rest starts others =
-    rw (run_text-some n) (elim (is_digit (48 + suc n)) as (λ d. ((d && starts_with_digit rest) || has_adjacent_digits rest) ≡ false) [ true ↦ rw (starts, others) refl | false ↦ others ])
+    rw (run_text-some n) (elim (stands_for_empty (48 + suc n)) as (λ d. ((d && starts_with_digit rest) || has_adjacent_digits rest) ≡ false) [ true ↦ rw (starts, others) refl | false ↦ others ])
 
 cells_text-apart : (run : ℕ) (cells : List (Option Man)) → has_adjacent_digits (cells_text run cells) ≡ false
 cells_text-apart run [] = ap has_adjacent_digits (sym (append-nil (run_text run))) ∙ run_text-apart run [] refl refl
 cells_text-apart run (None ∷ cells) = cells_text-apart (run + 1) cells
 cells_text-apart run (Some man ∷ cells) =
     let plain = (letter man).plain in
-    run_text-apart run (letter_of man ∷ cells_text 0 cells) plain (rw plain (cells_text-apart 0 cells))
+    run_text-apart run (man_letter man ∷ cells_text 0 cells) plain (rw plain (cells_text-apart 0 cells))
 
 digit_cells : (n : ℕ) → suc n ≤ 8 → cells_of_byte (48 + suc n) ≡ Some (replicate (suc n) none)
 digit_cells n few =
-    let digit : is_digit (48 + suc n) ≡ true = grind (arith, nat_tests) in
+    let digit : stands_for_empty (48 + suc n) ≡ true = grind (arith, nat_tests) in
     let count : 48 + suc n - 48 ≡ suc n = omega arith in
     rw (digit, count) refl
 
@@ -82,7 +83,7 @@ cells_text-cells run (Some man ∷ cells) few =
     let plain = (letter man).plain in
     let means = (letter man).means in
     let others = cells_text-cells 0 cells (omega arith) in
-    run_text-cells run (letter_of man ∷ cells_text 0 cells) (Some man ∷ cells) (omega arith) (rw (plain, means, others) refl)
+    run_text-cells run (man_letter man ∷ cells_text 0 cells) (Some man ∷ cells) (omega arith) (rw (plain, means, others) refl)
 
 rank_cells-text : (cells : List (Option Man)) → length cells ≡ 8 → rank_cells (cells_text 0 cells) ≡ Some cells
 unfolding rank_cells
@@ -96,7 +97,7 @@ cells_text-above : (run : ℕ) (cells : List (Option Man)) → Above 47 (cells_t
 cells_text-above run [] = run_text-above run
 cells_text-above run (None ∷ cells) = cells_text-above (run + 1) cells
 cells_text-above run (Some man ∷ cells) =
-    Above-append 47 (run_text run) (letter_of man ∷ cells_text 0 cells) (run_text-above run) ((letter man).high, cells_text-above 0 cells)
+    Above-append 47 (run_text run) (man_letter man ∷ cells_text 0 cells) (run_text-above run) ((letter man).high, cells_text-above 0 cells)
 
 -- the ranks
 module _ (look : Look) where

@@ -5,7 +5,6 @@
 --   target_text      the en passant target (PGN 16.1.3.4)
 --   written          the whole text, with the halfmove clock and the fullmove number (PGN 16.1.3.5 and 16.1.3.6)
 use Rattle.std.specs.Prelude.{ℕ, ◌+◌, ◌*◌, ◌==◌, Bool, if◌then◌else◌, List, [], ◌∷◌, ◌++◌, map, Option, Some, None, codes, decimal}
-use Rattle.std.specs.Char.{to_ascii_uppercase}
 use Rattle.std.specs.List.{range_with_len, join_with_byte}
 use Rattle.std.specs.Str.{byte}
 use Rattle.chess_types.specs.declared.board.man.Colour.{Colour}
@@ -14,15 +13,7 @@ use Rattle.chess_types.specs.declared.board.man.Man.{Man}
 use Rattle.chess_types.specs.declared.board.position.Rights.{Rights}
 use Rattle.chess_types.specs.board.Board.{Look}
 use Rattle.chess_types.specs.board.Position.{State, look}
-use Rattle.chess_types.specs.board.Texts.{kind_letter, square_text}
-
--- White's letters are upper-case, Black's lower-case.
-abbrev pub letter_in_case : Colour → ℕ → ℕ
-letter_in_case White letter = to_ascii_uppercase letter
-letter_in_case Black letter = letter
-
-abbrev pub letter_of : Man → ℕ
-letter_of man = letter_in_case man.colour (kind_letter man.kind)
+use Rattle.chess_types.specs.board.Texts.{man_letter, square_text}
 
 -- the digit of so many empty squares, up to eight; nothing for none
 abbrev pub run_text : ℕ → List ℕ
@@ -32,7 +23,7 @@ run_text run = if run == 0 then [] else (byte "0" + run) ∷ []
 abbrev pub cells_text : ℕ → List (Option Man) → List ℕ
 cells_text run [] = run_text run
 cells_text run (None ∷ cells) = cells_text (run + 1) cells
-cells_text run (Some man ∷ cells) = run_text run ++ letter_of man ∷ cells_text 0 cells
+cells_text run (Some man ∷ cells) = run_text run ++ man_letter man ∷ cells_text 0 cells
 
 -- the squares of a rank, from file a
 abbrev pub rank_squares : ℕ → List ℕ

@@ -1,45 +1,11 @@
 ghost use Rattle.std.specs.Prelude.{◌≡◌, ◌==◌, Some, option_map};
-ghost use Rattle.chess_fen.specs.Ranks.{kind_of_letter, colour_of_letter, man_of_letter, is_digit, starts_with_digit, has_adjacent_digits, cells_of_byte, both_cells, at_most, rank_cells, board_cells};
+ghost use Rattle.chess_fen.specs.Ranks.{stands_for_empty, starts_with_digit, has_adjacent_digits, cells_of_byte, both_cells, at_most, rank_cells, board_cells};
 
 use arrayvec::ArrayVec;
-use chess_types::{Colour, Kind, Man};
+use chess_types::Man;
 
-fn kind_of(letter: u8) -> Option<Kind>
-    ensures { result ≡ kind_of_letter letter }
-{
-    match letter {
-        b'P' => Some(Kind::Pawn),
-        b'N' => Some(Kind::Knight),
-        b'B' => Some(Kind::Bishop),
-        b'R' => Some(Kind::Rook),
-        b'Q' => Some(Kind::Queen),
-        b'K' => Some(Kind::King),
-        _ => None,
-    }
-}
-
-fn colour_of(letter: u8) -> Colour
-    ensures { result ≡ colour_of_letter letter }
-{
-    if letter.is_ascii_uppercase() {
-        Colour::White
-    } else {
-        Colour::Black
-    }
-}
-
-fn man_of(letter: u8) -> Option<Man>
-    ensures { result ≡ man_of_letter letter }
-{
-    let kind = kind_of(letter.to_ascii_uppercase())?;
-    Some(Man {
-        colour: colour_of(letter),
-        kind,
-    })
-}
-
-fn is_digit(byte: u8) -> bool
-    ensures { result ≡ is_digit byte }
+fn stands_for_empty(byte: u8) -> bool
+    ensures { result ≡ stands_for_empty byte }
 {
     b'1' <= byte && byte <= b'8'
 }
@@ -49,7 +15,7 @@ fn starts_with_digit(text: &[u8]) -> bool
 {
     match text {
         [] => false,
-        [first, ..] => is_digit(*first),
+        [first, ..] => stands_for_empty(*first),
     }
 }
 
@@ -58,7 +24,7 @@ fn has_adjacent_digits(text: &[u8]) -> bool
 {
     let mut rest = text;
     while let [first, others @ ..] = rest {
-        if is_digit(*first) && starts_with_digit(others) {
+        if stands_for_empty(*first) && starts_with_digit(others) {
             return true;
         }
         rest = others;
@@ -71,11 +37,11 @@ fn push_cells(cells: &mut ArrayVec<Option<Man>, 8>, byte: u8) -> Option<()>
     ensures { option_map (λ _. cells.new.items) result
         ≡ at_most 8 (both_cells (Some cells.old.items) (cells_of_byte byte)) }
 {
-    if is_digit(byte) {
+    if stands_for_empty(byte) {
         let run = (byte - b'0') as usize;
         cells.try_extend_from_slice(&[None; 8][..run]).ok()
     } else {
-        let man = man_of(byte)?;
+        let man = Man::of_letter(byte)?;
         cells.try_push(Some(man)).ok()
     }
 }

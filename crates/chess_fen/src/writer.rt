@@ -4,29 +4,11 @@ ghost use Rattle.chess_types.specs.declared.board.man.Man.{Man};
 ghost use Rattle.chess_types.specs.board.Board.{man_at};
 ghost use Rattle.chess_types.specs.board.Cells.{board_of};
 ghost use Rattle.chess_fen.specs.Reading.{reading};
-ghost use Rattle.chess_fen.specs.Writing.{letter_of, run_text, cells_text, placement_text, side_text, right_text, rights_text, target_text, written};
+ghost use Rattle.chess_fen.specs.Writing.{run_text, cells_text, placement_text, side_text, rights_text, target_text, written};
 
 use arrayvec::ArrayString;
-use chess_types::{Colour, Kind, Man, Position, Rights, Square};
+use chess_types::{Colour, Man, Position, Rights, Square};
 use itoa::Buffer;
-
-fn letter_of(man: Man) -> char
-    ensures value { result ≡ letter_of man }
-    ensures ascii { result < 128 }
-{
-    let letter = match man.kind {
-        Kind::Pawn => 'p',
-        Kind::Knight => 'n',
-        Kind::Bishop => 'b',
-        Kind::Rook => 'r',
-        Kind::Queen => 'q',
-        Kind::King => 'k',
-    };
-    match man.colour {
-        Colour::White => letter.to_ascii_uppercase(),
-        Colour::Black => letter,
-    }
-}
 
 // The digit of a run of empty squares, where there is one.
 fn push_run(text: &mut ArrayString<71>, run: u8)
@@ -52,7 +34,7 @@ fn push_cell(text: &mut ArrayString<71>, run: u8, cell: Option<Man>) -> u8
         None => run + 1,
         Some(man) => {
             push_run(text, run);
-            text.push(letter_of(man));
+            text.push(man.letter());
             0
         }
     }

@@ -2,7 +2,7 @@
 use Rattle.std.proofs.Common.{◌≡◌, ℕ, ◌<◌, ◌==◌, Bool, true, false, ◌&&◌, ◌||◌, cond, List, ◌∷◌, filter, nat_eq, refl, sym, ap, ◌∙◌}
 use Rattle.std.specs.List.{list_any}
 use Rattle.std.specs.Ordering.{nat_cmp}
-use Rattle.std.specs.FinSet.{FinSet, contains, insert}
+use Rattle.std.specs.FinSet.{FinSet, contains, contains-empty, empty, insert}
 use Rattle.std.proofs.Math.Bool.{and-true}
 use Rattle.std.proofs.lemmas.Bool.{eqb-true}
 use Rattle.std.proofs.lemmas.Map.Views.{any-filter_same}
@@ -16,6 +16,15 @@ listed_in set i h =
     any-filter_same (λ y. nat_eq y i) (contains set) (contains set i) (λ k same. ap (contains set) (eqb-true k i same)) squares
     ∙ ap (λ b. contains set i && b) (squares-holds i h)
     ∙ and-true (contains set i)
+
+-- all squares are still to come
+pub safe_first : (test : ℕ → Bool) (all found : FinSet nat_cmp) (xs : List ℕ) → found ≡ empty → xs ≡ filter (contains all) squares →
+    (s : ℕ) → s < 64 → (contains found s || (list_any (λ u. u == s) xs && test s)) ≡ (contains all s && test s)
+safe_first test all found xs none is s hs =
+    ap (λ (x : FinSet nat_cmp). contains x s || (list_any (λ u. u == s) xs && test s)) none
+    ∙ ap (λ b. b || (list_any (λ u. u == s) xs && test s)) (contains-empty nat_cmp s)
+    ∙ ap (λ ys. list_any (λ u. u == s) ys && test s) is
+    ∙ ap (λ b. b && test s) (listed_in all s hs)
 
 step_of : (c b e l t : Bool) → (e ≡ true → t ≡ b) → ((c || (b && e)) || (l && t)) ≡ (c || ((e || l) && t))
 step_of true b e l t same = refl

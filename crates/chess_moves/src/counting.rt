@@ -1,16 +1,17 @@
-ghost use Rattle.std.specs.Prelude.{◌≡◌, ◌+◌, ◌≤◌, ◌&&◌, ◌==◌, ℕ, true, filter, length, nat_lt};
+ghost use Rattle.std.specs.Prelude.{◌≡◌, ◌<◌, ◌≤◌, ◌&&◌, ◌==◌, ℕ, true, filter, length, nat_lt};
 ghost use Rattle.std.specs.FinSet.{contains};
 ghost use Rattle.chess_types.specs.board.Squares.{rank_of};
 ghost use Rattle.chess_types.specs.board.Men.{is_of};
-ghost use Rattle.chess_types.specs.board.Position.{look, cell_of};
+ghost use Rattle.chess_types.specs.board.Position.{look};
 ghost use Rattle.chess_types.specs.board.Pseudo.{last_rank};
 ghost use Rattle.chess_types.specs.board.Legal.{is_legal, legal_moves, moves_from};
 ghost use Rattle.chess_moves.specs.steps.Guarded.{IsGuard};
 
 use crate::guard::{Guard, guard_of};
-use crate::targets::{is_pawn, targets};
+use crate::own::{own_kind, own_men};
+use crate::targets::targets;
 use chess_play::Live;
-use chess_types::{Colour, Kind, Square, SquareSet};
+use chess_types::{Colour, Square, SquareSet};
 
 /// The squares of the rank on which the pawns of a colour are promoted (FIDE Laws 3.7.3.3).
 #[inline(always)]
@@ -20,27 +21,6 @@ fn last_squares(side: Colour) -> SquareSet
     match side {
         Colour::White => SquareSet::from_bits(0xff00000000000000),
         Colour::Black => SquareSet::from_bits(0xff),
-    }
-}
-
-/// How many legal moves a man of the side to move has.
-#[inline(always)]
-fn count_own(live: &mut Live, guard: &Guard, kind: Kind, from: Square) -> usize
-    requires here { look live.old.position from ≡ cell_of live.old.position.side kind }
-    requires guard { IsGuard guard.now live.old.position }
-    requires clock { live.old.position.clock ≤ 1000000 }
-    requires number { live.old.position.number ≤ 1000000 }
-    ensures count { result ≡ length (filter (is_legal live.old.position) (moves_from from)) }
-    ensures position { live.new.position ≡ live.old.position }
-    ensures words { live.new.words ≡ live.old.words }
-{
-    let side = live.position().side;
-    let squares = targets(live, guard, kind, from);
-    if is_pawn(kind) {
-        let last = squares.intersection(last_squares(side));
-        squares.len() + 3 * last.len()
-    } else {
-        squares.len()
     }
 }
 
@@ -55,10 +35,38 @@ fn count_from(live: &mut Live, guard: &Guard, from: Square) -> usize
     ensures position { live.new.position ≡ live.old.position }
     ensures words { live.new.words ≡ live.old.words }
 {
-    match live.position().placement.get(from) {
-        Some(man) => count_own(live, guard, man.kind, from),
-        None => unreachable!(),
+    let kind = own_kind(live, from);
+    let side = live.position().side;
+    let squares = targets(live, guard, kind, from);
+    if kind.is_pawn() {
+        let last = squares.intersection(last_squares(side));
+        squares.len() + 3 * last.len()
+    } else {
+        squares.len()
     }
+}
+
+/// How many legal moves there are; where there are enough, it may stop before the last.
+#[inline(always)]
+fn count_up_to(live: &mut Live, enough: usize) -> usize
+    requires clock { live.old.position.clock ≤ 1000000 }
+    requires number { live.old.position.number ≤ 1000000 }
+    ensures few { result ≤ length (legal_moves live.old.position) }
+    ensures all { result < enough → result ≡ length (legal_moves live.old.position) }
+    ensures at_most { result ≤ 432 }
+    ensures position { live.new.position ≡ live.old.position }
+    ensures words { live.new.words ≡ live.old.words }
+{
+    let guard = guard_of(live);
+    let own = own_men(live);
+    let mut count = 0;
+    for from in own.iter() {
+        count += count_from(live, &guard, from);
+        if count >= enough {
+            return count;
+        }
+    }
+    count
 }
 
 /// How many legal moves there are, at most 432; no list is made (FIDE Laws 3.1 to 3.10). The halfmove clock and the fullmove
@@ -71,14 +79,7 @@ pub fn count_legal(live: &mut Live) -> usize
     ensures position { live.new.position ≡ live.old.position }
     ensures words { live.new.words ≡ live.old.words }
 {
-    let guard = guard_of(live);
-    let setup = live.position();
-    let own = setup.placement.of(setup.side);
-    let mut count = 0;
-    for from in own.iter() {
-        count += count_from(live, &guard, from);
-    }
-    count
+    count_up_to(live, usize::MAX)
 }
 
 /// Whether there is a legal move: the men are gone over until one has a move (FIDE Laws 3.1 to 3.10). The halfmove clock and the
@@ -90,13 +91,5 @@ pub fn has_legal(live: &mut Live) -> bool
     ensures position { live.new.position ≡ live.old.position }
     ensures words { live.new.words ≡ live.old.words }
 {
-    let guard = guard_of(live);
-    let setup = live.position();
-    let own = setup.placement.of(setup.side);
-    for from in own.iter() {
-        if count_from(live, &guard, from) > 0 {
-            return true;
-        }
-    }
-    false
+    count_up_to(live, 1) > 0
 }

@@ -10,6 +10,7 @@ mod counting;
 mod guard;
 mod legal;
 mod listing;
+mod own;
 mod targets;
 #[cfg(test)]
 mod tests;

@@ -2,7 +2,6 @@ ghost use Rattle.std.specs.Prelude.{◌≡◌, ◌<◌, ◌≤◌, ◌&&◌, ◌
 ghost use Rattle.std.specs.FinSet.{contains};
 ghost use Rattle.chess_types.specs.declared.board.man.Kind.TheVariants.{Pawn, King};
 ghost use Rattle.chess_types.specs.board.Board.{man_at};
-ghost use Rattle.chess_types.specs.board.Men.{is_pawn};
 ghost use Rattle.chess_types.specs.board.Attack.{leaps as leaps_of};
 ghost use Rattle.chess_types.specs.board.Position.{look, cell_of, king_home};
 ghost use Rattle.chess_types.specs.board.Pseudo.{moves_as_it_attacks, is_ahead, is_capturable, steps_one, steps_two};
@@ -11,18 +10,10 @@ ghost use Rattle.chess_moves.specs.steps.Guarded.{IsGuard, is_safe_step};
 ghost use Rattle.chess_moves.specs.steps.Targets.{is_plain_target, is_legal_target, move_to, promotes};
 
 use crate::guard::{Guard, guarded};
-use crate::legal::{is_king, is_safe_tried, king_is_safe};
+use crate::legal::{is_safe_tried, king_is_safe};
 use chess_attack::{attacks, leap_squares, leaps};
 use chess_play::{Live, last_rank, pawn_rank};
 use chess_types::{Colour, Kind, Man, Move, Placement, Setup, Square, SquareSet, Wing};
-
-/// Whether a pawn is meant.
-#[inline(always)]
-pub(crate) fn is_pawn(kind: Kind) -> bool
-    ensures { result ≡ is_pawn kind }
-{
-    kind == Kind::Pawn
-}
 
 /// Whether no man stands there.
 #[inline(always)]
@@ -102,7 +93,7 @@ fn man_targets(setup: &Setup, kind: Kind, from: Square) -> SquareSet
 fn plain_targets(setup: &Setup, kind: Kind, from: Square) -> SquareSet
     ensures { (to : ℕ) → to < 64 → contains result to ≡ is_plain_target setup.now kind from to }
 {
-    if is_pawn(kind) {
+    if kind.is_pawn() {
         let steps = pawn_steps(setup, from);
         let captures = pawn_captures(setup, from);
         steps.union(captures)
@@ -116,7 +107,7 @@ fn plain_targets(setup: &Setup, kind: Kind, from: Square) -> SquareSet
 pub(crate) fn promotes(side: Colour, kind: Kind, to: Square) -> bool
     ensures { result ≡ promotes side kind to }
 {
-    kind == Kind::Pawn && to.rank() == last_rank(side)
+    kind.is_pawn() && to.rank() == last_rank(side)
 }
 
 /// The squares to which a pawn's legal moves go. Only en passant, which takes two men from one line, is made and taken back.
@@ -214,9 +205,9 @@ pub(crate) fn targets(live: &mut Live, guard: &Guard, kind: Kind, from: Square) 
     ensures position { live.new.position ≡ live.old.position }
     ensures words { live.new.words ≡ live.old.words }
 {
-    if is_pawn(kind) {
+    if kind.is_pawn() {
         pawn_targets(live, guard, from)
-    } else if is_king(kind) {
+    } else if kind.is_king() {
         king_targets(live, guard, from)
     } else {
         let plain = plain_targets(live.position(), kind, from);

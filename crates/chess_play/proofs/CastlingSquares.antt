@@ -1,6 +1,6 @@
 -- The squares of castling, and what a castling move says (FIDE Laws, article 3.8.2).
-use Rattle.std.proofs.Common.{◌≡◌, ◌≢◌, ℕ, ◌<◌, ◌≤◌, Bool, true, false, ◌&&◌, None, is_none, refl, arith, ◌⊎◌, inl, inr}
-use Rattle.std.proofs.lemmas.Bool.{and_parts, eqb-true}
+use Rattle.std.proofs.Common.{◌≡◌, ◌≢◌, ℕ, ◌<◌, ◌≤◌, Bool, true, false, not, ◌==◌, ◌&&◌, None, is_none, refl, sym, ap, ◌∙◌, arith, ◌⊎◌, inl, inr}
+use Rattle.std.proofs.lemmas.Bool.{and_parts, eqb-true, eq-eqb, true≢false}
 use Rattle.chess_types.specs.declared.board.man.Colour.{Colour}
 use Rattle.chess_types.specs.declared.board.man.Colour.TheVariants.{White, Black}
 use Rattle.chess_types.specs.declared.board.position.Wing.{Wing}
@@ -60,44 +60,43 @@ pub record Apart (c : Colour) (w : Wing) : Type 0 where
   pub crossed_king : crossed c w ≢ king_home c
   pub crossed_edge : OnEdge (crossed c w)
 
+-- four numbers that differ
+abbrev are_four : (king rook crossed reached : ℕ) → Bool
+are_four king rook crossed reached =
+    not (king == reached) && not (rook == king) && not (rook == reached) && not (rook == crossed) && not (crossed == reached) && not (crossed == king)
+
+four_squares : (c : Colour) (w : Wing) → are_four (king_home c) (rook_home c w) (crossed c w) (reached c w) ≡ true
+four_squares White KingSide = refl
+four_squares White QueenSide = refl
+four_squares Black KingSide = refl
+four_squares Black QueenSide = refl
+
+crossed_on_edge : (c : Colour) (w : Wing) → OnEdge (crossed c w)
+crossed_on_edge White KingSide = inl refl
+crossed_on_edge White QueenSide = inl refl
+crossed_on_edge Black KingSide = inr refl
+crossed_on_edge Black QueenSide = inr refl
+
+differ : (a b : ℕ) → not (a == b) ≡ true → a ≢ b
+differ a b h e = true≢false (sym h ∙ ap not (eq-eqb _ _ e))
+
 -- they are, and the square crossed is on rank 1 or 8
 pub apart : (c : Colour) (w : Wing) → Apart c w
-apart White KingSide = record {
-  king_reached = λ e. omega arith;
-  rook_king = λ e. omega arith;
-  rook_reached = λ e. omega arith;
-  rook_crossed = λ e. omega arith;
-  crossed_reached = λ e. omega arith;
-  crossed_king = λ e. omega arith;
-  crossed_edge = inl refl;
-}
-apart White QueenSide = record {
-  king_reached = λ e. omega arith;
-  rook_king = λ e. omega arith;
-  rook_reached = λ e. omega arith;
-  rook_crossed = λ e. omega arith;
-  crossed_reached = λ e. omega arith;
-  crossed_king = λ e. omega arith;
-  crossed_edge = inl refl;
-}
-apart Black KingSide = record {
-  king_reached = λ e. omega arith;
-  rook_king = λ e. omega arith;
-  rook_reached = λ e. omega arith;
-  rook_crossed = λ e. omega arith;
-  crossed_reached = λ e. omega arith;
-  crossed_king = λ e. omega arith;
-  crossed_edge = inr refl;
-}
-apart Black QueenSide = record {
-  king_reached = λ e. omega arith;
-  rook_king = λ e. omega arith;
-  rook_reached = λ e. omega arith;
-  rook_crossed = λ e. omega arith;
-  crossed_reached = λ e. omega arith;
-  crossed_king = λ e. omega arith;
-  crossed_edge = inr refl;
-}
+apart c w =
+    let a = and_parts _ _ (four_squares c w) in
+    let b = and_parts _ _ a.0 in
+    let d = and_parts _ _ b.0 in
+    let e = and_parts _ _ d.0 in
+    let f = and_parts _ _ e.0 in
+    record {
+      king_reached = differ _ _ f.0;
+      rook_king = differ _ _ f.1;
+      rook_reached = differ _ _ e.1;
+      rook_crossed = differ _ _ d.1;
+      crossed_reached = differ _ _ b.1;
+      crossed_king = differ _ _ a.1;
+      crossed_edge = crossed_on_edge c w;
+    }
 
 -- the homes of one side are none of the squares of the other
 pub record Elsewhere (c d : Colour) (w v : Wing) : Type 0 where

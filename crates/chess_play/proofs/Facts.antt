@@ -140,15 +140,16 @@ module _ (p : State) (m : MoveParts) (setup : IsSetup p) (from : m.from < 64) (t
         mover = mover_pawn p.side m.promo;
       }
 
-  castled : (w : Wing) → look p m.from ≡ Some (mine p King) → castles p w m ≡ true → is_none m.promo ≡ true → Facts p (mine p King) m
-  castled w here h plain =
-      let c = castling_parts p w m h in
+  -- a king that leaves his square for one that he may enter
+  goes : look p m.from ≡ Some (mine p King) → is_none m.promo ≡ true → m.from ≢ m.to → may_enter p.side (look p m.to) ≡ true →
+      ((w : Wing) → is_castling (mine p King) w m ≡ true → castles p w m ≡ true) → Facts p (mine p King) m
+  goes here plain leaves enter castling =
       let same : arriving (mine p King) m.promo ≡ mine p King = stays (mine p King) m.promo plain in
       record {
         here = here;
         mine = refl;
-        apart = λ e. (apart p.side w).king_reached (sym c.from ∙ e ∙ c.to);
-        enter = rw (c.to, reached_free p w m c) refl;
+        apart = leaves;
+        enter = enter;
         king = ap (λ x. is_king x.kind) same;
         pawn = λ e. never (ap (λ x. is_pawn x.kind) (sym same) ∙ e);
         passing = λ e. never e;
@@ -157,34 +158,24 @@ module _ (p : State) (m : MoveParts) (setup : IsSetup p) (from : m.from < 64) (t
         onward = λ e. never e;
         same = λ e. same;
         mover = mover_plain (mine p King) m.promo plain;
-        castling = λ v e.
-            let v_is = castles_where p.side v m e in
-            let wings : w ≡ v = same_wing p.side w v (sym c.to ∙ v_is.1) in
-            subst (λ x. castles p x m ≡ true) wings h;
+        castling = castling;
       }
+
+  castled : (w : Wing) → look p m.from ≡ Some (mine p King) → castles p w m ≡ true → is_none m.promo ≡ true → Facts p (mine p King) m
+  castled w here h plain =
+      let c = castling_parts p w m h in
+      goes here plain (λ e. (apart p.side w).king_reached (sym c.from ∙ e ∙ c.to)) (rw (c.to, reached_free p w m c) refl) (λ v e.
+      let v_is = castles_where p.side v m e in
+      let wings : w ≡ v = same_wing p.side w v (sym c.to ∙ v_is.1) in
+      subst (λ x. castles p x m ≡ true) wings h)
 
   walked : look p m.from ≡ Some (mine p King) → moves_as_it_attacks p King m ≡ true → is_none m.promo ≡ true → Facts p (mine p King) m
   walked here h plain =
       let b = and_parts _ _ h in
-      let same : arriving (mine p King) m.promo ≡ mine p King = stays (mine p King) m.promo plain in
-      record {
-        here = here;
-        mine = refl;
-        apart = attacks_apart (mine p King) (look p) m.from m.to b.0;
-        enter = b.1;
-        king = ap (λ y. is_king y.kind) same;
-        pawn = λ e. never (ap (λ y. is_pawn y.kind) (sym same) ∙ e);
-        passing = λ e. never e;
-        advance = λ e. never e;
-        plain = λ e. never e;
-        onward = λ e. never e;
-        same = λ e. same;
-        mover = mover_plain (mine p King) m.promo plain;
-        castling = λ w e.
-            let q = castles_where p.side w m e in
-            let leap : leaps p.side King m.from m.to ≡ true = sym (king_slides p.side (look p) m.from m.to) ∙ b.0 in
-            never (sym (home_leap p.side w) ∙ (λ i. leaps p.side King (sym q.0 i) (sym q.1 i)) ∙ leap);
-      }
+      goes here plain (attacks_apart (mine p King) (look p) m.from m.to b.0) b.1 (λ w e.
+      let q = castles_where p.side w m e in
+      let leap : leaps p.side King m.from m.to ≡ true = sym (king_slides p.side (look p) m.from m.to) ∙ b.0 in
+      never (sym (home_leap p.side w) ∙ (λ i. leaps p.side King (sym q.0 i) (sym q.1 i)) ∙ leap))
 
   king : Does King
   unfolding moves_as

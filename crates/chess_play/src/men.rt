@@ -1,5 +1,5 @@
 ghost use Rattle.std.specs.Prelude.{◌≡◌};
-ghost use Rattle.chess_types.specs.board.Men.{is_king, is_pawn, same_colour};
+ghost use Rattle.chess_types.specs.board.Men.{same_colour};
 ghost use Rattle.chess_types.specs.board.Pseudo.{is_capturable, may_enter};
 ghost use Rattle.chess_types.specs.board.Texts.{names_promotion};
 
@@ -12,27 +12,13 @@ pub(crate) fn same_colour(a: Colour, b: Colour) -> bool
     a == b
 }
 
-/// Whether a king is meant.
-pub(crate) fn is_king(kind: Kind) -> bool
-    ensures { result ≡ is_king kind }
-{
-    kind == Kind::King
-}
-
-/// Whether a pawn is meant.
-pub(crate) fn is_pawn(kind: Kind) -> bool
-    ensures { result ≡ is_pawn kind }
-{
-    kind == Kind::Pawn
-}
-
 /// Whether a man of the other side stands there, which isn't its king: a king is never taken (FIDE Laws 1.4.1).
 pub(crate) fn is_capturable(side: Colour, there: Option<Man>) -> bool
     ensures { result ≡ is_capturable side there }
 {
     match there {
         None => false,
-        Some(man) => !same_colour(man.colour, side) && !is_king(man.kind),
+        Some(man) => !same_colour(man.colour, side) && !man.kind.is_king(),
     }
 }
 

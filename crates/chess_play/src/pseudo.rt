@@ -2,7 +2,7 @@ ghost use Rattle.std.specs.Prelude.{◌≡◌, ◌&&◌, ◌<◌, is_none};
 ghost use Rattle.chess_types.specs.board.Attack.{is_attacked, leaps};
 ghost use Rattle.chess_types.specs.board.Position.{look};
 ghost use Rattle.chess_play.specs.Castling.{is_way_free, may_castle};
-ghost use Rattle.chess_types.specs.board.Pseudo.{castles, castles_to, moves_as_it_attacks, is_ahead, is_pseudo, is_target, last_rank, midway, moves_as, pawn_promotion_fits, pawn_rank, pawn_takes, steps_one, steps_two};
+ghost use Rattle.chess_types.specs.board.Pseudo.{castles, moves_as_it_attacks, is_ahead, is_pseudo, is_target, last_rank, midway, moves_as, pawn_promotion_fits, pawn_rank, pawn_takes, steps_one, steps_two};
 ghost use Rattle.chess_types.specs.declared.board.man.Kind.TheVariants.{Pawn};
 ghost use Rattle.chess_attack.specs.KeptCounts.{AreCounts};
 
@@ -98,13 +98,6 @@ fn pawn_promotion_fits(side: Colour, m: Move) -> bool
     }
 }
 
-/// Whether the move goes from the king's home to the square that castling to that wing reaches (FIDE Laws 3.8.2).
-pub(crate) fn castles_to(side: Colour, wing: Wing, m: Move) -> bool
-    ensures { result ≡ castles_to side wing m }
-{
-    m.from == side.king_home() && m.to == wing.reached(side)
-}
-
 /// Whether no man stands there.
 #[inline(always)]
 fn is_free(setup: &Setup, number: u8) -> bool
@@ -152,7 +145,7 @@ fn castles(setup: &Setup, counts: &Counts, wing: Wing, m: Move) -> bool
     requires { AreCounts counts.now setup.now.placement }
     ensures { result ≡ castles setup.now wing m }
 {
-    castles_to(setup.side, wing, m) && may_castle(setup, counts, wing)
+    wing.castles_to(setup.side, m) && may_castle(setup, counts, wing)
 }
 
 /// Whether the man of the side goes to a square that it attacks and may enter (FIDE Laws 3.2 to 3.6, 3.8.1).

@@ -24,7 +24,7 @@ no_wing b rest h g = rw (ne_eqb b 79 h, ne_eqb b 48 g) refl
 no_piece : (b : ℕ) → 97 ≤ b → piece_in b ≡ None
 unfolding piece_in
 no_piece b high =
-    rw (ne_eqb b 78 (λ e. omega arith), ne_eqb b 66 (λ e. omega arith), ne_eqb b 82 (λ e. omega arith), ne_eqb b 81 (λ e. omega arith), ne_eqb b 75 (λ e. omega arith)) refl
+    rw (ne_eqb b 80 (λ e. omega arith), ne_eqb b 78 (λ e. omega arith), ne_eqb b 66 (λ e. omega arith), ne_eqb b 82 (λ e. omega arith), ne_eqb b 81 (λ e. omega arith), ne_eqb b 75 (λ e. omega arith)) refl
 
 abbrev pub step_course : Origin → ℕ → Course
 step_course origin to = record { origin = origin; to = to; promo = None }

@@ -5,9 +5,11 @@
 use Rattle.std.specs.Prelude.{ℕ, ◌+◌, ◌*◌, ◌-◌, ◌==◌, nat_le, ◌&&◌, ◌||◌, if◌then◌else◌, List, [], ◌∷◌, Option, Some, None, codes, bytes_eq}
 use Rattle.std.specs.Str.{byte}
 use Rattle.chess_types.specs.declared.board.man.Kind.{Kind}
-use Rattle.chess_types.specs.declared.board.man.Kind.TheVariants.{Knight, Bishop, Rook, Queen, King}
+use Rattle.chess_types.specs.declared.board.man.Kind.TheVariants.{Knight, Bishop, Rook, Queen}
 use Rattle.chess_types.specs.declared.board.position.Wing.{Wing}
 use Rattle.chess_types.specs.declared.board.position.Wing.TheVariants.{KingSide, QueenSide}
+use Rattle.chess_types.specs.board.Men.{is_pawn}
+use Rattle.chess_types.specs.board.Texts.{kind_of_letter}
 use Rattle.chess_types.specs.bytes.Words.{without_last_gaps}
 use Rattle.chess_san.specs.declared.form.Origin.{Origin}
 use Rattle.chess_san.specs.declared.form.Course.{Course}
@@ -27,11 +29,14 @@ square_at None rank = None
 square_at (Some file) None = None
 square_at (Some file) (Some rank) = Some (8 * rank + file)
 
+-- a pawn has no letter
+abbrev pub not_pawn : Option Kind → Option Kind
+not_pawn None = None
+not_pawn (Some kind) = if is_pawn kind then None else Some kind
+
 -- N, B, R, Q, K
 unfoldable pub piece_in : ℕ → Option Kind
-piece_in b =
-    if b == byte "N" then Some Knight
-    else (if b == byte "B" then Some Bishop else (if b == byte "R" then Some Rook else (if b == byte "Q" then Some Queen else (if b == byte "K" then Some King else None))))
+piece_in b = not_pawn (kind_of_letter b)
 
 -- Q, R, B, N or q, r, b, n
 unfoldable pub promotion_in : ℕ → Option Kind

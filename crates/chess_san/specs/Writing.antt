@@ -4,6 +4,7 @@
 --   mark_text   # for mate, + for check (PGN 8.2.3.5)
 --   san         the text
 use Rattle.std.specs.Prelude.{ℕ, ◌+◌, ◌==◌, Bool, not, ◌&&◌, ◌||◌, if◌then◌else◌, List, [], ◌∷◌, ◌++◌, filter, Option, Some, None, is_some, codes}
+use Rattle.std.specs.Char.{to_ascii_uppercase}
 use Rattle.std.specs.Str.{byte}
 use Rattle.std.specs.List.{list_any}
 use Rattle.chess_types.specs.declared.board.man.Kind.{Kind}
@@ -13,7 +14,7 @@ use Rattle.chess_types.specs.declared.board.position.Wing.TheVariants.{KingSide,
 use Rattle.chess_types.specs.board.Squares.{file_of, rank_of}
 use Rattle.chess_types.specs.board.Attack.{in_check}
 use Rattle.chess_types.specs.board.MoveParts.{MoveParts}
-use Rattle.chess_types.specs.board.Texts.{square_text}
+use Rattle.chess_types.specs.board.Texts.{kind_letter, square_text}
 use Rattle.chess_types.specs.board.Position.{State, look}
 use Rattle.chess_types.specs.board.After.{after, is_castling, is_en_passant}
 use Rattle.chess_types.specs.board.Legal.{legal_moves}
@@ -23,12 +24,7 @@ use Rattle.chess_san.specs.Naming.{is_kind}
 
 -- the letter of a kind, in upper case: P, N, B, R, Q, K
 abbrev pub piece_letter : Kind → ℕ
-piece_letter Pawn = byte "P"
-piece_letter Knight = byte "N"
-piece_letter Bishop = byte "B"
-piece_letter Rook = byte "R"
-piece_letter Queen = byte "Q"
-piece_letter King = byte "K"
+piece_letter kind = to_ascii_uppercase (kind_letter kind)
 
 abbrev pub file_letter : Option ℕ → List ℕ
 file_letter None = []

@@ -1,5 +1,5 @@
 ghost use Rattle.std.specs.Prelude.{◌≡◌, ◌<◌, IfSome};
-ghost use Rattle.chess_types.specs.bytes.Words.{is_gap, without_last_gaps};
+ghost use Rattle.chess_types.specs.bytes.Words.{without_last_gaps};
 ghost use Rattle.chess_san.specs.Forms.{file_in, rank_in, square_at, piece_in, promotion_in, ending_in, arrival_square_in, arrival_in, ranked_in, rank_or_not, filed_in, course_in, man_in, wing_in, form_in, marks};
 
 use crate::form::{Course, Form, Origin};
@@ -40,13 +40,9 @@ fn square_in(letter: u8, digit: u8) -> Option<Square>
 fn piece_in(letter: u8) -> Option<Kind>
     ensures { result ≡ piece_in letter }
 {
-    match letter {
-        b'N' => Some(Kind::Knight),
-        b'B' => Some(Kind::Bishop),
-        b'R' => Some(Kind::Rook),
-        b'Q' => Some(Kind::Queen),
-        b'K' => Some(Kind::King),
-        _ => None,
+    match Kind::of_letter(letter)? {
+        Kind::Pawn => None,
+        kind => Some(kind),
     }
 }
 

@@ -1,5 +1,4 @@
-ghost use Rattle.std.specs.Prelude.{◌≡◌, ◌<◌};
-ghost use Rattle.chess_types.specs.board.After.{is_castling};
+ghost use Rattle.std.specs.Prelude.{◌≡◌};
 ghost use Rattle.chess_san.specs.Naming.{is_kind, castles_by, is_castles, fits, follows, may_be_plain, names};
 
 use crate::form::{Course, Form, Origin};
@@ -14,19 +13,12 @@ pub(crate) fn is_kind(kind: Kind, there: Option<Man>) -> bool
     }
 }
 
-/// Whether the man castles by the move, to that wing.
-pub(crate) fn is_castling(man: Man, wing: Wing, m: Move) -> bool
-    ensures { result ≡ is_castling man wing m }
-{
-    man.kind == Kind::King && m.from == man.colour.king_home() && m.to == wing.reached(man.colour)
-}
-
 fn castles_by(there: Option<Man>, wing: Wing, m: Move) -> bool
     ensures { result ≡ castles_by there wing m }
 {
     match there {
         None => false,
-        Some(man) => is_castling(man, wing, m),
+        Some(man) => wing.is_castling(man, m),
     }
 }
 

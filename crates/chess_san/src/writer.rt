@@ -8,31 +8,17 @@ ghost use Rattle.chess_types.specs.board.Texts.{square_text};
 ghost use Rattle.chess_types.specs.board.Position.{look};
 ghost use Rattle.chess_types.specs.board.After.{after};
 ghost use Rattle.chess_types.specs.board.Legal.{is_legal};
-ghost use Rattle.chess_san.specs.steps.Origins.{Begins, BeginsAmong, from_each, legal_and};
+ghost use Rattle.chess_san.specs.steps.Origins.{Begins, BeginsAmong, legal_and};
 ghost use Rattle.chess_san.specs.Naming.{named, reading};
 ghost use Rattle.chess_san.specs.Writing.{piece_letter, captures, capture_text, file_letter, rank_digit, becoming_text, pawn_text, piece_text, rivals, is_rival, origin_by, origin_among, mark_text, bare_text, san};
 
 use crate::form::Origin;
-use crate::names::{is_castling, is_kind};
+use crate::names::is_kind;
 use crate::origins::origins;
 use arrayvec::ArrayString;
 use chess_moves::{has_legal, in_check, is_legal};
-use chess_play::Live;
+use chess_play::{Live, is_en_passant};
 use chess_types::{Kind, Man, Move, Setup, Square, SquareSet, Wing};
-
-fn piece_letter(kind: Kind) -> char
-    ensures value { result ≡ piece_letter kind }
-    ensures ascii { result < 128 }
-{
-    match kind {
-        Kind::Pawn => 'P',
-        Kind::Knight => 'N',
-        Kind::Bishop => 'B',
-        Kind::Rook => 'R',
-        Kind::Queen => 'Q',
-        Kind::King => 'K',
-    }
-}
 
 fn is_rival(setup: &Setup, kind: Kind, from: Square, to: Square, other: Move) -> bool
     ensures { result ≡ is_rival setup.now kind from to other }
@@ -165,8 +151,7 @@ fn origin_of(live: &mut Live, kind: Kind, from: Square, to: Square) -> Origin
 fn captures(setup: &Setup, man: Man, m: Move) -> bool
     ensures { result ≡ captures setup.now man m }
 {
-    setup.placement.get(m.to).is_some()
-        || (man.kind == Kind::Pawn && setup.target == Some(m.to) && m.from.file() != m.to.file())
+    setup.placement.get(m.to).is_some() || is_en_passant(setup.target, man, m)
 }
 
 fn push_file(text: &mut ArrayString<8>, file: Option<u8>)
@@ -214,7 +199,7 @@ fn push_letter(text: &mut ArrayString<8>, kind: Kind)
     ensures bytes { text.new.bytes ≡ text.old.bytes ++ piece_letter kind ∷ [] }
     ensures len { array_string_len text.new ≤ array_string_len text.old + 1 }
 {
-    text.push(piece_letter(kind));
+    text.push(kind.letter().to_ascii_uppercase());
 }
 
 fn push_promotion(text: &mut ArrayString<8>, promo: Option<Kind>)
@@ -269,12 +254,12 @@ fn bare_text(live: &mut Live, man: Man, m: Move) -> ArrayString<8>
     ensures position { live.new.position ≡ live.old.position }
     ensures words { live.new.words ≡ live.old.words }
 {
-    if is_castling(man, Wing::KingSide, m) {
+    if Wing::KingSide.is_castling(man, m) {
         let mut text = ArrayString::new();
         text.push_str("O-O");
         return text;
     }
-    if is_castling(man, Wing::QueenSide, m) {
+    if Wing::QueenSide.is_castling(man, m) {
         let mut text = ArrayString::new();
         text.push_str("O-O-O");
         return text;

@@ -55,7 +55,7 @@ fn assert_afresh(rt: &impl Abort, followed: &Followed) {
 
 /// Puts each man of the start position and takes it away again, in the order of the squares where the step is 1.
 fn put_and_clear(rt: &impl Abort, step: u8) {
-    let men = start(rt);
+    let men = start();
     let mut followed = Followed::empty();
     for turn in 0..64u16 {
         let square = Square::from_index((turn * step as u16 % 64) as u8);
@@ -110,19 +110,7 @@ fn ticks_on_d4(rt: &impl Abort, followed: &mut Followed, man: Man) -> u32 {
 
 #[test]
 fn eight_sliders_look_at_d4(rt: HostRuntime) {
-    let mut followed = Followed::of(board(
-        &rt,
-        [
-            b"...r...b",
-            b"b.......",
-            b"........",
-            b"........",
-            b"r......r",
-            b"........",
-            b"........",
-            b"b..r..b.",
-        ],
-    ));
+    let mut followed = Followed::of(board(&rt, "rd8 bh8 ba7 ra4 rh4 ba1 rd1 bg1"));
     // From d4 the ranks, files and diagonals go 4 and 3, 4 and 3, 4 and 3, 3 and 3 squares far: 27. On each of them a man looks
     // over d4 to the man at the other end, so whoever comes to d4 takes 27 attacks away. A queen there attacks 27 squares
     // herself, a rook 14, a bishop 13, a knight and a king 8, a pawn 2.
@@ -144,7 +132,7 @@ fn eight_sliders_look_at_d4(rt: HostRuntime) {
 
 #[test]
 fn the_start_position_without_e2(rt: HostRuntime) {
-    let mut followed = Followed::of(start(&rt));
+    let mut followed = Followed::of(start());
     // the counts of each side add up to 6 on its first rank, 14 on its second and 18 on its third
     assert_eq!(rt; followed.counts.ticks(), 2 * 38);
     followed.counts.begin();

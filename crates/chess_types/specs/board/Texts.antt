@@ -1,10 +1,17 @@
--- The texts that name squares and moves (PGN 8.2.3.2 for squares; the long algebraic notation of UCI for moves).
+-- The texts that name squares, men and moves (PGN 8.2.3.2 for squares, 16.1.3.1 for men; the long algebraic notation of UCI for
+-- moves).
 --   square_text        file letter a to h, then rank digit 1 to 8
 --   kind_letter        p, n, b, r, q or k
+--   kind_of_letter     the kind that P, N, B, R, Q or K stands for
+--   man_letter         a man's letter, White's in upper case; man_of_letter, the man that a letter stands for
 --   move_text          the square left, the square reached, and what a pawn becomes
 --   names_promotion    a move to play names no kind, or a queen, rook, bishop or knight
-use Rattle.std.specs.Prelude.{◌≡◌, ℕ, ◌+◌, Bool, true, false, List, [], ◌∷◌, ◌++◌, Option, Some, None}
+use Rattle.std.specs.Prelude.{◌≡◌, ℕ, ◌+◌, ◌==◌, Bool, true, false, if◌then◌else◌, List, [], ◌∷◌, ◌++◌, Option, Some, None, option_map}
+use Rattle.std.specs.Char.{is_ascii_uppercase, to_ascii_uppercase}
 use Rattle.std.specs.Str.{byte}
+use Rattle.chess_types.specs.declared.board.man.Colour.{Colour}
+use Rattle.chess_types.specs.declared.board.man.Colour.TheVariants.{White, Black}
+use Rattle.chess_types.specs.declared.board.man.Man.{Man}
 use Rattle.chess_types.specs.declared.board.man.Kind.{Kind}
 use Rattle.chess_types.specs.declared.board.man.Kind.TheVariants.{Pawn, Knight, Bishop, Rook, Queen, King}
 use Rattle.chess_types.specs.board.Squares.{file_of, rank_of}
@@ -22,6 +29,31 @@ kind_letter Bishop = byte "b"
 kind_letter Rook = byte "r"
 kind_letter Queen = byte "q"
 kind_letter King = byte "k"
+
+abbrev pub kind_of_letter : ℕ → Option Kind
+kind_of_letter letter =
+    if letter == byte "P" then Some Pawn
+    else (if letter == byte "N" then Some Knight
+    else (if letter == byte "B" then Some Bishop
+    else (if letter == byte "R" then Some Rook
+    else (if letter == byte "Q" then Some Queen
+    else (if letter == byte "K" then Some King
+    else None)))))
+
+-- White's letters are upper-case, Black's lower-case.
+abbrev pub letter_in_case : Colour → ℕ → ℕ
+letter_in_case White letter = to_ascii_uppercase letter
+letter_in_case Black letter = letter
+
+abbrev pub man_letter : Man → ℕ
+man_letter man = letter_in_case man.colour (kind_letter man.kind)
+
+abbrev pub colour_of_letter : ℕ → Colour
+colour_of_letter letter = if is_ascii_uppercase letter then White else Black
+
+abbrev pub man_of_letter : ℕ → Option Man
+man_of_letter letter =
+    option_map (λ kind. record { colour = colour_of_letter letter; kind = kind }) (kind_of_letter (to_ascii_uppercase letter))
 
 -- what a pawn becomes, where the move says so
 abbrev pub promotion_text : Option Kind → List ℕ

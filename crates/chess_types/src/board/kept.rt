@@ -1,6 +1,5 @@
 ghost use Rattle.std.specs.Prelude.{◌≡◌, ℕ, None, true, false};
 ghost use Rattle.chess_types.specs.board.Board.{Look};
-ghost use Rattle.chess_types.specs.board.Men.{is_king as is_king_of};
 ghost use Rattle.chess_types.specs.steps.KeptSets.{SetsAreKept, IsPut, IsCleared, is_straight as is_straight_of, is_diagonal as is_diagonal_of};
 
 use super::cell::is_of;
@@ -16,13 +15,6 @@ pub struct Kept {
     pub kings: SquareSet,
     pub straight: SquareSet,
     pub diagonal: SquareSet,
-}
-
-/// Whether the kind is the king.
-fn is_king(kind: Kind) -> bool
-    ensures { result ≡ is_king_of kind }
-{
-    kind == Kind::King
 }
 
 /// Whether the kind moves along ranks and files.
@@ -65,7 +57,7 @@ impl Kept {
     {
         self.white.insert_if(at, is_of(Colour::White, Some(man)));
         self.black.insert_if(at, is_of(Colour::Black, Some(man)));
-        self.kings.insert_if(at, is_king(man.kind));
+        self.kings.insert_if(at, man.kind.is_king());
         self.straight.insert_if(at, is_straight(man.kind));
         self.diagonal.insert_if(at, is_diagonal(man.kind));
     }

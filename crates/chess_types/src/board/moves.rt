@@ -23,21 +23,6 @@ fn promotion(letter: u8) -> Option<Kind>
     }
 }
 
-// The letter of a kind, in lower case.
-fn letter_of(kind: Kind) -> char
-    ensures value { result ≡ kind_letter kind }
-    ensures ascii { result < 128 }
-{
-    match kind {
-        Kind::Pawn => 'p',
-        Kind::Knight => 'n',
-        Kind::Bishop => 'b',
-        Kind::Rook => 'r',
-        Kind::Queen => 'q',
-        Kind::King => 'k',
-    }
-}
-
 /// A move: from where, to where, and what a pawn becomes on the last rank. Castling is the king's move of two squares.
 #[derive(Clone, Copy, Debug, PartialEq, Eq)]
 pub struct Move {
@@ -86,7 +71,7 @@ impl Move {
         text.push_str(&self.from.text());
         text.push_str(&self.to.text());
         if let Some(kind) = self.promo {
-            text.push(letter_of(kind));
+            text.push(kind.letter());
         }
         text
     }

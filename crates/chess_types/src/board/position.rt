@@ -1,9 +1,11 @@
 ghost use Rattle.std.specs.Prelude.{◌≡◌, replicate, ⊤};
 ghost use Rattle.chess_types.specs.declared.board.man.Kind.TheVariants.{Pawn};
 ghost use Rattle.chess_types.specs.board.Position.{IsQuiet, back_rank, cell_of, holds, king_home, rook_home, start, start_cells};
-ghost use Rattle.chess_types.specs.board.Pseudo.{crossed, reached};
+ghost use Rattle.chess_types.specs.board.Pseudo.{castles_to, crossed, reached};
+ghost use Rattle.chess_types.specs.board.After.{is_castling};
 
 use super::man::{Colour, Kind, Man};
+use super::moves::Move;
 use super::placement::Placement;
 use super::square::Square;
 use std::alloc::AllocError;
@@ -63,6 +65,22 @@ impl Wing {
             (Colour::Black, Wing::KingSide) => 62,
             (Colour::Black, Wing::QueenSide) => 58,
         })
+    }
+
+    /// Whether the move goes from the king's home to the square that castling to that wing reaches (FIDE Laws 3.8.2).
+    #[inline(always)]
+    pub fn castles_to(self, side: Colour, m: Move) -> bool
+        ensures { result ≡ castles_to side self m }
+    {
+        m.from == side.king_home() && m.to == self.reached(side)
+    }
+
+    /// Whether the man castles to that wing by the move (FIDE Laws 3.8.2).
+    #[inline(always)]
+    pub fn is_castling(self, man: Man, m: Move) -> bool
+        ensures { result ≡ is_castling man self m }
+    {
+        man.kind.is_king() && self.castles_to(man.colour, m)
     }
 }
 

@@ -29,6 +29,6 @@ loop-at-preserved c = record {
   finite = tt;
   found = λ s.
       safe_next (λ t. holds_pawn (man_at c.args.placement.now t)) c.loop-at.found c.insert_if.new.self c.in-Some.at s
-      c.is_pawn-holds.result _ c.loop-at.at-iterator c.next.new.self c.insert_if.ensures (c.is_pawn-holds.ensures ∙ ap holds_pawn c.get.ensures)
+      c.holds_pawn-holds.result _ c.loop-at.at-iterator c.next.new.self c.insert_if.ensures (c.holds_pawn-holds.ensures ∙ ap holds_pawn c.get.ensures)
       c.in-Some.ensures.steps (c.loop-at.invariant.found s);
 }

@@ -1,9 +1,7 @@
-use Rattle.std.proofs.Common.{◌≤◌, length, ap, subst, ◌∙◌, refl, arith}
+use Rattle.std.proofs.Common.{◌≤◌, length, ap, ◌∙◌, refl, arith}
 use Rattle.std.specs.List.{flat_map}
-use Rattle.chess_types.specs.steps.KeptSets.{Gathers}
-use Rattle.chess_types.specs.board.Men.{is_of}
 use Rattle.chess_types.specs.board.Legal.{moves_from, legal_moves}
-use Rattle.chess_types.specs.board.Position.{State, look}
+use Rattle.chess_types.specs.board.Position.{State}
 use Rattle.chess_moves.proofs.Bound.{legal_few}
 use Rattle.chess_moves.proofs.Pieces.{room_next, listed_end, next_piece}
 use Rattle.chess_moves.proofs.Reach.{own_each, own_listed}
@@ -12,23 +10,21 @@ use Rattle.chess_moves.proofs.listing.moves_into.Goals as goal
 pub loop-from-init : goal.loop-from-init
 loop-from-init c =
     let p : State = c.args.live.now.position in
-    let same = c.setup.view_is ∙ c.position-setup.ensures.value in
-    let own : Gathers c.of-own.result (is_of p.side) (look p) = subst (λ (q : State). Gathers c.of-own.result (is_of q.side) (look q)) same c.of-own.ensures in
     let xs = c.into_iter-from-iterator.ensures.into_iter_gives ∙ c.iter-from-items.ensures.value in
     record {
       can = tt;
       finite = tt;
       position = refl;
       words = refl;
-      own = own_each p c.of-own.result own c.into_iter-from-iterator.result xs;
-      listed = own_listed p c.of-own.result own c.into_iter-from-iterator.result xs c.clear.ensures;
+      own = own_each p c.own_men-own.result c.own_men-own.ensures.own c.into_iter-from-iterator.result xs;
+      listed = own_listed p c.own_men-own.result c.own_men-own.ensures.own c.into_iter-from-iterator.result xs c.clear.ensures;
     }
 
 pub add_from-requires-clause-room : goal.add_from-requires-clause-room
 unfolding legal_moves
 add_from-requires-clause-room c =
     let p : State = c.args.live.now.position in
-    let few : length (legal_moves p) ≤ 432 = legal_few p (c.position-setup.ensures.setup.few p.side) in
+    let few : length (legal_moves p) ≤ 432 = legal_few p c.own_men-own.ensures.few in
     room_next c.loop-from.invariant.position c.loop-from.invariant.listed (next_piece moves_from c.in-Some.ensures.steps) (omega arith)
 
 pub returns-clause-listed : goal.returns-clause-listed

@@ -1,20 +1,14 @@
-use Rattle.std.proofs.Common.{Bool, ◌==◌, ◌&&◌, ◌||◌, ap, ◌∙◌}
-use Rattle.std.specs.List.{list_any}
-use Rattle.std.specs.FinSet.{contains, contains-empty}
-use Rattle.std.specs.Ordering.{nat_cmp}
+use Rattle.std.proofs.Common.{◌∙◌}
 use Rattle.chess_moves.specs.steps.Guarded.{is_safe_step}
-use Rattle.chess_moves.proofs.SafeSteps.{listed_in, safe_next}
+use Rattle.chess_moves.proofs.SafeSteps.{safe_first, safe_next}
 use Rattle.chess_moves.proofs.targets.safe_steps.Goals as goal
 
 pub loop-to-init : goal.loop-to-init
 loop-to-init c = record {
   can = tt;
   finite = tt;
-  found = λ s hs.
-      let safe : Bool = is_safe_step c.args.live.now.position c.args.guard.now.king s in
-      ap (λ b. b || (list_any (λ t. t == s) c.into_iter-to-iterator.result && safe)) (ap (λ x. contains x s) c.empty-safe.ensures ∙ contains-empty nat_cmp s)
-      ∙ ap (λ xs. list_any (λ t. t == s) xs && safe) (c.into_iter-to-iterator.ensures.into_iter_gives ∙ c.iter-to-items.ensures.value)
-      ∙ ap (λ b. b && safe) (listed_in c.args.steps s hs);
+  found = safe_first (is_safe_step c.args.live.now.position c.args.guard.now.king) c.args.steps c.empty-safe.result
+      c.into_iter-to-iterator.result c.empty-safe.ensures (c.into_iter-to-iterator.ensures.into_iter_gives ∙ c.iter-to-items.ensures.value);
 }
 
 pub loop-to-preserved : goal.loop-to-preserved

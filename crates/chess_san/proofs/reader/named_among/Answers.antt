@@ -1,10 +1,7 @@
-use Rattle.std.proofs.Common.{◌==◌, ◌&&◌, ◌||◌, Bool, ap, refl, ◌∙◌}
-use Rattle.std.specs.List.{list_any}
-use Rattle.std.specs.FinSet.{contains, contains-empty}
-use Rattle.std.specs.Ordering.{nat_cmp}
+use Rattle.std.proofs.Common.{ap, refl, ◌∙◌}
 use Rattle.chess_types.specs.board.Position.{State}
 use Rattle.chess_moves.specs.steps.Targets.{move_to}
-use Rattle.chess_moves.proofs.SafeSteps.{listed_in, safe_next}
+use Rattle.chess_moves.proofs.SafeSteps.{safe_first, safe_next}
 use Rattle.chess_san.specs.Naming.{names}
 use Rattle.chess_san.specs.steps.Origins.{legal_and}
 use Rattle.chess_san.proofs.reader.named_among.Goals as goal
@@ -15,11 +12,8 @@ loop-from-init c = record {
   finite = tt;
   position = refl;
   words = refl;
-  found = λ s hs.
-      let passes : Bool = legal_and (names c.args.live.now.position c.args.form.now) c.args.live.now.position (move_to s c.args.to c.args.promo) in
-      ap (λ b. b || (list_any (λ t. t == s) c.into_iter-from-iterator.result && passes)) (ap (λ x. contains x s) c.empty-named.ensures ∙ contains-empty nat_cmp s)
-      ∙ ap (λ xs. list_any (λ t. t == s) xs && passes) (c.into_iter-from-iterator.ensures.into_iter_gives ∙ c.iter-from-items.ensures.value)
-      ∙ ap (λ b. b && passes) (listed_in c.args.all s hs);
+  found = safe_first (λ a. legal_and (names c.args.live.now.position c.args.form.now) c.args.live.now.position (move_to a c.args.to c.args.promo)) c.args.all c.empty-named.result
+      c.into_iter-from-iterator.result c.empty-named.ensures (c.into_iter-from-iterator.ensures.into_iter_gives ∙ c.iter-from-items.ensures.value);
 }
 
 pub loop-from-preserved : goal.loop-from-preserved

@@ -15,58 +15,44 @@ returns-then-not-is_legal-clause-answer g c =
     inl (sym (answer_illegal c.args.self.now.line c.args.m
     (legal_last c.self.invariant.line c.self.view_is c.args.m c.is_legal.ensures.value c.if-not-is_legal.true)))
 
-pub returns-then-len-ge-LIMIT-clause-answer : goal.returns-then-len-ge-LIMIT-clause-answer
-returns-then-len-ge-LIMIT-clause-answer g c =
-    let plies : length c.self.inside.plies.items ≡ length c.args.self.now.line.moves =
-    all_made c.self.inside.plies.items c.self.inside.looked.items c.self.invariant.line c.self.view_is
-    (none_looked c.self.inside.looked.items c.args.self.now (ap (λ (l : LineParts). l.looked) c.self.view_is) c.requires.none) in
-    let len : c.len.result ≡ length c.self.inside.plies.items = search (rules, arith) in
+pub returns-then-made-ge-LIMIT-clause-answer : goal.returns-then-made-ge-LIMIT-clause-answer
+returns-then-made-ge-LIMIT-clause-answer g c =
     inl (sym (answer_long c.args.self.now.line c.args.m
     (legal_last c.self.invariant.line c.self.view_is c.args.m c.is_legal.ensures.value c.if-not-is_legal.false)
-    (omega (arith, plies, len, c.if-len-ge-LIMIT.true))))
+    (omega (arith, c.plies-made.ensures.value, c.if-made-ge-LIMIT.true))))
 
 pub returns-then-is_err-clause-answer : goal.returns-then-is_err-clause-answer
 returns-then-is_err-clause-answer g c =
     let plies : length c.self.inside.plies.items ≡ length c.args.self.now.line.moves =
     all_made c.self.inside.plies.items c.self.inside.looked.items c.self.invariant.line c.self.view_is
     (none_looked c.self.inside.looked.items c.args.self.now (ap (λ (l : LineParts). l.looked) c.self.view_is) c.requires.none) in
-    let len : c.len.result ≡ length c.self.inside.plies.items = search (rules, arith) in
     let room : vec_capacity c.self.inside.plies ≡ c.args.self.now.room = ap (λ (l : LineParts). l.room) c.self.view_is in
-    let full : vec_capacity c.self.inside.plies < c.len.result + 1 = search (rules, arith) in
+    let full : vec_capacity c.self.inside.plies < length c.self.inside.plies.items + 1 = search (rules, arith) in
     inr (
       answer_made c.args.self.now.line c.args.m
           (legal_last c.self.invariant.line c.self.view_is c.args.m c.is_legal.ensures.value c.if-not-is_legal.false)
-          (omega (arith, plies, len, c.if-len-ge-LIMIT.false)),
+          (omega (arith, c.plies-made.ensures.value, c.if-made-ge-LIMIT.false)),
       refl,
-      omega (arith, plies, len, room, full),
+      omega (arith, plies, room, full),
     )
 
 pub returns-clause-answer : goal.returns-clause-answer
 returns-clause-answer g c =
-    let plies : length c.self.inside.plies.items ≡ length c.args.self.now.line.moves =
-    all_made c.self.inside.plies.items c.self.inside.looked.items c.self.invariant.line c.self.view_is
-    (none_looked c.self.inside.looked.items c.args.self.now (ap (λ (l : LineParts). l.looked) c.self.view_is) c.requires.none) in
-    let len : c.len.result ≡ length c.self.inside.plies.items = search (rules, arith) in
     inl (sym (answer_made c.args.self.now.line c.args.m
     (legal_last c.self.invariant.line c.self.view_is c.args.m c.is_legal.ensures.value c.if-not-is_legal.false)
-    (omega (arith, plies, len, c.if-len-ge-LIMIT.false))))
+    (omega (arith, c.plies-made.ensures.value, c.if-made-ge-LIMIT.false))))
 
 pub returns-clause-legal : goal.returns-clause-legal
 returns-clause-legal g c = legal_last c.self.invariant.line c.self.view_is c.args.m c.is_legal.ensures.value c.if-not-is_legal.false
 
 pub returns-clause-few : goal.returns-clause-few
 returns-clause-few g c =
-    let plies : length c.self.inside.plies.items ≡ length c.args.self.now.line.moves =
-    all_made c.self.inside.plies.items c.self.inside.looked.items c.self.invariant.line c.self.view_is
-    (none_looked c.self.inside.looked.items c.args.self.now (ap (λ (l : LineParts). l.looked) c.self.view_is) c.requires.none) in
-    let len : c.len.result ≡ length c.self.inside.plies.items = search (rules, arith) in
-    omega (arith, plies, len, c.if-len-ge-LIMIT.false)
+    omega (arith, c.plies-made.ensures.value, c.if-made-ge-LIMIT.false)
 
 pub returns-clause-ready : goal.returns-clause-ready
 returns-clause-ready g c =
     let plies : length c.self.inside.plies.items ≡ length c.args.self.now.line.moves =
     all_made c.self.inside.plies.items c.self.inside.looked.items c.self.invariant.line c.self.view_is
     (none_looked c.self.inside.looked.items c.args.self.now (ap (λ (l : LineParts). l.looked) c.self.view_is) c.requires.none) in
-    let len : c.len.result ≡ length c.self.inside.plies.items = search (rules, arith) in
-    let room : c.len.result + 1 ≤ vec_capacity c.reserve.new.self = grind arith in
-    omega (arith, plies, len, room)
+    let room : length c.self.inside.plies.items + 1 ≤ vec_capacity c.reserve.new.self = grind arith in
+    omega (arith, plies, room)

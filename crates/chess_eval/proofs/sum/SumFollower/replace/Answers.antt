@@ -1,5 +1,5 @@
-use Rattle.std.proofs.Common.{◌≡◌, Some, sym, ap, subst, ◌∙◌, arith}
-use Rattle.std.specs.FinMap.{get, insert, remove}
+use Rattle.std.proofs.Common.{sym, ap, subst, ◌∙◌, arith}
+use Rattle.std.specs.FinMap.{insert, remove}
 use Rattle.chess_types.specs.board.Board.{man_at}
 use Rattle.chess_eval.specs.Evaluation.{Sums}
 use Rattle.chess_eval.specs.steps.Changes.{with_man, without_man, AreInRange}

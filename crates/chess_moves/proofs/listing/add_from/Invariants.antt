@@ -3,7 +3,7 @@ use Rattle.std.specs.List.{list_all, flat_map}
 use Rattle.chess_types.specs.board.Legal.{moves_between, moves_from}
 use Rattle.chess_moves.specs.steps.Targets.{is_legal_target}
 use Rattle.chess_moves.proofs.Pieces.{Listed}
-use Rattle.chess_moves.proofs.listing.add_own.Given as goal
+use Rattle.chess_moves.proofs.listing.add_from.Given as goal
 
 -- the man's move to each square still to come is legal
 abbrev pub invariant-loop-to : goal.invariant-loop-to

@@ -9,7 +9,7 @@ use Rattle.chess_moves.specs.steps.Targets.{is_legal_target, moves_named}
 use Rattle.chess_moves.proofs.LegalTargets.{lands_all}
 use Rattle.chess_moves.proofs.Pieces.{listed_next, room_next, next_piece}
 use Rattle.chess_moves.proofs.Reach.{lands_each, lands_listed}
-use Rattle.chess_moves.proofs.listing.add_own.Goals as goal
+use Rattle.chess_moves.proofs.listing.add_from.Goals as goal
 
 pub loop-to-init : goal.loop-to-init
 loop-to-init c =
@@ -21,9 +21,9 @@ loop-to-init c =
     record {
       can = tt;
       finite = tt;
-      is_legal_target = lands_each p setup c.args.kind c.args.from c.args.guard.now.king (omega arith) c.requires.here king c.targets-squares.result c.targets-squares.ensures.is_legal_target
+      is_legal_target = lands_each p setup c.own_kind-kind.result c.args.from c.args.guard.now.king (omega arith) c.own_kind-kind.ensures king c.targets-squares.result c.targets-squares.ensures.is_legal_target
           c.into_iter-to-iterator.result xs;
-      listed = lands_listed p setup c.args.kind c.args.from c.args.guard.now.king (omega arith) c.requires.here king c.targets-squares.result c.targets-squares.ensures.is_legal_target
+      listed = lands_listed p setup c.own_kind-kind.result c.args.from c.args.guard.now.king (omega arith) c.own_kind-kind.ensures king c.targets-squares.result c.targets-squares.ensures.is_legal_target
           c.into_iter-to-iterator.result xs c.args.list.now.items;
     }
 
@@ -33,13 +33,13 @@ add_named-requires c =
     let setup = c.position.ensures.setup in
     let king : OnlyKing (look p) p.side c.args.guard.now.king =
     only_king p.placement p.side c.args.guard.now.king (setup.kings p.side) c.requires.guard.on_board c.requires.guard.king in
-    let on : is_legal_target p c.args.kind c.args.from c.in-Some.to ≡ true =
-    (and_parts _ _ (sym (ap (list_all (is_legal_target p c.args.kind c.args.from)) c.in-Some.ensures.steps) ∙ c.loop-to.invariant.is_legal_target)).0 in
+    let on : is_legal_target p c.own_kind-kind.result c.args.from c.in-Some.to ≡ true =
+    (and_parts _ _ (sym (ap (list_all (is_legal_target p c.own_kind-kind.result c.args.from)) c.in-Some.ensures.steps) ∙ c.loop-to.invariant.is_legal_target)).0 in
     let same = c.behind-live.view_is ∙ c.position.ensures.value in
     record {
       room = subst (λ (xs : List MoveParts). length c.loop-to.list.items + length xs ≤ 432)
-          (lands_all p setup c.args.kind c.args.from c.in-Some.to c.args.guard.now.king (omega arith) (omega arith) c.requires.here king on
-          ∙ ap (λ (q : State). moves_named q.side c.args.kind c.args.from c.in-Some.to) (sym same))
+          (lands_all p setup c.own_kind-kind.result c.args.from c.in-Some.to c.args.guard.now.king (omega arith) (omega arith) c.own_kind-kind.ensures king on
+          ∙ ap (λ (q : State). moves_named q.side c.own_kind-kind.result c.args.from c.in-Some.to) (sym same))
           (room_next {now = p} refl c.loop-to.invariant.listed (next_piece (moves_between c.args.from) c.in-Some.ensures.steps) c.requires.room);
     }
 
@@ -49,8 +49,8 @@ loop-to-preserved c =
     let setup = c.position.ensures.setup in
     let king : OnlyKing (look p) p.side c.args.guard.now.king =
     only_king p.placement p.side c.args.guard.now.king (setup.kings p.side) c.requires.guard.on_board c.requires.guard.king in
-    let parts : (is_legal_target p c.args.kind c.args.from c.in-Some.to ≡ true) × (list_all (is_legal_target p c.args.kind c.args.from) c.next.new.self ≡ true) =
-    and_parts _ _ (sym (ap (list_all (is_legal_target p c.args.kind c.args.from)) c.in-Some.ensures.steps) ∙ c.loop-to.invariant.is_legal_target) in
+    let parts : (is_legal_target p c.own_kind-kind.result c.args.from c.in-Some.to ≡ true) × (list_all (is_legal_target p c.own_kind-kind.result c.args.from) c.next.new.self ≡ true) =
+    and_parts _ _ (sym (ap (list_all (is_legal_target p c.own_kind-kind.result c.args.from)) c.in-Some.ensures.steps) ∙ c.loop-to.invariant.is_legal_target) in
     let same = c.behind-live.view_is ∙ c.position.ensures.value in
     record {
       can = tt;
@@ -59,6 +59,6 @@ loop-to-preserved c =
       listed = listed_next {now = p} refl c.loop-to.invariant.listed (next_piece (moves_between c.args.from) c.in-Some.ensures.steps)
           (c.add_named.ensures.added
           ∙ ap (λ (xs : List MoveParts). c.loop-to.list.items ++ xs)
-          (ap (λ (q : State). moves_named q.side c.args.kind c.args.from c.in-Some.to) same
-          ∙ sym (lands_all p setup c.args.kind c.args.from c.in-Some.to c.args.guard.now.king (omega arith) (omega arith) c.requires.here king parts.0)));
+          (ap (λ (q : State). moves_named q.side c.own_kind-kind.result c.args.from c.in-Some.to) same
+          ∙ sym (lands_all p setup c.own_kind-kind.result c.args.from c.in-Some.to c.args.guard.now.king (omega arith) (omega arith) c.own_kind-kind.ensures king parts.0)));
     }

@@ -1,35 +1,31 @@
-use Rattle.std.proofs.Common.{◌≤◌, [], length, filter, ap, subst, ◌∙◌, refl, arith, zero-add}
+use Rattle.std.proofs.Common.{◌≤◌, [], length, filter, ap, ◌∙◌, refl, arith, zero-add}
 use Rattle.std.specs.List.{flat_map}
-use Rattle.chess_types.specs.steps.KeptSets.{Gathers}
-use Rattle.chess_types.specs.board.Men.{is_of}
 use Rattle.chess_types.specs.board.Legal.{is_legal, moves_from, legal_moves}
-use Rattle.chess_types.specs.board.Position.{State, look}
+use Rattle.chess_types.specs.board.Position.{State}
 use Rattle.chess_moves.proofs.Bound.{legal_few}
 use Rattle.chess_moves.proofs.Reach.{own_each, own_listed}
 use Rattle.chess_moves.proofs.SetCounts.{count_split}
-use Rattle.chess_moves.proofs.counting.count_legal.Goals as goal
+use Rattle.chess_moves.proofs.counting.count_up_to.Goals as goal
 
 pub loop-from-init : goal.loop-from-init
 unfolding legal_moves
 loop-from-init c =
     let p : State = c.args.live.now.position in
-    let same = c.setup.view_is ∙ c.position-setup.ensures.value in
-    let own : Gathers c.of-own.result (is_of p.side) (look p) = subst (λ (q : State). Gathers c.of-own.result (is_of q.side) (look q)) same c.of-own.ensures in
     let xs = c.into_iter-from-iterator.ensures.into_iter_gives ∙ c.iter-from-items.ensures.value in
     record {
       can = tt;
       finite = tt;
       position = refl;
       words = refl;
-      own = own_each p c.of-own.result own c.into_iter-from-iterator.result xs;
+      own = own_each p c.own_men-own.result c.own_men-own.ensures.own c.into_iter-from-iterator.result xs;
       left = zero-add (length (filter (is_legal p) (flat_map moves_from c.into_iter-from-iterator.result)))
-          ∙ ap length (own_listed p c.of-own.result own c.into_iter-from-iterator.result xs {list = []} refl).is;
+          ∙ ap length (own_listed p c.own_men-own.result c.own_men-own.ensures.own c.into_iter-from-iterator.result xs {list = []} refl).is;
     }
 
 pub overflow_add-count : goal.overflow_add-count
 overflow_add-count c =
     let p : State = c.args.live.now.position in
-    let few : length (legal_moves p) ≤ 432 = legal_few p (c.position-setup.ensures.setup.few p.side) in
+    let few : length (legal_moves p) ≤ 432 = legal_few p c.own_men-own.ensures.few in
     omega (
       arith,
       few,
@@ -38,8 +34,19 @@ overflow_add-count c =
       count_split p c.loop-from.live.position c.in-Some.from c.loop-from.from-iterator c.next.new.self c.loop-from.invariant.position c.in-Some.ensures.steps,
     )
 
+pub returns-then-count-enough-clause-at_most : goal.returns-then-count-enough-clause-at_most
+returns-then-count-enough-clause-at_most c =
+    let p : State = c.args.live.now.position in
+    omega (
+      arith,
+      legal_few p c.own_men-own.ensures.few,
+      c.count_from-count.ensures.count,
+      c.loop-from.invariant.left,
+      count_split p c.loop-from.live.position c.in-Some.from c.loop-from.from-iterator c.next.new.self c.loop-from.invariant.position c.in-Some.ensures.steps,
+    )
+
 pub returns-clause-at_most : goal.returns-clause-at_most
 returns-clause-at_most c =
     let p : State = c.args.live.now.position in
-    let few : length (legal_moves p) ≤ 432 = legal_few p (c.position-setup.ensures.setup.few p.side) in
+    let few : length (legal_moves p) ≤ 432 = legal_few p c.own_men-own.ensures.few in
     omega (arith, few, c.loop-from.invariant.left)

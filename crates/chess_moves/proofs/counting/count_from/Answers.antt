@@ -6,7 +6,7 @@ use Rattle.chess_types.specs.board.Pseudo.{last_rank}
 use Rattle.chess_types.specs.board.Position.{State, look}
 use Rattle.chess_attack.proofs.Lifted.{OnlyKing, only_king}
 use Rattle.chess_moves.proofs.SetCounts.{plain_count, pawn_count}
-use Rattle.chess_moves.proofs.counting.count_own.Goals as goal
+use Rattle.chess_moves.proofs.counting.count_from.Goals as goal
 
 pub returns-then-is_pawn-clause-count : goal.returns-then-is_pawn-clause-count
 returns-then-is_pawn-clause-count c =
@@ -15,7 +15,7 @@ returns-then-is_pawn-clause-count c =
     let same = c.behind-live.view_is ∙ c.position.ensures.value in
     let king : OnlyKing (look p) p.side c.args.guard.now.king =
     only_king p.placement p.side c.args.guard.now.king (setup.kings p.side) c.requires.guard.on_board c.requires.guard.king in
-    pawn_count p setup c.args.kind c.args.from c.args.guard.now.king (omega arith) c.requires.here king c.targets-squares.result c.targets-squares.ensures.is_legal_target
+    pawn_count p setup c.own_kind-kind.result c.args.from c.args.guard.now.king (omega arith) c.own_kind-kind.ensures king c.targets-squares.result c.targets-squares.ensures.is_legal_target
     c.len.result c.len-then-is_pawn.result c.last_squares.result c.intersection-last.result (sym c.is_pawn.ensures ∙ c.if-is_pawn.true)
     (subst (λ (q : State). (s : ℕ) → contains c.last_squares.result s ≡ (nat_lt s 64 && rank_of s == last_rank q.side)) same c.last_squares.ensures)
     c.intersection-last.ensures c.len.ensures.counted c.len-then-is_pawn.ensures.counted
@@ -26,5 +26,5 @@ returns-else-is_pawn-clause-count c =
     let setup = c.position.ensures.setup in
     let king : OnlyKing (look p) p.side c.args.guard.now.king =
     only_king p.placement p.side c.args.guard.now.king (setup.kings p.side) c.requires.guard.on_board c.requires.guard.king in
-    plain_count p setup c.args.kind c.args.from c.args.guard.now.king (omega arith) c.requires.here king c.targets-squares.result c.targets-squares.ensures.is_legal_target
+    plain_count p setup c.own_kind-kind.result c.args.from c.args.guard.now.king (omega arith) c.own_kind-kind.ensures king c.targets-squares.result c.targets-squares.ensures.is_legal_target
     c.len-else-is_pawn.result (sym c.is_pawn.ensures ∙ c.if-is_pawn.false) c.len-else-is_pawn.ensures.counted

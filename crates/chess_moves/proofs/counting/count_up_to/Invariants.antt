@@ -3,7 +3,7 @@ use Rattle.std.specs.List.{list_all, flat_map}
 use Rattle.chess_types.specs.board.Legal.{is_legal, moves_from, legal_moves}
 use Rattle.chess_types.specs.board.Men.{is_of}
 use Rattle.chess_types.specs.board.Position.{look}
-use Rattle.chess_moves.proofs.counting.count_legal.Given as goal
+use Rattle.chess_moves.proofs.counting.count_up_to.Given as goal
 
 -- a man of the side to move stands on each square still to come, and the moves counted and those from there are all
 abbrev pub invariant-loop-from : goal.invariant-loop-from

@@ -1,0 +1,111 @@
+-- The men other than kings as sets of squares.
+use Rattle.std.proofs.Common.{◌≡◌, ℕ, ◌<◌, Bool, true, false, not, ◌&&◌, ◌||◌, List, [], ◌∷◌, filter, is_some, Option, Some, None, refl, sym, ap, ◌∙◌, arith, inl, inr}
+use Rattle.std.specs.List.{list_all}
+use Rattle.std.specs.Ordering.{nat_cmp}
+use Rattle.std.specs.FinSet.{FinSet, contains, union, difference, contains-difference}
+use Rattle.std.proofs.lemmas.Bool.{cases_Bool, true≢false, false_from_ne_true}
+use Rattle.std.proofs.lemmas.Cmp.{nat_cmp_total}
+use Rattle.chess_types.specs.declared.board.man.Colour.TheVariants.{White, Black}
+use Rattle.chess_types.specs.declared.board.man.Kind.{Kind}
+use Rattle.chess_types.specs.declared.board.man.Kind.TheVariants.{Pawn, Knight, Bishop, Rook, Queen, King}
+use Rattle.chess_types.specs.declared.board.man.Man.{Man}
+use Rattle.chess_types.specs.board.Squares.{squares}
+use Rattle.chess_types.specs.board.Board.{Look}
+use Rattle.chess_types.specs.board.Men.{same_kind, is_king_of}
+use Rattle.chess_types.specs.board.Dead.{holds_bishop, is_light, is_one_coloured, is_other, others}
+use Rattle.chess_types.specs.steps.KeptSets.{Gathers, is_straight, is_diagonal, holds_king, holds_straight, holds_diagonal}
+use Rattle.chess_types.proofs.Runs.{list_all_at, list_all_from, same_test}
+use Rattle.chess_draws.proofs.SetLemmas.{both_gather, kings_there}
+
+no_king : (there : Option Man) → (is_some there && not (holds_king there)) ≡ is_other there
+no_king None = refl
+no_king (Some man) = refl
+
+-- the men other than kings
+pub others_listed : (occupied white black kings rest : FinSet nat_cmp) (look : Look) → Gathers occupied is_some look →
+    Gathers white (is_king_of White) look → Gathers black (is_king_of Black) look → kings ≡ union white black → rest ≡ difference occupied kings →
+    filter (contains rest) squares ≡ others look
+others_listed occupied white black kings rest look are_occupied are_white are_black is rest_is =
+    let are_kings : Gathers kings holds_king look = both_gather (is_king_of White) (is_king_of Black) holds_king white black kings look are_white are_black kings_there is in
+    let are_rest : (s : ℕ) → contains rest s ≡ is_other (look s) = λ s.
+    ap (λ (x : FinSet nat_cmp). contains x s) rest_is ∙ contains-difference nat_cmp_total occupied kings s
+    ∙ (λ i. are_occupied s i && not (are_kings s i)) ∙ no_king (look s) in
+    λ i. filter (λ s. are_rest s i) squares
+
+bishop_kind : (k : Kind) → (is_diagonal k && not (is_straight k)) ≡ same_kind k Bishop
+bishop_kind Pawn = refl
+bishop_kind Knight = refl
+bishop_kind Bishop = refl
+bishop_kind Rook = refl
+bishop_kind Queen = refl
+bishop_kind King = refl
+
+bishop_there : (there : Option Man) → (holds_diagonal there && not (holds_straight there)) ≡ holds_bishop there
+bishop_there None = refl
+bishop_there (Some man) = bishop_kind man.kind
+
+-- a bishop goes along diagonals, and not along ranks and files
+pub bishops_gathered : (diagonal straight bishops : FinSet nat_cmp) (look : Look) → Gathers diagonal holds_diagonal look → Gathers straight holds_straight look →
+    bishops ≡ difference diagonal straight → Gathers bishops holds_bishop look
+bishops_gathered diagonal straight bishops look are_diagonal are_straight is s =
+    ap (λ (x : FinSet nat_cmp). contains x s) is ∙ contains-difference nat_cmp_total diagonal straight s
+    ∙ (λ i. are_diagonal s i && not (are_straight s i)) ∙ bishop_there (look s)
+
+-- a test of those that are let through is a test of all
+all_filtered : (p q : ℕ → Bool) (xs : List ℕ) → list_all q (filter p xs) ≡ list_all (λ s. not (p s) || q s) xs
+all_filtered p q [] = refl
+all_filtered p q (x ∷ xs) =
+    elim (cases_Bool (p x)) as (λ _. list_all q (filter p (x ∷ xs)) ≡ list_all (λ s. not (p s) || q s) (x ∷ xs)) [
+      | inl h ↦ rw (h, all_filtered p q xs) refl
+      | inr h ↦ rw (h, all_filtered p q xs) refl
+    ]
+
+module _ (set other : FinSet nat_cmp) where
+  outside : (s : ℕ) → contains (difference set other) s ≡ not (not (contains set s) || contains other s)
+  outside s = contains-difference nat_cmp_total set other s ∙ either (contains set s) (contains other s)
+    where
+      either : (a b : Bool) → (a && not b) ≡ not (not a || b)
+      either true b = refl
+      either false b = refl
+
+  true_from : (b : Bool) → not b ≡ false → b ≡ true
+  true_from true h = refl
+  true_from false h = absurd (true≢false h)
+
+  false_from : (b : Bool) → not b ≡ true → b ≡ false
+  false_from true h = absurd (true≢false (sym h))
+  false_from false h = refl
+
+  -- none is outside
+  pub within : ((s : ℕ) → contains (difference set other) s ≡ false) → list_all (contains other) (filter (contains set) squares) ≡ true
+  unfolding squares
+  within none =
+      all_filtered (contains set) (contains other) squares
+      ∙ list_all_from (λ s. not (contains set s) || contains other s) 0 64 (λ s low high. true_from _ (sym (outside s) ∙ none s))
+
+  -- one is
+  pub not_within : (s : ℕ) → s < 64 → contains (difference set other) s ≡ true → list_all (contains other) (filter (contains set) squares) ≡ false
+  unfolding squares
+  not_within s on one =
+      false_from_ne_true _ (λ all. true≢false (sym (list_all_at (λ t. not (contains set t) || contains other t) 0 64 s
+      (sym (all_filtered (contains set) (contains other) squares) ∙ all) (omega arith) (omega arith)) ∙ false_from _ (sym (outside s) ∙ one)))
+
+-- tests that agree on the board agree on the squares that are let through
+pub all_agree : (p f g : ℕ → Bool) → ((s : ℕ) → s < 64 → f s ≡ g s) → list_all f (filter p squares) ≡ list_all g (filter p squares)
+unfolding squares
+all_agree p f g same =
+    same_test _ _
+    (λ h. all_filtered p g squares ∙ list_all_from (λ s. not (p s) || g s) 0 64 (λ s low high.
+    ap (λ b. not (p s) || b) (sym (same s (omega arith))) ∙ list_all_at (λ s. not (p s) || f s) 0 64 s (sym (all_filtered p f squares) ∙ h) low high))
+    (λ h. all_filtered p f squares ∙ list_all_from (λ s. not (p s) || f s) 0 64 (λ s low high.
+    ap (λ b. not (p s) || b) (same s (omega arith)) ∙ list_all_at (λ s. not (p s) || g s) 0 64 s (sym (all_filtered p g squares) ∙ h) low high))
+
+-- only bishops, on squares of one colour
+pub one_coloured_is : (rest bishops light dark : FinSet nat_cmp) (look : Look) → filter (contains rest) squares ≡ others look → Gathers bishops holds_bishop look →
+    ((s : ℕ) → s < 64 → contains light s ≡ is_light s) → ((s : ℕ) → s < 64 → contains dark s ≡ not (is_light s)) →
+    (list_all (contains bishops) (filter (contains rest) squares)
+    && (list_all (contains light) (filter (contains rest) squares) || list_all (contains dark) (filter (contains rest) squares))) ≡ is_one_coloured look
+one_coloured_is rest bishops light dark look is are_bishops are_light are_dark =
+    (λ i. list_all (λ s. are_bishops s i) (filter (contains rest) squares)
+    && (all_agree (contains rest) (contains light) is_light are_light i || all_agree (contains rest) (contains dark) (λ s. not (is_light s)) are_dark i))
+    ∙ (λ i. list_all (λ s. holds_bishop (look s)) (is i) && (list_all is_light (is i) || list_all (λ s. not (is_light s)) (is i)))

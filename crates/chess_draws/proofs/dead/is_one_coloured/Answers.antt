@@ -1,0 +1,10 @@
+use Rattle.std.proofs.Common.{◌&&◌, ◌||◌, ◌∙◌}
+use Rattle.chess_types.specs.board.Board.{man_at}
+use Rattle.chess_draws.proofs.DeadLemmas.{one_coloured_is}
+use Rattle.chess_draws.proofs.dead.is_one_coloured.Goals as goal
+
+pub returns : goal.returns
+returns c =
+    (λ i. c.is_within-are_bishops.ensures i && (c.is_within-are_light.ensures i || c.is_within-are_dark.ensures i))
+    ∙ one_coloured_is c.others-others.result c.bishops.result c.light.result c.dark.result (man_at c.args.men.now) c.others-others.ensures c.bishops.ensures
+    c.light.ensures c.dark.ensures
