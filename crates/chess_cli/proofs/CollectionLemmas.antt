@@ -1,20 +1,20 @@
 -- Games that are read and written one after another.
-use Rattle.std.proofs.Common.{◌≡◌, ℕ, Bool, true, false, List, [], ◌∷◌, ◌++◌, length, refl, sym, ap, subst, ◌∙◌, append_assoc, append-nil, Err, inl, inr}
+use Rattle.std.proofs.Common.{◌≡◌, ◌⊎◌, ℕ, ◌+◌, ◌≤◌, Bool, true, false, List, [], ◌∷◌, ◌++◌, length, refl, sym, ap, subst, ◌∙◌, arith, append_assoc, append-nil, length-append, Err, inl, inr}
 use Rattle.std.specs.Prelude.{Result, Ok, Option, Some, IfErr, IfOk, IfSome}
-use Rattle.chess_types.specs.bytes.Calls.{Carries}
-use Rattle.chess_types.proofs.CallLemmas.{Carries-none, Carries-append}
+use Rattle.chess_types.specs.bytes.Calls.{Carries, joined}
+use Rattle.chess_types.proofs.CallLemmas.{Calls-append, Carries-none, Carries-append, joined-append}
 use Rattle.chess_pgn.specs.Games.{Game}
 use Rattle.chess_pgn.specs.Reading.{HasNoGame, IsAtFront, IsWhite}
-use Rattle.chess_pgn.specs.Sources.{Fails, HasFault, HasGame, HasNone, unread}
+use Rattle.chess_pgn.specs.Sources.{Breaks, Came, HasFault, HasGame, HasNone, unread}
 use Rattle.chess_pgn.specs.Written.{game_text}
 use Rattle.chess_pgn.specs.steps.GameCode.{game_of}
 use Rattle.chess_pgn.specs.declared.at_hand.AtHand.{AtHand}
 use Rattle.chess_pgn.specs.declared.fault.PgnFault.{PgnFault}
 use Rattle.chess_pgn.specs.declared.game.Game.{Game as Code}
 use Rattle.chess_pgn.specs.declared.games.GamesFault.{GamesFault}
-use Rattle.chess_pgn.specs.declared.games.GamesFault.TheVariants.{Pgn}
-use Rattle.chess_cli.specs.Collections.{AreGames, Collected, EndsAtFault, EndsInPart, EndsWhole, EndsWritten, games_text}
-use Rattle.chess_cli.specs.RunEnds.{Broken}
+use Rattle.chess_pgn.specs.declared.games.GamesFault.TheVariants.{Pgn, Read}
+use Rattle.chess_cli.specs.Collections.{AreGames, Collected, EndsAtFault, EndsInPart, EndsUnread, EndsWhole, EndsWritten, games_text}
+use Rattle.chess_cli.specs.RunEnds.{Broken, most_reads}
 use Rattle.chess_cli.specs.steps.Sending.{Sent}
 use Rattle.chess_cli.specs.steps.Collecting.{Reads, SoFar, WritesAll, WritesOne}
 use Rattle.chess_cli.specs.declared.ended.Ended.{Ended}
@@ -32,14 +32,27 @@ are_more input [] mid text rest game e parts front =
     (text, rest, e ∙ parts, subst (λ (z : List ℕ). IsAtFront z game (length text)) (sym e) front, refl)
 are_more input (g ∷ games) mid text rest game a parts front = (a.0, a.1, a.2, a.3, are_more a.1 games mid text rest game a.4 parts front)
 
-module _ {R A : Type 0} (gives : R → List ℕ → R → Type 0) where
-  pub reads_none : (s : AtHand R A) → Reads gives s s []
-  reads_none s = record { bytes = []; came = Carries-none gives s.source; are = λ more none. refl }
+module _ {R A : Type 0} (gives : R → List ℕ → R → Type 0) (failed : R → Bool) where
+  pub reads_none : (s : AtHand R A) → Reads gives failed s s []
+  reads_none s = record { bytes = []; came = record { pieces = []; calls = refl; whole = refl; counted = omega arith; small = omega arith; well = refl }; are = λ more none. refl }
 
-  reads_more : (s m n : AtHand R A) (games : List Game) (game : Game) → Reads gives s m games → HasGame gives m n game → Reads gives s n (games ++ game ∷ [])
+  came_on : (s m n : AtHand R A) (a b : List ℕ) → Came gives failed s a m → Came gives failed m b n → Came gives failed s (a ++ b) n
+  came_on s m n a b first second = record {
+    pieces = first.pieces ++ second.pieces;
+    calls = Calls-append gives s.source m.source n.source first.pieces second.pieces first.calls second.calls;
+    whole = rw (joined-append first.pieces second.pieces, first.whole, second.whole) refl;
+    counted = (let n = length-append first.pieces second.pieces in omega (arith, n, first.counted, second.counted));
+    small = (let n = length-append first.pieces second.pieces in let k = length-append a b in omega (arith, n, k, first.small, second.small));
+    well = second.well ∙ first.well;
+  }
+
+  carries : (s n : AtHand R A) (bytes : List ℕ) → Came gives failed s bytes n → Carries gives s.source bytes n.source
+  carries s n bytes c = record { pieces = c.pieces; calls = c.calls; whole = c.whole }
+
+  reads_more : (s m n : AtHand R A) (games : List Game) (game : Game) → Reads gives failed s m games → HasGame gives failed m n game → Reads gives failed s n (games ++ game ∷ [])
   reads_more s m n games game r h = record {
     bytes = r.bytes ++ h.bytes;
-    came = Carries-append gives s.source m.source n.source r.bytes h.bytes r.came h.came;
+    came = came_on s m n r.bytes h.bytes r.came h.came;
     are = λ more none.
         let before = r.are (h.bytes ++ more) (λ e. (let still = h.still e in ap (λ (z : List ℕ). z ++ more) still.0 ∙ none still.1)) in
         let parts : unread m ++ (h.bytes ++ more) ≡ h.text ++ (unread n ++ more) =
@@ -48,132 +61,183 @@ module _ {R A : Type 0} (gives : R → List ℕ → R → Type 0) where
         (are_more (unread s ++ (r.bytes ++ (h.bytes ++ more))) games (unread m ++ (h.bytes ++ more)) h.text (unread n ++ more) game before parts (h.reads more none));
   }
 
-  module _ (ended : R → Type 0) where
-    collected : (s m : AtHand R A) (games : List Game) → unread s ≡ [] → (m.has_ended ≡ true → ended m.source) → Reads gives s m games → Collected gives ended s.source games
-    collected s m games e told r = record {
-      bytes = r.bytes;
-      source = m.source;
-      came = r.came;
-      all = m.has_ended;
-      told = told;
-      rest = unread m;
-      are = λ more none. subst (λ (z : List ℕ). AreGames (z ++ (r.bytes ++ more)) games (unread m ++ more)) e (r.are more none);
-    }
+  -- bytes that came behind the games
+  module _ (s m n : AtHand R A) (games : List Game) (nothing : unread s ≡ []) (first : failed s.source ≡ false) (r : Reads gives failed s m games) (bytes : List ℕ) (came : Came gives failed m bytes n) where
+    all_bytes : Came gives failed s (r.bytes ++ bytes) n
+    all_bytes = came_on s m n r.bytes bytes r.came came
+
+    well_read : failed n.source ≡ false
+    well_read = came.well ∙ r.came.well ∙ first
+
+    are_on : (more : List ℕ) → (m.has_ended ≡ true → bytes ++ more ≡ []) → AreGames ((r.bytes ++ bytes) ++ more) games ((unread m ++ bytes) ++ more)
+    are_on more none =
+        let bare = subst (λ (z : List ℕ). AreGames (z ++ (r.bytes ++ (bytes ++ more))) games (unread m ++ (bytes ++ more))) nothing (r.are (bytes ++ more) none) in
+        let whole = subst (λ (z : List ℕ). AreGames z games (unread m ++ (bytes ++ more))) (sym (append_assoc r.bytes bytes more)) bare in
+        subst (λ (z : List ℕ). AreGames ((r.bytes ++ bytes) ++ more) games z) (sym (append_assoc (unread m) bytes more)) whole
+
+    module _ (ended : R → Type 0) where
+      collected : (n.has_ended ≡ true → ended n.source) → (m.has_ended ≡ true → (bytes ≡ []) × (n.has_ended ≡ true)) → Collected gives failed ended s.source games
+      collected told still = record {
+        bytes = r.bytes ++ bytes;
+        source = n.source;
+        came = carries s n (r.bytes ++ bytes) all_bytes;
+        well_read = well_read;
+        all = n.has_ended;
+        told = told;
+        rest = unread m ++ bytes;
+        are = λ more none. are_on more (λ e. (let b = still e in ap (λ (z : List ℕ). z ++ more) b.0 ∙ none b.1));
+      }
 
 pub if_ok : {A E : Type 0} (P : Type 0) (result : Result A E) (x : A) → result ≡ Ok x → IfOk result (λ y. P) → P
 if_ok P result x is h = subst (λ r. IfOk r (λ y. P)) is h
 
 -- what a reader of games answers, where it is a game
-pub read_one : {R A B E : Type 0} (gives : R → List ℕ → R → Type 0) (old new : AtHand R A) (result : Result (Option (Code B)) E) (game : Code B) → result ≡ Ok (Some game)
-    → IfOk result (λ found. IfSome found (λ x. HasGame gives old new (game_of x))) → HasGame gives old new (game_of game)
-read_one gives old new result game is h = subst (λ r. IfOk r (λ found. IfSome found (λ x. HasGame gives old new (game_of x)))) is h
+pub read_one : {R A B E : Type 0} (gives : R → List ℕ → R → Type 0) (failed : R → Bool) (old new : AtHand R A) (result : Result (Option (Code B)) E) (game : Code B) → result ≡ Ok (Some game)
+    → IfOk result (λ found. IfSome found (λ x. HasGame gives failed old new (game_of x))) → HasGame gives failed old new (game_of game)
+read_one gives failed old new result game is h = subst (λ r. IfOk r (λ found. IfSome found (λ x. HasGame gives failed old new (game_of x)))) is h
 
 -- what it answers, where it is a fault
-pub read_fault : {R A X : Type 0} (gives : R → List ℕ → R → Type 0) (ended : R → Type 0) (old new : AtHand R A) (result : Result X GamesFault) (fault : GamesFault) → result ≡ Err fault
-    → IfErr result (λ found. HasFault gives ended old new found) → HasFault gives ended old new fault
-read_fault gives ended old new result fault is h = subst (λ r. IfErr r (λ found. HasFault gives ended old new found)) is h
+pub read_fault : {R A X : Type 0} (gives : R → List ℕ → R → Type 0) (failed : R → Bool) (ended : R → Type 0) (old new : AtHand R A) (result : Result X GamesFault) (fault : GamesFault) → result ≡ Err fault
+    → IfErr result (λ found. HasFault gives failed ended old new found) → HasFault gives failed ended old new fault
+read_fault gives failed ended old new result fault is h = subst (λ r. IfErr r (λ found. HasFault gives failed ended old new found)) is h
 
 -- ---- what is written
 
-module _ {R W A : Type 0} (gives : R → List ℕ → R → Type 0) (ended : R → Type 0) (takes : W → List ℕ → W → Type 0) (failed : W → Bool) where
-  pub none_yet : (s : AtHand R A) (w : W) → failed w ≡ false → SoFar gives ended takes failed s s w w
-  none_yet s w well = record { games = []; reads = reads_none gives s; writes = Carries-none takes w; well_written = well }
+module _ {R W A : Type 0} (gives : R → List ℕ → R → Type 0) (read_failed : R → Bool) (ended : R → Type 0) (takes : W → List ℕ → W → Type 0) (failed : W → Bool) where
+  pub none_yet : (s : AtHand R A) (w : W) → failed w ≡ false → SoFar gives read_failed ended takes failed 0 s s w w
+  none_yet s w well = record { games = []; reads = reads_none gives read_failed s; few = omega arith; writes = Carries-none takes w; well_written = well }
 
   -- one game more
-  pub one_more : (s m n : AtHand R A) (old mid new : W) (game : Game) → SoFar gives ended takes failed s m old mid → HasGame gives m n game → Sent takes failed mid (game_text game) [] new
-      → SoFar gives ended takes failed s n old new
-  one_more s m n old mid new game so_far read sent = record {
+  pub one_more : (count : ℕ) (s m n : AtHand R A) (old mid new : W) (game : Game) → SoFar gives read_failed ended takes failed count s m old mid → HasGame gives read_failed m n game → Sent takes failed mid (game_text game) [] new
+      → SoFar gives read_failed ended takes failed (count + 1) s n old new
+  unfolding reads_more
+  one_more count s m n old mid new game so_far read sent = record {
     games = so_far.games ++ game ∷ [];
-    reads = reads_more gives s m n so_far.games game so_far.reads read;
+    reads = reads_more gives read_failed s m n so_far.games game so_far.reads read;
+    few = (let a = length-append so_far.reads.bytes read.bytes in let b = ap length read.parts in let c = length-append (unread m) read.bytes in let d = length-append read.text (unread n) in omega (arith, a, b, c, d, read.some, so_far.few));
     writes = subst (λ (t : List ℕ). Carries takes old t new) (sym (games_text-append so_far.games game))
         (Carries-append takes old mid new (games_text so_far.games) (game_text game) so_far.writes (sent_whole takes failed mid new (game_text game) sent));
     well_written = sent.well ∙ so_far.well_written;
   }
 
-  pub ends_written : (s m : AtHand R A) (old new : W) → unread s ≡ [] → (m.has_ended ≡ true → ended m.source) → SoFar gives ended takes failed s m old new → EndsWritten gives ended takes failed s.source old new
-  ends_written s m old new e told so_far = record { games = so_far.games; reads = collected gives ended s m so_far.games e told so_far.reads; writes = so_far.writes; well_written = so_far.well_written }
+  module _ (count : ℕ) (s : AtHand R A) (nothing : unread s ≡ []) (first_read : read_failed s.source ≡ false) where
+    -- the input has no game more
+    pub ends_whole : (m n : AtHand R A) (old new : W) → SoFar gives read_failed ended takes failed count s m old new → HasNone gives read_failed m n → ended n.source → EndsWhole gives read_failed ended takes failed s.source old new
+    ends_whole m n old new so_far none all = record {
+      bytes = so_far.reads.bytes ++ none.bytes;
+      source = n.source;
+      came = carries gives read_failed s n (so_far.reads.bytes ++ none.bytes) (came_on gives read_failed s m n so_far.reads.bytes none.bytes so_far.reads.came none.came);
+      well_read = well_read gives read_failed s m n so_far.games nothing first_read so_far.reads none.bytes none.came;
+      all = all;
+      games = so_far.games;
+      rest = unread m ++ none.bytes;
+      are = subst (λ (z : List ℕ). AreGames (z ++ (so_far.reads.bytes ++ none.bytes)) so_far.games (unread m ++ none.bytes)) nothing (so_far.reads.are none.bytes none.still);
+      white = none.white;
+      writes = so_far.writes;
+      well_written = so_far.well_written;
+    }
 
-  -- the input has no game more
-  pub ends_whole : (s m n : AtHand R A) (old new : W) → unread s ≡ [] → SoFar gives ended takes failed s m old new → HasNone gives m n → ended n.source → EndsWhole gives ended takes failed s.source old new
-  ends_whole s m n old new e so_far none all = record {
-    bytes = so_far.reads.bytes ++ none.bytes;
-    source = n.source;
-    came = Carries-append gives s.source m.source n.source so_far.reads.bytes none.bytes so_far.reads.came none.came;
-    all = all;
-    games = so_far.games;
-    rest = unread m ++ none.bytes;
-    are = subst (λ (z : List ℕ). AreGames (z ++ (so_far.reads.bytes ++ none.bytes)) so_far.games (unread m ++ none.bytes)) e (so_far.reads.are none.bytes none.still);
-    white = none.white;
-    writes = so_far.writes;
-    well_written = so_far.well_written;
-  }
+    -- what stands behind the games is refused, or there was no memory for it
+    pub ends_at_fault : (m n : AtHand R A) (old new : W) (fault : PgnFault) → SoFar gives read_failed ended takes failed count s m old new → HasFault gives read_failed ended m n (Pgn fault) → EndsAtFault gives read_failed ended takes failed fault s.source old new
+    ends_at_fault m n old new fault so_far (inl (memory, starves)) = record {
+      bytes = so_far.reads.bytes ++ starves.bytes;
+      source = n.source;
+      came = carries gives read_failed s n (so_far.reads.bytes ++ starves.bytes) (came_on gives read_failed s m n so_far.reads.bytes starves.bytes so_far.reads.came starves.came);
+      well_read = well_read gives read_failed s m n so_far.games nothing first_read so_far.reads starves.bytes starves.came;
+      all = m.has_ended;
+      told = λ e. (starves.still e).1;
+      games = so_far.games;
+      rest = unread m ++ starves.bytes;
+      are = λ more none. are_on gives read_failed s m n so_far.games nothing first_read so_far.reads starves.bytes starves.came more (λ e. ap (λ (z : List ℕ). z ++ more) (starves.still e).0 ∙ none e);
+      refused = inl memory;
+      writes = so_far.writes;
+      well_written = so_far.well_written;
+    }
+    ends_at_fault m n old new fault so_far (inr fails) = record {
+      bytes = so_far.reads.bytes ++ fails.bytes;
+      source = n.source;
+      came = carries gives read_failed s n (so_far.reads.bytes ++ fails.bytes) (came_on gives read_failed s m n so_far.reads.bytes fails.bytes so_far.reads.came fails.came);
+      well_read = well_read gives read_failed s m n so_far.games nothing first_read so_far.reads fails.bytes fails.came;
+      all = n.has_ended;
+      told = fails.told;
+      games = so_far.games;
+      rest = unread m ++ fails.bytes;
+      are = λ more none. are_on gives read_failed s m n so_far.games nothing first_read so_far.reads fails.bytes fails.came more (λ e. (let still = fails.still e in ap (λ (z : List ℕ). z ++ more) still.0 ∙ none still.1));
+      refused = inr (λ more none.
+          let same = sym (append_assoc (unread m) fails.bytes more) in
+          (subst HasNoGame same (fails.none more none), subst (λ (z : List ℕ). IsWhite z → ⊥) same (fails.dark more none)));
+      writes = so_far.writes;
+      well_written = so_far.well_written;
+    }
 
-  -- what stands behind the games is refused
-  ends_refused : (s m n : AtHand R A) (old new : W) (fault : PgnFault) → unread s ≡ [] → SoFar gives ended takes failed s m old new → Fails gives ended m n
-      → EndsAtFault gives ended takes failed fault s.source old new
-  ends_refused s m n old new fault e so_far fails = record {
-    bytes = so_far.reads.bytes ++ fails.bytes;
-    source = n.source;
-    came = Carries-append gives s.source m.source n.source so_far.reads.bytes fails.bytes so_far.reads.came fails.came;
-    all = n.has_ended;
-    told = fails.told;
-    games = so_far.games;
-    rest = unread m ++ fails.bytes;
-    are = λ more none.
-        let before = so_far.reads.are (fails.bytes ++ more) (λ h. (let still = fails.still h in ap (λ (z : List ℕ). z ++ more) still.0 ∙ none still.1)) in
-        let bare = subst (λ (z : List ℕ). AreGames (z ++ (so_far.reads.bytes ++ (fails.bytes ++ more))) so_far.games (unread m ++ (fails.bytes ++ more))) e before in
-        let whole = subst (λ (z : List ℕ). AreGames z so_far.games (unread m ++ (fails.bytes ++ more))) (sym (append_assoc so_far.reads.bytes fails.bytes more)) bare in
-        subst (λ (z : List ℕ). AreGames ((so_far.reads.bytes ++ fails.bytes) ++ more) so_far.games z) (sym (append_assoc (unread m) fails.bytes more)) whole;
-    refused = inr (λ more none.
-        let same = sym (append_assoc (unread m) fails.bytes more) in
-        (subst HasNoGame same (fails.none more none), subst (λ (z : List ℕ). IsWhite z → ⊥) same (fails.dark more none)));
-    writes = so_far.writes;
-    well_written = so_far.well_written;
-  }
+    -- why a read was the last
+    caused : (m b n : AtHand R A) (bytes : List ℕ) (games : List Game) (r : Reads gives read_failed s m games) (came : Came gives read_failed m bytes b) → s.reads ≡ most_reads → Breaks gives read_failed b n
+        → (gives b.source [] n.source × (read_failed n.source ≡ true)) ⊎ ((b.source ≡ n.source) × (length (r.came.pieces ++ came.pieces) ≡ most_reads))
+    caused m b n bytes games r came many (inl failed_read) = inl failed_read
+    caused m b n bytes games r came many (inr none_left) = inr (sym none_left.0, (let k = length-append r.came.pieces came.pieces in omega (arith, k, r.came.counted, came.counted, many, none_left.1)))
 
-  pub ends_at_fault : (s m n : AtHand R A) (old new : W) (fault : PgnFault) → unread s ≡ [] → (m.has_ended ≡ true → ended m.source) → SoFar gives ended takes failed s m old new → HasFault gives ended m n (Pgn fault)
-      → EndsAtFault gives ended takes failed fault s.source old new
-  ends_at_fault s m n old new fault e told so_far (inl memory) =
-      let reads = collected gives ended s m so_far.games e told so_far.reads in
-      record {
-        bytes = reads.bytes;
-        source = reads.source;
-        came = reads.came;
-        all = reads.all;
-        told = reads.told;
-        games = so_far.games;
-        rest = reads.rest;
-        are = reads.are;
-        refused = inl memory;
-        writes = so_far.writes;
-        well_written = so_far.well_written;
-      }
-  ends_at_fault s m n old new fault e told so_far (inr fails) = ends_refused s m n old new fault e so_far fails
+    -- the last read failed, or there were 2^40
+    pub ends_unread : (m n : AtHand R A) (old new : W) → s.reads ≡ most_reads → SoFar gives read_failed ended takes failed count s m old new → HasFault gives read_failed ended m n Read → EndsUnread gives read_failed ended takes failed most_reads s.source old new
+    ends_unread m n old new many so_far fails =
+        let r = so_far.reads in
+        let whole : joined (r.came.pieces ++ fails.came.pieces) ≡ r.bytes ++ fails.bytes = rw (joined-append r.came.pieces fails.came.pieces, r.came.whole, fails.came.whole) refl in
+        record {
+          pieces = r.came.pieces ++ fails.came.pieces;
+          before = fails.before.source;
+          source = n.source;
+          calls = Calls-append gives s.source m.source fails.before.source r.came.pieces fails.came.pieces r.came.calls fails.came.calls;
+          well_read = well_read gives read_failed s m fails.before so_far.games nothing first_read r fails.bytes fails.came;
+          cause = caused m fails.before n fails.bytes so_far.games r fails.came many fails.breaks;
+          games = so_far.games;
+          rest = unread m ++ fails.bytes;
+          are = λ more. subst (λ (z : List ℕ). AreGames (z ++ more) so_far.games ((unread m ++ fails.bytes) ++ more)) (sym whole)
+              (are_on gives read_failed s m fails.before so_far.games nothing first_read r fails.bytes fails.came more (λ e. absurd (fails.not_ended e)));
+          writes = so_far.writes;
+          well_written = so_far.well_written;
+        }
 
-  -- a front of one more
-  broken_more : (s m n : AtHand R A) (old mid new : W) (game : Game) → unread s ≡ [] → (n.has_ended ≡ true → ended n.source) → failed old ≡ false → SoFar gives ended takes failed s m old mid → HasGame gives m n game
-      → Broken takes failed mid (game_text game) new → EndsInPart gives ended takes failed s.source old new
-  broken_more s m n old mid new game e told first so_far read broken = record {
-    games = so_far.games ++ game ∷ [];
-    reads = collected gives ended s n (so_far.games ++ game ∷ []) e told (reads_more gives s m n so_far.games game so_far.reads read);
-    broken = record {
-      front = games_text so_far.games ++ broken.front;
-      rest = broken.rest;
-      before = broken.before;
-      calls = Carries-append takes old mid broken.before (games_text so_far.games) broken.front so_far.writes broken.calls;
-      whole = append_assoc (games_text so_far.games) broken.front broken.rest ∙ ap (λ (t : List ℕ). games_text so_far.games ++ t) broken.whole ∙ sym (games_text-append so_far.games game);
-      unwritten = broken.unwritten;
-      well = broken.well ∙ so_far.well_written ∙ sym first;
-      last = broken.last;
-      fails = broken.fails;
-    };
-  }
+    -- there are never so many games, since all reads have fewer bytes
+    pub not_so_many : (m : AtHand R A) (old new : W) → s.reads ≡ most_reads → SoFar gives read_failed ended takes failed count s m old new → 144115188075855872 ≤ count → ⊥
+    not_so_many m old new many so_far so =
+        let c = so_far.reads.came in
+        let n = ap length nothing in
+        omega (arith, n, c.counted, c.small, many, so, so_far.few)
 
-  -- why no more is written
-  pub ends_at : (s m n : AtHand R A) (old mid new : W) (game : Game) (why : Ended) → unread s ≡ [] → (m.has_ended ≡ true → ended m.source) → (n.has_ended ≡ true → ended n.source) → failed old ≡ false → SoFar gives ended takes failed s m old mid → HasGame gives m n game
-      → WritesOne takes failed {X = Unit {0}} (game_text game) mid new (Err why) → WritesAll gives ended takes failed s.source old new why
-  ends_at s m n old mid new game Good e told still first so_far read wrote = absurd wrote
-  ends_at s m n old mid new game (Input fault) e told still first so_far read wrote = absurd wrote
-  ends_at s m n old mid new game ReadFault e told still first so_far read wrote = absurd wrote
-  ends_at s m n old mid new game WriteFault e told still first so_far read wrote = broken_more s m n old mid new game e still first so_far read wrote
-  ends_at s m n old mid new game Memory e told still first so_far read wrote = subst (λ (w : W). EndsWritten gives ended takes failed s.source old w) (sym wrote) (ends_written s m old mid e told so_far)
+    -- a front of one more
+    broken_more : (m n : AtHand R A) (old mid new : W) (game : Game) → (n.has_ended ≡ true → ended n.source) → failed old ≡ false → SoFar gives read_failed ended takes failed count s m old mid → HasGame gives read_failed m n game
+        → Broken takes failed mid (game_text game) new → EndsInPart gives read_failed ended takes failed s.source old new
+    unfolding reads_none
+    broken_more m n old mid new game told first so_far read broken = record {
+      games = so_far.games ++ game ∷ [];
+      reads = collected gives read_failed s n n (so_far.games ++ game ∷ []) nothing first_read (reads_more gives read_failed s m n so_far.games game so_far.reads read) []
+          (reads_none gives read_failed n).came ended told (λ e. (refl, e));
+      broken = record {
+        front = games_text so_far.games ++ broken.front;
+        rest = broken.rest;
+        before = broken.before;
+        calls = Carries-append takes old mid broken.before (games_text so_far.games) broken.front so_far.writes broken.calls;
+        whole = append_assoc (games_text so_far.games) broken.front broken.rest ∙ ap (λ (t : List ℕ). games_text so_far.games ++ t) broken.whole ∙ sym (games_text-append so_far.games game);
+        unwritten = broken.unwritten;
+        well = broken.well ∙ so_far.well_written ∙ sym first;
+        last = broken.last;
+        fails = broken.fails;
+      };
+    }
+
+    -- there was no memory for the text of a game
+    ends_written : (m n : AtHand R A) (old new : W) (game : Game) → (n.has_ended ≡ true → ended n.source) → SoFar gives read_failed ended takes failed count s m old new → HasGame gives read_failed m n game → EndsWritten gives read_failed ended takes failed s.source old new
+    ends_written m n old new game told so_far read = record {
+      games = so_far.games;
+      reads = collected gives read_failed s m n so_far.games nothing first_read so_far.reads read.bytes read.came ended told read.still;
+      writes = so_far.writes;
+      well_written = so_far.well_written;
+    }
+
+    -- why no more is written
+    pub ends_at : (m n : AtHand R A) (old mid new : W) (game : Game) (why : Ended) → (n.has_ended ≡ true → ended n.source) → failed old ≡ false → SoFar gives read_failed ended takes failed count s m old mid → HasGame gives read_failed m n game
+        → WritesOne takes failed {X = Unit {0}} (game_text game) mid new (Err why) → WritesAll gives read_failed ended takes failed s.source old new why
+    ends_at m n old mid new game Good told first so_far read wrote = absurd wrote
+    ends_at m n old mid new game (Input fault) told first so_far read wrote = absurd wrote
+    ends_at m n old mid new game ReadFault told first so_far read wrote = absurd wrote
+    ends_at m n old mid new game WriteFault told first so_far read wrote = broken_more m n old mid new game told first so_far read wrote
+    ends_at m n old mid new game Memory told first so_far read wrote = subst (λ (w : W). EndsWritten gives read_failed ended takes failed s.source old w) (sym wrote) (ends_written m n old mid game told so_far read)

@@ -4,10 +4,10 @@ use Rattle.std.proofs.lemmas.List.{take_more}
 use Rattle.chess_uci.specs.declared.reply.Reply.{Reply}
 use Rattle.chess_uci.specs.Replies.{reply_text}
 use Rattle.chess_uci.specs.Machine.{Event, Slice, Moment, State, step}
-use Rattle.chess_uci.specs.Laws.{replies, after}
+use Rattle.chess_uci.specs.Laws.{replies, after_events}
 use Rattle.chess_uci.specs.steps.Searches.{Does}
 use Rattle.chess_uci.proofs.RunLemmas.{replies-append, after-append}
-use Rattle.chess_cli.specs.Sittings.{AnsweredSoFar, IsLine, Readings, WasFed, events_of, is_fed, reply_lines, slices_of}
+use Rattle.chess_cli.specs.Sittings.{AnsweredSoFar, IsLineEvent, Readings, WasFed, events_of, is_fed, reply_lines, slices_of}
 
 pub reply_lines-append : (xs ys : List Reply) → reply_lines (xs ++ ys) ≡ reply_lines xs ++ reply_lines ys
 reply_lines-append [] ys = refl
@@ -23,17 +23,17 @@ slices_of-append [] ys = refl
 slices_of-append (x ∷ xs) ys = ap (λ (es : List Event). Slice ∷ Moment x ∷ es) (slices_of-append xs ys)
 
 -- one reading more
-fed_more : (s : State) (later : List ℕ) (moment : ℕ) → WasFed s later → is_fed (after s (slices_of later)) ≡ true → WasFed s (later ++ moment ∷ [])
+fed_more : (s : State) (later : List ℕ) (moment : ℕ) → WasFed s later → is_fed (after_events s (slices_of later)) ≡ true → WasFed s (later ++ moment ∷ [])
 fed_more s [] moment was here = (here, tt)
-fed_more s (x ∷ xs) moment was here = (was.0, fed_more (after s (Slice ∷ Moment x ∷ [])) xs moment was.1 here)
+fed_more s (x ∷ xs) moment was here = (was.0, fed_more (after_events s (Slice ∷ Moment x ∷ [])) xs moment was.1 here)
 
 -- a run with one event more
 replies_more : (s t u : State) (events : List Event) (event : Event) (told more : List Reply) →
-    told ≡ replies s events → t ≡ after s events → Does (step t event) more u →
-    (told ++ more ≡ replies s (events ++ event ∷ [])) × (u ≡ after s (events ++ event ∷ []))
+    told ≡ replies s events → t ≡ after_events s events → Does (step t event) more u →
+    (told ++ more ≡ replies s (events ++ event ∷ [])) × (u ≡ after_events s (events ++ event ∷ []))
 replies_more s t u events event told more e f does =
-    let g : more ≡ (step (after s events) event).0 = does.0 ∙ ap (λ (x : State). (step x event).0) f in (
-      ap (λ (rs : List Reply). rs ++ more) e ∙ ap (λ (rs : List Reply). replies s events ++ rs) (g ∙ sym (append-nil (step (after s events) event).0)) ∙ sym (replies-append s events (event ∷ [])),
+    let g : more ≡ (step (after_events s events) event).0 = does.0 ∙ ap (λ (x : State). (step x event).0) f in (
+      ap (λ (rs : List Reply). rs ++ more) e ∙ ap (λ (rs : List Reply). replies s events ++ rs) (g ∙ sym (append-nil (step (after_events s events) event).0)) ∙ sym (replies-append s events (event ∷ [])),
       does.1 ∙ ap (λ (x : State). (step x event).1) f ∙ sym (after-append s events (event ∷ [])),
     )
 
@@ -44,7 +44,7 @@ events_more first event later moment =
 module _ {C : Type 0} (reads : C → ℕ → C → Type 0) (line : List ℕ) where
   -- a line's first moment, and the line itself
   pub answering_starts : (s t u : State) (c d : C) (first : ℕ) (event : Event) (a b : List Reply) →
-      reads c first d → Does (step s (Moment first)) a t → IsLine line event → Does (step t event) b u → AnsweredSoFar reads s c line (reply_lines (a ++ b)) u d
+      reads c first d → Does (step s (Moment first)) a t → IsLineEvent line event → Does (step t event) b u → AnsweredSoFar reads s c line (reply_lines (a ++ b)) u d
   answering_starts s t u c d first event a b read one is two =
       let so_far = replies_more s s t [] (Moment first) [] a refl refl one in
       let then = replies_more s t u (Moment first ∷ []) event a b so_far.0 so_far.1 two in
@@ -77,8 +77,8 @@ module _ {C : Type 0} (reads : C → ℕ → C → Type 0) (line : List ℕ) whe
         is_line = x.is_line;
         clock = Readings-append reads c d e (x.first ∷ x.later) (moment ∷ []) x.clock (e, read, refl);
         replied = then.0 ∙ ap (replies s) same;
-        state = then.1 ∙ ap (after s) same;
-        each = fed_more (after s (Moment x.first ∷ x.event ∷ [])) x.later moment x.each (ap (λ (y : State). is_fed y) (sym x.state) ∙ here);
+        state = then.1 ∙ ap (after_events s) same;
+        each = fed_more (after_events s (Moment x.first ∷ x.event ∷ [])) x.later moment x.each (ap (λ (y : State). is_fed y) (sym x.state) ∙ here);
         text_is = ap (λ (t : List ℕ). (t ++ reply_lines a) ++ reply_lines b) x.text_is
             ∙ ap (λ (t : List ℕ). t ++ reply_lines b) (sym (reply_lines-append x.told a)) ∙ sym (reply_lines-append (x.told ++ a) b);
       }

@@ -8,7 +8,7 @@ use Rattle.chess_uci.specs.Machine.{Event, Line, Starved, State, step}
 use Rattle.chess_uci.specs.steps.Searches.{Does, Follows}
 use Rattle.chess_cli.specs.declared.sitting.Sitting.{Sitting}
 use Rattle.chess_cli.specs.Answers.{line_limit, line_room}
-use Rattle.chess_cli.specs.Sittings.{Answered, AnsweredSoFar, AnsweredWithin, IsLine, is_fed, no_memory_line, reply_lines, too_long_line}
+use Rattle.chess_cli.specs.Sittings.{Answered, AnsweredSoFar, AnsweredWithin, IsLineEvent, is_fed, no_memory_line, reply_lines, too_long_line}
 use Rattle.chess_cli.specs.steps.Driving.{Drives, Happened}
 use Rattle.chess_cli.specs.steps.Sending.{Sent, Flows}
 use Rattle.chess_cli.proofs.EventLemmas.{answering_goes_on, answering_starts, reply_lines-append}
@@ -17,7 +17,7 @@ use Rattle.chess_cli.proofs.SendingLemmas.{sent_more}
 pub same_event : {P : Type 0} → P ⊎ P → P
 same_event h = ⊎_elim (λ p. p) (λ p. p) h
 
-line_event : (line : List ℕ) (b : Bor (List ℕ)) (t u : State) (told : List Reply) → b.now ≡ line → Follows t (LineCode b) told u → (event : Event) × IsLine line event × Does (step t event) told u
+line_event : (line : List ℕ) (b : Bor (List ℕ)) (t u : State) (told : List Reply) → b.now ≡ line → Follows t (LineCode b) told u → (event : Event) × IsLineEvent line event × Does (step t event) told u
 line_event line b t u told e follows =
     ⊎_elim (λ (d : Does (step t (Line b.now)) told u). (Line b.now, inl (ap Line e), d)) (λ (d : Does (step t (Starved b.now)) told u). (Starved b.now, inr (ap Starved e), d)) follows
 

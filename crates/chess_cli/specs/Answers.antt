@@ -93,14 +93,14 @@ set_effect (Err fault) = Refuses (BadFen fault)
 
 -- a legal move leads to the first child that has it, else to a new one: of a node less than 20,000 plies deep, in a tree of fewer than
 -- 1,000,000 moves
-abbrev pub lead : TreeParts → MoveParts → Option ℕ → Effect
-lead t m (Some place) = Does (at_path (t.path ++ place ∷ []) t)
-lead t m None =
+abbrev pub playing : TreeParts → MoveParts → Option ℕ → Effect
+playing t m (Some place) = Does (at_path (t.path ++ place ∷ []) t)
+playing t m None =
     if nat_le 20000 (length t.path) then Refuses TooLong
     else (if nat_le 1000000 (moves_held t.tree.below) then Refuses Full else Does (added m t))
 
 abbrev pub move_effect : TreeParts → MoveParts → Effect
-move_effect t m = if is_legal (last (line_to t)) m then lead t m (find m (nodes_here t)) else Refuses Illegal
+move_effect t m = if is_legal (last (line_to t)) m then playing t m (find m (nodes_here t)) else Refuses Illegal
 
 -- the move that a text names
 abbrev pub play_effect : TreeParts → Result MoveParts SanFault → Effect

@@ -9,7 +9,7 @@ use Rattle.chess_cli.specs.declared.ended.Ended.{Ended}
 use Rattle.chess_cli.specs.declared.ended.Ended.TheVariants.{Good, Input, ReadFault, WriteFault, Memory}
 use Rattle.chess_cli.specs.declared.sitting.Sitting.{Sitting}
 use Rattle.chess_cli.specs.Answers.{Answers, beginning}
-use Rattle.chess_cli.specs.Collections.{EndsAtFault, EndsInPart, EndsWhole, EndsWritten}
+use Rattle.chess_cli.specs.Collections.{EndsAtFault, EndsInPart, EndsUnread, EndsWhole, EndsWritten}
 use Rattle.chess_cli.specs.Runs.{Runs, Partly}
 use Rattle.chess_cli.specs.RunEnds.{EndsGood, EndsOver, EndsReadFault, EndsWriteFault, most_reads}
 use Rattle.chess_cli.specs.Sittings.{Answered, AnsweredInPart, beginning_with, has_ended}
@@ -35,10 +35,10 @@ module _ {R W : Type 0} (gives : R → List ℕ → R → Type 0) (read_failed :
     pub memory : result ≡ Memory → (r' ≡ r) × (w' ≡ w)
     pub input : (fault : PgnFault) → result ≢ Input fault
 
-module _ {R W : Type 0} (gives : R → List ℕ → R → Type 0) (ended : R → Type 0) (takes : W → List ℕ → W → Type 0) (write_failed : W → Bool) where
+module _ {R W : Type 0} (gives : R → List ℕ → R → Type 0) (read_failed : R → Bool) (takes : W → List ℕ → W → Type 0) (write_failed : W → Bool) (ended : R → Type 0) where
   pub record CollectionEnds (result : Ended) (r : R) (w w' : W) : Type 0 where
-    pub good : result ≡ Good → EndsWhole gives ended takes write_failed r w w'
-    pub input : (fault : PgnFault) → result ≡ Input fault → EndsAtFault gives ended takes write_failed fault r w w'
-    pub read_fault : result ≡ ReadFault → EndsWritten gives ended takes write_failed r w w'
-    pub write_fault : result ≡ WriteFault → EndsInPart gives ended takes write_failed r w w'
-    pub memory : result ≡ Memory → EndsWritten gives ended takes write_failed r w w'
+    pub good : result ≡ Good → EndsWhole gives read_failed ended takes write_failed r w w'
+    pub input : (fault : PgnFault) → result ≡ Input fault → EndsAtFault gives read_failed ended takes write_failed fault r w w'
+    pub read_fault : result ≡ ReadFault → EndsUnread gives read_failed ended takes write_failed most_reads r w w'
+    pub write_fault : result ≡ WriteFault → EndsInPart gives read_failed ended takes write_failed r w w'
+    pub memory : result ≡ Memory → EndsWritten gives read_failed ended takes write_failed r w w'

@@ -10,7 +10,7 @@ use Rattle.std.specs.Prelude.{◌≡◌, ℕ, ◌<◌, nat_le, Bool, true, false
 use Rattle.chess_uci.specs.declared.reply.Reply.{Reply}
 use Rattle.chess_uci.specs.Replies.{reply_text}
 use Rattle.chess_uci.specs.Machine.{Event, Line, Starved, Slice, Moment, Search, State, beginning, is_infinite, is_waiting, depth_done}
-use Rattle.chess_uci.specs.Laws.{replies, after}
+use Rattle.chess_uci.specs.Laws.{replies, after_events}
 use Rattle.chess_cli.specs.declared.sitting.Sitting.{Sitting}
 use Rattle.chess_cli.specs.Answers.{line_limit, line_room}
 
@@ -39,22 +39,22 @@ events_of first event later = Moment first ∷ event ∷ slices_of later
 -- a search was to be fed before each slice
 abbrev pub WasFed : State → List ℕ → Type 0
 WasFed s [] = ⊤
-WasFed s (moment ∷ moments) = (is_fed s ≡ true) × WasFed (after s (Slice ∷ Moment moment ∷ [])) moments
+WasFed s (moment ∷ moments) = (is_fed s ≡ true) × WasFed (after_events s (Slice ∷ Moment moment ∷ [])) moments
 
 -- the line, or the line for which a growth of memory is refused
-abbrev pub IsLine : List ℕ → Event → Type 0
-IsLine input event = (event ≡ Line input) ⊎ (event ≡ Starved input)
+abbrev pub IsLineEvent : List ℕ → Event → Type 0
+IsLineEvent input event = (event ≡ Line input) ⊎ (event ≡ Starved input)
 
 pub record AnsweredSoFar {C : Type 0} (reads : C → ℕ → C → Type 0) (s : State) (c : C) (input text : List ℕ) (t : State) (d : C) : Type 0 where
   pub first : ℕ
   pub event : Event
   pub later : List ℕ
   pub told : List Reply
-  pub is_line : IsLine input event
+  pub is_line : IsLineEvent input event
   pub clock : Readings reads c (first ∷ later) d
   pub replied : told ≡ replies s (events_of first event later)
-  pub state : t ≡ after s (events_of first event later)
-  pub each : WasFed (after s (Moment first ∷ event ∷ [])) later
+  pub state : t ≡ after_events s (events_of first event later)
+  pub each : WasFed (after_events s (Moment first ∷ event ∷ [])) later
   pub text_is : text ≡ reply_lines told
 
 -- a line over the limit, and one that found no memory while it was read, are skipped

@@ -4,6 +4,7 @@ ghost use Rattle.chess_pgn.specs.steps.GameCode.{game_of};
 ghost use Rattle.chess_pgn.specs.steps.Next.{IsSound};
 ghost use Rattle.chess_pgn.specs.Sources.{unread};
 ghost use Rattle.chess_cli.specs.Endings.{CollectionEnds};
+ghost use Rattle.chess_cli.specs.RunEnds.{most_reads};
 ghost use Rattle.chess_cli.specs.steps.Collecting.{WritesAll, WritesOne};
 
 use super::ended::Ended;
@@ -43,8 +44,10 @@ fn write_games<'a, A: Allocator, R: Source, W: Sink>(
     requires sound { IsSound R.ended games.old }
     requires none { games.old.fault ≡ None }
     requires nothing { unread games.old.text ≡ [] }
+    requires reads { games.old.text.reads ≡ most_reads }
+    requires reader { R.failed games.old.text.source ≡ false }
     requires writer { W.failed writer.old ≡ false }
-    ensures { WritesAll R.gives R.ended W.takes W.failed games.old.text.source writer.old writer.new result }
+    ensures { WritesAll R.gives R.failed R.ended W.takes W.failed games.old.text.source writer.old writer.new result }
 {
     for _game in 0..GAMES {
         match games.next() {
@@ -64,13 +67,13 @@ fn write_games<'a, A: Allocator, R: Source, W: Sink>(
 /// Reads the games of the reader one after another, and writes each in export form (PGN 3.2) on the writer before it reads the next.
 ///
 /// `Good`: the input has ended, and all its games are written. `Input`: the games before the fault are written, and no game stands behind
-/// them, whatever comes next, and not white alone; of kind `Memory`, there was none to read on. `ReadFault`: a read failed, or there were
-/// 2^40; the games before are written. `WriteFault`: a write failed or took no byte, and a front of the games is written. `Memory`: there
-/// was none for the text of a game; those before it are written.
+/// them, whatever comes next, and not white alone; of kind `Memory`, there was none to read on. `ReadFault`: a read failed, the last, or
+/// there were 2^40; the games before are written. `WriteFault`: a write failed or took no byte, and a front of the games is written.
+/// `Memory`: there was none for the text of a game; those before it are written. No read failed but at `ReadFault`.
 pub fn pgn<A: Allocator, R: Source + Drop, W: Sink>(alloc: A, reader: R, writer: &mut W) -> Ended
     requires reader { R.failed reader ≡ false }
     requires writer { W.failed writer.old ≡ false }
-    ensures { CollectionEnds R.gives R.ended W.takes W.failed result reader writer.old writer.new }
+    ensures { CollectionEnds R.gives R.failed W.takes W.failed R.ended result reader writer.old writer.new }
 {
     pgn_with(alloc, reader, writer, &key_table())
 }
@@ -84,7 +87,7 @@ pub fn pgn_with<A: Allocator, R: Source + Drop, W: Sink>(
 ) -> Ended
     requires reader { R.failed reader ≡ false }
     requires writer { W.failed writer.old ≡ false }
-    ensures { CollectionEnds R.gives R.ended W.takes W.failed result reader writer.old writer.new }
+    ensures { CollectionEnds R.gives R.failed W.takes W.failed R.ended result reader writer.old writer.new }
 {
     let mut games = Games::new(&alloc, table, reader);
     write_games(&alloc, &mut games, writer)

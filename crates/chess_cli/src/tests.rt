@@ -1,4 +1,5 @@
 mod games;
+mod growths;
 mod hostile;
 mod lines;
 mod live;

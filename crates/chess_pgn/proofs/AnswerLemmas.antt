@@ -1,12 +1,12 @@
 -- What is answered of a text with a game at its front, and where a fault is.
-use Rattle.std.proofs.Common.{◌≡◌, ◌⊎◌, ℕ, true, List, [], ◌++◌, refl, sym, subst, ap, ◌∙◌, append-nil}
+use Rattle.std.proofs.Common.{◌≡◌, ◌⊎◌, ℕ, Bool, true, List, [], ◌++◌, refl, sym, subst, ap, ◌∙◌, append-nil}
 use Rattle.std.specs.Prelude.{Ok, Option, Some, None}
 use mathlib.Core.Logic.{inl, inr}
 use Rattle.chess_types.specs.bytes.Calls.{joined}
 use Rattle.chess_pgn.specs.Games as games
 use Rattle.chess_pgn.specs.Reading.{HasNoGame, IsAnswered, IsAtFront, IsWhite}
-use Rattle.chess_pgn.specs.Sources.{HasFault, unread}
-use Rattle.chess_pgn.specs.steps.GameAt.{Found, IsFault, NotCome}
+use Rattle.chess_pgn.specs.Sources.{Breaks, HasFault, unread}
+use Rattle.chess_pgn.specs.steps.GameAt.{FoundGame, IsFault, NotCome}
 use Rattle.chess_pgn.specs.steps.GameCode.{game_of}
 use Rattle.chess_pgn.specs.steps.Next.{HasKind}
 use Rattle.chess_pgn.specs.declared.at_hand.AtHand.{AtHand}
@@ -15,42 +15,46 @@ use Rattle.chess_pgn.specs.declared.fault.PgnFault.{PgnFault}
 use Rattle.chess_pgn.specs.declared.game.Game.{Game}
 use Rattle.chess_pgn.specs.declared.games.GamesFault.{GamesFault}
 use Rattle.chess_pgn.specs.declared.games.GamesFault.TheVariants.{Pgn, Read}
+use Rattle.chess_pgn.proofs.BreakLemmas.{all_came}
 use Rattle.chess_pgn.proofs.OneGameLemmas.{one_game, white_no_game}
-use Rattle.chess_pgn.proofs.SourceLemmas.{all_carried, brings, has_all, no_bytes, whole_game, whole_none}
+use Rattle.chess_pgn.proofs.SourceLemmas.{brings, has_all, no_bytes, whole_game, whole_none}
 
 -- ---- a whole text
 
 module _ {X : Type 0} (at_hand : X → List ℕ) (all : X → Type 0) (old new : X) where
-  pub white_found : {A : Type 0} (found : Option (Game A × ℕ)) → Found (λ x bytes y. bytes ≡ []) at_hand all old new found → IsWhite (at_hand old) → found ≡ None
+  pub white_found : {A : Type 0} (found : Option (Game A × ℕ)) → FoundGame (λ x bytes y. bytes ≡ []) at_hand all old new found → IsWhite (at_hand old) → found ≡ None
   white_found (Some x) h w = absurd (white_no_game (at_hand old) (game_of x.0) x.1 w (whole_game at_hand all old new (Some x) h))
   white_found None h w = refl
 
-  pub only_found : {A : Type 0} (found : Option (Game A × ℕ)) → Found (λ x bytes y. bytes ≡ []) at_hand all old new found → (game : games.Game) (used : ℕ) → IsAtFront (at_hand old) game used → IsAnswered game used (Ok found)
+  pub only_found : {A : Type 0} (found : Option (Game A × ℕ)) → FoundGame (λ x bytes y. bytes ≡ []) at_hand all old new found → (game : games.Game) (used : ℕ) → IsAtFront (at_hand old) game used → IsAnswered game used (Ok found)
   only_found {A} (Some x) h game used y = one_game (at_hand old) (game_of x.0) game x.1 used (whole_game at_hand all old new (Some x) h) y
   only_found {A} None h game used y = white_no_game (at_hand old) game used (whole_none at_hand all old new {A = A} None h refl) y
 
-module _ {X : Type 0} (at_hand : X → List ℕ) (all sound : X → Type 0) (old new : X) where
+module _ {X : Type 0} (breaks : X → X → Type 0) (at_hand : X → List ℕ) (all sound : X → Type 0) (old new : X) where
   none_there : NotCome (λ x bytes y. bytes ≡ []) at_hand all sound old new → HasNoGame (at_hand old)
   none_there h =
       subst (λ (z : List ℕ). HasNoGame z) (ap (λ (z : List ℕ). at_hand old ++ (z ++ [])) (no_bytes old new h.pieces h.came) ∙ append-nil (at_hand old)) (h.none [] (λ e. refl))
 
-  fault_there : (fault : PgnFault) → IsFault (λ x bytes y. bytes ≡ []) at_hand all sound old new (Pgn fault) → (fault.kind ≡ Memory) ⊎ HasNoGame (at_hand old)
-  fault_there fault (inl k) = inl k
+  abbrev Faulty : GamesFault → Type 0
+  Faulty told = IsFault (λ x bytes y. bytes ≡ []) at_hand all sound breaks old new told
+
+  fault_there : (fault : PgnFault) → Faulty (Pgn fault) → (fault.kind ≡ Memory) ⊎ HasNoGame (at_hand old)
+  fault_there fault (inl k) = inl k.0
   fault_there fault (inr h) = inr (none_there h)
 
   -- a white text has none, and no fault
-  pub white_fault : (told : GamesFault) (fault : PgnFault) → IsFault (λ x bytes y. bytes ≡ []) at_hand all sound old new told → told ≡ Pgn fault → IsWhite (at_hand old) → fault.kind ≡ Memory
-  white_fault told fault h e w = by (subst (λ (f : GamesFault). IsFault (λ x bytes y. bytes ≡ []) at_hand all sound old new f) e h)
+  pub white_fault : (told : GamesFault) (fault : PgnFault) → Faulty told → told ≡ Pgn fault → IsWhite (at_hand old) → fault.kind ≡ Memory
+  white_fault told fault h e w = by (subst (λ (f : GamesFault). Faulty f) e h)
     where
-      by : (fault.kind ≡ Memory) ⊎ NotCome (λ x bytes y. bytes ≡ []) at_hand all sound old new → fault.kind ≡ Memory
-      by (inl k) = k
+      by : Faulty (Pgn fault) → fault.kind ≡ Memory
+      by (inl k) = k.0
       by (inr n) =
           absurd (n.dark [] (λ e. refl) (subst (λ (z : List ℕ). IsWhite z) (sym (ap (λ (z : List ℕ). at_hand old ++ (z ++ [])) (no_bytes old new n.pieces n.came) ∙ append-nil (at_hand old))) w))
 
-  pub whole_fault : (told : GamesFault) (fault : PgnFault) → IsFault (λ x bytes y. bytes ≡ []) at_hand all sound old new told → told ≡ Pgn fault → (fault.kind ≡ Memory) ⊎ HasNoGame (at_hand old)
-  whole_fault told fault h e = fault_there fault (subst (λ (f : GamesFault). IsFault (λ x bytes y. bytes ≡ []) at_hand all sound old new f) e h)
+  pub whole_fault : (told : GamesFault) (fault : PgnFault) → Faulty told → told ≡ Pgn fault → (fault.kind ≡ Memory) ⊎ HasNoGame (at_hand old)
+  whole_fault told fault h e = fault_there fault (subst (λ (f : GamesFault). Faulty f) e h)
 
-  pub only_fault : (told : GamesFault) (fault : PgnFault) → IsFault (λ x bytes y. bytes ≡ []) at_hand all sound old new told → told ≡ Pgn fault → (game : games.Game) (used : ℕ) → IsAtFront (at_hand old) game used → fault.kind ≡ Memory
+  pub only_fault : (told : GamesFault) (fault : PgnFault) → Faulty told → told ≡ Pgn fault → (game : games.Game) (used : ℕ) → IsAtFront (at_hand old) game used → fault.kind ≡ Memory
   only_fault told fault h e game used x = by (whole_fault told fault h e)
     where
       by : (fault.kind ≡ Memory) ⊎ HasNoGame (at_hand old) → fault.kind ≡ Memory
@@ -62,11 +66,16 @@ module _ {X : Type 0} (at_hand : X → List ℕ) (all sound : X → Type 0) (old
 abbrev ends_truly : {R A : Type 0} → (R → Type 0) → AtHand R A → Type 0
 ends_truly ended s = s.has_ended ≡ true → ended s.source
 
-module _ {R A : Type 0} (gives : R → List ℕ → R → Type 0) (ended : R → Type 0) (old new : AtHand R A) where
+module _ {R A : Type 0} (gives : R → List ℕ → R → Type 0) (failed : R → Bool) (ended : R → Type 0) (old new : AtHand R A) where
+  abbrev breaking : AtHand R A → AtHand R A → Type 0
+  breaking s t = Breaks gives failed s t
+
   -- wherever the fault is placed
-  pub source_fault : (fault placed : GamesFault) → IsFault (brings gives) unread (has_all gives) (ends_truly ended) old new fault → HasKind fault placed → HasFault gives ended old new placed
-  source_fault (Pgn fault) (Pgn placed) (inl k) e = inl (e ∙ k)
-  source_fault (Pgn fault) (Pgn placed) (inr h) e = inr (record { bytes = joined h.pieces; came = all_carried gives old new h.pieces h.came; told = h.sound_still; none = h.none; dark = h.dark; still = h.still })
+  pub source_fault : (fault placed : GamesFault) → IsFault (brings gives failed) unread (has_all gives failed) (ends_truly ended) breaking old new fault → HasKind fault placed → HasFault gives failed ended old new placed
+  source_fault (Pgn fault) (Pgn placed) (inl k) e =
+      inl (e ∙ k.0, record { bytes = joined k.1.pieces; came = all_came gives failed old new k.1.pieces k.1.came; still = λ h. let s = k.1.still h in (s.0, s.2 s.1) })
+  source_fault (Pgn fault) (Pgn placed) (inr h) e =
+      inr (record { bytes = joined h.pieces; came = all_came gives failed old new h.pieces h.came; told = h.sound_still; none = h.none; dark = h.dark; still = h.still })
   source_fault (Pgn fault) Read h e = absurd e
   source_fault Read (Pgn placed) h e = absurd e
-  source_fault Read Read h e = tt
+  source_fault Read Read h e = record { bytes = joined h.1; before = h.2; came = all_came gives failed old h.2 h.1 h.3; breaks = h.4; not_ended = h.0 }

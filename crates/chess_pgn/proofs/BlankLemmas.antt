@@ -1,12 +1,13 @@
 -- White space and hidden lines, piece by piece.
-use Rattle.std.proofs.Common.{◌≡◌, ℕ, ◌+◌, ◌≤◌, true, false, List, [], ◌∷◌, ◌++◌, Option, Some, None, is_some, refl, sym, ap, ◌∙◌, append_assoc, append-nil, Ok, Err}
+use Rattle.std.proofs.Common.{◌≡◌, ℕ, ◌+◌, ◌≤◌, true, false, List, [], ◌∷◌, ◌++◌, Option, Some, None, is_some, refl, sym, ap, ◌∙◌, append_assoc, append-nil, Ok}
 use Rattle.chess_types.specs.bytes.Calls.{Calls, joined}
 use Rattle.chess_types.proofs.CallLemmas.{Calls-more, joined-more}
 use Rattle.chess_pgn.specs.steps.Skipping.{white_next, white_after, column_at, Skips}
-use Rattle.chess_pgn.specs.steps.Texts.{Refills}
+use Rattle.chess_pgn.specs.steps.Texts.{BreaksOff, Refills}
 use Rattle.chess_pgn.specs.declared.at_hand.Fault.{Fault}
 use Rattle.chess_pgn.specs.declared.blanks.Column.{Column}
 use Rattle.chess_pgn.specs.declared.place.Place.{Place}
+use Rattle.chess_pgn.proofs.BreakLemmas.{breaks_later}
 
 pub white_after-append : (column : Option Column) (front more : List ℕ) → white_after column (front ++ more) ≡ white_after (white_after column front) more
 white_after-append column [] more = refl
@@ -37,6 +38,9 @@ module _ {X : Type 0} (comes : X → List ℕ → X → Type 0) (at_hand : X →
     after = (s.white ∙ ap (white_after (Some column)) (sym e) ∙ sym none, s.sound_still, s.at_end);
   }
 
+  pub skipping_broken : (breaks : X → X → Type 0) (column : Column) (now new : X) (fault : Fault) → Skipping column now → BreaksOff comes breaks all now new fault → BreaksOff comes breaks all old new fault
+  skipping_broken breaks column now new fault s b = breaks_later comes breaks all old now new s.pieces s.came (λ e. (s.at_end e).1) fault b
+
   module _ (column next : Column) (now new : X) (hand : List ℕ) (s : Skipping column now) (e : hand ≡ at_hand now) (some : Some next ≡ white_after (Some column) hand) where
     came_more : (more : List ℕ) → comes now more new → Calls comes old (s.pieces ++ more ∷ []) new
     came_more more came = Calls-more comes old now new s.pieces more s.came came
@@ -48,9 +52,6 @@ module _ {X : Type 0} (comes : X → List ℕ → X → Type 0) (at_hand : X →
         ap (λ (x : List ℕ). white_after (Some (column_at place)) (at_hand old ++ x)) (joined-more comes s.pieces more)
         ∙ ap (white_after (Some (column_at place))) (sym (append_assoc (at_hand old) (joined s.pieces) more))
         ∙ white_after-append (Some (column_at place)) front more ∙ ap (λ (c : Option Column). white_after c more) so_far
-
-    pub skipping_fault : (fault : Fault) → Refills comes at_hand all sound size now new (Err fault) → Skips comes at_hand all sound place old new (Err fault)
-    skipping_fault fault r = record { pieces = s.pieces ++ r.more ∷ []; came = came_more r.more r.came; after = tt }
 
     pub skipping_end : Refills comes at_hand all sound size now new (Ok false) → Skips comes at_hand all sound place old new (Ok true)
     skipping_end r = record {

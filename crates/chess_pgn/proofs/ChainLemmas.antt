@@ -10,7 +10,7 @@ use Rattle.chess_pgn.specs.Reading.{HasBegun, Starts, is_heading, is_movetext, l
 use Rattle.chess_pgn.specs.Tags.{AreTags, start_in}
 use Rattle.chess_pgn.specs.steps.HeaderCode.{HasTaken, is_begun}
 use Rattle.chess_pgn.specs.steps.OtherCode.{Finds}
-use Rattle.chess_pgn.specs.steps.ReaderCode.{Begins, Headed, Heads, IsNew, Read, TakesItem, TakesPart, takes_when}
+use Rattle.chess_pgn.specs.steps.ReaderCode.{BeginsMoves, Headed, HeadsGame, IsNew, Read, TakesItem, TakesPart, takes_when}
 use Rattle.chess_pgn.specs.steps.Readings.{Reading, Stands, fresh, goes_on}
 use Rattle.chess_pgn.specs.steps.Taking.{Takes}
 use Rattle.chess_pgn.specs.declared.reader.Reader.{Reader}
@@ -104,7 +104,7 @@ movetext_more {A = A} head movetext item old new h r =
     }
 
 -- the head is at its end
-pub movetext_first : {A : Type 0} (is : List Item) (old new : Reader A) → InHead is old → Begins old new → InMovetext is [] new
+pub movetext_first : {A : Type 0} (is : List Item) (old new : Reader A) → InHead is old → BeginsMoves old new → InMovetext is [] new
 movetext_first {A = A} is old new h b =
     let t = took_tags is old.header h.taken b.outside in
     let x = b.moves t.0 t.2 in
@@ -159,7 +159,7 @@ moving_more is item old new h r = record {
   there = movetext_more h.head h.movetext item old new h.there r;
 }
 
-moving_first : {A : Type 0} (is : List Item) (item : Item) (old between new : Reader A) → InHead is old → is_heading item ≡ false → Begins old between → Read item between new → Moving (is ++ item ∷ []) new
+moving_first : {A : Type 0} (is : List Item) (item : Item) (old between new : Reader A) → InHead is old → is_heading item ≡ false → BeginsMoves old between → Read item between new → Moving (is ++ item ∷ []) new
 moving_first is item old between new h e b r = record {
   head = is;
   movetext = item ∷ [];
@@ -174,7 +174,7 @@ progress_new r n = inl (record { heading = refl; taken = n.tags; lead = n.lead; 
 progress_more : {A : Type 0} (is : List Item) (item : Item) (old new : Reader A) → Progress is old → TakesItem old item (Ok GoesOn) new → Progress (is ++ item ∷ []) new
 progress_more is item old new (inl h) t = by (subst (λ (b : Bool). takes_when b item (Ok GoesOn) old new) h.moving t)
   where
-    by : Heads item (Ok GoesOn) old new → Progress (is ++ item ∷ []) new
+    by : HeadsGame item (Ok GoesOn) old new → Progress (is ++ item ∷ []) new
     by (inl x) = inl (head_more is item old new h x.1)
     by (inr x) = inr (moving_first is item old x.1 new h x.0 x.2 x.3)
 progress_more is item old new (inr h) t = inr (moving_more is item old new h (subst (λ (b : Bool). takes_when b item (Ok GoesOn) old new) h.there.moving t))

@@ -4,9 +4,9 @@ use Rattle.std.specs.Prelude.{if◌then◌else◌}
 use Rattle.std.specs.List.{list_all}
 use mathlib.Core.Logic.{inl, inr}
 use Rattle.chess_pgn.specs.Items as items
-use Rattle.chess_pgn.specs.Items.{Each, IsSpelled, Item, Spells, may_stand, Stops, in_line, is_blank, is_game_start, is_outside, is_in_tag, behind_blank, is_white, place_after, starts_line}
+use Rattle.chess_pgn.specs.Items.{Each, IsSpelled, Item, Spells, may_stand, EndsRun, in_line, is_blank, is_game_start, is_outside, is_in_tag, behind_blank, is_white, place_after, starts_line}
 use Rattle.chess_pgn.specs.Reading.{IsWhite, is_heading, is_movetext}
-use Rattle.chess_pgn.specs.Tags.{AreBetween, is_between}
+use Rattle.chess_pgn.specs.Tags.{AreBetween, may_part_tags}
 use Rattle.chess_pgn.specs.steps.HeaderCode.{is_begun}
 use Rattle.chess_pgn.specs.steps.ItemAt.{item_at}
 use Rattle.chess_pgn.specs.steps.ReaderCode.{RefusesFirst, Strays, TakesItem, is_tagged, takes_when}
@@ -67,7 +67,7 @@ goes_white is input rest s w = elim (either (length is) (length w.items)) [
 
 -- ---- no white item is refused
 
-white_between : (i : Item) → is_white i ≡ true → is_between i ≡ true
+white_between : (i : Item) → is_white i ≡ true → may_part_tags i ≡ true
 white_between items.Mark e = refl
 white_between (items.Blank b) e = refl
 white_between items.Hidden e = refl
@@ -209,7 +209,7 @@ feeds b h = by (eqb b 10) refl h
     by false e k = absurd cc
 
 -- at its end a hidden line goes on as any other
-line_over : (next : List ℕ) → Stops in_line next → is_some (white_after (Some column.Later) next) ≡ true → is_some (white_after (Some column.Hidden) next) ≡ true
+line_over : (next : List ℕ) → EndsRun in_line next → is_some (white_after (Some column.Later) next) ≡ true → is_some (white_after (Some column.Hidden) next) ≡ true
 line_over [] h e = refl
 line_over (b ∷ next) h e =
     let f = feeds b h in

@@ -2,7 +2,7 @@
 use Rattle.std.proofs.Common.{◌≡◌, ℕ, List, [], Option, Some, None, refl, sym, ap, ◌∙◌}
 use Rattle.chess_types.specs.board.Position.{State}
 use Rattle.chess_tree.specs.Forest.{Forest, Bare}
-use Rattle.chess_pgn.specs.Grammar.{Derives, Element, Part, joined, meaning, ◌>>=◌}
+use Rattle.chess_pgn.specs.Grammar.{Derives, Element, Part, comments_joined, meaning, ◌>>=◌}
 use Rattle.chess_pgn.specs.steps.Elements.{run}
 use Rattle.chess_pgn.proofs.MeetLemmas.{Answer, ended, finish, meets}
 use Rattle.chess_pgn.proofs.ParseLemmas.{Lines, LastLine, More, Bad, parse, parse-of, parse-back}
@@ -25,9 +25,9 @@ pair_is c d f g e =
     let p = some_is {A = List ℕ × Forest} (c, f) (d, g) e in
     (ap (λ (x : List ℕ × Forest). x.0) p, ap (λ (x : List ℕ × Forest). x.1) p)
 
-part_back : (o : Option Part) (before c : List ℕ) (f : Forest) → (o >>= λ r. Some (given before r)) ≡ Some (c, f) → (r : Part) × (o ≡ Some r) × (c ≡ joined before r.comment) × (f ≡ r.below)
+part_back : (o : Option Part) (before c : List ℕ) (f : Forest) → (o >>= λ r. Some (given before r)) ≡ Some (c, f) → (r : Part) × (o ≡ Some r) × (c ≡ comments_joined before r.comment) × (f ≡ r.below)
 part_back None before c f e = absurd cc
-part_back (Some r) before c f e = let p = pair_is (joined before r.comment) c r.below f e in (r, refl, sym p.0, sym p.1)
+part_back (Some r) before c f e = let p = pair_is (comments_joined before r.comment) c r.below f e in (r, refl, sym p.0, sym p.1)
 
 by_lines : (ls : Lines) (start : State) (before : List ℕ) (es : List Element) → parse es ≡ ls → (c : List ℕ) (f : Forest) → finish ls [] Bare [] None start before [] ≡ Some (c, f) → Derives es start before c f
 by_lines (LastLine l) start before es p c f e =

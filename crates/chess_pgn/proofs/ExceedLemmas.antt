@@ -12,10 +12,10 @@ use Rattle.chess_tree.specs.Forest.{Forest, Bare, Node, append, below_at, count,
 use Rattle.chess_tree.specs.GameTree.{TreeParts, at_path, line_to, moves_along}
 use Rattle.chess_tree.specs.WellFormed.{IsGameTree, Leads}
 use Rattle.chess_tree.proofs.EditLemmas.{held_with_move, path_le_height}
-use Rattle.chess_pgn.specs.Grammar.{Element, Number, Annotation, Remark, Open, Close, Text, Part, joined, move_in, ◌>>=◌}
+use Rattle.chess_pgn.specs.Grammar.{Element, Number, Annotation, Remark, Open, Close, Text, Part, comments_joined, move_in, ◌>>=◌}
 use Rattle.chess_pgn.specs.steps.Elements.{Frame, Last, end_of, last_of, run}
 use Rattle.chess_pgn.specs.steps.Hanging.{hang, leaf, nag, on_node, say}
-use Rattle.chess_pgn.specs.steps.Readings.{AtLimit, Holds, IsRoomFault, Reading, forest_at, goes_on, said_here}
+use Rattle.chess_pgn.specs.steps.Readings.{AtLimit, HoldsReading, IsRoomFault, Reading, forest_at, goes_on, said_here}
 use Rattle.chess_pgn.specs.declared.fault.FaultKind.{FaultKind}
 use Rattle.chess_pgn.specs.declared.fault.FaultKind.TheVariants.{Memory, TooLarge}
 use Rattle.chess_pgn.specs.declared.reader.moves.Interrupted.{Interrupted}
@@ -49,7 +49,7 @@ bound (Some m) next x e = (m, e)
 module _ (P : Forest → Type 0) (kept : (p : List ℕ) (r : Part) (f : Forest) → P f → P (hang p r f)) where
   run_keeps : (es : List Element) (c : List ℕ) (f : Forest) (up : List ℕ) (l : Last) (here : State) (lead : List ℕ) (st : List Frame) (d : List ℕ) (g : Forest)
       → run es c f up l here lead st ≡ Some (d, g) → P f → P g
-  run_keeps [] c f up None here lead [] d g e h = subst P (second_is (joined c lead) d f g e) h
+  run_keeps [] c f up None here lead [] d g e h = subst P (second_is (comments_joined c lead) d f g e) h
   run_keeps [] c f up (Some x) here lead [] d g e h =
       let p : List ℕ = up ++ x.0 ∷ [] in
       subst P (second_is c d (hang p (say lead) f) g e) (kept p (say lead) f h)
@@ -58,10 +58,10 @@ module _ (P : Forest → Type 0) (kept : (p : List ℕ) (r : Part) (f : Forest) 
   run_keeps (Annotation n ∷ es) c f up None here lead st d g e h = run_keeps es c f up None here lead st d g e h
   run_keeps (Annotation n ∷ es) c f up (Some x) here lead st d g e h =
       run_keeps es c (hang (up ++ x.0 ∷ []) (nag n) f) up (Some x) here lead st d g e (kept (up ++ x.0 ∷ []) (nag n) f h)
-  run_keeps (Remark t ∷ es) c f up l here lead st d g e h = run_keeps es c f up l here (joined lead t) st d g e h
+  run_keeps (Remark t ∷ es) c f up l here lead st d g e h = run_keeps es c f up l here (comments_joined lead t) st d g e h
   run_keeps (Text w ∷ es) c f up None here lead [] d g e h =
       let b = bound (move_in here w) _ (d, g) e in
-      run_keeps es (joined c lead) (hang up (leaf b.0) f) up (Some (count (below_at up f), here)) (after here b.0) [] [] d g b.1 (kept up (leaf b.0) f h)
+      run_keeps es (comments_joined c lead) (hang up (leaf b.0) f) up (Some (count (below_at up f), here)) (after here b.0) [] [] d g b.1 (kept up (leaf b.0) f h)
   run_keeps (Text w ∷ es) c f up None here lead (x ∷ xs) d g e h =
       let b = bound (move_in here w) _ (d, g) e in
       run_keeps es c (hang up (leaf b.0) f) up (Some (count (below_at up f), here)) (after here b.0) lead (x ∷ xs) d g b.1 (kept up (leaf b.0) f h)
@@ -74,7 +74,7 @@ module _ (P : Forest → Type 0) (kept : (p : List ℕ) (r : Part) (f : Forest) 
   run_keeps (Open ∷ es) c f up (Some x) here lead st d g e h =
       run_keeps es c f up None x.1 [] (record { up = up; place = x.0; before = x.1; here = here; lead = lead } ∷ st) d g e h
   run_keeps (Close ∷ es) c f up l here lead [] d g e h = none_some (d, g) e
-  run_keeps (Close ∷ es) c f up None here lead (x ∷ xs) d g e h = run_keeps es c f x.up (last_of x) x.here (joined x.lead lead) xs d g e h
+  run_keeps (Close ∷ es) c f up None here lead (x ∷ xs) d g e h = run_keeps es c f x.up (last_of x) x.here (comments_joined x.lead lead) xs d g e h
   run_keeps (Close ∷ es) c f up (Some y) here lead (x ∷ xs) d g e h =
       run_keeps es c (hang (up ++ y.0 ∷ []) (say lead) f) x.up (last_of x) x.here x.lead xs d g e (kept (up ++ y.0 ∷ []) (say lead) f h)
 
@@ -149,7 +149,7 @@ text_grows w es start c f up None here lead [] d g at e =
     let i = count (below_at up f) in
     let q : List ℕ = up ++ i ∷ [] in
     larger (moves_held f) (moves_held f) up i g (omega arith)
-    (run_keeps (Grown (moves_held f + 1) q) (grown_kept (moves_held f + 1) q) es (joined c lead) (hang up (leaf b.0) f) up (Some (i, here)) (after here b.0) [] [] d g b.1 (grown_new up b.0 f at))
+    (run_keeps (Grown (moves_held f + 1) q) (grown_kept (moves_held f + 1) q) es (comments_joined c lead) (hang up (leaf b.0) f) up (Some (i, here)) (after here b.0) [] [] d g b.1 (grown_new up b.0 f at))
 text_grows w es start c f up None here lead (x ∷ xs) d g at e =
     let b = bound (move_in here w) _ (d, g) e in
     let i = count (below_at up f) in
@@ -195,7 +195,7 @@ same_line t t1 text false e at = ap line_to e
 -- what a text gives that names a legal move is too large
 text_exceeds : (t t1 : TreeParts) (lines : List Interrupted) (played due : Bool) (comments : List ℕ) (from : ℕ) (w text : List ℕ) (m : MoveParts) → t1 ≡ (if due then said_here text t else t)
     → is_legal (last (line_to t)) m ≡ true → (is_legal (last (line_to t1)) m ≡ true → AtLimit t1)
-    → (s : Reading) → Holds t lines played comments from s → (es : List Element) (d : List ℕ) (g : Forest) → goes_on (Text w ∷ es) s ≡ Some (d, g) → (20000 < height g) ⊎ (1000000 < moves_held g)
+    → (s : Reading) → HoldsReading t lines played comments from s → (es : List Element) (d : List ℕ) (g : Forest) → goes_on (Text w ∷ es) s ≡ Some (d, g) → (20000 < height g) ⊎ (1000000 < moves_held g)
 text_exceeds t t1 lines played due comments from w text m e1 legal full s h es d g e =
     by (limit_said t t1 text due e1 (full (ap (λ (z : Line). is_legal (last z) m) (same_line t t1 text due e1 there) ∙ legal)))
   where
@@ -213,7 +213,7 @@ text_exceeds t t1 lines played due comments from w text m e1 legal full s h es d
 pub room_exceeds : (t t1 : TreeParts) (lines : List Interrupted) (played due : Bool) (comments : List ℕ) (from : ℕ) (w text : List ℕ) (m : MoveParts) (kind : FaultKind) → t1 ≡ (if due then said_here text t else t)
     → is_legal (last (line_to t)) m ≡ true → IsRoomFault kind (is_legal (last (line_to t1)) m) t1
     → (kind ≡ Memory) ⊎ ((kind ≡ TooLarge)
-    × ((s : Reading) → Holds t lines played comments from s → (es : List Element) (d : List ℕ) (g : Forest) → goes_on (Text w ∷ es) s ≡ Some (d, g) → (20000 < height g) ⊎ (1000000 < moves_held g)))
+    × ((s : Reading) → HoldsReading t lines played comments from s → (es : List Element) (d : List ℕ) (g : Forest) → goes_on (Text w ∷ es) s ≡ Some (d, g) → (20000 < height g) ⊎ (1000000 < moves_held g)))
 room_exceeds t t1 lines played due comments from w text m kind e1 legal (inl memory) = inl memory
 room_exceeds t t1 lines played due comments from w text m kind e1 legal (inr full) = inr (full.0, text_exceeds t t1 lines played due comments from w text m e1 legal full.1)
 

@@ -6,7 +6,7 @@ use Rattle.std.proofs.lemmas.Bool.Decides.{nat_tests}
 use Rattle.std.proofs.Math.Numerals.{one-add}
 use Rattle.std.proofs.lemmas.List.{take-append-drop}
 use Rattle.chess_pgn.specs.Items.{Item, Mark, Blank, Hidden, Comment, Skipped, Word, Nag, Open, Close, Marker, TagOpen, TagClose, Name, Quote, Stretch, Escaped}
-use Rattle.chess_pgn.specs.Items.{Each, Stops, IsRun, IsLine, IsSpelled, IsItem, digits_value, glyph_value, in_braces, in_line, is_blank, is_digit, is_escapable, is_glyph, is_name_byte, is_plain, is_word_byte, without_brace, word_item, may_stand}
+use Rattle.chess_pgn.specs.Items.{Each, EndsRun, IsRun, IsToLineEnd, IsSpelled, IsItem, digits_value, glyph_value, in_braces, in_line, is_blank, is_digit, is_escapable, is_glyph, is_name_byte, is_plain, is_word_byte, without_brace, word_item, may_stand}
 use Rattle.chess_pgn.specs.steps.ItemAt.{Found, run_at, nag_found, small, digits_found, glyph_found, hidden_found, line_found, braces_found, hidden_at, sign_at, outside_at, tag_at, escaped_at, value_at, mark_at, start_at, item_at}
 use Rattle.chess_pgn.specs.declared.outcome.Outcome.TheVariants.{WhiteWins, BlackWins, Draw, Unfinished}
 use Rattle.chess_pgn.specs.declared.place.Place.{Place}
@@ -91,7 +91,7 @@ glyph_taken start b bytes item next e found =
 small_is : (v n : ℕ) → small v ≡ Some n → (n ≡ v) × (n < 256)
 small_is v n e = elim (chosen (ltb v 256) _ _ _ e) [ inl h ↦ let s : v ≡ n = some_is _ _ h.1 in (sym s, omega (arith, ltb-true _ _ h.0)) | inr h ↦ absurd cc ]
 
-dollar_ends : (start : Bool) (ds rest : List ℕ) (item : Item) (next : List ℕ) → Each is_digit ds → Stops is_digit rest → digits_found ds rest ≡ Some (item, next) → Parted (stands_outside start) (36 ∷ ds ++ rest) item next
+dollar_ends : (start : Bool) (ds rest : List ℕ) (item : Item) (next : List ℕ) → Each is_digit ds → EndsRun is_digit rest → digits_found ds rest ≡ Some (item, next) → Parted (stands_outside start) (36 ∷ ds ++ rest) item next
 dollar_ends start [] rest item next each stops found = absurd cc
 dollar_ends start (d ∷ ds) rest item next each stops found =
     nag_taken start (36 ∷ (d ∷ ds) ++ rest) (36 ∷ d ∷ ds) (small (digits_value 0 (d ∷ ds))) item rest next found refl
@@ -106,7 +106,7 @@ dollar_taken start bytes item next found =
 brace_stop : (b : ℕ) → in_braces b ≡ false → b ≡ 125
 brace_stop b e = grind (arith, nat_tests)
 
-brace_ends : (start : Bool) (t rest : List ℕ) (item : Item) (next : List ℕ) → Each in_braces t → Stops in_braces rest → braces_found t rest ≡ Some (item, next) → Parted (stands_outside start) (123 ∷ t ++ rest) item next
+brace_ends : (start : Bool) (t rest : List ℕ) (item : Item) (next : List ℕ) → Each in_braces t → EndsRun in_braces rest → braces_found t rest ≡ Some (item, next) → Parted (stands_outside start) (123 ∷ t ++ rest) item next
 brace_ends start t [] item next each stops found = absurd cc
 brace_ends start t (b ∷ rest) item next each stops found =
     at_pair (stands_outside start) (123 ∷ t ++ b ∷ rest) (123 ∷ t ++ 125 ∷ []) (Comment t) item rest next found
@@ -118,7 +118,7 @@ brace_taken start bytes item next found =
     let e : 123 ∷ take n bytes ++ drop n bytes ≡ 123 ∷ bytes = ap (λ (x : List ℕ). 123 ∷ x) (take-append-drop n bytes) in
     subst (λ (x : List ℕ). Parted (stands_outside start) x item next) e (brace_ends start (take n bytes) (drop n bytes) item next (prefix_each in_braces bytes) (prefix_stops in_braces bytes) (run_is in_braces braces_found bytes _ found))
 
-line_of : (bytes : List ℕ) → IsLine (take (prefix_len in_line bytes) bytes) (drop (prefix_len in_line bytes) bytes)
+line_of : (bytes : List ℕ) → IsToLineEnd (take (prefix_len in_line bytes) bytes) (drop (prefix_len in_line bytes) bytes)
 line_of bytes = record { each = prefix_each in_line bytes; stops = prefix_stops in_line bytes }
 
 line_taken : (start : Bool) (bytes : List ℕ) (item : Item) (next : List ℕ) → run_at in_line line_found bytes ≡ Some (item, next) → Parted (stands_outside start) (59 ∷ bytes) item next

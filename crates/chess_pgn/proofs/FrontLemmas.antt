@@ -14,7 +14,7 @@ use Rattle.chess_pgn.specs.steps.GameCode.{game_of}
 use Rattle.chess_pgn.specs.steps.GameAt.{HasCome, NoneCame}
 use Rattle.chess_pgn.specs.steps.HeaderCode.{HasFound}
 use Rattle.chess_pgn.specs.steps.Passing.{Passed, Passes, WasWhite}
-use Rattle.chess_pgn.specs.steps.ReaderCode.{Answered, Begins, Closed, Ended, Finished, Heads, IsNew, Left, TakesItem, begins_when, takes_when}
+use Rattle.chess_pgn.specs.steps.ReaderCode.{Answered, BeginsMoves, Closed, Ended, Finished, HeadsGame, IsNew, Left, TakesItem, begins_when, takes_when}
 use Rattle.chess_pgn.specs.steps.Readings.{IsRead, fresh, goes_on}
 use Rattle.chess_pgn.specs.steps.Taking.{AfterRun, TakesOne, Took, RanFull, RanOut, RanUpTo, SpellsFrom, all_white}
 use Rattle.chess_pgn.specs.declared.fault.PgnFault.{PgnFault}
@@ -108,7 +108,7 @@ module _ {A : Type 0} (is : List Item) (item : Item) (rest : List ℕ) (game : G
   pub ended_gives : Progress is old → TakesItem old item (Ok AtEnd) new → GivesGame (is ++ item ∷ []) rest game × (is_white item ≡ false)
   ended_gives (inl h) k = by (subst (λ (b : Bool). takes_when b item (Ok AtEnd) old new) h.moving k)
     where
-      by : Heads item (Ok AtEnd) old new → GivesGame (is ++ item ∷ []) rest game × (is_white item ≡ false)
+      by : HeadsGame item (Ok AtEnd) old new → GivesGame (is ++ item ∷ []) rest game × (is_white item ≡ false)
       by (inl x) = absurd (let e = x.0 in cc)
       by (inr x) = at_marker is [] x.1 (sym (append-nil is)) tt (movetext_first is old x.1 h x.2) x.3
   ended_gives (inr h) k =
@@ -124,7 +124,7 @@ module _ {A : Type 0} (is : List Item) (item : Item) (game : Game A) (old new : 
   pub left_gives : Progress is old → TakesItem old item (Ok Leaves) new → (item ≡ items.TagOpen) × (list_all is_white is ≡ false) × ((rest more : List ℕ) → rest ≡ byte "[" ∷ more → GivesGame is rest game)
   left_gives (inl h) k = absurd (by (subst (λ (b : Bool). takes_when b item (Ok Leaves) old new) h.moving k))
     where
-      by : Heads item (Ok Leaves) old new → ⊥
+      by : HeadsGame item (Ok Leaves) old new → ⊥
       by (inl x) = (let e = x.0 in cc)
       by (inr x) = (let e : true ≡ false = sym (ap is_heading x.3.bracket) ∙ x.0 in cc)
   left_gives (inr h) k =
@@ -133,12 +133,12 @@ module _ {A : Type 0} (is : List Item) (item : Item) (game : Game A) (old new : 
 
 -- at the end of the text
 module _ {A : Type 0} (is : List Item) (game : Game A) (old : Reader A) (f : Finished old game) where
-  headed_closed : (new : Reader A) → InHead is old → Begins old new → new.moves.interrupted.items ≡ []
+  headed_closed : (new : Reader A) → InHead is old → BeginsMoves old new → new.moves.interrupted.items ≡ []
   headed_closed new h b = (let t = took_tags is old.header h.taken b.outside in let x = (b.moves t.0 t.2).2 (remarks [] is) h.lead in no_lines x.outer new.moves.interrupted.items x.pends)
 
   pub finished_gives : Progress is old → GivesGame is [] game
   finished_gives (inl h) =
-      let b : Begins old f.reader = subst (λ (v : Bool). begins_when v old f.reader) h.moving f.begins in
+      let b : BeginsMoves old f.reader = subst (λ (v : Bool). begins_when v old f.reader) h.moving f.begins in
       let m = movetext_first is old f.reader h b in
       gives_game is [] [] is [] game f.reader (sym (append-nil is)) tt (inr (refl, f.ends.is_outcome ∙ m.outcome, inl refl)) m (headed_closed f.reader h b) f.ends.has_tags f.ends.is_tree
   finished_gives (inr h) =

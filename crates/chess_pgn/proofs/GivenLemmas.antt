@@ -5,8 +5,8 @@ use mathlib.Core.Bool.{false≢true}
 use Rattle.chess_pgn.specs.Grammar.{◌>>=◌}
 use Rattle.chess_pgn.specs.Items as items
 use Rattle.chess_pgn.specs.Items.{Item}
-use Rattle.chess_pgn.specs.Tags.{AreBetween, AreGaps, AreTags, AreValueParts, IsTag, is_between, is_gap, is_value_part, part_text, value_text}
-use Rattle.chess_pgn.specs.steps.HeaderCode.{HasTaken, Heading, Heads, Refuses, fresh, heading, heads_on, is_begun, is_spaced, opened, step, step_in}
+use Rattle.chess_pgn.specs.Tags.{AreBetween, AreGaps, AreTags, AreValueParts, IsTag, may_part_tags, is_tag_gap, is_value_part, part_text, value_text}
+use Rattle.chess_pgn.specs.steps.HeaderCode.{HasTaken, Heading, Heads, RefusesTag, fresh, heading, heads_on, is_begun, is_spaced, opened, step, step_in}
 use Rattle.chess_pgn.specs.steps.OtherCode.{Finds}
 use Rattle.chess_pgn.specs.declared.fault.PgnFault.{PgnFault}
 use Rattle.chess_pgn.specs.declared.reader.header.Header.{Header}
@@ -107,7 +107,7 @@ Rest Opening read name value is all = Opens read name value is all
 Rest Value read name value is all = Goes read name value is all
 Rest Closing read name value is all = Closes read name value is all
 
-between_more : (i : Item) (is : List Item) (tags : List (List ℕ × List ℕ)) → is_between i ≡ true → AreTags is tags → AreTags (i ∷ is) tags
+between_more : (i : Item) (is : List Item) (tags : List (List ℕ × List ℕ)) → may_part_tags i ≡ true → AreTags is tags → AreTags (i ∷ is) tags
 between_more i is [] g h = (g, h)
 between_more i is (tag ∷ tags) g h = (i ∷ h.0, h.1, h.2, ap (λ (xs : List Item). i ∷ xs) h.3, (g, h.4), h.5, h.6)
 
@@ -150,14 +150,14 @@ module _ (is : List Item) (all : List (List ℕ × List ℕ))
     abbrev so : Option Heading → Type 0
     so o = o >>= (λ (n : Heading). heads_on n is) ≡ Some all
 
-    name_case : (i : Item) (b : Bool) → is_gap i ≡ b → so (if b then Some (standing Name read name value) else step_in Name (standing Name read name value) i) → Begins read name value (i ∷ is) all
+    name_case : (i : Item) (b : Bool) → is_tag_gap i ≡ b → so (if b then Some (standing Name read name value) else step_in Name (standing Name read name value) i) → Begins read name value (i ∷ is) all
     name_case i true g e =
         let r = next Name read name value e in
         record { gaps = i ∷ r.gaps; text = r.text; rest = r.rest; spelled = ap (λ (xs : List Item). i ∷ xs) r.spelled; are_gaps = (g, r.are_gaps); opens = r.opens }
     name_case (items.Name text) false g e = record { gaps = []; text = text; rest = is; spelled = refl; are_gaps = tt; opens = next Opening read (name ++ text) value e }
     name_case _ false g e = absurd cc
 
-    opening_case : (i : Item) (b : Bool) → is_gap i ≡ b → so (if b then Some (standing Opening read name value) else step_in Opening (standing Opening read name value) i) → Opens read name value (i ∷ is) all
+    opening_case : (i : Item) (b : Bool) → is_tag_gap i ≡ b → so (if b then Some (standing Opening read name value) else step_in Opening (standing Opening read name value) i) → Opens read name value (i ∷ is) all
     opening_case i true g e =
         let r = next Opening read name value e in
         record { gaps = i ∷ r.gaps; rest = r.rest; spelled = ap (λ (xs : List Item). i ∷ xs) r.spelled; are_gaps = (g, r.are_gaps); goes = r.goes }
@@ -181,14 +181,14 @@ module _ (is : List Item) (all : List (List ℕ × List ℕ))
         record { parts = []; rest = is; spelled = refl; of_value = tt; closes = subst (λ (v : List ℕ). Closes read name v is all) (sym (append-nil value)) (next Closing read name value e) }
     value_case _ e = absurd cc
 
-    closing_case : (i : Item) (b : Bool) → is_gap i ≡ b → so (if b then Some (standing Closing read name value) else step_in Closing (standing Closing read name value) i) → Closes read name value (i ∷ is) all
+    closing_case : (i : Item) (b : Bool) → is_tag_gap i ≡ b → so (if b then Some (standing Closing read name value) else step_in Closing (standing Closing read name value) i) → Closes read name value (i ∷ is) all
     closing_case i true g e =
         let r = next Closing read name value e in
         record { gaps = i ∷ r.gaps; rest = r.rest; spelled = ap (λ (xs : List Item). i ∷ xs) r.spelled; are_gaps = (g, r.are_gaps); follow = r.follow }
     closing_case items.TagClose false g e = record { gaps = []; rest = is; spelled = refl; are_gaps = tt; follow = next Nothing (read ++ (name, value) ∷ []) [] [] e refl refl }
     closing_case _ false g e = absurd cc
 
-  outside_case : (read : List (List ℕ × List ℕ)) (i : Item) (b : Bool) → is_between i ≡ b → so read [] [] (if b then Some (fresh read) else opened (fresh read) i) → Follow read (i ∷ is) all
+  outside_case : (read : List (List ℕ × List ℕ)) (i : Item) (b : Bool) → may_part_tags i ≡ b → so read [] [] (if b then Some (fresh read) else opened (fresh read) i) → Follow read (i ∷ is) all
   outside_case read i true g e =
       let r = next Nothing read [] [] e refl refl in
       record { tags = r.tags; given = between_more i is r.tags g r.given; in_all = r.in_all }
@@ -202,12 +202,12 @@ follows [] all Opening read name value e = absurd cc
 follows [] all Value read name value e = absurd cc
 follows [] all Closing read name value e = absurd cc
 follows (i ∷ is) all Nothing read name value e = λ n v.
-    outside_case is all (follows is all) read i (is_between i) refl
+    outside_case is all (follows is all) read i (may_part_tags i) refl
     (subst (λ (x : List ℕ). heads_on (standing Nothing read x []) (i ∷ is) ≡ Some all) n (subst (λ (y : List ℕ). heads_on (standing Nothing read name y) (i ∷ is) ≡ Some all) v e))
-follows (i ∷ is) all Name read name value e = name_case is all (follows is all) read name value i (is_gap i) refl e
-follows (i ∷ is) all Opening read name value e = opening_case is all (follows is all) read name value i (is_gap i) refl e
+follows (i ∷ is) all Name read name value e = name_case is all (follows is all) read name value i (is_tag_gap i) refl e
+follows (i ∷ is) all Opening read name value e = opening_case is all (follows is all) read name value i (is_tag_gap i) refl e
 follows (i ∷ is) all Value read name value e = value_case is all (follows is all) read name value i e
-follows (i ∷ is) all Closing read name value e = closing_case is all (follows is all) read name value i (is_gap i) refl e
+follows (i ∷ is) all Closing read name value e = closing_case is all (follows is all) read name value i (is_tag_gap i) refl e
 
 -- what is read without a refusal are the tags that the items spell
 pub tags_given : (is : List Item) (all : List (List ℕ × List ℕ)) → heads_on (fresh []) is ≡ Some all → AreTags is all
@@ -229,7 +229,7 @@ pub took_more : {A : Type 0} (taken : List Item) (item : Item) (old new : Header
 took_more taken item old new h goes = let more = goes h.0 h.1 in (more.0, more.2, took taken item old new h.0 more.0 more.1 h.2)
 
 -- white space or a comment between tags
-passed_over : (part : Part) (read : List (List ℕ × List ℕ)) (name value : List ℕ) (item : Item) → is_begun part ≡ false → is_between item ≡ true
+passed_over : (part : Part) (read : List (List ℕ × List ℕ)) (name value : List ℕ) (item : Item) → is_begun part ≡ false → may_part_tags item ≡ true
     → step (standing part read name value) item ≡ Some (standing part read name value)
 passed_over Nothing read name value item e g = rw g refl
 passed_over Name read name value item e g = absurd cc
@@ -237,7 +237,7 @@ passed_over Opening read name value item e g = absurd cc
 passed_over Value read name value item e g = absurd cc
 passed_over Closing read name value item e g = absurd cc
 
-pub took_between : {A : Type 0} (taken : List Item) (item : Item) (header : Header A) → HasTaken taken header → is_begun header.part ≡ false → is_between item ≡ true → HasTaken (taken ++ item ∷ []) header
+pub took_between : {A : Type 0} (taken : List Item) (item : Item) (header : Header A) → HasTaken taken header → is_begun header.part ≡ false → may_part_tags item ≡ true → HasTaken (taken ++ item ∷ []) header
 took_between taken item header h e g =
     (h.0, h.1, took taken item header header h.0 h.0 (passed_over header.part h.0 header.name.items header.value.items item e g) h.2)
 
@@ -264,6 +264,6 @@ none_on taken item old h none more tags given =
     some_none all e = cc
 
 -- a malformed tag is the front of no tags
-pub none_go_on : {A : Type 0} (taken : List Item) (item : Item) (old : Header A) (fault : PgnFault) → HasTaken taken old → is_begun old.part ≡ true → Refuses item old fault
+pub none_go_on : {A : Type 0} (taken : List Item) (item : Item) (old : Header A) (fault : PgnFault) → HasTaken taken old → is_begun old.part ≡ true → RefusesTag item old fault
     → (more : List Item) (tags : List (List ℕ × List ℕ)) → AreTags (taken ++ item ∷ more) tags → ⊥
 none_go_on taken item old fault h begun refuses more tags given = none_on taken item old h (refuses.1 begun) more tags given

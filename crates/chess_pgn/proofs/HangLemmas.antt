@@ -5,7 +5,7 @@ use Rattle.chess_types.specs.board.MoveParts.{MoveParts}
 use Rattle.chess_tree.specs.Forest.{Forest, Bare, Node, append, count, below_at, below_child}
 use Rattle.chess_tree.specs.Edits.{inside}
 use Rattle.chess_tree.specs.WellFormed.{Leads}
-use Rattle.chess_pgn.specs.Grammar.{Part, nothing, joined}
+use Rattle.chess_pgn.specs.Grammar.{Part, nothing, comments_joined}
 use Rattle.chess_pgn.specs.steps.Hanging.{plus, beside, below, on_node, hang, leaf, grown}
 
 -- ---- forests and comments side by side
@@ -18,11 +18,11 @@ pub append-assoc : (f g h : Forest) → append (append f g) h ≡ append f (appe
 append-assoc Bare g h = refl
 append-assoc (Node m n c below next) g h = ap (λ (x : Forest). Node m n c below x) (append-assoc next g h)
 
-pub joined-nil : (a : List ℕ) → joined a [] ≡ a
+pub joined-nil : (a : List ℕ) → comments_joined a [] ≡ a
 joined-nil [] = refl
 joined-nil (x ∷ a) = refl
 
-pub joined-assoc : (a b c : List ℕ) → joined (joined a b) c ≡ joined a (joined b c)
+pub joined-assoc : (a b c : List ℕ) → comments_joined (comments_joined a b) c ≡ comments_joined a (comments_joined b c)
 joined-assoc [] b c = refl
 joined-assoc (x ∷ a) [] c = refl
 joined-assoc (x ∷ a) (y ∷ b) [] = refl

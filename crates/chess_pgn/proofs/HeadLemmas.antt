@@ -7,7 +7,7 @@ use Rattle.chess_pgn.specs.Items as items
 use Rattle.chess_pgn.specs.Items.{Item}
 use Rattle.chess_pgn.specs.Reading.{is_heading, is_movetext}
 use Rattle.chess_pgn.specs.steps.HeaderCode.{is_begun}
-use Rattle.chess_pgn.specs.steps.ReaderCode.{Begins, Moved, RefusesFirst, is_tagged, takes_when}
+use Rattle.chess_pgn.specs.steps.ReaderCode.{BeginsMoves, Moved, RefusesFirst, is_tagged, takes_when}
 use Rattle.chess_pgn.specs.steps.Tokens.{item_of}
 use Rattle.chess_pgn.specs.declared.fault.PgnFault.{PgnFault}
 use Rattle.chess_pgn.specs.declared.reader.Reader.{Reader}
@@ -66,6 +66,6 @@ refused_first item fault old new outside (inr tagged) refuses = inr (inl (inr (o
 
 -- the tags end, and the item is read as one of the movetext
 pub moved_first : {A : Type 0} (token : Token) (result : Result Taken PgnFault) (old between new : Reader A) → (token ≡ Mark → ⊥) → ((b : ℕ) → token ≡ Blank b → ⊥) → (token ≡ Hidden → ⊥) → ((text : Bor (List ℕ)) → token ≡ Braced text → ⊥)
-    → ((line : Bor (List ℕ)) → token ≡ Line line → ⊥) → (token ≡ TagOpen → ⊥) → Begins old between → Moved (item_of token) result between new → takes_when false (item_of token) result old new
+    → ((line : Bor (List ℕ)) → token ≡ Line line → ⊥) → (token ≡ TagOpen → ⊥) → BeginsMoves old between → Moved (item_of token) result between new → takes_when false (item_of token) result old new
 moved_first token (Ok taken) old between new m b h t l o begins moved = inr (heads_none token taken between new m b h t l o moved, between, begins, moved)
 moved_first token (Err fault) old between new m b h t l o begins moved = refused_first (item_of token) fault old new begins.outside (first_or_tagged token m b h t l o) (inr (between, begins, moved))

@@ -6,7 +6,7 @@ use mathlib.Core.Bool.{false≢true}
 use Rattle.chess_pgn.specs.Games.{tag_in}
 use Rattle.chess_pgn.specs.Items as items
 use Rattle.chess_pgn.specs.Items.{Item}
-use Rattle.chess_pgn.specs.Tags.{is_gap}
+use Rattle.chess_pgn.specs.Tags.{is_tag_gap}
 use Rattle.chess_pgn.specs.steps.HeaderCode.{Heading, fresh, is_begun, is_spaced, step}
 use Rattle.chess_pgn.specs.steps.OtherCode.{Finds, Sets}
 use Rattle.chess_pgn.specs.declared.reader.header.Part.{Part}
@@ -23,7 +23,7 @@ opens Value read name value e = absurd cc
 opens Closing read name value e = absurd cc
 
 -- white space between a tag's parts
-pub passed : (h : Heading) (item : Item) → is_spaced h.part && is_gap item ≡ true → step h item ≡ Some h
+pub passed : (h : Heading) (item : Item) → is_spaced h.part && is_tag_gap item ≡ true → step h item ≡ Some h
 passed h item e = rw e refl
 
 -- ---- the end of a tag

@@ -3,7 +3,7 @@ use Rattle.std.proofs.Common.{◌≡◌, ◌≢◌, ◌<◌, ◌≤◌, ◌⊎�
 use Rattle.std.proofs.lemmas.Bool.{eqb-true, lt-ltb}
 use Rattle.std.proofs.lemmas.Bool.Decides.{nat_tests}
 use Rattle.chess_pgn.specs.Items.{Item, Mark, Blank, Hidden, Comment, Skipped, Word, Nag, Open, Close, Marker, TagOpen, TagClose, Name, Quote, Stretch, Escaped}
-use Rattle.chess_pgn.specs.Items.{Each, Stops, IsRun, IsSpelled, IsItem, digits_value, glyph_value, in_braces, in_line, is_blank, is_digit, is_escapable, is_glyph, is_name_byte, is_plain, is_word_byte, word_item, may_stand}
+use Rattle.chess_pgn.specs.Items.{Each, EndsRun, IsRun, IsSpelled, IsItem, digits_value, glyph_value, in_braces, in_line, is_blank, is_digit, is_escapable, is_glyph, is_name_byte, is_plain, is_word_byte, word_item, may_stand}
 use Rattle.chess_pgn.specs.steps.ItemAt.{run_at, word_found, nag_found, digits_found, glyph_found, hidden_found, line_found, braces_found, name_found, stretch_found, sign_at, outside_at, tag_at, value_at, start_at, item_at}
 use Rattle.chess_pgn.specs.declared.place.Place.{Place}
 use Rattle.chess_pgn.specs.declared.place.Place.TheVariants.{GameStart, LineStart, InLine, TagLineStart, InTag, InValue}
@@ -145,7 +145,7 @@ plain_goes (b ∷ text) next run =
     let not = plain_is b run.each.0 in
     rw (no_eqb b 34 not.0, no_eqb b 92 not.1, no_eqb b 10 not.2) (run_found is_plain stretch_found (b ∷ text) next run.each run.stops)
 
-slash_goes : (next : List ℕ) → Stops is_escapable next → value_at (92 ∷ next) ≡ Some (Stretch (92 ∷ []), next)
+slash_goes : (next : List ℕ) → EndsRun is_escapable next → value_at (92 ∷ next) ≡ Some (Stretch (92 ∷ []), next)
 unfolding value_at
 slash_goes [] h = refl
 slash_goes (b ∷ next) h = rw h refl

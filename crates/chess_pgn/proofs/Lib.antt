@@ -12,6 +12,7 @@ pub mod AddLemmas
 pub mod TaskLemmas
 pub mod GameLemmas
 pub mod ReadLemmas
+pub mod BreakLemmas
 pub mod ReadyLemmas
 pub mod MadeLemmas
 pub mod OfferLemmas

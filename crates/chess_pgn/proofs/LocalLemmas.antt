@@ -1,7 +1,7 @@
 -- An item that ends in front of a byte does not depend on what is behind that byte.
 use Rattle.std.proofs.Common.{◌≡◌, ◌<◌, ◌≤◌, ◌⊎◌, inl, inr, ℕ, suc, ◌+◌, Bool, List, [], ◌∷◌, ◌++◌, length, refl, sym, ap, subst, ◌∙◌, arith, append_assoc, length-append}
 use Rattle.chess_pgn.specs.Items.{Item, Mark, Blank, Hidden, Comment, Skipped, Word, Nag, Open, Close, Marker, TagOpen, TagClose, Name, Quote, Stretch, Escaped}
-use Rattle.chess_pgn.specs.Items.{IsRun, IsLine, IsSpelled, IsItem, is_digit, is_glyph, is_name_byte, is_plain, is_word_byte}
+use Rattle.chess_pgn.specs.Items.{IsRun, IsToLineEnd, IsSpelled, IsItem, is_digit, is_glyph, is_name_byte, is_plain, is_word_byte}
 use Rattle.chess_pgn.specs.steps.ItemAt.{Found, item_at}
 use Rattle.chess_pgn.specs.steps.Deciding.{longer, Decides}
 use Rattle.chess_pgn.specs.declared.place.Place.{Place}
@@ -11,7 +11,7 @@ use Rattle.chess_pgn.proofs.FoundLemmas.{the, item_taken}
 run_local : (p : ℕ → Bool) (text : List ℕ) (c : ℕ) (n1 n2 : List ℕ) → IsRun p text (c ∷ n1) → IsRun p text (c ∷ n2)
 run_local p text c n1 n2 r = record { some = r.some; each = r.each; stops = r.stops }
 
-line_local : (line : List ℕ) (c : ℕ) (n1 n2 : List ℕ) → IsLine line (c ∷ n1) → IsLine line (c ∷ n2)
+line_local : (line : List ℕ) (c : ℕ) (n1 n2 : List ℕ) → IsToLineEnd line (c ∷ n1) → IsToLineEnd line (c ∷ n2)
 line_local line c n1 n2 l = record { each = l.each; stops = l.stops }
 
 spelled_local : (item : Item) (text : List ℕ) (c : ℕ) (n1 n2 : List ℕ) → IsSpelled item text (c ∷ n1) → IsSpelled item text (c ∷ n2)
@@ -98,11 +98,11 @@ some_text (Stretch t) next (e, inr p) = (let h = p.0 in cc)
 some_text (Escaped b) next p = (let h = p.1 in cc)
 
 -- An item has a byte.
+pub text_shorter : (place : Place) (item : Item) (text input next : List ℕ) → input ≡ text ++ next → IsItem place item text next → length next < length input
+text_shorter place item (b ∷ text) input next e p = (let h : length input ≡ suc (length text) + length next = ap length e ∙ length-append (b ∷ text) next in omega arith)
+text_shorter place item [] input next e p = absurd (some_text item next p.spelled)
+
 pub item_shorter : (place : Place) (input : List ℕ) (item : Item) (next : List ℕ) → item_at place input ≡ the item next → length next < length input
 item_shorter place input item next e =
     let t = item_taken place input item next e in
-    shorter t.0 input next t.1 t.2
-  where
-    shorter : (text input next : List ℕ) → input ≡ text ++ next → IsItem place item text next → length next < length input
-    shorter (b ∷ text) input next e p = (let h : length input ≡ suc (length text) + length next = ap length e ∙ length-append (b ∷ text) next in omega arith)
-    shorter [] input next e p = absurd (some_text item next p.spelled)
+    text_shorter place item t.0 input next t.1 t.2

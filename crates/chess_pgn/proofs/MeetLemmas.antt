@@ -5,7 +5,7 @@ use Rattle.chess_types.specs.board.Position.{State}
 use Rattle.chess_types.specs.board.After.{after}
 use Rattle.chess_tree.specs.Forest.{Forest, Bare, Node, count, below_at, below_child}
 use Rattle.chess_tree.specs.WellFormed.{Leads}
-use Rattle.chess_pgn.specs.Grammar.{Element, Number, Annotation, Remark, Open, Close, Text, Line, Skip, Annotate, Say, Play, Part, nothing, annotated, said, played, in_front, varied, joined, move_in, ◌>>=◌, meaning}
+use Rattle.chess_pgn.specs.Grammar.{Element, Number, Annotation, Remark, Open, Close, Text, Line, Skip, Annotate, Say, Play, Part, nothing, with_annotation, said, with_move_first, with_opening_comment, varied, comments_joined, move_in, ◌>>=◌, meaning}
 use Rattle.chess_pgn.specs.steps.Hanging.{hang, leaf, grown, nag, say, beside, below, plus}
 use Rattle.chess_pgn.specs.steps.Elements.{Frame, Last, path_of, last_of, end_of, before_of, run}
 use Rattle.chess_pgn.proofs.HangLemmas.{joined-nil, joined-assoc, hang-twice, hang-down, hang-up, hang-nothing}
@@ -22,24 +22,24 @@ AllThere (x ∷ xs) f = Leads (path_of x) f × AllThere xs f
 -- ---- the same by the syntax of what is left
 
 abbrev pub ended : List ℕ → Forest → List ℕ → Last → List ℕ → Part → List ℕ × Forest
-ended c f up None lead r = (joined c (joined lead r.comment), hang up (below r.below) f)
+ended c f up None lead r = (comments_joined c (comments_joined lead r.comment), hang up (below r.below) f)
 ended c f up (Some x) lead r = (c, hang (up ++ x.0 ∷ []) (said lead r) f)
 
 -- what a variation leaves: its moves, or its comments to the move before it
 abbrev pub leave : Forest → List ℕ → List ℕ → Forest → Forest
 leave f up t Bare = f
-leave f up t (Node m n c b next) = hang up (below (in_front t (Node m n c b next))) f
+leave f up t (Node m n c b next) = hang up (below (with_opening_comment t (Node m n c b next))) f
 
 abbrev pub dropped : List ℕ → List ℕ → Forest → List ℕ
-dropped lead t Bare = joined lead t
+dropped lead t Bare = comments_joined lead t
 dropped lead t (Node m n c b next) = lead
 
 abbrev pub left : Forest → List ℕ → Last → List ℕ → Part → Forest
-left f up None lead r = leave f up (joined lead r.comment) r.below
+left f up None lead r = leave f up (comments_joined lead r.comment) r.below
 left f up (Some y) lead r = hang (up ++ y.0 ∷ []) (said lead r) f
 
 abbrev pub lead_left : Last → List ℕ → Frame → Part → List ℕ
-lead_left None lead x r = dropped x.lead (joined lead r.comment) r.below
+lead_left None lead x r = dropped x.lead (comments_joined lead r.comment) r.below
 lead_left (Some y) lead x r = x.lead
 
 abbrev pub finish : Lines → List ℕ → Forest → List ℕ → Last → State → List ℕ → List Frame → Answer
@@ -94,15 +94,15 @@ goes-skip b here l = same (meaning l b here)
     same None = refl
     same (Some r) = refl
 
-goes-play : (w : List ℕ) (m : MoveParts) (b : Option State) (here : State) → move_in here w ≡ Some m → Goes (Play w) (played m) b here (Some here) (after here m)
+goes-play : (w : List ℕ) (m : MoveParts) (b : Option State) (here : State) → move_in here w ≡ Some m → Goes (Play w) (with_move_first m) b here (Some here) (after here m)
 goes-play w m b here e l = rw e refl
 
 -- ---- comments
 
-said-said : (a t : List ℕ) (r : Part) → said (joined a t) r ≡ said a (said t r)
+said-said : (a t : List ℕ) (r : Part) → said (comments_joined a t) r ≡ said a (said t r)
 said-said a t r = ap (λ (z : List ℕ). record { nags = r.nags; comment = z; beside = r.beside; below = r.below }) (joined-assoc a t r.comment)
 
-said-first : (lead : List ℕ) (m : MoveParts) (r : Part) → said lead (played m r) ≡ plus (say lead) (grown m r)
+said-first : (lead : List ℕ) (m : MoveParts) (r : Part) → said lead (with_move_first m r) ≡ plus (say lead) (grown m r)
 said-first lead m r = refl
 
 -- ---- a variation
@@ -111,7 +111,7 @@ vary-hang : (g : Forest) (t : List ℕ) (r : Part) (f : Forest) (x : Frame) → 
     → hang (path_of x) (said (dropped x.lead t g) r) (leave f x.up t g) ≡ hang (path_of x) (said x.lead (varied g t r)) f
 vary-hang Bare t r f x at = ap (λ (s : Part). hang (path_of x) s f) (said-said x.lead t r)
 vary-hang (Node m n c b next) t r f x at =
-    let g : Forest = in_front t (Node m n c b next) in
+    let g : Forest = with_opening_comment t (Node m n c b next) in
     ap (hang (path_of x) (said x.lead r)) (hang-up x.up x.place g f) ∙ hang-twice (path_of x) (beside g) (said x.lead r) f at
 
 opened : (ls : Lines) (c : List ℕ) (f : Forest) (up : List ℕ) (i : ℕ) (before here : State) (lead : List ℕ) (st : List Frame) → Leads (up ++ i ∷ []) f
@@ -174,19 +174,19 @@ keeps-all p r (x ∷ xs) f all = (keeps p (path_of x) r f all.0, keeps-all p r x
 
 -- the first move of the game, of a variation, and another
 first-done : (w : List ℕ) (m : MoveParts) (ls : Lines) (c : List ℕ) (f : Forest) (up : List ℕ) (here : State) (lead : List ℕ) → move_in here w ≡ Some m → Leads up f
-    → finish ls (joined c lead) (hang up (leaf m) f) up (Some (count (below_at up f), here)) (after here m) [] [] ≡ finish (first (Play w) ls) c f up None here lead []
+    → finish ls (comments_joined c lead) (hang up (leaf m) f) up (Some (count (below_at up f), here)) (after here m) [] [] ≡ finish (first (Play w) ls) c f up None here lead []
 first-done w m ls c f up here lead e at =
-    at-root (Play w) (played m) ls c (joined c lead) f (hang up (leaf m) f) up up None (Some (count (below_at up f), here)) here (after here m) lead [] (goes-play w m None here e)
-    (λ r. rw (joined-nil lead) (ap (λ (z : Forest). (joined c lead, z)) (sym (hang-down up m r f at))))
+    at-root (Play w) (with_move_first m) ls c (comments_joined c lead) f (hang up (leaf m) f) up up None (Some (count (below_at up f), here)) here (after here m) lead [] (goes-play w m None here e)
+    (λ r. rw (joined-nil lead) (ap (λ (z : Forest). (comments_joined c lead, z)) (sym (hang-down up m r f at))))
 
 inner-done : (w : List ℕ) (m : MoveParts) (ls : Lines) (c : List ℕ) (f : Forest) (up : List ℕ) (here : State) (lead : List ℕ) (x : Frame) (xs : List Frame) → move_in here w ≡ Some m → Leads up f
     → finish ls c (hang up (leaf m) f) up (Some (count (below_at up f), here)) (after here m) lead (x ∷ xs) ≡ finish (first (Play w) ls) c f up None here lead (x ∷ xs)
 inner-done w m ls c f up here lead x xs e at =
-    in-frame (Play w) (played m) ls c f (hang up (leaf m) f) up up None (Some (count (below_at up f), here)) here (after here m) lead lead x xs (goes-play w m None here e)
+    in-frame (Play w) (with_move_first m) ls c f (hang up (leaf m) f) up up None (Some (count (below_at up f), here)) here (after here m) lead lead x xs (goes-play w m None here e)
     (λ r. (rw (joined-nil lead) (sym (hang-down up m (said lead r) f at)), refl))
 
 then-hang : (p : List ℕ) (m : MoveParts) (lead : List ℕ) (r : Part) (f : Forest) → Leads p f
-    → hang p (said lead (played m r)) f ≡ hang (p ++ count (below_at p (hang p (say lead) f)) ∷ []) r (hang p (leaf m) (hang p (say lead) f))
+    → hang p (said lead (with_move_first m r)) f ≡ hang (p ++ count (below_at p (hang p (say lead) f)) ∷ []) r (hang p (leaf m) (hang p (say lead) f))
 then-hang p m lead r f at =
     let g : Forest = hang p (say lead) f in
     sym (hang-down p m r g (keeps p p (say lead) f at) ∙ hang-twice p (say lead) (grown m r) f at)
@@ -197,7 +197,7 @@ next-root : (w : List ℕ) (m : MoveParts) (ls : Lines) (c : List ℕ) (f : Fore
 next-root w m ls c f up y here lead e at =
     let p : List ℕ = up ++ y.0 ∷ [] in
     let g : Forest = hang p (say lead) f in
-    at-root (Play w) (played m) ls c c f (hang p (leaf m) g) up p (Some y) (Some (count (below_at p g), here)) here (after here m) lead [] (goes-play w m (Some y.1) here e)
+    at-root (Play w) (with_move_first m) ls c c f (hang p (leaf m) g) up p (Some y) (Some (count (below_at p g), here)) here (after here m) lead [] (goes-play w m (Some y.1) here e)
     (λ r. ap (λ (z : Forest). (c, z)) (then-hang p m lead r f at))
 
 next-inner : (w : List ℕ) (m : MoveParts) (ls : Lines) (c : List ℕ) (f : Forest) (up : List ℕ) (y : ℕ × State) (here : State) (lead : List ℕ) (x : Frame) (xs : List Frame) → move_in here w ≡ Some m → Leads (up ++ y.0 ∷ []) f
@@ -206,7 +206,7 @@ next-inner : (w : List ℕ) (m : MoveParts) (ls : Lines) (c : List ℕ) (f : For
 next-inner w m ls c f up y here lead x xs e at =
     let p : List ℕ = up ++ y.0 ∷ [] in
     let g : Forest = hang p (say lead) f in
-    in-frame (Play w) (played m) ls c f (hang p (leaf m) g) up p (Some y) (Some (count (below_at p g), here)) here (after here m) lead [] x xs (goes-play w m (Some y.1) here e)
+    in-frame (Play w) (with_move_first m) ls c f (hang p (leaf m) g) up p (Some y) (Some (count (below_at p g), here)) here (after here m) lead [] x xs (goes-play w m (Some y.1) here e)
     (λ r. (then-hang p m lead r f at, refl))
 
 -- both ways of a move's text
@@ -221,33 +221,33 @@ meets [] c f up (Some x) here lead [] at all = rw (joined-nil lead) refl
 meets [] c f up last here lead (x ∷ xs) at all = refl
 meets (Number ∷ ts) c f up last here lead [] at all = meets ts c f up last here lead [] at all ∙ at-root Skip (λ r. r) (parse ts) c c f f up up last last here here lead lead (goes-skip (before_of last) here) (λ r. refl)
 meets (Number ∷ ts) c f up last here lead (x ∷ xs) at all = meets ts c f up last here lead (x ∷ xs) at all ∙ in-frame Skip (λ r. r) (parse ts) c f f up up last last here here lead lead x xs (goes-skip (before_of last) here) (λ r. (refl, refl))
-meets (Annotation n ∷ ts) c f up None here lead [] at all = meets ts c f up None here lead [] at all ∙ at-root (Annotate n) (annotated n) (parse ts) c c f f up up None None here here lead lead (λ l. refl) (λ r. refl)
-meets (Annotation n ∷ ts) c f up None here lead (x ∷ xs) at all = meets ts c f up None here lead (x ∷ xs) at all ∙ in-frame (Annotate n) (annotated n) (parse ts) c f f up up None None here here lead lead x xs (λ l. refl) (λ r. (refl, refl))
+meets (Annotation n ∷ ts) c f up None here lead [] at all = meets ts c f up None here lead [] at all ∙ at-root (Annotate n) (with_annotation n) (parse ts) c c f f up up None None here here lead lead (λ l. refl) (λ r. refl)
+meets (Annotation n ∷ ts) c f up None here lead (x ∷ xs) at all = meets ts c f up None here lead (x ∷ xs) at all ∙ in-frame (Annotate n) (with_annotation n) (parse ts) c f f up up None None here here lead lead x xs (λ l. refl) (λ r. (refl, refl))
 meets (Annotation n ∷ ts) c f up (Some y) here lead [] at all =
     let p : List ℕ = up ++ y.0 ∷ [] in
     meets ts c (hang p (nag n) f) up (Some y) here lead [] (keeps p p (nag n) f at) tt
-    ∙ at-root (Annotate n) (annotated n) (parse ts) c c f (hang p (nag n) f) up up (Some y) (Some y) here here lead lead (λ l. refl) (λ r. ap (λ (z : Forest). (c, z)) (sym (hang-twice p (nag n) (said lead r) f at)))
+    ∙ at-root (Annotate n) (with_annotation n) (parse ts) c c f (hang p (nag n) f) up up (Some y) (Some y) here here lead lead (λ l. refl) (λ r. ap (λ (z : Forest). (c, z)) (sym (hang-twice p (nag n) (said lead r) f at)))
 meets (Annotation n ∷ ts) c f up (Some y) here lead (x ∷ xs) at all =
     let p : List ℕ = up ++ y.0 ∷ [] in
     meets ts c (hang p (nag n) f) up (Some y) here lead (x ∷ xs) (keeps p p (nag n) f at) (keeps-all p (nag n) (x ∷ xs) f all)
-    ∙ in-frame (Annotate n) (annotated n) (parse ts) c f (hang p (nag n) f) up up (Some y) (Some y) here here lead lead x xs (λ l. refl) (λ r. (sym (hang-twice p (nag n) (said lead r) f at), refl))
+    ∙ in-frame (Annotate n) (with_annotation n) (parse ts) c f (hang p (nag n) f) up up (Some y) (Some y) here here lead lead x xs (λ l. refl) (λ r. (sym (hang-twice p (nag n) (said lead r) f at), refl))
 meets (Remark t ∷ ts) c f up None here lead [] at all =
-    meets ts c f up None here (joined lead t) [] at tt
-    ∙ at-root (Say t) (said t) (parse ts) c c f f up up None None here here lead (joined lead t) (λ l. refl) (λ r. ap (λ (z : List ℕ). (joined c z, hang up (below r.below) f)) (sym (joined-assoc lead t r.comment)))
+    meets ts c f up None here (comments_joined lead t) [] at tt
+    ∙ at-root (Say t) (said t) (parse ts) c c f f up up None None here here lead (comments_joined lead t) (λ l. refl) (λ r. ap (λ (z : List ℕ). (comments_joined c z, hang up (below r.below) f)) (sym (joined-assoc lead t r.comment)))
 meets (Remark t ∷ ts) c f up None here lead (x ∷ xs) at all =
-    meets ts c f up None here (joined lead t) (x ∷ xs) at all
-    ∙ in-frame (Say t) (said t) (parse ts) c f f up up None None here here lead (joined lead t) x xs (λ l. refl) (λ r. (ap (λ (z : List ℕ). leave f up z r.below) (sym (joined-assoc lead t r.comment)), ap (λ (z : List ℕ). dropped x.lead z r.below) (sym (joined-assoc lead t r.comment))))
+    meets ts c f up None here (comments_joined lead t) (x ∷ xs) at all
+    ∙ in-frame (Say t) (said t) (parse ts) c f f up up None None here here lead (comments_joined lead t) x xs (λ l. refl) (λ r. (ap (λ (z : List ℕ). leave f up z r.below) (sym (joined-assoc lead t r.comment)), ap (λ (z : List ℕ). dropped x.lead z r.below) (sym (joined-assoc lead t r.comment))))
 meets (Remark t ∷ ts) c f up (Some y) here lead [] at all =
     let p : List ℕ = up ++ y.0 ∷ [] in
-    meets ts c f up (Some y) here (joined lead t) [] at tt
-    ∙ at-root (Say t) (said t) (parse ts) c c f f up up (Some y) (Some y) here here lead (joined lead t) (λ l. refl) (λ r. ap (λ (z : Part). (c, hang p z f)) (sym (said-said lead t r)))
+    meets ts c f up (Some y) here (comments_joined lead t) [] at tt
+    ∙ at-root (Say t) (said t) (parse ts) c c f f up up (Some y) (Some y) here here lead (comments_joined lead t) (λ l. refl) (λ r. ap (λ (z : Part). (c, hang p z f)) (sym (said-said lead t r)))
 meets (Remark t ∷ ts) c f up (Some y) here lead (x ∷ xs) at all =
     let p : List ℕ = up ++ y.0 ∷ [] in
-    meets ts c f up (Some y) here (joined lead t) (x ∷ xs) at all
-    ∙ in-frame (Say t) (said t) (parse ts) c f f up up (Some y) (Some y) here here lead (joined lead t) x xs (λ l. refl) (λ r. (ap (λ (z : Part). hang p z f) (sym (said-said lead t r)), refl))
+    meets ts c f up (Some y) here (comments_joined lead t) (x ∷ xs) at all
+    ∙ in-frame (Say t) (said t) (parse ts) c f f up up (Some y) (Some y) here here lead (comments_joined lead t) x xs (λ l. refl) (λ r. (ap (λ (z : Part). hang p z f) (sym (said-said lead t r)), refl))
 meets (Text w ∷ ts) c f up None here lead [] at all =
     by-move (move_in here w) _ (finish (first (Play w) (parse ts)) c f up None here lead []) (not-played w (parse ts) c f up None here lead [])
-    (λ m e. meets ts (joined c lead) (hang up (leaf m) f) up (Some (count (below_at up f), here)) (after here m) [] [] (new-there up m f at) tt
+    (λ m e. meets ts (comments_joined c lead) (hang up (leaf m) f) up (Some (count (below_at up f), here)) (after here m) [] [] (new-there up m f at) tt
     ∙ first-done w m (parse ts) c f up here lead e at)
 meets (Text w ∷ ts) c f up None here lead (x ∷ xs) at all =
     by-move (move_in here w) _ (finish (first (Play w) (parse ts)) c f up None here lead (x ∷ xs)) (not-played w (parse ts) c f up None here lead (x ∷ xs))
@@ -273,8 +273,8 @@ meets (Open ∷ ts) c f up (Some x) here lead st at all =
     ∙ opened (parse ts) c f up x.0 x.1 here lead st at
 meets (Close ∷ ts) c f up last here lead [] at all = sym (not-closed (parse ts) c f up last here lead)
 meets (Close ∷ ts) c f up None here lead (x ∷ xs) at all =
-    meets ts c f x.up (last_of x) x.here (joined x.lead lead) xs all.0 all.1
-    ∙ ap (λ (z : List ℕ). finish (parse ts) c f x.up (last_of x) x.here (joined x.lead z) xs) (sym (joined-nil lead))
+    meets ts c f x.up (last_of x) x.here (comments_joined x.lead lead) xs all.0 all.1
+    ∙ ap (λ (z : List ℕ). finish (parse ts) c f x.up (last_of x) x.here (comments_joined x.lead z) xs) (sym (joined-nil lead))
     ∙ closed (parse ts) c f up None here lead x xs
 meets (Close ∷ ts) c f up (Some y) here lead (x ∷ xs) at all =
     let p : List ℕ = up ++ y.0 ∷ [] in

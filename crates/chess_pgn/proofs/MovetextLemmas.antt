@@ -13,7 +13,7 @@ use Rattle.chess_tree.specs.WellFormed.{AreSound}
 use Rattle.chess_san.proofs.LawLemmas.{read_back}
 use Rattle.chess_pgn.specs.Grammar.{Derives, Element, End, elements, few_are_open}
 use Rattle.chess_pgn.specs.Items as items
-use Rattle.chess_pgn.specs.Items.{Item, Each, Spells, Stops, is_digit, is_name_byte, is_outside, is_word_byte, place_after, word_item}
+use Rattle.chess_pgn.specs.Items.{Item, Each, Spells, EndsRun, is_digit, is_name_byte, is_outside, is_word_byte, place_after, word_item}
 use Rattle.chess_pgn.specs.Laws.{AreNoted, nesting}
 use Rattle.chess_pgn.specs.Reading.{Starts, is_movetext, remarks}
 use Rattle.chess_pgn.specs.Tags.{AreBetween}

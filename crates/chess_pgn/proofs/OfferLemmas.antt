@@ -1,5 +1,5 @@
 -- One item is offered.
-use Rattle.std.proofs.Common.{◌<◌, take, drop, ◌+◌, ◌≡◌, ◌≢◌, ℕ, length-append, ◌≤◌, ◌⊎◌, inl, inr, Bool, true, false, List, [], ◌∷◌, ◌++◌, length, Some, None, refl, sym, ap, subst, ◌∙◌, arith, append_assoc, append-nil, Ok, Err}
+use Rattle.std.proofs.Common.{◌<◌, take, drop, ◌+◌, ◌≡◌, ◌≢◌, ℕ, length-append, ◌≤◌, ◌⊎◌, inl, inr, Bool, true, false, List, [], ◌∷◌, ◌++◌, length, Some, None, refl, sym, ap, subst, ◌∙◌, arith, append_assoc, append-nil, Ok}
 use Rattle.std.proofs.lemmas.List.{take-append-drop, take-append-le}
 use Rattle.std.specs.Str.{byte}
 use Rattle.chess_types.specs.bytes.Calls.{joined}
@@ -7,8 +7,7 @@ use Rattle.chess_pgn.specs.Items.{Item, TagOpen, is_white, may_stand, place_afte
 use Rattle.chess_pgn.specs.steps.ItemAt.{Found, item_at}
 use Rattle.chess_pgn.specs.steps.Deciding.{longer, Decides}
 use Rattle.chess_pgn.specs.steps.Texts.{Oversized, Near, MadeReady, Keeps}
-use Rattle.chess_pgn.specs.steps.Taking.{TakesOne, Brackets, Offered, TakesItem, Rests, Next, Steps}
-use Rattle.chess_pgn.specs.declared.at_hand.Fault.{Fault}
+use Rattle.chess_pgn.specs.steps.Taking.{TakesOne, Brackets, Offered, UsesItem, Rests, Next, Steps}
 use Rattle.chess_pgn.specs.declared.place.Place.{Place}
 use Rattle.chess_pgn.specs.declared.taker.Taken.TheVariants.{GoesOn, Ends}
 use Rattle.chess_pgn.specs.declared.taking.Answer.TheVariants as answer
@@ -105,9 +104,6 @@ over_oversized most place hand more over undecided =
     (λ i rest h. let s = undecided_taken place hand more i rest undecided h in omega (arith, l, s))
 
 module _ {X T : Type 0} (comes : X → List ℕ → X → Type 0) (at_hand : X → List ℕ) (all sound : X → Type 0) (size : X → ℕ) (takes : TakesOne T) (at most : ℕ) (place : Place) (old mid : X) (t : T) where
-  pub step_fault : (e : Fault) → MadeReady comes at_hand all sound size most place old mid (Err e) → Steps comes at_hand all sound size takes at most place old mid t t (Err e)
-  step_fault e r = record { pieces = r.more ∷ []; came = (mid, r.came, refl); after = tt }
-
   -- too many bytes don't decide the item
   pub step_undecided : MadeReady comes at_hand all sound size most place old mid (Ok false) → Steps comes at_hand all sound size takes at most place old mid t t (Ok (step.Stops stop.TooLarge))
   step_undecided r =
@@ -216,7 +212,7 @@ module _ {X T : Type 0} (comes : X → List ℕ → X → Type 0) (at_hand : X �
             let n = ap length left in
             omega (arith, e, l, j, n, counts)
 
-        takes_item : TakesItem comes at_hand all sound size takes most place old (r.more ∷ [] ∷ []) new item used
+        takes_item : UsesItem comes at_hand all sound size takes most place old (r.more ∷ [] ∷ []) new item used
         takes_item = record {
           found = finds;
           near = (λ small. rw left (near_item place (at_hand old) (at_hand mid) rest item r.after.near found small));

@@ -1,18 +1,21 @@
 -- White items before the limit, and white space and hidden lines behind it.
-use Rattle.std.proofs.Common.{◌≡◌, ℕ, ◌+◌, inr, Bool, true, false, cond, ◌&&◌, List, [], ◌∷◌, ◌++◌, length, refl, sym, ap, subst, ◌∙◌, arith, append-nil, length-append, Ok, Err}
-use Rattle.chess_types.specs.bytes.Calls.{Calls, joined}
+use Rattle.std.proofs.Common.{◌≡◌, ℕ, ◌+◌, inr, Bool, true, false, cond, ◌&&◌, List, [], ◌∷◌, ◌++◌, length, refl, sym, ap, subst, ◌∙◌, arith, append-nil, length-append, Ok}
+use Rattle.chess_types.specs.bytes.Calls.{joined}
 use Rattle.chess_types.proofs.CallLemmas.{Calls-append, joined-append}
 use Rattle.chess_pgn.specs.Items.{Item, Mark, Blank, Hidden}
 use Rattle.chess_pgn.specs.Items.{is_outside, is_white, place_after}
 use Rattle.chess_pgn.specs.steps.Passing.{AreWhite, WasWhite, Passed}
 use Rattle.chess_pgn.specs.steps.Skipping.{Skips}
 use Rattle.chess_pgn.specs.steps.Taking.{TakesOne, SpellsFrom, behind, all_white, AfterRun, Ran}
+use Rattle.chess_pgn.specs.steps.Texts.{BreaksOff}
 use Rattle.chess_pgn.specs.declared.at_hand.Fault.{Fault}
 use Rattle.chess_pgn.specs.declared.place.Place.{Place}
 use Rattle.chess_pgn.specs.declared.place.Place.TheVariants.{GameStart, LineStart, InLine}
 use Rattle.chess_pgn.specs.declared.taking.Stop.{Stop}
 use Rattle.chess_pgn.specs.declared.taking.Stop.TheVariants as stop
 use Rattle.chess_pgn.specs.declared.taking.Stopped.{Stopped}
+use Rattle.chess_pgn.proofs.BreakLemmas.{breaks_later}
+use Rattle.chess_pgn.proofs.TakingLemmas.{ended_after}
 use Rattle.chess_pgn.proofs.WhiteLemmas.{after_blank, are_white}
 
 -- items, and more behind them
@@ -98,5 +101,6 @@ module _ {X T : Type 0} (comes : X → List ℕ → X → Type 0) (at_hand : X �
     pub passed_other : (new : X) → s.why ≡ stop.TooLarge → s.white ≡ true → Skips comes at_hand all sound s.place mid new (Ok false) → Passed comes at_hand all sound size takes limit old new t u s
     passed_other new why white k = record { mid = mid; ran = r; after = inr (record { over = why; white = white; pieces = k.pieces; came = k.came; other = k.after.0; still = k.after.2 }); more = λ e. absurd (let h : stop.TooLarge ≡ stop.End = sym why ∙ e in cc) }
 
-    pub passed_fault : (new : X) (fault : Fault) → Skips comes at_hand all sound s.place mid new (Err fault) → (pieces : List (List ℕ)) × Calls comes old pieces new
-    passed_fault new fault k = (r.pieces ++ k.pieces, Calls-append comes old mid new r.pieces k.pieces r.came k.came)
+    pub passed_broken : (breaks : X → X → Type 0) (new : X) (fault : Fault) → BreaksOff comes breaks all mid new fault → BreaksOff comes breaks all old new fault
+    passed_broken breaks new fault b =
+        breaks_later comes breaks all old mid new r.pieces r.came (λ h. (ended_after comes at_hand all sound size takes limit old t mid u r.pieces s.at s.place s.white s.why r.after h).1) fault b

@@ -4,7 +4,7 @@ use Rattle.std.specs.List.{list_all}
 use Rattle.std.proofs.lemmas.Bool.{false≢true}
 use Rattle.std.proofs.lemmas.Bool.Decides.{nat_tests}
 use Rattle.chess_pgn.specs.Items as items
-use Rattle.chess_pgn.specs.Items.{Item, Each, IsItem, IsRun, Spells, Stops, in_braces, is_blank, is_digit, is_name_byte, is_outside, is_word_byte, place_after, word_item}
+use Rattle.chess_pgn.specs.Items.{Item, Each, IsItem, IsRun, Spells, EndsRun, in_braces, is_blank, is_digit, is_name_byte, is_outside, is_word_byte, place_after, word_item}
 use Rattle.chess_pgn.specs.Grammar.{Element, Number, Annotation, Open, Close, Text, element, elements}
 use Rattle.chess_pgn.specs.Reading.{Starts, is_heading, is_movetext}
 use Rattle.chess_pgn.specs.declared.place.Place.{Place}
@@ -14,8 +14,8 @@ use Rattle.chess_pgn.proofs.RespaceLemmas.{Fills, NoSpace, Respaced, is_single, 
 
 -- no word and no number goes on in what follows
 pub record Breaks (next : List ℕ) : Type 0 where
-  pub word : Stops is_word_byte next
-  pub digit : Stops is_digit next
+  pub word : EndsRun is_word_byte next
+  pub digit : EndsRun is_digit next
 
 -- The input is items of movetext, the last items and then the rest; the first have these elements.
 pub record Says (place : Place) (input : List ℕ) (last : List Item) (rest : List ℕ) (es : List Element) : Type 0 where

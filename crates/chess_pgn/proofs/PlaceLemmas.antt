@@ -10,7 +10,7 @@ use Rattle.chess_tree.specs.Forest.{Forest, Bare, Node, NodeParts, append, count
 use Rattle.chess_tree.specs.Edits.{annotated, change_below, change_node, commented, inside, with_move}
 use Rattle.chess_tree.specs.GameTree.{move_of, moves_along, node_of}
 use Rattle.chess_tree.specs.WellFormed.{AreSound, Leads}
-use Rattle.chess_pgn.specs.Grammar.{Part, joined}
+use Rattle.chess_pgn.specs.Grammar.{Part, comments_joined}
 use Rattle.chess_pgn.specs.steps.Hanging.{hang, leaf, nag, say, on_node}
 use Rattle.chess_pgn.proofs.HangLemmas.{append-bare, joined-nil, inside-same, inside-on_node}
 use Rattle.chess_pgn.proofs.KeepLemmas.{child-append}
@@ -33,7 +33,7 @@ pub annotated_is : (k : ℕ) (p : List ℕ) (n : ℕ) (f : Forest) → change_no
 annotated_is k [] n f = annotated_node k n f ∙ sym (append-bare (on_node k (nag n) f))
 annotated_is k (j ∷ p) n f = inside-same k (change_node (annotated n) (j ∷ p)) (hang (j ∷ p) (nag n)) f (annotated_is j p n (below_child k f))
 
-commented_node : (k : ℕ) (t : List ℕ) (f : Forest) (n : NodeParts) → k < count f → commented (joined (unwrap_or (child k f) n).comment t) k f ≡ on_node k (say t) f
+commented_node : (k : ℕ) (t : List ℕ) (f : Forest) (n : NodeParts) → k < count f → commented (comments_joined (unwrap_or (child k f) n).comment t) k f ≡ on_node k (say t) f
 commented_node k t Bare n h = absurd (omega arith)
 commented_node zero t (Node m nags c b next) n h = rw (append-nil nags, append-bare b) refl
 commented_node (suc k) t (Node m nags c b next) n h = ap (λ (x : Forest). Node m nags c b x) (commented_node k t next n (omega arith))
@@ -45,15 +45,15 @@ child_below (suc k) (Node m nags c b next) n h = child_below k next n (omega ari
 
 -- a comment behind the one that is there
 pub commented_is : (k : ℕ) (p : List ℕ) (t : List ℕ) (n : NodeParts) → Leads (k ∷ p) n.below
-    → change_node (commented (joined (node_of (k ∷ p) n).comment t)) (k ∷ p) n.below ≡ hang (k ∷ p) (say t) n.below
+    → change_node (commented (comments_joined (node_of (k ∷ p) n).comment t)) (k ∷ p) n.below ≡ hang (k ∷ p) (say t) n.below
 commented_is k [] t n at = commented_node k t n.below n at.0 ∙ sym (append-bare (on_node k (say t) n.below))
 commented_is k (j ∷ p) t n at =
     let below = child_below k n.below n at.0 in
     let c : NodeParts = unwrap_or (child k n.below) n in
-    let again : change_node (commented (joined (node_of (j ∷ p) c).comment t)) (j ∷ p) c.below ≡ hang (j ∷ p) (say t) c.below =
+    let again : change_node (commented (comments_joined (node_of (j ∷ p) c).comment t)) (j ∷ p) c.below ≡ hang (j ∷ p) (say t) c.below =
     commented_is j p t c (rw below at.1) in
-    inside-same k (change_node (commented (joined (node_of (j ∷ p) c).comment t)) (j ∷ p)) (hang (j ∷ p) (say t)) n.below
-    (ap (change_node (commented (joined (node_of (j ∷ p) c).comment t)) (j ∷ p)) (sym below) ∙ again ∙ ap (hang (j ∷ p) (say t)) below)
+    inside-same k (change_node (commented (comments_joined (node_of (j ∷ p) c).comment t)) (j ∷ p)) (hang (j ∷ p) (say t)) n.below
+    (ap (change_node (commented (comments_joined (node_of (j ∷ p) c).comment t)) (j ∷ p)) (sym below) ∙ again ∙ ap (hang (j ∷ p) (say t)) below)
 
 -- ---- comments of a game tree
 

@@ -1,5 +1,5 @@
 -- Lemmas on bytes at hand and calls.
-use Rattle.std.proofs.Common.{◌≡◌, ℕ, ◌+◌, ◌-◌, ◌≤◌, List, [], ◌∷◌, ◌++◌, length, take, drop, refl, sym, ap, subst, ◌∙◌, arith, append_assoc, append-nil, length-append}
+use Rattle.std.proofs.Common.{◌≡◌, ℕ, ◌+◌, ◌*◌, ◌-◌, ◌≤◌, List, [], ◌∷◌, ◌++◌, length, take, drop, refl, sym, ap, subst, ◌∙◌, arith, append_assoc, append-nil, length-append}
 use Rattle.std.proofs.lemmas.List.{take-append-drop, drop_at, take_at}
 use Rattle.chess_types.specs.bytes.Calls.{joined}
 use Rattle.chess_pgn.specs.steps.Deciding.{Decides}
@@ -21,6 +21,13 @@ pub needed_more : (most : ℕ) (place : Place) (front : List ℕ) (pieces : List
 needed_more most place front [] piece n h few small = (subst (λ (x : List ℕ). Decides place x → ⊥) (append-nil front) h, subst (λ (x : List ℕ). length x ≤ most) (append-nil front) few, small, tt)
 needed_more most place front (p ∷ pieces) piece n h few small =
     (n.0, n.1, n.2, needed_more most place (front ++ p) pieces piece n.3 (subst (λ (x : List ℕ). Decides place x → ⊥) (sym (append_assoc front p (joined pieces))) h) (subst (λ (x : List ℕ). length x ≤ most) (sym (append_assoc front p (joined pieces))) few) small)
+
+pub joined_small : (most : ℕ) (place : Place) (front : List ℕ) (pieces : List (List ℕ)) → Needed most place front pieces → length (joined pieces) ≤ 65536 * length pieces
+joined_small most place front [] n = omega arith
+joined_small most place front (p ∷ pieces) n =
+    let k = joined_small most place (front ++ p) pieces n.3 in
+    let l = length-append p (joined pieces) in
+    omega (arith, k, l, n.2)
 
 pub kept_at : (bytes : List ℕ) (used left len : ℕ) (text rest : List ℕ) → drop used bytes ≡ text ++ rest → length rest ≡ left → len ≡ length bytes → drop (len - left) bytes ≡ rest
 kept_at bytes used left len text rest e n h = rw h (kept bytes used left text rest e n)

@@ -4,21 +4,24 @@ use Rattle.std.proofs.lemmas.Bool.{false≢true}
 use Rattle.chess_types.specs.bytes.Calls.{Calls, joined}
 use Rattle.chess_types.proofs.CallLemmas.{Calls-more, joined-more}
 use Rattle.chess_pgn.specs.steps.Deciding.{Decides}
-use Rattle.chess_pgn.specs.Sources.{unread}
-use Rattle.chess_pgn.specs.steps.AtHands.{Reads, After, Needed, AfterAll, Readied}
+use Rattle.chess_pgn.specs.Sources.{Breaks, Came, unread}
+use Rattle.chess_pgn.specs.steps.AtHands.{Reads, Needed, Readied}
+use Rattle.chess_pgn.specs.steps.Texts.{BreaksOff}
 use Rattle.chess_pgn.specs.declared.at_hand.AtHand.{AtHand}
 use Rattle.chess_pgn.specs.declared.at_hand.Fault.{Fault}
 use Rattle.chess_pgn.specs.declared.at_hand.Fault.TheVariants.{Memory, Read}
 use Rattle.chess_pgn.specs.declared.place.Place.{Place}
+use Rattle.chess_pgn.proofs.BreakLemmas.{came_none}
 use Rattle.chess_pgn.proofs.OpenLemmas.{nothing_undecided}
-use Rattle.chess_pgn.proofs.ReadLemmas.{needed_more, take_front}
+use Rattle.chess_pgn.proofs.ReadLemmas.{joined_small, needed_more, take_front}
 
 -- So far each read was needed, and its bytes are at hand.
-pub record Going {R A : Type 0} (gives : R → List ℕ → R → Type 0) (ended : R → Type 0) (most : ℕ) (place : Place) (looked : ℕ) (old now : AtHand R A) : Type 0 where
+pub record Going {R A : Type 0} (gives : R → List ℕ → R → Type 0) (ended : R → Type 0) (failed : R → Bool) (most : ℕ) (place : Place) (looked : ℕ) (old now : AtHand R A) : Type 0 where
   pub pieces : List (List ℕ)
   pub calls : Calls gives old.source pieces now.source
   pub needed : Needed most place (unread old) pieces
   pub counted : now.reads + length pieces ≡ old.reads
+  pub well : failed now.source ≡ failed old.source
   pub at_end : old.has_ended ≡ true → (now.has_ended ≡ true) × (pieces ≡ [])
   pub whole : unread now ≡ unread old ++ joined pieces
   pub ended_so : now.has_ended ≡ true → ended now.source
@@ -26,12 +29,13 @@ pub record Going {R A : Type 0} (gives : R → List ℕ → R → Type 0) (ended
   pub undecided : Decides place (take looked (unread now)) → ⊥
 
 module _ {R A : Type 0} (gives : R → List ℕ → R → Type 0) (ended : R → Type 0) (failed : R → Bool) (most : ℕ) (place : Place) (old : AtHand R A) where
-  pub going_start : (old.has_ended ≡ true → ended old.source) → Going gives ended most place 0 old old
+  pub going_start : (old.has_ended ≡ true → ended old.source) → Going gives ended failed most place 0 old old
   going_start so = record {
     pieces = [];
     calls = refl;
     needed = tt;
     counted = omega arith;
+    well = refl;
     at_end = λ e. (e, refl);
     whole = sym (append-nil (unread old));
     ended_so = so;
@@ -40,8 +44,8 @@ module _ {R A : Type 0} (gives : R → List ℕ → R → Type 0) (ended : R →
   }
 
   -- one read more
-  pub going_on : (looked : ℕ) (now new : AtHand R A) → Going gives ended most place looked old now → now.has_ended ≡ false → (Decides place (unread now) → ⊥) → length (unread now) ≤ most
-      → Reads gives ended failed now new (Ok tt) → Going gives ended most place (length (unread now)) old new
+  pub going_on : (looked : ℕ) (now new : AtHand R A) → Going gives ended failed most place looked old now → now.has_ended ≡ false → (Decides place (unread now) → ⊥) → length (unread now) ≤ most
+      → Reads gives ended failed now new (Ok tt) → Going gives ended failed most place (length (unread now)) old new
   going_on looked now new g goes undecided few r =
       let first : unread new ≡ unread now ++ r.piece = r.after.0 in
       record {
@@ -49,6 +53,7 @@ module _ {R A : Type 0} (gives : R → List ℕ → R → Type 0) (ended : R →
         calls = Calls-more gives old.source now.source new.source g.pieces r.piece g.calls r.call;
         needed = needed_more most place (unread old) g.pieces r.piece g.needed (subst (λ (x : List ℕ). Decides place x → ⊥) g.whole undecided) (subst (λ (x : List ℕ). length x ≤ most) g.whole few) r.small;
         counted = (let n = length-append g.pieces (r.piece ∷ []) in omega (arith, n, r.counted, g.counted));
+        well = r.after.3 ∙ g.well;
         at_end = λ e. absurd (false≢true (sym goes ∙ (g.at_end e).0));
         whole = first ∙ ap (λ (x : List ℕ). x ++ r.piece) g.whole ∙ append_assoc (unread old) (joined g.pieces) r.piece ∙ ap (λ (x : List ℕ). unread old ++ x) (sym (joined-more gives g.pieces r.piece));
         ended_so = r.after.1;
@@ -56,60 +61,55 @@ module _ {R A : Type 0} (gives : R → List ℕ → R → Type 0) (ended : R →
         undecided = subst (λ (x : List ℕ). Decides place (take (length (unread now)) x) → ⊥) (sym first) (subst (λ (x : List ℕ). Decides place x → ⊥) (sym (take_front (unread now) r.piece)) undecided);
       }
 
-  pub going_ready : (looked : ℕ) (now : AtHand R A) → Going gives ended most place looked old now → Decides place (unread now) ⊎ (now.has_ended ≡ true) → Readied gives ended failed most place old now (Ok true)
+  pub going_ready : (looked : ℕ) (now : AtHand R A) → Going gives ended failed most place looked old now → Decides place (unread now) ⊎ (now.has_ended ≡ true) → Readied gives ended failed most place old now (Ok true)
   going_ready looked now g why = record {
     pieces = g.pieces;
     calls = g.calls;
     needed = g.needed;
     counted = g.counted;
+    well = g.well;
     at_end = λ e. ((g.at_end e).1, (g.at_end e).0);
-    after = (g.whole, why, g.ended_so);
-  }
-
-  -- there may be no more reads
-  pub going_many : (looked : ℕ) (now : AtHand R A) → Going gives ended most place looked old now → now.reads ≡ 0 → Readied gives ended failed most place old now (Err Read)
-  going_many looked now g none = record {
-    pieces = g.pieces;
-    calls = g.calls;
-    needed = g.needed;
-    counted = g.counted;
-    at_end = λ e. ((g.at_end e).1, (g.at_end e).0);
-    after = inr none;
+    whole = g.whole;
+    ended_so = g.ended_so;
+    after = why;
   }
 
   -- too many bytes are at hand
-  pub going_over : (looked : ℕ) (now : AtHand R A) → Going gives ended most place looked old now → (Decides place (unread now) → ⊥) → most < length (unread now) → Readied gives ended failed most place old now (Ok false)
+  pub going_over : (looked : ℕ) (now : AtHand R A) → Going gives ended failed most place looked old now → (Decides place (unread now) → ⊥) → most < length (unread now) → Readied gives ended failed most place old now (Ok false)
   going_over looked now g undecided over = record {
     pieces = g.pieces;
     calls = g.calls;
     needed = g.needed;
     counted = g.counted;
+    well = g.well;
     at_end = λ e. ((g.at_end e).1, (g.at_end e).0);
-    after = (g.whole, over, undecided, g.ended_so);
+    whole = g.whole;
+    ended_so = g.ended_so;
+    after = (over, undecided);
   }
 
-  faulty : (pieces : List (List ℕ)) (now new : AtHand R A) (e : Fault) (piece : List ℕ) → After ended failed now piece new (Err e) → AfterAll ended failed most place old pieces new (Err e)
-  faulty pieces now new Read piece a = inl a
-  faulty pieces now new Memory piece a = tt
+  abbrev Off : AtHand R A → Fault → Type 0
+  Off new fault = BreaksOff (λ (s : AtHand R A) bytes t. Came gives failed s bytes t) (λ s t. Breaks gives failed s t) (λ s. s.has_ended ≡ true) old new fault
 
-  pub going_fault : (looked : ℕ) (now new : AtHand R A) (e : Fault) → Going gives ended most place looked old now → now.has_ended ≡ false → (Decides place (unread now) → ⊥) → length (unread now) ≤ most
-      → Reads gives ended failed now new (Err e) → Readied gives ended failed most place old new (Err e)
-  going_fault looked now new e g goes undecided few r = record {
-    pieces = g.pieces ++ r.piece ∷ [];
-    calls = Calls-more gives old.source now.source new.source g.pieces r.piece g.calls r.call;
-    needed = needed_more most place (unread old) g.pieces r.piece g.needed (subst (λ (x : List ℕ). Decides place x → ⊥) g.whole undecided) (subst (λ (x : List ℕ). length x ≤ most) g.whole few) r.small;
-    counted = (let n = length-append g.pieces (r.piece ∷ []) in omega (arith, n, r.counted, g.counted));
-    at_end = λ e. absurd (false≢true (sym goes ∙ (g.at_end e).0));
-    after = faulty (g.pieces ++ r.piece ∷ []) now new e r.piece r.after;
-  }
+  module _ (looked : ℕ) (now : AtHand R A) (g : Going gives ended failed most place looked old now) (goes : now.has_ended ≡ false) where
+    so_far : Came gives failed old (joined g.pieces) now
+    so_far = record { pieces = g.pieces; calls = g.calls; whole = refl; counted = g.counted; small = joined_small most place (unread old) g.pieces g.needed; well = g.well }
 
-  -- no buffer could be made
-  pub going_poor : (looked : ℕ) (now new : AtHand R A) (e : Fault) → Going gives ended most place looked old now → e ≡ Memory → new.source ≡ now.source → new.reads ≡ now.reads → new.has_ended ≡ now.has_ended → Readied gives ended failed most place old new (Err e)
-  going_poor looked now new e g memory source reads ended_too = record {
-    pieces = g.pieces;
-    calls = subst (λ x. Calls gives old.source g.pieces x) (sym source) g.calls;
-    needed = g.needed;
-    counted = omega (arith, reads, g.counted);
-    at_end = λ e. ((g.at_end e).1, ended_too ∙ (g.at_end e).0);
-    after = rw memory tt;
-  }
+    not_ended : old.has_ended ≡ true → ⊥
+    not_ended e = false≢true (sym goes ∙ (g.at_end e).0)
+
+    -- there may be no more reads
+    pub going_many : now.reads ≡ 0 → Off now Read
+    going_many none = (not_ended, joined g.pieces ∷ [], now, (now, so_far, refl), inr (refl, none))
+
+    pub going_fault : (new : AtHand R A) (e : Fault) → Reads gives ended failed now new (Err e) → Off new e
+    going_fault new Read r = (not_ended, joined g.pieces ∷ [], now, (now, so_far, refl), inl (subst (λ (p : List ℕ). gives now.source p new.source) r.after.1 r.call, r.after.0))
+    going_fault new Memory r = (not_ended, joined g.pieces ∷ r.piece ∷ [], (now, so_far, (new, one, refl)))
+      where
+        one : Came gives failed now r.piece new
+        one = record { pieces = r.piece ∷ []; calls = (new.source, r.call, refl); whole = append-nil r.piece; counted = r.counted; small = r.small; well = r.after }
+
+    -- no buffer could be made
+    pub going_poor : (new : AtHand R A) (e : Fault) → e ≡ Memory → new.source ≡ now.source → new.reads ≡ now.reads → Off new e
+    going_poor new e memory source reads =
+        subst (λ (f : Fault). Off new f) (sym memory) (not_ended, joined g.pieces ∷ [] ∷ [], (now, so_far, (new, came_none gives failed now new source reads, refl)))

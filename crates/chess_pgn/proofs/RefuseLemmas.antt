@@ -10,9 +10,9 @@ use Rattle.chess_san.specs.declared.fault.SanFault.{SanFault}
 use Rattle.chess_san.specs.Naming.{reading}
 use Rattle.chess_tree.specs.Forest.{Forest}
 use Rattle.chess_tree.specs.GameTree.{TreeParts, line_to}
-use Rattle.chess_pgn.specs.Grammar.{Element, Open, Close, Text, few_are_open, move_in, move_or_none}
+use Rattle.chess_pgn.specs.Grammar.{Element, Open, Close, Text, few_are_open, move_in, ok_move}
 use Rattle.chess_pgn.specs.steps.Elements.{Frame, Last}
-use Rattle.chess_pgn.specs.steps.Readings.{Exceeds, Reading, Refuses, goes_on, Holds, Pends, is_nil}
+use Rattle.chess_pgn.specs.steps.Readings.{Exceeds, Reading, RefusesElements, goes_on, HoldsReading, Pends, is_nil}
 use Rattle.chess_pgn.specs.declared.fault.FaultKind.{FaultKind}
 use Rattle.chess_pgn.specs.declared.fault.FaultKind.TheVariants.{Memory, TooLarge}
 use Rattle.chess_pgn.specs.declared.reader.moves.Interrupted.{Interrupted}
@@ -27,12 +27,12 @@ text_none w es start c f up None here lead [] e = rw e refl
 text_none w es start c f up None here lead (x ∷ xs) e = rw e refl
 text_none w es start c f up (Some y) here lead st e = rw e refl
 
-none_read : (r : Result MoveParts SanFault) → ((m : MoveParts) → r ≡ Ok m → ⊥) → move_or_none r ≡ None
+none_read : (r : Result MoveParts SanFault) → ((m : MoveParts) → r ≡ Ok m → ⊥) → ok_move r ≡ None
 none_read (Ok m) e = absurd (e m refl)
 none_read (Err fault) e = refl
 
 pub text_fails : (t : TreeParts) (lines : List Interrupted) (played : Bool) (comments : List ℕ) (from : ℕ) (w : List ℕ) → ((m : MoveParts) → reading (last (line_to t)) w ≡ Ok m → ⊥)
-    → (s : Reading) → Holds t lines played comments from s → (es : List Element) → goes_on (Text w ∷ es) s ≡ None
+    → (s : Reading) → HoldsReading t lines played comments from s → (es : List Element) → goes_on (Text w ∷ es) s ≡ None
 text_fails t lines played comments from w e s h es =
     text_none w es s.start s.comment s.forest s.up s.last_move s.here s.lead s.interrupted
     (ap (λ (z : State). move_in z w) (h.here ∙ rw (h.start, h.forest, h.path) refl) ∙ none_read (reading (last (line_to t)) w) e)
@@ -40,11 +40,11 @@ text_fails t lines played comments from w e s h es =
 -- ---- a variation that begins
 
 open_none : (t : TreeParts) (lines : List Interrupted) (played : Bool) (comments : List ℕ) (from : ℕ) (es : List Element) (start : State) (c : List ℕ) (f : Forest) (up : List ℕ) (l : Last) (here : State) (lead : List ℕ) (st : List Frame)
-    → played ≡ false → Holds t lines played comments from (state start c f up l here lead st) → goes_on (Open ∷ es) (state start c f up l here lead st) ≡ None
+    → played ≡ false → HoldsReading t lines played comments from (state start c f up l here lead st) → goes_on (Open ∷ es) (state start c f up l here lead st) ≡ None
 open_none t lines played comments from es start c f up None here lead st e h = refl
 open_none t lines played comments from es start c f up (Some y) here lead st e h = absurd (let k : false ≡ true = sym e ∙ h.played in cc)
 
-pub open_fails : (t : TreeParts) (lines : List Interrupted) (played : Bool) (comments : List ℕ) (from : ℕ) → played ≡ false → (s : Reading) → Holds t lines played comments from s → (es : List Element) → goes_on (Open ∷ es) s ≡ None
+pub open_fails : (t : TreeParts) (lines : List Interrupted) (played : Bool) (comments : List ℕ) (from : ℕ) → played ≡ false → (s : Reading) → HoldsReading t lines played comments from s → (es : List Element) → goes_on (Open ∷ es) s ≡ None
 open_fails t lines played comments from e s h es = open_none t lines played comments from es s.start s.comment s.forest s.up s.last_move s.here s.lead s.interrupted e h
 
 lt_false : (a b : ℕ) → b ≤ a → nat_lt a b ≡ false
@@ -53,7 +53,7 @@ lt_false a b h = grind (arith, h)
 and_false : (a b : Bool) → a ≡ false → a && b ≡ false
 and_false a b e = rw e refl
 
-pub too_deep : (t : TreeParts) (lines : List Interrupted) (played : Bool) (comments : List ℕ) (from : ℕ) → 128 ≤ length lines → (s : Reading) → Holds t lines played comments from s → (es : List Element)
+pub too_deep : (t : TreeParts) (lines : List Interrupted) (played : Bool) (comments : List ℕ) (from : ℕ) → 128 ≤ length lines → (s : Reading) → HoldsReading t lines played comments from s → (es : List Element)
     → few_are_open (length s.interrupted) (Open ∷ es) ≡ false
 too_deep t lines played comments from many s h es =
     let e = frames_long h.outer s.interrupted (reverse lines) h.pends in
@@ -74,7 +74,7 @@ none_long : (lines : List Interrupted) → length lines ≡ 0 → lines ≡ []
 none_long [] e = refl
 none_long (i ∷ is) e = absurd (omega arith)
 
-pub close_fails : (t : TreeParts) (lines : List Interrupted) (played : Bool) (comments : List ℕ) (from : ℕ) → length lines ≡ 0 → (s : Reading) → Holds t lines played comments from s → (es : List Element) → goes_on (Close ∷ es) s ≡ None
+pub close_fails : (t : TreeParts) (lines : List Interrupted) (played : Bool) (comments : List ℕ) (from : ℕ) → length lines ≡ 0 → (s : Reading) → HoldsReading t lines played comments from s → (es : List Element) → goes_on (Close ∷ es) s ≡ None
 close_fails t lines played comments from e s h es =
     close_none es s.start s.comment s.forest s.up s.last_move s.here s.lead s.interrupted (closed_frames h.outer s.interrupted lines (none_long lines e) h.pends)
 
@@ -85,11 +85,11 @@ end_none : (outer : List ℕ) (lines : List Interrupted) (start : State) (c : Li
 end_none outer lines start c f up l here lead [] e h = absurd (let k : true ≡ false = sym (ap is_nil (no_lines outer lines h)) ∙ e in cc)
 end_none outer lines start c f up l here lead (x ∷ xs) e h = refl
 
-pub end_fails : (t : TreeParts) (lines : List Interrupted) (played : Bool) (comments : List ℕ) (from : ℕ) → is_nil lines ≡ false → (s : Reading) → Holds t lines played comments from s → goes_on [] s ≡ None
+pub end_fails : (t : TreeParts) (lines : List Interrupted) (played : Bool) (comments : List ℕ) (from : ℕ) → is_nil lines ≡ false → (s : Reading) → HoldsReading t lines played comments from s → goes_on [] s ≡ None
 end_fails t lines played comments from e s h = end_none h.outer lines s.start s.comment s.forest s.up s.last_move s.here s.lead s.interrupted e h.pends
 
 -- ---- no memory, or a limit of the tree
 
-pub refuses_room : {A : Type 0} (some : List Element) (kind : FaultKind) (moves : Moves A) → (kind ≡ Memory) ⊎ ((kind ≡ TooLarge) × Exceeds some moves) → Refuses some kind moves
-refuses_room some kind moves (inl e) = subst (λ (k : FaultKind). Refuses some k moves) (sym e) tt
-refuses_room some kind moves (inr e) = subst (λ (k : FaultKind). Refuses some k moves) (sym e.0) e.1
+pub refuses_room : {A : Type 0} (some : List Element) (kind : FaultKind) (moves : Moves A) → (kind ≡ Memory) ⊎ ((kind ≡ TooLarge) × Exceeds some moves) → RefusesElements some kind moves
+refuses_room some kind moves (inl e) = subst (λ (k : FaultKind). RefusesElements some k moves) (sym e) tt
+refuses_room some kind moves (inr e) = subst (λ (k : FaultKind). RefusesElements some k moves) (sym e.0) e.1

@@ -14,7 +14,7 @@ use Rattle.chess_pgn.specs.steps.HeaderCode.{HasTaken, heading, heads_on, is_beg
 use Rattle.chess_pgn.specs.steps.HeaderCode as header_code
 use Rattle.chess_pgn.specs.steps.OtherCode.{Finds}
 use Rattle.chess_pgn.specs.steps.ReaderCode.{MayNotEnd, NoStart, RefusesFirst, RefusesItem, Strays, TakesItem, is_tagged, takes_when}
-use Rattle.chess_pgn.specs.steps.Readings.{Exceeds, Fails, FailsHere, fresh, goes_on, is_nil}
+use Rattle.chess_pgn.specs.steps.Readings.{Exceeds, FailsWith, FailsHere, fresh, goes_on, is_nil}
 use Rattle.chess_pgn.specs.declared.fault.FaultKind.{FaultKind}
 use Rattle.chess_pgn.specs.declared.fault.FaultKind.TheVariants.{Memory, TooLarge}
 use Rattle.chess_pgn.specs.declared.fault.PgnFault.{PgnFault}
@@ -149,7 +149,7 @@ module _ {A : Type 0} (head0 m0 is : List Item) (r : Reader A) (h : InMovetext h
   none_here e fails = some_none (game.tree.comment, game.tree.below) (goes_on [] h.reading) (goes_to [] (ap elements e ∙ sym (append-nil (elements m0)))).0 (fails h.reading h.now)
 
   -- so it went on with the item
-  none_after : (item : Item) (more : List Item) → g.movetext ≡ m0 ++ item ∷ more → Fails (element item) r.moves → ⊥
+  none_after : (item : Item) (more : List Item) → g.movetext ≡ m0 ++ item ∷ more → FailsWith (element item) r.moves → ⊥
   none_after item more e fails =
       let es : List Element = element item ++ elements more in
       let go = goes_to es (ap elements e ∙ elements_both m0 (item ∷ more)) in
@@ -213,7 +213,7 @@ module _ {A : Type 0} (head0 m0 is : List Item) (r : Reader A) (h : InMovetext h
         | inr x ↦ ends_so item more x.1 (inr t)
       ]
 
-      plain : ((is_movetext item ≡ true) × Fails (element item) r.moves) ⊎ (((is_movetext item ≡ false) × FailsHere r.moves) ⊎ (is_tagged item ≡ true)) → ⊥
+      plain : ((is_movetext item ≡ true) × FailsWith (element item) r.moves) ⊎ (((is_movetext item ≡ false) × FailsHere r.moves) ⊎ (is_tagged item ≡ true)) → ⊥
       plain (inl x) = moved x.0 (λ after k. none_after item after k x.1)
       plain (inr (inl x)) = ended x.0 x.1
       plain (inr (inr x)) = strays x
@@ -232,7 +232,7 @@ module _ {A : Type 0} (head0 m0 is : List Item) (r : Reader A) (h : InMovetext h
   bracket_there : (kind : FaultKind) → m0 ≡ g.movetext ++ g.ending → (kind ≡ Memory → ⊥) → RefusesItem items.TagOpen kind r.moves → ⊥
   bracket_there kind e not = by kind not
     where
-      plain : ((false ≡ true) × Fails (element items.TagOpen) r.moves) ⊎ (((false ≡ false) × FailsHere r.moves) ⊎ (false ≡ true)) → ⊥
+      plain : ((false ≡ true) × FailsWith (element items.TagOpen) r.moves) ⊎ (((false ≡ false) × FailsHere r.moves) ⊎ (false ≡ true)) → ⊥
       plain (inl x) = (let k = x.0 in cc)
       plain (inr (inl x)) = none_here (ends_here e) x.1
       plain (inr (inr x)) = cc

@@ -5,7 +5,7 @@ use Rattle.std.specs.List.{AllByRecursion, join_with_byte}
 use Rattle.std.proofs.lemmas.List.{append-nil}
 use Rattle.chess_types.specs.bytes.Words.{is_gap, as_word, words, words_from}
 use Rattle.chess_tree.specs.Comments.{blanks, normalised}
-use Rattle.chess_pgn.specs.Grammar.{joined}
+use Rattle.chess_pgn.specs.Grammar.{comments_joined}
 use Rattle.chess_pgn.specs.steps.Readings.{IsSpaced}
 
 -- a gap parts two texts
@@ -41,7 +41,7 @@ some_words gaps begun (x ∷ a) = step (is_gap gaps x) (some_words gaps [] a) (s
     step true h k = somes (as_word begun) (words_from gaps [] a) (as_some begun) h
     step false h k = k
 
-join_two : (a b : List (List ℕ)) → AllByRecursion IsSome a → AllByRecursion IsSome b → join_with_byte 32 (a ++ b) ≡ joined (join_with_byte 32 a) (join_with_byte 32 b)
+join_two : (a b : List (List ℕ)) → AllByRecursion IsSome a → AllByRecursion IsSome b → join_with_byte 32 (a ++ b) ≡ comments_joined (join_with_byte 32 a) (join_with_byte 32 b)
 unfolding IsSome
 join_two [] b h k = refl
 join_two ([] ∷ a) b h k = absurd (omega (arith, h.0))
@@ -57,12 +57,12 @@ join_two ((x ∷ w) ∷ (z ∷ v) ∷ a) b h k =
     first_some z v [] = omega arith
     first_some z v (u ∷ a) = omega arith
 
-    behind : (s t : List ℕ) → 0 < length s → (x ∷ w) ++ 32 ∷ joined s t ≡ joined ((x ∷ w) ++ 32 ∷ s) t
+    behind : (s t : List ℕ) → 0 < length s → (x ∷ w) ++ 32 ∷ comments_joined s t ≡ comments_joined ((x ∷ w) ++ 32 ∷ s) t
     behind [] t h = absurd (omega (arith, h))
     behind (c ∷ s) [] h = refl
     behind (c ∷ s) (d ∷ t) h = sym (append_assoc (x ∷ w) (32 ∷ c ∷ s) (32 ∷ d ∷ t))
 
-pub normalised_parted : (a b : List ℕ) → normalised (a ++ 32 ∷ b) ≡ joined (normalised a) (normalised b)
+pub normalised_parted : (a b : List ℕ) → normalised (a ++ 32 ∷ b) ≡ comments_joined (normalised a) (normalised b)
 unfolding normalised
 normalised_parted a b = ap (join_with_byte 32) (parted blanks [] a b 32 refl) ∙ join_two (words blanks a) (words blanks b) (some_words blanks [] a) (some_words blanks [] b)
 
@@ -70,16 +70,16 @@ pub normalised_space : (b : List ℕ) → normalised (32 ∷ b) ≡ normalised b
 unfolding normalised
 normalised_space b = refl
 
-joined_none : (a : List ℕ) → joined a [] ≡ a
+joined_none : (a : List ℕ) → comments_joined a [] ≡ a
 joined_none [] = refl
 joined_none (x ∷ a) = refl
 
 -- behind another, a text that begins with a space, if it isn't empty
-pub normalised_append : (a b : List ℕ) → IsSpaced b → normalised (a ++ b) ≡ joined (normalised a) (normalised b)
+pub normalised_append : (a b : List ℕ) → IsSpaced b → normalised (a ++ b) ≡ comments_joined (normalised a) (normalised b)
 unfolding normalised
 normalised_append a [] h = ap normalised (append-nil a) ∙ sym (joined_none (normalised a))
 normalised_append a (x ∷ b) h =
-    ap (λ (y : ℕ). normalised (a ++ y ∷ b)) h ∙ normalised_parted a b ∙ ap (joined (normalised a)) (sym (normalised_space b) ∙ ap (λ (y : ℕ). normalised (y ∷ b)) (sym h))
+    ap (λ (y : ℕ). normalised (a ++ y ∷ b)) h ∙ normalised_parted a b ∙ ap (comments_joined (normalised a)) (sym (normalised_space b) ∙ ap (λ (y : ℕ). normalised (y ∷ b)) (sym h))
 
 pub spaced_append : (a b : List ℕ) → IsSpaced a → IsSpaced b → IsSpaced (a ++ b)
 spaced_append [] b h k = k

@@ -6,20 +6,20 @@ use Rattle.chess_tree.specs.Comments.{normalised}
 use Rattle.chess_tree.specs.Forest.{Forest}
 use Rattle.chess_tree.specs.GameTree.{GameTree, TreeParts, commented_here, commented_tree, here, node_of, root_node}
 use Rattle.chess_tree.specs.WellFormed.{IsGameTree, Leads}
-use Rattle.chess_pgn.specs.Grammar.{joined}
+use Rattle.chess_pgn.specs.Grammar.{comments_joined}
 use Rattle.chess_pgn.specs.steps.Readings.{said_here}
 use Rattle.chess_pgn.proofs.HangLemmas.{hang-nothing, joined-nil}
 use Rattle.chess_pgn.proofs.PlaceLemmas.{commented_is, node_sound}
 use Rattle.chess_pgn.proofs.RemarkLemmas.{normalised_parted}
 
-said_tree : (tree : GameTree) (path n x : List ℕ) → Leads path tree.below → x ≡ joined (node_of path (root_node tree)).comment n
+said_tree : (tree : GameTree) (path n x : List ℕ) → Leads path tree.below → x ≡ comments_joined (node_of path (root_node tree)).comment n
     → commented_tree x path tree ≡ (said_here n (record { tree = tree; path = path })).tree
 said_tree tree [] n x at e = ap (λ (z : List ℕ). record { start = tree.start; comment = z; below = tree.below }) e
 said_tree tree (k ∷ path) n x at e =
     ap (λ (z : List ℕ). commented_tree z (k ∷ path) tree) e
     ∙ ap (λ (z : Forest). record { start = tree.start; comment = tree.comment; below = z }) (commented_is k path n (root_node tree) at)
 
-said_as : (t : TreeParts) (n x : List ℕ) → IsGameTree t → x ≡ joined (here t).comment n → commented_here x t ≡ said_here n t
+said_as : (t : TreeParts) (n x : List ℕ) → IsGameTree t → x ≡ comments_joined (here t).comment n → commented_here x t ≡ said_here n t
 said_as t n x game e = ap (λ (z : GameTree). record { tree = z; path = t.path }) (said_tree t.tree t.path n x game.cursor e)
 
 said_nothing : (t : TreeParts) → t ≡ said_here [] t
@@ -38,13 +38,13 @@ nothing_said t text e = said_nothing t ∙ ap (λ (z : List ℕ). said_here z t)
 
 -- where there is no comment, and behind one
 pub first_said : (t : TreeParts) (text said : List ℕ) → IsGameTree t → said ≡ (here t).comment → said ≡ [] → commented_here (normalised text) t ≡ said_here (normalised text) t
-first_said t text said game es e = said_as t (normalised text) (normalised text) game (ap (λ (z : List ℕ). joined z (normalised text)) (sym e ∙ es))
+first_said t text said game es e = said_as t (normalised text) (normalised text) game (ap (λ (z : List ℕ). comments_joined z (normalised text)) (sym e ∙ es))
 
 pub next_said : (t : TreeParts) (text said both : List ℕ) → IsGameTree t → said ≡ (here t).comment → both ≡ said ++ 32 ∷ text → commented_here (normalised both) t ≡ said_here (normalised text) t
 next_said t text said both game es e =
     let sound = node_sound t.path (root_node t.tree) (record { comment = game.comment; from = t.tree.start; below = game.moves }) game.cursor in
     said_as t (normalised text) (normalised both) game
-    (ap normalised e ∙ normalised_parted said text ∙ ap (λ (z : List ℕ). joined z (normalised text)) (ap normalised es ∙ sound.normal))
+    (ap normalised e ∙ normalised_parted said text ∙ ap (λ (z : List ℕ). comments_joined z (normalised text)) (ap normalised es ∙ sound.normal))
 
 pub then : {P Q : Type 0} {E : Type 0} (r : Result (Unit {0}) E) → OnOk r P → (P → Q) → OnOk r Q
 then (Ok u) p f = f p

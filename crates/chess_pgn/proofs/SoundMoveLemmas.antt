@@ -20,7 +20,7 @@ use Rattle.chess_san.specs.declared.form.Form.{Form}
 use Rattle.chess_san.specs.Forms.{form_in}
 use Rattle.chess_san.specs.Naming.{names, reading, reading_by, the_one}
 use Rattle.chess_san.proofs.GoesLemmas.{read_legal}
-use Rattle.chess_pgn.specs.Grammar.{Derives, Element, Annotation, Remark, Close, Line, End, Skip, Annotate, Say, Play, Vary, Part, annotated, element, elements, elements_of, few_are_open, in_front, joined, meaning, move_or_none, nothing, played, said, varied, ◌>>=◌}
+use Rattle.chess_pgn.specs.Grammar.{Derives, Element, Annotation, Remark, Close, Line, End, Skip, Annotate, Say, Play, Vary, Part, with_annotation, element, elements, elements_of, few_are_open, with_opening_comment, comments_joined, meaning, ok_move, nothing, with_move_first, said, varied, ◌>>=◌}
 use Rattle.chess_pgn.specs.Items as items
 use Rattle.chess_pgn.specs.Items.{Item}
 use Rattle.chess_pgn.specs.Laws.{AreNoted, nesting}
@@ -42,11 +42,11 @@ brace_append (x ∷ a) b e h = step (x == 125) (has_brace a) (has_brace (a ++ b)
     step true w u e f = e
     step false w u e f = f e
 
-joined_comment : (a b : List ℕ) → IsComment a → IsComment b → IsComment (joined a b)
+joined_comment : (a b : List ℕ) → IsComment a → IsComment b → IsComment (comments_joined a b)
 joined_comment [] b p q = q
 joined_comment (x ∷ a) [] p q = p
 joined_comment (x ∷ a) (y ∷ b) p q = record {
-  normal = normalised_parted (x ∷ a) (y ∷ b) ∙ ap (λ (z : List ℕ). joined z (normalised (y ∷ b))) p.normal ∙ ap (joined (x ∷ a)) q.normal;
+  normal = normalised_parted (x ∷ a) (y ∷ b) ∙ ap (λ (z : List ℕ). comments_joined z (normalised (y ∷ b))) p.normal ∙ ap (comments_joined (x ∷ a)) q.normal;
   no_brace = brace_append (x ∷ a) (32 ∷ y ∷ b) p.no_brace q.no_brace;
 }
 
@@ -133,7 +133,7 @@ two_of : (o : Option Part) (next : Part → Option Part) (r : Part) → (o >>= n
 two_of None next r e = absurd cc
 two_of (Some x) next r e = (x, refl, e)
 
-move_of : (o : Result MoveParts SanFault) (next : MoveParts → Option Part) (r : Part) → (move_or_none o >>= next) ≡ Some r → (m : MoveParts) × (o ≡ Ok m) × (next m ≡ Some r)
+move_of : (o : Result MoveParts SanFault) (next : MoveParts → Option Part) (r : Part) → (ok_move o >>= next) ≡ Some r → (m : MoveParts) × (o ≡ Ok m) × (next m ≡ Some r)
 move_of (Ok m) next r e = (m, refl, e)
 move_of (Err fault) next r e = absurd cc
 
@@ -151,8 +151,8 @@ varied_sound p here (Node m nags comment b next) text x sound noted is s = recor
   nags = s.nags;
   comment = s.comment;
   beside = (
-    sound_append p (Node m nags (joined text comment) b next) x.beside (sound.0, joined_comment text comment is sound.1, sound.2, sound.3) s.beside.0,
-    noted_append (Node m nags (joined text comment) b next) x.beside noted s.beside.1,
+    sound_append p (Node m nags (comments_joined text comment) b next) x.beside (sound.0, joined_comment text comment is sound.1, sound.2, sound.3) s.beside.0,
+    noted_append (Node m nags (comments_joined text comment) b next) x.beside noted s.beside.1,
   );
   below = s.below;
   noted = s.noted;
@@ -165,7 +165,7 @@ line_sound End before here r sound e = subst (IsSoundPart before here) (some_is 
     some_is x y h = cc
 line_sound (Skip l) before here r sound e = line_sound l before here r sound.1 e
 line_sound (Annotate n l) before here r sound e =
-    let x = part_of (meaning l before here) (annotated n) r e in
+    let x = part_of (meaning l before here) (with_annotation n) r e in
     let s = line_sound l before here x.0 sound.1 x.1 in
     subst (IsSoundPart before here) x.2 (record { nags = (sound.0, s.nags); comment = s.comment; beside = s.beside; below = s.below; noted = s.noted })
 line_sound (Say text l) before here r sound e =
@@ -173,9 +173,9 @@ line_sound (Say text l) before here r sound e =
     let s = line_sound l before here x.0 sound.1 x.1 in
     subst (IsSoundPart before here) x.2 (record { nags = s.nags; comment = joined_comment text x.0.comment sound.0 s.comment; beside = s.beside; below = s.below; noted = s.noted })
 line_sound (Play word l) before here r sound e =
-    let a = move_of (reading here word) (λ m. meaning l (Some here) (after here m) >>= λ (x : Part). Some (played m x)) r e in
+    let a = move_of (reading here word) (λ m. meaning l (Some here) (after here m) >>= λ (x : Part). Some (with_move_first m x)) r e in
     let m : MoveParts = a.0 in
-    let x = part_of (meaning l (Some here) (after here m)) (played m) r a.2 in
+    let x = part_of (meaning l (Some here) (after here m)) (with_move_first m) r a.2 in
     let s = line_sound l (Some here) (after here m) x.0 sound.1 x.1 in
     let on = read_on here word m a.1 in
     let legal : is_legal here m ≡ true = if_ok (λ n. is_legal here n ≡ true) (reading here word) m a.1 (read_legal here word (reading here word) refl) in
@@ -208,14 +208,14 @@ as_variations : (f : Forest) → nesting true f ≤ 1 + nesting false f
 as_variations Bare = omega arith
 as_variations (Node m nags comment b next) = omega arith
 
-front_nesting : (text : List ℕ) (f : Forest) → nesting true (in_front text f) ≡ nesting true f
+front_nesting : (text : List ℕ) (f : Forest) → nesting true (with_opening_comment text f) ≡ nesting true f
 front_nesting text Bare = refl
 front_nesting text (Node m nags comment b next) = refl
 
 varied_within : (n : ℕ) (f : Forest) (text : List ℕ) (x : Part) → suc n + nesting false f ≤ 128 → Within n x → Within n (varied f text x)
 varied_within n Bare text x few w = w
 varied_within n (Node m nags comment b next) text x few w =
-    (w.0, omega (arith, w.1, few, nesting_append (Node m nags (joined text comment) b next) x.beside, as_variations (Node m nags comment b next), front_nesting text (Node m nags comment b next)))
+    (w.0, omega (arith, w.1, few, nesting_append (Node m nags (comments_joined text comment) b next) x.beside, as_variations (Node m nags comment b next), front_nesting text (Node m nags comment b next)))
 
 line_within : (l : Line) (before : Option State) (here : State) (r : Part) (n : ℕ) (us : List Element) → n ≤ 128 → few_are_open n (elements_of l ++ us) ≡ true → meaning l before here ≡ Some r → Within n r × (few_are_open n us ≡ true)
 line_within End before here r n us low few e = (subst (Within n) (some_is nothing r e) (omega (arith, low), omega (arith, low)), few)
@@ -224,7 +224,7 @@ line_within End before here r n us low few e = (subst (Within n) (some_is nothin
     some_is x y h = cc
 line_within (Skip l) before here r n us low few e = line_within l before here r n us low few e
 line_within (Annotate k l) before here r n us low few e =
-    let x = part_of (meaning l before here) (annotated k) r e in
+    let x = part_of (meaning l before here) (with_annotation k) r e in
     let w = line_within l before here x.0 n us low few x.1 in
     (subst (Within n) x.2 w.0, w.1)
 line_within (Say text l) before here r n us low few e =
@@ -232,8 +232,8 @@ line_within (Say text l) before here r n us low few e =
     let w = line_within l before here x.0 n us low few x.1 in
     (subst (Within n) x.2 w.0, w.1)
 line_within (Play word l) before here r n us low few e =
-    let a = move_of (reading here word) (λ m. meaning l (Some here) (after here m) >>= λ (x : Part). Some (played m x)) r e in
-    let x = part_of (meaning l (Some here) (after here a.0)) (played a.0) r a.2 in
+    let a = move_of (reading here word) (λ m. meaning l (Some here) (after here m) >>= λ (x : Part). Some (with_move_first m x)) r e in
+    let x = part_of (meaning l (Some here) (after here a.0)) (with_move_first a.0) r a.2 in
     let w = line_within l (Some here) (after here a.0) x.0 n us low few x.1 in
     (subst (Within n) x.2 (omega (arith, w.0.0, w.0.1), omega (arith, low)), w.1)
 line_within (Vary v l) None here r n us low few e = absurd cc

@@ -7,7 +7,7 @@ use mathlib.Core.Logic.{inl, inr}
 use Rattle.chess_pgn.specs.Items as items
 use Rattle.chess_pgn.specs.Items.{IsItem, Item, TagOpen, Spells, behind_blank, is_blank, is_digit, is_glyph, is_in_tag, is_name_byte, is_outside, is_word_byte, place_after}
 use Rattle.chess_pgn.specs.Reading.{Ends, HasBegun, Starts, is_heading, is_movetext}
-use Rattle.chess_pgn.specs.Tags.{AreGaps, AreTags, IsTag, is_between, is_gap, is_value_part}
+use Rattle.chess_pgn.specs.Tags.{AreGaps, AreTags, IsTag, may_part_tags, is_tag_gap, is_value_part}
 use Rattle.chess_pgn.specs.steps.ItemAt.{item_at, outside_at, sign_at, start_at, tag_at, value_at}
 use Rattle.chess_pgn.specs.declared.outcome.Outcome.{Outcome}
 use Rattle.chess_pgn.specs.declared.place.Place.{Place}
@@ -68,7 +68,7 @@ all_of p (i ∷ is) e = (let two = both_true (p i) (list_all p is) e in (two.0, 
 
 -- ---- heads
 
-gap_heading : (i : Item) → is_gap i ≡ true → is_heading i ≡ true
+gap_heading : (i : Item) → is_tag_gap i ≡ true → is_heading i ≡ true
 gap_heading (items.Blank b) e = refl
 gap_heading items.Hidden e = refl
 gap_heading _ e = absurd cc
@@ -78,7 +78,7 @@ part_heading (items.Stretch text) e = refl
 part_heading (items.Escaped b) e = refl
 part_heading _ e = absurd cc
 
-between_heading : (i : Item) → is_between i ≡ true → is_heading i ≡ true
+between_heading : (i : Item) → may_part_tags i ≡ true → is_heading i ≡ true
 between_heading items.Mark e = refl
 between_heading (items.Blank b) e = refl
 between_heading items.Hidden e = refl
@@ -87,7 +87,7 @@ between_heading _ e = absurd cc
 
 tag_heading : (own : List Item) (name value : List ℕ) → IsTag own name value → All is_heading own
 tag_heading own name value t =
-    let gaps = λ (is : List Item) (g : AreGaps is). all_imply is_gap is_heading gap_heading is g in
+    let gaps = λ (is : List Item) (g : AreGaps is). all_imply is_tag_gap is_heading gap_heading is g in
     subst (All is_heading) (sym t.spelled) (
       refl,
       all_append is_heading t.before_name _ (gaps t.before_name t.gaps.0) (
@@ -100,10 +100,10 @@ tag_heading own name value t =
     )
 
 pub tags_all_heading : (is : List Item) (tags : List (List ℕ × List ℕ)) → AreTags is tags → All is_heading is
-tags_all_heading is [] h = all_imply is_between is_heading between_heading is h
+tags_all_heading is [] h = all_imply may_part_tags is_heading between_heading is h
 tags_all_heading is (tag ∷ tags) h =
     subst (All is_heading) (sym h.3)
-    (all_append is_heading h.0 (h.1 ++ h.2) (all_imply is_between is_heading between_heading h.0 h.4) (all_append is_heading h.1 h.2 (tag_heading h.1 tag.0 tag.1 h.5) (tags_all_heading h.2 tags h.6)))
+    (all_append is_heading h.0 (h.1 ++ h.2) (all_imply may_part_tags is_heading between_heading h.0 h.4) (all_append is_heading h.1 h.2 (tag_heading h.1 tag.0 tag.1 h.5) (tags_all_heading h.2 tags h.6)))
 
 -- ---- movetext and the end
 

@@ -14,10 +14,10 @@ use Rattle.chess_tree.specs.Forest.{Forest, Bare, count, below_at, below_child}
 use Rattle.chess_tree.specs.GameTree.{TreeParts, added, annotated_here, at_path, line_to}
 use Rattle.chess_tree.specs.Edits.{annotated, change_node, parent}
 use Rattle.chess_tree.specs.WellFormed.{Leads}
-use Rattle.chess_pgn.specs.Grammar.{Element, Annotation, Remark, Open, Close, Text, Part, few_are_open, joined, move_in, move_or_none}
+use Rattle.chess_pgn.specs.Grammar.{Element, Annotation, Remark, Open, Close, Text, Part, few_are_open, comments_joined, move_in, ok_move}
 use Rattle.chess_pgn.specs.steps.Hanging.{hang, leaf, nag, say}
 use Rattle.chess_pgn.specs.steps.Elements.{Frame, Last, path_of, last_of, end_of}
-use Rattle.chess_pgn.specs.steps.Readings.{Goes, Reading, fresh, goes_on, Holds, is_nil, Pends, AreFrames, Nested, position_at, said_here, comment_at, forest_at}
+use Rattle.chess_pgn.specs.steps.Readings.{Goes, Reading, fresh, goes_on, HoldsReading, is_nil, Pends, AreFrames, Nested, position_at, said_here, comment_at, forest_at}
 use Rattle.chess_pgn.specs.declared.reader.moves.Interrupted.{Interrupted}
 use Rattle.chess_tree.specs.declared.fault.TreeFault.{TreeFault}
 use Rattle.chess_tree.specs.declared.fault.TreeFault.TheVariants.{AtRoot, NoSuch}
@@ -29,7 +29,7 @@ use Rattle.chess_pgn.proofs.RemarkLemmas.{normalised_append, normalised_parted, 
 -- what a step gives
 abbrev pub Next : Element → TreeParts → List Interrupted → Bool → List ℕ → ℕ → Reading → Type 0
 Next e t lines played comments from s =
-    (s' : Reading) × Holds t lines played comments from s' × Goes (e ∷ []) s s'
+    (s' : Reading) × HoldsReading t lines played comments from s' × Goes (e ∷ []) s s'
 
 -- ---- what stays
 
@@ -66,9 +66,9 @@ cut_parts outer text comments from e h =
     rw (e, cut_is outer text from h) (drop_at outer text (length outer) refl, take_at outer text (length outer) refl)
 
 pub remark_goes : (t : TreeParts) (lines : List Interrupted) (played : Bool) (comments comments' text : List ℕ) (from : ℕ) (s : Reading)
-    → comments' ≡ comments ++ 32 ∷ text → Holds t lines played comments from s → Next (Remark (normalised text)) t lines played comments' from s
+    → comments' ≡ comments ++ 32 ∷ text → HoldsReading t lines played comments from s → Next (Remark (normalised text)) t lines played comments' from s
 remark_goes t lines played comments comments' text from s e h = (
-  record { start = s.start; comment = s.comment; forest = s.forest; up = s.up; last_move = s.last_move; here = s.here; lead = joined s.lead (normalised text); interrupted = s.interrupted },
+  record { start = s.start; comment = s.comment; forest = s.forest; up = s.up; last_move = s.last_move; here = s.here; lead = comments_joined s.lead (normalised text); interrupted = s.interrupted },
   record {
     start = h.start;
     comment = h.comment;
@@ -86,7 +86,7 @@ remark_goes t lines played comments comments' text from s e h = (
     parts = e ∙ ap (λ (z : List ℕ). z ++ 32 ∷ text) h.parts ∙ append_assoc h.outer h.text (32 ∷ text);
     from = h.from;
     spaced = spaced_append h.text (32 ∷ text) h.spaced refl;
-    lead = ap (λ (z : List ℕ). joined z (normalised text)) h.lead ∙ sym (normalised_parted h.text text);
+    lead = ap (λ (z : List ℕ). comments_joined z (normalised text)) h.lead ∙ sym (normalised_parted h.text text);
     pends = h.pends;
   },
   record { start = refl; given = λ es. refl; few = λ es. refl },
@@ -118,7 +118,7 @@ annotated_path [] i n f = annotated_is i [] n f
 annotated_path (j ∷ up) i n f = annotated_is j (up ++ i ∷ []) n f
 
 pub nag_goes : (t t' : TreeParts) (lines : List Interrupted) (played : Bool) (comments : List ℕ) (from n : ℕ) (start : State) (c : List ℕ) (f : Forest) (up : List ℕ) (l : Last) (here : State) (lead : List ℕ) (st : List Frame)
-    → played ≡ true → t' ≡ annotated_here n t → Holds t lines played comments from (state start c f up l here lead st) → Next (Annotation n) t' lines played comments from (state start c f up l here lead st)
+    → played ≡ true → t' ≡ annotated_here n t → HoldsReading t lines played comments from (state start c f up l here lead st) → Next (Annotation n) t' lines played comments from (state start c f up l here lead st)
 nag_goes t t' lines played comments from n start c f up None here lead st some e h = absurd (let k : true ≡ false = sym some ∙ h.played in cc)
 nag_goes t t' lines played comments from n start c f up (Some x) here lead st some e h =
     let p : List ℕ = up ++ x.0 ∷ [] in (
@@ -147,7 +147,7 @@ nag_goes t t' lines played comments from n start c f up (Some x) here lead st so
     )
 
 pub nag_ignored : (t : TreeParts) (lines : List Interrupted) (played : Bool) (comments : List ℕ) (from n : ℕ) (start : State) (c : List ℕ) (f : Forest) (up : List ℕ) (l : Last) (here : State) (lead : List ℕ) (st : List Frame)
-    → played ≡ false → Holds t lines played comments from (state start c f up l here lead st) → Next (Annotation n) t lines played comments from (state start c f up l here lead st)
+    → played ≡ false → HoldsReading t lines played comments from (state start c f up l here lead st) → Next (Annotation n) t lines played comments from (state start c f up l here lead st)
 nag_ignored t lines played comments from n start c f up None here lead st none h = (state start c f up None here lead st, h, record { start = refl; given = λ es. refl; few = λ es. refl })
 nag_ignored t lines played comments from n start c f up (Some x) here lead st none h = absurd (let k : false ≡ true = sym none ∙ h.played in cc)
 
@@ -157,7 +157,7 @@ some_is : {A : Type 0} (x y : A) → Some x ≡ Some y → x ≡ y
 some_is x y e = cc
 
 moved : (p : State) (w : List ℕ) (m : MoveParts) → reading p w ≡ Ok m → move_in p w ≡ Some m
-moved p w m e = ap move_or_none e
+moved p w m e = ap ok_move e
 
 -- a move behind the place to which a path leads
 module _ (t t' : TreeParts) (m : MoveParts) (start : State) (f : Forest) (p : List ℕ) (es : t.tree.start ≡ start) (ef : t.tree.below ≡ f) (ep : t.path ≡ p) (e : t' ≡ added m t) (el : line_to t' ≡ extended (line_to t) m) where
@@ -177,7 +177,7 @@ module _ (t t' : TreeParts) (m : MoveParts) (start : State) (f : Forest) (p : Li
       ap (λ (z : State). after z m) (eh ∙ at_t) ∙ sym (last_extended (line_to t) m) ∙ sym (ap last el) ∙ at_t'
 
 said_root : (t t1 : TreeParts) (text : List ℕ) → t.path ≡ [] → t1 ≡ said_here text t
-    → (t1.tree.start ≡ t.tree.start) × (t1.tree.comment ≡ joined t.tree.comment text) × (t1.tree.below ≡ t.tree.below) × (t1.path ≡ [])
+    → (t1.tree.start ≡ t.tree.start) × (t1.tree.comment ≡ comments_joined t.tree.comment text) × (t1.tree.below ≡ t.tree.below) × (t1.path ≡ [])
 said_root t t1 text ep e = (
   ap (λ (z : TreeParts). z.tree.start) e,
   ap (λ (z : TreeParts). z.tree.comment) e ∙ ap (λ (z : List ℕ). comment_at z t.tree.comment text) ep,
@@ -212,7 +212,7 @@ pub word_goes : (t t1 t2 : TreeParts) (lines : List Interrupted) (played : Bool)
     → t2 ≡ added m t1 → line_to t2 ≡ extended (line_to t1) m
     → (played ≡ true) ⊎ (lines ≡ [])
     → (start : State) (c : List ℕ) (f : Forest) (up : List ℕ) (l : Last) (here : State) (lead : List ℕ) (st : List Frame)
-    → Holds t lines played comments from (state start c f up l here lead st) → Next (Text w) t2 lines true comments' from (state start c f up l here lead st)
+    → HoldsReading t lines played comments from (state start c f up l here lead st) → Next (Text w) t2 lines true comments' from (state start c f up l here lead st)
 word_goes t t1 t2 lines played comments comments' from w m er e1 ec e2 el which start c f up (Some x) here lead st h =
     let p : List ℕ = up ++ x.0 ∷ [] in
     let cut = cut_parts h.outer h.text comments from h.parts h.from in
@@ -258,10 +258,10 @@ word_goes t t1 t2 lines played comments comments' from w m er e1 ec e2 el which 
     let es : t1.tree.start ≡ start = said.0 ∙ h.start in
     let ep : t1.path ≡ up = said.3 ∙ sym root in
     let er' : move_in here w ≡ Some m = ap (λ (z : State). move_in z w) (h.here ∙ rw (h.start, h.forest, h.path) refl) ∙ moved (last (line_to t)) w m er in (
-      state start (joined c lead) (hang up (leaf m) f) up (Some (count (below_at up f), here)) (after here m) [] [],
+      state start (comments_joined c lead) (hang up (leaf m) f) up (Some (count (below_at up f), here)) (after here m) [] [],
       record {
         start = added_start t1 t2 m start f up es ef ep e2 el;
-        comment = ap (λ (z : TreeParts). z.tree.comment) e2 ∙ said.1 ∙ ap (λ (z : List ℕ). joined z lead) h.comment;
+        comment = ap (λ (z : TreeParts). z.tree.comment) e2 ∙ said.1 ∙ ap (λ (z : List ℕ). comments_joined z lead) h.comment;
         forest = added_forest t1 t2 m start f up es ef ep e2 el;
         path = added_path t1 t2 m start f up es ef ep e2 el;
         played = refl;
@@ -286,7 +286,7 @@ word_goes t t1 t2 lines played comments comments' from w m er e1 ec e2 el which 
 pub first_goes : (t t' : TreeParts) (lines : List Interrupted) (played : Bool) (comments : List ℕ) (from : ℕ) (w : List ℕ) (m : MoveParts)
     → reading (last (line_to t)) w ≡ Ok m → t' ≡ added m t → line_to t' ≡ extended (line_to t) m → played ≡ false → lines ≢ []
     → (start : State) (c : List ℕ) (f : Forest) (up : List ℕ) (l : Last) (here : State) (lead : List ℕ) (st : List Frame)
-    → Holds t lines played comments from (state start c f up l here lead st) → Next (Text w) t' lines true comments from (state start c f up l here lead st)
+    → HoldsReading t lines played comments from (state start c f up l here lead st) → Next (Text w) t' lines true comments from (state start c f up l here lead st)
 first_goes t t' lines played comments from w m er e el none some start c f up (Some x) here lead st h = absurd (let k : false ≡ true = sym none ∙ h.played in cc)
 first_goes t t' lines played comments from w m er e el none some start c f up None here lead [] h = absurd (some (no_lines h.outer lines h.pends))
 first_goes t t' lines played comments from w m er e el none some start c f up None here lead (y ∷ ys) h =
@@ -321,7 +321,7 @@ pub text_goes : (t t1 t2 : TreeParts) (lines : List Interrupted) (played due : B
     → t1 ≡ (if due then said_here (normalised (drop (min from (length comments)) comments)) t else t)
     → comments' ≡ (if due then take (min from (length comments)) comments else comments)
     → t2 ≡ added m t1 → line_to t2 ≡ extended (line_to t1) m
-    → (s : Reading) → Holds t lines played comments from s → Next (Text w) t2 lines true comments' from s
+    → (s : Reading) → HoldsReading t lines played comments from s → Next (Text w) t2 lines true comments' from s
 text_goes t t1 t2 lines true true comments comments' from w m er ed e1 ec e2 el s h =
     word_goes t t1 t2 lines true comments comments' from w m er e1 ec e2 el (inl refl) s.start s.comment s.forest s.up s.last_move s.here s.lead s.interrupted h
 text_goes t t1 t2 lines true false comments comments' from w m er ed e1 ec e2 el s h = absurd cc
@@ -378,7 +378,7 @@ pub open_goes : (t t' : TreeParts) (lines lines' : List Interrupted) (played : B
     → length lines < 128 → played ≡ true → depth ≡ length t.path - 1 → place ≡ unwrap_or (slice_get t.path depth) 0
     → lines' ≡ lines ++ record { depth = depth; place = place; from = from } ∷ [] → (t.path ≢ [] → t' ≡ at_path (parent t.path) t) → from' ≡ length comments
     → (start : State) (c : List ℕ) (f : Forest) (up : List ℕ) (l : Last) (here : State) (lead : List ℕ) (st : List Frame)
-    → Holds t lines played comments from (state start c f up l here lead st) → Next Open t' lines' false comments from' (state start c f up l here lead st)
+    → HoldsReading t lines played comments from (state start c f up l here lead st) → Next Open t' lines' false comments from' (state start c f up l here lead st)
 open_goes t t' lines lines' played comments from from' depth place few some ed epl el back ef start c f up None here lead st h = absurd (let k : true ≡ false = sym some ∙ h.played in cc)
 open_goes t t' lines lines' played comments from from' depth place few some ed epl el back ef start c f up (Some x) here lead st h =
     let i : Interrupted = record { depth = depth; place = place; from = from } in
@@ -441,7 +441,7 @@ pub close_goes : (t t1 t2 : TreeParts) (lines rest : List Interrupted) (line : I
     → (line.place < count (below_at (take line.depth t1.path) t1.tree.below) → t2 ≡ at_path (take line.depth t1.path ++ line.place ∷ []) t1)
     → from' ≡ line.from
     → (start : State) (c : List ℕ) (f : Forest) (up : List ℕ) (l : Last) (here : State) (lead : List ℕ) (st : List Frame)
-    → Holds t lines played comments from (state start c f up l here lead st) → Next Close t2 rest true comments' from' (state start c f up l here lead st)
+    → HoldsReading t lines played comments from (state start c f up l here lead st) → Next Close t2 rest true comments' from' (state start c f up l here lead st)
 close_goes t t1 t2 lines rest line played comments comments' from from' el e1 ec e2 ef start c f up l here lead [] h =
     absurd (subst (λ (z : List Interrupted). Pends h.outer [] z) (ap reverse el ∙ reverse-append rest (line ∷ [])) h.pends)
 close_goes t t1 t2 lines rest line played comments comments' from from' el e1 ec e2 ef start c f up None here lead (x ∷ xs) h =
@@ -449,7 +449,7 @@ close_goes t t1 t2 lines rest line played comments comments' from from' el e1 ec
     let ec' : comments' ≡ comments = ec ∙ ap (λ (z : Bool). if z then take (min from (length comments)) comments else comments) h.played in
     let n : Pends h.outer (x ∷ xs) (line ∷ reverse rest) = subst (λ (z : List Interrupted). Pends h.outer (x ∷ xs) z) (ap reverse el ∙ reverse-append rest (line ∷ [])) h.pends in
     let g = closes t1 t2 line x f (ap (λ (z : TreeParts). z.tree.below) e1' ∙ h.forest) (ap (λ (z : TreeParts). z.path) e1' ∙ h.path) (above x up None h.nested.0) n.6 n.7 h.frames.0.there e2 in (
-      state start c f x.up (last_of x) x.here (joined x.lead lead) xs,
+      state start c f x.up (last_of x) x.here (comments_joined x.lead lead) xs,
       record {
         start = ap (λ (z : TreeParts). z.tree.start) g ∙ ap (λ (z : TreeParts). z.tree.start) e1' ∙ h.start;
         comment = ap (λ (z : TreeParts). z.tree.comment) g ∙ ap (λ (z : TreeParts). z.tree.comment) e1' ∙ h.comment;
@@ -467,7 +467,7 @@ close_goes t t1 t2 lines rest line played comments comments' from from' el e1 ec
         parts = ec' ∙ h.parts ∙ ap (λ (z : List ℕ). z ++ h.text) n.2 ∙ append_assoc n.0 n.1 h.text;
         from = ef ∙ n.3;
         spaced = spaced_append n.1 h.text n.4 h.spaced;
-        lead = ap (λ (z : List ℕ). joined z lead) n.5 ∙ ap (joined (normalised n.1)) h.lead ∙ sym (normalised_append n.1 h.text h.spaced);
+        lead = ap (λ (z : List ℕ). comments_joined z lead) n.5 ∙ ap (comments_joined (normalised n.1)) h.lead ∙ sym (normalised_append n.1 h.text h.spaced);
         pends = n.8;
       },
       record { start = refl; given = λ es. refl; few = λ es. ap (λ (n : ℕ). few_are_open n es) (less_one (length xs)) },
@@ -511,7 +511,7 @@ close_goes t t1 t2 lines rest line played comments comments' from from' el e1 ec
 pub ends_read : (t t1 t2 : TreeParts) (lines : List Interrupted) (played : Bool) (comments : List ℕ) (from : ℕ)
     → t1 ≡ said_here (normalised (drop (min from (length comments)) comments)) t → t2 ≡ at_path [] t1 → lines ≡ []
     → (start : State) (c : List ℕ) (f : Forest) (up : List ℕ) (l : Last) (here : State) (lead : List ℕ) (st : List Frame)
-    → Holds t lines played comments from (state start c f up l here lead st)
+    → HoldsReading t lines played comments from (state start c f up l here lead st)
     → (goes_on [] (state start c f up l here lead st) ≡ Some (t2.tree.comment, t2.tree.below)) × (t2.tree.start ≡ start) × (t2.path ≡ [])
 ends_read t t1 t2 lines played comments from e1 e2 el start c f up l here lead (x ∷ xs) h = absurd (no_frames h.outer x xs lines el h.pends)
 ends_read t t1 t2 lines played comments from e1 e2 el start c f up None here lead [] h =
@@ -528,7 +528,7 @@ ends_read t t1 t2 lines played comments from e1 e2 el start c f up (Some y) here
 -- ---- before any movetext
 
 pub remark_leads : (t : TreeParts) (lines : List Interrupted) (played : Bool) (comments comments' text : List ℕ) (from : ℕ) (start : State) (before : List ℕ)
-    → comments' ≡ comments ++ 32 ∷ text → Holds t lines played comments from (fresh start before) → Holds t lines played comments' from (fresh start (joined before (normalised text)))
+    → comments' ≡ comments ++ 32 ∷ text → HoldsReading t lines played comments from (fresh start before) → HoldsReading t lines played comments' from (fresh start (comments_joined before (normalised text)))
 remark_leads t lines played comments comments' text from start before e h = record {
   start = h.start;
   comment = h.comment;
@@ -546,7 +546,7 @@ remark_leads t lines played comments comments' text from start before e h = reco
   parts = e ∙ ap (λ (z : List ℕ). z ++ 32 ∷ text) h.parts ∙ append_assoc h.outer h.text (32 ∷ text);
   from = h.from;
   spaced = spaced_append h.text (32 ∷ text) h.spaced refl;
-  lead = ap (λ (z : List ℕ). joined z (normalised text)) h.lead ∙ sym (normalised_parted h.text text);
+  lead = ap (λ (z : List ℕ). comments_joined z (normalised text)) h.lead ∙ sym (normalised_parted h.text text);
   pends = h.pends;
 }
 
@@ -555,7 +555,7 @@ unfolding last
 starts_there start = refl
 
 pub begins_in : (t t' : TreeParts) (lines : List Interrupted) (played : Bool) (comments : List ℕ) (from : ℕ) (first start : State) (before : List ℕ)
-    → t' ≡ record { tree = record { start = start; comment = []; below = Bare }; path = [] } → Holds t lines played comments from (fresh first before) → Holds t' lines played comments from (fresh start before)
+    → t' ≡ record { tree = record { start = start; comment = []; below = Bare }; path = [] } → HoldsReading t lines played comments from (fresh first before) → HoldsReading t' lines played comments from (fresh start before)
 begins_in t t' lines played comments from first start before e h = record {
   start = ap (λ (z : TreeParts). z.tree.start) e;
   comment = ap (λ (z : TreeParts). z.tree.comment) e;
@@ -578,7 +578,7 @@ begins_in t t' lines played comments from first start before e h = record {
 }
 
 pub starts : (t : TreeParts) (lines : List Interrupted) (comments : List ℕ) (start : State)
-    → t ≡ record { tree = record { start = start; comment = []; below = Bare }; path = [] } → lines ≡ [] → comments ≡ [] → Holds t lines false comments 0 (fresh start [])
+    → t ≡ record { tree = record { start = start; comment = []; below = Bare }; path = [] } → lines ≡ [] → comments ≡ [] → HoldsReading t lines false comments 0 (fresh start [])
 starts t lines comments start e el ec = record {
   start = ap (λ (z : TreeParts). z.tree.start) e;
   comment = ap (λ (z : TreeParts). z.tree.comment) e;

@@ -2,13 +2,13 @@
 use Rattle.std.proofs.Common.{◌≡◌, ◌⊎◌, ℕ, ◌+◌, ◌-◌, Bool, false, List, [], ◌∷◌, ◌++◌, length, Option, Some, None, Ok, Err, refl, sym, ap, subst, ◌∙◌, arith, append_assoc, length-append}
 use Rattle.std.specs.Prelude.{Result}
 use mathlib.Core.Logic.{inl, inr}
-use Rattle.chess_types.specs.bytes.Calls.{joined}
+use Rattle.chess_types.specs.bytes.Calls.{Calls, joined}
 use Rattle.chess_types.proofs.CallLemmas.{Calls-append, joined-append}
 use Rattle.chess_pgn.specs.Games.{Game}
 use Rattle.chess_pgn.specs.Items as items
 use Rattle.chess_pgn.specs.Items.{IsItem, Item, Spells, is_outside, place_after}
 use Rattle.chess_pgn.specs.Reading.{IsAtFront, IsWhite}
-use Rattle.chess_pgn.specs.steps.GameAt.{NotCome}
+use Rattle.chess_pgn.specs.steps.GameAt.{HasStarved, NotCome}
 use Rattle.chess_pgn.specs.steps.ItemAt.{item_at}
 use Rattle.chess_pgn.specs.steps.Passing.{NotWhite, Passed, Passes}
 use Rattle.chess_pgn.specs.steps.ReaderCode.{IsNew, MayNotEnd, TakesItem, Unanswered}
@@ -30,7 +30,7 @@ use Rattle.chess_pgn.proofs.DarkLemmas.{dark_aground, dark_over, dark_refused, d
 use Rattle.chess_pgn.proofs.FrontLemmas.{whites_bare}
 use Rattle.chess_pgn.proofs.FoundLemmas.{the}
 use Rattle.chess_pgn.proofs.SpellLemmas.{place_behind}
-use Rattle.chess_pgn.proofs.TakingLemmas.{bare, spells_bare}
+use Rattle.chess_pgn.proofs.TakingLemmas.{bare, ended_after, spells_bare}
 use Rattle.chess_pgn.proofs.NoGameLemmas.{none_aground, none_out, none_over, none_refused}
 
 -- ---- why the reading stops
@@ -129,17 +129,9 @@ module _ {X A : Type 0} (comes : X → List ℕ → X → Type 0) (at_hand : X �
           dark_over (bare r.items) at whole rest hand behind (spelled r.items r.took) w (counted r.items r.took) (subst (λ (p : Place). Oversized (limit - at) p rest) (there r.items r.took) (r.exceeds.over more none)) parts
           (subst (λ (p : Place). white_after (Some (column_at p)) hand ≡ None) (there r.items r.took) other)
 
-  ended_still : (pieces : List (List ℕ)) (new : X) (at : ℕ) (place : Place) (white : Bool) (why : Stop) → AfterRun comes at_hand all sound size takes limit old pieces new t u at place white why → all old → (joined pieces ≡ []) × all new
-  ended_still pieces new at place white stop.Full r = r.took.at_end
-  ended_still pieces new at place white stop.Left r = r.took.at_end
-  ended_still pieces new at place white (stop.Refused why) r = r.took.at_end
-  ended_still pieces new at place white stop.End r = r.took.at_end
-  ended_still pieces new at place white stop.NoItem r = r.took.at_end
-  ended_still pieces new at place white stop.TooLarge r = r.took.at_end
-
   module _ (s : Stopped) (fault : PgnFault) (kind : fault.kind ≡ Memory → ⊥) (a : Unanswered s.why u fault) (mid : X) (r : Ran comes at_hand all sound size takes limit old mid t u (Ok s)) where
     still_there : all old → (joined r.pieces ≡ []) × all mid
-    still_there = ended_still r.pieces mid s.at s.place s.white s.why r.after
+    still_there = ended_after comes at_hand all sound size takes limit old t mid u r.pieces s.at s.place s.white s.why r.after
 
     here_none : (s.why ≡ stop.End → s.white ≡ false) → (s.why ≡ stop.TooLarge → s.white ≡ false) → sound mid → NotCome comes at_hand all sound old mid
     here_none end over well = record {
@@ -171,14 +163,30 @@ module _ {X A : Type 0} (comes : X → List ℕ → X → Type 0) (at_hand : X �
           still = λ e. let b = still_there e in let c = w.still b.1 in (joined-append r.pieces w.pieces ∙ ap (λ (z : List ℕ). z ++ joined w.pieces) b.0 ∙ c.0, c.1);
         }
 
-  pub no_game_come : (new : X) (found : Option Stopped) (s : Stopped) (fault : PgnFault) → Passes comes at_hand all sound size takes 1048576 old new t u (Ok found) → found ≡ Some s → Unanswered s.why u fault → sound new → (fault.kind ≡ Memory) ⊎ NotCome comes at_hand all sound old new
+  module _ (s : Stopped) (new : X) (p : Passed comes at_hand all sound size takes limit old new t u s) (well : sound new) where
+    still_mid : all old → (joined p.ran.pieces ≡ []) × all p.mid
+    still_mid = ended_after comes at_hand all sound size takes limit old t p.mid u p.ran.pieces s.at s.place s.white s.why p.ran.after
+
+    -- there was no memory for what was read
+    starved : HasStarved comes at_hand all sound old new
+    starved = elim p.after [
+      | inl same ↦ record { pieces = p.ran.pieces; came = subst (λ (x : X). Calls comes old p.ran.pieces x) (sym same.0) p.ran.came; still = λ h. ((still_mid h).0, subst all (sym same.0) (still_mid h).1, well) }
+      | inr w ↦ record {
+        pieces = p.ran.pieces ++ w.pieces;
+        came = Calls-append comes old p.mid new p.ran.pieces w.pieces p.ran.came w.came;
+        still = λ h. let b = still_mid h in (joined-append p.ran.pieces w.pieces ∙ ap (λ (z : List ℕ). z ++ joined w.pieces) b.0 ∙ (w.still b.1).0, (w.still b.1).1, well);
+      }
+    ]
+
+  pub no_game_come : (new : X) (found : Option Stopped) (s : Stopped) (fault : PgnFault) → Passes comes at_hand all sound size takes 1048576 old new t u (Ok found) → found ≡ Some s → Unanswered s.why u fault → sound new
+      → ((fault.kind ≡ Memory) × HasStarved comes at_hand all sound old new) ⊎ NotCome comes at_hand all sound old new
   no_game_come new found s fault h e a well = by (is_memory fault.kind)
     where
       p : Passed comes at_hand all sound size takes limit old new t u s
       p = subst (λ (o : Option Stopped). Passes comes at_hand all sound size takes limit old new t u (Ok o)) e h
 
-      by : (fault.kind ≡ Memory) ⊎ (fault.kind ≡ Memory → ⊥) → (fault.kind ≡ Memory) ⊎ NotCome comes at_hand all sound old new
-      by (inl k) = inl k
+      by : (fault.kind ≡ Memory) ⊎ (fault.kind ≡ Memory → ⊥) → ((fault.kind ≡ Memory) × HasStarved comes at_hand all sound old new) ⊎ NotCome comes at_hand all sound old new
+      by (inl k) = inl (k, starved s new p well)
       by (inr k) = inr (elim p.after [
         | inl same ↦ subst (λ (x : X). NotCome comes at_hand all sound old x) (sym same.0) (here_none s fault k a p.mid p.ran p.more same.1 (subst sound same.0 well))
         | inr w ↦ beyond_none s fault k a p.mid p.ran new w well

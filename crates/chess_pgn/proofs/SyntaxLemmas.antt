@@ -9,7 +9,7 @@ use Rattle.chess_types.specs.board.After.{after}
 use Rattle.chess_tree.specs.Forest.{Forest, Bare, Node, child}
 use Rattle.chess_san.specs.Naming.{reading}
 use Rattle.chess_san.specs.Writing.{san}
-use Rattle.chess_pgn.specs.Grammar.{Element, Open, Close, Text, Line, End, Skip, Annotate, Say, Play, Vary, Part, elements_of, joined, meaning, played, varied}
+use Rattle.chess_pgn.specs.Grammar.{Element, Open, Close, Text, Line, End, Skip, Annotate, Say, Play, Vary, Part, elements_of, comments_joined, meaning, with_move_first, varied}
 use Rattle.chess_pgn.specs.Written.{is_noted}
 use Rattle.chess_pgn.specs.steps.Hanging.{beside, below, plus, say}
 use Rattle.chess_pgn.proofs.ForestLemmas.{annotations_of, forest_elements, node_elements, numbers_of, remark_of}
@@ -106,7 +106,7 @@ AreNamed p Bare = Unit {0}
 AreNamed p (Node m nags comment below next) = (reading p (san p m) ≡ Ok m) × AreNamed (after p m) below × AreNamed p next
 
 node_means : (due : Bool) (p : State) (m : MoveParts) (nags comment : List ℕ) (l : Line) (before : Option State) (r : Part) → reading p (san p m) ≡ Ok m → meaning l (Some p) (after p m) ≡ Some r
-    → meaning (node_line due p m nags comment l) before p ≡ Some (played m (plus (annotated_part nags) (plus (say comment) r)))
+    → meaning (node_line due p m nags comment l) before p ≡ Some (with_move_first m (plus (annotated_part nags) (plus (say comment) r)))
 node_means due p m nags comment l before r named e =
     skipped_mean due p.side (Play (san p m) (annotations_line nags (remark_line comment l))) before p
     ∙ rw (named, annotations_mean nags (remark_line comment l) (Some p) (after p m) (plus (say comment) r) (remark_means comment l (Some p) (after p m) r e)) refl
@@ -132,10 +132,10 @@ both (Node m nags comment b next) p named =
           rw (node_means true p m nags comment (line_of false (is_noted nags comment) q b End) None (below b) named.0 (under.0 (is_noted nags comment) (Some p)), others.1 true rest here r e) (half r),
     )
   where
-    whole : some (played m (plus (annotated_part nags) (plus (say comment) (plus (beside next) (below b))))) ≡ some (below (Node m nags comment b next))
+    whole : some (with_move_first m (plus (annotated_part nags) (plus (say comment) (plus (beside next) (below b))))) ≡ some (below (Node m nags comment b next))
     whole = rw (append-nil nags, joined-nil comment, append-bare next) refl
 
-    half : (r : Part) → some (varied (Node m (nags ++ []) (joined comment []) b Bare) [] (plus (beside next) r)) ≡ some (plus (beside (Node m nags comment b next)) r)
+    half : (r : Part) → some (varied (Node m (nags ++ []) (comments_joined comment []) b Bare) [] (plus (beside next) r)) ≡ some (plus (beside (Node m nags comment b next)) r)
     half r = rw (append-nil nags, joined-nil comment) refl
 
 pub line_means : (f : Forest) (p : State) → AreNamed p f → (due : Bool) → meaning (line_of false due p f End) None p ≡ Some (below f)

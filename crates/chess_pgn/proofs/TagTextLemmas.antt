@@ -4,7 +4,7 @@ use Rattle.std.specs.List.{AllByRecursion}
 use Rattle.std.proofs.lemmas.Bool.{false≢true}
 use Rattle.std.proofs.lemmas.Bool.Decides.{nat_tests}
 use Rattle.chess_pgn.specs.Items as items
-use Rattle.chess_pgn.specs.Items.{Item, Each, Spells, Stops, in_line, is_digit, is_escapable, is_name_byte, is_outside, is_plain, place_after}
+use Rattle.chess_pgn.specs.Items.{Item, Each, Spells, EndsRun, in_line, is_digit, is_escapable, is_name_byte, is_outside, is_plain, place_after}
 use Rattle.chess_pgn.specs.Laws.{IsValue}
 use Rattle.chess_pgn.specs.Reading.{remarks}
 use Rattle.chess_pgn.specs.Tags.{AreBetween, AreTags, AreValueParts, IsTag, value_text}
@@ -27,7 +27,7 @@ record HasParts (value text : List ℕ) (tail : List Item) (rest : List ℕ) : T
   spelled : Spells InValue text (parts ++ tail) rest
 
 -- a run of plain bytes in front
-with_run : (run value text : List ℕ) (tail : List Item) (rest : List ℕ) → Each is_plain run → Stops is_plain text → HasParts value text tail rest → HasParts (run ++ value) (run ++ text) tail rest
+with_run : (run value text : List ℕ) (tail : List Item) (rest : List ℕ) → Each is_plain run → EndsRun is_plain text → HasParts value text tail rest → HasParts (run ++ value) (run ++ text) tail rest
 with_run [] value text tail rest each stops h = h
 with_run (b ∷ run) value text tail rest each stops h = record {
   parts = items.Stretch (b ∷ run) ∷ h.parts;
@@ -40,11 +40,11 @@ each_end : (p : ℕ → Bool) (run : List ℕ) (b : ℕ) → Each p run → p b 
 each_end p [] b each e = (e, tt)
 each_end p (x ∷ run) b each e = (each.0, each_end p run b each.1 e)
 
-quote_stops : (more : List ℕ) → Stops is_plain (34 ∷ more)
+quote_stops : (more : List ℕ) → EndsRun is_plain (34 ∷ more)
 unfolding is_plain
 quote_stops more = refl
 
-slash_stops : (more : List ℕ) → Stops is_plain (92 ∷ more)
+slash_stops : (more : List ℕ) → EndsRun is_plain (92 ∷ more)
 unfolding is_plain
 slash_stops more = refl
 
@@ -93,7 +93,7 @@ feed_blank : items.is_blank 10 ≡ true
 unfolding items.is_blank
 feed_blank = refl
 
-space_no_name : (more : List ℕ) → Stops is_name_byte (32 ∷ more)
+space_no_name : (more : List ℕ) → EndsRun is_name_byte (32 ∷ more)
 unfolding is_name_byte is_digit
 space_no_name more = refl
 

@@ -1,9 +1,10 @@
 -- Items are taken, one after another.
-use Rattle.std.proofs.Common.{◌≡◌, ℕ, ◌+◌, ◌-◌, ◌≤◌, arith, length-append, Bool, true, false, ◌&&◌, List, [], ◌∷◌, ◌++◌, length, refl, sym, ap, subst, ◌∙◌, append_assoc, Ok, Err}
+use Rattle.std.proofs.Common.{◌≡◌, ℕ, ◌+◌, ◌-◌, ◌≤◌, arith, length-append, Bool, true, false, ◌&&◌, List, [], ◌∷◌, ◌++◌, length, refl, sym, ap, subst, ◌∙◌, append_assoc, Ok}
 use Rattle.chess_types.specs.bytes.Calls.{Calls, joined}
 use Rattle.chess_types.proofs.CallLemmas.{Calls-append, joined-append}
 use Rattle.chess_pgn.specs.Items.{Item, Spells, is_white, place_after}
-use Rattle.chess_pgn.specs.steps.Taking.{TakesOne, SpellsFrom, Takes, behind, all_white, TakesItem, Rests, AfterStop, Steps, Took, AfterRun, Ran}
+use Rattle.chess_pgn.specs.steps.Taking.{TakesOne, SpellsFrom, Takes, behind, all_white, UsesItem, Rests, AfterStop, Steps, Took, AfterRun, Ran}
+use Rattle.chess_pgn.specs.steps.Texts.{BreaksOff}
 use Rattle.chess_pgn.specs.declared.at_hand.Fault.{Fault}
 use Rattle.chess_pgn.specs.declared.place.Place.{Place}
 use Rattle.chess_pgn.specs.declared.place.Place.TheVariants.{GameStart}
@@ -11,6 +12,7 @@ use Rattle.chess_pgn.specs.declared.taker.Taken.TheVariants.{GoesOn, Ends}
 use Rattle.chess_pgn.specs.declared.taking.Stop.{Stop}
 use Rattle.chess_pgn.specs.declared.taking.Stop.TheVariants as stop
 use Rattle.chess_pgn.specs.declared.taking.Step.TheVariants as step
+use Rattle.chess_pgn.proofs.BreakLemmas.{breaks_later}
 use Rattle.chess_pgn.proofs.FoundLemmas.{Taken, item_taken}
 
 pub behind-more : (place : Place) (items : List (ℕ × Item)) (x : ℕ × Item) → behind place (items ++ x ∷ []) ≡ place_after (behind place items) x.1
@@ -103,7 +105,7 @@ module _ {X T : Type 0} (comes : X → List ℕ → X → Type 0) (at_hand : X �
         let b = at_end a.1 in
         (rw (joined-append w.pieces ps, a.0) b.0, b.1)
 
-    module _ (item : Item) (used : ℕ) (one : TakesItem comes at_hand all sound size takes (limit - at) place now ps new item used) where
+    module _ (item : Item) (used : ℕ) (one : UsesItem comes at_hand all sound size takes (limit - at) place now ps new item used) where
       here : (more : List ℕ) → at + length (at_hand now ++ (joined ps ++ more)) ≡ 0 + length (at_hand old ++ (joined (w.pieces ++ ps) ++ more))
       here more =
           let a = length-append (at_hand now) (joined ps ++ more) in
@@ -193,9 +195,8 @@ module _ {X T : Type 0} (comes : X → List ℕ → X → Type 0) (at_hand : X �
       → Ran comes at_hand all sound size takes limit old new t v (Ok (record { why = stop.Full; at = at + used; place = next; white = white && is }))
   ran_ends at place white now new u v next used is w s = ran_full at place white now u w s.pieces new s.came s.after.0 used s.after.1 v next is s.after.2 s.after.3 s.after.4
 
-  pub ran_fault : (at : ℕ) (place : Place) (white : Bool) (now new : X) (u v : T) (e : Fault) → Underway at place white now u → Steps comes at_hand all sound size takes at (limit - at) place now new u v (Err e)
-      → Ran comes at_hand all sound size takes limit old new t v (Err e)
-  ran_fault at place white now new u v e w s = record { pieces = w.pieces ++ s.pieces; came = all_came at place white now u w s.pieces new s.came; after = tt }
+  pub ran_broken : (breaks : X → X → Type 0) (at : ℕ) (place : Place) (white : Bool) (now new : X) (u : T) (e : Fault) → Underway at place white now u → BreaksOff comes breaks all now new e → BreaksOff comes breaks all old new e
+  ran_broken breaks at place white now new u e w b = breaks_later comes breaks all old now new w.pieces w.came (λ h. (w.took.at_end h).1) e b
 
   pub goes_on : (at : ℕ) (place : Place) (white : Bool) (now new : X) (u v : T) (next : Place) (used : ℕ) (is : Bool) → Underway at place white now u → Steps comes at_hand all sound size takes at (limit - at) place now new u v (Ok (step.On next used is))
       → Underway (at + used) next (white && is) new v
@@ -217,3 +218,11 @@ module _ {X T : Type 0} (comes : X → List ℕ → X → Type 0) (at_hand : X �
   sound_after new u pieces at place white stop.End a = a.took.sound_still
   sound_after new u pieces at place white stop.NoItem a = a.took.sound_still
   sound_after new u pieces at place white stop.TooLarge a = a.took.sound_still
+
+  pub ended_after : (new : X) (u : T) (pieces : List (List ℕ)) (at : ℕ) (place : Place) (white : Bool) (why : Stop) → AfterRun comes at_hand all sound size takes limit old pieces new t u at place white why → all old → (joined pieces ≡ []) × all new
+  ended_after new u pieces at place white stop.Full a = a.took.at_end
+  ended_after new u pieces at place white stop.Left a = a.took.at_end
+  ended_after new u pieces at place white (stop.Refused fault) a = a.took.at_end
+  ended_after new u pieces at place white stop.End a = a.took.at_end
+  ended_after new u pieces at place white stop.NoItem a = a.took.at_end
+  ended_after new u pieces at place white stop.TooLarge a = a.took.at_end

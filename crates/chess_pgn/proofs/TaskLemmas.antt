@@ -15,7 +15,7 @@ use Rattle.chess_tree.specs.WellFormed.{AreSound}
 use Rattle.chess_pgn.specs.Written.{is_noted, moves_text, node_text}
 use Rattle.chess_pgn.specs.steps.Adding.{Adds}
 use Rattle.chess_pgn.specs.steps.Tasks.{Todo, Moves, Variations, Below, Close, Back, shortened, without_last, tasks_text, AreTasks}
-use Rattle.chess_pgn.specs.steps.TaskCode.{Steps, Done, returning, todo, todos}
+use Rattle.chess_pgn.specs.steps.TaskCode.{WritesSome, Done, returning, todo, todos}
 use Rattle.chess_pgn.proofs.AddLemmas.{adds_none, adds_on, adds_same}
 use Rattle.chess_pgn.specs.declared.lines.Lines.{Lines}
 use Rattle.chess_pgn.specs.declared.movetext.Task.{Task}
@@ -37,7 +37,7 @@ text_whole line l1 l2 l3 m text bytes mark bytes2 e1 e2 e3 whole e5 e6 e7 =
     ap (λ (b : List ℕ). b ++ bytes2) e5 ∙ ap (λ (b : List ℕ). text ++ b) (e6 ∙ e7 ∙ k) ∙ whole ∙ ap (λ (l : Line). san (last l) m) e1
 
 -- the end of a variation
-pub step_close : {A E : Type 0} (r : Result (Unit {0}) E) (old new : Lines A) (line : Line) (ts : List Todo) → AreTasks line ts → OnOk r (Adds old new (codes ")")) → OnOk r (Steps old new line line (Close ∷ ts) ts)
+pub step_close : {A E : Type 0} (r : Result (Unit {0}) E) (old new : Lines A) (line : Line) (ts : List Todo) → AreTasks line ts → OnOk r (Adds old new (codes ")")) → OnOk r (WritesSome old new line line (Close ∷ ts) ts)
 step_close (Ok x) old new line ts are adds = record { more = codes ")"; adds = adds; text = refl; tasks = are; smaller = omega arith }
 step_close (Err x) old new line ts are adds = tt
 
@@ -50,7 +50,7 @@ popped (Some m) line line' e = sym (ap shortened e ∙ shortened_extended line' 
 
 -- a move taken back
 pub step_back : {A : Type 0} (lines : Lines A) (o : Option MoveParts) (line line' : Line) (ts : List Todo) → AreTasks (shortened line) ts → MatchOption o ((line.moves ≡ []) × (line' ≡ line)) (λ m. line ≡ extended line' m)
-    → Adds lines lines [] → Steps lines lines line line' (Back ∷ ts) ts
+    → Adds lines lines [] → WritesSome lines lines line line' (Back ∷ ts) ts
 step_back lines o line line' ts are e adds =
     let same = popped o line line' e in
     record { more = []; adds = adds; text = ap (λ (l : Line). tasks_text l ts) (sym same); tasks = subst (λ (l : Line). AreTasks l ts) (sym same) are; smaller = omega arith }
@@ -103,7 +103,7 @@ three x y z t = append_assoc x (y ++ z) t ∙ ap (λ (s : List ℕ). x ++ s) (ap
 -- a first node of a line, what is below it, and the others
 pub step_moves : {A : Type 0} (old new : Lines A) (line : Line) (ts : List Todo) (f : Forest) (due : Bool) (m : MoveParts) (nags comment : List ℕ) (below rest : Forest) (due_below : Bool)
     → First f m nags comment below rest → due_below ≡ is_noted nags comment || not (is_none (child 0 rest)) → AreTasks line (Moves f due ∷ ts)
-    → Adds old new (node_text (codes " ") due (last line) m nags comment) → Steps old new line line (Moves f due ∷ ts) (Variations rest ∷ Below m below due_below ∷ ts)
+    → Adds old new (node_text (codes " ") due (last line) m nags comment) → WritesSome old new line line (Moves f due ∷ ts) (Variations rest ∷ Below m below due_below ∷ ts)
 step_moves old new line ts f due m nags comment below rest due_below first e are adds =
     let p = last line in
     let a : AreTasks line (Moves (Node m nags comment below rest) due ∷ ts) = subst (λ (x : Forest). AreTasks line (Moves x due ∷ ts)) first.is are in
@@ -122,7 +122,7 @@ four x y z u t = append_assoc x (y ++ (z ++ u)) t ∙ ap (λ (s : List ℕ). x +
 -- a first variation, what is below its move, and the others
 pub step_variation : {A : Type 0} (old new : Lines A) (line : Line) (ts : List Todo) (f : Forest) (m : MoveParts) (nags comment : List ℕ) (below rest : Forest) (due_below : Bool)
     → First f m nags comment below rest → due_below ≡ is_noted nags comment → AreTasks line (Variations f ∷ ts)
-    → Adds old new (node_text (codes " (") true (last line) m nags comment) → Steps old new line (extended line m) (Variations f ∷ ts) (Moves below due_below ∷ Back ∷ Close ∷ Variations rest ∷ ts)
+    → Adds old new (node_text (codes " (") true (last line) m nags comment) → WritesSome old new line (extended line m) (Variations f ∷ ts) (Moves below due_below ∷ Back ∷ Close ∷ Variations rest ∷ ts)
 step_variation old new line ts f m nags comment below rest due_below first e are adds =
     let p = last line in
     let next = extended line m in
@@ -142,7 +142,7 @@ step_variation old new line ts f m nags comment below rest due_below first e are
 
 -- what is below a move that is made
 step_below : {A : Type 0} (lines : Lines A) (line : Line) (ts : List Todo) (m : MoveParts) (nodes : Forest) (due : Bool) → AreTasks line (Below m nodes due ∷ ts) → Adds lines lines []
-    → Steps lines lines line (extended line m) (Below m nodes due ∷ ts) (Moves nodes due ∷ Back ∷ ts)
+    → WritesSome lines lines line (extended line m) (Below m nodes due ∷ ts) (Moves nodes due ∷ Back ∷ ts)
 step_below lines line ts m nodes due are adds =
     let next = extended line m in
     let here : last next ≡ after (last line) m = last_extended line m in
@@ -157,7 +157,7 @@ step_below lines line ts m nodes due are adds =
 
 -- the same where nothing is behind it
 step_last : {A : Type 0} (lines : Lines A) (line : Line) (m : MoveParts) (nodes : Forest) (due : Bool) → AreTasks line (Below m nodes due ∷ []) → Adds lines lines []
-    → Steps lines lines line (extended line m) (Below m nodes due ∷ []) (Moves nodes due ∷ [])
+    → WritesSome lines lines line (extended line m) (Below m nodes due ∷ []) (Moves nodes due ∷ [])
 step_last lines line m nodes due are adds =
     let here : last (extended line m) ≡ after (last line) m = last_extended line m in
     record {
@@ -169,12 +169,12 @@ step_last lines line m nodes due are adds =
     }
 
 pub step_made : {A : Type 0} (lines : Lines A) (line : Line) (items : List (Task A)) (m : MoveParts) (nodes : Forest) (due : Bool) → AreTasks line (Below m nodes due ∷ todos items) → Adds lines lines []
-    → Steps lines lines line (extended line m) (Below m nodes due ∷ todos items) (Moves nodes due ∷ returning items)
+    → WritesSome lines lines line (extended line m) (Below m nodes due ∷ todos items) (Moves nodes due ∷ returning items)
 step_made lines line [] m nodes due are adds = step_last lines line m nodes due are adds
 step_made lines line (t ∷ ts) m nodes due are adds = step_below lines line (todos (t ∷ ts)) m nodes due are adds
 
 -- one step and another
-steps_then : {A : Type 0} (old mid new : Lines A) (line line1 line2 : Line) (ts ts1 ts2 : List Todo) → Steps old mid line line1 ts ts1 → Steps mid new line1 line2 ts1 ts2 → Steps old new line line2 ts ts2
+steps_then : {A : Type 0} (old mid new : Lines A) (line line1 line2 : Line) (ts ts1 ts2 : List Todo) → WritesSome old mid line line1 ts ts1 → WritesSome mid new line1 line2 ts1 ts2 → WritesSome old new line line2 ts ts2
 steps_then old mid new line line1 line2 ts ts1 ts2 s t = record {
   more = s.more ++ t.more;
   adds = adds_on old mid new s.more t.more s.adds t.adds;
@@ -189,20 +189,20 @@ returning_pushed [] t = refl
 returning_pushed (u ∷ items) t = refl
 
 -- the next nodes are none
-pub step_none : {A : Type 0} (lines : Lines A) (line : Line) (ts : List Todo) (f : Forest) (due : Bool) → None ≡ child 0 f → AreTasks line (Moves f due ∷ ts) → Adds lines lines [] → Steps lines lines line line (Moves f due ∷ ts) ts
+pub step_none : {A : Type 0} (lines : Lines A) (line : Line) (ts : List Todo) (f : Forest) (due : Bool) → None ≡ child 0 f → AreTasks line (Moves f due ∷ ts) → Adds lines lines [] → WritesSome lines lines line line (Moves f due ∷ ts) ts
 step_none lines line ts f due e are adds =
     let bare = no_nodes f e in
     record { more = []; adds = adds; text = rw bare refl; tasks = are.2; smaller = omega arith }
 
 -- the line and the tasks under other names
-pub steps_as : {A : Type 0} (old new : Lines A) (line line1 line2 : Line) (ts ts1 ts2 : List Todo) → line2 ≡ line1 → ts2 ≡ ts1 → Steps old new line line1 ts ts1 → Steps old new line line2 ts ts2
+pub steps_as : {A : Type 0} (old new : Lines A) (line line1 line2 : Line) (ts ts1 ts2 : List Todo) → line2 ≡ line1 → ts2 ≡ ts1 → WritesSome old new line line1 ts ts1 → WritesSome old new line line2 ts ts2
 steps_as old new line line1 line2 ts ts1 ts2 e h s =
-    subst (λ (l : Line). Steps old new line l ts ts2) (sym e) (subst (λ (x : List Todo). Steps old new line line1 ts x) (sym h) s)
+    subst (λ (l : Line). WritesSome old new line l ts ts2) (sym e) (subst (λ (x : List Todo). WritesSome old new line line1 ts x) (sym h) s)
 
 pub todos_push : {A : Type 0} (items : List (Task A)) (t : Task A) → todos (items ++ t ∷ []) ≡ todo t ∷ todos items
 todos_push {A} items t = ap (λ (x : List (Task A)). map todo x) (reverse-append items (t ∷ []))
 
-pub no_variations : {A : Type 0} (lines : Lines A) (line : Line) (ts : List Todo) (f : Forest) → None ≡ child 0 f → AreTasks line (Variations f ∷ ts) → Adds lines lines [] → Steps lines lines line line (Variations f ∷ ts) ts
+pub no_variations : {A : Type 0} (lines : Lines A) (line : Line) (ts : List Todo) (f : Forest) → None ≡ child 0 f → AreTasks line (Variations f ∷ ts) → Adds lines lines [] → WritesSome lines lines line line (Variations f ∷ ts) ts
 no_variations lines line ts f e are adds =
     let bare = no_nodes f e in
     record { more = []; adds = adds; text = rw bare refl; tasks = are.2; smaller = omega arith }
@@ -210,7 +210,7 @@ no_variations lines line ts f e are adds =
 -- the only one of some nodes, whose move is made
 pub step_only : {A : Type 0} (old new : Lines A) (line : Line) (items : List (Task A)) (f : Forest) (due : Bool) (m : MoveParts) (nags comment : List ℕ) (below rest : Forest) (due_below : Bool)
     → First f m nags comment below rest → None ≡ child 0 rest → due_below ≡ is_noted nags comment || not (is_none (child 0 rest)) → AreTasks line (Moves f due ∷ todos items)
-    → Adds old new (node_text (codes " ") due (last line) m nags comment) → Steps old new line (extended line m) (Moves f due ∷ todos items) (Moves below due_below ∷ returning items)
+    → Adds old new (node_text (codes " ") due (last line) m nags comment) → WritesSome old new line (extended line m) (Moves f due ∷ todos items) (Moves below due_below ∷ returning items)
 step_only {A} old new line items f due m nags comment below rest due_below first none e are adds =
     let ts = todos items in
     let one = step_moves old new line ts f due m nags comment below rest due_below first e are adds in
@@ -239,9 +239,9 @@ pub none_is : {A : Type 0} (o : Option A) (b : Bool) → b ≡ is_none o → b �
 none_is None b e h = refl
 none_is (Some x) b e h = absurd (let k : true ≡ false = sym h ∙ e in cc)
 
-pub steps_on : {A E : Type 0} (r : Result (Unit {0}) E) (old new1 new2 : Lines A) (line line1 line2 : Line) (ts ts1 ts2 : List Todo) → new2 ≡ new1 → OnOk r (line2 ≡ line1) → OnOk r (ts2 ≡ ts1) → Steps old new1 line line1 ts ts1
-    → OnOk r (Steps old new2 line line2 ts ts2)
-steps_on {A} (Ok u) old new1 new2 line line1 line2 ts ts1 ts2 e h k s = subst (λ (x : Lines A). Steps old x line line2 ts ts2) (sym e) (steps_as old new1 line line1 line2 ts ts1 ts2 h k s)
+pub steps_on : {A E : Type 0} (r : Result (Unit {0}) E) (old new1 new2 : Lines A) (line line1 line2 : Line) (ts ts1 ts2 : List Todo) → new2 ≡ new1 → OnOk r (line2 ≡ line1) → OnOk r (ts2 ≡ ts1) → WritesSome old new1 line line1 ts ts1
+    → OnOk r (WritesSome old new2 line line2 ts ts2)
+steps_on {A} (Ok u) old new1 new2 line line1 line2 ts ts1 ts2 e h k s = subst (λ (x : Lines A). WritesSome old x line line2 ts ts2) (sym e) (steps_as old new1 line line1 line2 ts ts1 ts2 h k s)
 steps_on (Err u) old new1 new2 line line1 line2 ts ts1 ts2 e h k s = tt
 
 -- ---- all the tasks
@@ -249,7 +249,7 @@ steps_on (Err u) old new1 new2 line line1 line2 ts ts1 ts2 e h k s = tt
 pub done_none : {A : Type 0} (lines : Lines A) (line : Line) (ts : List Todo) → AreTasks line ts → Adds lines lines [] → Done lines lines line line ts ts
 done_none lines line ts are adds = record { more = []; adds = adds; text = refl; tasks = are }
 
-pub done_on : {A : Type 0} (old mid new : Lines A) (line line1 line2 : Line) (ts ts1 ts2 : List Todo) → Done old mid line line1 ts ts1 → Steps mid new line1 line2 ts1 ts2 → Done old new line line2 ts ts2
+pub done_on : {A : Type 0} (old mid new : Lines A) (line line1 line2 : Line) (ts ts1 ts2 : List Todo) → Done old mid line line1 ts ts1 → WritesSome mid new line1 line2 ts1 ts2 → Done old new line line2 ts ts2
 done_on old mid new line line1 line2 ts ts1 ts2 d s = record {
   more = d.more ++ s.more;
   adds = adds_on old mid new d.more s.more d.adds s.adds;

@@ -1,7 +1,7 @@
 -- What is white byte by byte is white items.
 use Rattle.std.proofs.Common.{◌≡◌, ℕ, ◌+◌, Bool, true, false, not, cond, eqb, List, [], ◌∷◌, ◌++◌, length, Option, Some, None, is_some, refl, sym, ap, subst, ◌∙◌}
 use Rattle.std.proofs.lemmas.Bool.{eqb-true}
-use Rattle.chess_pgn.specs.Items.{Blank, Hidden, IsItem, IsLine, behind_blank, is_blank, is_in_tag, is_outside, starts_line}
+use Rattle.chess_pgn.specs.Items.{Blank, Hidden, IsItem, IsToLineEnd, behind_blank, is_blank, is_in_tag, is_outside, starts_line}
 use Rattle.chess_pgn.specs.steps.Skipping.{white_byte, white_after, column_at}
 use Rattle.chess_pgn.specs.steps.Passing.{AreWhite}
 use Rattle.chess_pgn.specs.steps.Taking.{SpellsFrom}
@@ -15,7 +15,7 @@ record Rest (bytes : List ℕ) : Type 0 where
   line : List ℕ
   next : List ℕ
   parts : bytes ≡ line ++ next
-  is_line : IsLine line next
+  is_line : IsToLineEnd line next
   white : (at : ℕ) → AreWhite at InLine next
 
 abbrev Seen : Column → List ℕ → Type 0
@@ -56,7 +56,7 @@ feed_white at place b bytes out e seen = blank_white at place b bytes true out (
 space_white : (at : ℕ) (place : Place) (b : ℕ) (bytes : List ℕ) → is_outside place ≡ true → eqb b 10 ≡ false → is_blank b ≡ true → Seen column.Later bytes → AreWhite at place (b ∷ bytes)
 space_white at place b bytes out e blank seen = blank_white at place b bytes false out blank e (seen (at + 1) InLine refl)
 
-hidden_stands : (place : Place) (line next : List ℕ) → starts_line place ≡ true → IsLine line next → IsItem place Hidden (37 ∷ line) next
+hidden_stands : (place : Place) (line next : List ℕ) → starts_line place ≡ true → IsToLineEnd line next → IsItem place Hidden (37 ∷ line) next
 hidden_stands place line next starts l = record { stands = starts; spelled = (line, refl, l) }
 
 -- a hidden line in front

@@ -76,10 +76,10 @@ few_are_open n (Text word ∷ es) = few_are_open n es
 -- ---- meaning
 
 -- two comments of one move, one after the other
-abbrev pub joined : List ℕ → List ℕ → List ℕ
-joined [] other = other
-joined (b ∷ text) [] = b ∷ text
-joined (b ∷ text) (c ∷ other) = (b ∷ text) ++ 32 ∷ c ∷ other
+abbrev pub comments_joined : List ℕ → List ℕ → List ℕ
+comments_joined [] other = other
+comments_joined (b ∷ text) [] = b ∷ text
+comments_joined (b ∷ text) (c ∷ other) = (b ∷ text) ++ 32 ∷ c ∷ other
 
 -- Annotations and a comment of the move before, further children beside it, and what follows it.
 pub record Part : Type 0 where
@@ -92,28 +92,28 @@ abbrev pub nothing : Part
 nothing = record { nags = []; comment = []; beside = Bare; below = Bare }
 
 -- an annotation number in front of the others
-abbrev pub annotated : ℕ → Part → Part
-annotated n r = record { nags = n ∷ r.nags; comment = r.comment; beside = r.beside; below = r.below }
+abbrev pub with_annotation : ℕ → Part → Part
+with_annotation n r = record { nags = n ∷ r.nags; comment = r.comment; beside = r.beside; below = r.below }
 
 -- a comment in front of the others
 abbrev pub said : List ℕ → Part → Part
-said text r = record { nags = r.nags; comment = joined text r.comment; beside = r.beside; below = r.below }
+said text r = record { nags = r.nags; comment = comments_joined text r.comment; beside = r.beside; below = r.below }
 
 -- a move, with what its line has after it
-abbrev pub played : MoveParts → Part → Part
-played m r = record { nags = []; comment = []; beside = Bare; below = Node m r.nags r.comment r.below r.beside }
+abbrev pub with_move_first : MoveParts → Part → Part
+with_move_first m r = record { nags = []; comment = []; beside = Bare; below = Node m r.nags r.comment r.below r.beside }
 
 -- a comment in front of the first move's
-abbrev pub in_front : List ℕ → Forest → Forest
-in_front text Bare = Bare
-in_front text (Node m nags comment below next) = Node m nags (joined text comment) below next
+abbrev pub with_opening_comment : List ℕ → Forest → Forest
+with_opening_comment text Bare = Bare
+with_opening_comment text (Node m nags comment below next) = Node m nags (comments_joined text comment) below next
 
 -- A variation: its moves, with the comments before the first of them in front of that move's. One without a move is dropped, and its comments
 -- go to the move before it. Annotations before its first move are ignored.
 abbrev pub varied : Forest → List ℕ → Part → Part
 varied Bare text r = said text r
 varied (Node m nags comment below next) text r =
-    record { nags = r.nags; comment = r.comment; beside = append (in_front text (Node m nags comment below next)) r.beside; below = r.below }
+    record { nags = r.nags; comment = r.comment; beside = append (with_opening_comment text (Node m nags comment below next)) r.beside; below = r.below }
 
 -- the rest, where the first part has a meaning
 infixl 10 ◌>>=◌
@@ -121,22 +121,22 @@ abbrev pub ◌>>=◌ : {A B : Type 0} → Option A → (A → Option B) → Opti
 (Some x) >>= next = next x
 None >>= next = None
 
-abbrev pub move_or_none : Result MoveParts SanFault → Option MoveParts
-move_or_none (Ok m) = Some m
-move_or_none (Err fault) = None
+abbrev pub ok_move : Result MoveParts SanFault → Option MoveParts
+ok_move (Ok m) = Some m
+ok_move (Err fault) = None
 
 -- the move that a text names (PGN 8.2.3)
 abbrev pub move_in : State → List ℕ → Option MoveParts
-move_in p word = move_or_none (reading p word)
+move_in p word = ok_move (reading p word)
 
 -- There is no position before the last move where the line has none so far; no variation may stand there.
 abbrev pub meaning : Line → Option State → State → Option Part
 meaning End before here = Some nothing
 meaning (Skip line) before here = meaning line before here
-meaning (Annotate n line) before here = meaning line before here >>= λ r. Some (annotated n r)
+meaning (Annotate n line) before here = meaning line before here >>= λ r. Some (with_annotation n r)
 meaning (Say text line) before here = meaning line before here >>= λ r. Some (said text r)
 meaning (Play word line) before here =
-    move_in here word >>= λ m. meaning line (Some here) (after here m) >>= λ r. Some (played m r)
+    move_in here word >>= λ m. meaning line (Some here) (after here m) >>= λ r. Some (with_move_first m r)
 meaning (Vary variation line) None here = None
 meaning (Vary variation line) (Some p) here =
     meaning variation None p >>= λ v. meaning line (Some p) here >>= λ r. Some (varied v.below v.comment r)
@@ -148,5 +148,5 @@ pub record Derives (es : List Element) (start : State) (before comment : List �
   pub spelled : es ≡ elements_of line
   pub part : Part
   pub means : meaning line None start ≡ Some part
-  pub remarks : comment ≡ joined before part.comment
+  pub remarks : comment ≡ comments_joined before part.comment
   pub tree : moves ≡ part.below

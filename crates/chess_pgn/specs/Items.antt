@@ -186,20 +186,20 @@ abbrev pub Each : (ℕ → Bool) → List ℕ → Type 0
 Each p = AllByRecursion (λ b. p b ≡ true)
 
 -- no byte that passes comes next
-abbrev pub Stops : (ℕ → Bool) → List ℕ → Type 0
-Stops p [] = ⊤
-Stops p (b ∷ bs) = p b ≡ false
+abbrev pub EndsRun : (ℕ → Bool) → List ℕ → Type 0
+EndsRun p [] = ⊤
+EndsRun p (b ∷ bs) = p b ≡ false
 
 -- a longest run
 pub record IsRun (p : ℕ → Bool) (text next : List ℕ) : Type 0 where
   pub some : text ≢ []
   pub each : Each p text
-  pub stops : Stops p next
+  pub stops : EndsRun p next
 
 -- a line, up to its end
-pub record IsLine (line next : List ℕ) : Type 0 where
+pub record IsToLineEnd (line next : List ℕ) : Type 0 where
   pub each : Each in_line line
-  pub stops : Stops in_line next
+  pub stops : EndsRun in_line next
 
 -- what a backslash stands before in a value
 abbrev pub is_escapable : ℕ → Bool
@@ -208,10 +208,10 @@ is_escapable b = b == byte "\"" || b == byte "\\"
 abbrev pub IsSpelled : Item → List ℕ → List ℕ → Type 0
 IsSpelled Mark text next = text ≡ 239 ∷ 187 ∷ 191 ∷ []
 IsSpelled (Blank b) text next = (is_blank b ≡ true) × (text ≡ b ∷ [])
-IsSpelled Hidden text next = (line : List ℕ) × (text ≡ byte "%" ∷ line) × IsLine line next
+IsSpelled Hidden text next = (line : List ℕ) × (text ≡ byte "%" ∷ line) × IsToLineEnd line next
 IsSpelled (Comment t) text next =
     ((text ≡ byte "{" ∷ t ++ byte "}" ∷ []) × Each in_braces t)
-    ⊎ ((line : List ℕ) × (text ≡ byte ";" ∷ line) × IsLine line next × (t ≡ map without_brace line))
+    ⊎ ((line : List ℕ) × (text ≡ byte ";" ∷ line) × IsToLineEnd line next × (t ≡ map without_brace line))
 IsSpelled Skipped text next = (text ≡ codes ".") ⊎ (IsRun is_word_byte text next × (word_item text ≡ Skipped))
 IsSpelled (Word w) text next = IsRun is_word_byte text next × (word_item text ≡ Word w)
 IsSpelled (Nag n) text next =
@@ -224,7 +224,7 @@ IsSpelled TagOpen text next = text ≡ codes "["
 IsSpelled TagClose text next = text ≡ codes "]"
 IsSpelled (Name name) text next = IsRun is_name_byte text next × (name ≡ text)
 IsSpelled Quote text next = text ≡ codes "\""
-IsSpelled (Stretch t) text next = (t ≡ text) × (IsRun is_plain text next ⊎ ((text ≡ codes "\\") × Stops is_escapable next))
+IsSpelled (Stretch t) text next = (t ≡ text) × (IsRun is_plain text next ⊎ ((text ≡ codes "\\") × EndsRun is_escapable next))
 IsSpelled (Escaped b) text next = (is_escapable b ≡ true) × (text ≡ byte "\\" ∷ b ∷ [])
 
 pub record IsItem (place : Place) (item : Item) (text next : List ℕ) : Type 0 where

@@ -17,7 +17,7 @@ use Rattle.std.specs.Str.{byte}
 use Rattle.chess_tree.specs.Comments.{normalised}
 use Rattle.chess_tree.specs.Forest.{height, moves_held}
 use Rattle.chess_pgn.specs.Games.{Game}
-use Rattle.chess_pgn.specs.Grammar.{Derives, elements, few_are_open, joined}
+use Rattle.chess_pgn.specs.Grammar.{Derives, elements, few_are_open, comments_joined}
 use Rattle.chess_pgn.specs.Items as items
 use Rattle.chess_pgn.specs.Items.{Item, Spells, is_white}
 use Rattle.chess_pgn.specs.Tags.{AreTags, HasTags, start_in}
@@ -49,7 +49,7 @@ is_movetext (items.Escaped b) = false
 is_movetext _ = true
 
 abbrev pub lead_after : List ℕ → Item → List ℕ
-lead_after lead (items.Comment text) = joined lead (normalised text)
+lead_after lead (items.Comment text) = comments_joined lead (normalised text)
 lead_after lead _ = lead
 
 abbrev pub remarks : List ℕ → List Item → List ℕ

@@ -19,13 +19,13 @@ use Rattle.chess_pgn.specs.Items.{Item, Blank, Hidden, Comment, TagOpen, TagClos
 -- ---- a tag
 
 -- what may stand between the parts of a tag
-abbrev pub is_gap : Item → Bool
-is_gap (Blank b) = true
-is_gap Hidden = true
-is_gap _ = false
+abbrev pub is_tag_gap : Item → Bool
+is_tag_gap (Blank b) = true
+is_tag_gap Hidden = true
+is_tag_gap _ = false
 
 abbrev pub AreGaps : List Item → Type 0
-AreGaps = AllByRecursion (λ item. is_gap item ≡ true)
+AreGaps = AllByRecursion (λ item. is_tag_gap item ≡ true)
 
 -- a value stands in stretches, and bytes behind a backslash
 abbrev pub is_value_part : Item → Bool
@@ -59,12 +59,12 @@ pub record IsTag (items : List Item) (name value : List ℕ) : Type 0 where
 -- ---- tags
 
 -- what may stand between tags: white space and comments
-abbrev pub is_between : Item → Bool
-is_between (Comment text) = true
-is_between item = is_white item
+abbrev pub may_part_tags : Item → Bool
+may_part_tags (Comment text) = true
+may_part_tags item = is_white item
 
 abbrev pub AreBetween : List Item → Type 0
-AreBetween = AllByRecursion (λ item. is_between item ≡ true)
+AreBetween = AllByRecursion (λ item. may_part_tags item ≡ true)
 
 -- these tags, one after another, and nothing else but what may stand between them
 abbrev pub AreTags : List Item → List (List ℕ × List ℕ) → Type 0

@@ -69,8 +69,9 @@ fn make_buffer<A: Allocator>(alloc: A, buffer: &mut Vec<u8, A>) -> Result<(), Fa
 }
 
 impl<'a, R: Source, A: Allocator> AtHand<'a, R, A> {
-    ghost use Rattle.chess_pgn.specs.Sources.{unread};
+    ghost use Rattle.chess_pgn.specs.Sources.{Breaks, Came, unread};
     ghost use Rattle.chess_pgn.specs.steps.AtHands.{Reads, Readied, Refilled};
+    ghost use Rattle.chess_pgn.specs.steps.Texts.{BreaksOff};
 
     /// The source, nothing of which is at hand.
     pub fn new(alloc: &'a A, source: R) -> AtHand<'a, R, A>
@@ -135,7 +136,8 @@ impl<'a, R: Source, A: Allocator> AtHand<'a, R, A> {
     /// hand and don't decide it.
     pub fn read_until_decided(&mut self, place: Place, most: usize) -> Result<bool, Fault>
         requires ended { self.old.has_ended ≡ true → R.ended self.old.source }
-        ensures { Readied R.gives R.ended R.failed most place self.old self.new result }
+        ensures readied { Readied R.gives R.ended R.failed most place self.old self.new result }
+        ensures broken { IfErr result (λ fault. BreaksOff (λ s bytes t. Came R.gives R.failed s bytes t) (λ s t. Breaks R.gives R.failed s t) (λ s. s.has_ended ≡ true) self.old self.new fault) }
     {
         let mut looked = 0;
         while !self.has_ended && is_undecided(place, self.unread(), looked) {
@@ -145,7 +147,9 @@ impl<'a, R: Source, A: Allocator> AtHand<'a, R, A> {
             if self.reads == 0 {
                 return Err(Fault::Read);
             }
-            make_buffer(*self.bytes.allocator(), &mut self.buffer)?;
+            if let Err(fault) = make_buffer(*self.bytes.allocator(), &mut self.buffer) {
+                return Err(fault);
+            }
             looked = self.unread().len();
             if let Err(fault) = self.read_on() {
                 return Err(fault);
@@ -157,7 +161,8 @@ impl<'a, R: Source, A: Allocator> AtHand<'a, R, A> {
     /// Uses all bytes at hand, and reads once. False where the source has ended.
     pub fn refill(&mut self) -> Result<bool, Fault>
         requires ended { self.old.has_ended ≡ true → R.ended self.old.source }
-        ensures { Refilled R.gives R.ended R.failed self.old self.new result }
+        ensures refilled { Refilled R.gives R.ended R.failed self.old self.new result }
+        ensures broken { IfErr result (λ fault. BreaksOff (λ s bytes t. Came R.gives R.failed s bytes t) (λ s t. Breaks R.gives R.failed s t) (λ s. s.has_ended ≡ true) self.old self.new fault) }
     {
         self.keep(0);
         if self.has_ended {
@@ -166,7 +171,9 @@ impl<'a, R: Source, A: Allocator> AtHand<'a, R, A> {
         if self.reads == 0 {
             return Err(Fault::Read);
         }
-        make_buffer(*self.bytes.allocator(), &mut self.buffer)?;
+        if let Err(fault) = make_buffer(*self.bytes.allocator(), &mut self.buffer) {
+            return Err(fault);
+        }
         if let Err(fault) = self.read_on() {
             return Err(fault);
         }

@@ -1,7 +1,8 @@
 //! White space and hidden lines, read on without being kept.
 
-ghost use Rattle.std.specs.Prelude.{◌≡◌, Some};
+ghost use Rattle.std.specs.Prelude.{◌≡◌, Some, IfErr};
 ghost use Rattle.chess_pgn.specs.steps.Skipping.{Skips, column_at, white_after, white_byte, white_next};
+ghost use Rattle.chess_pgn.specs.steps.Texts.{BreaksOff};
 
 use crate::at_hand::Fault;
 use crate::class::is_blank;
@@ -60,7 +61,8 @@ fn after(column: Column, bytes: &[u8]) -> Option<Column>
 /// Reads on over white space and hidden lines, from that place, and keeps nothing. Whether nothing else comes before the text ends.
 pub fn skip_white<X: Text>(text: &mut X, place: Place) -> Result<bool, Fault>
     requires { X.sound text.old }
-    ensures { Skips X.comes X.at_hand X.all X.sound place text.old text.new result }
+    ensures skips { Skips X.comes X.at_hand X.all X.sound place text.old text.new result }
+    ensures broken { IfErr result (λ fault. BreaksOff X.comes X.breaks X.all text.old text.new fault) }
 {
     let mut column = column_at(place);
     loop {

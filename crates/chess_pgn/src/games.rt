@@ -1,10 +1,9 @@
 //! Games of a text or of a source, one after another.
 
 ghost use Rattle.std.specs.Prelude.{◌≡◌, ◌⊎◌, ℕ, false, [], true, Some, None, Ok, Err, IfErr, IfOk, IfSome};
-ghost use Rattle.chess_types.specs.bytes.Calls.{Carries};
 ghost use Rattle.chess_pgn.specs.Games as games;
 ghost use Rattle.chess_pgn.specs.Reading.{HasNoGame, IsAnswered, IsAtFront, IsWhite};
-ghost use Rattle.chess_pgn.specs.Sources.{HasFault, HasGame, HasNone, unread};
+ghost use Rattle.chess_pgn.specs.Sources.{Breaks, Came, HasFault, HasGame, HasNone, unread};
 ghost use Rattle.chess_pgn.specs.steps.GameAt.{TakesGame};
 ghost use Rattle.chess_pgn.specs.steps.GameCode.{game_of};
 ghost use Rattle.chess_pgn.specs.steps.Next.{HasKind, IsSound};
@@ -92,7 +91,7 @@ fn take_game<'a, X: Text, A: Allocator>(
 ) -> Result<Option<(Game<'a, A>, usize)>, GamesFault>
     requires { X.sound text.old }
     ensures sound { IfOk result (λ _. X.sound text.new) }
-    ensures game { TakesGame X.comes X.at_hand X.all X.sound text.old text.new result }
+    ensures game { TakesGame X.comes X.at_hand X.all X.sound X.breaks text.old text.new result }
 {
     let Ok(mut reader) = Reader::new(alloc, table) else {
         return Err(GamesFault::Pgn(at_place(0, FaultKind::Memory)));
@@ -131,7 +130,7 @@ pub fn read_game<'a, A: Allocator>(
         Ok(game) => Ok(game),
         Err(GamesFault::Pgn(fault)) => Err(fault),
         // Nothing is read of a whole text.
-        Err(GamesFault::Read) => Err(at_place(0, FaultKind::Memory)),
+        Err(GamesFault::Read) => unreachable!(),
     }
 }
 
@@ -153,6 +152,7 @@ impl<'a, R: Source, A: Allocator> Games<'a, R, A> {
         ensures source { result.text.source ≡ source }
         ensures nothing { unread result.text ≡ [] }
         ensures goes_on { result.text.has_ended ≡ false }
+        ensures reads { result.text.reads ≡ 1099511627776 }
     {
         Games {
             text: AtHand::new(alloc, source),
@@ -169,7 +169,7 @@ impl<'a, R: Source, A: Allocator> Games<'a, R, A> {
         requires none { self.old.fault ≡ None }
         ensures sound { IfOk result (λ _. IsSound R.ended self.new) }
         ensures none { self.new.fault ≡ None }
-        ensures game { TakesGame (λ s bytes t. Carries R.gives s.source bytes t.source) unread (λ s. s.has_ended ≡ true) (λ s. s.has_ended ≡ true → R.ended s.source) self.old.text self.new.text result }
+        ensures game { TakesGame (λ s bytes t. Came R.gives R.failed s bytes t) unread (λ s. s.has_ended ≡ true) (λ s. s.has_ended ≡ true → R.ended s.source) (λ s t. Breaks R.gives R.failed s t) self.old.text self.new.text result }
     {
         take_game(self.alloc, self.table, &mut self.text)
     }
@@ -200,10 +200,10 @@ impl<'a, R: Source, A: Allocator> Games<'a, R, A> {
         ensures untouched { (fault : GamesFault) → self.old.fault ≡ Some fault → self.new ≡ self.old }
         ensures sticky { IfErr result (λ fault. self.new.fault ≡ Some fault) }
         ensures good { IfOk result (λ _. self.new.fault ≡ None) }
-        ensures game { IfOk result (λ found. IfSome found (λ game. HasGame R.gives self.old.text self.new.text (game_of game))) }
+        ensures game { IfOk result (λ found. IfSome found (λ game. HasGame R.gives R.failed self.old.text self.new.text (game_of game))) }
         ensures cursor { IfOk result (λ found. IfSome found (λ game. game.tree.path ≡ [])) }
-        ensures none { result ≡ Ok None → HasNone R.gives self.old.text self.new.text }
-        ensures fault { self.old.fault ≡ None → IfErr result (λ fault. HasFault R.gives R.ended self.old.text self.new.text fault) }
+        ensures none { result ≡ Ok None → HasNone R.gives R.failed self.old.text self.new.text }
+        ensures fault { self.old.fault ≡ None → IfErr result (λ fault. HasFault R.gives R.failed R.ended self.old.text self.new.text fault) }
     {
         if let Some(fault) = self.fault {
             return Err(fault);

@@ -19,11 +19,11 @@ pub struct Lines<'a, A: Allocator> {
 }
 
 impl<'a, A: Allocator> Lines<'a, A> {
-    ghost use Rattle.chess_pgn.specs.steps.Adding.{Adds, Holds};
+    ghost use Rattle.chess_pgn.specs.steps.Adding.{Adds, HoldsText};
 
     /// No text behind `before`, which ends with a line feed.
     pub fn new(before: Vec<u8, &'a A>) -> Result<Lines<'a, A>, AllocError>
-        ensures { IfOk result (λ lines. Holds before.entry.items lines []) }
+        ensures { IfOk result (λ lines. HoldsText before.entry.items lines []) }
     {
         let mut text = before;
         let space = text.len();
@@ -102,7 +102,7 @@ impl<'a, A: Allocator> Lines<'a, A> {
 
     /// The two texts, with a line feed and an empty line behind them.
     pub fn finish(self) -> Result<Vec<u8, &'a A>, AllocError>
-        ensures { IfOk result (λ bytes. (before text : List ℕ) → Holds before self.entry text
+        ensures { IfOk result (λ bytes. (before text : List ℕ) → HoldsText before self.entry text
             → words (codes " ") text ≢ [] → bytes.items ≡ before ++ 10 ∷ (in_lines text ++ 10 ∷ 10 ∷ [])) }
     {
         let mut lines = self;

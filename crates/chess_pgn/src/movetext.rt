@@ -146,12 +146,12 @@ struct Writer<'t, 'k, 'a, A: Allocator> {
 impl<'t, 'k, 'a, A: Allocator> Writer<'t, 'k, 'a, A> {
     ghost use Rattle.chess_pgn.specs.steps.Tasks as tasks;
     ghost use Rattle.chess_pgn.specs.steps.Tasks.{AreTasks, tasks_text, work};
-    ghost use Rattle.chess_pgn.specs.steps.TaskCode.{Steps, returning, todo, todos};
+    ghost use Rattle.chess_pgn.specs.steps.TaskCode.{WritesSome, returning, todo, todos};
 
     fn close(&mut self) -> Result<(), AllocError>
         requires tasks { AreTasks self.old.line.line (tasks.Close ∷ todos self.old.tasks.items) }
         requires still { self.old.line.looked ≡ 0 }
-        ensures steps { OnOk result (Steps self.old.lines self.new.lines self.old.line.line self.new.line.line (tasks.Close ∷ todos self.old.tasks.items) (todos self.new.tasks.items)) }
+        ensures steps { OnOk result (WritesSome self.old.lines self.new.lines self.old.line.line self.new.line.line (tasks.Close ∷ todos self.old.tasks.items) (todos self.new.tasks.items)) }
         ensures still { OnOk result (self.new.line.looked ≡ 0) }
     {
         self.lines.push(b")")
@@ -160,7 +160,7 @@ impl<'t, 'k, 'a, A: Allocator> Writer<'t, 'k, 'a, A> {
     fn back(&mut self)
         requires tasks { AreTasks self.old.line.line (tasks.Back ∷ todos self.old.tasks.items) }
         requires still { self.old.line.looked ≡ 0 }
-        ensures steps { Steps self.old.lines self.new.lines self.old.line.line self.new.line.line (tasks.Back ∷ todos self.old.tasks.items) (todos self.new.tasks.items) }
+        ensures steps { WritesSome self.old.lines self.new.lines self.old.line.line self.new.line.line (tasks.Back ∷ todos self.old.tasks.items) (todos self.new.tasks.items) }
         ensures still { self.new.line.looked ≡ 0 }
     {
         let _taken = self.line.pop();
@@ -170,7 +170,7 @@ impl<'t, 'k, 'a, A: Allocator> Writer<'t, 'k, 'a, A> {
     fn moves(&mut self, nodes: Children<'t, 'a, A>, due: bool) -> Result<(), AllocError>
         requires tasks { AreTasks self.old.line.line (tasks.Moves nodes due ∷ todos self.old.tasks.items) }
         requires still { self.old.line.looked ≡ 0 }
-        ensures steps { OnOk result (Steps self.old.lines self.new.lines self.old.line.line self.new.line.line (tasks.Moves nodes.entry due ∷ todos self.old.tasks.items) (todos self.new.tasks.items)) }
+        ensures steps { OnOk result (WritesSome self.old.lines self.new.lines self.old.line.line self.new.line.line (tasks.Moves nodes.entry due ∷ todos self.old.tasks.items) (todos self.new.tasks.items)) }
         ensures still { OnOk result (self.new.line.looked ≡ 0) }
     {
         let mut others = nodes;
@@ -197,7 +197,7 @@ impl<'t, 'k, 'a, A: Allocator> Writer<'t, 'k, 'a, A> {
     fn variations(&mut self, nodes: Children<'t, 'a, A>) -> Result<(), AllocError>
         requires tasks { AreTasks self.old.line.line (tasks.Variations nodes ∷ todos self.old.tasks.items) }
         requires still { self.old.line.looked ≡ 0 }
-        ensures steps { OnOk result (Steps self.old.lines self.new.lines self.old.line.line self.new.line.line (tasks.Variations nodes.entry ∷ todos self.old.tasks.items) (todos self.new.tasks.items)) }
+        ensures steps { OnOk result (WritesSome self.old.lines self.new.lines self.old.line.line self.new.line.line (tasks.Variations nodes.entry ∷ todos self.old.tasks.items) (todos self.new.tasks.items)) }
         ensures still { OnOk result (self.new.line.looked ≡ 0) }
     {
         let mut others = nodes;
@@ -238,7 +238,7 @@ impl<'t, 'k, 'a, A: Allocator> Writer<'t, 'k, 'a, A> {
     ) -> Result<(), AllocError>
         requires tasks { AreTasks self.old.line.line (tasks.Below played nodes due ∷ todos self.old.tasks.items) }
         requires still { self.old.line.looked ≡ 0 }
-        ensures steps { OnOk result (Steps self.old.lines self.new.lines self.old.line.line self.new.line.line (tasks.Below played nodes.entry due ∷ todos self.old.tasks.items) (todos self.new.tasks.items)) }
+        ensures steps { OnOk result (WritesSome self.old.lines self.new.lines self.old.line.line self.new.line.line (tasks.Below played nodes.entry due ∷ todos self.old.tasks.items) (todos self.new.tasks.items)) }
         ensures still { OnOk result (self.new.line.looked ≡ 0) }
     {
         if self.line.reserve(1).is_err() {
@@ -251,7 +251,7 @@ impl<'t, 'k, 'a, A: Allocator> Writer<'t, 'k, 'a, A> {
     fn step(&mut self, task: Task<'t, 'a, A>) -> Result<(), AllocError>
         requires tasks { AreTasks self.old.line.line (todo task ∷ todos self.old.tasks.items) }
         requires still { self.old.line.looked ≡ 0 }
-        ensures steps { OnOk result (Steps self.old.lines self.new.lines self.old.line.line self.new.line.line (todo task.entry ∷ todos self.old.tasks.items) (todos self.new.tasks.items)) }
+        ensures steps { OnOk result (WritesSome self.old.lines self.new.lines self.old.line.line self.new.line.line (todo task.entry ∷ todos self.old.tasks.items) (todos self.new.tasks.items)) }
         ensures still { OnOk result (self.new.line.looked ≡ 0) }
     {
         match task {

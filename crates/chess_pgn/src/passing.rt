@@ -1,7 +1,8 @@
 //! Taking the items of a text, and passing over what is white behind the limit.
 
-ghost use Rattle.std.specs.Prelude.{IfOk};
+ghost use Rattle.std.specs.Prelude.{IfErr, IfOk};
 ghost use Rattle.chess_pgn.specs.steps.Passing.{Passes};
+ghost use Rattle.chess_pgn.specs.steps.Texts.{BreaksOff};
 
 use crate::at_hand::Fault;
 use crate::blanks::skip_white;
@@ -19,6 +20,7 @@ pub fn pass<X: Text, T: Taker>(
     requires { X.sound text.old }
     ensures sound { IfOk result (λ _. X.sound text.new) }
     ensures passes { Passes X.comes X.at_hand X.all X.sound X.size T.takes limit text.old text.new taker.old taker.new result }
+    ensures broken { IfErr result (λ fault. BreaksOff X.comes X.breaks X.all text.old text.new fault) }
 {
     let stopped = match run(text, taker, limit) {
         Err(fault) => return Err(fault),

@@ -1,7 +1,7 @@
 ghost use Rattle.std.specs.Prelude.{◌≡◌, ◌⊎◌, false, IfErr, IfOk, OnOk};
 ghost use Rattle.chess_pgn.specs.declared.fault.FaultKind.TheVariants.{Memory};
 ghost use Rattle.chess_pgn.specs.steps.HeaderCode.{is_begun};
-ghost use Rattle.chess_pgn.specs.steps.ReaderCode.{Begins, Closed, Finished, IsNew, MayNotEnd, Moved, NoStart, ending_item, takes_when};
+ghost use Rattle.chess_pgn.specs.steps.ReaderCode.{BeginsMoves, Closed, Finished, IsNew, MayNotEnd, Moved, NoStart, ending_item, takes_when};
 ghost use Rattle.chess_pgn.specs.steps.Tokens.{item_of};
 
 mod found;
@@ -50,7 +50,7 @@ impl<'a, A: Allocator> Reader<'a, A> {
     // The end of the tags: the game begins in the position that they give.
     fn begin_moves(&mut self) -> Result<(), PgnFault>
         requires { is_begun self.old.header.part ≡ false }
-        ensures begins { OnOk result (Begins self.old self.new) }
+        ensures begins { OnOk result (BeginsMoves self.old self.new) }
         ensures none { IfErr result (λ fault. (fault.kind ≡ Memory) ⊎ NoStart self.old.header) }
     {
         self.moving = true;

@@ -1,8 +1,9 @@
 //! Taking the items of a text, one after another.
 
-ghost use Rattle.std.specs.Prelude.{◌<◌, ◌+◌, length, take, IfOk, MatchBool};
+ghost use Rattle.std.specs.Prelude.{◌<◌, ◌+◌, length, take, IfErr, IfOk, MatchBool};
 ghost use Rattle.chess_pgn.specs.steps.Deciding.{Decides};
 ghost use Rattle.chess_pgn.specs.steps.Taking.{Offered, Steps, Ran};
+ghost use Rattle.chess_pgn.specs.steps.Texts.{BreaksOff};
 ghost use Rattle.chess_pgn.specs.steps.Tokens.{item_of};
 
 use crate::at_hand::Fault;
@@ -104,7 +105,8 @@ fn take_one<X: Text, T: Taker>(
     most: usize,
 ) -> Result<Step, Fault>
     requires { X.sound text.old }
-    ensures { Steps X.comes X.at_hand X.all X.sound X.size T.takes at most place text.old text.new taker.old taker.new result }
+    ensures steps { Steps X.comes X.at_hand X.all X.sound X.size T.takes at most place text.old text.new taker.old taker.new result }
+    ensures broken { IfErr result (λ fault. BreaksOff X.comes X.breaks X.all text.old text.new fault) }
 {
     match text.ready(place, most) {
         Err(fault) => return Err(fault),
@@ -142,6 +144,7 @@ pub fn run<X: Text, T: Taker>(text: &mut X, taker: &mut T, limit: usize) -> Resu
     requires { X.sound text.old }
     ensures sound { IfOk result (λ _. X.sound text.new) }
     ensures ran { Ran X.comes X.at_hand X.all X.sound X.size T.takes limit text.old text.new taker.old taker.new result }
+    ensures broken { IfErr result (λ fault. BreaksOff X.comes X.breaks X.all text.old text.new fault) }
 {
     let mut place = Place::GameStart;
     let mut at = 0usize;

@@ -1,5 +1,4 @@
-ghost use Rattle.std.specs.Prelude.{◌≡◌, OnOk};
-ghost use Rattle.chess_tree.specs.GameTree.{line_to};
+ghost use Rattle.std.specs.Prelude.{◌≤◌};
 
 mod cut;
 mod random;
@@ -10,10 +9,9 @@ use crate::lexer::item;
 use crate::place::Place;
 use crate::token::Token;
 use crate::{FaultKind, Game, Outcome, PgnFault, write_game};
-use chess_draws::Line;
 use chess_fen::read as read_fen;
 use chess_key::KeyTable;
-use chess_tree::{Tree, TreeFault};
+use chess_tree::{Analysis, Tree};
 use chess_types::{Move, Position};
 use linked_list_allocator::LocalHeap;
 use std::alloc::Allocator;
@@ -26,39 +24,57 @@ fn begin<'a, A: Allocator>(alloc: &'a A) -> Result<Game<'a, A>, PgnFault> {
     Game::new(alloc, Position::start())
 }
 
-/// The line of a tree whose cursor goes back to the root.
-fn rewound<'k, 'a, A: Allocator>(
-    rt: &impl Abort,
-    alloc: &'a A,
-    tree: &mut Tree<'a, A>,
-    table: &'k KeyTable,
-) -> Line<'k, &'a A>
-    ensures line { result.line ≡ line_to tree.new }
-    ensures still { result.looked ≡ 0 }
-{
-    tree.start();
-    let start = tree.position().clone().expect(rt, "a copy");
-    Line::start(alloc, start, table)
+/// A step of a game: its move, or `-` to the first position, an annotation number and a comment.
+type Step = (&'static str, Option<u8>, &'static str);
+
+/// Takes the step; false where a move or a note can't be had.
+fn takes<A: Allocator>(analysis: &mut Analysis<'_, A>, step: &Step) -> bool {
+    let (text, nag, comment) = *step;
+    if text == "-" {
+        analysis.start();
+    } else {
+        let Some(played) = Move::parse(text.as_bytes()) else {
+            return false;
+        };
+        if analysis.play(played).is_err() {
+            return false;
+        }
+    }
+    if let Some(nag) = nag
+        && analysis.add_nag(nag).is_err()
+    {
+        return false;
+    }
+    comment.is_empty() || analysis.set_comment(comment.as_bytes()).is_ok()
 }
 
-/// Adds the move of that text, which is legal at the cursor.
-fn add<'a, A: Allocator>(
-    rt: &impl Abort,
-    tree: &mut Tree<'a, A>,
-    line: &mut Line<'_, &'a A>,
-    text: &str,
-) -> Result<(), TreeFault>
-    requires line { line.old.line ≡ line_to tree.old }
-    requires still { line.old.looked ≡ 0 }
-    ensures line { OnOk result (line.new.line ≡ line_to tree.new) }
-    ensures still { OnOk result (line.new.looked ≡ 0) }
+/// The tree of those steps; none where one of them can't be taken.
+fn tree_of<'a, A: Allocator>(
+    alloc: &'a A,
+    table: &'a KeyTable,
+    start: Position,
+    steps: &[Step],
+) -> Option<Tree<'a, A>>
+    requires clock { start.clock ≤ 99999 }
+    requires number { start.number ≤ 99999 }
 {
-    let played = Move::parse(text.as_bytes()).expect(rt, "a move");
-    line.prepare(played).expect(rt, "a legal move");
-    assert!(rt; tree.depth() < 20_000);
-    tree.add(played)?;
-    line.push_prepared(played);
-    Ok(())
+    let mut analysis = Analysis::new(alloc, start, table).ok()?;
+    for step in steps {
+        if !takes(&mut analysis, step) {
+            return None;
+        }
+    }
+    Some(analysis.into_tree())
+}
+
+/// The tree of those steps from the beginning of a game.
+#[tactic(auto, unfolding(chess_types::specs::board::Position::start))]
+fn tree_from_the_start<'a, A: Allocator>(
+    alloc: &'a A,
+    table: &'a KeyTable,
+    steps: &[Step],
+) -> Option<Tree<'a, A>> {
+    tree_of(alloc, table, Position::start(), steps)
 }
 
 const UNKNOWN: &str =
@@ -84,55 +100,74 @@ fn a_game_without_moves(rt: HostRuntime) -> Result<(), Fail> {
     Ok(())
 }
 
+/// The movetext of the game of those steps.
+fn assert_movetext<A: Allocator>(
+    rt: &impl Abort,
+    alloc: &A,
+    steps: &[Step],
+    movetext: &str,
+) -> Result<(), PgnFault> {
+    let table = KeyTable::new([0; 768]);
+    let mut game = begin(alloc)?;
+    game.tree = tree_from_the_start(alloc, &table, steps).expect(rt, "a tree");
+    assert!(rt; is_written(alloc, &game, movetext)?);
+    Ok(())
+}
+
 #[test]
 fn notes_and_variations(rt: HostRuntime) -> Result<(), Fail> {
-    let alloc = rt.alloc();
-    let table = KeyTable::new([0; 768]);
-    let mut game = begin(&alloc)?;
-    let mut line = rewound(&rt, &alloc, &mut game.tree, &table);
-    add(&rt, &mut game.tree, &mut line, "e2e4")?;
-    game.tree.add_nag(1)?;
-    game.tree.set_comment(b"a  b")?;
-    add(&rt, &mut game.tree, &mut line, "e7e5")?;
-    assert!(&rt; is_written(&alloc, &game, "1. e4 $1 {a b} 1... e5 *\n\n")?);
-    let mut line = rewound(&rt, &alloc, &mut game.tree, &table);
-    game.tree.set_comment(b"first")?;
-    add(&rt, &mut game.tree, &mut line, "d2d4")?;
-    add(&rt, &mut game.tree, &mut line, "d7d5")?;
-    add(&rt, &mut game.tree, &mut line, "c2c4")?;
-    assert!(&rt;
-        is_written(
-            &alloc,
-            &game,
-            "{first} 1. e4 $1 {a b} (1. d4 d5 2. c4) 1... e5 *\n\n"
-        )?
-    );
+    let line = [("e2e4", Some(1), "a  b"), ("e7e5", None, "")];
+    assert_movetext(
+        &rt,
+        &rt.alloc(),
+        line.as_slice(),
+        "1. e4 $1 {a b} 1... e5 *\n\n",
+    )?;
+    let both = [
+        ("e2e4", Some(1), "a  b"),
+        ("e7e5", None, ""),
+        ("-", None, "first"),
+        ("d2d4", None, ""),
+        ("d7d5", None, ""),
+        ("c2c4", None, ""),
+    ];
+    assert_movetext(
+        &rt,
+        &rt.alloc(),
+        both.as_slice(),
+        "{first} 1. e4 $1 {a b} (1. d4 d5 2. c4) 1... e5 *\n\n",
+    )?;
     Ok(())
+}
+
+const OTHER_START: &[u8] =
+    b"[Event \"?\\\"\\\\\"]\n[Site \"?\"]\n[Date \"????.??.??\"]\n[Round \"?\"]\n[White \"?\"]\n[Black \"?\"]\n[Result \"1/2-1/2\"]\n\
+[FEN \"4k3/4p3/8/8/8/8/4P3/4K3 b - - 0 7\"]\n[SetUp \"1\"]\n\n7... e5 $1 {good} 8. e4 1/2-1/2\n\n";
+
+/// The position of a FEN with small counters.
+fn position_of(rt: &impl Abort, fen: &[u8]) -> Position
+    ensures clock { result.clock ≤ 99999 }
+    ensures number { result.number ≤ 99999 }
+{
+    let start = read_fen(fen).expect(rt, "a FEN");
+    assert!(rt; start.setup().clock < 99_999 && start.setup().number < 99_999);
+    start
 }
 
 #[test]
 fn another_start(rt: HostRuntime) -> Result<(), Fail> {
     let alloc = rt.alloc();
     let table = KeyTable::new([0; 768]);
-    let start = read_fen(b"4k3/4p3/8/8/8/8/4P3/4K3 b - - 0 7").expect(&rt, "a FEN");
-    assert!(&rt; start.setup().clock < 99_999 && start.setup().number < 99_999);
-    let mut game = Game::new(&alloc, start)?;
-    let mut line = rewound(&rt, &alloc, &mut game.tree, &table);
-    add(&rt, &mut game.tree, &mut line, "e7e5")?;
-    game.tree.add_nag(1)?;
-    game.tree.set_comment(b"good")?;
-    add(&rt, &mut game.tree, &mut line, "e2e4")?;
-    game.result = Outcome::Draw;
-    game.tags.event.push(b'"')?;
-    game.tags.event.push(b'\\')?;
-    let text = write_game(&alloc, &game)?;
-    let tags =
-        b"[Event \"?\\\"\\\\\"]\n[Site \"?\"]\n[Date \"????.??.??\"]\n[Round \"?\"]\n[White \"?\"]\n[Black \"?\"]\n[Result \"1/2-1/2\"]\n[FEN \"4k3/4p3/8/8/8/8/4P3/4K3 b - - 0 7\"]\n[SetUp \"1\"]\n\n";
-    let moves = text.as_slice().strip_prefix(tags.as_slice());
-    assert_eq!(&rt;
-        moves,
-        Some(b"7... e5 $1 {good} 8. e4 1/2-1/2\n\n".as_slice())
+    let fen = b"4k3/4p3/8/8/8/8/4P3/4K3 b - - 0 7";
+    let mut game = Game::new(&alloc, position_of(&rt, fen))?;
+    let steps = [("e7e5", Some(1), "good"), ("e2e4", None, "")];
+    game.tree = tree_of(&alloc, &table, position_of(&rt, fen), steps.as_slice()).expect(
+        &rt, "a tree",
     );
+    game.result = Outcome::Draw;
+    game.tags.event.extend_from_slice(b"\"\\")?;
+    let text = write_game(&alloc, &game)?;
+    assert!(&rt; text.as_slice() == OTHER_START);
     Ok(())
 }
 
@@ -165,32 +200,31 @@ fn lines_of_79_bytes(rt: HostRuntime) -> Result<(), Fail> {
 }
 
 /// Writes a game with a move, on so little memory that a growth may be refused.
-fn write_one<A: Allocator>(rt: &impl Abort, alloc: &A) -> Result<usize, PgnFault> {
-    let table = KeyTable::new([0; 768]);
-    let game = begin(alloc)?;
-    let Game {
-        tags,
-        result,
-        mut tree,
-    } = game;
-    let mut line = rewound(rt, alloc, &mut tree, &table);
-    if line.reserve(1).is_err() || add(rt, &mut tree, &mut line, "e2e4").is_err() {
+fn write_one<'a, A: Allocator>(
+    alloc: &'a A,
+    table: &'a KeyTable,
+    steps: &[Step],
+) -> Result<usize, PgnFault> {
+    let mut game = begin(alloc)?;
+    let Some(tree) = tree_from_the_start(alloc, table, steps) else {
         return Err(PgnFault {
             place: 0,
             kind: FaultKind::Memory,
         });
-    }
-    let text = write_game(alloc, &Game { tags, result, tree })?;
+    };
+    game.tree = tree;
+    let text = write_game(alloc, &game)?;
     Ok(text.len())
 }
 
 /// Each growth is refused in turn, as `Memory`, until all find their memory.
 #[test]
 fn without_memory(rt: HostRuntime) -> Result<(), Fail> {
+    let table = KeyTable::new([0; 768]);
     let mut refused = 0u32;
     for size in 1..400usize {
         let heap = LocalHeap::new(rt.alloc(), size * 64)?;
-        match write_one(&rt, &heap) {
+        match write_one(&heap, &table, [("e2e4", None, "")].as_slice()) {
             Ok(len) => assert!(&rt; len > 100),
             Err(fault) => {
                 assert_eq!(&rt;

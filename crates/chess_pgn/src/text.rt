@@ -1,7 +1,7 @@
 //! Texts that are at hand bit by bit, or whole.
 
-ghost use Rattle.std.specs.Prelude.{◌≡◌, ℕ, ◌≤◌, List, length};
-ghost use Rattle.chess_pgn.specs.steps.Texts.{MadeReady, Keeps, Refills};
+ghost use Rattle.std.specs.Prelude.{◌≡◌, ℕ, ◌≤◌, List, length, IfErr};
+ghost use Rattle.chess_pgn.specs.steps.Texts.{BreaksOff, MadeReady, Keeps, Refills};
 
 use crate::at_hand::{AtHand, Fault};
 use crate::place::Place;
@@ -15,6 +15,9 @@ pub trait Text {
     /// These bytes may come, and lead from the first state to the second.
     ghost comes: { Self → List ℕ → Self → Type 0 };
 
+    /// A read broke off, or there may be no more.
+    ghost breaks: { Self → Self → Type 0 };
+
     /// No more bytes will come.
     ghost all: { Self → Type 0 };
 
@@ -27,7 +30,8 @@ pub trait Text {
     /// and don't decide it.
     fn ready(&mut self, place: Place, most: usize) -> Result<bool, Fault>
         requires { sound self.old }
-        ensures { MadeReady comes at_hand all sound size most place self.old self.new result };
+        ensures made { MadeReady comes at_hand all sound size most place self.old self.new result }
+        ensures broken { IfErr result (λ fault. BreaksOff comes breaks all self.old self.new fault) };
 
     /// The bytes at hand.
     fn unread(&self) -> &[u8]
@@ -42,7 +46,8 @@ pub trait Text {
     /// Uses all bytes at hand, and lets more come. False where all have come.
     fn refill(&mut self) -> Result<bool, Fault>
         requires { sound self.old }
-        ensures { Refills comes at_hand all sound size self.old self.new result };
+        ensures refills { Refills comes at_hand all sound size self.old self.new result }
+        ensures broken { IfErr result (λ fault. BreaksOff comes breaks all self.old self.new fault) };
 }
 
 /// A whole text.
@@ -57,6 +62,8 @@ impl<'a> Text for Whole<'a> {
     ghost at_hand = { λ s. s.left.now };
 
     ghost comes = { λ s bytes t. bytes ≡ [] };
+
+    ghost breaks = { λ s t. ⊥ };
 
     ghost all = { λ s. Unit {0} };
 
@@ -84,12 +91,13 @@ impl<'a> Text for Whole<'a> {
 
 impl<'a, R: Source, A: Allocator> Text for AtHand<'a, R, A> {
     ghost use Rattle.std.specs.Prelude.{◌≡◌, ◌+◌, ◌*◌, true, length};
-    ghost use Rattle.chess_types.specs.bytes.Calls.{Carries};
-    ghost use Rattle.chess_pgn.specs.Sources.{unread};
+    ghost use Rattle.chess_pgn.specs.Sources.{Breaks, Came, unread};
 
     ghost at_hand = { λ s. unread s };
 
-    ghost comes = { λ s bytes t. Carries R.gives s.source bytes t.source };
+    ghost comes = { λ s bytes t. Came R.gives R.failed s bytes t };
+
+    ghost breaks = { λ s t. Breaks R.gives R.failed s t };
 
     ghost all = { λ s. s.has_ended ≡ true };
 

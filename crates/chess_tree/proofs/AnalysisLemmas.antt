@@ -19,7 +19,7 @@ use Rattle.chess_tree.specs.declared.fault.TreeFault.TheVariants.{BadComment}
 use Rattle.chess_tree.specs.Forest.{count, height, moves_held}
 use Rattle.chess_tree.specs.Edits.{annotated, commented, parent, promoted, without_node}
 use Rattle.chess_tree.specs.Comments.{IsComment, has_brace, normalised}
-use Rattle.chess_tree.specs.GameTree.{GameTree, TreeParts, added, annotated_here, at_path, commented_here, commented_tree, deleted, find, here, line_to, nodes_here, promoted_here}
+use Rattle.chess_tree.specs.GameTree.{GameTree, TreeParts, added, annotated_here, at_path, commented_here, commented_tree, deleted, find, has, here, line_to, nodes_here, promoted_here}
 use Rattle.chess_tree.specs.CursorLine.{GoesOn}
 use Rattle.chess_tree.specs.Plays.{IsAnswer, add_answer}
 use Rattle.chess_tree.specs.WellFormed.{IsGameTree}
@@ -28,7 +28,7 @@ use Rattle.chess_tree.proofs.EditLemmas as edits
 use Rattle.chess_tree.proofs.EditLemmas.{deeper, leads_on, leads_parent, path_le_height}
 use Rattle.chess_tree.proofs.TreeLemmas.{game_added, game_annotated, game_at, game_commented, game_deleted, game_promoted}
 use Rattle.chess_tree.proofs.LineLemmas.{find_some, line_added, line_length, line_on}
-use Rattle.chess_tree.proofs.WalkLemmas.{length_parent}
+use Rattle.chess_tree.proofs.WalkLemmas.{has_leads, length_parent}
 use Rattle.chess_tree.proofs.StepLemmas.{line_parted}
 use Rattle.chess_tree.proofs.CommentLemmas.{is_comment}
 
@@ -118,6 +118,11 @@ module _ (begun t new : TreeParts) (depth : ℕ) (r : Result (Unit {0}) TreeFaul
 
   pub back_to_smaller : length new.path < length t.path
   back_to_smaller = omega (arith, ap (λ (x : TreeParts). length x.path) up, length_parent t.path (omega (arith, deeper)))
+
+-- ---- a path that leads to a node
+
+pub no_longer : (t : TreeParts) (path : List ℕ) → IsGameTree t → has path t.tree.below ≡ true → length path ≤ 20000
+no_longer t path game there = omega (arith, path_le_height path t.tree.below (has_leads path t.tree.below there), game.deep)
 
 -- ---- a move that is played
 

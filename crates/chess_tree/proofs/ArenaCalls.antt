@@ -10,7 +10,7 @@ use Rattle.chess_tree.specs.Edits.{annotated, change_below, change_node, comment
 use Rattle.chess_tree.specs.GameTree.{find}
 use Rattle.chess_tree.specs.WellFormed.{Leads}
 use Rattle.chess_tree.specs.steps.Rooted.{Held, Noted, Rooted, added_root, annotated_root, commented_at, commented_root, deleted_root, no_notes, path_root, promoted_root, with_below}
-use Rattle.chess_tree.specs.steps.Grove.{Grove, no_move, Empty, Tree, tally, times, size, wide, first_of, last_of, number_of, those_before, under, under_at, number_at, trail_at, plain, Ways}
+use Rattle.chess_tree.specs.steps.Grove.{Grove, no_move, Empty, Tree, tally, times, size, wide, first_of, last_of, node_number, those_before, under, under_at, number_at, trail_at, plain, Ways}
 use Rattle.chess_tree.specs.steps.Laid.{Laid, IsArena, leaf_slot, look, seen, standing, uses, Same}
 use Rattle.chess_tree.specs.steps.Notes.{IsNotedAt}
 use Rattle.chess_tree.specs.steps.Writes.{IsPut, free_after, hung_first, hung_last, taken, unlinked, with_next}
@@ -75,7 +75,7 @@ times_before j k Empty = omega arith
 times_before j zero (Tree i m below next) = omega arith
 times_before j (suc k) (Tree i m below next) = omega (arith, times_before j k next)
 
-pub number_any : (d k : ℕ) (g : Grove) → k < wide g → number_of d k g ≡ number_of 0 k g
+pub number_any : (d k : ℕ) (g : Grove) → k < wide g → node_number d k g ≡ node_number 0 k g
 number_any d k Empty h = absurd (omega (arith, h))
 number_any d zero (Tree i m below next) h = refl
 number_any d (suc k) (Tree i m below next) h = number_any d k next (omega (arith, h))
@@ -87,13 +87,13 @@ ways_leads noted (k ∷ path) g w = (omega (arith, w.0, wide_plain noted g), rw 
 trail_take : (path : List ℕ) (i : ℕ) (g : Grove) (depth : ℕ) → depth < length path → get_or (trail_at path i g) depth 0 ≡ number_at (take (suc depth) path) i g
 trail_take [] i g depth h = absurd (omega (arith, h))
 trail_take (k ∷ path) i g zero h = refl
-trail_take (k ∷ path) i g (suc depth) h = trail_take path (number_of i k g) (under k g) depth (omega (arith, h))
+trail_take (k ∷ path) i g (suc depth) h = trail_take path (node_number i k g) (under k g) depth (omega (arith, h))
 
 number_take : (path : List ℕ) (i : ℕ) (g : Grove) (depth : ℕ) → depth < length path
-    → number_at (take (suc depth) path) i g ≡ number_of (number_at (take depth path) i g) (get_or path depth 0) (under_at (take depth path) g)
+    → number_at (take (suc depth) path) i g ≡ node_number (number_at (take depth path) i g) (get_or path depth 0) (under_at (take depth path) g)
 number_take [] i g depth h = absurd (omega (arith, h))
 number_take (k ∷ path) i g zero h = refl
-number_take (k ∷ path) i g (suc depth) h = number_take path (number_of i k g) (under k g) depth (omega (arith, h))
+number_take (k ∷ path) i g (suc depth) h = number_take path (node_number i k g) (under k g) depth (omega (arith, h))
 
 ways_take : (path : List ℕ) (g : Grove) (depth : ℕ) → Ways path g → depth < length path → Ways (take depth path) g × (get_or path depth 0 < wide (under_at (take depth path) g))
 ways_take [] g depth w h = absurd (omega (arith, h))
@@ -265,9 +265,9 @@ module _ (slots : List Slot) (noted : ℕ → Noted) (free here : ℕ) (trail : 
       → IsArena slots noted free child new more × (seen slots noted child ≡ path_root (z.path ++ place ∷ []) z) × (place < count (below_at z.path z.root.below))
   stepped place child new more at h e wider =
       let b = under_at a.path a.game in
-      let is : child ≡ number_of 0 place b = at b owner_here in
+      let is : child ≡ node_number 0 place b = at b owner_here in
       let short : place < wide b = walk_in place child b is h in
-      let number : child ≡ number_of (number_at a.path 0 a.game) place b = is ∙ sym (number_any (number_at a.path 0 a.game) place b short) in
+      let number : child ≡ node_number (number_at a.path 0 a.game) place b = is ∙ sym (number_any (number_at a.path 0 a.game) place b short) in
       let now : IsArena slots noted free child new more = record {
         game = a.game;
         freed = a.freed;
@@ -299,8 +299,8 @@ module _ (slots : List Slot) (noted : ℕ → Noted) (free here : ℕ) (trail : 
       let p = number_at init 0 a.game in
       let b = under_at init a.game in
       let o = owner_at slots free a.game a.freed Empty init a.laid ways.0 in
-      let at : here ≡ number_of p k b = a.here_is ∙ ap (λ (x : List ℕ). number_at x 0 a.game) last.2 ∙ number_on init k 0 a.game in
-      let is : here ≡ number_of 0 k b = at ∙ number_any p k b ways.1 in
+      let at : here ≡ node_number p k b = a.here_is ∙ ap (λ (x : List ℕ). number_at x 0 a.game) last.2 ∙ number_on init k 0 a.game in
+      let is : here ≡ node_number 0 k b = at ∙ number_any p k b ways.1 in
       let parent_of : (look slots here).parent ≡ p = ap (λ (x : ℕ). (look slots x).parent) is ∙ (linked_one Same (look slots) p 0 0 k b ways.1 o.linked).0.parent_is in
       record {
         init = init;

@@ -7,7 +7,7 @@ use Rattle.chess_tree.specs.declared.arena.slot.Slot.{Slot}
 use Rattle.chess_tree.specs.Forest.{Forest, Bare, Node, append, below_at, count, height}
 use Rattle.chess_tree.specs.Edits.{change_below, promoted, with_move, without_node}
 use Rattle.chess_tree.specs.steps.Rooted.{Noted, Rooted, added_root, no_notes, with_below}
-use Rattle.chess_tree.specs.steps.Grove.{Grove, Empty, Tree, tally, times, wide, first_of, last_of, join, number_of, move_in, no_move, under, those_before, those_after, under_at, change_at, number_at, trail_at, plain, Ways}
+use Rattle.chess_tree.specs.steps.Grove.{Grove, Empty, Tree, tally, times, wide, first_of, last_of, join, node_number, grove_move, no_move, under, those_before, those_after, under_at, change_at, number_at, trail_at, plain, Ways}
 use Rattle.chess_tree.specs.steps.Linked.{Linked, Owns}
 use Rattle.chess_tree.specs.steps.Laid.{Laid, IsArena, leaf_slot, look, seen, standing, Same, Any}
 use Rattle.chess_tree.specs.steps.Notes.{IsNotedAt}
@@ -76,7 +76,7 @@ written_laid slots free n m o game freed s k =
       look_set slots n s (in_range slots free game freed (Tree n m Empty Empty) k n (omega (arith, tally_same n))),
     )
 
-number_last : (d n : ℕ) (m : MoveParts) (b u : Grove) → (number_of d (wide b) (join b (Tree n m u Empty)) ≡ n) × (wide b < wide (join b (Tree n m u Empty)))
+number_last : (d n : ℕ) (m : MoveParts) (b u : Grove) → (node_number d (wide b) (join b (Tree n m u Empty)) ≡ n) × (wide b < wide (join b (Tree n m u Empty)))
 number_last d n m Empty u = (refl, omega arith)
 number_last d n m (Tree i k v w) u = let rest = number_last d n m w u in (rest.0, omega (arith, rest.1))
 
@@ -102,8 +102,8 @@ added_from slots old new free n m here game freed path trail room more k ways e 
     let now = changed_at c path 0 game ways in
     let last = number_last (number_at path 0 (change_at c path game)) n m b Empty in
     let there : wide b < wide (under_at path (change_at c path game)) = subst (λ (g : Grove). wide b < wide g) (sym now.2) last.1 in
-    let number : number_of (number_at path 0 (change_at c path game)) (wide b) (under_at path (change_at c path game)) ≡ n =
-    ap (number_of (number_at path 0 (change_at c path game)) (wide b)) now.2 ∙ last.0 in
+    let number : node_number (number_at path 0 (change_at c path game)) (wide b) (under_at path (change_at c path game)) ≡ n =
+    ap (node_number (number_at path 0 (change_at c path game)) (wide b)) now.2 ∙ last.0 in
     let at : n ≡ number_at (path ++ wide b ∷ []) 0 (change_at c path game) = sym (number_on path (wide b) 0 (change_at c path game) ∙ number) in
     let way : trail_at (path ++ wide b ∷ []) 0 (change_at c path game) ≡ trail ++ n ∷ [] =
     trail_on path (wide b) 0 (change_at c path game) ∙ (λ j. trail_change c path 0 game ways j ++ number j ∷ []) ∙ ap (λ (t : List ℕ). t ++ n ∷ []) (sym te) in
@@ -146,26 +146,26 @@ edited change noted game path new = record { root = with_below (change_below cha
 -- DELETED
 pub deleted_from : (slots : List Slot) (noted : ℕ → Noted) (free k : ℕ) (game freed : Grove) (path trail : List ℕ) (room : ℕ) → Laid slots free game freed Empty → Ways path game → k < wide (under_at path game) → length slots ≤ 1000001
     → height (plain noted game) ≤ room → trail ≡ trail_at path 0 game
-    → (p t h : ℕ) → p ≡ number_at path 0 game → t ≡ last_of 0 (those_before k (under_at path game)) → h ≡ number_of 0 k (under_at path game)
+    → (p t h : ℕ) → p ≡ number_at path 0 game → t ≡ last_of 0 (those_before k (under_at path game)) → h ≡ node_number 0 k (under_at path game)
     → IsArena (with_next h free (unlinked p t h slots)) noted h p trail room
     × (seen (with_next h free (unlinked p t h slots)) noted p ≡ edited (without_node k) noted game path path)
 deleted_from slots noted free k game freed path trail room laid ways one few deep te p t h ep et eh =
     let p0 = number_at path 0 game in
     let b = under_at path game in
     let t0 = last_of 0 (those_before k b) in
-    let h0 = number_of 0 k b in
+    let h0 = node_number 0 k b in
     let mid = unlinked p0 t0 h0 slots in
     let new = with_next h0 free mid in
     let off = unlinked_laid slots free k game freed path laid ways one in
     let l : length new ≡ length mid = length-set mid h0 (record (look mid h0) { next = free }) in
-    let range : h0 < length mid = in_range mid free (change_at (others k) path game) freed (Tree h0 (move_in k b) (under k b) Empty) off.0 h0 (omega (arith, tally_same h0)) in
-    let gone = let_go_laid mid new free h0 (move_in k b) p0 (first_of 0 (those_after k b)) (change_at (others k) path game) freed (under k b) l off.0 off.1
+    let range : h0 < length mid = in_range mid free (change_at (others k) path game) freed (Tree h0 (grove_move k b) (under k b) Empty) off.0 h0 (omega (arith, tally_same h0)) in
+    let gone = let_go_laid mid new free h0 (grove_move k b) p0 (first_of 0 (those_after k b)) (change_at (others k) path game) freed (under k b) l off.0 off.1
     (λ j ne. look_set_other mid h0 j (record (look mid h0) { next = free }) ne) (next_is mid h0 free range) in
     let now = changed_at (others k) path 0 game ways in
     let below : plain noted (change_at (others k) path game) ≡ change_below (without_node k) path (plain noted game) = plain_change noted (others k) (without_node k) path game (plain_others noted k b) in
     let a : IsArena new noted h0 p0 trail room = record {
       game = change_at (others k) path game;
-      freed = Tree h0 (move_in k b) (under k b) freed;
+      freed = Tree h0 (grove_move k b) (under k b) freed;
       path = path;
       laid = gone;
       ways = now.0;
@@ -180,16 +180,16 @@ deleted_from slots noted free k game freed path trail room laid ways one few dee
 
 -- PROMOTED
 pub promoted_from : (slots : List Slot) (noted : ℕ → Noted) (free k : ℕ) (game freed : Grove) (path trail : List ℕ) (room : ℕ) → Laid slots free game freed Empty → Ways path game → k < wide (under_at path game) → length slots ≤ 1000001
-    → height (plain noted game) ≤ room → trail ≡ trail_at path 0 game ++ number_of 0 k (under_at path game) ∷ []
-    → (p t h : ℕ) → p ≡ number_at path 0 game → t ≡ last_of 0 (those_before k (under_at path game)) → h ≡ number_of 0 k (under_at path game)
+    → height (plain noted game) ≤ room → trail ≡ trail_at path 0 game ++ node_number 0 k (under_at path game) ∷ []
+    → (p t h : ℕ) → p ≡ number_at path 0 game → t ≡ last_of 0 (those_before k (under_at path game)) → h ≡ node_number 0 k (under_at path game)
     → IsArena (hung_first p h (unlinked p t h slots)) noted free h trail room
     × (seen (hung_first p h (unlinked p t h slots)) noted h ≡ edited (promoted k) noted game path (path ++ 0 ∷ []))
 promoted_from slots noted free k game freed path trail room laid ways one few deep te p t h ep et eh =
     let p0 = number_at path 0 game in
     let b = under_at path game in
     let t0 = last_of 0 (those_before k b) in
-    let h0 = number_of 0 k b in
-    let m = move_in k b in
+    let h0 = node_number 0 k b in
+    let m = grove_move k b in
     let u = under k b in
     let mid = unlinked p0 t0 h0 slots in
     let off = unlinked_laid slots free k game freed path laid ways one in
@@ -201,7 +201,7 @@ promoted_from slots noted free k game freed path trail room laid ways one few de
     let laid2 = subst (λ (x : ℕ). Laid (hung_first x h0 mid) free (change_at c path game1) freed Empty) was.1 done in
     let now = changed_at c path 0 game1 was.0 in
     let there : 0 < wide (under_at path (change_at c path game1)) = subst (λ (g : Grove). 0 < wide g) (sym now.2) (omega arith) in
-    let number : number_of (number_at path 0 (change_at c path game1)) 0 (under_at path (change_at c path game1)) ≡ h0 = ap (number_of (number_at path 0 (change_at c path game1)) 0) now.2 in
+    let number : node_number (number_at path 0 (change_at c path game1)) 0 (under_at path (change_at c path game1)) ≡ h0 = ap (node_number (number_at path 0 (change_at c path game1)) 0) now.2 in
     let way : trail_at (path ++ 0 ∷ []) 0 (change_at c path game1) ≡ trail_at path 0 game ++ h0 ∷ [] =
     trail_on path 0 0 (change_at c path game1) ∙ (λ j. (trail_change c path 0 game1 was.0 ∙ trail_change (others k) path 0 game ways) j ++ number j ∷ []) in
     let below : plain noted (change_at c path game1) ≡ change_below (promoted k) path (plain noted game) =

@@ -5,7 +5,7 @@ use Rattle.std.specs.Prelude.{if◌then◌else◌}
 use Rattle.std.proofs.lemmas.Bool.{cases_lt}
 use Rattle.chess_types.specs.board.MoveParts.{MoveParts}
 use Rattle.chess_tree.specs.declared.arena.slot.Slot.{Slot}
-use Rattle.chess_tree.specs.steps.Grove.{Grove, Empty, Tree, tally, times, size, wide, first_of, last_of, join, number_of, move_in, no_move, under, those_before, those_after, under_at, change_at, number_at, Ways}
+use Rattle.chess_tree.specs.steps.Grove.{Grove, Empty, Tree, tally, times, size, wide, first_of, last_of, join, node_number, grove_move, no_move, under, those_before, those_after, under_at, change_at, number_at, Ways}
 use Rattle.chess_tree.specs.steps.Linked.{Linked, Owns}
 use Rattle.chess_tree.specs.steps.Laid.{Laid, look, uses, Same}
 use Rattle.chess_tree.specs.steps.Writes.{hung_first, hung_last, taken, unlinked, with_next}
@@ -34,17 +34,17 @@ tail_in (Tree i m below next) h = times_tail (Tree i m below next) 0 (omega arit
 
 -- UNLINK
 pub unlinked_laid : (slots : List Slot) (free k : ℕ) (game freed : Grove) (path : List ℕ) → Laid slots free game freed Empty → Ways path game → k < wide (under_at path game)
-    → Laid (unlinked (number_at path 0 game) (last_of 0 (those_before k (under_at path game))) (number_of 0 k (under_at path game)) slots) free (change_at (others k) path game) freed
-    (Tree (number_of 0 k (under_at path game)) (move_in k (under_at path game)) (under k (under_at path game)) Empty)
-    × Linked Same (look (unlinked (number_at path 0 game) (last_of 0 (those_before k (under_at path game))) (number_of 0 k (under_at path game)) slots)) (number_at path 0 game) (first_of 0 (those_after k (under_at path game)))
-    (Tree (number_of 0 k (under_at path game)) (move_in k (under_at path game)) (under k (under_at path game)) Empty)
+    → Laid (unlinked (number_at path 0 game) (last_of 0 (those_before k (under_at path game))) (node_number 0 k (under_at path game)) slots) free (change_at (others k) path game) freed
+    (Tree (node_number 0 k (under_at path game)) (grove_move k (under_at path game)) (under k (under_at path game)) Empty)
+    × Linked Same (look (unlinked (number_at path 0 game) (last_of 0 (those_before k (under_at path game))) (node_number 0 k (under_at path game)) slots)) (number_at path 0 game) (first_of 0 (those_after k (under_at path game)))
+    (Tree (node_number 0 k (under_at path game)) (grove_move k (under_at path game)) (under k (under_at path game)) Empty)
 unlinked_laid slots free k game freed path laid ways one =
     let p = number_at path 0 game in
     let b = under_at path game in
     let f = those_before k b in
     let r = those_after k b in
-    let h = number_of 0 k b in
-    let m = move_in k b in
+    let h = node_number 0 k b in
+    let m = grove_move k b in
     let u = under k b in
     let t = last_of 0 f in
     let new = unlinked p t h slots in

@@ -3,7 +3,7 @@ use Rattle.std.proofs.Common.{◌≡◌, ◌≢◌, ℕ, zero, suc, ◌+◌, ◌
 use Rattle.chess_tree.specs.Forest.{Forest, Bare, Node, append, below_at, below_child, count}
 use Rattle.chess_tree.specs.Edits.{annotated, change_below, change_node, commented, in_front, inside, parent, promoted, without_node}
 use Rattle.chess_tree.specs.steps.Rooted.{Noted}
-use Rattle.chess_tree.specs.steps.Grove.{Grove, Empty, Tree, wide, join, number_of, move_in, under, those_before, those_after, within, under_at, change_at, number_at, trail_at, times, tally, plain, Ways}
+use Rattle.chess_tree.specs.steps.Grove.{Grove, Empty, Tree, wide, join, node_number, grove_move, under, those_before, those_after, within, under_at, change_at, number_at, trail_at, times, tally, plain, Ways}
 use Rattle.chess_tree.proofs.TimesLemmas.{tally_same, times_below, times_deep, times_number}
 
 pub wide_plain : (noted : ℕ → Noted) (g : Grove) → count (plain noted g) ≡ wide g
@@ -39,13 +39,13 @@ plain_others noted k Empty = refl
 plain_others noted zero (Tree i m below next) = refl
 plain_others noted (suc k) (Tree i m below next) = ap (λ (f : Forest). Node m (noted i).nags (noted i).comment (plain noted below) f) (plain_others noted k next)
 
-plain_front : (noted : ℕ → Noted) (d k : ℕ) (g rest : Grove) → k < wide g → plain noted (Tree (number_of d k g) (move_in k g) (under k g) rest) ≡ in_front k (plain noted g) (plain noted rest)
+plain_front : (noted : ℕ → Noted) (d k : ℕ) (g rest : Grove) → k < wide g → plain noted (Tree (node_number d k g) (grove_move k g) (under k g) rest) ≡ in_front k (plain noted g) (plain noted rest)
 plain_front noted d k Empty rest h = absurd (omega arith)
 plain_front noted d zero (Tree i m below next) rest h = refl
 plain_front noted d (suc k) (Tree i m below next) rest h = plain_front noted d k next rest (omega arith)
 
 pub plain_promoted : (noted : ℕ → Noted) (d k : ℕ) (g : Grove) → k < wide g
-    → plain noted (Tree (number_of d k g) (move_in k g) (under k g) (join (those_before k g) (those_after k g))) ≡ promoted k (plain noted g)
+    → plain noted (Tree (node_number d k g) (grove_move k g) (under k g) (join (those_before k g) (those_after k g))) ≡ promoted k (plain noted g)
 plain_promoted noted d k g h = plain_front noted d k g (join (those_before k g) (those_after k g)) h ∙ ap (in_front k (plain noted g)) (plain_others noted k g)
 
 -- ---- paths
@@ -68,9 +68,9 @@ pub ways_back : (path : List ℕ) (k : ℕ) (g : Grove) → Ways (path ++ k ∷ 
 ways_back [] k g w = (tt, w.0)
 ways_back (j ∷ path) k g w = let rest = ways_back path k (under j g) w.1 in ((w.0, rest.0), rest.1)
 
-pub number_on : (path : List ℕ) (k i : ℕ) (g : Grove) → number_at (path ++ k ∷ []) i g ≡ number_of (number_at path i g) k (under_at path g)
+pub number_on : (path : List ℕ) (k i : ℕ) (g : Grove) → number_at (path ++ k ∷ []) i g ≡ node_number (number_at path i g) k (under_at path g)
 number_on [] k i g = refl
-number_on (j ∷ path) k i g = number_on path k (number_of i j g) (under j g)
+number_on (j ∷ path) k i g = number_on path k (node_number i j g) (under j g)
 
 pub under_on : (path : List ℕ) (k : ℕ) (g : Grove) → under_at (path ++ k ∷ []) g ≡ under k (under_at path g)
 under_on [] k g = refl
@@ -81,7 +81,7 @@ wide_within k c Empty = refl
 wide_within zero c (Tree i m below next) = refl
 wide_within (suc k) c (Tree i m below next) = ap (λ (n : ℕ). suc n) (wide_within k c next)
 
-number_within : (d k : ℕ) (c : Grove → Grove) (g : Grove) → number_of d k (within k c g) ≡ number_of d k g
+number_within : (d k : ℕ) (c : Grove → Grove) (g : Grove) → node_number d k (within k c g) ≡ node_number d k g
 number_within d k c Empty = refl
 number_within d zero c (Tree i m below next) = refl
 number_within d (suc k) c (Tree i m below next) = number_within d k c next
@@ -105,8 +105,8 @@ pub changed_at : (c : Grove → Grove) (path : List ℕ) (i : ℕ) (g : Grove) �
 changed_at c [] i g w = (tt, refl, refl)
 changed_at c (k ∷ path) i g w =
     let e : under k (within k (change_at c path) g) ≡ change_at c path (under k g) = under_within k (change_at c path) g w.0 in
-    let n : number_of i k (within k (change_at c path) g) ≡ number_of i k g = number_within i k (change_at c path) g in
-    let rest = changed_at c path (number_of i k g) (under k g) w.1 in (
+    let n : node_number i k (within k (change_at c path) g) ≡ node_number i k g = number_within i k (change_at c path) g in
+    let rest = changed_at c path (node_number i k g) (under k g) w.1 in (
       (rw wide_within w.0, rw e rest.0),
       (λ x. number_at path (n x) (e x)) ∙ rest.1,
       ap (under_at path) e ∙ rest.2,
@@ -114,20 +114,20 @@ changed_at c (k ∷ path) i g w =
 
 -- ---- the numbers on the way
 
-pub trail_on : (path : List ℕ) (k i : ℕ) (g : Grove) → trail_at (path ++ k ∷ []) i g ≡ trail_at path i g ++ number_of (number_at path i g) k (under_at path g) ∷ []
+pub trail_on : (path : List ℕ) (k i : ℕ) (g : Grove) → trail_at (path ++ k ∷ []) i g ≡ trail_at path i g ++ node_number (number_at path i g) k (under_at path g) ∷ []
 trail_on [] k i g = refl
-trail_on (j ∷ path) k i g = ap (λ (t : List ℕ). number_of i j g ∷ t) (trail_on path k (number_of i j g) (under j g))
+trail_on (j ∷ path) k i g = ap (λ (t : List ℕ). node_number i j g ∷ t) (trail_on path k (node_number i j g) (under j g))
 
 pub trail_length : (path : List ℕ) (i : ℕ) (g : Grove) → length (trail_at path i g) ≡ length path
 trail_length [] i g = refl
-trail_length (k ∷ path) i g = ap (λ (n : ℕ). suc n) (trail_length path (number_of i k g) (under k g))
+trail_length (k ∷ path) i g = ap (λ (n : ℕ). suc n) (trail_length path (node_number i k g) (under k g))
 
 pub trail_change : (c : Grove → Grove) (path : List ℕ) (i : ℕ) (g : Grove) → Ways path g → trail_at path i (change_at c path g) ≡ trail_at path i g
 trail_change c [] i g w = refl
 trail_change c (k ∷ path) i g w =
     let e : under k (within k (change_at c path) g) ≡ change_at c path (under k g) = under_within k (change_at c path) g w.0 in
-    let n : number_of i k (within k (change_at c path) g) ≡ number_of i k g = number_within i k (change_at c path) g in
-    (λ x. n x ∷ trail_at path (n x) (e x)) ∙ ap (λ (t : List ℕ). number_of i k g ∷ t) (trail_change c path (number_of i k g) (under k g) w.1)
+    let n : node_number i k (within k (change_at c path) g) ≡ node_number i k g = number_within i k (change_at c path) g in
+    (λ x. n x ∷ trail_at path (n x) (e x)) ∙ ap (λ (t : List ℕ). node_number i k g ∷ t) (trail_change c path (node_number i k g) (under k g) w.1)
 
 -- ---- other notes
 
@@ -159,15 +159,15 @@ commented_is text (suc k) (Node m nags comment below next) = ap (λ (f : Forest)
 other_than : (i j : ℕ) (g : Grove) → tally i i + times i g ≤ 1 → 0 < times j g → j ≢ i
 other_than i j g once h q = let two : 0 < times i g = subst (λ (x : ℕ). 0 < times x g) q h in omega (arith, once, tally_same i, two)
 
-plain_place : (old new : ℕ → Noted) (c : Noted → Noted) (d k : ℕ) (g : Grove) → k < wide g → ((j : ℕ) → times j g ≤ 1) → ((j : ℕ) → j ≢ number_of d k g → new j ≡ old j)
-    → new (number_of d k g) ≡ c (old (number_of d k g)) → plain new g ≡ renoted c k (plain old g)
+plain_place : (old new : ℕ → Noted) (c : Noted → Noted) (d k : ℕ) (g : Grove) → k < wide g → ((j : ℕ) → times j g ≤ 1) → ((j : ℕ) → j ≢ node_number d k g → new j ≡ old j)
+    → new (node_number d k g) ≡ c (old (node_number d k g)) → plain new g ≡ renoted c k (plain old g)
 plain_place old new c d k Empty h once others is = absurd (omega (arith, h))
 plain_place old new c d zero (Tree i m below next) h once others is =
     let down = plain_same old new below (λ j w. others j (other_than i j below (omega (arith, once i)) w)) in
     let on = plain_same old new next (λ j w. others j (other_than i j next (omega (arith, once i)) w)) in
     λ x. Node m (is x).nags (is x).comment (down x) (on x)
 plain_place old new c d (suc k) (Tree i m below next) h once others is =
-    let n = number_of d k next in
+    let n = node_number d k next in
     let there : 0 < times n next = omega (arith, times_number d k next n (omega (arith, h)), tally_same n) in
     let here = others i (λ q. other_than i n next (omega (arith, once i)) there (sym q)) in
     let down = plain_same old new below (λ j w. others j (λ q. let two : 0 < times n below = subst (λ (x : ℕ). 0 < times x below) q w in omega (arith, once n, two, there))) in
@@ -194,8 +194,8 @@ pub plain_noted : (old new : ℕ → Noted) (c : Noted → Noted) (k : ℕ) (pat
     → plain new g ≡ change_node (renoted c) (k ∷ path) (plain old g)
 plain_noted old new c k [] i g w once others is = plain_place old new c i k g w.0 once others is
 plain_noted old new c k (l ∷ path) i g w once others is =
-    let n = number_at (l ∷ path) (number_of i k g) (under k g) in
-    let there : 0 < times n (under k g) = times_deep l path (number_of i k g) (under k g) w.1 in
+    let n = number_at (l ∷ path) (node_number i k g) (under k g) in
+    let there : 0 < times n (under k g) = times_deep l path (node_number i k g) (under k g) w.1 in
     plain_inside old new k (change_node (renoted c) (l ∷ path)) g w.0 once
     (λ j _ no. others j (λ q. let two : 0 < times j (under k g) = subst (λ (x : ℕ). 0 < times x (under k g)) (sym q) there in omega (arith, no, two)))
-    (plain_noted old new c l path (number_of i k g) (under k g) w.1 (λ j. omega (arith, once j, times_below j k g)) others is)
+    (plain_noted old new c l path (node_number i k g) (under k g) w.1 (λ j. omega (arith, once j, times_below j k g)) others is)

@@ -4,7 +4,7 @@ use Rattle.std.proofs.Common.{inl, inr}
 use Rattle.std.proofs.lemmas.Bool.{cases_lt}
 use Rattle.chess_types.specs.board.MoveParts.{MoveParts}
 use Rattle.chess_tree.specs.declared.arena.slot.Slot.{Slot}
-use Rattle.chess_tree.specs.steps.Grove.{Grove, no_move, Empty, Tree, tally, times, size, wide, first_of, last_of, join, number_of, under, those_before, those_after, under_at, change_at, number_at, Ways}
+use Rattle.chess_tree.specs.steps.Grove.{Grove, no_move, Empty, Tree, tally, times, size, wide, first_of, last_of, join, node_number, under, those_before, those_after, under_at, change_at, number_at, Ways}
 use Rattle.chess_tree.specs.steps.Linked.{IsLinked, Linked, Owns}
 use Rattle.chess_tree.specs.steps.Laid.{Laid, look, Same, Any}
 use Rattle.chess_tree.proofs.TimesLemmas.{tally_same, times_at, times_under, times_join, size_join, times_change, size_change, times_tail, tail_join, head_join}
@@ -17,7 +17,7 @@ pub linked_at : (find : ℕ → Slot) (path : List ℕ) (i : ℕ) (g : Grove) �
 linked_at find [] i g ways o w = (o, w)
 linked_at find (k ∷ path) i g ways o w =
     let one = linked_one Same find i 0 i k g ways.0 w in
-    linked_at find path (number_of i k g) (under k g) ways.1 (record { first_is = one.0.first_is; last_is = one.0.last_is }) one.1
+    linked_at find path (node_number i k g) (under k g) ways.1 (record { first_is = one.0.first_is; last_is = one.0.last_is }) one.1
 
 pub any_linked : (find : ℕ → Slot) (p q e : ℕ) (g : Grove) → Linked Same find p e g → Linked Any find q e g
 any_linked find p q e Empty w = tt

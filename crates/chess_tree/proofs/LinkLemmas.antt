@@ -2,7 +2,7 @@
 use Rattle.std.proofs.Common.{◌≡◌, ◌≢◌, ℕ, zero, suc, ◌+◌, ◌<◌, ◌≤◌, sym, ap, ◌∙◌, subst, List, [], ◌∷◌, arith}
 use Rattle.chess_types.specs.board.MoveParts.{MoveParts}
 use Rattle.chess_tree.specs.declared.arena.slot.Slot.{Slot}
-use Rattle.chess_tree.specs.steps.Grove.{Grove, Empty, Tree, tally, times, wide, first_of, last_of, join, number_of, move_in, under, those_after, within, under_at, change_at, number_at, Ways}
+use Rattle.chess_tree.specs.steps.Grove.{Grove, Empty, Tree, tally, times, wide, first_of, last_of, join, node_number, grove_move, under, those_after, within, under_at, change_at, number_at, Ways}
 use Rattle.chess_tree.specs.steps.Linked.{IsLinked, Linked, Owns}
 use Rattle.chess_tree.proofs.TimesLemmas.{tally_same, tally_other, times_tail, times_number, times_at, times_under, head_join, head_within, tail_within}
 
@@ -63,8 +63,8 @@ module _ (P : ℕ → ℕ → Type 0) where
 
   -- one of those side by side
   pub linked_one : (look : ℕ → Slot) (p e d k : ℕ) (g : Grove) → k < wide g → Linked P look p e g
-      → IsLinked P (look (number_of d k g)) p (move_in k g) (first_of 0 (under k g)) (last_of 0 (under k g)) (first_of e (those_after k g))
-      × Linked P look (number_of d k g) 0 (under k g)
+      → IsLinked P (look (node_number d k g)) p (grove_move k g) (first_of 0 (under k g)) (last_of 0 (under k g)) (first_of e (those_after k g))
+      × Linked P look (node_number d k g) 0 (under k g)
   linked_one look p e d k Empty h w = absurd (omega arith)
   linked_one look p e d zero (Tree i m below next) h w = (w.0, w.1)
   linked_one look p e d (suc k) (Tree i m below next) h w = linked_one look p e d k next (omega arith) w.2
@@ -82,9 +82,9 @@ module _ (P : ℕ → ℕ → Type 0) where
 
   -- one of them has another grove below it
   pub linked_within : (look new : ℕ → Slot) (p e d k : ℕ) (c : Grove → Grove) (g : Grove) → k < wide g → ((j : ℕ) → times j g ≤ 1)
-      → ((j : ℕ) → 0 < times j g → j ≢ number_of d k g → times j (under k g) ≡ 0 → new j ≡ look j)
-      → StaysBut (look (number_of d k g)) (new (number_of d k g)) → Owns (new (number_of d k g)) (c (under k g))
-      → Linked P new (number_of d k g) 0 (c (under k g))
+      → ((j : ℕ) → 0 < times j g → j ≢ node_number d k g → times j (under k g) ≡ 0 → new j ≡ look j)
+      → StaysBut (look (node_number d k g)) (new (node_number d k g)) → Owns (new (node_number d k g)) (c (under k g))
+      → Linked P new (node_number d k g) 0 (c (under k g))
       → Linked P look p e g → Linked P new p e (within k c g)
   linked_within look new p e d k c Empty h once same stays owns below w = absurd (omega arith)
   linked_within look new p e d zero c (Tree i m below next) h once same stays owns fresh w = (
@@ -97,12 +97,12 @@ module _ (P : ℕ → ℕ → Type 0) where
       let among = λ (j : ℕ). times_number d k next j (omega arith) in (
         subst (λ (s : Slot). IsLinked P s p m (first_of 0 below) (last_of 0 below) (first_of e (within k c next)))
             (sym (same i (omega (arith, tally_same i))
-            (λ q. let one : tally i (number_of d k next) ≡ 1 = subst (λ (y : ℕ). tally i y ≡ 1) q (tally_same i) in omega (arith, once i, tally_same i, among i, one))
+            (λ q. let one : tally i (node_number d k next) ≡ 1 = subst (λ (y : ℕ). tally i y ≡ 1) q (tally_same i) in omega (arith, once i, tally_same i, among i, one))
             (omega (arith, once i, tally_same i, among i))))
             (subst (λ (x : ℕ). IsLinked P (look i) p m (first_of 0 below) (last_of 0 below) x) (sym (head_within e k c next)) w.0),
         linked_frame P look new i 0 below
             (λ j t. same j (omega arith)
-            (λ q. let one : tally j (number_of d k next) ≡ 1 = subst (λ (y : ℕ). tally j y ≡ 1) q (tally_same j) in omega (arith, once j, among j, one))
+            (λ q. let one : tally j (node_number d k next) ≡ 1 = subst (λ (y : ℕ). tally j y ≡ 1) q (tally_same j) in omega (arith, once j, among j, one))
             (omega (arith, once j, among j))) w.1,
         linked_within look new p e d k c next (omega arith) (λ j. omega (arith, once j)) (λ j t. same j (omega arith)) stays owns fresh w.2,
       )
@@ -119,12 +119,12 @@ module _ (P : ℕ → ℕ → Type 0) where
   relinked look new c (k ∷ path) i g ways once same stays owns fresh o w =
       let one = linked_one P look i 0 i k g ways.0 w in
       let into = λ (j : ℕ). times_number i k g j ways.0 in
-      let own : Owns (look (number_of i k g)) (under k g) = record { first_is = one.0.first_is; last_is = one.0.last_is } in
-      let there = times_at path (number_of i k g) (under k g) ways.1 in
-      let rest = relinked look new c path (number_of i k g) (under k g) ways.1 (λ j. omega (arith, once j, into j))
+      let own : Owns (look (node_number i k g)) (under k g) = record { first_is = one.0.first_is; last_is = one.0.last_is } in
+      let there = times_at path (node_number i k g) (under k g) ways.1 in
+      let rest = relinked look new c path (node_number i k g) (under k g) ways.1 (λ j. omega (arith, once j, into j))
       (λ j t. same j (omega (arith, into j))) stays owns fresh own one.1 in
       let self : new i ≡ look i = same i (omega (arith, tally_same i))
-      (λ q. let two : 0 < tally i (number_of i k g) + times i (under k g) = subst (λ (y : ℕ). 0 < tally y (number_of i k g) + times y (under k g)) (sym q) there in omega (arith, once i, tally_same i, into i, two))
+      (λ q. let two : 0 < tally i (node_number i k g) + times i (under k g) = subst (λ (y : ℕ). 0 < tally y (node_number i k g) + times y (under k g)) (sym q) there in omega (arith, once i, tally_same i, into i, two))
       (omega (arith, once i, tally_same i, into i, times_under i path (under k g))) in (
         record { played = ap (λ (s : Slot). s.played) self; parent = ap (λ (s : Slot). s.parent) self; next = ap (λ (s : Slot). s.next) self },
         record {
@@ -133,7 +133,7 @@ module _ (P : ℕ → ℕ → Type 0) where
         },
         linked_within look new i 0 i k (change_at c path) g ways.0 (λ j. omega (arith, once j))
             (λ j t ne no. same j (omega arith)
-            (λ q. let two : 0 < tally j (number_of i k g) + times j (under k g) = subst (λ (y : ℕ). 0 < tally y (number_of i k g) + times y (under k g)) (sym q) there in omega (arith, no, two, tally_other j (number_of i k g) ne))
+            (λ q. let two : 0 < tally j (node_number i k g) + times j (under k g) = subst (λ (y : ℕ). 0 < tally y (node_number i k g) + times y (under k g)) (sym q) there in omega (arith, no, two, tally_other j (node_number i k g) ne))
             (omega (arith, no, times_under j path (under k g))))
             rest.0 rest.1 rest.2 w,
       )

@@ -2,7 +2,7 @@
 use Rattle.std.proofs.Common.{◌≡◌, ◌≢◌, Bool, true, false, None, Some, ℕ, zero, suc, ◌+◌, ◌-◌, get_or, ◌<◌, ◌≤◌, refl, sym, ap, ◌∙◌, subst, List, [], ◌∷◌, length, inl, inr, arith, add-one}
 use Rattle.std.proofs.lemmas.Bool.{cases_lt}
 use Rattle.chess_tree.specs.declared.arena.slot.Slot.{Slot}
-use Rattle.chess_tree.specs.steps.Grove.{Grove, Empty, Tree, tally, times, size, wide, first_of, last_of, number_of, under, those_before, those_after, move_in, plain, under_at, number_at, Ways}
+use Rattle.chess_tree.specs.steps.Grove.{Grove, Empty, Tree, tally, times, size, wide, first_of, last_of, node_number, under, those_before, those_after, grove_move, plain, under_at, number_at, Ways}
 use Rattle.chess_tree.specs.steps.Laid.{Laid, look, Same}
 use Rattle.chess_tree.specs.steps.Siblings.{above, Child, Owner}
 use Rattle.chess_types.specs.board.MoveParts.{MoveParts}
@@ -18,29 +18,29 @@ use Rattle.chess_tree.proofs.SeenLemmas.{once_at_most}
 use Rattle.chess_tree.proofs.LaidLemmas.{linked_at}
 use Rattle.chess_tree.proofs.ArenaLemmas.{in_range}
 
-number_none : (d k : ℕ) (g : Grove) → wide g ≤ k → number_of d k g ≡ d
+number_none : (d k : ℕ) (g : Grove) → wide g ≤ k → node_number d k g ≡ d
 number_none d k Empty h = refl
 number_none d zero (Tree i m below next) h = absurd (omega (arith, h))
 number_none d (suc k) (Tree i m below next) h = number_none d k next (omega (arith, h))
 
-pub number_some : (k : ℕ) (g : Grove) → times 0 g ≡ 0 → k < wide g → 0 < number_of 0 k g
+pub number_some : (k : ℕ) (g : Grove) → times 0 g ≡ 0 → k < wide g → 0 < node_number 0 k g
 number_some k g none h =
-    elim (cases_lt 0 (number_of 0 k g)) [
+    elim (cases_lt 0 (node_number 0 k g)) [
       | inl w ↦ w
-      | inr w ↦ (let is : number_of 0 k g ≡ 0 = omega (arith, w) in let one : tally 0 (number_of 0 k g) ≡ 1 = subst (λ (y : ℕ). tally 0 y ≡ 1) (sym is) (tally_same 0) in absurd (omega (arith, one, none, times_number 0 k g 0 h)))
+      | inr w ↦ (let is : node_number 0 k g ≡ 0 = omega (arith, w) in let one : tally 0 (node_number 0 k g) ≡ 1 = subst (λ (y : ℕ). tally 0 y ≡ 1) (sym is) (tally_same 0) in absurd (omega (arith, one, none, times_number 0 k g 0 h)))
     ]
 
-number_head : (g : Grove) → first_of 0 g ≡ number_of 0 0 g
+number_head : (g : Grove) → first_of 0 g ≡ node_number 0 0 g
 number_head Empty = refl
 number_head (Tree i m below next) = refl
 
-head_after : (k : ℕ) (g : Grove) → first_of 0 (those_after k g) ≡ number_of 0 (suc k) g
+head_after : (k : ℕ) (g : Grove) → first_of 0 (those_after k g) ≡ node_number 0 (suc k) g
 head_after k Empty = refl
 head_after zero (Tree i m below next) = number_head next
 head_after (suc k) (Tree i m below next) = head_after k next
 
 -- a number that isn't 0 has a place
-number_in : (k : ℕ) (g : Grove) (n : ℕ) → n ≡ number_of 0 k g → 0 < n → k < wide g
+number_in : (k : ℕ) (g : Grove) (n : ℕ) → n ≡ node_number 0 k g → 0 < n → k < wide g
 number_in k g n e h = elim (cases_lt k (wide g)) [ inl w ↦ w | inr w ↦ absurd (omega (arith, e, h, number_none 0 k g w)) ]
 
 wide_le : (g : Grove) → wide g ≤ size g
@@ -56,46 +56,46 @@ size_under : (path : List ℕ) (g : Grove) → size (under_at path g) ≤ size g
 size_under [] g = omega arith
 size_under (k ∷ path) g = omega (arith, size_under path (under k g), size_below k g)
 
-pub walk_start : (slots : List Slot) (at : ℕ) (g : Grove) → Owner slots at g → (look slots at).first ≡ number_of 0 0 g
+pub walk_start : (slots : List Slot) (at : ℕ) (g : Grove) → Owner slots at g → (look slots at).first ≡ node_number 0 0 g
 walk_start slots at g o = o.own.first_is ∙ number_head g
 
-pub walk_on : (slots : List Slot) (at k n : ℕ) (g : Grove) → Owner slots at g → n ≡ number_of 0 k g → 0 < n → (look slots n).next ≡ number_of 0 (k + 1) g
+pub walk_on : (slots : List Slot) (at k n : ℕ) (g : Grove) → Owner slots at g → n ≡ node_number 0 k g → 0 < n → (look slots n).next ≡ node_number 0 (k + 1) g
 walk_on slots at k n g o e h =
     let one = linked_one Same (look slots) at 0 0 k g (number_in k g n e h) o.linked in
-    ap (λ (x : ℕ). (look slots x).next) e ∙ one.0.next_is ∙ head_after k g ∙ ap (λ (x : ℕ). number_of 0 x g) (sym (add-one k))
+    ap (λ (x : ℕ). (look slots x).next) e ∙ one.0.next_is ∙ head_after k g ∙ ap (λ (x : ℕ). node_number 0 x g) (sym (add-one k))
 
-pub walk_range : (slots : List Slot) (at k n : ℕ) (g : Grove) → Owner slots at g → n ≡ number_of 0 k g → 0 < n → n < length slots
+pub walk_range : (slots : List Slot) (at k n : ℕ) (g : Grove) → Owner slots at g → n ≡ node_number 0 k g → 0 < n → n < length slots
 walk_range slots at k n g o e h =
-    let one : tally n (number_of 0 k g) ≡ 1 = subst (λ (y : ℕ). tally n y ≡ 1) e (tally_same n) in
+    let one : tally n (node_number 0 k g) ≡ 1 = subst (λ (y : ℕ). tally n y ≡ 1) e (tally_same n) in
     o.range n (omega (arith, one, times_number 0 k g n (number_in k g n e h)))
 
-pub walk_end : (slots : List Slot) (at k : ℕ) (g : Grove) → Owner slots at g → 0 ≡ number_of 0 k g → wide g ≤ k
+pub walk_end : (slots : List Slot) (at k : ℕ) (g : Grove) → Owner slots at g → 0 ≡ node_number 0 k g → wide g ≤ k
 walk_end slots at k g o e = elim (cases_lt k (wide g)) [ inl w ↦ absurd (omega (arith, number_some k g o.no_root w, e)) | inr w ↦ w ]
 
-pub walk_past : (slots : List Slot) (at k place : ℕ) (g : Grove) → Owner slots at g → 0 ≡ number_of 0 k g → k ≤ place → 0 ≡ number_of 0 place g
+pub walk_past : (slots : List Slot) (at k place : ℕ) (g : Grove) → Owner slots at g → 0 ≡ node_number 0 k g → k ≤ place → 0 ≡ node_number 0 place g
 walk_past slots at k place g o e h = sym (number_none 0 place g (omega (arith, walk_end slots at k g o e, h)))
 
-pub walk_in : (k n : ℕ) (g : Grove) → n ≡ number_of 0 k g → 0 < n → k < wide g
+pub walk_in : (k n : ℕ) (g : Grove) → n ≡ node_number 0 k g → 0 < n → k < wide g
 walk_in k n g e h = number_in k g n e h
 
 pub walk_wide : (slots : List Slot) (at : ℕ) (g : Grove) → Owner slots at g → wide g < length slots
 walk_wide slots at g o = omega (arith, wide_le g, o.few)
 
-pub walk_some : (slots : List Slot) (at k : ℕ) (g : Grove) → Owner slots at g → k < wide g → 0 < number_of 0 k g
+pub walk_some : (slots : List Slot) (at k : ℕ) (g : Grove) → Owner slots at g → k < wide g → 0 < node_number 0 k g
 walk_some slots at k g o h = number_some k g o.no_root h
 
 -- different places, different numbers
-number_apart : (j k : ℕ) (g : Grove) → ((x : ℕ) → times x g ≤ 1) → j < k → k < wide g → number_of 0 j g ≢ number_of 0 k g
+number_apart : (j k : ℕ) (g : Grove) → ((x : ℕ) → times x g ≤ 1) → j < k → k < wide g → node_number 0 j g ≢ node_number 0 k g
 number_apart j k Empty once h w q = absurd (omega (arith, w))
 number_apart zero zero (Tree i m below next) once h w q = absurd (omega (arith, h))
 number_apart zero (suc k) (Tree i m below next) once h w q =
-    let one : tally i (number_of 0 k next) ≡ 1 = subst (λ (y : ℕ). tally i y ≡ 1) q (tally_same i) in
+    let one : tally i (node_number 0 k next) ≡ 1 = subst (λ (y : ℕ). tally i y ≡ 1) q (tally_same i) in
     omega (arith, once i, tally_same i, one, times_number 0 k next i (omega (arith, w)))
 number_apart (suc j) zero (Tree i m below next) once h w q = absurd (omega (arith, h))
 number_apart (suc j) (suc k) (Tree i m below next) once h w q = number_apart j k next (λ x. omega (arith, once x)) (omega (arith, h)) (omega (arith, w)) q
 
 -- the last of those before a place
-tail_before : (d k : ℕ) (g : Grove) → k < wide g → last_of d (those_before (suc k) g) ≡ number_of 0 k g
+tail_before : (d k : ℕ) (g : Grove) → k < wide g → last_of d (those_before (suc k) g) ≡ node_number 0 k g
 tail_before d k Empty h = absurd (omega (arith, h))
 tail_before d zero (Tree i m below Empty) h = refl
 tail_before d zero (Tree i m below (Tree j n v w)) h = refl
@@ -108,7 +108,7 @@ before_none (Tree i m below next) = refl
 -- how far the walk to a child has come
 pub record Near (slots : List Slot) (at child prior next i : ℕ) (g : Grove) (k : ℕ) : Type 0 where
   pub short : i ≤ k
-  pub next_is : next ≡ number_of 0 i g
+  pub next_is : next ≡ node_number 0 i g
   pub prior_is : prior ≡ last_of 0 (those_before i g)
 
 pub near_start : (slots : List Slot) (at child first : ℕ) (g : Grove) (k : ℕ) → Child slots at child g k → first ≡ (look slots at).first → Near slots at child 0 first 0 g k
@@ -116,7 +116,7 @@ near_start slots at child first g k c e = record { short = omega arith; next_is 
 
 near_less : (slots : List Slot) (at child prior next i : ℕ) (g : Grove) (k : ℕ) → Child slots at child g k → Near slots at child prior next i g k → next ≢ child → i < k
 near_less slots at child prior next i g k c n ne =
-    elim (cases_lt i k) [ inl w ↦ w | inr w ↦ (let is : i ≡ k = omega (arith, w, n.short) in absurd (ne (n.next_is ∙ ap (λ (x : ℕ). number_of 0 x g) is ∙ sym c.is))) ]
+    elim (cases_lt i k) [ inl w ↦ w | inr w ↦ (let is : i ≡ k = omega (arith, w, n.short) in absurd (ne (n.next_is ∙ ap (λ (x : ℕ). node_number 0 x g) is ∙ sym c.is))) ]
 
 pub near_on : (slots : List Slot) (at child prior next i later : ℕ) (g : Grove) (k : ℕ) → Child slots at child g k → Near slots at child prior next i g k → next ≢ child
     → later ≡ (look slots next).next → Near slots at child next later (i + 1) g k
@@ -181,7 +181,7 @@ above_more trail (suc depth) n h e = e ∙ ap (λ (d : ℕ). get_or trail d 0) (
 
 -- one of those side by side, as it is kept
 abbrev pub held_in : (ℕ → Noted) → ℕ → Grove → Held
-held_in noted k g = record { move = move_in k g; nags = (noted (number_of 0 k g)).nags; comment = (noted (number_of 0 k g)).comment; below = plain noted (under k g) }
+held_in noted k g = record { move = grove_move k g; nags = (noted (node_number 0 k g)).nags; comment = (noted (node_number 0 k g)).comment; below = plain noted (under k g) }
 
 pub child_plain : (noted : ℕ → Noted) (k : ℕ) (g : Grove) → k < wide g → child k (plain noted g) ≡ Some (shown (held_in noted k g))
 child_plain noted k Empty h = absurd (omega (arith, h))
@@ -194,7 +194,7 @@ child_none noted zero (Tree i m below next) h = absurd (omega (arith, h))
 child_none noted (suc k) (Tree i m below next) h = child_none noted k next (omega (arith, h))
 
 -- its move
-pub walk_move : (slots : List Slot) (at k n : ℕ) (g : Grove) → Owner slots at g → n ≡ number_of 0 k g → 0 < n → (look slots n).played ≡ move_in k g
+pub walk_move : (slots : List Slot) (at k n : ℕ) (g : Grove) → Owner slots at g → n ≡ node_number 0 k g → 0 < n → (look slots n).played ≡ grove_move k g
 walk_move slots at k n g o e h =
     ap (λ (x : ℕ). (look slots x).played) e ∙ (linked_one Same (look slots) at 0 0 k g (number_in k g n e h) o.linked).0.move_is
 
@@ -207,12 +207,12 @@ Without m k g noted = find m (plain noted g) ≡ option_map (λ x. k + x) (find 
 same_test : (m n p : MoveParts) (b : Bool) → is_move m p ≡ b → m ≡ n → is_move n p ≡ b
 same_test m n p b is e = ap (λ (x : MoveParts). is_move x p) (sym e) ∙ is
 
-pub found_here : (slots : List Slot) (at k n : ℕ) (m : MoveParts) (g : Grove) (noted : ℕ → Noted) → Owner slots at g → n ≡ number_of 0 k g → 0 < n → Without m k g noted
+pub found_here : (slots : List Slot) (at k n : ℕ) (m : MoveParts) (g : Grove) (noted : ℕ → Noted) → Owner slots at g → n ≡ node_number 0 k g → 0 < n → Without m k g noted
     → is_move (look slots n).played m ≡ true → Some k ≡ find m (plain noted g)
 found_here slots at k n m g noted o e h w is =
     find_here m (plain noted g) k (held_in noted k g) w (child_plain noted k g (number_in k g n e h)) (same_test _ _ m true is (walk_move slots at k n g o e h))
 
-pub found_on : (slots : List Slot) (at k n : ℕ) (m : MoveParts) (g : Grove) (noted : ℕ → Noted) → Owner slots at g → n ≡ number_of 0 k g → 0 < n → Without m k g noted
+pub found_on : (slots : List Slot) (at k n : ℕ) (m : MoveParts) (g : Grove) (noted : ℕ → Noted) → Owner slots at g → n ≡ node_number 0 k g → 0 < n → Without m k g noted
     → is_move (look slots n).played m ≡ false → Without m (k + 1) g noted
 found_on slots at k n m g noted o e h w is =
     find_on m (plain noted g) k (held_in noted k g) w (child_plain noted k g (number_in k g n e h)) (same_test _ _ m false is (walk_move slots at k n g o e h))

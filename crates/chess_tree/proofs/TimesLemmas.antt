@@ -1,6 +1,6 @@
 -- How often a number is used.
 use Rattle.std.proofs.Common.{◌≡◌, ◌≢◌, ℕ, zero, suc, ◌+◌, ◌<◌, ◌≤◌, refl, ap, List, [], ◌∷◌, arith}
-use Rattle.chess_tree.specs.steps.Grove.{Grove, Empty, Tree, tally, times, size, wide, first_of, last_of, join, number_of, move_in, under, those_before, those_after, within, under_at, change_at, number_at, Ways}
+use Rattle.chess_tree.specs.steps.Grove.{Grove, Empty, Tree, tally, times, size, wide, first_of, last_of, join, node_number, grove_move, under, those_before, those_after, within, under_at, change_at, number_at, Ways}
 
 pub tally_same : (j : ℕ) → tally j j ≡ 1
 unfolding tally
@@ -33,7 +33,7 @@ times_tail (Tree i m below Empty) d h = omega (arith, tally_same i)
 times_tail (Tree i m below (Tree j n b next)) d h = omega (arith, times_tail (Tree j n b next) i (omega arith))
 
 -- one of them, those before it and those after it
-pub parted : (k : ℕ) (g : Grove) (d : ℕ) → k < wide g → g ≡ join (those_before k g) (Tree (number_of d k g) (move_in k g) (under k g) (those_after k g))
+pub parted : (k : ℕ) (g : Grove) (d : ℕ) → k < wide g → g ≡ join (those_before k g) (Tree (node_number d k g) (grove_move k g) (under k g) (those_after k g))
 parted k Empty d h = absurd (omega arith)
 parted zero (Tree i m below next) d h = refl
 parted (suc k) (Tree i m below next) d h = ap (λ (g : Grove). Tree i m below g) (parted k next d (omega arith))
@@ -68,7 +68,7 @@ pub tail_join : (d : ℕ) (f g : Grove) → last_of d (join f g) ≡ last_of (la
 tail_join d Empty g = refl
 tail_join d (Tree i m below next) g = tail_join i next g
 
-pub times_number : (d k : ℕ) (g : Grove) (j : ℕ) → k < wide g → tally j (number_of d k g) + times j (under k g) ≤ times j g
+pub times_number : (d k : ℕ) (g : Grove) (j : ℕ) → k < wide g → tally j (node_number d k g) + times j (under k g) ≤ times j g
 times_number d k Empty j h = absurd (omega arith)
 times_number d zero (Tree i m below next) j h = omega arith
 times_number d (suc k) (Tree i m below next) j h = omega (arith, times_number d k next j (omega arith))
@@ -86,12 +86,12 @@ times_under j (k ∷ path) g = omega (arith, times_under j path (under k g), tim
 pub times_at : (path : List ℕ) (i : ℕ) (g : Grove) → Ways path g → 0 < tally (number_at path i g) i + times (number_at path i g) g
 times_at [] i g h = omega (arith, tally_same i)
 times_at (k ∷ path) i g h =
-    omega (arith, times_at path (number_of i k g) (under k g) h.1, times_number i k g (number_at path (number_of i k g) (under k g)) h.0)
+    omega (arith, times_at path (node_number i k g) (under k g) h.1, times_number i k g (number_at path (node_number i k g) (under k g)) h.0)
 
 -- and below the top, among those of the grove
 pub times_deep : (k : ℕ) (path : List ℕ) (i : ℕ) (g : Grove) → Ways (k ∷ path) g → 0 < times (number_at (k ∷ path) i g) g
 times_deep k path i g h =
-    omega (arith, times_at path (number_of i k g) (under k g) h.1, times_number i k g (number_at path (number_of i k g) (under k g)) h.0)
+    omega (arith, times_at path (node_number i k g) (under k g) h.1, times_number i k g (number_at path (node_number i k g) (under k g)) h.0)
 
 pub times_change : (j : ℕ) (c : Grove → Grove) (path : List ℕ) (g : Grove) → Ways path g
     → times j (change_at c path g) + times j (under_at path g) ≡ times j g + times j (c (under_at path g))
@@ -107,4 +107,4 @@ size_change c (k ∷ path) g h = omega (arith, size_within k (change_at c path) 
 -- the node at a path, and those below it
 pub at_le : (j : ℕ) (path : List ℕ) (i : ℕ) (g : Grove) → Ways path g → tally j (number_at path i g) + times j (under_at path g) ≤ tally j i + times j g
 at_le j [] i g h = omega arith
-at_le j (k ∷ path) i g h = omega (arith, at_le j path (number_of i k g) (under k g) h.1, times_number i k g j h.0)
+at_le j (k ∷ path) i g h = omega (arith, at_le j path (node_number i k g) (under k g) h.1, times_number i k g j h.0)

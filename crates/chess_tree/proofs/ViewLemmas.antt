@@ -7,7 +7,7 @@ use Rattle.chess_tree.specs.Forest.{Forest, NodeParts, child, count}
 use Rattle.chess_tree.specs.Edits.{without_node}
 use Rattle.chess_tree.specs.GameTree.{node_of}
 use Rattle.chess_tree.specs.steps.Rooted.{Noted, Rooted, root_shown}
-use Rattle.chess_tree.specs.steps.Grove.{Grove, Empty, Tree, first_of, times, size, wide, number_of, move_in, under, under_at, number_at, plain, Ways}
+use Rattle.chess_tree.specs.steps.Grove.{Grove, Empty, Tree, first_of, times, size, wide, node_number, grove_move, under, under_at, number_at, plain, Ways}
 use Rattle.chess_tree.specs.steps.Linked.{Linked, Owns}
 use Rattle.chess_tree.specs.steps.Laid.{IsArena, grove_from, look, seen, Same}
 use Rattle.chess_tree.specs.steps.Viewed.{IsSide, IsViewed, node_seen, side_seen}
@@ -50,7 +50,7 @@ with_below_is : (slots : List Slot) (noted : ℕ → Noted) (i : ℕ) (g : Grove
 with_below_is slots noted i g o = ap (node_with slots noted i) (below_is slots i g o)
 
 -- a child is the node with its number
-child_is : (slots : List Slot) (noted : ℕ → Noted) (at k n : ℕ) (g : Grove) → Owner slots at g → n ≡ number_of 0 k g → 0 < n
+child_is : (slots : List Slot) (noted : ℕ → Noted) (at k n : ℕ) (g : Grove) → Owner slots at g → n ≡ node_number 0 k g → 0 < n
     → Some (node_with slots noted n (under k g)) ≡ child k (plain noted g)
 child_is slots noted at k n g o e h =
     let move = if_some n None (Some (look slots n).played) h ∙ ap (λ (m : MoveParts). Some m) (walk_move slots at k n g o e h) in
@@ -72,7 +72,7 @@ no_child slots noted i place found n v e at h =
     sym (child_none noted place b (walk_end slots i place b o (sym h ∙ at b o))) ∙ ap (child place) (sym (below_seen slots noted i n v e))
 
 -- the child at a place is one of the game too
-child_there : (slots : List Slot) (i place found : ℕ) (v : IsViewed slots i) → found ≡ number_of 0 place (under_at v.path v.game) → 0 < found → IsViewed slots found
+child_there : (slots : List Slot) (i place found : ℕ) (v : IsViewed slots i) → found ≡ node_number 0 place (under_at v.path v.game) → 0 < found → IsViewed slots found
 child_there slots i place found v is h =
     let b = under_at v.path v.game in
     let short : place < wide b = walk_in place found b is h in
@@ -87,7 +87,7 @@ child_there slots i place found v is h =
       few = v.few;
     }
 
-child_owner : (slots : List Slot) (i place found : ℕ) (v : IsViewed slots i) → found ≡ number_of 0 place (under_at v.path v.game) → 0 < found → Owner slots found (under place (under_at v.path v.game))
+child_owner : (slots : List Slot) (i place found : ℕ) (v : IsViewed slots i) → found ≡ node_number 0 place (under_at v.path v.game) → 0 < found → Owner slots found (under place (under_at v.path v.game))
 unfolding child_there
 child_owner slots i place found v is h =
     subst (Owner slots found) (under_on v.path place v.game) (owner slots found (child_there slots i place found v is h))
@@ -97,7 +97,7 @@ pub child_viewed : (slots : List Slot) (noted : ℕ → Noted) (i place found : 
 child_viewed slots noted i place found n v e at h =
     let b = under_at v.path v.game in
     let o = owner slots i v in
-    let is : found ≡ number_of 0 place b = at b o in (
+    let is : found ≡ node_number 0 place b = at b o in (
       child_there slots i place found v is h,
       ap (λ (x : NodeParts). Some x) (with_below_is slots noted found (under place b) (child_owner slots i place found v is h)) ∙ child_is slots noted i place found b o is h
           ∙ ap (child place) (sym (below_seen slots noted i n v e)),
@@ -122,8 +122,8 @@ deep_is : (slots : List Slot) (noted : ℕ → Noted) (path : List ℕ) (i : ℕ
 deep_is slots noted [] i g ways own links out = refl
 deep_is slots noted (k ∷ path) i g ways own links out =
     let one = linked_one Same (look slots) i 0 i k g ways.0 links in
-    let n = number_of i k g in
-    let same : n ≡ number_of 0 k g = number_any i k g ways.0 in
+    let n = node_number i k g in
+    let same : n ≡ node_number 0 k g = number_any i k g ways.0 in
     let some : 0 < n = omega (arith, same, number_some k g out ways.0) in
     let move = if_some n None (Some (look slots n).played) some ∙ ap (λ (m : MoveParts). Some m) one.0.move_is in
     let nags = if_some n [] (noted n).nags some ∙ ap (λ (x : ℕ). (noted x).nags) same in
@@ -164,7 +164,7 @@ rest_of zero g = g
 rest_of (suc k) Empty = Empty
 rest_of (suc k) (Tree i m below next) = rest_of k next
 
-rest_number : (k : ℕ) (g : Grove) → number_of 0 k g ≡ first_of 0 (rest_of k g)
+rest_number : (k : ℕ) (g : Grove) → node_number 0 k g ≡ first_of 0 (rest_of k g)
 rest_number zero Empty = refl
 rest_number zero (Tree i m below next) = refl
 rest_number (suc k) Empty = refl
@@ -185,20 +185,20 @@ rest_linked find p zero g w = w
 rest_linked find p (suc k) Empty w = tt
 rest_linked find p (suc k) (Tree i m below next) w = rest_linked find p k next w.2
 
-rest_split : (k : ℕ) (g : Grove) → k < wide g → rest_of k g ≡ Tree (number_of 0 k g) (move_in k g) (under k g) (rest_of (suc k) g)
+rest_split : (k : ℕ) (g : Grove) → k < wide g → rest_of k g ≡ Tree (node_number 0 k g) (grove_move k g) (under k g) (rest_of (suc k) g)
 rest_split k Empty h = absurd (omega (arith, h))
 rest_split zero (Tree i m below next) h = refl
 rest_split (suc k) (Tree i m below next) h = rest_split k next (omega (arith, h))
 
-rest_parted : (k : ℕ) (g : Grove) → k < wide g → rest_of k g ≡ Tree (number_of 0 k g) (move_in k g) (under k g) (rest_of (k + 1) g)
-rest_parted k g h = rest_split k g h ∙ ap (λ (x : ℕ). Tree (number_of 0 k g) (move_in k g) (under k g) (rest_of x g)) (sym (add-one k))
+rest_parted : (k : ℕ) (g : Grove) → k < wide g → rest_of k g ≡ Tree (node_number 0 k g) (grove_move k g) (under k g) (rest_of (k + 1) g)
+rest_parted k g h = rest_split k g h ∙ ap (λ (x : ℕ). Tree (node_number 0 k g) (grove_move k g) (under k g) (rest_of x g)) (sym (add-one k))
 
-side_is : (slots : List Slot) (at k n : ℕ) (g : Grove) → Owner slots at g → n ≡ number_of 0 k g → grove_from (length slots) (look slots) n ≡ rest_of k g
+side_is : (slots : List Slot) (at k n : ℕ) (g : Grove) → Owner slots at g → n ≡ node_number 0 k g → grove_from (length slots) (look slots) n ≡ rest_of k g
 side_is slots at k n g o e =
     ap (λ (x : ℕ). grove_from (length slots) (look slots) x) (e ∙ rest_number k g)
     ∙ grove_is Same (look slots) at (length slots) (rest_of k g) (omega (arith, o.no_root, rest_times 0 k g)) (omega (arith, o.few, rest_size k g)) (rest_linked (look slots) at k g o.linked)
 
-first_number : (g : Grove) → first_of 0 g ≡ number_of 0 0 g
+first_number : (g : Grove) → first_of 0 g ≡ node_number 0 0 g
 first_number Empty = refl
 first_number (Tree i m below next) = refl
 
@@ -224,7 +224,7 @@ side_first slots noted i f s e h =
     let b = under_at s.viewed.path s.viewed.game in
     let o = owner slots s.parent s.viewed in
     let short = walk_in s.place i b s.is h in
-    let all : f ≡ plain noted (Tree (number_of 0 s.place b) (move_in s.place b) (under s.place b) (rest_of (s.place + 1) b)) =
+    let all : f ≡ plain noted (Tree (node_number 0 s.place b) (grove_move s.place b) (under s.place b) (rest_of (s.place + 1) b)) =
     sym e ∙ ap (plain noted) (side_is slots s.parent s.place i b o s.is ∙ rest_parted s.place b short) in (
       child_there slots s.parent s.place i s.viewed s.is h,
       ap (λ (x : NodeParts). Some x) (with_below_is slots noted i (under s.place b) (child_owner slots s.parent s.place i s.viewed s.is h))
@@ -237,8 +237,8 @@ side_next slots noted i t f s e h r =
     let b = under_at s.viewed.path s.viewed.game in
     let o = owner slots s.parent s.viewed in
     let short = walk_in s.place i b s.is h in
-    let next : t.next ≡ number_of 0 (s.place + 1) b = ap (λ (x : Slot). x.next) r ∙ walk_on slots s.parent s.place i b o s.is h in
-    let all : f ≡ plain noted (Tree (number_of 0 s.place b) (move_in s.place b) (under s.place b) (rest_of (s.place + 1) b)) =
+    let next : t.next ≡ node_number 0 (s.place + 1) b = ap (λ (x : Slot). x.next) r ∙ walk_on slots s.parent s.place i b o s.is h in
+    let all : f ≡ plain noted (Tree (node_number 0 s.place b) (grove_move s.place b) (under s.place b) (rest_of (s.place + 1) b)) =
     sym e ∙ ap (plain noted) (side_is slots s.parent s.place i b o s.is ∙ rest_parted s.place b short) in (
       record { parent = s.parent; viewed = s.viewed; place = s.place + 1; is = next },
       ap (plain noted) (side_is slots s.parent (s.place + 1) t.next b o next) ∙ ap (without_node 0) (sym all),

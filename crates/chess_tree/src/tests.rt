@@ -78,11 +78,20 @@ fn add_on<A: Allocator>(
     Ok(())
 }
 
+/// Adds the move of that text, which is legal at the cursor, by those words.
+fn add_by<A: Allocator>(
+    rt: &impl Abort,
+    tree: &mut Tree<'_, A>,
+    table: &KeyTable,
+    text: &str,
+) -> Result<(), TreeFault> {
+    let mut live = position_here(rt, tree, table);
+    add_on(rt, tree, &mut live, text)
+}
+
 /// Adds the move of that text, which is legal at the cursor.
 fn add<A: Allocator>(rt: &impl Abort, tree: &mut Tree<'_, A>, text: &str) -> Result<(), TreeFault> {
-    let table = a_table();
-    let mut live = position_here(rt, tree, &table);
-    add_on(rt, tree, &mut live, text)
+    add_by(rt, tree, &a_table(), text)
 }
 
 /// The move of the child at that place.

@@ -11,7 +11,7 @@ use Rattle.chess_uci.specs.declared.reply.Reply.{Reply}
 use Rattle.chess_uci.specs.Commands.{Command, Idle, Uci, IsReady, NewGame, Position, Unplaced, Go, Stop, Quit, SetOption, asked, without_memory, claims_set}
 use Rattle.chess_uci.specs.Go.{fields}
 use Rattle.chess_uci.specs.Machine.{Event, Line, Starved, Slice, Moment, Search, State, Step, Turn, step, step_if, live_step, line_step, idle_command, busy_command, go_among, placed_at, set_claims, slice_step, slice_if, sliced, complete, moment_step, end_if, is_reached, begun}
-use Rattle.chess_uci.specs.Laws.{replies, after, one, best_moves, is_best_move, is_go, is_quit, says_go, says_quit, running, is_taken, taken, unfinished}
+use Rattle.chess_uci.specs.Laws.{replies, after_events, one, best_moves, is_best_move, is_go, is_quit, says_go, says_quit, running, is_taken, taken, unfinished}
 
 -- the best moves replied, and the search that runs afterwards
 abbrev both : Step → ℕ
@@ -155,9 +155,9 @@ replies-ended s [] end = refl
 replies-ended s (event ∷ events) end =
     ap (λ (t : Step). t.0 ++ replies t.1 events) (step_ended s event end) ∙ replies-ended s events end
 
-pub after-ended : (s : State) (events : List Event) → s.ended ≡ true → after s events ≡ s
+pub after-ended : (s : State) (events : List Event) → s.ended ≡ true → after_events s events ≡ s
 after-ended s [] end = refl
-after-ended s (event ∷ events) end = ap (λ (t : Step). after t.1 events) (step_ended s event end) ∙ after-ended s events end
+after-ended s (event ∷ events) end = ap (λ (t : Step). after_events t.1 events) (step_ended s event end) ∙ after-ended s events end
 
 one_of_ended : (b c : Bool) → one (is_taken true b c) ≡ 0
 one_of_ended b c = refl

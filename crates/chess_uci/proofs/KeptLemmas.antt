@@ -9,7 +9,7 @@ use Rattle.chess_uci.specs.Placing.{placed}
 use Rattle.chess_uci.specs.Commands.{Command, Idle, Uci, IsReady, NewGame, Position, Unplaced, Go, Stop, Quit, SetOption, asked, without_memory, claims_set}
 use Rattle.chess_uci.specs.Go.{fields}
 use Rattle.chess_uci.specs.Machine.{Event, Line, Starved, Slice, Moment, Search, State, Step, Turn, beginning, step, step_if, live_step, line_step, idle_command, busy_command, go_among, placed_at, set_claims, slice_step, slice_if, sliced, complete, moment_step, end_if, is_reached, chosen, begun}
-use Rattle.chess_uci.specs.Laws.{after, Each, TellsBest, TellsTheBest, finished, best_done}
+use Rattle.chess_uci.specs.Laws.{after_events, Each, TellsBest, TellsTheBest, finished, best_done}
 
 -- what is kept of the last completed depth is the best there
 abbrev IsKept : GameLine → Option Search → Type 0
@@ -114,11 +114,11 @@ step_if_good : (ended : Bool) (s : State) (event : Event) → IsKept s.line s.se
 step_if_good true s event k = (k, tt)
 step_if_good false s event k = live_good s event k
 
-after_kept : (s : State) (events : List Event) → IsKept s.line s.search → IsKept (after s events).line (after s events).search
+after_kept : (s : State) (events : List Event) → IsKept s.line s.search → IsKept (after_events s events).line (after_events s events).search
 after_kept s [] k = k
 after_kept s (event ∷ events) k = after_kept (step s event).1 events (step_if_good s.ended s event k).0
 
 pub tells_the_best : TellsTheBest
 tells_the_best events event =
-    let s = after beginning events in
+    let s = after_events beginning events in
     (step_if_good s.ended s event (after_kept beginning events tt)).1

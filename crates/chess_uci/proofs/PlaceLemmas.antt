@@ -19,7 +19,7 @@ use Rattle.chess_draws.specs.LineParts.{LineParts}
 use Rattle.chess_uci.specs.declared.placing.PlaceFault.{PlaceFault}
 use Rattle.chess_uci.specs.declared.placing.PlaceFault.TheVariants.{Refused, Memory as NoMemory}
 use Rattle.chess_uci.specs.steps.Places.{Places, Begins}
-use Rattle.chess_uci.specs.Placing.{named_move, with_move, with_word, played, begun_by, before_moves, behind_moves, placed}
+use Rattle.chess_uci.specs.Placing.{named_move, line_with_move, line_with_word, line_played, begun_by, before_moves, behind_moves, placed}
 
 -- each move whose text it is, is what was read of it
 abbrev pub Complete : List ℕ → Option MoveParts → Type 0
@@ -72,37 +72,37 @@ named_illegal line word m complete illegal =
     find_none (λ n. bytes_eq word (move_text n)) (legal_moves (last line))
     (λ k d l e. let same = the_read line word (Some m) complete k d l e in let legal = moves_legal (last line) k d l in cc)
 
-pub word_unread : (line : Line) (word : List ℕ) → Complete word None → with_word (Some line) word ≡ None
-word_unread line word complete = ap (with_move line) (named_none line word complete)
+pub word_unread : (line : Line) (word : List ℕ) → Complete word None → line_with_word (Some line) word ≡ None
+word_unread line word complete = ap (line_with_move line) (named_none line word complete)
 
 pub word_played : (line now : Line) (word : List ℕ) (m : MoveParts) → Complete word (Some m) → word ≡ move_text m → m.from < 64 → m.to < 64 →
-    push_answer line m ≡ Ok tt → now ≡ extended line m → with_word (Some line) word ≡ Some now
+    push_answer line m ≡ Ok tt → now ≡ extended line m → line_with_word (Some line) word ≡ Some now
 word_played line now word m complete sound from to pushed is = cases (is_legal (last line) m) (nat_le 20000 (length line.moves)) refl refl
   where
-    cases : (b c : Bool) → is_legal (last line) m ≡ b → nat_le 20000 (length line.moves) ≡ c → with_word (Some line) word ≡ Some now
+    cases : (b c : Bool) → is_legal (last line) m ≡ b → nat_le 20000 (length line.moves) ≡ c → line_with_word (Some line) word ≡ Some now
     cases false c e f = let clash = rw e at pushed in cc
     cases true true e f = let clash = rw (e, f) at pushed in cc
-    cases true false e f = ap (with_move line) (named_legal line word m complete sound from to e) ∙ rw f (ap (λ x. Some x) (sym is))
+    cases true false e f = ap (line_with_move line) (named_legal line word m complete sound from to e) ∙ rw f (ap (λ x. Some x) (sym is))
 
-pub word_illegal : (line : Line) (word : List ℕ) (m : MoveParts) → Complete word (Some m) → push_answer line m ≡ Err Illegal → with_word (Some line) word ≡ None
+pub word_illegal : (line : Line) (word : List ℕ) (m : MoveParts) → Complete word (Some m) → push_answer line m ≡ Err Illegal → line_with_word (Some line) word ≡ None
 word_illegal line word m complete pushed = cases (is_legal (last line) m) (nat_le 20000 (length line.moves)) refl refl
   where
-    cases : (b c : Bool) → is_legal (last line) m ≡ b → nat_le 20000 (length line.moves) ≡ c → with_word (Some line) word ≡ None
-    cases false c e f = ap (with_move line) (named_illegal line word m complete e)
+    cases : (b c : Bool) → is_legal (last line) m ≡ b → nat_le 20000 (length line.moves) ≡ c → line_with_word (Some line) word ≡ None
+    cases false c e f = ap (line_with_move line) (named_illegal line word m complete e)
     cases true true e f = let clash = rw (e, f) at pushed in cc
     cases true false e f = let clash = rw (e, f) at pushed in cc
 
 pub word_too_long : (line : Line) (word : List ℕ) (m : MoveParts) → Complete word (Some m) → word ≡ move_text m → m.from < 64 → m.to < 64 →
-    push_answer line m ≡ Err TooLong → with_word (Some line) word ≡ None
+    push_answer line m ≡ Err TooLong → line_with_word (Some line) word ≡ None
 word_too_long line word m complete sound from to pushed = cases (is_legal (last line) m) (nat_le 20000 (length line.moves)) refl refl
   where
-    cases : (b c : Bool) → is_legal (last line) m ≡ b → nat_le 20000 (length line.moves) ≡ c → with_word (Some line) word ≡ None
+    cases : (b c : Bool) → is_legal (last line) m ≡ b → nat_le 20000 (length line.moves) ≡ c → line_with_word (Some line) word ≡ None
     cases false c e f = let clash = rw e at pushed in cc
-    cases true true e f = ap (with_move line) (named_legal line word m complete sound from to e) ∙ rw f refl
+    cases true true e f = ap (line_with_move line) (named_legal line word m complete sound from to e) ∙ rw f refl
     cases true false e f = let clash = rw (e, f) at pushed in cc
 
 -- where there is no line, no word leads to one
-pub played_none : (words : List (List ℕ)) → played None words ≡ None
+pub played_none : (words : List (List ℕ)) → line_played None words ≡ None
 played_none [] = refl
 played_none (word ∷ words) = played_none words
 
@@ -114,12 +114,12 @@ pub pushed_refused : (old : LineParts) (m : MoveParts) (fault : LineFault) → A
 pushed_refused old m fault answer other = ⊎_elim (λ e. sym e) (λ h. let clash = h.1 in absurd (other cc)) answer
 
 -- a word that leads to no line, or finds no memory: so do the words from it on
-pub words_refused : (X Y : Type 0) (start line now later : Line) (word : List ℕ) (words all : List (List ℕ)) (fault : PlaceFault) → Places {X = X} (with_word (Some line) word) now (Err fault) →
-    played (Some line) (word ∷ words) ≡ played (Some start) all → Places {X = Y} (played (Some start) all) later (Err fault)
-words_refused X Y start line now later word words all Refused none same = sym same ∙ ap (λ l. played l words) none ∙ played_none words
+pub words_refused : (X Y : Type 0) (start line now later : Line) (word : List ℕ) (words all : List (List ℕ)) (fault : PlaceFault) → Places {X = X} (line_with_word (Some line) word) now (Err fault) →
+    line_played (Some line) (word ∷ words) ≡ line_played (Some start) all → Places {X = Y} (line_played (Some start) all) later (Err fault)
+words_refused X Y start line now later word words all Refused none same = sym same ∙ ap (λ l. line_played l words) none ∙ played_none words
 words_refused X Y start line now later word words all NoMemory none same = tt
 
 -- and where the line doesn't begin
 pub beginning_refused : (words : List (List ℕ)) (fault : PlaceFault) → Begins (begun_by (before_moves words)) (Err fault) → Begins (placed words) (Err fault)
-beginning_refused words Refused none = ap (λ l. played l (behind_moves words)) none ∙ played_none (behind_moves words)
+beginning_refused words Refused none = ap (λ l. line_played l (behind_moves words)) none ∙ played_none (behind_moves words)
 beginning_refused words NoMemory none = tt

@@ -4,17 +4,17 @@ use Rattle.chess_uci.specs.declared.reply.Reply.{Reply}
 use Rattle.chess_uci.specs.declared.reply.Reply.TheVariants.{ReadyOk}
 use Rattle.chess_uci.specs.Commands.{IsReady, Quit, asked}
 use Rattle.chess_uci.specs.Machine.{Event, Line, Search, State, Step, step, line_step, beginning}
-use Rattle.chess_uci.specs.Laws.{replies, after, is_quit, says_quit, AnswersEachGo, AnswersAtTheEnd, IsReadyAlone, SilentAfterQuit}
+use Rattle.chess_uci.specs.Laws.{replies, after_events, is_quit, says_quit, AnswersEachGo, AnswersAtTheEnd, IsReadyAlone, SilentAfterQuit}
 use Rattle.chess_uci.proofs.CountLemmas.{step_live, step_quit, replies-ended, counted}
 use Rattle.chess_uci.proofs.CauseLemmas.{step_cause}
 
-pub replies-append : (s : State) (xs ys : List Event) → replies s (xs ++ ys) ≡ replies s xs ++ replies (after s xs) ys
+pub replies-append : (s : State) (xs ys : List Event) → replies s (xs ++ ys) ≡ replies s xs ++ replies (after_events s xs) ys
 replies-append s [] ys = refl
 replies-append s (x ∷ xs) ys =
     let t = step s x in
-    ap (λ (rs : List Reply). t.0 ++ rs) (replies-append t.1 xs ys) ∙ sym (append_assoc t.0 (replies t.1 xs) (replies (after t.1 xs) ys))
+    ap (λ (rs : List Reply). t.0 ++ rs) (replies-append t.1 xs ys) ∙ sym (append_assoc t.0 (replies t.1 xs) (replies (after_events t.1 xs) ys))
 
-pub after-append : (s : State) (xs ys : List Event) → after s (xs ++ ys) ≡ after (after s xs) ys
+pub after-append : (s : State) (xs ys : List Event) → after_events s (xs ++ ys) ≡ after_events (after_events s xs) ys
 after-append s [] ys = refl
 after-append s (x ∷ xs) ys = after-append (step s x).1 xs ys
 
@@ -27,11 +27,11 @@ step_ready s line is live = step_live s (Line line) live ∙ ap (line_step s s.s
 
 pub ready_alone : IsReadyAlone
 ready_alone before later line is live =
-    let s = after beginning before in
+    let s = after_events beginning before in
     let at : step s (Line line) ≡ (ReadyOk ∷ [], s) = step_ready s line is live in (
       replies-append beginning before (Line line ∷ later) ∙ ap (λ (t : Step). replies beginning before ++ (t.0 ++ replies t.1 later)) at,
       replies-append beginning before later,
-      after-append beginning before (Line line ∷ later) ∙ ap (λ (t : Step). after t.1 later) at ∙ sym (after-append beginning before later),
+      after-append beginning before (Line line ∷ later) ∙ ap (λ (t : Step). after_events t.1 later) at ∙ sym (after-append beginning before later),
     )
 
 quit_said : (line : List ℕ) → asked line ≡ Quit → says_quit (Line line) ≡ true
@@ -45,13 +45,13 @@ silent s false line later live is =
 
 pub silent_after_quit : SilentAfterQuit
 silent_after_quit before later line is =
-    let s = after beginning before in
+    let s = after_events beginning before in
     replies-append beginning before (Line line ∷ later)
     ∙ ap (λ (rs : List Reply). replies beginning before ++ rs) (silent s s.ended line later refl is)
     ∙ append-nil (replies beginning before)
 
 pub answers_at_the_end : AnswersAtTheEnd
-answers_at_the_end events event live = step_cause (after beginning events) event live
+answers_at_the_end events event live = step_cause (after_events beginning events) event live
 
 pub answers_each_go : AnswersEachGo
 answers_each_go events = omega (arith, counted false beginning events refl)

@@ -6,12 +6,12 @@ use Rattle.chess_types.specs.board.Lines.{Line as GameLine}
 use Rattle.chess_search.specs.Best.{best}
 use Rattle.chess_uci.specs.Commands.{Command, Idle, Uci, IsReady, NewGame, Position, Unplaced, Go, Stop, Quit, SetOption, asked, without_memory}
 use Rattle.chess_uci.specs.Machine.{Event, Line, Starved, Slice, Moment, Search, State, Step, beginning, step_if, live_step, line_step, busy_command, slice_step, slice_if, sliced, complete, moment_step, end_if, is_reached}
-use Rattle.chess_uci.specs.Laws.{after, GoesOn, SearchStays}
+use Rattle.chess_uci.specs.Laws.{after_events, KeepsSearching, SearchStays}
 
-here : (s : State) (x : Search) → s.search ≡ Some x → GoesOn s.line x s.line s.search
-here s x e = subst (GoesOn s.line x s.line) (sym e) (refl, refl, refl, refl, refl, refl)
+here : (s : State) (x : Search) → s.search ≡ Some x → KeepsSearching s.line x s.line s.search
+here s x e = subst (KeepsSearching s.line x s.line) (sym e) (refl, refl, refl, refl, refl, refl)
 
-busy_stays : (s : State) (x : Search) (c : Command) → s.search ≡ Some x → GoesOn s.line x (busy_command x s c).1.line (busy_command x s c).1.search
+busy_stays : (s : State) (x : Search) (c : Command) → s.search ≡ Some x → KeepsSearching s.line x (busy_command x s c).1.line (busy_command x s c).1.search
 busy_stays s x Idle e = here s x e
 busy_stays s x Uci e = here s x e
 busy_stays s x IsReady e = here s x e
@@ -23,25 +23,25 @@ busy_stays s x Stop e = tt
 busy_stays s x Quit e = tt
 busy_stays s x (SetOption words) e = here s x e
 
-complete_stays : (l : GameLine) (last infinite : Bool) (x : Search) (best : Option (MoveParts × ℤ)) → GoesOn l x l (complete last infinite x best).1
+complete_stays : (l : GameLine) (last infinite : Bool) (x : Search) (best : Option (MoveParts × ℤ)) → KeepsSearching l x l (complete last infinite x best).1
 complete_stays l false infinite x best = (refl, refl, refl, refl, refl, refl)
 complete_stays l true true x best = (refl, refl, refl, refl, refl, refl)
 complete_stays l true false x best = tt
 
-sliced_stays : (l : GameLine) (all : Bool) (x : Search) → GoesOn l x l (sliced l all x).1
+sliced_stays : (l : GameLine) (all : Bool) (x : Search) → KeepsSearching l x l (sliced l all x).1
 sliced_stays l false x = (refl, refl, refl, refl, refl, refl)
 sliced_stays l true x = complete_stays l (x.depth == x.last) x.infinite x (best x.claims x.depth l x.roots)
 
-slice_stays : (l : GameLine) (left : Bool) (x : Search) → GoesOn l x l (slice_if l left x).1
+slice_stays : (l : GameLine) (left : Bool) (x : Search) → KeepsSearching l x l (slice_if l left x).1
 slice_stays l false x = (refl, refl, refl, refl, refl, refl)
 slice_stays l true x = sliced_stays l (x.searched + 1 == length x.roots) (record x { searched = x.searched + 1 })
 
-end_stays : (l : GameLine) (reached : Bool) (x : Search) → GoesOn l x l (end_if reached x).1
+end_stays : (l : GameLine) (reached : Bool) (x : Search) → KeepsSearching l x l (end_if reached x).1
 end_stays l false x = (refl, refl, refl, refl, refl, refl)
 end_stays l true x = tt
 
 abbrev Stays : State → Search → Step → Type 0
-Stays s x t = GoesOn s.line x t.1.line t.1.search
+Stays s x t = KeepsSearching s.line x t.1.line t.1.search
 
 live_stays : (s : State) (event : Event) (x : Search) → s.search ≡ Some x → Stays s x (live_step s event)
 live_stays s (Line bytes) x e = subst (λ (y : Option Search). Stays s x (line_step s y (asked bytes))) (sym e) (busy_stays s x (asked bytes) e)
@@ -57,5 +57,5 @@ step_if_stays false s event x e = live_stays s event x e
 
 pub search_stays : SearchStays
 search_stays events event x e =
-    let s = after beginning events in
+    let s = after_events beginning events in
     step_if_stays s.ended s event x e

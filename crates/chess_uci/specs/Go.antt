@@ -66,8 +66,8 @@ with_number f WhiteIncrement n = record f { white_increment = Some n }
 with_number f BlackIncrement n = record f { black_increment = Some n }
 with_number f Ignored n = f
 
-abbrev pub with_word : Fields → List ℕ → Fields
-with_word f word = if is_infinite word then record f { infinite = true } else f
+abbrev pub fields_with_word : Fields → List ℕ → Fields
+fields_with_word f word = if is_infinite word then record f { infinite = true } else f
 
 -- what has been read: the fields, and the name right before the next word, if it is one that takes a number
 pub record Reading : Type 0 where
@@ -82,7 +82,7 @@ given (Some name) word = option_map (λ n. (name, n)) (number word)
 -- a name takes the next word where that is a number; else the name alone is skipped
 abbrev pub read_as : Fields → List ℕ → Option (Name × ℕ) → Reading
 read_as f word (Some gift) = record { fields = with_number f gift.0 gift.1; wanted = None }
-read_as f word None = record { fields = with_word f word; wanted = name_of word }
+read_as f word None = record { fields = fields_with_word f word; wanted = name_of word }
 
 abbrev pub read_word : Reading → List ℕ → Reading
 read_word r word = read_as r.fields word (given r.wanted word)

@@ -1,5 +1,5 @@
 -- Laws of the machine, over every list of events.
---   after, replies     the state after some events, and what they are replied
+--   after_events, replies  the state after some events, and what they are replied
 --   best_moves         how many of some replies tell a best move
 --   taken              how many `go` lines before `quit` are not refused as busy
 --   unfinished         whether a search runs at the end, or ran when `quit` came
@@ -22,9 +22,9 @@ use Rattle.chess_uci.specs.Go.{fields}
 use Rattle.chess_uci.specs.Machine.{Event, Line, Starved, Slice, Moment, Search, State, beginning, step, is_reached, chosen}
 
 -- the state after some events
-abbrev pub after : State → List Event → State
-after s [] = s
-after s (event ∷ events) = after (step s event).1 events
+abbrev pub after_events : State → List Event → State
+after_events s [] = s
+after_events s (event ∷ events) = after_events (step s event).1 events
 
 -- what some events are replied
 abbrev pub replies : State → List Event → List Reply
@@ -125,18 +125,18 @@ cause s (Moment moment) = by_time s.search (max s.moment moment)
 abbrev pub AnswersAtTheEnd : Type 0
 AnswersAtTheEnd =
     (events : List Event) (event : Event) →
-    let s = after beginning events in
+    let s = after_events beginning events in
     s.ended ≡ false → best_moves (step s event).0 ≡ one (cause s event)
 
 -- `isready` is answered at its own event, and all else is as without it.
 abbrev pub IsReadyAlone : Type 0
 IsReadyAlone =
     (before later : List Event) (line : List ℕ) →
-    let s = after beginning before in
+    let s = after_events beginning before in
     asked line ≡ IsReady → s.ended ≡ false →
     (replies beginning (before ++ Line line ∷ later) ≡ replies beginning before ++ ReadyOk ∷ replies s later)
     × (replies beginning (before ++ later) ≡ replies beginning before ++ replies s later)
-    × (after beginning (before ++ Line line ∷ later) ≡ after beginning (before ++ later))
+    × (after_events beginning (before ++ Line line ∷ later) ≡ after_events beginning (before ++ later))
 
 -- After `quit` nothing is answered.
 abbrev pub SilentAfterQuit : Type 0
@@ -173,18 +173,18 @@ TellsBest l x event _ = ⊤
 abbrev pub TellsTheBest : Type 0
 TellsTheBest =
     (events : List Event) (event : Event) →
-    let s = after beginning events in
+    let s = after_events beginning events in
     Each (TellsBest s.line s.search event) (step s event).0
 
 -- the same search goes on, on the same line
-abbrev pub GoesOn : GameLine → Search → GameLine → Option Search → Type 0
-GoesOn l x m None = ⊤
-GoesOn l x m (Some y) =
+abbrev pub KeepsSearching : GameLine → Search → GameLine → Option Search → Type 0
+KeepsSearching l x m None = ⊤
+KeepsSearching l x m (Some y) =
     (m ≡ l) × (y.claims ≡ x.claims) × (y.roots ≡ x.roots) × (y.last ≡ x.last) × (y.infinite ≡ x.infinite) × (y.end ≡ x.end)
 
 -- While a search runs, its line, its roots, its last depth and its end stay.
 abbrev pub SearchStays : Type 0
 SearchStays =
     (events : List Event) (event : Event) (x : Search) →
-    let s = after beginning events in
-    s.search ≡ Some x → GoesOn s.line x (step s event).1.line (step s event).1.search
+    let s = after_events beginning events in
+    s.search ≡ Some x → KeepsSearching s.line x (step s event).1.line (step s event).1.search

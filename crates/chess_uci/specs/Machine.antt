@@ -234,11 +234,11 @@ abbrev pub so_far : GameLine → Option Search → Option (MoveParts × ℤ)
 so_far line None = None
 so_far line (Some x) = best x.claims x.depth line (take x.searched x.roots)
 
-pub record Runs (x : Search) : Type 0 where
+pub record IsRunning (x : Search) : Type 0 where
   pub ahead : x.depth ≤ x.last
   pub shallow : x.last ≤ 16
   pub waits : length x.roots ≤ x.searched → x.infinite ≡ true
 
 abbrev pub IsAhead : Option Search → Type 0
 IsAhead None = ⊤
-IsAhead (Some x) = Runs x
+IsAhead (Some x) = IsRunning x

@@ -2,7 +2,7 @@
 --   start_line   a game as it begins
 --   begun_by     where the line begins: `startpos`, or `fen` and the words of a FEN
 --   named_move   the legal move that a word names in long algebraic notation
---   played       the line with the moves that the words name, at most 20,000
+--   line_played  the line with the moves that the words name, at most 20,000
 --   placed       the line, where there is one
 use Rattle.std.specs.Prelude.{ℕ, Bool, nat_le, if◌then◌else◌, List, [], ◌∷◌, ◌++◌, length, fold, find, Option, Some, None, codes, Result, Ok, Err}
 use Rattle.std.specs.List.{flat_map}
@@ -60,17 +60,17 @@ abbrev pub named_move : Line → List ℕ → Option MoveParts
 named_move line word = find (λ m. bytes_eq word (move_text m)) (legal_moves (last line))
 
 -- a line has at most 20,000 moves
-abbrev pub with_move : Line → Option MoveParts → Option Line
-with_move line None = None
-with_move line (Some m) = if nat_le 20000 (length line.moves) then None else Some (extended line m)
+abbrev pub line_with_move : Line → Option MoveParts → Option Line
+line_with_move line None = None
+line_with_move line (Some m) = if nat_le 20000 (length line.moves) then None else Some (extended line m)
 
-abbrev pub with_word : Option Line → List ℕ → Option Line
-with_word None word = None
-with_word (Some line) word = with_move line (named_move line word)
+abbrev pub line_with_word : Option Line → List ℕ → Option Line
+line_with_word None word = None
+line_with_word (Some line) word = line_with_move line (named_move line word)
 
 -- from left to right; none where a word names no move, or no line is there to begin with
-abbrev pub played : Option Line → List (List ℕ) → Option Line
-played line words = fold with_word line words
+abbrev pub line_played : Option Line → List (List ℕ) → Option Line
+line_played line words = fold line_with_word line words
 
 abbrev pub placed : List (List ℕ) → Option Line
-placed words = played (begun_by (before_moves words)) (behind_moves words)
+placed words = line_played (begun_by (before_moves words)) (behind_moves words)

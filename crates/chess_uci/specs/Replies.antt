@@ -8,9 +8,9 @@ use Rattle.chess_uci.specs.declared.reply.Reply.{Reply}
 use Rattle.chess_uci.specs.declared.reply.Reply.TheVariants.{Name, Author, ClaimsOption, UciOk, ReadyOk, Refused, OutOfMemory, Busy, Info, BestMove}
 
 -- a move in long algebraic notation; `0000` stands for none
-abbrev pub move_or_none : Option MoveParts → List ℕ
-move_or_none None = codes "0000"
-move_or_none (Some m) = move_text m
+abbrev pub move_or_zeros : Option MoveParts → List ℕ
+move_or_zeros None = codes "0000"
+move_or_zeros (Some m) = move_text m
 
 unfoldable pub reply_text : Reply → List ℕ
 reply_text Name = codes "id name chess_uci 1"
@@ -22,4 +22,4 @@ reply_text Refused = codes "info string position refused"
 reply_text OutOfMemory = codes "info string out of memory"
 reply_text Busy = codes "info string busy"
 reply_text (Info depth best value) = codes "info depth " ++ decimal depth ++ codes " score " ++ score_text value ++ codes " pv " ++ move_text best
-reply_text (BestMove best) = codes "bestmove " ++ move_or_none best
+reply_text (BestMove best) = codes "bestmove " ++ move_or_zeros best

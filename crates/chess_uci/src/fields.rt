@@ -3,7 +3,7 @@ ghost use Rattle.std.specs.Char.{is_ascii_digit};
 ghost use Rattle.std.specs.List.{list_all};
 ghost use Rattle.chess_types.specs.bytes.Words.{words};
 ghost use Rattle.chess_uci.specs.Commands.{gaps};
-ghost use Rattle.chess_uci.specs.Go.{with_digit, digits, number, is_ignored, is_infinite, name_of, with_number, with_word, given, fields};
+ghost use Rattle.chess_uci.specs.Go.{with_digit, digits, number, is_ignored, is_infinite, name_of, with_number, fields_with_word, given, fields};
 
 use crate::command::GAPS;
 use chess_types::split_word;
@@ -133,8 +133,8 @@ fn given(wanted: Option<Name>, word: &[u8]) -> Option<(Name, u32)>
     Some((name, n))
 }
 
-fn with_word(fields: Fields, word: &[u8]) -> Fields
-    ensures { result ≡ with_word fields word.now }
+fn fields_with_word(fields: Fields, word: &[u8]) -> Fields
+    ensures { result ≡ fields_with_word fields word.now }
 {
     let mut fields = fields;
     if is_infinite(word) {
@@ -155,7 +155,7 @@ pub(crate) fn read_fields(text: &[u8]) -> Fields
             fields = with_number(fields, name, n);
             wanted = None;
         } else {
-            fields = with_word(fields, word);
+            fields = fields_with_word(fields, word);
             wanted = name_of(word);
         }
         rest = others;

@@ -2,7 +2,7 @@ ghost use Rattle.std.specs.Prelude.{◌≡◌, ◌++◌, Some, OnOk, IfOk, codes
 ghost use Rattle.chess_types.specs.board.Position.{start};
 ghost use Rattle.chess_types.specs.bytes.Words.{words};
 ghost use Rattle.chess_uci.specs.Commands.{gaps};
-ghost use Rattle.chess_uci.specs.Placing.{is_moves, before_moves, behind_moves, start_line, spaced, begun_by, with_word, played, placed};
+ghost use Rattle.chess_uci.specs.Placing.{is_moves, before_moves, behind_moves, start_line, spaced, begun_by, line_with_word, line_played, placed};
 ghost use Rattle.chess_uci.specs.steps.Places.{Places, Begins};
 
 use crate::command::GAPS;
@@ -106,7 +106,7 @@ fn begin<'a, A: Allocator>(
 // The move that the word names in long algebraic notation is made.
 fn play_word<A: Allocator>(line: &mut Line<'_, A>, word: &[u8]) -> Result<(), PlaceFault>
     requires none { line.old.looked ≡ 0 }
-    ensures played { Places (with_word (Some line.old.line) word.now) line.new.line result }
+    ensures played { Places (line_with_word (Some line.old.line) word.now) line.new.line result }
     ensures looked { line.new.looked ≡ 0 }
 {
     let Some(m) = Move::parse(word) else {
@@ -123,7 +123,7 @@ fn play_word<A: Allocator>(line: &mut Line<'_, A>, word: &[u8]) -> Result<(), Pl
 // The moves that the words name are made.
 fn play<A: Allocator>(line: &mut Line<'_, A>, moves: &[u8]) -> Result<(), PlaceFault>
     requires none { line.old.looked ≡ 0 }
-    ensures played { Places (played (Some line.old.line) (words gaps moves.now)) line.new.line result }
+    ensures played { Places (line_played (Some line.old.line) (words gaps moves.now)) line.new.line result }
     ensures looked { line.new.looked ≡ 0 }
 {
     let mut rest = moves;

@@ -39,7 +39,7 @@ impl<'a, A: Allocator> Model for Session<'a, A> {
     ghost use Rattle.std.specs.Prelude.{◌≡◌};
     ghost use Rattle.chess_uci.specs.Machine.{State};
     ghost use Rattle.chess_uci.specs.steps.StateCode.{coded_session};
-    ghost use Rattle.chess_uci.specs.steps.Searches.{seen, IsGoing, HasBegun};
+    ghost use Rattle.chess_uci.specs.steps.Searches.{seen, IsGoing, HasStarted};
 
     ghost Value = { State };
 
@@ -47,7 +47,7 @@ impl<'a, A: Allocator> Model for Session<'a, A> {
 
     ghost view = { λ s. record { line = s.line.line; moment = s.moment; ended = s.ended; claims = s.claims; search = seen s.search } };
 
-    ghost invariant = { λ s. IsGoing s.line.line s.search × HasBegun s.moment s.search × (s.line.looked ≡ 0) };
+    ghost invariant = { λ s. IsGoing s.line.line s.search × HasStarted s.moment s.search × (s.line.looked ≡ 0) };
 }
 
 // The replies to `uci`.

@@ -1,4 +1,4 @@
-ghost use Rattle.std.specs.Prelude.{◌≡◌, ◌≤◌, ◌-◌, ◌^◌, min, length, decimal, IfSome};
+ghost use Rattle.std.specs.Prelude.{◌≡◌, ◌≤◌, ◌-◌, length, decimal, IfSome};
 ghost use Rattle.chess_fen.specs.Reading.{reading};
 ghost use Rattle.chess_types.specs.bytes.Words.{words, trimmed};
 ghost use Rattle.perft.specs.Answers.{answer, answer_to, behind, count_text, depth_in, fault_text, gaps, is_full};

@@ -3,13 +3,13 @@
 --   Reads       games are read, one after another, whatever comes next
 --   SoFar       they are written as well
 --   WritesAll   how the reading and writing ends
-use Rattle.std.specs.Prelude.{◌≡◌, Bool, true, false, List, [], ◌++◌, ℕ, Result, Ok, Err}
+use Rattle.std.specs.Prelude.{◌≡◌, Bool, true, false, List, [], ◌++◌, ℕ, ◌+◌, ◌≤◌, length, Result, Ok, Err}
 use Rattle.chess_types.specs.bytes.Calls.{Carries}
 use Rattle.chess_pgn.specs.Games.{Game}
-use Rattle.chess_pgn.specs.Sources.{unread}
+use Rattle.chess_pgn.specs.Sources.{Came, unread}
 use Rattle.chess_pgn.specs.declared.at_hand.AtHand.{AtHand}
-use Rattle.chess_cli.specs.Collections.{AreGames, EndsAtFault, EndsInPart, EndsWhole, EndsWritten, games_text}
-use Rattle.chess_cli.specs.RunEnds.{Broken}
+use Rattle.chess_cli.specs.Collections.{AreGames, EndsAtFault, EndsInPart, EndsUnread, EndsWhole, EndsWritten, games_text}
+use Rattle.chess_cli.specs.RunEnds.{Broken, most_reads}
 use Rattle.chess_cli.specs.steps.Sending.{Sent}
 use Rattle.chess_cli.specs.declared.ended.Ended.{Ended}
 use Rattle.chess_cli.specs.declared.ended.Ended.TheVariants.{Good, Input, ReadFault, WriteFault, Memory}
@@ -23,21 +23,23 @@ module _ {W : Type 0} (takes : W → List ℕ → W → Type 0) (failed : W → 
   WritesOne text old new (Err WriteFault) = Broken takes failed old text new
   WritesOne text old new (Err Memory) = new ≡ old
 
-pub record Reads {R A : Type 0} (gives : R → List ℕ → R → Type 0) (old new : AtHand R A) (games : List Game) : Type 0 where
+pub record Reads {R A : Type 0} (gives : R → List ℕ → R → Type 0) (read_failed : R → Bool) (old new : AtHand R A) (games : List Game) : Type 0 where
   pub bytes : List ℕ
-  pub came : Carries gives old.source bytes new.source
+  pub came : Came gives read_failed old bytes new
   pub are : (more : List ℕ) → (new.has_ended ≡ true → more ≡ []) → AreGames (unread old ++ (bytes ++ more)) games (unread new ++ more)
 
-module _ {R W : Type 0} (gives : R → List ℕ → R → Type 0) (ended : R → Type 0) (takes : W → List ℕ → W → Type 0) (failed : W → Bool) where
-  pub record SoFar {A : Type 0} (start now : AtHand R A) (old new : W) : Type 0 where
+module _ {R W : Type 0} (gives : R → List ℕ → R → Type 0) (read_failed : R → Bool) (ended : R → Type 0) (takes : W → List ℕ → W → Type 0) (failed : W → Bool) where
+  -- each game takes a byte, so there can't be more games than bytes
+  pub record SoFar {A : Type 0} (count : ℕ) (start now : AtHand R A) (old new : W) : Type 0 where
     pub games : List Game
-    pub reads : Reads gives start now games
+    pub reads : Reads gives read_failed start now games
+    pub few : count + length (unread now) ≤ length (unread start) + length reads.bytes
     pub writes : Carries takes old (games_text games) new
     pub well_written : failed new ≡ false
 
   abbrev pub WritesAll : R → W → W → Ended → Type 0
-  WritesAll reader old new Good = EndsWhole gives ended takes failed reader old new
-  WritesAll reader old new (Input fault) = EndsAtFault gives ended takes failed fault reader old new
-  WritesAll reader old new ReadFault = EndsWritten gives ended takes failed reader old new
-  WritesAll reader old new WriteFault = EndsInPart gives ended takes failed reader old new
-  WritesAll reader old new Memory = EndsWritten gives ended takes failed reader old new
+  WritesAll reader old new Good = EndsWhole gives read_failed ended takes failed reader old new
+  WritesAll reader old new (Input fault) = EndsAtFault gives read_failed ended takes failed fault reader old new
+  WritesAll reader old new ReadFault = EndsUnread gives read_failed ended takes failed most_reads reader old new
+  WritesAll reader old new WriteFault = EndsInPart gives read_failed ended takes failed reader old new
+  WritesAll reader old new Memory = EndsWritten gives read_failed ended takes failed reader old new

@@ -4,8 +4,8 @@ use Rattle.chess_pgn.specs.steps.Laying.{Lays}
 use Rattle.chess_pgn.specs.declared.lines.Lines.{Lines}
 
 -- the text so far, behind another
-abbrev pub Holds : {A : Type 0} → List ℕ → Lines A → List ℕ → Type 0
-Holds before lines text = Lays before lines.text.items lines.space lines.column text
+abbrev pub HoldsText : {A : Type 0} → List ℕ → Lines A → List ℕ → Type 0
+HoldsText before lines text = Lays before lines.text.items lines.space lines.column text
 
 abbrev pub Adds : {A : Type 0} → Lines A → Lines A → List ℕ → Type 0
-Adds old new part = (before text : List ℕ) → Holds before old text → Holds before new (text ++ part)
+Adds old new part = (before text : List ℕ) → HoldsText before old text → HoldsText before new (text ++ part)

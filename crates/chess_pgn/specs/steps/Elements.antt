@@ -5,7 +5,7 @@ use Rattle.std.specs.Prelude.{ℕ, List, [], ◌∷◌, ◌++◌, Option, Some, 
 use Rattle.chess_types.specs.board.Position.{State}
 use Rattle.chess_types.specs.board.After.{after}
 use Rattle.chess_tree.specs.Forest.{Forest, below_at, count}
-use Rattle.chess_pgn.specs.Grammar.{Element, Number, Annotation, Remark, Open, Close, Text, joined, move_in, ◌>>=◌}
+use Rattle.chess_pgn.specs.Grammar.{Element, Number, Annotation, Remark, Open, Close, Text, comments_joined, move_in, ◌>>=◌}
 use Rattle.chess_pgn.specs.steps.Hanging.{hang, leaf, nag, say}
 
 -- where its last move stands, the positions before and after it, and its comments, which it doesn't have yet
@@ -38,15 +38,15 @@ before_of (Some x) = Some x.1
 -- The comment before the first move, the moves, the path to the parent of the last move, that move, the position here, its comments, and the
 -- open lines.
 abbrev pub run : List Element → List ℕ → Forest → List ℕ → Last → State → List ℕ → List Frame → Option (List ℕ × Forest)
-run [] c f up None here lead [] = Some (joined c lead, f)
+run [] c f up None here lead [] = Some (comments_joined c lead, f)
 run [] c f up (Some x) here lead [] = Some (c, hang (up ++ x.0 ∷ []) (say lead) f)
 run [] c f up last here lead (x ∷ xs) = None
 run (Number ∷ es) c f up last here lead st = run es c f up last here lead st
 run (Annotation n ∷ es) c f up None here lead st = run es c f up None here lead st
 run (Annotation n ∷ es) c f up (Some x) here lead st = run es c (hang (up ++ x.0 ∷ []) (nag n) f) up (Some x) here lead st
-run (Remark t ∷ es) c f up last here lead st = run es c f up last here (joined lead t) st
+run (Remark t ∷ es) c f up last here lead st = run es c f up last here (comments_joined lead t) st
 run (Text w ∷ es) c f up None here lead [] =
-    move_in here w >>= λ m. run es (joined c lead) (hang up (leaf m) f) up (Some (count (below_at up f), here)) (after here m) [] []
+    move_in here w >>= λ m. run es (comments_joined c lead) (hang up (leaf m) f) up (Some (count (below_at up f), here)) (after here m) [] []
 run (Text w ∷ es) c f up None here lead (x ∷ xs) =
     move_in here w >>= λ m. run es c (hang up (leaf m) f) up (Some (count (below_at up f), here)) (after here m) lead (x ∷ xs)
 run (Text w ∷ es) c f up (Some x) here lead st =
@@ -56,5 +56,5 @@ run (Text w ∷ es) c f up (Some x) here lead st =
 run (Open ∷ es) c f up None here lead st = None
 run (Open ∷ es) c f up (Some x) here lead st = run es c f up None x.1 [] (record { up = up; place = x.0; before = x.1; here = here; lead = lead } ∷ st)
 run (Close ∷ es) c f up last here lead [] = None
-run (Close ∷ es) c f up None here lead (x ∷ xs) = run es c f x.up (last_of x) x.here (joined x.lead lead) xs
+run (Close ∷ es) c f up None here lead (x ∷ xs) = run es c f x.up (last_of x) x.here (comments_joined x.lead lead) xs
 run (Close ∷ es) c f up (Some y) here lead (x ∷ xs) = run es c (hang (up ++ y.0 ∷ []) (say lead) f) x.up (last_of x) x.here x.lead xs

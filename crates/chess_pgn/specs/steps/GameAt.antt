@@ -1,15 +1,18 @@
 -- A game at the front of a text that comes bit by bit.
 --   HasCome    bytes came, and a game stands at the front of what was at hand and what came, whatever follows
 --   NoneCame   all has come, and was white
---   Found      one of both, as a game is answered or none
+--   FoundGame  one of both, as a game is answered or none
 --   NotCome    bytes came, and no game stands at the front of what was at hand and what came, and more than white, whatever follows; the text
 --              is sound still
---   IsFault    so it is, or a read failed, or there was no memory
+--   HasStarved bytes came, and then there was no memory
+--   IsFault    a read broke off, or there was no memory, or no game stands there
 --   TakesGame  what becomes of a text of which one game is taken
-use Rattle.std.specs.Prelude.{◌≡◌, ◌⊎◌, ◌≤◌, ℕ, List, [], ◌++◌, length, Option, Some, None, Result, Ok, Err, ⊤}
+use Rattle.std.specs.Prelude.{◌≡◌, ◌⊎◌, ◌≤◌, ℕ, List, [], ◌++◌, length, Option, Some, None, Result, Ok, Err}
 use Rattle.chess_types.specs.bytes.Calls.{Calls, joined}
 use Rattle.chess_pgn.specs.Reading.{HasNoGame, IsAtFront, IsWhite}
 use Rattle.chess_pgn.specs.steps.GameCode.{game_of}
+use Rattle.chess_pgn.specs.steps.Texts.{BreaksOff}
+use Rattle.chess_pgn.specs.declared.at_hand.Fault.TheVariants as fault
 use Rattle.chess_pgn.specs.declared.fault.FaultKind.TheVariants.{Memory}
 use Rattle.chess_pgn.specs.declared.game.Game.{Game}
 use Rattle.chess_pgn.specs.declared.games.GamesFault.{GamesFault}
@@ -35,9 +38,9 @@ module _ {X : Type 0} (comes : X → List ℕ → X → Type 0) (at_hand : X →
     pub nothing : at_hand new ≡ []
     pub still : all old → joined pieces ≡ []
 
-  abbrev pub Found : {A : Type 0} → X → X → Option (Game A × ℕ) → Type 0
-  Found old new (Some x) = HasCome old new x.0 x.1
-  Found old new None = NoneCame old new
+  abbrev pub FoundGame : {A : Type 0} → X → X → Option (Game A × ℕ) → Type 0
+  FoundGame old new (Some x) = HasCome old new x.0 x.1
+  FoundGame old new None = NoneCame old new
 
 module _ {X : Type 0} (comes : X → List ℕ → X → Type 0) (at_hand : X → List ℕ) (all sound : X → Type 0) where
   pub record NotCome (old new : X) : Type 0 where
@@ -48,10 +51,15 @@ module _ {X : Type 0} (comes : X → List ℕ → X → Type 0) (at_hand : X →
     pub dark : (more : List ℕ) → (all new → more ≡ []) → IsWhite (at_hand old ++ (joined pieces ++ more)) → ⊥
     pub still : all old → (joined pieces ≡ []) × all new
 
-  abbrev pub IsFault : X → X → GamesFault → Type 0
-  IsFault old new Read = ⊤
-  IsFault old new (Pgn fault) = (fault.kind ≡ Memory) ⊎ NotCome old new
+  pub record HasStarved (old new : X) : Type 0 where
+    pub pieces : List (List ℕ)
+    pub came : Calls comes old pieces new
+    pub still : all old → (joined pieces ≡ []) × all new × sound new
 
-  abbrev pub TakesGame : {A : Type 0} → X → X → Result (Option (Game A × ℕ)) GamesFault → Type 0
-  TakesGame old new (Ok found) = Found comes at_hand all old new found
-  TakesGame old new (Err fault) = IsFault old new fault
+  abbrev pub IsFault : (X → X → Type 0) → X → X → GamesFault → Type 0
+  IsFault breaks old new Read = BreaksOff comes breaks all old new fault.Read
+  IsFault breaks old new (Pgn told) = ((told.kind ≡ Memory) × HasStarved old new) ⊎ NotCome old new
+
+  abbrev pub TakesGame : {A : Type 0} → (X → X → Type 0) → X → X → Result (Option (Game A × ℕ)) GamesFault → Type 0
+  TakesGame breaks old new (Ok found) = FoundGame comes at_hand all old new found
+  TakesGame breaks old new (Err fault) = IsFault breaks old new fault

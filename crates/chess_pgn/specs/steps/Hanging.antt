@@ -5,10 +5,10 @@ use Rattle.std.specs.Prelude.{ℕ, zero, suc, List, [], ◌∷◌, ◌++◌}
 use Rattle.chess_types.specs.board.MoveParts.{MoveParts}
 use Rattle.chess_tree.specs.Forest.{Forest, Bare, Node, append}
 use Rattle.chess_tree.specs.Edits.{inside}
-use Rattle.chess_pgn.specs.Grammar.{Part, joined}
+use Rattle.chess_pgn.specs.Grammar.{Part, comments_joined}
 
 abbrev pub plus : Part → Part → Part
-plus r s = record { nags = r.nags ++ s.nags; comment = joined r.comment s.comment; beside = append r.beside s.beside; below = append r.below s.below }
+plus r s = record { nags = r.nags ++ s.nags; comment = comments_joined r.comment s.comment; beside = append r.beside s.beside; below = append r.below s.below }
 
 -- an annotation number
 abbrev pub nag : ℕ → Part
@@ -37,7 +37,7 @@ grown m r = below (Node m r.nags r.comment r.below r.beside)
 -- the node at a place, with what it becomes
 abbrev pub on_node : ℕ → Part → Forest → Forest
 on_node i r Bare = Bare
-on_node zero r (Node m n c b next) = Node m (n ++ r.nags) (joined c r.comment) (append b r.below) next
+on_node zero r (Node m n c b next) = Node m (n ++ r.nags) (comments_joined c r.comment) (append b r.below) next
 on_node (suc i) r (Node m n c b next) = Node m n c b (on_node i r next)
 
 abbrev pub hang : List ℕ → Part → Forest → Forest

@@ -14,7 +14,7 @@ use Rattle.chess_pgn.specs.Games.{tag_in}
 use Rattle.chess_pgn.specs.Grammar.{◌>>=◌}
 use Rattle.chess_pgn.specs.Items as items
 use Rattle.chess_pgn.specs.Items.{Item}
-use Rattle.chess_pgn.specs.Tags.{HasTags, is_between, is_gap}
+use Rattle.chess_pgn.specs.Tags.{HasTags, may_part_tags, is_tag_gap}
 use Rattle.chess_pgn.specs.steps.GameCode.{tags_of}
 use Rattle.chess_pgn.specs.steps.OtherCode.{Finds}
 use Rattle.chess_pgn.specs.declared.fault.FaultKind.TheVariants.{Fen, Tag}
@@ -70,7 +70,7 @@ opened h items.TagOpen = Some (in_part Name h)
 opened h _ = None
 
 abbrev pub outside_step : Heading → Item → Option Heading
-outside_step h item = if is_between item then Some h else opened h item
+outside_step h item = if may_part_tags item then Some h else opened h item
 
 abbrev pub step_in : Part → Heading → Item → Option Heading
 step_in Name h item = name_step h item
@@ -88,7 +88,7 @@ is_spaced Closing = true
 is_spaced Nothing = false
 
 abbrev pub step : Heading → Item → Option Heading
-step h item = if is_spaced h.part && is_gap item then Some h else step_in h.part h item
+step h item = if is_spaced h.part && is_tag_gap item then Some h else step_in h.part h item
 
 -- whether a tag has begun and not ended
 abbrev pub is_begun : Part → Bool
@@ -120,8 +120,8 @@ abbrev pub HasFound : {A : Type 0} → Header A → Tags A → Type 0
 HasFound header tags = (read : List (List ℕ × List ℕ)) → Finds read header.found.tags → HasTags read (tags_of tags)
 
 -- no tag that has begun goes on so
-abbrev pub Refuses : {A : Type 0} → Item → Header A → PgnFault → Type 0
-Refuses item old fault =
+abbrev pub RefusesTag : {A : Type 0} → Item → Header A → PgnFault → Type 0
+RefusesTag item old fault =
     (fault ≡ record { place = old.at; kind = Tag }) × (is_begun old.part ≡ true → (read : List (List ℕ × List ℕ)) → step (heading read old) item ≡ None)
 
 -- the end of a tag

@@ -41,6 +41,6 @@ module _ {X T : Type 0} (comes : X → List ℕ → X → Type 0) (at_hand : X �
     pub more : stopped.why ≡ stop.End → stopped.white ≡ false
 
   abbrev pub Passes : ℕ → X → X → T → T → Result (Option Stopped) Fault → Type 0
-  Passes limit old new t u (Err e) = (pieces : List (List ℕ)) × Calls comes old pieces new
+  Passes limit old new t u (Err e) = Unit {0}
   Passes limit old new t u (Ok None) = WasWhite old new
   Passes limit old new t u (Ok (Some stopped)) = Passed limit old new t u stopped

@@ -1,7 +1,7 @@
 -- What a reader of a game does with an item of the movetext.
 --   MovesOn   the elements of an item are read, whatever the state of reading was
 --   Moved     what becomes of the item: it is read, it ends the game, the game ends in front of it, or no game goes on so
---   Begins    the tags end: the game begins in the position that they tell; NoStart, they tell none
+--   BeginsMoves  the tags end: the game begins in the position that they tell; NoStart, they tell none
 --   TakesItem what a reader does with any item
 --   IsNew     nothing is read
 --   Closed    the game that was read
@@ -14,11 +14,11 @@ use Rattle.chess_pgn.specs.Grammar.{Element, element}
 use Rattle.chess_pgn.specs.Items as items
 use Rattle.chess_pgn.specs.Items.{Item}
 use Rattle.chess_pgn.specs.Reading.{IsWithinLimits, is_heading, is_movetext, lead_after}
-use Rattle.chess_pgn.specs.Tags.{is_between, start_in}
+use Rattle.chess_pgn.specs.Tags.{may_part_tags, start_in}
 use Rattle.chess_pgn.specs.steps.GameCode.{game_of}
-use Rattle.chess_pgn.specs.steps.HeaderCode.{HasFound, HasTaken, Heads as HeadsOn, Refuses, is_begun}
+use Rattle.chess_pgn.specs.steps.HeaderCode.{HasFound, HasTaken, Heads as HeadsOn, RefusesTag, is_begun}
 use Rattle.chess_pgn.specs.steps.OtherCode.{Finds}
-use Rattle.chess_pgn.specs.steps.Readings.{Exceeds, Fails, FailsHere, Goes, IsRead, Reading, Stands, fresh}
+use Rattle.chess_pgn.specs.steps.Readings.{Exceeds, FailsWith, FailsHere, Goes, IsRead, Reading, Stands, fresh}
 use Rattle.chess_pgn.specs.declared.fault.FaultKind.{FaultKind}
 use Rattle.chess_pgn.specs.declared.fault.FaultKind.TheVariants.{Memory, TooLarge}
 use Rattle.chess_pgn.specs.declared.fault.PgnFault.{PgnFault}
@@ -69,7 +69,7 @@ is_tagged _ = false
 abbrev pub RefusesItem : {A : Type 0} → Item → FaultKind → Moves A → Type 0
 RefusesItem item Memory moves = ⊤
 RefusesItem item TooLarge moves = (is_movetext item ≡ true) × Exceeds (element item) moves
-RefusesItem item kind moves = ((is_movetext item ≡ true) × Fails (element item) moves) ⊎ (((is_movetext item ≡ false) × FailsHere moves) ⊎ (is_tagged item ≡ true))
+RefusesItem item kind moves = ((is_movetext item ≡ true) × FailsWith (element item) moves) ⊎ (((is_movetext item ≡ false) × FailsHere moves) ⊎ (is_tagged item ≡ true))
 
 abbrev pub Moved : {A : Type 0} → Item → Result Taken PgnFault → Reader A → Reader A → Type 0
 Moved item (Ok GoesOn) old new = Read item old new
@@ -85,7 +85,7 @@ ending_item None = items.TagOpen
 
 -- it is a part of a tag, or stands between tags
 abbrev pub TakesPart : {A : Type 0} → Item → Header A → Header A → Type 0
-TakesPart item old new = HeadsOn item old new ⊎ ((is_between item ≡ true) × (is_begun old.part ≡ false) × (new ≡ old))
+TakesPart item old new = HeadsOn item old new ⊎ ((may_part_tags item ≡ true) × (is_begun old.part ≡ false) × (new ≡ old))
 
 pub record Headed {A : Type 0} (item : Item) (old new : Reader A) : Type 0 where
   pub heading : is_heading item ≡ true
@@ -98,7 +98,7 @@ pub record Headed {A : Type 0} (item : Item) (old new : Reader A) : Type 0 where
 abbrev pub BeginsIn : {A : Type 0} → List (List ℕ × List ℕ) → Moves A → Moves A → Type 0
 BeginsIn read old new = (first : State) × (start_in read ≡ Some first) × ((lead : List ℕ) → Stands old (fresh start lead) → Stands new (fresh first lead))
 
-pub record Begins {A : Type 0} (old new : Reader A) : Type 0 where
+pub record BeginsMoves {A : Type 0} (old new : Reader A) : Type 0 where
   pub outside : is_begun old.header.part ≡ false
   pub header : new.header ≡ old.header
   pub moves : (read : List (List ℕ × List ℕ)) → Finds read old.header.found.tags → BeginsIn read old.moves new.moves
@@ -111,19 +111,19 @@ NoStart header = (read : List (List ℕ × List ℕ)) → Finds read header.foun
 
 -- no tag goes on with the item, or it stands in tags alone and none has begun
 abbrev pub Strays : {A : Type 0} → Item → PgnFault → Header A → Type 0
-Strays item fault header = ((is_begun header.part ≡ true) × Refuses item header fault) ⊎ ((is_begun header.part ≡ false) × (is_tagged item ≡ true))
+Strays item fault header = ((is_begun header.part ≡ true) × RefusesTag item header fault) ⊎ ((is_begun header.part ≡ false) × (is_tagged item ≡ true))
 
 -- no movetext begins here, or none with the item
 abbrev pub RefusesFirst : {A : Type 0} → Item → FaultKind → Reader A → Type 0
-RefusesFirst {A = A} item kind old = NoStart old.header ⊎ ((between : Reader A) × Begins old between × RefusesItem item kind between.moves)
+RefusesFirst {A = A} item kind old = NoStart old.header ⊎ ((between : Reader A) × BeginsMoves old between × RefusesItem item kind between.moves)
 
 -- it is one of the tags' and the comments before the movetext, or the first of the movetext
-abbrev pub Heads : {A : Type 0} → Item → Result Taken PgnFault → Reader A → Reader A → Type 0
-Heads {A = A} item result old new = ((result ≡ Ok GoesOn) × Headed item old new) ⊎ ((is_heading item ≡ false) × (between : Reader A) × Begins old between × Moved item result between new)
+abbrev pub HeadsGame : {A : Type 0} → Item → Result Taken PgnFault → Reader A → Reader A → Type 0
+HeadsGame {A = A} item result old new = ((result ≡ Ok GoesOn) × Headed item old new) ⊎ ((is_heading item ≡ false) × (between : Reader A) × BeginsMoves old between × Moved item result between new)
 
 abbrev pub takes_when : {A : Type 0} → Bool → Item → Result Taken PgnFault → Reader A → Reader A → Type 0
 takes_when true item result old new = Moved item result old new
-takes_when false item (Ok taken) old new = Heads item (Ok taken) old new
+takes_when false item (Ok taken) old new = HeadsGame item (Ok taken) old new
 takes_when false item (Err fault) old new = (fault.kind ≡ Memory) ⊎ (Strays item fault old.header ⊎ ((is_heading item ≡ false) × RefusesFirst item fault.kind old))
 
 abbrev pub TakesItem : {A : Type 0} → Reader A → Item → Result Taken PgnFault → Reader A → Type 0
@@ -140,7 +140,7 @@ pub record IsNew {A : Type 0} (reader : Reader A) : Type 0 where
 -- the game begins at the end of the input, where it hasn't begun
 abbrev pub begins_when : {A : Type 0} → Bool → Reader A → Reader A → Type 0
 begins_when true old new = new ≡ old
-begins_when false old new = Begins old new
+begins_when false old new = BeginsMoves old new
 
 pub record Closed {A : Type 0} (old : Reader A) (game : Game A) : Type 0 where
   pub has_tags : HasFound old.header game.tags

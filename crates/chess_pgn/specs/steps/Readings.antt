@@ -5,11 +5,11 @@
 --   Stands      the reader is in that state
 --   fresh       the state before any movetext, behind some comments
 --   Goes        from one state, behind some elements, the others give what they give from another
---   Steps       whatever the state was, it is one behind that element
---   Fails       whatever the state was, nothing is derived with some elements in front, or too many variations are open
+--   StepsOn     whatever the state was, it is one behind that element
+--   FailsWith   whatever the state was, nothing is derived with some elements in front, or too many variations are open
 --   Exceeds     whatever the state was, only a game too large to be read is derived with some elements in front
 --   AtLimit     no move can be added at the cursor
---   Refuses     so it is, by the kind of the fault, unless there was no memory
+--   RefusesElements  so it is, by the kind of the fault, unless there was no memory
 use Rattle.std.specs.Prelude.{◌≡◌, ◌⊎◌, ◌<◌, ◌≤◌, ℕ, Bool, true, false, is_some, List, [], ◌∷◌, ◌++◌, length, reverse, Option, Some, None, IfSome, ⊤}
 use Rattle.chess_types.specs.board.Position.{State}
 use Rattle.chess_types.specs.board.Lines.{last}
@@ -17,7 +17,7 @@ use Rattle.chess_tree.specs.Forest.{Forest, Bare, height, moves_held}
 use Rattle.chess_tree.specs.Comments.{normalised}
 use Rattle.chess_tree.specs.GameTree.{TreeParts, moves_along}
 use Rattle.chess_tree.specs.WellFormed.{Leads}
-use Rattle.chess_pgn.specs.Grammar.{Element, few_are_open, joined}
+use Rattle.chess_pgn.specs.Grammar.{Element, few_are_open, comments_joined}
 use Rattle.chess_pgn.specs.steps.Hanging.{hang, say}
 use Rattle.chess_pgn.specs.steps.Elements.{Frame, Last, path_of, end_of, run}
 use Rattle.chess_pgn.specs.declared.fault.FaultKind.{FaultKind}
@@ -46,7 +46,7 @@ is_nil (i ∷ is) = false
 
 -- at the root, or at a node
 abbrev pub comment_at : List ℕ → List ℕ → List ℕ → List ℕ
-comment_at [] comment text = joined comment text
+comment_at [] comment text = comments_joined comment text
 comment_at (k ∷ path) comment text = comment
 
 abbrev pub forest_at : List ℕ → List ℕ → Forest → Forest
@@ -92,14 +92,14 @@ Nested up [] = ⊤
 Nested up (x ∷ xs) = ((more : List ℕ) × (up ≡ x.up ++ more)) × Nested x.up xs
 
 -- the game's own line begins at the root
-abbrev pub Begins : Last → List Frame → List ℕ → Type 0
-Begins (Some x) st up = ⊤
-Begins None [] up = up ≡ []
-Begins None (x ∷ xs) up = ⊤
+abbrev pub BeginsAtRoot : Last → List Frame → List ℕ → Type 0
+BeginsAtRoot (Some x) st up = ⊤
+BeginsAtRoot None [] up = up ≡ []
+BeginsAtRoot None (x ∷ xs) up = ⊤
 
 -- ---- the reader
 
-pub record Holds (t : TreeParts) (lines : List Interrupted) (has_move : Bool) (comments : List ℕ) (behind : ℕ) (s : Reading) : Type 0 where
+pub record HoldsReading (t : TreeParts) (lines : List Interrupted) (has_move : Bool) (comments : List ℕ) (behind : ℕ) (s : Reading) : Type 0 where
   pub start : t.tree.start ≡ s.start
   pub comment : t.tree.comment ≡ s.comment
   pub forest : t.tree.below ≡ s.forest
@@ -107,7 +107,7 @@ pub record Holds (t : TreeParts) (lines : List Interrupted) (has_move : Bool) (c
   pub played : has_move ≡ is_some s.last_move
   pub here : s.here ≡ position_at s.start s.forest (end_of s.up s.last_move)
   pub before : IfSome s.last_move (λ x. x.1 ≡ position_at s.start s.forest s.up)
-  pub begins : Begins s.last_move s.interrupted s.up
+  pub begins : BeginsAtRoot s.last_move s.interrupted s.up
   pub nested : Nested s.up s.interrupted
   pub there : Leads (end_of s.up s.last_move) s.forest
   pub frames : AreFrames s.start s.forest s.interrupted
@@ -120,24 +120,24 @@ pub record Holds (t : TreeParts) (lines : List Interrupted) (has_move : Bool) (c
   pub pends : Pends outer s.interrupted (reverse lines)
 
 abbrev pub Stands : {A : Type 0} → Moves A → Reading → Type 0
-Stands moves s = Holds moves.analysis moves.interrupted.items moves.played moves.comments.items moves.from s
+Stands moves s = HoldsReading moves.analysis moves.interrupted.items moves.played moves.comments.items moves.from s
 
 pub record Goes (some : List Element) (s s' : Reading) : Type 0 where
   pub start : s'.start ≡ s.start
   pub given : (es : List Element) → goes_on (some ++ es) s ≡ goes_on es s'
   pub few : (es : List Element) → few_are_open (length s.interrupted) (some ++ es) ≡ few_are_open (length s'.interrupted) es
 
-abbrev pub Fails : {A : Type 0} → List Element → Moves A → Type 0
-Fails some moves = (s : Reading) → Stands moves s → (es : List Element) → (goes_on (some ++ es) s ≡ None) ⊎ (few_are_open (length s.interrupted) (some ++ es) ≡ false)
+abbrev pub FailsWith : {A : Type 0} → List Element → Moves A → Type 0
+FailsWith some moves = (s : Reading) → Stands moves s → (es : List Element) → (goes_on (some ++ es) s ≡ None) ⊎ (few_are_open (length s.interrupted) (some ++ es) ≡ false)
 
 abbrev pub Exceeds : {A : Type 0} → List Element → Moves A → Type 0
 Exceeds some moves =
     (s : Reading) → Stands moves s → (es : List Element) (c : List ℕ) (f : Forest) → goes_on (some ++ es) s ≡ Some (c, f) → (20000 < height f) ⊎ (1000000 < moves_held f)
 
-abbrev pub Refuses : {A : Type 0} → List Element → FaultKind → Moves A → Type 0
-Refuses some Memory moves = ⊤
-Refuses some TooLarge moves = Exceeds some moves
-Refuses some kind moves = Fails some moves
+abbrev pub RefusesElements : {A : Type 0} → List Element → FaultKind → Moves A → Type 0
+RefusesElements some Memory moves = ⊤
+RefusesElements some TooLarge moves = Exceeds some moves
+RefusesElements some kind moves = FailsWith some moves
 
 -- no move is added at the cursor: it is as deep as any, or the tree holds as many as any
 abbrev pub AtLimit : TreeParts → Type 0
@@ -151,8 +151,8 @@ IsRoomFault kind legal t = (kind ≡ Memory) ⊎ ((kind ≡ TooLarge) × (legal 
 abbrev pub FailsHere : {A : Type 0} → Moves A → Type 0
 FailsHere moves = (s : Reading) → Stands moves s → goes_on [] s ≡ None
 
-abbrev pub Steps : {A : Type 0} → Element → Moves A → Moves A → Type 0
-Steps e old new = (s : Reading) → Stands old s → (s' : Reading) × Stands new s' × Goes (e ∷ []) s s'
+abbrev pub StepsOn : {A : Type 0} → Element → Moves A → Moves A → Type 0
+StepsOn e old new = (s : Reading) → Stands old s → (s' : Reading) × Stands new s' × Goes (e ∷ []) s s'
 
 -- The tree of a reader at the end of all lines but the game's own.
 abbrev pub IsRead : {A : Type 0} → Moves A → TreeParts → Type 0
@@ -165,4 +165,4 @@ fresh start lead = record { start = start; comment = []; forest = Bare; up = [];
 
 -- a comment before any movetext
 abbrev pub IsLed : {A : Type 0} → List ℕ → Moves A → Moves A → Type 0
-IsLed text old new = (start : State) (lead : List ℕ) → Stands old (fresh start lead) → Stands new (fresh start (joined lead text))
+IsLed text old new = (start : State) (lead : List ℕ) → Stands old (fresh start lead) → Stands new (fresh start (comments_joined lead text))

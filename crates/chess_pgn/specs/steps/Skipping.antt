@@ -28,12 +28,15 @@ abbrev pub column_at : Place → Column
 column_at place = if starts_line place then First else Later
 
 module _ {X : Type 0} (comes : X → List ℕ → X → Type 0) (at_hand : X → List ℕ) (all sound : X → Type 0) where
-  abbrev pub AfterSkip : Place → X → List (List ℕ) → X → Result Bool Fault → Type 0
-  AfterSkip place old pieces new (Ok true) = (is_some (white_after (Some (column_at place)) (at_hand old ++ joined pieces)) ≡ true) × all new × (at_hand new ≡ []) × sound new × (all old → joined pieces ≡ [])
-  AfterSkip place old pieces new (Ok false) = (white_after (Some (column_at place)) (at_hand old ++ joined pieces) ≡ None) × sound new × (all old → (joined pieces ≡ []) × all new)
-  AfterSkip place old pieces new (Err e) = Unit {0}
+  abbrev pub AfterSkip : Place → X → List (List ℕ) → X → Bool → Type 0
+  AfterSkip place old pieces new true = (is_some (white_after (Some (column_at place)) (at_hand old ++ joined pieces)) ≡ true) × all new × (at_hand new ≡ []) × sound new × (all old → joined pieces ≡ [])
+  AfterSkip place old pieces new false = (white_after (Some (column_at place)) (at_hand old ++ joined pieces) ≡ None) × sound new × (all old → (joined pieces ≡ []) × all new)
 
-  pub record Skips (place : Place) (old new : X) (result : Result Bool Fault) : Type 0 where
+  pub record Skipped (place : Place) (old new : X) (is_white : Bool) : Type 0 where
     pub pieces : List (List ℕ)
     pub came : Calls comes old pieces new
-    pub after : AfterSkip place old pieces new result
+    pub after : AfterSkip place old pieces new is_white
+
+  abbrev pub Skips : Place → X → X → Result Bool Fault → Type 0
+  Skips place old new (Ok is_white) = Skipped place old new is_white
+  Skips place old new (Err e) = Unit {0}

@@ -68,7 +68,7 @@ module _ {X T : Type 0} (comes : X → List ℕ → X → Type 0) (at_hand : X �
   Whatever s P = (more : List ℕ) → (all s → more ≡ []) → P more
 
   -- one item is used
-  pub record TakesItem (most : ℕ) (place : Place) (old : X) (pieces : List (List ℕ)) (new : X) (item : Item) (used : ℕ) : Type 0 where
+  pub record UsesItem (most : ℕ) (place : Place) (old : X) (pieces : List (List ℕ)) (new : X) (item : Item) (used : ℕ) : Type 0 where
     pub found : Whatever new (λ more. item_at place (at_hand old ++ (joined pieces ++ more)) ≡ Some (item, at_hand new ++ more))
     pub near : length (at_hand old) ≤ 65536 → length (at_hand new) ≤ 65536
     pub at_end : all old → (joined pieces ≡ []) × all new
@@ -98,7 +98,7 @@ module _ {X T : Type 0} (comes : X → List ℕ → X → Type 0) (at_hand : X �
     pub some : at_hand new ≢ []
 
   -- what comes next is too long, and no bracket in front of which a game ends
-  pub record Exceeds (at most : ℕ) (place : Place) (new : X) (t u : T) : Type 0 where
+  pub record RunsPast (at most : ℕ) (place : Place) (new : X) (t u : T) : Type 0 where
     pub over : Whatever new (λ more. Oversized most place (at_hand new ++ more))
     pub bracket : Whatever new (λ more. (rest : List ℕ) → item_at place (at_hand new ++ more) ≡ Some (TagOpen, rest) → Brackets takes at t u)
 
@@ -108,20 +108,23 @@ module _ {X T : Type 0} (comes : X → List ℕ → X → Type 0) (at_hand : X �
   AfterStop at most place old new t u (stop.Refused fault) = (item : Item) × Next place old new item × takes t at item (Err fault) u
   AfterStop at most place old new t u stop.End = all new × (at_hand new ≡ []) × (u ≡ t)
   AfterStop at most place old new t u stop.NoItem = NoNext most place new × (u ≡ t)
-  AfterStop at most place old new t u stop.TooLarge = Exceeds at most place new t u
+  AfterStop at most place old new t u stop.TooLarge = RunsPast at most place new t u
 
-  abbrev pub AfterStep : ℕ → ℕ → Place → X → List (List ℕ) → X → T → T → Result Step Fault → Type 0
-  AfterStep at most place old pieces new t u (Err e) = Unit {0}
-  AfterStep at most place old pieces new t u (Ok (step.On next used white)) =
-      (item : Item) × TakesItem most place old pieces new item used × takes t at item (Ok GoesOn) u × (next ≡ place_after place item) × (white ≡ is_white item)
-  AfterStep at most place old pieces new t u (Ok (step.Full next used white)) =
-      (item : Item) × TakesItem most place old pieces new item used × takes t at item (Ok Ends) u × (next ≡ place_after place item) × (white ≡ is_white item)
-  AfterStep at most place old pieces new t u (Ok (step.Stops why)) = Rests old pieces new × AfterStop at most place old new t u why
+  abbrev pub AfterStep : ℕ → ℕ → Place → X → List (List ℕ) → X → T → T → Step → Type 0
+  AfterStep at most place old pieces new t u (step.On next used white) =
+      (item : Item) × UsesItem most place old pieces new item used × takes t at item (Ok GoesOn) u × (next ≡ place_after place item) × (white ≡ is_white item)
+  AfterStep at most place old pieces new t u (step.Full next used white) =
+      (item : Item) × UsesItem most place old pieces new item used × takes t at item (Ok Ends) u × (next ≡ place_after place item) × (white ≡ is_white item)
+  AfterStep at most place old pieces new t u (step.Stops why) = Rests old pieces new × AfterStop at most place old new t u why
 
-  pub record Steps (at most : ℕ) (place : Place) (old new : X) (t u : T) (result : Result Step Fault) : Type 0 where
+  pub record Stepped (at most : ℕ) (place : Place) (old new : X) (t u : T) (one : Step) : Type 0 where
     pub pieces : List (List ℕ)
     pub came : Calls comes old pieces new
-    pub after : AfterStep at most place old pieces new t u result
+    pub after : AfterStep at most place old pieces new t u one
+
+  abbrev pub Steps : ℕ → ℕ → Place → X → X → T → T → Result Step Fault → Type 0
+  Steps at most place old new t u (Ok one) = Stepped at most place old new t u one
+  Steps at most place old new t u (Err e) = Unit {0}
 
   -- the items are at the front of what was at hand and what came, whatever follows
   pub record Took (limit : ℕ) (old : X) (pieces : List (List ℕ)) (new : X) (items : List (ℕ × Item)) (at : ℕ) (place : Place) (white : Bool) : Type 0 where
@@ -177,7 +180,7 @@ module _ {X T : Type 0} (comes : X → List ℕ → X → Type 0) (at_hand : X �
     pub took : Took limit old pieces new items at place white
     pub mid : T
     pub taken : Takes takes t items mid
-    pub exceeds : Exceeds at (limit - at) place new mid u
+    pub exceeds : RunsPast at (limit - at) place new mid u
 
   abbrev pub AfterRun : ℕ → X → List (List ℕ) → X → T → T → ℕ → Place → Bool → Stop → Type 0
   AfterRun limit old pieces new t u at place white stop.Full = RanFull limit old pieces new t u at place white
@@ -187,11 +190,11 @@ module _ {X T : Type 0} (comes : X → List ℕ → X → Type 0) (at_hand : X �
   AfterRun limit old pieces new t u at place white stop.NoItem = RanAground limit old pieces new t u at place white
   AfterRun limit old pieces new t u at place white stop.TooLarge = RanOver limit old pieces new t u at place white
 
-  abbrev pub Stops : ℕ → X → List (List ℕ) → X → T → T → Result Stopped Fault → Type 0
-  Stops limit old pieces new t u (Err e) = Unit {0}
-  Stops limit old pieces new t u (Ok s) = AfterRun limit old pieces new t u s.at s.place s.white s.why
-
-  pub record Ran (limit : ℕ) (old new : X) (t u : T) (result : Result Stopped Fault) : Type 0 where
+  pub record RanOn (limit : ℕ) (old new : X) (t u : T) (s : Stopped) : Type 0 where
     pub pieces : List (List ℕ)
     pub came : Calls comes old pieces new
-    pub after : Stops limit old pieces new t u result
+    pub after : AfterRun limit old pieces new t u s.at s.place s.white s.why
+
+  abbrev pub Ran : ℕ → X → X → T → T → Result Stopped Fault → Type 0
+  Ran limit old new t u (Ok s) = RanOn limit old new t u s
+  Ran limit old new t u (Err e) = Unit {0}

@@ -24,7 +24,7 @@ returning [] = []
 returning (t ∷ ts) = tasks.Back ∷ todos (t ∷ ts)
 
 -- Some of the tasks' text is written, and the others write the rest.
-pub record Steps {A : Type 0} (old new : Lines A) (line line' : Line) (ts ts' : List Todo) : Type 0 where
+pub record WritesSome {A : Type 0} (old new : Lines A) (line line' : Line) (ts ts' : List Todo) : Type 0 where
   pub more : List ℕ
   pub adds : Adds old new more
   pub text : tasks_text line ts ≡ more ++ tasks_text line' ts'

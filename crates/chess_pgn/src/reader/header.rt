@@ -2,9 +2,9 @@ ghost use Rattle.std.specs.Prelude.{◌≡◌, ◌≤◌, ◌⊎◌, [], List, �
 ghost use Rattle.chess_pgn.specs.Games.{tag_in};
 ghost use Rattle.chess_pgn.specs.Items.{TagOpen};
 ghost use Rattle.chess_pgn.specs.Reading.{is_heading, lead_after};
-ghost use Rattle.chess_pgn.specs.Tags.{fen_in, is_gap};
+ghost use Rattle.chess_pgn.specs.Tags.{fen_in, is_tag_gap};
 ghost use Rattle.chess_pgn.specs.declared.fault.FaultKind.TheVariants.{Memory, Tag};
-ghost use Rattle.chess_pgn.specs.steps.HeaderCode.{Closes, HasFound, Heads, Refuses, fen_place, fresh, heading, is_begun, is_first_fen, is_spaced, start_told};
+ghost use Rattle.chess_pgn.specs.steps.HeaderCode.{Closes, HasFound, Heads, RefusesTag, fen_place, fresh, heading, is_begun, is_first_fen, is_spaced, start_told};
 ghost use Rattle.chess_pgn.specs.steps.OtherCode.{Finds};
 ghost use Rattle.chess_pgn.specs.steps.Tokens.{item_of};
 
@@ -119,7 +119,7 @@ impl<'a, A: Allocator> Header<'a, A> {
 
     // Whether an item is white space between the tag's parts.
     fn passes(&self, token: Token<'_>) -> bool
-        ensures { result ≡ (is_spaced self.now.part && is_gap (item_of token.entry)) }
+        ensures { result ≡ (is_spaced self.now.part && is_tag_gap (item_of token.entry)) }
     {
         matches!(self.part, Part::Name | Part::Opening | Part::Closing)
             && matches!(token, Token::Blank(_) | Token::Hidden)
@@ -129,7 +129,7 @@ impl<'a, A: Allocator> Header<'a, A> {
     pub fn take(&mut self, alloc: &'a A, token: Token<'_>) -> Result<(), PgnFault>
         ensures heading { OnOk result (is_heading (item_of token.entry) ≡ true) }
         ensures ok { OnOk result (Heads (item_of token.entry) self.old self.new) }
-        ensures refused { IfErr result (λ fault. (fault ≡ record { place = 0; kind = Memory }) ⊎ Refuses (item_of token.entry) self.old fault) }
+        ensures refused { IfErr result (λ fault. (fault ≡ record { place = 0; kind = Memory }) ⊎ RefusesTag (item_of token.entry) self.old fault) }
         ensures place { OnOk result (self.new.at ≡ self.old.at) }
         ensures fen { OnOk result (self.new.fen_at ≡ fen_place self.old (item_of token.entry)) }
         ensures no_comment { OnOk result ((lead : List ℕ) → lead_after lead (item_of token.entry) ≡ lead) }

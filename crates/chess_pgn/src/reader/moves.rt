@@ -89,7 +89,7 @@ fn say<'a, A: Allocator>(
 }
 
 impl<'a, A: Allocator> Moves<'a, A> {
-    ghost use Rattle.chess_pgn.specs.steps.Readings.{Refuses, Steps};
+    ghost use Rattle.chess_pgn.specs.steps.Readings.{RefusesElements, StepsOn};
 
     /// No movetext, from that position. `Memory` where there is none.
     pub fn new(
@@ -141,7 +141,7 @@ impl<'a, A: Allocator> Moves<'a, A> {
 
     /// A comment.
     pub fn comment(&mut self, text: &[u8]) -> Result<(), AllocError>
-        ensures steps { OnOk result (Steps (grammar.Remark (normalised text.now)) self.old self.new) }
+        ensures steps { OnOk result (StepsOn (grammar.Remark (normalised text.now)) self.old self.new) }
         ensures first { OnOk result (IsLed (normalised text.now) self.old self.new) }
     {
         self.comments.push(b' ')?;
@@ -151,7 +151,7 @@ impl<'a, A: Allocator> Moves<'a, A> {
 
     /// A comment behind a semicolon.
     pub fn line_comment(&mut self, line: &[u8]) -> Result<(), AllocError>
-        ensures steps { OnOk result (Steps (grammar.Remark (normalised (map without_brace line.now))) self.old self.new) }
+        ensures steps { OnOk result (StepsOn (grammar.Remark (normalised (map without_brace line.now))) self.old self.new) }
         ensures first { OnOk result (IsLed (normalised (map without_brace line.now)) self.old self.new) }
     {
         self.comments.push(b' ')?;
@@ -189,7 +189,7 @@ impl<'a, A: Allocator> Moves<'a, A> {
 
     /// An annotation number, which is ignored before any move of its line.
     pub fn nag(&mut self, nag: u8) -> Result<(), AllocError>
-        ensures { OnOk result (Steps (grammar.Annotation nag) self.old self.new) }
+        ensures { OnOk result (StepsOn (grammar.Annotation nag) self.old self.new) }
     {
         if !self.played {
             return Ok(());
@@ -228,8 +228,8 @@ impl<'a, A: Allocator> Moves<'a, A> {
 
     /// A move's text.
     pub fn word(&mut self, at: usize, text: &[u8]) -> Result<(), PgnFault>
-        ensures steps { OnOk result (Steps (grammar.Text text.now) self.old self.new) }
-        ensures refuses { IfErr result (λ fault. Refuses (grammar.Text text.now ∷ []) fault.kind self.old) }
+        ensures steps { OnOk result (StepsOn (grammar.Text text.now) self.old self.new) }
+        ensures refuses { IfErr result (λ fault. RefusesElements (grammar.Text text.now ∷ []) fault.kind self.old) }
     {
         let Ok(m) = self.analysis.read_move(text) else {
             return Err(at_place(at, FaultKind::Move));
@@ -243,8 +243,8 @@ impl<'a, A: Allocator> Moves<'a, A> {
 
     /// The begin of a variation, which takes the place of the last move.
     pub fn open(&mut self, at: usize) -> Result<(), PgnFault>
-        ensures steps { OnOk result (Steps grammar.Open self.old self.new) }
-        ensures refuses { IfErr result (λ fault. Refuses (grammar.Open ∷ []) fault.kind self.old) }
+        ensures steps { OnOk result (StepsOn grammar.Open self.old self.new) }
+        ensures refuses { IfErr result (λ fault. RefusesElements (grammar.Open ∷ []) fault.kind self.old) }
     {
         if !self.played {
             return Err(at_place(at, FaultKind::Variation));
@@ -283,8 +283,8 @@ impl<'a, A: Allocator> Moves<'a, A> {
 
     /// The end of a variation. The comments of one without a move are those of the move before it.
     pub fn close(&mut self, at: usize) -> Result<(), PgnFault>
-        ensures steps { OnOk result (Steps grammar.Close self.old self.new) }
-        ensures refuses { IfErr result (λ fault. Refuses (grammar.Close ∷ []) fault.kind self.old) }
+        ensures steps { OnOk result (StepsOn grammar.Close self.old self.new) }
+        ensures refuses { IfErr result (λ fault. RefusesElements (grammar.Close ∷ []) fault.kind self.old) }
     {
         let Some(line) = self.interrupted.pop() else {
             return Err(at_place(at, FaultKind::Variation));

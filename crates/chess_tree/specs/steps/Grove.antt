@@ -5,7 +5,7 @@
 --   size, wide      how many nodes; how many side by side
 --   first_of, last_of      the first and the last number side by side, or another where there is none
 --   join       those of two groves, side by side
---   number_of, move_in, under      one of those side by side: its number, its move and what is below it
+--   node_number, grove_move, under  one of those side by side: its number, its move and what is below it
 --   those_before, those_after      the others
 --   within     another grove below one of them
 --   number_at, trail_at, under_at, change_at, Ways      the same at a path, as of a forest
@@ -59,20 +59,20 @@ join Empty g = g
 join (Tree i m below next) g = Tree i m below (join next g)
 
 -- the number of the node at that place
-abbrev pub number_of : ℕ → ℕ → Grove → ℕ
-number_of d k Empty = d
-number_of d zero (Tree i m below next) = i
-number_of d (suc k) (Tree i m below next) = number_of d k next
+abbrev pub node_number : ℕ → ℕ → Grove → ℕ
+node_number d k Empty = d
+node_number d zero (Tree i m below next) = i
+node_number d (suc k) (Tree i m below next) = node_number d k next
 
 -- no move, from square 0 to itself
 abbrev pub no_move : MoveParts
 no_move = record { from = 0; to = 0; promo = None }
 
 -- its move
-abbrev pub move_in : ℕ → Grove → MoveParts
-move_in k Empty = no_move
-move_in zero (Tree i m below next) = m
-move_in (suc k) (Tree i m below next) = move_in k next
+abbrev pub grove_move : ℕ → Grove → MoveParts
+grove_move k Empty = no_move
+grove_move zero (Tree i m below next) = m
+grove_move (suc k) (Tree i m below next) = grove_move k next
 
 -- the nodes below it
 abbrev pub under : ℕ → Grove → Grove
@@ -103,12 +103,12 @@ within (suc k) change (Tree i m below next) = Tree i m below (within k change ne
 -- the number of the node at the path
 abbrev pub number_at : List ℕ → ℕ → Grove → ℕ
 number_at [] i g = i
-number_at (k ∷ path) i g = number_at path (number_of i k g) (under k g)
+number_at (k ∷ path) i g = number_at path (node_number i k g) (under k g)
 
 -- the numbers of the nodes on the way to it
 abbrev pub trail_at : List ℕ → ℕ → Grove → List ℕ
 trail_at [] i g = []
-trail_at (k ∷ path) i g = number_of i k g ∷ trail_at path (number_of i k g) (under k g)
+trail_at (k ∷ path) i g = node_number i k g ∷ trail_at path (node_number i k g) (under k g)
 
 -- the nodes below it
 abbrev pub under_at : List ℕ → Grove → Grove

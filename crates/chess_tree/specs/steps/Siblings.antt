@@ -11,7 +11,7 @@ use Rattle.chess_types.specs.board.MoveParts.{MoveParts}
 use Rattle.chess_tree.specs.declared.arena.slot.Slot.{Slot}
 use Rattle.chess_tree.specs.GameTree.{find}
 use Rattle.chess_tree.specs.steps.Rooted.{Noted}
-use Rattle.chess_tree.specs.steps.Grove.{Grove, last_of, number_of, plain, size, those_before, times, wide}
+use Rattle.chess_tree.specs.steps.Grove.{Grove, last_of, node_number, plain, size, those_before, times, wide}
 use Rattle.chess_tree.specs.steps.Linked.{Linked, Owns}
 use Rattle.chess_tree.specs.steps.Laid.{look, Same}
 
@@ -29,7 +29,7 @@ pub record Owner (slots : List Slot) (at : ℕ) (below : Grove) : Type 0 where
 pub record Child (slots : List Slot) (at child : ℕ) (below : Grove) (k : ℕ) : Type 0 where
   pub owner : Owner slots at below
   pub place : k < wide below
-  pub is : child ≡ number_of 0 k below
+  pub is : child ≡ node_number 0 k below
 
 -- the number before that at a depth; the root's at depth 0
 abbrev pub above : List ℕ → ℕ → ℕ
@@ -54,7 +54,7 @@ IsPlace slots at child place = (below : Grove) (k : ℕ) → Child slots at chil
 
 -- the child at a place, or none
 abbrev pub IsAt : List Slot → ℕ → ℕ → ℕ → Type 0
-IsAt slots at place child = (below : Grove) → Owner slots at below → child ≡ number_of 0 place below
+IsAt slots at place child = (below : Grove) → Owner slots at below → child ≡ node_number 0 place below
 
 -- how many children
 abbrev pub IsCount : List Slot → ℕ → ℕ → Type 0

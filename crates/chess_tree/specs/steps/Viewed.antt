@@ -7,7 +7,7 @@ use Rattle.std.specs.Prelude.{◌≡◌, ℕ, ◌≤◌, ◌==◌, if◌then◌e
 use Rattle.chess_tree.specs.declared.arena.slot.Slot.{Slot}
 use Rattle.chess_tree.specs.Forest.{Forest, NodeParts}
 use Rattle.chess_tree.specs.steps.Rooted.{Noted}
-use Rattle.chess_tree.specs.steps.Grove.{Grove, Empty, number_at, number_of, plain, under_at, Ways}
+use Rattle.chess_tree.specs.steps.Grove.{Grove, Empty, number_at, node_number, plain, under_at, Ways}
 use Rattle.chess_tree.specs.steps.Laid.{grove_from, look, Laid}
 
 -- a node by itself
@@ -40,4 +40,4 @@ pub record IsSide (slots : List Slot) (i : ℕ) : Type 0 where
   pub parent : ℕ
   pub viewed : IsViewed slots parent
   pub place : ℕ
-  pub is : i ≡ number_of 0 place (under_at viewed.path viewed.game)
+  pub is : i ≡ node_number 0 place (under_at viewed.path viewed.game)

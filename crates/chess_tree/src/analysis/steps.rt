@@ -62,12 +62,14 @@ impl<'a, A: Allocator> Analysis<'a, A> {
         while self.step(0).is_ok() {}
     }
 
-    /// Steps to the node at that path from the root. `NoSuch` where there is none; the cursor stays then. Takes no memory.
+    /// Steps to the node at that path from the root. `NoSuch` where there is none, as at each of more
+    /// than 20,000 plies; the cursor stays then. Takes no memory.
     pub fn goto(&mut self, path: &[u32]) -> Result<(), TreeFault>
         ensures ok { OnOk result (self.new ≡ at_path path.now self.old) }
         ensures line { OnOk result (line_to self.new ≡ line_along path.now self.old.tree) }
         ensures err { OnErr result (self.new ≡ self.old) }
         ensures no_such { MatchResult result (λ _. has path.now self.old.tree.below ≡ true) (λ fault. (fault ≡ NoSuch) × (has path.now self.old.tree.below ≡ false)) }
+        ensures short { OnOk result (length path.now ≤ 20000) }
     {
         if !self.tree.has(path) {
             return Err(TreeFault::NoSuch);

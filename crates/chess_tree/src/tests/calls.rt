@@ -1,5 +1,5 @@
 //! Calls on a tree and looks at it, as rows of a table.
-use super::{a_move, add, child_move};
+use super::{a_move, add, begin, child_move};
 use crate::{Tree, TreeFault};
 use chess_types::Move;
 use std::alloc::Allocator;
@@ -13,6 +13,7 @@ pub enum Call {
     Back,
     Step(u32),
     Start,
+    First,
     End,
     Goto(&'static [u32]),
     Promote,
@@ -33,6 +34,8 @@ pub enum Look {
     ChildCount(u32),
     /// The first child with that move.
     Find(&'static str, u32),
+    /// How many children the root has.
+    RootCount(u32),
     /// The move of a child of the root, at a place.
     Below(u32, &'static str),
     Nags(&'static [u8]),
@@ -65,6 +68,7 @@ fn answer<A: Allocator>(
             tree.start();
             Ok(())
         }
+        Call::First => tree.first(),
         Call::End => {
             tree.end();
             Ok(())
@@ -101,6 +105,7 @@ pub fn is_seen<A: Allocator>(rt: &impl Abort, tree: &Tree<'_, A>, look: Look) ->
         Look::Played(text) => tree.move_at() == move_of(rt, text),
         Look::ChildCount(count) => tree.child_count() == count,
         Look::Find(text, place) => tree.find(a_move(rt, text)) == Some(place),
+        Look::RootCount(count) => tree.root().children() == count,
         Look::Below(place, text) => child_move(&tree.root(), place) == Some(a_move(rt, text)),
         Look::Nags(nags) => tree.notes().nags == nags,
         Look::Comment(comment) => tree.notes().comment == comment,
@@ -119,4 +124,16 @@ pub fn run<A: Allocator>(rt: &impl Abort, tree: &mut Tree<'_, A>, rows: &[Row]) 
             Row::Shows(look) => assert!(rt; is_seen(rt, tree, look), "row {index}"),
         }
     }
+}
+
+/// The tree of a game that begins, once a table was gone by.
+pub fn grown<'a, A: Allocator>(rt: &impl Abort, alloc: &'a A, rows: &[Row]) -> Tree<'a, A> {
+    let mut tree = begin(alloc).expect(rt, "a tree");
+    run(rt, &mut tree, rows);
+    tree
+}
+
+/// Goes by a table from where a game begins.
+pub fn play_all<A: Allocator>(rt: &impl Abort, alloc: &A, rows: &[Row]) {
+    let _tree = grown(rt, alloc, rows);
 }

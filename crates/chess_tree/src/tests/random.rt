@@ -8,10 +8,14 @@ use rand_core::utils::NextWord;
 use rand_pcg::Pcg64;
 use std::alloc::{AllocError, Allocator};
 use std::process::Abort;
-use std::test::Fail;
 
 /// How many edits are made.
 const EDITS: u32 = 100_000;
+
+/// Moves of the knights, out and back.
+const KNIGHTS: [&str; 8] = [
+    "g1f3", "f3g1", "b1c3", "c3b1", "g8f6", "f6g8", "b8c6", "c6b8",
+];
 
 /// From how many nodes on more are deleted.
 const MANY: usize = 400;
@@ -182,11 +186,8 @@ struct Twins<'l, A: Allocator> {
 
 impl<'l, A: Allocator> Twins<'l, A> {
     /// Adds one of the knights' moves, where it is legal.
-    fn add(&mut self, rt: &impl Abort, alloc: &'l A, pick: u64) -> Result<(), Fail> {
-        let texts = [
-            "g1f3", "f3g1", "b1c3", "c3b1", "g8f6", "f6g8", "b8c6", "c6b8",
-        ];
-        let text = texts[(pick % 8) as usize];
+    fn add(&mut self, rt: &impl Abort, alloc: &'l A, pick: u64) -> Result<(), TreeFault> {
+        let text = KNIGHTS[(pick % 8) as usize];
         if add_legal(rt, &mut self.tree, text)? {
             let end = all_below(&self.list, self.at);
             self.list = grown(alloc, &self.list, self.at, a_move(rt, text))?;
@@ -207,7 +208,7 @@ impl<'l, A: Allocator> Twins<'l, A> {
         }
     }
 
-    fn promote(&mut self, alloc: &'l A) -> Result<(), AllocError> {
+    fn promote(&mut self, alloc: &'l A) -> Result<(), TreeFault> {
         if self.tree.promote().is_ok() {
             let first = parent_of(&self.list, self.at).saturating_add(1);
             self.list = lifted(alloc, &self.list, self.at)?;
@@ -232,22 +233,31 @@ impl<'l, A: Allocator> Twins<'l, A> {
         Ok(())
     }
 
-    /// An edit of both.
-    fn edit(&mut self, rt: &impl Abort, alloc: &'l A, word: u64) -> Result<(), Fail> {
-        let pick = word / 16;
-        match word % 16 {
-            0..=6 => self.add(rt, alloc, pick)?,
-            7 => self.back(),
-            8..=10 => self.step((pick % 3) as u32),
-            11 | 12 => self.promote(alloc)?,
-            13 => self.set_note(alloc, b'0' + (pick % 10) as u8)?,
-            _ => {
-                if self.tree.depth() > 0 && (self.list.len() >= MANY || pick % 4 == 0) {
-                    self.delete(alloc)?;
-                }
-            }
+    /// Deletes, where there are many, and now and then.
+    fn thin_out(&mut self, alloc: &'l A, pick: u64) -> Result<(), TreeFault> {
+        if self.tree.depth() > 0 && (self.list.len() >= MANY || pick % 4 == 0) {
+            return self.delete(alloc);
         }
         Ok(())
+    }
+
+    /// An edit of both.
+    fn edit(&mut self, rt: &impl Abort, alloc: &'l A, word: u64) -> Result<(), TreeFault> {
+        let pick = word / 16;
+        match word % 16 {
+            0..=6 => self.add(rt, alloc, pick),
+            7 => {
+                self.back();
+                Ok(())
+            }
+            8..=10 => {
+                self.step((pick % 3) as u32);
+                Ok(())
+            }
+            11 | 12 => self.promote(alloc),
+            13 => self.set_note(alloc, b'0' + (pick % 10) as u8),
+            _ => self.thin_out(alloc, pick),
+        }
     }
 
     /// Compares the tree with the list.
@@ -257,25 +267,39 @@ impl<'l, A: Allocator> Twins<'l, A> {
         assert!(rt; nodes.as_slice() == self.list.as_slice());
         Ok(())
     }
+
+    /// Random edits; after each thousand the whole game is compared.
+    fn edit_all(&mut self, rt: &impl Abort, alloc: &'l A) -> Result<(), TreeFault> {
+        let mut random = Pcg64::new(17, 23);
+        for edit in 0..EDITS {
+            self.edit(rt, alloc, random.next_word())?;
+            if edit % 1_000 == 0 {
+                self.compare(rt, alloc)?;
+            }
+        }
+        Ok(())
+    }
+}
+
+/// A game that begins.
+fn begin_both<'l, A: Allocator>(alloc: &'l A) -> Result<Twins<'l, A>, TreeFault> {
+    Ok(Twins {
+        tree: begin(alloc)?,
+        list: Vec::new(alloc),
+        at: 0,
+    })
+}
+
+fn edit_both<A: Allocator>(rt: &impl Abort, alloc: &A) -> Result<(), TreeFault> {
+    let mut twins = begin_both(alloc)?;
+    twins.edit_all(rt, alloc)?;
+    assert!(rt; twins.list.len() > 100);
+    twins.compare(rt, alloc)?;
+    Ok(())
 }
 
 /// After each thousand edits the whole game is compared.
 #[test]
-fn random_edits(rt: HostRuntime) -> Result<(), Fail> {
-    let alloc = rt.alloc();
-    let mut twins = Twins {
-        tree: begin(&alloc)?,
-        list: Vec::new(&alloc),
-        at: 0,
-    };
-    let mut random = Pcg64::new(17, 23);
-    for edit in 0..EDITS {
-        twins.edit(&rt, &alloc, random.next_word())?;
-        if edit % 1_000 == 0 {
-            twins.compare(&rt, &alloc)?;
-        }
-    }
-    assert!(rt; twins.list.len() > 100);
-    twins.compare(&rt, &alloc)?;
-    Ok(())
+fn random_edits(rt: HostRuntime) {
+    assert_eq!(rt; edit_both(&rt, &rt.alloc()), Ok(()));
 }

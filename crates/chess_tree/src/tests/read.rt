@@ -2,7 +2,8 @@
 use super::a_table;
 use super::analysis::begin;
 use super::walk::{Entry, list_nodes};
-use crate::Analysis;
+use crate::{Analysis, Tree};
+use chess_key::KeyTable;
 use chess_types::Move;
 use rand_core::utils::NextWord;
 use rand_pcg::Pcg64;
@@ -112,6 +113,25 @@ fn compare<A: Allocator>(
     panic!(rt; "the walk did not end");
 }
 
+/// A random legal move more below that node, else back to the start.
+fn add_random<A: Allocator>(
+    analysis: &mut Analysis<'_, A>,
+    list: &mut Vec<Linked, &A>,
+    path: &mut Vec<usize, &A>,
+    at: usize,
+    word: u64,
+) -> Result<(), Fail> {
+    let Some(played) = pick(analysis, word) else {
+        analysis.start();
+        path.clear();
+        return Ok(());
+    };
+    analysis.add(played)?;
+    path.push(list.len())?;
+    append(list, at, played)?;
+    Ok(())
+}
+
 /// A step up, down, or back so far, or a random legal move more. The path has the numbers of the nodes on the way to the cursor.
 fn step_or_add<A: Allocator>(
     analysis: &mut Analysis<'_, A>,
@@ -138,16 +158,7 @@ fn step_or_add<A: Allocator>(
                 path.pop();
             }
         }
-        _ => {
-            let Some(played) = pick(analysis, more) else {
-                analysis.start();
-                path.clear();
-                return Ok(());
-            };
-            analysis.add(played)?;
-            path.push(list.len())?;
-            append(list, at, played)?;
-        }
+        _ => add_random(analysis, list, path, at, more)?,
     }
     Ok(())
 }
@@ -170,17 +181,29 @@ fn grow<A: Allocator>(
     Ok(())
 }
 
+/// The nodes of the tree are those of the list.
+fn is_listed<A: Allocator>(
+    rt: &impl Abort,
+    alloc: &A,
+    tree: &Tree<'_, A>,
+    list: &[Linked],
+) -> Result<(), AllocError> {
+    let mut nodes = Vec::new(alloc);
+    list_nodes(rt, alloc, tree, &mut nodes)?;
+    assert_eq!(rt; nodes.len(), MOVES);
+    compare(rt, alloc, nodes.as_slice(), list)
+}
+
+fn is_read<A: Allocator>(rt: &impl Abort, alloc: &A, table: &KeyTable) -> Result<(), Fail> {
+    let mut analysis = begin(alloc, table)?;
+    let mut list = Vec::new(alloc);
+    grow(alloc, &mut analysis, &mut list)?;
+    assert_eq!(rt; list.len(), MOVES + 1);
+    is_listed(rt, alloc, analysis.tree(), list.as_slice())?;
+    Ok(())
+}
+
 #[test]
 fn a_tree_is_read(rt: HostRuntime) -> Result<(), Fail> {
-    let alloc = rt.alloc();
-    let table = a_table();
-    let mut analysis = begin(&alloc, &table)?;
-    let mut list = Vec::new(&alloc);
-    grow(&alloc, &mut analysis, &mut list)?;
-    assert_eq!(rt; list.len(), MOVES + 1);
-    let mut nodes = Vec::new(&alloc);
-    list_nodes(&rt, &alloc, analysis.tree(), &mut nodes)?;
-    assert_eq!(rt; nodes.len(), MOVES);
-    compare(&rt, &alloc, nodes.as_slice(), list.as_slice())?;
-    Ok(())
+    is_read(&rt, &rt.alloc(), &a_table())
 }

@@ -1,25 +1,82 @@
 use super::calls::Call::{Add, Back, SetComment};
 use super::calls::Look::{Comment, Nags, Path};
 use super::calls::Row::{Does, Shows};
-use super::calls::run;
+use super::calls::{Row, grown, run};
 use super::{add, begin};
 use crate::{Tree, TreeFault};
 use linked_list_allocator::LocalHeap;
-use std::alloc::Allocator;
+use std::alloc::{AllocError, Allocator, Global};
 use std::process::Abort;
 use std::test::Fail;
+
+/// The comment of a few words, more than a small heap has room for.
+const LONG: &[u8] = b"a comment of some words that takes memory of its own";
+
+/// How many steps there are.
+const STEPS: u32 = 44;
+
+/// One step: a move, notes and a long comment, another move, and the path.
+fn grow_once<A: Allocator>(
+    rt: &impl Abort,
+    tree: &mut Tree<'_, A>,
+    step: u32,
+) -> Result<(), TreeFault> {
+    match step {
+        0 => add(rt, tree, "e2e4"),
+        1 => tree.set_comment(LONG),
+        2..=41 => tree.add_nag((step - 2) as u8),
+        42 => add(rt, tree, "e7e5"),
+        _ => is_path_found(tree),
+    }
+}
+
+/// Asks for the path.
+fn is_path_found<A: Allocator>(tree: &Tree<'_, A>) -> Result<(), TreeFault> {
+    match tree.path() {
+        Ok(_) => Ok(()),
+        Err(fault) => Err(fault),
+    }
+}
+
+/// Each step in turn.
+fn grow_on<A: Allocator>(rt: &impl Abort, tree: &mut Tree<'_, A>) -> Result<u32, TreeFault> {
+    for step in 0..STEPS {
+        grow_once(rt, tree, step)?;
+    }
+    Ok(tree.depth())
+}
 
 /// A tree with a move, notes and a long comment, on so little memory that a growth is refused.
 fn grow<A: Allocator>(rt: &impl Abort, alloc: &A) -> Result<u32, TreeFault> {
     let mut tree = begin(alloc)?;
-    add(rt, &mut tree, "e2e4")?;
-    tree.set_comment(b"a comment of some words that takes memory of its own")?;
-    for nag in 0..40 {
-        tree.add_nag(nag)?;
+    grow_on(rt, &mut tree)
+}
+
+/// The fault is that there is no memory.
+pub fn is_memory(rt: &impl Abort, fault: TreeFault) {
+    assert_eq!(rt; fault, TreeFault::Memory);
+}
+
+/// Whether a growth is refused on that heap.
+fn is_refused_on(rt: &impl Abort, heap: &LocalHeap) -> bool {
+    match grow(rt, heap) {
+        Ok(depth) => {
+            assert_eq!(rt; depth, 2);
+            false
+        }
+        Err(fault) => {
+            is_memory(rt, fault);
+            true
+        }
     }
-    add(rt, &mut tree, "e7e5")?;
-    tree.path()?;
-    Ok(tree.depth())
+}
+
+/// Whether a growth is refused on a heap of that size, of which nothing is taken afterwards.
+fn is_too_small(rt: &impl Abort, alloc: Global, size: usize) -> Result<bool, AllocError> {
+    let heap = LocalHeap::new(alloc, size)?;
+    let refused = is_refused_on(rt, &heap);
+    assert_eq!(rt; heap.used(), 0);
+    Ok(refused)
 }
 
 /// Each growth is refused in turn, as `Memory`, until all find their memory.
@@ -27,15 +84,9 @@ fn grow<A: Allocator>(rt: &impl Abort, alloc: &A) -> Result<u32, TreeFault> {
 fn without_memory(rt: HostRuntime) -> Result<(), Fail> {
     let mut refused = 0u32;
     for size in 1..400usize {
-        let heap = LocalHeap::new(rt.alloc(), size * 32)?;
-        match grow(&rt, &heap) {
-            Ok(depth) => assert_eq!(rt; depth, 2),
-            Err(fault) => {
-                assert_eq!(rt; fault, TreeFault::Memory);
-                refused = refused.saturating_add(1);
-            }
+        if is_too_small(&rt, rt.alloc(), size * 32)? {
+            refused = refused.saturating_add(1);
         }
-        assert_eq!(rt; heap.used(), 0);
     }
     assert!(rt; refused > 10 && refused < 390);
     Ok(())
@@ -56,31 +107,49 @@ fn faults_say_what_they_are(rt: HostRuntime) -> Result<(), Fail> {
     Ok(())
 }
 
+const BEGUN: &[Row] = &[Does(Add("e2e4"))];
+
+/// A comment is refused while the heap is nearly full.
+fn is_comment_refused(rt: &impl Abort, heap: &LocalHeap, tree: &mut Tree<'_, LocalHeap>) {
+    let taken = 7_000usize.saturating_sub(heap.used());
+    let _other: Vec<u8, _> = Vec::with_capacity(heap, taken).expect(rt, "room");
+    assert!(rt; tree.set_comment(&[b'a'; 2_000]) == Err(TreeFault::Memory));
+    run(rt, tree, &[Shows(Comment(b""))]);
+}
+
+fn is_comment_set(rt: &impl Abort, tree: &mut Tree<'_, LocalHeap>) {
+    assert!(rt; tree.set_comment(&[b'a'; 2_000]) == Ok(()));
+    assert_eq!(rt; tree.notes().comment.len(), 2_000);
+}
+
+fn is_as_before(rt: &impl Abort, heap: &LocalHeap) {
+    let mut tree = grown(rt, heap, BEGUN);
+    is_comment_refused(rt, heap, &mut tree);
+    is_comment_set(rt, &mut tree);
+}
+
 /// After a refusal all is as before, and the call is answered once there is memory.
 #[test]
 fn as_before(rt: HostRuntime) -> Result<(), Fail> {
     let heap = LocalHeap::new(rt.alloc(), 8_192)?;
-    let mut tree = begin(&heap)?;
-    run(&rt, &mut tree, &[Does(Add("e2e4"))]);
-    let other: Vec<u8, _> = Vec::with_capacity(&heap, 7_000usize.saturating_sub(heap.used()))?;
-    let comment = [b'a'; 2_000];
-    assert_eq!(rt; tree.set_comment(&comment), Err(TreeFault::Memory));
-    run(&rt, &mut tree, &[Shows(Comment(b""))]);
-    drop(other);
-    tree.set_comment(&comment)?;
-    assert_eq!(rt; tree.notes().comment.len(), 2_000);
+    is_as_before(&rt, &heap);
     Ok(())
+}
+
+const NO_WORDS: &[Row] = &[Does(SetComment(b" \t "))];
+
+fn is_free(rt: &impl Abort, heap: &LocalHeap) {
+    let mut tree = grown(rt, heap, BEGUN);
+    let used = heap.used();
+    run(rt, &mut tree, NO_WORDS);
+    assert_eq!(rt; heap.used(), used);
 }
 
 /// A comment of no words is none.
 #[test]
 fn an_empty_comment_takes_no_memory(rt: HostRuntime) -> Result<(), Fail> {
     let heap = LocalHeap::new(rt.alloc(), 8_192)?;
-    let mut tree = begin(&heap)?;
-    run(&rt, &mut tree, &[Does(Add("e2e4"))]);
-    let used = heap.used();
-    run(&rt, &mut tree, &[Does(SetComment(b" \t "))]);
-    assert_eq!(rt; heap.used(), used);
+    is_free(&rt, &heap);
     Ok(())
 }
 
@@ -95,13 +164,10 @@ fn a_call<A: Allocator>(
 ) -> Result<(), TreeFault> {
     match call {
         0 => add(rt, tree, "e2e4"),
-        1 => tree.set_comment(b"a comment of some words that takes memory of its own"),
+        1 => tree.set_comment(LONG),
         2..=21 => tree.add_nag(7),
         22 => add(rt, tree, "e7e5"),
-        23 => {
-            tree.path()?;
-            Ok(())
-        }
+        23 => is_path_found(tree),
         _ => tree.set_comment(b"another comment"),
     }
 }
@@ -117,7 +183,7 @@ fn first_refused<A: Allocator>(rt: &impl Abort, tree: &mut Tree<'_, A>, from: u3
     for call in from..CALLS {
         let before = seen(tree);
         if let Err(fault) = a_call(rt, tree, call) {
-            assert_eq!(rt; fault, TreeFault::Memory);
+            is_memory(rt, fault);
             assert!(rt; seen(tree) == before);
             return call;
         }
@@ -125,20 +191,27 @@ fn first_refused<A: Allocator>(rt: &impl Abort, tree: &mut Tree<'_, A>, from: u3
     CALLS
 }
 
-/// Calls on a heap with so much room, until one is refused, and on from there once there is memory: whether one was.
-fn call_all(rt: &impl Abort, heap: &LocalHeap, room: usize) -> Result<bool, Fail> {
-    let mut tree = begin(heap)?;
+/// The first call that is refused while the heap has so much room.
+fn first_without(
+    rt: &impl Abort,
+    heap: &LocalHeap,
+    tree: &mut Tree<'_, LocalHeap>,
+    room: usize,
+) -> u32 {
     let taken = 15_500usize.saturating_sub(heap.used()).saturating_sub(room);
-    let other: Vec<u8, _> = Vec::with_capacity(heap, taken)?;
-    let call = first_refused(rt, &mut tree, 0);
-    drop(other);
+    let _other: Vec<u8, _> = Vec::with_capacity(heap, taken).expect(rt, "room");
+    first_refused(rt, tree, 0)
+}
+
+const CALLED: &[Row] = &[Shows(Path(&[0, 0])), Does(Back), Shows(Nags(&[7; 20]))];
+
+/// Calls on a heap with so much room, until one is refused, and on from there once there is memory: whether one was.
+fn call_all(rt: &impl Abort, heap: &LocalHeap, room: usize) -> bool {
+    let mut tree = begin(heap).expect(rt, "a tree");
+    let call = first_without(rt, heap, &mut tree, room);
     assert_eq!(rt; first_refused(rt, &mut tree, call), CALLS);
-    run(
-        rt,
-        &mut tree,
-        &[Shows(Path(&[0, 0])), Does(Back), Shows(Nags(&[7; 20]))],
-    );
-    Ok(call < CALLS)
+    run(rt, &mut tree, CALLED);
+    call < CALLS
 }
 
 /// Each growth is refused in turn: all is as before then, and the same call is answered once there is memory.
@@ -147,7 +220,7 @@ fn the_same_call_again(rt: HostRuntime) -> Result<(), Fail> {
     let mut refused = 0u32;
     for room in 0..80usize {
         let heap = LocalHeap::new(rt.alloc(), 16_384)?;
-        if call_all(&rt, &heap, room * 32)? {
+        if call_all(&rt, &heap, room * 32) {
             refused = refused.saturating_add(1);
         }
     }

@@ -3,7 +3,7 @@
 --   search_of, seen     a search that runs, or none
 --   turn_of             what a turn replies and leaves
 --   GoesOn, IsGoing     the search is one of the line, and where it has no root left it is infinite
---   HasBegun            it has begun at the moment or before
+--   HasStarted          it has begun at the moment or before
 --   Does, Follows       the replies and the new state are those of a step, or of an event
 use Rattle.std.specs.Prelude.{◌≡◌, ⊤, ℕ, ◌+◌, ◌≤◌, Bool, true, false, ◌⊎◌, List, length, Option, Some, None, option_map}
 use Rattle.chess_types.specs.board.Lines.{Line as GameLine}
@@ -59,9 +59,9 @@ abbrev pub IsGoing : GameLine → Option Code → Type 0
 IsGoing line None = ⊤
 IsGoing line (Some x) = GoesOn line x
 
-abbrev pub HasBegun : ℕ → Option Code → Type 0
-HasBegun moment None = ⊤
-HasBegun moment (Some x) = x.begin ≤ moment
+abbrev pub HasStarted : ℕ → Option Code → Type 0
+HasStarted moment None = ⊤
+HasStarted moment (Some x) = x.begin ≤ moment
 
 abbrev pub Does : Step → List Reply → State → Type 0
 Does t replies new = (replies ≡ t.0) × (new ≡ t.1)

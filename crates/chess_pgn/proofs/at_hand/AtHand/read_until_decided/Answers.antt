@@ -1,20 +1,24 @@
-use Rattle.std.proofs.Common.{rules, ◌≤◌, ℕ, List, length, sym, subst}
+use Rattle.std.proofs.Common.{rules, ◌≤◌, ℕ, List, length, sym, subst, refl}
 use Rattle.chess_pgn.specs.steps.Deciding.{Decides}
 use Rattle.chess_pgn.specs.Sources.{unread}
-use Rattle.chess_pgn.proofs.ReadyLemmas.{Going, going_start, going_on, going_fault}
+use Rattle.chess_pgn.proofs.ReadyLemmas.{Going, going_start, going_on, going_fault, going_many, going_poor}
 use Rattle.chess_pgn.proofs.at_hand.AtHand.read_until_decided.Goals as goal
 
 pub loop-self-init : goal.loop-self-init
 loop-self-init g c = going_start g.R.Source.gives g.R.Source.ended g.R.Source.failed c.args.most c.args.place c.args.self.now c.requires.ended
 
-pub returns-in-Err : goal.returns-in-Err
-returns-in-Err g c =
-    let now = c.loop-self.self in
-    let place = c.args.place in
-    let undecided : Decides place (unread now) → ⊥ = subst (λ (x : List ℕ). Decides place x → ⊥) c.unread.ensures c.if-is_undecided.ensures in
-    let few : length (unread now) ≤ c.args.most = subst (λ (x : List ℕ). length x ≤ c.args.most) c.unread-in-loop-self.ensures c.if-unread-most.false in
-    let r = c.in-Err.ensures in
-    going_fault g.R.Source.gives g.R.Source.ended g.R.Source.failed c.args.most place c.args.self.now c.loop-self.looked now c.read_on.new.self c.in-Err.fault c.loop-self.invariant (search rules) undecided few
+pub returns-then-self-eq0-clause-broken : goal.returns-then-self-eq0-clause-broken
+returns-then-self-eq0-clause-broken g c =
+    going_many g.R.Source.gives g.R.Source.ended g.R.Source.failed c.args.most c.args.place c.args.self.now c.loop-self.looked c.loop-self.self c.loop-self.invariant (search rules) (search rules)
+
+pub returns-in-Err-clause-broken : goal.returns-in-Err-clause-broken
+returns-in-Err-clause-broken g c =
+    going_poor g.R.Source.gives g.R.Source.ended g.R.Source.failed c.args.most c.args.place c.args.self.now c.loop-self.looked c.loop-self.self c.loop-self.invariant (search rules) _ c.in-Err.fault c.in-Err.ensures.memory refl refl
+
+pub returns-in-Err-read_on-clause-broken : goal.returns-in-Err-read_on-clause-broken
+returns-in-Err-read_on-clause-broken g c =
+    let r = c.in-Err-read_on.ensures in
+    going_fault g.R.Source.gives g.R.Source.ended g.R.Source.failed c.args.most c.args.place c.args.self.now c.loop-self.looked c.loop-self.self c.loop-self.invariant (search rules) c.read_on.new.self c.in-Err-read_on.fault
     (record { piece = r.piece; call = r.call; small = r.small; counted = r.counted; after = r.after })
 
 pub loop-self-preserved : goal.loop-self-preserved
@@ -23,7 +27,7 @@ loop-self-preserved g c =
     let place = c.args.place in
     let undecided : Decides place (unread now) → ⊥ = subst (λ (x : List ℕ). Decides place x → ⊥) c.unread.ensures c.if-is_undecided.ensures in
     let few : length (unread now) ≤ c.args.most = subst (λ (x : List ℕ). length x ≤ c.args.most) c.unread-in-loop-self.ensures c.if-unread-most.false in
-    let r = c.in_default.ensures in
-    subst (λ (x : List ℕ). Going {R = g.row.R.Denot} {A = g.row.A.Denot} g.R.Source.gives g.R.Source.ended c.args.most place (length x) c.args.self.now c.read_on.new.self) (sym c.unread-looked.ensures)
+    let r = c.in_default-read_on.ensures in
+    subst (λ (x : List ℕ). Going {R = g.row.R.Denot} {A = g.row.A.Denot} g.R.Source.gives g.R.Source.ended g.R.Source.failed c.args.most place (length x) c.args.self.now c.read_on.new.self) (sym c.unread-looked.ensures)
     (going_on g.R.Source.gives g.R.Source.ended g.R.Source.failed c.args.most place c.args.self.now c.loop-self.looked now c.read_on.new.self c.loop-self.invariant (search rules) undecided few
     (record { piece = r.piece; call = r.call; small = r.small; counted = r.counted; after = r.after }))

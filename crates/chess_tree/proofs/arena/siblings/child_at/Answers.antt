@@ -1,5 +1,5 @@
 use Rattle.std.proofs.Common.{◌≡◌, ℕ, sym, ap, ◌∙◌, arith}
-use Rattle.chess_tree.specs.steps.Grove.{number_of}
+use Rattle.chess_tree.specs.steps.Grove.{node_number}
 use Rattle.chess_tree.specs.declared.arena.slot.Slot.{Slot}
 use Rattle.chess_tree.proofs.SiblingLemmas.{walk_past, walk_on, walk_range, walk_start}
 use Rattle.chess_tree.proofs.arena.siblings.child_at.Goals as goal
@@ -17,4 +17,4 @@ pub loop-passed-preserved : goal.loop-passed-preserved
 loop-passed-preserved c = λ g o. ap (λ (s : Slot). s.next) c.slot-child-in-loop-passed.ensures ∙ walk_on _ _ _ _ g o (c.loop-passed.invariant g o) (omega (arith, c.if-child-eq0.false))
 
 pub returns : goal.returns
-returns c = λ g o. let same : c.loop-passed._passed ≡ c.args.place = omega arith in c.loop-passed.invariant g o ∙ ap (λ (k : ℕ). number_of 0 k g) same
+returns c = λ g o. let same : c.loop-passed._passed ≡ c.args.place = omega arith in c.loop-passed.invariant g o ∙ ap (λ (k : ℕ). node_number 0 k g) same
