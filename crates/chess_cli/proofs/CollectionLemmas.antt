@@ -13,6 +13,7 @@ use Rattle.chess_pgn.specs.declared.fault.PgnFault.{PgnFault}
 use Rattle.chess_pgn.specs.declared.game.Game.{Game as Code}
 use Rattle.chess_pgn.specs.declared.games.GamesFault.{GamesFault}
 use Rattle.chess_pgn.specs.declared.games.GamesFault.TheVariants.{Pgn, Read}
+use Rattle.chess_pgn.proofs.BreakLemmas.{came_append, came_none}
 use Rattle.chess_cli.specs.Collections.{AreGames, Collected, EndsAtFault, EndsInPart, EndsUnread, EndsWhole, EndsWritten, games_text}
 use Rattle.chess_cli.specs.RunEnds.{Broken, most_reads}
 use Rattle.chess_cli.specs.steps.Sending.{Sent}
@@ -34,17 +35,7 @@ are_more input (g ∷ games) mid text rest game a parts front = (a.0, a.1, a.2, 
 
 module _ {R A : Type 0} (gives : R → List ℕ → R → Type 0) (failed : R → Bool) where
   pub reads_none : (s : AtHand R A) → Reads gives failed s s []
-  reads_none s = record { bytes = []; came = record { pieces = []; calls = refl; whole = refl; counted = omega arith; small = omega arith; well = refl }; are = λ more none. refl }
-
-  came_on : (s m n : AtHand R A) (a b : List ℕ) → Came gives failed s a m → Came gives failed m b n → Came gives failed s (a ++ b) n
-  came_on s m n a b first second = record {
-    pieces = first.pieces ++ second.pieces;
-    calls = Calls-append gives s.source m.source n.source first.pieces second.pieces first.calls second.calls;
-    whole = rw (joined-append first.pieces second.pieces, first.whole, second.whole) refl;
-    counted = (let n = length-append first.pieces second.pieces in omega (arith, n, first.counted, second.counted));
-    small = (let n = length-append first.pieces second.pieces in let k = length-append a b in omega (arith, n, k, first.small, second.small));
-    well = second.well ∙ first.well;
-  }
+  reads_none s = record { bytes = []; came = came_none gives failed s s refl refl; are = λ more none. refl }
 
   carries : (s n : AtHand R A) (bytes : List ℕ) → Came gives failed s bytes n → Carries gives s.source bytes n.source
   carries s n bytes c = record { pieces = c.pieces; calls = c.calls; whole = c.whole }
@@ -52,7 +43,7 @@ module _ {R A : Type 0} (gives : R → List ℕ → R → Type 0) (failed : R �
   reads_more : (s m n : AtHand R A) (games : List Game) (game : Game) → Reads gives failed s m games → HasGame gives failed m n game → Reads gives failed s n (games ++ game ∷ [])
   reads_more s m n games game r h = record {
     bytes = r.bytes ++ h.bytes;
-    came = came_on s m n r.bytes h.bytes r.came h.came;
+    came = came_append gives failed s m n r.bytes h.bytes r.came h.came;
     are = λ more none.
         let before = r.are (h.bytes ++ more) (λ e. (let still = h.still e in ap (λ (z : List ℕ). z ++ more) still.0 ∙ none still.1)) in
         let parts : unread m ++ (h.bytes ++ more) ≡ h.text ++ (unread n ++ more) =
@@ -64,7 +55,7 @@ module _ {R A : Type 0} (gives : R → List ℕ → R → Type 0) (failed : R �
   -- bytes that came behind the games
   module _ (s m n : AtHand R A) (games : List Game) (nothing : unread s ≡ []) (first : failed s.source ≡ false) (r : Reads gives failed s m games) (bytes : List ℕ) (came : Came gives failed m bytes n) where
     all_bytes : Came gives failed s (r.bytes ++ bytes) n
-    all_bytes = came_on s m n r.bytes bytes r.came came
+    all_bytes = came_append gives failed s m n r.bytes bytes r.came came
 
     well_read : failed n.source ≡ false
     well_read = came.well ∙ r.came.well ∙ first
@@ -126,7 +117,7 @@ module _ {R W A : Type 0} (gives : R → List ℕ → R → Type 0) (read_failed
     ends_whole m n old new so_far none all = record {
       bytes = so_far.reads.bytes ++ none.bytes;
       source = n.source;
-      came = carries gives read_failed s n (so_far.reads.bytes ++ none.bytes) (came_on gives read_failed s m n so_far.reads.bytes none.bytes so_far.reads.came none.came);
+      came = carries gives read_failed s n (so_far.reads.bytes ++ none.bytes) (came_append gives read_failed s m n so_far.reads.bytes none.bytes so_far.reads.came none.came);
       well_read = well_read gives read_failed s m n so_far.games nothing first_read so_far.reads none.bytes none.came;
       all = all;
       games = so_far.games;
@@ -142,7 +133,7 @@ module _ {R W A : Type 0} (gives : R → List ℕ → R → Type 0) (read_failed
     ends_at_fault m n old new fault so_far (inl (memory, starves)) = record {
       bytes = so_far.reads.bytes ++ starves.bytes;
       source = n.source;
-      came = carries gives read_failed s n (so_far.reads.bytes ++ starves.bytes) (came_on gives read_failed s m n so_far.reads.bytes starves.bytes so_far.reads.came starves.came);
+      came = carries gives read_failed s n (so_far.reads.bytes ++ starves.bytes) (came_append gives read_failed s m n so_far.reads.bytes starves.bytes so_far.reads.came starves.came);
       well_read = well_read gives read_failed s m n so_far.games nothing first_read so_far.reads starves.bytes starves.came;
       all = m.has_ended;
       told = λ e. (starves.still e).1;
@@ -156,7 +147,7 @@ module _ {R W A : Type 0} (gives : R → List ℕ → R → Type 0) (read_failed
     ends_at_fault m n old new fault so_far (inr fails) = record {
       bytes = so_far.reads.bytes ++ fails.bytes;
       source = n.source;
-      came = carries gives read_failed s n (so_far.reads.bytes ++ fails.bytes) (came_on gives read_failed s m n so_far.reads.bytes fails.bytes so_far.reads.came fails.came);
+      came = carries gives read_failed s n (so_far.reads.bytes ++ fails.bytes) (came_append gives read_failed s m n so_far.reads.bytes fails.bytes so_far.reads.came fails.came);
       well_read = well_read gives read_failed s m n so_far.games nothing first_read so_far.reads fails.bytes fails.came;
       all = n.has_ended;
       told = fails.told;

@@ -192,7 +192,7 @@ impl<'a, R: Source, A: Allocator> Games<'a, R, A> {
     ///
     /// # Errors
     ///
-    /// The first fault of the game, `Read` where a read failed. It is told again by each later call, which reads nothing.
+    /// The first fault of the game, `Read` where a read failed or 2^40 were made. It is told again by each later call, which reads nothing.
     pub fn next(&mut self) -> Result<Option<Game<'a, A>>, GamesFault>
         requires { IsSound R.ended self.old }
         ensures sound { IsSound R.ended self.new }

@@ -33,106 +33,121 @@ fn fault(alloc: &impl Allocator, text: &str) -> Option<(u64, u8)> {
     }
 }
 
+/// Texts with the movetext of the game that each begins with, and how many bytes it uses.
+const GAMES: &[(&str, &str, usize)] = &[
+    (
+        "1.e4 e5 (1...c5 2.Nf3 {x  y} $1) 2.Nf3 *",
+        "1. e4 e5 (1... c5 2. Nf3 $1 {x y}) 2. Nf3 *\n\n",
+        40,
+    ),
+    ("1. e4 {c} e5", "1. e4 {c} 1... e5 *\n\n", 12),
+    ("\n{c}", "{c} *\n\n", 4),
+    (
+        "{r} $3 e4 {a} ({b} $4 d4 {c} d5) $5 {d} ({e}) (d4 (c4 {f} c5) d6) e5 ;x}\n*%",
+        "{r} 1. e4 $5 {a d e} (1. d4 {b c} 1... d5) (1. d4 d6) (1. c4 {f} 1... c5) 1...\ne5 {x)} *\n\n",
+        74,
+    ),
+];
+
 #[test]
 fn moves_and_variations(rt: HostRuntime) -> Result<(), Fail> {
     let alloc = rt.alloc();
-    assert!(&rt;
-        reads(
-            &rt,
-            &alloc,
-            "1.e4 e5 (1...c5 2.Nf3 {x  y} $1) 2.Nf3 *",
-            "1. e4 e5 (1... c5 2. Nf3 $1 {x y}) 2. Nf3 *\n\n",
-            40
-        )?
-    );
-    assert!(&rt; reads(&rt, &alloc, "1. e4 {c} e5", "1. e4 {c} 1... e5 *\n\n", 12)?);
-    assert!(&rt; reads(&rt, &alloc, "\n{c}", "{c} *\n\n", 4)?);
-    assert!(&rt;
-        reads(
-            &rt,
-            &alloc,
-            "{r} $3 e4 {a} ({b} $4 d4 {c} d5) $5 {d} ({e}) (d4 (c4 {f} c5) d6) e5 ;x}\n*%",
-            "{r} 1. e4 $5 {a d e} (1. d4 {b c} 1... d5) (1. d4 d6) (1. c4 {f} 1... c5) 1...\ne5 {x)} *\n\n",
-            74
-        )?
-    );
+    for (text, movetext, used) in GAMES {
+        assert!(&rt; reads(&rt, &alloc, text, movetext, *used)?, "{text}");
+    }
     Ok(())
 }
+
+/// Tags of other names, White, Result and SetUp twice or where they aren't read.
+const TAGS: &str =
+    "[Zed \"1\"][Result\"1-0\"][ Eco \n%x]\n\"a\\\"\\\\\\n\"][Zed \"2\"]{c}[White \"x\"][FEN \"y\"][SetUp \"0\"]";
+
+/// A game after a FEN, with a tag behind it.
+const BEHIND: &str =
+    "[FEN \"4k3/4p3/8/8/8/8/4P3/4K3 b - - 0 7\"] e5! {good} e4 1/2-1/2 [White \"x\"]";
+
+const OTHERS: &str =
+    "[Zed \"1\"][SetUq \"2\"][SetU \"3\"][ECO \"A\\\"\"][FEO \"4\"][a \"5\"][FEN \"4k3/8/8/8/8/8/8/4K3 w - - 0 1\"] *";
+
+/// Texts, a tag's name and the value that the game has for it.
+const VALUES: &[(&str, &str, Option<&[u8]>)] = &[
+    (TAGS, "Zed", Some(b"1")),
+    (TAGS, "Eco", Some(b"a\"\\\\n")),
+    (TAGS, "White", Some(b"x")),
+    (TAGS, "Result", None),
+    (TAGS, "SetUp", None),
+    (BEHIND, "FEN", None),
+    (BEHIND, "White", Some(b"?")),
+];
 
 #[test]
 fn tags_of_a_game(rt: HostRuntime) -> Result<(), Fail> {
     let alloc = rt.alloc();
     let table = KeyTable::new([0; 768]);
-    let text = b"[FEN \"4k3/4p3/8/8/8/8/4P3/4K3 b - - 0 7\"] e5! {good} e4 1/2-1/2 [White \"x\"]";
-    let (game, used) = read_game(&alloc, &table, text)?.expect(&rt, "a game");
-    assert_eq!(&rt; used, 63);
-    assert_eq!(&rt; game.tag(b"FEN"), None);
-    let written = write_game(&alloc, &game)?;
-    assert!(&rt;
-        written
-            .as_slice()
-            .ends_with(b"\n\n7... e5 $1 {good} 8. e4 1/2-1/2\n\n")
-    );
-    let text =
-        b"[Zed \"1\"][Result\"1-0\"][ Eco \n%x]\n\"a\\\"\\\\\\n\"][Zed \"2\"]{c}[White \"x\"][FEN \"y\"][SetUp \"0\"]";
-    let (game, used) = read_game(&alloc, &table, text)?.expect(&rt, "a game");
-    assert_eq!(&rt; used, text.len());
-    assert_eq!(&rt; game.tag(b"Zed"), Some(b"1".as_slice()));
-    assert_eq!(&rt; game.tag(b"Eco"), Some(b"a\"\\\\n".as_slice()));
-    assert_eq!(&rt; game.tag(b"White"), Some(b"x".as_slice()));
-    assert_eq!(&rt; game.tag(b"Result"), None);
-    assert_eq!(&rt; game.tag(b"SetUp"), None);
+    for (text, name, value) in VALUES {
+        let (game, _) = read_game(&alloc, &table, text.as_bytes())?.expect(&rt, "a game");
+        assert_eq!(&rt; game.tag(name.as_bytes()), *value, "{name}");
+    }
     Ok(())
 }
 
+/// Texts, how many bytes the game uses that each begins with, and the end of that game's own text.
+const ENDS: &[(&str, usize, &str)] = &[
+    (BEHIND, 63, "\n\n7... e5 $1 {good} 8. e4 1/2-1/2\n\n"),
+    (TAGS, TAGS.len(), "\n\n{c} *\n\n"),
+    (
+        OTHERS,
+        OTHERS.len(),
+        "[Result \"*\"]\n[ECO \"A\\\"\"]\n[FEN \"4k3/8/8/8/8/8/8/4K3 w - - 0 1\"]\n[FEO \"4\"]\n[SetU \"3\"]\n[SetUp \"1\"]\n[SetUq \"2\"]\n[Zed \"1\"]\n[a \"5\"]\n\n*\n\n",
+    ),
+    (
+        "[Zed \"1\"][ECO \"A\"] e4 *",
+        23,
+        "[Result \"*\"]\n[ECO \"A\"]\n[Zed \"1\"]\n\n1. e4 *\n\n",
+    ),
+];
+
 #[test]
-fn other_tags_in_their_places(rt: HostRuntime) -> Result<(), Fail> {
+fn ends_of_texts(rt: HostRuntime) -> Result<(), Fail> {
     let alloc = rt.alloc();
     let table = KeyTable::new([0; 768]);
-    let text =
-        b"[Zed \"1\"][SetUq \"2\"][SetU \"3\"][ECO \"A\\\"\"][FEO \"4\"][a \"5\"][FEN \"4k3/8/8/8/8/8/8/4K3 w - - 0 1\"] *";
-    let (game, _) = read_game(&alloc, &table, text)?.expect(&rt, "a game");
-    let written = write_game(&alloc, &game)?;
-    assert!(&rt;
-        written.as_slice().ends_with(
-            b"[Result \"*\"]\n[ECO \"A\\\"\"]\n[FEN \"4k3/8/8/8/8/8/8/4K3 w - - 0 1\"]\n[FEO \"4\"]\n[SetU \"3\"]\n[SetUp \"1\"]\n[SetUq \"2\"]\n[Zed \"1\"]\n[a \"5\"]\n\n*\n\n"
-        )
-    );
-    let text = b"[Zed \"1\"][ECO \"A\"] e4 *";
-    let (game, _) = read_game(&alloc, &table, text)?.expect(&rt, "a game");
-    let written = write_game(&alloc, &game)?;
-    assert!(&rt;
-        written
-            .as_slice()
-            .ends_with(b"[Result \"*\"]\n[ECO \"A\"]\n[Zed \"1\"]\n\n1. e4 *\n\n")
-    );
+    for (text, used, end) in ENDS {
+        let (game, count) = read_game(&alloc, &table, text.as_bytes())?.expect(&rt, "a game");
+        assert_eq!(&rt; count, *used, "{text}");
+        let written = write_game(&alloc, &game)?;
+        assert!(&rt; written.as_slice().ends_with(end.as_bytes()), "{text}");
+    }
     Ok(())
 }
+
+/// Texts with the place and the number of their fault, or none.
+const FAULTS: &[(&str, Option<(u64, u8)>)] = &[
+    ("1. e4 e5 2. Ke3 *", Some((12, 3))),
+    ("1. e4 {abc", Some((10, 6))),
+    ("(1. e4) *", Some((0, 4))),
+    ("e4 ) *", Some((3, 4))),
+    ("e4 (d4 *", Some((7, 4))),
+    ("e4 (d4 [A \"b\"]", Some((7, 4))),
+    ("e4 (d4", Some((6, 6))),
+    ("e4 ~", Some((3, 1))),
+    ("[A ~\"b\"]", Some((0, 2))),
+    (" [A \"b\" {x}]", Some((1, 2))),
+    ("[A \"b", Some((5, 6))),
+    (" [FEN \"b\"] [A \"\"] *", Some((1, 7))),
+    (" [FEN \"b\"] [A", Some((13, 6))),
+    (
+        " [FEN \"b\"] [FEN \"4k3/8/8/8/8/8/8/4K3 w - - 0 1\"] *",
+        Some((1, 7)),
+    ),
+    ("", None),
+];
 
 #[test]
 fn faults_of_a_text(rt: HostRuntime) -> Result<(), Fail> {
     let alloc = rt.alloc();
-    assert_eq!(&rt; fault(&alloc, "1. e4 e5 2. Ke3 *"), Some((12, 3)));
-    assert_eq!(&rt; fault(&alloc, "1. e4 {abc"), Some((10, 6)));
-    assert_eq!(&rt; fault(&alloc, "(1. e4) *"), Some((0, 4)));
-    assert_eq!(&rt; fault(&alloc, "e4 ) *"), Some((3, 4)));
-    assert_eq!(&rt; fault(&alloc, "e4 (d4 *"), Some((7, 4)));
-    assert_eq!(&rt; fault(&alloc, "e4 (d4 [A \"b\"]"), Some((7, 4)));
-    assert_eq!(&rt; fault(&alloc, "e4 (d4"), Some((6, 6)));
-    assert_eq!(&rt; fault(&alloc, "e4 ~"), Some((3, 1)));
-    assert_eq!(&rt; fault(&alloc, "[A ~\"b\"]"), Some((0, 2)));
-    assert_eq!(&rt; fault(&alloc, " [A \"b\" {x}]"), Some((1, 2)));
-    assert_eq!(&rt; fault(&alloc, "[A \"b"), Some((5, 6)));
-    assert_eq!(&rt; fault(&alloc, " [FEN \"b\"] [A \"\"] *"), Some((1, 7)));
-    assert_eq!(&rt; fault(&alloc, " [FEN \"b\"] [A"), Some((13, 6)));
-    assert_eq!(&rt;
-        fault(
-            &alloc,
-            " [FEN \"b\"] [FEN \"4k3/8/8/8/8/8/8/4K3 w - - 0 1\"] *"
-        ),
-        Some((1, 7))
-    );
-    assert_eq!(&rt; fault(&alloc, ""), None);
+    for (text, wanted) in FAULTS {
+        assert_eq!(&rt; fault(&alloc, text), *wanted, "{text}");
+    }
     let table = KeyTable::new([0; 768]);
     assert!(&rt; read_game(&alloc, &table, b"\xef\xbb\xbf \n%x\n ")?.is_none());
     assert!(&rt; read_game(&alloc, &table, b"%x\n{}")?.is_some());
