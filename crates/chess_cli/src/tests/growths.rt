@@ -98,22 +98,24 @@ fn refusals<'h>(
     Ok(0)
 }
 
-#[test]
-fn refuses_each_growth_in_turn(rt: HostRuntime) -> Result<(), Fail> {
-    let heap = LocalHeap::new(rt.alloc(), 200_000)?;
-    let other = LocalHeap::new(rt.alloc(), 600_000)?;
-    let table = KeyTable::new([1; 768]);
-    let Ok(mut board) = Board::new(&heap, &table) else {
+/// Lines of every kind, each given with too little memory first.
+fn assert_refused<'h>(
+    rt: &impl Abort,
+    heap: &'h LocalHeap,
+    other: &'h LocalHeap,
+    table: &'h KeyTable,
+) -> Result<(), Fail> {
+    let Ok(mut board) = Board::new(heap, table) else {
         assert!(rt; false);
         return Ok(());
     };
-    let Ok(mut fed) = Board::new(&other, &table) else {
+    let Ok(mut fed) = Board::new(other, table) else {
         assert!(rt; false);
         return Ok(());
     };
     let mut refused = 0usize;
     for line in LINES.split(|byte| *byte == b'\n') {
-        let count = refusals(&rt, &mut board, &mut fed, &heap, &other, line)?;
+        let count = refusals(rt, &mut board, &mut fed, heap, other, line)?;
         if count > 0 {
             let word = line.split(|byte| *byte == b' ').next();
             assert!(rt;
@@ -127,4 +129,12 @@ fn refuses_each_growth_in_turn(rt: HostRuntime) -> Result<(), Fail> {
     }
     assert!(rt; refused > 40);
     Ok(())
+}
+
+#[test]
+fn refuses_each_growth_in_turn(rt: HostRuntime) -> Result<(), Fail> {
+    let heap = LocalHeap::new(rt.alloc(), 200_000)?;
+    let other = LocalHeap::new(rt.alloc(), 600_000)?;
+    let table = KeyTable::new([1; 768]);
+    assert_refused(&rt, &heap, &other, &table)
 }
