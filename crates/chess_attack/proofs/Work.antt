@@ -59,8 +59,8 @@ changed_step a b change colour square lt h =
     omega (arith, changed_is_total a b, total-zero (λ s. 0) 0 64 (λ x. refl))
 
 -- no work
-pub worked_start : (t : KeptCounts) → Worked t t 0
-worked_start t = record { at_most = omega arith; at_least = λ h. omega (arith, changed_self t) }
+pub worked_none : (t : KeptCounts) (n : ℕ) → Worked t t n
+worked_none t n = record { at_most = omega arith; at_least = λ h. omega (arith, changed_self t) }
 
 -- one change
 pub worked_step :

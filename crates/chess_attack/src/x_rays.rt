@@ -49,30 +49,7 @@ fn is_quiet(placement: &Placement, axis: Axis, way: Way, at: Square) -> bool
 }
 
 /// Opens or closes the attack that goes through the square to that half of the axis: the first man on the other half has
-/// one, if he moves along the axis.
-#[inline(always)]
-fn update_x_rays_from_first(
-    tally: &mut Tally,
-    placement: &Placement,
-    axis: Axis,
-    way: Way,
-    at: Square,
-    change: Change,
-)
-    requires room { HasRoomFor change tally.old (cut_on (man_at placement.now) axis way at) }
-    ensures counts { Moves change tally.old tally.new (cut_on (man_at placement.now) axis way at) }
-    ensures worked { Worked tally.old tally.new (half_length_of axis way at) }
-{
-    if let Some(square) = first(placement, axis, opposite(way), at) {
-        if let Some(man) = placement.get(square) {
-            if slides(man.kind, axis) {
-                sweep(tally, placement, axis, way, at, change, man.colour);
-            }
-        }
-    }
-}
-
-/// The same, which is nothing where no man on the other half moves along the axis.
+/// one, if he moves along the axis. He isn't looked for where no man there does.
 #[inline(always)]
 fn update_x_rays_half(
     tally: &mut Tally,
@@ -86,8 +63,16 @@ fn update_x_rays_half(
     ensures counts { Moves change tally.old tally.new (cut_on (man_at placement.now) axis way at) }
     ensures worked { Worked tally.old tally.new (half_length_of axis way at) }
 {
-    if !is_quiet(placement, axis, opposite(way), at) {
-        update_x_rays_from_first(tally, placement, axis, way, at, change);
+    let other = opposite(way);
+    if is_quiet(placement, axis, other, at) {
+        return;
+    }
+    if let Some(square) = first(placement, axis, other, at) {
+        if let Some(man) = placement.get(square) {
+            if slides(man.kind, axis) {
+                sweep(tally, placement, axis, way, at, change, man.colour);
+            }
+        }
     }
 }
 

@@ -12,10 +12,11 @@ use Rattle.chess_types.specs.declared.board.man.Man.{Man}
 use Rattle.chess_types.specs.board.Board.{Board, Look, man_at}
 use Rattle.chess_types.specs.board.Squares.{squares}
 use Rattle.chess_types.specs.board.Men.{opponent, same_colour, is_king, is_of, is_king_of, count_squares}
+use Rattle.chess_types.proofs.Sums.{bit}
 use Rattle.chess_eval.specs.Worth.{middle_of, end_of}
 use Rattle.chess_eval.specs.Evaluation.{for_white, balance_there, over_board, sums_of, evaluation, IsWithin, HasArmies}
 use Rattle.chess_eval.proofs.Sums.{run, run-none, run-first, run-neg}
-use Rattle.chess_eval.proofs.SmallWorths.{bit, IsMiddle, IsEnd, middle_small, end_small}
+use Rattle.chess_eval.proofs.SmallWorths.{IsMiddle, IsEnd, middle_small, end_small}
 use Rattle.chess_eval.proofs.Evaluations.{over_board_is_run, sums_in_range}
 use Rattle.chess_eval.proofs.Tapers.{tapered_within}
 

@@ -18,6 +18,15 @@ use Rattle.chess_eval.proofs.SmallWorths.{middle_within, end_within, weight_smal
 pub same_sums : {a b : Sums} → a.middle ≡ b.middle → a.end ≡ b.end → a.weights ≡ b.weights → a ≡ b
 same_sums m e w = λ i. record { middle = m i; end = e i; weights = w i }
 
+-- the numbers of equal sums
+pub record AreSame (a b : Sums) : Type 0 where
+  pub middle : a.middle ≡ b.middle
+  pub end : a.end ≡ b.end
+  pub weights : a.weights ≡ b.weights
+
+pub same_parts : {a b : Sums} → a ≡ b → AreSame a b
+same_parts same = record { middle = ap (λ (s : Sums). s.middle) same; end = ap (λ (s : Sums). s.end) same; weights = ap (λ (s : Sums). s.weights) same }
+
 -- a number for what stands on a square, and none where nothing does
 abbrev Number : Type 0
 Number = Option Man → ℕ → ℤ

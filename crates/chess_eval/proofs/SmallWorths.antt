@@ -1,5 +1,5 @@
 -- How small and how large the worths are: a king's for himself, and any other man's.
-use Rattle.std.proofs.Common.{ℕ, ◌*◌, ◌<◌, ◌≤◌, Bool, cond, ℤ, pos, ◌+ℤ◌, ◌≤ℤ◌, Option, Some, None, arith}
+use Rattle.std.proofs.Common.{ℕ, ◌*◌, ◌<◌, ◌≤◌, Bool, ℤ, pos, ◌+ℤ◌, ◌≤ℤ◌, neg_ℤ, Option, Some, None, arith}
 use Rattle.std.proofs.lemmas.Int.{ints}
 use Rattle.chess_types.specs.declared.board.man.Colour.{Colour}
 use Rattle.chess_types.specs.declared.board.man.Colour.TheVariants.{White, Black}
@@ -8,12 +8,9 @@ use Rattle.chess_types.specs.declared.board.man.Kind.TheVariants.{Pawn, Knight, 
 use Rattle.chess_types.specs.declared.board.man.Man.{Man}
 use Rattle.chess_types.specs.board.Squares.{file_of}
 use Rattle.chess_types.specs.board.Men.{is_king}
+use Rattle.chess_types.proofs.Sums.{bit, bit_small}
 use Rattle.chess_eval.specs.Worth.{from_edge, own_rank, rook_bonus, middle_of_kind, end_of_kind, middle_of, end_of, weight_of}
 use Rattle.chess_eval.specs.Evaluation.{for_white, balance_there, weight_there, IsWithin}
-
--- 1 where the test holds, else 0
-abbrev pub bit : Bool → ℕ
-bit test = cond test 1 0
 
 -- In the middlegame a king is worth at most nothing, any other man at least nothing.
 pub record IsMiddle (king : Bool) (worth : ℤ) : Type 0 where
@@ -59,27 +56,38 @@ pub end_small : (man : Man) (square : ℕ) → square < 64 → IsEnd (is_king ma
 unfolding end_of
 end_small man square h = end_of_any man.kind (file_of square) (own_rank man.colour square) (own_rank_below man.colour square h)
 
-pub bit_small : (test : Bool) → bit test ≤ 1
-bit_small test = grind arith
-
 for_white_within : (colour : Colour) (worth : ℤ) → IsWithin 903 worth → IsWithin 903 (for_white colour worth)
 for_white_within White worth s = record { low = omega (arith, ints, s.low); high = omega (arith, ints, s.high) }
 for_white_within Black worth s = record { low = omega (arith, ints, s.high); high = omega (arith, ints, s.low) }
 
--- whatever stands there
-pub middle_within : (there : Option Man) (square : ℕ) → square < 64 → IsWithin 903 (balance_there middle_of there square)
-middle_within None square h = record { low = omega (arith, ints); high = omega (arith, ints) }
-middle_within (Some man) square h =
+-- at least and at most so many
+pub record IsBetween (least most worth : ℤ) : Type 0 where
+  pub low : least ≤ℤ worth
+  pub high : worth ≤ℤ most
+
+pub middle_bounds : (man : Man) (square : ℕ) → square < 64 → IsBetween (neg_ℤ (pos 36)) (pos 903) (middle_of man square)
+middle_bounds man square h =
     let small = middle_small man square h in
     let one = bit_small (is_king man.kind) in
-    for_white_within man.colour (middle_of man square) (record { low = omega (arith, ints, small.low); high = omega (arith, ints, small.high) })
+    record { low = omega (arith, ints, small.low); high = omega (arith, ints, small.high) }
+
+pub end_bounds : (man : Man) (square : ℕ) → square < 64 → IsBetween (pos 0) (pos 903) (end_of man square)
+end_bounds man square h =
+    let small = end_small man square h in
+    record { low = small.low; high = omega (arith, ints, small.high) }
+
+-- whatever stands there
+balance_within : (worth : Man → ℕ → ℤ) (there : Option Man) (square : ℕ) → ((man : Man) → IsWithin 903 (worth man square)) → IsWithin 903 (balance_there worth there square)
+balance_within worth None square small = record { low = omega (arith, ints); high = omega (arith, ints) }
+balance_within worth (Some man) square small = for_white_within man.colour (worth man square) (small man)
+
+pub middle_within : (there : Option Man) (square : ℕ) → square < 64 → IsWithin 903 (balance_there middle_of there square)
+middle_within there square h =
+    balance_within middle_of there square (λ man. let b = middle_bounds man square h in record { low = omega (arith, ints, b.low); high = b.high })
 
 pub end_within : (there : Option Man) (square : ℕ) → square < 64 → IsWithin 903 (balance_there end_of there square)
-end_within None square h = record { low = omega (arith, ints); high = omega (arith, ints) }
-end_within (Some man) square h =
-    let small = end_small man square h in
-    let one = bit_small (is_king man.kind) in
-    for_white_within man.colour (end_of man square) (record { low = omega (arith, ints, small.low); high = omega (arith, ints, small.high) })
+end_within there square h =
+    balance_within end_of there square (λ man. let b = end_bounds man square h in record { low = omega (arith, ints, b.low); high = b.high })
 
 pub record IsWeight (weight : ℤ) : Type 0 where
   pub low : pos 0 ≤ℤ weight

@@ -1,5 +1,5 @@
 -- The mean of two sums by the phase is no larger than they are.
-use Rattle.std.proofs.Common.{◌≡◌, ℕ, zero, suc, ◌+◌, ◌-◌, ◌*◌, ◌/◌, ◌≤◌, min, ℤ, pos, negsuc, ◌+ℤ◌, ◌-ℤ◌, ◌*ℤ◌, neg_ℤ, ◌≤ℤ◌, refl, sym, ap, ◌∙◌, arith}
+use Rattle.std.proofs.Common.{◌≡◌, ℕ, zero, suc, ◌+◌, ◌-◌, ◌*◌, ◌/◌, ◌≤◌, min, ℤ, pos, negsuc, ◌+ℤ◌, ◌-ℤ◌, ◌*ℤ◌, neg_ℤ, ◌≤ℤ◌, w32, to_z, of_z, refl, sym, ap, ◌∙◌, arith}
 use Rattle.std.proofs.Math.Nat.{mul-le-mul_right, mul-add}
 use Rattle.std.proofs.Math.IntN.{neg_ℤ-neg_ℤ}
 use Rattle.std.specs.Prelude.{int_div}
@@ -91,3 +91,34 @@ small_steps sums range =
       end = rw rest (record { low = omega (arith, ints, end.low, high); high = omega (arith, ints, end.high, high) });
       mean = rw part.1 (mean_within 57792 n sums.middle sums.end part.2 range.middle range.end);
     }
+
+-- What the mean is computed from, and what on the way, as it is kept in 32 bits: `part` is the phase that was asked for.
+pub record AreKept (sums : Sums) (part : ℤ) : Type 0 where
+  pub middle : to_z w32 (of_z w32 sums.middle) ≡ sums.middle
+  pub end : to_z w32 (of_z w32 sums.end) ≡ sums.end
+  pub before : to_z w32 (of_z w32 part) ≡ phase sums.weights
+  pub rest : to_z w32 (of_z w32 (pos 24 -ℤ phase sums.weights)) ≡ pos 24 -ℤ phase sums.weights
+  pub parts : to_z w32 (of_z w32 (sums.middle *ℤ phase sums.weights)) ≡ sums.middle *ℤ phase sums.weights
+  pub others : to_z w32 (of_z w32 (sums.end *ℤ (pos 24 -ℤ phase sums.weights))) ≡ sums.end *ℤ (pos 24 -ℤ phase sums.weights)
+  pub mean : to_z w32 (of_z w32 (sums.middle *ℤ phase sums.weights +ℤ sums.end *ℤ (pos 24 -ℤ phase sums.weights)))
+      ≡ sums.middle *ℤ phase sums.weights +ℤ sums.end *ℤ (pos 24 -ℤ phase sums.weights)
+
+pub kept : (sums : Sums) (part : ℤ) → AreInRange sums → part ≡ phase (to_z w32 (of_z w32 sums.weights)) → AreKept sums part
+kept sums part range asked =
+    let small = small_steps sums range in
+    let weights : to_z w32 (of_z w32 sums.weights) ≡ sums.weights = omega (arith, ints, range.weights_low, range.weights_high) in
+    let is : part ≡ phase sums.weights = asked ∙ ap phase weights in
+    record {
+      middle = omega (arith, ints, range.middle.low, range.middle.high);
+      end = omega (arith, ints, range.end.low, range.end.high);
+      before = omega (arith, ints, is, small.phase_low, small.phase_high);
+      rest = omega (arith, ints, small.phase_low, small.phase_high);
+      parts = omega (arith, ints, small.middle.low, small.middle.high);
+      others = omega (arith, ints, small.end.low, small.end.high);
+      mean = omega (arith, ints, small.mean.low, small.mean.high);
+    }
+
+pub kept_mean : (sums : Sums) (result : ℤ) → AreInRange sums → result ≡ tapered sums → to_z w32 (of_z w32 result) ≡ tapered sums
+kept_mean sums result range is =
+    let all = tapered_within 57792 sums range.middle range.end range.weights_low in
+    omega (arith, ints, is, all.low, all.high)

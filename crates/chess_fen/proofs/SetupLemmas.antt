@@ -1,8 +1,7 @@
 -- What is read without a fault makes a setup of a position.
-use Rattle.std.proofs.Common.{◌≡◌, ℕ, zero, suc, ◌+◌, ◌<◌, ◌≤◌, ◌==◌, nat_le, Bool, true, false, not, ◌&&◌, List, Option, Some, None, Ok, refl, sym, ap, subst, ◌∙◌, inl, inr, arith}
+use Rattle.std.proofs.Common.{◌≡◌, ℕ, ◌<◌, ◌≤◌, ◌==◌, nat_le, Bool, true, false, not, ◌&&◌, List, Option, Some, None, Ok, refl, sym, ap, subst, ◌∙◌, arith}
 use Rattle.std.specs.Prelude.{ok_or}
-use Rattle.std.specs.List.{range_with_len, list_any}
-use Rattle.std.proofs.lemmas.Bool.{and_parts, or_parts, cases_eq, eqb-true, leb-true}
+use Rattle.std.proofs.lemmas.Bool.{and_parts, eqb-true, leb-true, true≢false, false_from_ne_true}
 use Rattle.std.proofs.lemmas.Bool.Decides.{nat_tests}
 use Rattle.std.proofs.lemmas.Option.{cond_some}
 use Rattle.chess_types.specs.declared.board.man.Colour.{Colour}
@@ -20,6 +19,7 @@ use Rattle.chess_types.specs.board.Position.{IsSetup, is_explained, holds}
 use Rattle.chess_fen.specs.declared.fault.FenFault.TheVariants.{Placement, Kings, PawnRank, TooManyMen}
 use Rattle.chess_fen.specs.Ranks.{board_cells}
 use Rattle.chess_fen.specs.Reading.{◌>>=◌, demand, has_one_king_each, is_edge, has_pawn_on_edge, has_at_most_16_each, board_in, is_home, kept_rights, kept_target}
+use Rattle.chess_types.proofs.Runs.{list_any_from}
 use Rattle.chess_types.proofs.SameLemmas.{is_man_is}
 
 -- what the demands on the men leave
@@ -61,19 +61,11 @@ few_each : (board : Board) → HasGoodMen board → (c : Colour) → men_of boar
 few_each board good White = let both : (nat_le (men_of board White) 16 ≡ true) × (nat_le (men_of board Black) 16 ≡ true) = and_parts _ _ good.few in leb-true _ _ both.0
 few_each board good Black = let both : (nat_le (men_of board White) 16 ≡ true) × (nat_le (men_of board Black) 16 ≡ true) = and_parts _ _ good.few in leb-true _ _ both.1
 
-list_any_at : (p : ℕ → Bool) (a n t : ℕ) → list_any p (range_with_len a n) ≡ false → a ≤ t → t < a + n → p t ≡ false
-list_any_at p a zero t h low high = absurd (omega arith)
-list_any_at p a (suc n) t h low high =
-    let parts : (p a ≡ false) × (list_any p (range_with_len (a + 1) n) ≡ false) = or_parts _ _ h in
-    elim (cases_eq a t) [
-      | inl same ↦ ap p (sym same) ∙ parts.0
-      | inr other ↦ list_any_at p (a + 1) n t parts.1 (omega arith) (omega arith)
-    ]
-
 inner_pawns : (look : Look) → has_pawn_on_edge look ≡ false → (s : ℕ) → s < 64 → holds_pawn (look s) ≡ true → (0 < rank_of s) × (rank_of s < 7)
 unfolding squares
 inner_pawns look none s inside pawn =
-    let here : (is_edge s && holds_pawn (look s)) ≡ false = list_any_at (λ x. is_edge x && holds_pawn (look x)) 0 64 s none (omega arith) (omega arith) in
+    let here : (is_edge s && holds_pawn (look s)) ≡ false =
+    false_from_ne_true _ (λ e. true≢false (sym (list_any_from (λ x. is_edge x && holds_pawn (look x)) 0 64 s (omega arith) (omega arith) e) ∙ none)) in
     (grind (arith, nat_tests), grind (arith, nat_tests))
 
 kept_home : (look : Look) (rights : Rights) (c : Colour) (w : Wing) → holds (kept_rights look rights) c w ≡ true → is_home look c w ≡ true

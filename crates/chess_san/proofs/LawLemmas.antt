@@ -6,6 +6,7 @@ use Rattle.std.proofs.lemmas.List.Elements.{Contains-get_or}
 use Rattle.chess_types.specs.declared.board.man.Kind.{Kind}
 use Rattle.chess_types.specs.declared.board.man.Kind.TheVariants.{Pawn, Knight, Bishop, Rook, Queen, King}
 use Rattle.chess_types.specs.declared.board.man.Man.{Man}
+use Rattle.chess_types.specs.declared.board.position.Wing.{Wing}
 use Rattle.chess_types.specs.declared.board.position.Wing.TheVariants.{KingSide, QueenSide}
 use Rattle.chess_types.proofs.MoveLemmas.{legal_pseudo}
 use Rattle.chess_types.specs.board.Squares.{file_of, rank_of}
@@ -59,28 +60,16 @@ unfolding origin_among
 own_origin others from on = own_by (is_without others) (share_file others from) (share_rank others from) from on
 
 module _ (p : State) (m : MoveParts) (on : IsMove m) (legal : is_legal p m ≡ true) (a : Mover p m) where
-  king_told : is_castling a.man KingSide m ≡ true → Told p m (79 ∷ 45 ∷ 79 ∷ [])
-  unfolding wing_in names
-  king_told h =
-      let own : castles_by (look p m.from) KingSide m ≡ true = ap (λ (o : Option Man). castles_by o KingSide m) a.here ∙ h in
+  castling_told : (wing : Wing) (text : List ℕ) → bare_form text ≡ Some (Castles wing) → Unmarked text → is_castling a.man wing m ≡ true → Told p m text
+  unfolding names
+  castling_told wing text reads ends h =
+      let own : castles_by (look p m.from) wing m ≡ true = ap (λ (o : Option Man). castles_by o wing m) a.here ∙ h in
       record {
-        form = Castles KingSide;
-        reads = refl;
-        ends = refl;
+        form = Castles wing;
+        reads = reads;
+        ends = ends;
         own = own;
-        only = λ n on' legal' h'. castled_same p KingSide m n a (mover p n legal') own h';
-      }
-
-  queen_told : is_castling a.man QueenSide m ≡ true → Told p m (79 ∷ 45 ∷ 79 ∷ 45 ∷ 79 ∷ [])
-  unfolding wing_in names
-  queen_told h =
-      let own : castles_by (look p m.from) QueenSide m ≡ true = ap (λ (o : Option Man). castles_by o QueenSide m) a.here ∙ h in
-      record {
-        form = Castles QueenSide;
-        reads = refl;
-        ends = refl;
-        own = own;
-        only = λ n on' legal' h'. castled_same p QueenSide m n a (mover p n legal') own h';
+        only = λ n on' legal' h'. castled_same p wing m n a (mover p n legal') own h';
       }
 
   pawn_told : a.man.kind ≡ Pawn → Told p m (pawn_text (captures p a.man m) m)
@@ -126,9 +115,10 @@ module _ (p : State) (m : MoveParts) (on : IsMove m) (legal : is_legal p m ≡ t
   step_told King is king queen = piece_told King refl is king queen
 
   man_told : Told p m (bare_text p (Some a.man) m)
+  unfolding wing_in
   man_told =
-      cond_both (is_castling a.man KingSide m) _ _ (Told p m) king_told
-      (λ king. cond_both (is_castling a.man QueenSide m) _ _ (Told p m) queen_told (λ queen. step_told a.man.kind refl king queen))
+      cond_both (is_castling a.man KingSide m) _ _ (Told p m) (castling_told KingSide (79 ∷ 45 ∷ 79 ∷ []) refl refl)
+      (λ king. cond_both (is_castling a.man QueenSide m) _ _ (Told p m) (castling_told QueenSide (79 ∷ 45 ∷ 79 ∷ 45 ∷ 79 ∷ []) refl refl) (λ queen. step_told a.man.kind refl king queen))
 
   told : Told p m (bare_text p (look p m.from) m)
   told = subst (λ (o : Option Man). Told p m (bare_text p o m)) (sym a.here) man_told

@@ -10,14 +10,14 @@ use Rattle.chess_types.specs.declared.board.man.Man.{Man}
 use Rattle.chess_types.specs.declared.board.position.Wing.{Wing}
 use Rattle.chess_types.specs.steps.ManCode.{kind_of, kind_of-number}
 use Rattle.chess_types.specs.board.Squares.{file_of, rank_of}
-use Rattle.chess_types.specs.board.Men.{is_pawn, is_king, kind_number}
+use Rattle.chess_types.specs.board.Men.{is_pawn, kind_number}
 use Rattle.chess_types.specs.board.MoveParts.{MoveParts}
 use Rattle.chess_types.specs.board.Position.{State, look, king_home}
 use Rattle.chess_types.specs.board.Pseudo.{reached, moves_as, is_pseudo}
 use Rattle.chess_types.specs.board.Legal.{is_legal, legal_moves}
 use Rattle.chess_types.specs.board.Outcome.{is_without}
 use Rattle.chess_types.proofs.AllMoves.{IsMove}
-use Rattle.chess_types.proofs.SameLemmas.{same_is, none_is}
+use Rattle.chess_types.proofs.SameLemmas.{same_is, none_is, king_no_pawn}
 use Rattle.chess_play.proofs.CastlingSquares.{castles_where}
 use Rattle.chess_types.proofs.MoveLemmas.{pseudo_man, legal_pseudo}
 use Rattle.chess_moves.proofs.LegalLaws.{legal_listed}
@@ -52,14 +52,6 @@ plain_promo p Rook m h moves = none_is _ (and_parts _ _ moves).1
 plain_promo p Queen m h moves = none_is _ (and_parts _ _ moves).1
 plain_promo p King m h moves = none_is _ (and_parts _ _ moves).1
 
-king_plain : (kind : Kind) → is_king kind ≡ true → is_pawn kind ≡ false
-king_plain Pawn h = absurd (true≢false (sym h))
-king_plain Knight h = refl
-king_plain Bishop h = refl
-king_plain Rook h = refl
-king_plain Queen h = refl
-king_plain King h = refl
-
 pub kind_is : (a b : Kind) → (kind_number a == kind_number b) ≡ true → a ≡ b
 kind_is a b h = sym (kind_of-number a) ∙ ap kind_of (eqb-true _ _ h) ∙ kind_of-number b
 
@@ -77,7 +69,7 @@ castled p wing m a h =
     record {
       from = w.0 ∙ ap king_home a.mine;
       to = w.1 ∙ ap (λ (c : Colour). reached c wing) a.mine;
-      promo = plain_promo p a.man.kind m (king_plain a.man.kind q.0) a.moves;
+      promo = plain_promo p a.man.kind m (king_no_pawn a.man.kind q.0) a.moves;
     }
 
 pub castled_same : (p : State) (wing : Wing) (m n : MoveParts) → Mover p m → Mover p n → castles_by (look p m.from) wing m ≡ true →

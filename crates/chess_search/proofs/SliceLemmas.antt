@@ -44,3 +44,13 @@ root_left line p goes h some le =
     let clash : None ≡ Some found.0 = sym h ∙ done_is line p goes all ∙ found.1 in
     cc)
     (cases_lt p.searched (length p.roots))
+
+-- what a slice finds: what is kept is the best so far, and a root is left
+pub record IsUnderway (line : Line) (p : Progress) : Type 0 where
+  pub goes : GoesWith line p
+  pub left : p.searched < length p.roots
+
+pub underway : {line : Line} {p seen : Progress} → p ≡ seen → GoesWith line seen → done_of seen ≡ None → 0 < length seen.roots → p.searched ≤ length p.roots → IsUnderway line p
+underway {line} {p} {seen} is goes none some within =
+    let also : GoesWith line p = subst (GoesWith line) (sym is) goes in
+    record { goes = also; left = root_left line p also (ap done_of is ∙ none) (subst (λ (q : Progress). 0 < length q.roots) (sym is) some) within }

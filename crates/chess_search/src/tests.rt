@@ -1,4 +1,4 @@
-ghost use Rattle.std.specs.Prelude.{◌≡◌, ◌+◌, ◌≤◌, true};
+ghost use Rattle.std.specs.Prelude.{◌≡◌, ◌+◌, ◌<◌, ◌≤◌, true};
 ghost use Rattle.std.specs.List.{All};
 ghost use Rattle.chess_types.specs.board.Legal.{is_legal};
 ghost use Rattle.chess_types.specs.board.Lines.{last};
@@ -50,7 +50,29 @@ fn best_move<A: Allocator>(
     best_counted(line, depth, &roots, nodes, claims)
 }
 
-/// The same by plain minimax.
+/// What a legal move is worth to the side that makes it, by plain minimax.
+#[cycle(plain_value)]
+fn plain_worth<A: Allocator>(
+    line: &mut Line<'_, A>,
+    m: Move,
+    depth: u8,
+    distance: u8,
+    claims: bool,
+) -> i32
+    requires legal { is_legal (last line.old.line) m ≡ true }
+    requires room { line.old.looked + depth < 16 }
+    requires distance { distance + depth < 16 }
+    ensures in_range { IsValue result }
+    ensures line { IsAsBefore line.old line.new }
+{
+    line.look(m);
+    let value = -plain_value(line, depth, distance + 1, claims);
+    line.unlook();
+    value
+}
+
+/// The line's value by plain minimax.
+#[cycle(plain_value)]
 fn plain_value<A: Allocator>(line: &mut Line<'_, A>, depth: u8, distance: u8, claims: bool) -> i32
     requires room { line.old.looked + depth ≤ 16 }
     requires distance { distance + depth ≤ 16 }
@@ -73,10 +95,8 @@ fn plain_value<A: Allocator>(line: &mut Line<'_, A>, depth: u8, distance: u8, cl
     }
     let mut best: i32 = -30000;
     for m in moves.as_slice() {
-        line.look(*m);
-        let value = -plain_value(line, depth - 1, distance + 1, claims);
-        line.unlook();
-        best = best.max(value);
+        let worth = plain_worth(line, *m, depth - 1, distance, claims);
+        best = best.max(worth);
     }
     best
 }
@@ -96,9 +116,7 @@ fn plain_best<A: Allocator>(
 {
     let mut best = None;
     for m in roots.as_slice() {
-        line.look(*m);
-        let value = -plain_value(line, depth - 1, 1, claims);
-        line.unlook();
+        let value = plain_worth(line, *m, depth - 1, 0, claims);
         best = match best {
             Some((_, greatest)) if greatest >= value => best,
             _ => Some((*m, value)),

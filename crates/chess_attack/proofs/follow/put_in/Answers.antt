@@ -7,29 +7,31 @@ use Rattle.chess_attack.proofs.Puts.{put_own, put_cut, put_counts}
 use Rattle.chess_attack.proofs.Shown.{shown}
 use Rattle.chess_attack.proofs.Work.{worked_more}
 use Rattle.chess_attack.proofs.follow.put_in.Goals as goal
+use Rattle.chess_attack.proofs.follow.put_in.Goals.{Start}
+
+-- the board afterwards is the one before with the man added
+adds : (c : Start) → Adds (man_at c.args.before.now) (man_at (insert c.args.before.now c.args.at c.args.man)) c.args.at c.args.man
+adds c = adds_put c.args.before.now c.args.at c.args.man (omega arith) c.requires.empty
 
 pub mark-requires : goal.mark-requires
 mark-requires c =
     let board : Board = c.args.before.now in
     let after : Board = insert board c.args.at c.args.man in
-    let adds : Adds (man_at board) (man_at after) c.args.at c.args.man = adds_put board c.args.at c.args.man (omega arith) c.requires.empty in
-    record { room = put_own board after c.args.at c.args.man adds c.args.tally.now c.requires.agrees }
+    record { room = put_own board after c.args.at c.args.man (adds (goal.at.mark-requires c).Start) c.args.tally.now c.requires.agrees }
 
 pub update_x_rays-requires : goal.update_x_rays-requires
 update_x_rays-requires c =
     let board : Board = c.args.before.now in
     let after : Board = insert board c.args.at c.args.man in
-    let adds : Adds (man_at board) (man_at after) c.args.at c.args.man = adds_put board c.args.at c.args.man (omega arith) c.requires.empty in
     record {
-      room = put_cut board after c.args.at c.args.man adds c.args.tally.now c.mark.new.tally c.requires.agrees c.mark.ensures.counts;
+      room = put_cut board after c.args.at c.args.man (adds (goal.at.update_x_rays-requires c).Start) c.args.tally.now c.mark.new.tally c.requires.agrees c.mark.ensures.counts;
     }
 
 pub returns-clause-agrees : goal.returns-clause-agrees
 returns-clause-agrees c =
     let board : Board = c.args.before.now in
     let after : Board = insert board c.args.at c.args.man in
-    let adds : Adds (man_at board) (man_at after) c.args.at c.args.man = adds_put board c.args.at c.args.man (omega arith) c.requires.empty in
-    put_counts board after c.args.at c.args.man adds c.args.tally.now c.mark.new.tally c.update_x_rays.new.tally
+    put_counts board after c.args.at c.args.man (adds (goal.at.returns-clause-agrees c).Start) c.args.tally.now c.mark.new.tally c.update_x_rays.new.tally
     c.requires.agrees c.mark.ensures.counts c.update_x_rays.ensures.counts
 
 pub returns-clause-at_most : goal.returns-clause-at_most

@@ -1,4 +1,4 @@
-use Rattle.std.proofs.Common.{◌≤◌, [], length, filter, ap, ◌∙◌, refl, arith, zero-add}
+use Rattle.std.proofs.Common.{◌≤◌, ◌+◌, [], length, filter, ap, ◌∙◌, refl, arith, zero-add}
 use Rattle.std.specs.List.{flat_map}
 use Rattle.chess_types.specs.board.Legal.{is_legal, moves_from, legal_moves}
 use Rattle.chess_types.specs.board.Position.{State}
@@ -6,6 +6,7 @@ use Rattle.chess_moves.proofs.Bound.{legal_few}
 use Rattle.chess_moves.proofs.Reach.{own_each, own_listed}
 use Rattle.chess_moves.proofs.SetCounts.{count_split}
 use Rattle.chess_moves.proofs.counting.count_up_to.Goals as goal
+use Rattle.chess_moves.proofs.counting.count_up_to.Goals.{After-count_from-count}
 
 pub loop-from-init : goal.loop-from-init
 unfolding legal_moves
@@ -22,20 +23,9 @@ loop-from-init c =
           ∙ ap length (own_listed p c.own_men-own.result c.own_men-own.ensures.own c.into_iter-from-iterator.result xs {list = []} refl).is;
     }
 
-pub overflow_add-count : goal.overflow_add-count
-overflow_add-count c =
-    let p : State = c.args.live.now.position in
-    let few : length (legal_moves p) ≤ 432 = legal_few p c.own_men-own.ensures.few in
-    omega (
-      arith,
-      few,
-      c.count_from-count.ensures.count,
-      c.loop-from.invariant.left,
-      count_split p c.loop-from.live.position c.in-Some.from c.loop-from.from-iterator c.next.new.self c.loop-from.invariant.position c.in-Some.ensures.steps,
-    )
-
-pub returns-then-count-enough-clause-at_most : goal.returns-then-count-enough-clause-at_most
-returns-then-count-enough-clause-at_most c =
+-- with those of the next square there are no more than all
+counted : (c : After-count_from-count) → c.loop-from.count + c.count_from-count.result ≤ 432
+counted c =
     let p : State = c.args.live.now.position in
     omega (
       arith,
@@ -44,6 +34,12 @@ returns-then-count-enough-clause-at_most c =
       c.loop-from.invariant.left,
       count_split p c.loop-from.live.position c.in-Some.from c.loop-from.from-iterator c.next.new.self c.loop-from.invariant.position c.in-Some.ensures.steps,
     )
+
+pub overflow_add-count : goal.overflow_add-count
+overflow_add-count c = omega (arith, counted (goal.at.overflow_add-count c).After-count_from-count)
+
+pub returns-then-count-enough-clause-at_most : goal.returns-then-count-enough-clause-at_most
+returns-then-count-enough-clause-at_most c = counted (goal.at.returns-then-count-enough-clause-at_most c).After-count_from-count
 
 pub returns-clause-at_most : goal.returns-clause-at_most
 returns-clause-at_most c =

@@ -1,7 +1,7 @@
-use Rattle.std.proofs.Common.{◌≡◌, ◌+◌, ◌≤◌, true, List, ◌++◌, length, sym, ap, subst, ◌∙◌, refl, arith}
+use Rattle.std.proofs.Common.{◌≡◌, ◌+◌, ◌≤◌, true, List, ◌++◌, length, filter, sym, ap, subst, ◌∙◌, refl, arith}
 use Rattle.std.proofs.lemmas.Bool.{and_parts}
 use Rattle.std.specs.List.{list_all}
-use Rattle.chess_types.specs.board.Legal.{moves_between}
+use Rattle.chess_types.specs.board.Legal.{is_legal, moves_between}
 use Rattle.chess_types.specs.board.MoveParts.{MoveParts}
 use Rattle.chess_types.specs.board.Position.{State, look}
 use Rattle.chess_attack.proofs.Lifted.{OnlyKing, only_king}
@@ -10,6 +10,25 @@ use Rattle.chess_moves.proofs.LegalTargets.{lands_all}
 use Rattle.chess_moves.proofs.Pieces.{listed_next, room_next, next_piece}
 use Rattle.chess_moves.proofs.Reach.{lands_each, lands_listed}
 use Rattle.chess_moves.proofs.listing.add_from.Goals as goal
+use Rattle.chess_moves.proofs.listing.add_from.Goals.{In-Some}
+
+-- the man's move to the next square is legal, and so is the one to each behind it
+legal : (c : In-Some) →
+    (is_legal_target c.args.live.now.position c.own_kind-kind.result c.args.from c.in-Some.to ≡ true)
+    × (list_all (is_legal_target c.args.live.now.position c.own_kind-kind.result c.args.from) c.next.new.self ≡ true)
+legal c =
+    and_parts _ _ (sym (ap (list_all (is_legal_target c.args.live.now.position c.own_kind-kind.result c.args.from)) c.in-Some.ensures.steps) ∙ c.loop-to.invariant.is_legal_target)
+
+-- what is added for the next square are the legal moves there
+lands : (c : In-Some) →
+    filter (is_legal c.args.live.now.position) (moves_between c.args.from c.in-Some.to)
+    ≡ moves_named c.args.live.now.position.side c.own_kind-kind.result c.args.from c.in-Some.to
+lands c =
+    let p : State = c.args.live.now.position in
+    let setup = c.position.ensures.setup in
+    let king : OnlyKing (look p) p.side c.args.guard.now.king =
+    only_king p.placement p.side c.args.guard.now.king (setup.kings p.side) c.requires.guard.on_board c.requires.guard.king in
+    lands_all p setup c.own_kind-kind.result c.args.from c.in-Some.to c.args.guard.now.king (omega arith) (omega arith) c.own_kind-kind.ensures king (legal c).0
 
 pub loop-to-init : goal.loop-to-init
 loop-to-init c =
@@ -30,15 +49,10 @@ loop-to-init c =
 pub add_named-requires : goal.add_named-requires
 add_named-requires c =
     let p : State = c.args.live.now.position in
-    let setup = c.position.ensures.setup in
-    let king : OnlyKing (look p) p.side c.args.guard.now.king =
-    only_king p.placement p.side c.args.guard.now.king (setup.kings p.side) c.requires.guard.on_board c.requires.guard.king in
-    let on : is_legal_target p c.own_kind-kind.result c.args.from c.in-Some.to ≡ true =
-    (and_parts _ _ (sym (ap (list_all (is_legal_target p c.own_kind-kind.result c.args.from)) c.in-Some.ensures.steps) ∙ c.loop-to.invariant.is_legal_target)).0 in
     let same = c.behind-live.view_is ∙ c.position.ensures.value in
     record {
       room = subst (λ (xs : List MoveParts). length c.loop-to.list.items + length xs ≤ 432)
-          (lands_all p setup c.own_kind-kind.result c.args.from c.in-Some.to c.args.guard.now.king (omega arith) (omega arith) c.own_kind-kind.ensures king on
+          (lands (goal.at.add_named-requires c).In-Some
           ∙ ap (λ (q : State). moves_named q.side c.own_kind-kind.result c.args.from c.in-Some.to) (sym same))
           (room_next {now = p} refl c.loop-to.invariant.listed (next_piece (moves_between c.args.from) c.in-Some.ensures.steps) c.requires.room);
     }
@@ -46,19 +60,14 @@ add_named-requires c =
 pub loop-to-preserved : goal.loop-to-preserved
 loop-to-preserved c =
     let p : State = c.args.live.now.position in
-    let setup = c.position.ensures.setup in
-    let king : OnlyKing (look p) p.side c.args.guard.now.king =
-    only_king p.placement p.side c.args.guard.now.king (setup.kings p.side) c.requires.guard.on_board c.requires.guard.king in
-    let parts : (is_legal_target p c.own_kind-kind.result c.args.from c.in-Some.to ≡ true) × (list_all (is_legal_target p c.own_kind-kind.result c.args.from) c.next.new.self ≡ true) =
-    and_parts _ _ (sym (ap (list_all (is_legal_target p c.own_kind-kind.result c.args.from)) c.in-Some.ensures.steps) ∙ c.loop-to.invariant.is_legal_target) in
     let same = c.behind-live.view_is ∙ c.position.ensures.value in
     record {
       can = tt;
       finite = tt;
-      is_legal_target = parts.1;
+      is_legal_target = (legal (goal.at.loop-to-preserved c).In-Some).1;
       listed = listed_next {now = p} refl c.loop-to.invariant.listed (next_piece (moves_between c.args.from) c.in-Some.ensures.steps)
           (c.add_named.ensures.added
           ∙ ap (λ (xs : List MoveParts). c.loop-to.list.items ++ xs)
           (ap (λ (q : State). moves_named q.side c.own_kind-kind.result c.args.from c.in-Some.to) same
-          ∙ sym (lands_all p setup c.own_kind-kind.result c.args.from c.in-Some.to c.args.guard.now.king (omega arith) (omega arith) c.own_kind-kind.ensures king parts.0)));
+          ∙ sym (lands (goal.at.loop-to-preserved c).In-Some)));
     }

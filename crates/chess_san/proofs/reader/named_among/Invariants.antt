@@ -1,19 +1,15 @@
-use Rattle.std.proofs.Common.{◌≡◌, ℕ, ◌<◌, ◌==◌, ◌&&◌, ◌||◌}
-use Rattle.std.specs.List.{list_any}
-use Rattle.std.specs.FinSet.{contains}
+use Rattle.std.proofs.Common.{◌≡◌}
 use Rattle.chess_moves.specs.steps.Targets.{move_to}
+use Rattle.chess_moves.proofs.SafeSteps.{FoundAmong}
 use Rattle.chess_san.specs.Naming.{names}
 use Rattle.chess_san.specs.steps.Origins.{legal_and}
 use Rattle.chess_san.proofs.reader.named_among.Given as goal
 
--- the squares where such moves begin are among those found, and those still to come
 abbrev pub invariant-loop-from : goal.invariant-loop-from
 invariant-loop-from l = record {
   can : (goal.iterator-loop-from).can_next l.from-iterator;
   finite : (goal.iterator-loop-from).is_finite l.from-iterator;
   position : l.live.position ≡ l.fn.live.position;
   words : l.live.words ≡ l.fn.live.words;
-  found : (s : ℕ) → s < 64 →
-      (contains l.named s || (list_any (λ t. t == s) l.from-iterator && legal_and (names l.fn.live.position l.form) l.fn.live.position (move_to s l.to l.promo)))
-      ≡ (contains l.fn.all s && legal_and (names l.fn.live.position l.form) l.fn.live.position (move_to s l.to l.promo));
+  found : FoundAmong (λ s. legal_and (names l.fn.live.position l.form) l.fn.live.position (move_to s l.to l.promo)) l.fn.all l.named l.from-iterator;
 }

@@ -1,7 +1,7 @@
 use Rattle.std.proofs.Common.{ap, refl, ◌∙◌, None}
 use Rattle.chess_types.specs.board.Position.{State}
 use Rattle.chess_moves.specs.steps.Targets.{move_to}
-use Rattle.chess_moves.proofs.SafeSteps.{safe_first, safe_next}
+use Rattle.chess_moves.proofs.SafeSteps.{found_first, found_next, found_all}
 use Rattle.chess_san.specs.Writing.{is_rival}
 use Rattle.chess_san.specs.steps.Origins.{legal_and}
 use Rattle.chess_san.proofs.writer.rivals_among.Goals as goal
@@ -12,8 +12,8 @@ loop-other-init c = record {
   finite = tt;
   position = refl;
   words = refl;
-  found = safe_first (λ a. legal_and (is_rival c.args.live.now.position c.args.kind c.args.from c.args.to) c.args.live.now.position (move_to a c.args.to None)) c.args.all c.empty-others.result
-      c.into_iter-other-iterator.result c.empty-others.ensures (c.into_iter-other-iterator.ensures.into_iter_gives ∙ c.iter-other-items.ensures.value);
+  found = found_first (λ a. legal_and (is_rival c.args.live.now.position c.args.kind c.args.from c.args.to) c.args.live.now.position (move_to a c.args.to None)) c.empty-others.ensures
+      (c.into_iter-other-iterator.ensures.into_iter_gives ∙ c.iter-other-items.ensures.value);
 }
 
 pub loop-other-preserved : goal.loop-other-preserved
@@ -22,9 +22,10 @@ loop-other-preserved c = record {
   finite = tt;
   position = c.is_legal_rival-passes.ensures.position ∙ c.loop-other.invariant.position;
   words = c.is_legal_rival-passes.ensures.words ∙ c.loop-other.invariant.words;
-  found = λ s hs.
-      safe_next (λ a. legal_and (is_rival c.args.live.now.position c.args.kind c.args.from c.args.to) c.args.live.now.position (move_to a c.args.to None)) c.loop-other.others c.insert_if.new.self c.in-Some.other s
-      c.is_legal_rival-passes.result _ c.loop-other.other-iterator c.next.new.self c.insert_if.ensures
+  found = found_next c.loop-other.invariant.found c.insert_if.ensures
       (c.is_legal_rival-passes.ensures.value ∙ ap (λ (p : State). legal_and (is_rival p c.args.kind c.args.from c.args.to) p (move_to c.in-Some.other c.args.to None)) c.loop-other.invariant.position)
-      c.in-Some.ensures.steps (c.loop-other.invariant.found s hs);
+      c.in-Some.ensures.steps;
 }
+
+pub returns-clause-rivals : goal.returns-clause-rivals
+returns-clause-rivals c = found_all c.loop-other.invariant.found c.in-None.ensures.steps.0

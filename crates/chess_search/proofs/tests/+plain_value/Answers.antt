@@ -1,31 +1,13 @@
-use Rattle.std.proofs.Common.{◌∙◌, arith}
-use Rattle.std.proofs.lemmas.Int.{ints, clamps}
+use Rattle.std.proofs.Common.{◌≡◌, arith}
 use Rattle.std.proofs.lemmas.List.Sorted.{IsPermutation-refl}
 use Rattle.chess_search.proofs.WindowLemmas.{legal_at}
 use Rattle.chess_search.proofs.tests.+plain_value.Goals as goal
 
-pub look-requires-clause-legal : goal.look-requires-clause-legal
-look-requires-clause-legal g t c =
+pub plain_value-plain_worth-worth-requires : goal.plain_value-plain_worth-worth-requires
+plain_value-plain_worth-worth-requires g t c κs within =
     let i = c.loop-m.invariant.line in
-    legal_at c.args.line.now.line _ c.moves-moves.result.items c.as_slice-m-items.result.now c.loop-m.m-index c.m-item.result c.moves-moves.ensures.listed
-    (rw c.as_slice-m-items.ensures.value (IsPermutation-refl _)) (omega arith) c.m-item.is i.line
-
-pub loop-m-preserved : goal.loop-m-preserved
-loop-m-preserved g t c =
-    let i = c.loop-m.invariant in
-    let v = c.plain_value-value.ensures in
-    let back = c.unlook.ensures.line c.loop-m.line.line c.m-item.result (v.line.line ∙ c.look.ensures.line) in
-    record {
-      line =
-          record {
-            line = back ∙ i.line.line;
-            looked = omega (arith, c.unlook.ensures.looked, v.line.looked, c.look.ensures.looked, i.line.looked);
-            words = c.unlook.ensures.words ∙ v.line.words ∙ c.look.ensures.words ∙ i.line.words;
-            room = c.unlook.ensures.room ∙ v.line.room ∙ c.look.ensures.room ∙ i.line.room;
-          };
-      in_range =
-          record {
-            low = omega (arith, ints, clamps, i.in_range.low, v.in_range.high);
-            high = omega (arith, ints, clamps, i.in_range.high, v.in_range.low);
-          };
-    }
+    let d = c.decreases in
+    let looked : c.loop-m.line.looked ≡ c.args.line.now.looked = i.looked in
+    let legal = legal_at c.args.line.now.line _ c.moves-moves.result.items c.as_slice-m-items.result.now c.loop-m.m-index c.m-item.result c.moves-moves.ensures.listed
+    (rw c.as_slice-m-items.ensures.value (IsPermutation-refl _)) (omega arith) c.m-item.is i.line in
+    (omega arith, (within, (legal, (omega arith, omega arith))))

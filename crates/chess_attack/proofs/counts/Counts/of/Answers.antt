@@ -7,14 +7,14 @@ use Rattle.chess_attack.specs.KeptCounts.{AreCounts}
 use Rattle.chess_attack.specs.steps.Marks.{Moves, own}
 use Rattle.chess_attack.proofs.FirstSquares.{AreCountsBelow, below_start, below_room, below_man, below_none, below_all}
 use Rattle.chess_attack.proofs.Shown.{shown, counts_none}
-use Rattle.chess_attack.proofs.Work.{worked_start, worked_more, worked_within}
+use Rattle.chess_attack.proofs.Work.{worked_none, worked_more, worked_within}
 use Rattle.chess_attack.proofs.counts.Counts.of.Goals as goal
 use Rattle.chess_attack.proofs.counts.Counts.of.Goals.{in-Some, in_default}
 
 pub loop-number-init : goal.loop-number-init
 loop-number-init c = record {
   below = below_start c.zero-tally.result (man_at c.args.placement.now) c.zero-tally.ensures.counts;
-  worked = worked_start c.zero-tally.result;
+  worked = worked_none c.zero-tally.result 0;
 }
 
 pub mark-requires : goal.mark-requires

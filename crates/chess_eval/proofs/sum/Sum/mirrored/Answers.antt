@@ -1,8 +1,8 @@
-use Rattle.std.proofs.Common.{◌≡◌, sym, ap, subst, ◌∙◌, pos, neg_ℤ, ◌≤ℤ◌, arith}
+use Rattle.std.proofs.Common.{sym, ap, subst, ◌∙◌, pos, neg_ℤ, ◌≤ℤ◌, arith}
 use Rattle.std.proofs.lemmas.Int.{ints}
 use Rattle.chess_types.specs.board.Board.{man_at}
 use Rattle.chess_eval.specs.Evaluation.{Sums, tapered}
-use Rattle.chess_eval.proofs.Evaluations.{same_sums}
+use Rattle.chess_eval.proofs.Evaluations.{same_sums, same_parts}
 use Rattle.chess_eval.proofs.Mirrors.{sums-mirrored, evaluation-mirrored}
 use Rattle.chess_eval.proofs.Tapers.{tapered-neg}
 use Rattle.chess_eval.proofs.sum.Sum.mirrored.Goals as goal
@@ -12,13 +12,11 @@ negated sums = record { middle = neg_ℤ sums.middle; end = neg_ℤ sums.end; we
 
 pub returns-clause-value : goal.returns-clause-value
 returns-clause-value c =
-    let middle : c.self.inside.middle ≡ c.args.self.now.middle = ap (λ (s : Sums). s.middle) c.self.view_is in
-    let end : c.self.inside.end ≡ c.args.self.now.end = ap (λ (s : Sums). s.end) c.self.view_is in
-    let weights : c.self.inside.weights ≡ c.args.self.now.weights = ap (λ (s : Sums). s.weights) c.self.view_is in
+    let same = same_parts c.self.view_is in
     same_sums
-    (omega (arith, ints, middle, c.self.invariant.middle.low, c.self.invariant.middle.high))
-    (omega (arith, ints, end, c.self.invariant.end.low, c.self.invariant.end.high))
-    (omega (arith, ints, weights, c.self.invariant.weights_low, c.self.invariant.weights_high))
+    (omega (arith, ints, same.middle, c.self.invariant.middle.low, c.self.invariant.middle.high))
+    (omega (arith, ints, same.end, c.self.invariant.end.low, c.self.invariant.end.high))
+    (omega (arith, ints, same.weights, c.self.invariant.weights_low, c.self.invariant.weights_high))
 
 pub returns-clause-agrees : goal.returns-clause-agrees
 returns-clause-agrees c = λ board other mirror agrees.

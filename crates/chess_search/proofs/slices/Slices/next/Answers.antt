@@ -1,60 +1,54 @@
-use Rattle.std.proofs.Common.{arith, refl}
+use Rattle.std.proofs.Common.{◌≡◌, ◌+◌, take, arith, refl}
 use Rattle.chess_search.specs.contracts.slices.Slices.{the_view}
+use Rattle.chess_search.specs.Best.{best}
 use Rattle.chess_search.proofs.RootLemmas.{root_legal}
-use Rattle.chess_search.proofs.SliceLemmas.{slice_kept, slice_is, slice_goes, root_left, done_is}
+use Rattle.chess_search.proofs.SliceLemmas.{slice_kept, slice_is, slice_goes, done_is, IsUnderway, underway}
+use Rattle.chess_search.proofs.slices.Slices.next.Given.{Over}
+use Rattle.chess_search.proofs.slices.Slices.next.Goals.{After-as_slice, After-try_root-self-inside}
 use Rattle.chess_search.proofs.slices.Slices.next.Goals as goal
 
+found : (g : Over) (c : After-as_slice g) → IsUnderway c.args.line.now.line (the_view c.self.inside)
+found g c = underway c.self.view_is c.requires.goes c.requires.not_done c.requires.some c.self.invariant.2
+
+-- what is kept then is the best of one root more
+kept : (g : Over) (c : After-try_root-self-inside g) →
+    c.try_root-self-inside.result
+    ≡ best c.self.inside.searcher.claims c.self.inside.depth c.args.line.now.line (take (c.self.inside.searched + 1) c.self.inside.roots.items)
+kept g c =
+    let before : IsUnderway c.args.line.now.line (the_view c.self.inside) = underway c.self.view_is c.requires.goes c.requires.not_done c.requires.some c.self.invariant.2 in
+    slice_kept c.args.line.now.line (the_view c.self.inside) _ c.index-as_slice-self.result before.goes before.left (rw c.as_slice.ensures.value at c.index-as_slice-self.is)
+    c.try_root-self-inside.ensures.better
+
 pub bounds-as_slice-self-inside : goal.bounds-as_slice-self-inside
-bounds-as_slice-self-inside g c =
-    let line = c.args.line.now.line in
-    let p = the_view c.self.inside in
-    let goes = rw (← c.self.view_is) at c.requires.goes in
-    let left = root_left line p goes (rw (← c.self.view_is) at c.requires.not_done) (rw (← c.self.view_is) at c.requires.some) c.self.invariant.2 in
-    rw c.as_slice.ensures.value left
+bounds-as_slice-self-inside g c = rw c.as_slice.ensures.value (found g (goal.at.bounds-as_slice-self-inside g c).After-as_slice).left
 
 pub try_root-self-inside-requires-clause-legal : goal.try_root-self-inside-requires-clause-legal
 try_root-self-inside-requires-clause-legal g c =
     let line = c.args.line.now.line in
-    let p = the_view c.self.inside in
-    let goes = rw (← c.self.view_is) at c.requires.goes in
-    let left = root_left line p goes (rw (← c.self.view_is) at c.requires.not_done) (rw (← c.self.view_is) at c.requires.some) c.self.invariant.2 in
-    root_legal line line p.roots c.self.inside.searched c.index-as_slice-self.result goes.legal left (rw c.as_slice.ensures.value at c.index-as_slice-self.is) refl
+    let before = found g (goal.at.try_root-self-inside-requires-clause-legal g c).After-as_slice in
+    root_legal line line (the_view c.self.inside).roots c.self.inside.searched c.index-as_slice-self.result before.goes.legal before.left
+    (rw c.as_slice.ensures.value at c.index-as_slice-self.is) refl
 
 pub invariant_of-self : goal.invariant_of-self
 invariant_of-self g c =
-    let line = c.args.line.now.line in
-    let p = the_view c.self.inside in
-    let goes = rw (← c.self.view_is) at c.requires.goes in
-    let left = root_left line p goes (rw (← c.self.view_is) at c.requires.not_done) (rw (← c.self.view_is) at c.requires.some) c.self.invariant.2 in
-    (c.self.invariant.0, c.self.invariant.1, omega (arith, left), c.try_root-self-inside.ensures.in_range)
+    let before = found g (goal.at.invariant_of-self g c).After-as_slice in
+    (c.self.invariant.0, c.self.invariant.1, omega (arith, before.left), c.try_root-self-inside.ensures.in_range)
 
 pub returns-clause-slice : goal.returns-clause-slice
 returns-clause-slice g c =
-    let line = c.args.line.now.line in
-    let p = the_view c.self.inside in
-    let goes = rw (← c.self.view_is) at c.requires.goes in
-    let left = root_left line p goes (rw (← c.self.view_is) at c.requires.not_done) (rw (← c.self.view_is) at c.requires.some) c.self.invariant.2 in
-    let m = c.index-as_slice-self.result in
-    let kept = slice_kept line p _ m goes left (rw c.as_slice.ensures.value at c.index-as_slice-self.is) c.try_root-self-inside.ensures.better in
-    rw (← c.self.view_is, c.try_root-self-inside.ensures.claims) (slice_is line p _ kept)
+    rw (← c.self.view_is, c.try_root-self-inside.ensures.claims)
+    (slice_is c.args.line.now.line (the_view c.self.inside) _ (kept g (goal.at.returns-clause-slice g c).After-try_root-self-inside))
 
 pub returns-clause-goes : goal.returns-clause-goes
 returns-clause-goes g c =
-    let line = c.args.line.now.line in
-    let p = the_view c.self.inside in
-    let goes = rw (← c.self.view_is) at c.requires.goes in
-    let left = root_left line p goes (rw (← c.self.view_is) at c.requires.not_done) (rw (← c.self.view_is) at c.requires.some) c.self.invariant.2 in
-    let m = c.index-as_slice-self.result in
-    let kept = slice_kept line p _ m goes left (rw c.as_slice.ensures.value at c.index-as_slice-self.is) c.try_root-self-inside.ensures.better in
-    rw c.try_root-self-inside.ensures.claims (slice_goes line _ p _ goes c.try_root-self-inside.ensures.line.line kept)
+    let at = goal.at.returns-clause-goes g c in
+    rw c.try_root-self-inside.ensures.claims
+    (slice_goes c.args.line.now.line _ (the_view c.self.inside) _ (found g at.After-as_slice).goes c.try_root-self-inside.ensures.line.line
+    (kept g at.After-try_root-self-inside))
 
 pub returns-clause-done : goal.returns-clause-done
 returns-clause-done g c =
-    let line = c.args.line.now.line in
-    let p = the_view c.self.inside in
-    let goes = rw (← c.self.view_is) at c.requires.goes in
-    let left = root_left line p goes (rw (← c.self.view_is) at c.requires.not_done) (rw (← c.self.view_is) at c.requires.some) c.self.invariant.2 in
-    let m = c.index-as_slice-self.result in
-    let kept = slice_kept line p _ m goes left (rw c.as_slice.ensures.value at c.index-as_slice-self.is) c.try_root-self-inside.ensures.better in
-    let goes_on = slice_goes line _ p _ goes c.try_root-self-inside.ensures.line.line kept in
+    let at = goal.at.returns-clause-done g c in
+    let goes_on = slice_goes c.args.line.now.line _ (the_view c.self.inside) _ (found g at.After-as_slice).goes c.try_root-self-inside.ensures.line.line
+    (kept g at.After-try_root-self-inside) in
     λ e. rw c.try_root-self-inside.ensures.claims (done_is _ _ goes_on e)
