@@ -91,14 +91,28 @@ pub here_number : {start : State} {plies looked : List Ply} {live : LiveParts} {
     live.position.number ≤ 119999 + length looked
 here_number held = counted (λ (s : State). s.number) number_on held held.line.number
 
--- and far below a million
-pub clock_fits : {start : State} {plies looked : List Ply} {live : LiveParts} {here : Stand} → IsHeld start plies looked live here →
-    live.position.clock ≤ 120015
-clock_fits held = omega (arith, here_clock held, held.ahead)
+-- so what is asked of the last position may be asked: of it alone, of a legal move, and to make one
+pub can_ask : {start : State} {plies looked : List Ply} {live : LiveParts} {here : Stand} → IsHeld start plies looked live here →
+    record { clock : live.position.clock ≤ 1000000; number : live.position.number ≤ 1000000 }
+can_ask held = record { clock = omega (arith, here_clock held, held.ahead); number = omega (arith, here_number held, held.ahead) }
 
-pub number_fits : {start : State} {plies looked : List Ply} {live : LiveParts} {here : Stand} → IsHeld start plies looked live here →
-    live.position.number ≤ 120015
-number_fits held = omega (arith, here_number held, held.ahead)
+pub can_name : {start : State} {plies looked : List Ply} {live : LiveParts} {here : Stand} {count room compared : ℕ} {parts : LineParts} →
+    IsHeld start plies looked live here → seen start (plies ++ looked) count live room compared ≡ parts → (m : MoveParts) →
+    is_legal (last parts.line) m ≡ true →
+    record { legal : is_legal live.position m ≡ true; clock : live.position.clock < 1000000; number : live.position.number < 1000000 }
+can_name held is m legal = record {
+  legal = legal_here held.line is m legal;
+  clock = omega (arith, here_clock held, held.ahead);
+  number = omega (arith, here_number held, held.ahead);
+}
+
+pub can_step : {start : State} {plies looked : List Ply} {live : LiveParts} {here : Stand} {count room compared : ℕ} {parts : LineParts} →
+    IsHeld start plies looked live here → seen start (plies ++ looked) count live room compared ≡ parts → (m : MoveParts) →
+    is_legal (last parts.line) m ≡ true →
+    record { legal : is_legal live.position m ≡ true; clock : live.position.clock < 1000000; number : live.position.number < 1000000; here : IsStandOf here live.position }
+can_step held is m legal =
+    let can = can_name held is m legal in
+    record { legal = can.legal; clock = can.clock; number = can.number; here = held.line.here_is }
 
 -- every second ply, as far back as the clock tells: those that begin in the same position as the last, and one, are its repetitions
 pub came_often : {start : State} {plies : List Ply} {live : LiveParts} {here : Stand} → IsLine start plies live here →
@@ -173,20 +187,21 @@ line_less {start} {plies} {live} line rest ply is next now position stand =
     }
 
 -- nothing is looked at
-pub none_looked : (looked : List Ply) (parts : LineParts) → length looked ≡ parts.looked → parts.looked ≡ 0 → looked ≡ []
-none_looked looked parts is none = empty_is looked (is ∙ none)
+pub none_looked : {start : State} {plies looked : List Ply} {live : LiveParts} {here : Stand} {room compared : ℕ} {parts : LineParts} →
+    IsHeld start plies looked live here → seen start (plies ++ looked) (length looked) live room compared ≡ parts → parts.looked ≡ 0 → looked ≡ []
+none_looked {looked = looked} held is none = empty_is looked (ap (λ (l : LineParts). l.looked) is ∙ none)
   where
     empty_is : (xs : List Ply) → length xs ≡ 0 → xs ≡ []
     empty_is [] h = refl
     empty_is (x ∷ xs) h = absurd (omega arith)
 
 -- then all plies are made
-pub all_made : (plies looked : List Ply) {start : State} {live : LiveParts} {here : Stand} {count room compared : ℕ} {parts : LineParts} →
-    IsLine start (plies ++ looked) live here → seen start (plies ++ looked) count live room compared ≡ parts → looked ≡ [] →
+pub all_made : {start : State} {plies looked : List Ply} {live : LiveParts} {here : Stand} {room compared : ℕ} {parts : LineParts} →
+    IsHeld start plies looked live here → seen start (plies ++ looked) (length looked) live room compared ≡ parts → parts.looked ≡ 0 →
     length plies ≡ length parts.line.moves
-all_made plies looked line is none =
-    let one : length (plies ++ looked) ≡ length plies = ap (λ xs. length (plies ++ xs)) none ∙ ap length (append-nil plies) in
-    sym one ∙ plies_moves line is
+all_made {plies = plies} {looked = looked} held is none =
+    let one : length (plies ++ looked) ≡ length plies = ap (λ xs. length (plies ++ xs)) (none_looked held is none) ∙ ap length (append-nil plies) in
+    sym one ∙ plies_moves held.line is
 
 -- a ply more behind the others, or behind those that are only looked at
 behind_others : (plies looked items : List Ply) (ply : Ply) → looked ≡ [] → items ≡ plies ++ ply ∷ [] → items ++ looked ≡ (plies ++ looked) ++ ply ∷ []

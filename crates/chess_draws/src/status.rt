@@ -1,4 +1,4 @@
-ghost use Rattle.std.specs.Prelude.{◌≡◌, ◌<◌, ◌&&◌, ◌||◌};
+ghost use Rattle.std.specs.Prelude.{◌≡◌, ◌≤◌, ◌&&◌, ◌||◌};
 ghost use Rattle.chess_types.specs.board.Outcome.{status_at, is_play, claims_at};
 ghost use Rattle.chess_draws.specs.Draws.{is_drawn_at, is_claimable_at};
 
@@ -10,8 +10,8 @@ use chess_types::{Claims, Setup, Status};
 /// How a line stands that has come to its last position so often (FIDE Laws 5.1.1, 5.2.1, 5.2.2, 9.6). The position is as before.
 #[tactic(auto, using(chess_moves::proofs::SetCounts::some_move), unfolding(chess_types::specs::board::Outcome::status_at))]
 pub(crate) fn status_at(live: &mut Live, count: u32) -> Status
-    requires clock { live.old.position.clock < 1000000 }
-    requires number { live.old.position.number < 1000000 }
+    requires clock { live.old.position.clock ≤ 1000000 }
+    requires number { live.old.position.number ≤ 1000000 }
     ensures value { result ≡ status_at live.old.position count }
     ensures position { live.new.position ≡ live.old.position }
     ensures words { live.new.words ≡ live.old.words }

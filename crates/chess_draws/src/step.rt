@@ -16,8 +16,8 @@ use chess_types::Move;
 /// Makes the legal move. The answer is what is kept of it.
 pub(crate) fn step(live: &mut Live, here: &mut Stand, m: Move) -> Ply
     requires legal { IsTrue (is_legal_in live.old.position m) }
-    requires clock { live.old.position.clock < 999999 }
-    requires number { live.old.position.number < 999999 }
+    requires clock { live.old.position.clock < 1000000 }
+    requires number { live.old.position.number < 1000000 }
     requires here { IsStandOf here.old live.old.position }
     ensures position { live.new.position ≡ after live.old.position m }
     ensures words { live.new.words ≡ live.old.words }

@@ -46,8 +46,8 @@ fn is_taker(setup: &Setup, from: Square) -> bool
 
 // Whether a pawn of the side to move captures legally from there on the target.
 fn is_taken_from(live: &mut Live, from: Square, target: Square) -> bool
-    requires clock { live.old.position.clock < 1000000 }
-    requires number { live.old.position.number < 1000000 }
+    requires clock { live.old.position.clock ≤ 1000000 }
+    requires number { live.old.position.number ≤ 1000000 }
     ensures value { result ≡ (same_man (look live.old.position from) (cell_of live.old.position.side Pawn) && is_legal_in live.old.position (move_to from target None)) }
     ensures position { live.new.position ≡ live.old.position }
     ensures words { live.new.words ≡ live.old.words }
@@ -62,8 +62,8 @@ fn is_taken_from(live: &mut Live, from: Square, target: Square) -> bool
 
 /// The target, where a legal move captures on it (FIDE Laws 9.2.3.1). At most two captures are tried.
 pub(crate) fn counting_target(live: &mut Live) -> Option<Square>
-    requires clock { live.old.position.clock < 1000000 }
-    requires number { live.old.position.number < 1000000 }
+    requires clock { live.old.position.clock ≤ 1000000 }
+    requires number { live.old.position.number ≤ 1000000 }
     ensures value { result ≡ counting_target live.old.position }
     ensures position { live.new.position ≡ live.old.position }
     ensures words { live.new.words ≡ live.old.words }
@@ -96,8 +96,8 @@ fn is_beside(setup: &Setup) -> bool
 #[tactic(auto, using(chess_types::proofs::MoveLemmas::legal_pseudo, chess_types::proofs::Counters::clock_more, chess_types::proofs::Counters::number_more))]
 pub(crate) fn advance(live: &mut Live, m: Move) -> (Record, Option<Square>)
     requires legal { IsTrue (is_legal_in live.old.position m) }
-    requires clock { live.old.position.clock < 999999 }
-    requires number { live.old.position.number < 999999 }
+    requires clock { live.old.position.clock < 1000000 }
+    requires number { live.old.position.number < 1000000 }
     ensures position { live.new.position ≡ after live.old.position m }
     ensures words { live.new.words ≡ live.old.words }
     ensures past { result.0 ≡ record_of live.old.position m }

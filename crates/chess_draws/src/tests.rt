@@ -14,6 +14,14 @@ fn named(rt: &impl Abort, text: &[u8]) -> Move {
     Move::parse(text).expect(rt, "the text of a move")
 }
 
+/// The line of a game that begins.
+#[tactic(auto, unfolding(chess_types::specs::board::Position::start))]
+fn begin<'k, A: Allocator>(alloc: A, table: &'k KeyTable) -> Line<'k, A>
+    ensures none { result.looked ≡ 0 }
+{
+    Line::start(alloc, Position::start(), table)
+}
+
 /// Pushes the moves.
 fn push_all<A: Allocator>(rt: &impl Abort, line: &mut Line<A>, texts: &[&[u8]])
     requires none { line.old.looked ≡ 0 }
@@ -29,10 +37,9 @@ fn push_all<A: Allocator>(rt: &impl Abort, line: &mut Line<A>, texts: &[&[u8]])
 const ROUND: [&[u8]; 4] = [b"g1f3", b"g8f6", b"f3g1", b"f6g8"];
 
 #[test]
-#[tactic(auto, unfolding(chess_types::specs::board::Position::start))]
 fn adds_legal_moves(rt: HostRuntime) -> Result<(), Fail> {
     let table = KeyTable::new([1; 768]);
-    let mut line = Line::start(rt.alloc(), Position::start(), &table);
+    let mut line = begin(rt.alloc(), &table);
     line.reserve(2)?;
     assert_eq!(rt; line.push(named(&rt, b"e2e4")), Ok(()));
     assert!(rt; line.live().last_ticks() > 0 && line.live().last_ticks() <= 216);
@@ -48,10 +55,9 @@ fn adds_legal_moves(rt: HostRuntime) -> Result<(), Fail> {
 }
 
 #[test]
-#[tactic(auto, unfolding(chess_types::specs::board::Position::start))]
 fn counts_by_positions_and_not_by_keys(rt: HostRuntime) -> Result<(), Fail> {
     let table = KeyTable::new([0; 768]);
-    let mut line = Line::start(rt.alloc(), Position::start(), &table);
+    let mut line = begin(rt.alloc(), &table);
     push_all(
         &rt,
         &mut line,
@@ -91,10 +97,9 @@ fn captures_that_are_tried_leave_no_ticks(rt: HostRuntime) -> Result<(), Fail> {
 }
 
 #[test]
-#[tactic(auto, unfolding(chess_types::specs::board::Position::start))]
 fn ends_at_twenty_thousand_plies(rt: HostRuntime) -> Result<(), Fail> {
     let table = KeyTable::new([1; 768]);
-    let mut line = Line::start(rt.alloc(), Position::start(), &table);
+    let mut line = begin(rt.alloc(), &table);
     for _round in 0..5000u32 {
         push_all(&rt, &mut line, &ROUND);
     }
@@ -118,10 +123,9 @@ fn look_at<A: Allocator>(rt: &impl Abort, line: &mut Line<A>, text: &[u8])
 
 /// The line speaks of the moves that are looked at, and is as before when they are taken back.
 #[test]
-#[tactic(auto, unfolding(chess_types::specs::board::Position::start))]
 fn looks_at_moves(rt: HostRuntime) -> Result<(), Fail> {
     let table = KeyTable::new([1; 768]);
-    let mut line = Line::start(rt.alloc(), Position::start(), &table);
+    let mut line = begin(rt.alloc(), &table);
     push_all(&rt, &mut line, &[b"g1f3", b"g8f6", b"f3g1"]);
     look_at(&rt, &mut line, b"Ng8");
     assert_eq!(rt; line.count(), 2);
@@ -167,10 +171,9 @@ fn faults_say_what_they_are(rt: HostRuntime) -> Result<(), Fail> {
 
 /// A move that was prepared is added, and one that the line refuses is prepared for as it is pushed.
 #[test]
-#[tactic(auto, unfolding(chess_types::specs::board::Position::start))]
 fn prepares_for_a_move(rt: HostRuntime) -> Result<(), Fail> {
     let table = KeyTable::new([1; 768]);
-    let mut line = Line::start(rt.alloc(), Position::start(), &table);
+    let mut line = begin(rt.alloc(), &table);
     assert_eq!(rt; line.prepare(named(&rt, b"e2e5")), Err(LineFault::Illegal));
     let m = named(&rt, b"e2e4");
     line.prepare(m)?;
@@ -182,10 +185,9 @@ fn prepares_for_a_move(rt: HostRuntime) -> Result<(), Fail> {
 }
 
 /// Pushes rounds while so many bytes of a heap are taken, until a push finds no memory; the same push answers Ok when they are free.
-#[tactic(auto, unfolding(chess_types::specs::board::Position::start))]
 fn push_without_memory(rt: &impl Abort, heap: &LocalHeap, taken: usize) -> Result<(), Fail> {
     let table = KeyTable::new([1; 768]);
-    let mut line = Line::start(heap, Position::start(), &table);
+    let mut line = begin(heap, &table);
     let hog: Vec<u8, _> = Vec::with_capacity(heap, taken)?;
     let mut last = None;
     for number in 0..400usize {

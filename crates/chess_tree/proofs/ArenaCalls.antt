@@ -14,15 +14,15 @@ use Rattle.chess_tree.specs.steps.Grove.{Grove, no_move, Empty, Tree, tally, tim
 use Rattle.chess_tree.specs.steps.Laid.{Laid, IsArena, leaf_slot, look, seen, standing, uses, Same}
 use Rattle.chess_tree.specs.steps.Notes.{IsNotedAt}
 use Rattle.chess_tree.specs.steps.Writes.{IsPut, free_after, hung_first, hung_last, taken, unlinked, with_next}
-use Rattle.chess_tree.specs.steps.Siblings.{above, Child, IsAt, IsChild, IsCount, IsFind, IsOwner, IsPlace, IsPrior, Owner}
+use Rattle.chess_tree.specs.steps.Siblings.{above, Child, IsAt, IsChild, IsCount, IsDetached, IsFind, IsOwner, IsPlace, Owner}
 use Rattle.chess_tree.proofs.EditLemmas.{deeper, height_annotated, height_commented, height_node, path_le_height}
-use Rattle.chess_tree.proofs.TimesLemmas.{tally_same, tally_is, times_deep, times_under, times_tail}
+use Rattle.chess_tree.proofs.TimesLemmas.{tally_same, tally_is, times_deep, times_under}
 use Rattle.chess_tree.proofs.LinkLemmas.{linked_one}
 use Rattle.chess_tree.proofs.SeenLemmas.{once_at_most, seen_is}
 use Rattle.chess_tree.proofs.GroveLemmas.{annotated_is, commented_is, node_last, number_on, parent_last, plain_noted, plain_same, plain_under, plain_under_at, trail_length, trail_on, ways_back, ways_on, wide_plain}
 use Rattle.chess_tree.proofs.ArenaLemmas.{in_range, tail_range, taken_laid}
 use Rattle.chess_tree.proofs.ArenaEdits.{added_from, deleted_from, grown_laid, last_place, length_push, promoted_from, written_laid}
-use Rattle.chess_tree.proofs.WriteLemmas.{taken_length}
+use Rattle.chess_tree.proofs.WriteLemmas.{taken_length, unlinked_length}
 use Rattle.chess_tree.proofs.SiblingLemmas.{owner_at, walk_in, walk_end}
 
 -- ---- new
@@ -70,11 +70,6 @@ root_path [] g w once e = refl
 root_path (k ∷ path) g w once e =
     let deep : 0 < times 0 g = subst (λ (x : ℕ). 0 < times x g) e (times_deep k path 0 g w) in absurd (omega (arith, deep, once 0, tally_same 0))
 
-times_before : (j k : ℕ) (g : Grove) → times j (those_before k g) ≤ times j g
-times_before j k Empty = omega arith
-times_before j zero (Tree i m below next) = omega arith
-times_before j (suc k) (Tree i m below next) = omega (arith, times_before j k next)
-
 pub number_any : (d k : ℕ) (g : Grove) → k < wide g → node_number d k g ≡ node_number 0 k g
 number_any d k Empty h = absurd (omega (arith, h))
 number_any d zero (Tree i m below next) h = refl
@@ -107,21 +102,15 @@ laid_here : (slots : List Slot) (free : ℕ) (game freed spare : Grove) (path : 
 laid_here slots free game freed spare path here k ways e =
     let o = owner_at slots free game freed spare path k ways in (
       omega (arith, e, o.there),
-      omega (arith, ap (λ (x : ℕ). (look slots x).last) e, o.own.last_is, tail_range slots free game freed spare k (under_at path game) (λ j. times_under j path game)),
+      omega (arith, ap (λ (x : ℕ). (look slots x).last) e, o.own.last_is, tail_range slots free game freed spare k (under_at path game) (λ j. omega (arith, times_under j path game))),
     )
-
-tail_by : (slots : List Slot) (free : ℕ) (game freed spare : Grove) → Laid slots free game freed spare → (f : Grove) → ((j : ℕ) → times j f ≤ uses j game freed spare) → last_of 0 f < length slots
-tail_by slots free game freed spare k Empty h = omega (arith, k.all)
-tail_by slots free game freed spare k (Tree i m below next) h =
-    let t = last_of 0 (Tree i m below next) in
-    in_range slots free game freed spare k t (omega (arith, h t, times_tail (Tree i m below next) 0 (omega arith)))
 
 free_range_of : (slots : List Slot) (free : ℕ) (game freed : Grove) → Laid slots free game freed Empty → 0 < free → (free < length slots) × ((look slots free).last < length slots)
 free_range_of slots free game Empty k h = absurd (omega (arith, k.free_is, h))
 free_range_of slots free game (Tree n m below next) k h =
     let one : tally free n ≡ 1 = subst (λ (y : ℕ). tally free y ≡ 1) k.free_is (tally_same free) in (
       in_range slots free game (Tree n m below next) Empty k free (omega (arith, one)),
-      omega (arith, ap (λ (x : ℕ). (look slots x).last) k.free_is, k.loose.0.last_is, tail_by slots free game (Tree n m below next) Empty k below (λ j. omega arith)),
+      omega (arith, ap (λ (x : ℕ). (look slots x).last) k.free_is, k.loose.0.last_is, tail_range slots free game (Tree n m below next) Empty k below (λ j. omega arith)),
     )
 
 -- ---- other notes
@@ -374,50 +363,48 @@ module _ (slots : List Slot) (noted : ℕ → Noted) (free here : ℕ) (trail : 
 
   -- ---- delete and promote
 
-  pub unlink_range : (prior : ℕ) → 0 < length z.path → IsPrior slots (look slots here).parent here prior
-      → ((look slots here).parent < length slots) × (prior < length slots)
-  unlink_range prior h is =
-      let w = hangs h in (
-        w.child.owner.there,
-        omega (
-          arith,
-          is (under_at w.init a.game) w.place w.child,
-          tail_by slots free a.game a.freed Empty a.laid (those_before w.place (under_at w.init a.game)) (λ j. omega (arith, times_before j w.place (under_at w.init a.game), times_under j w.init a.game)),
-        ),
-      )
+  -- the node at the cursor and its parent are still the vector's
+  pub detached_range : (mid : List Slot) (at : ℕ) → 0 < length z.path → at ≡ (look slots here).parent → IsDetached slots here mid → (here < length mid) × (at < length mid)
+  detached_range mid at h ea is =
+      let w = hangs h in
+      let same = ap length (is (under_at w.init a.game) w.place w.child)
+      ∙ unlinked_length slots (look slots here).parent (last_of 0 (those_before w.place (under_at w.init a.game))) here in
+      (omega (arith, same, here_range), omega (arith, same, ea, w.child.owner.there))
 
-  pub deleted_now : (new : List Slot) (at prior : ℕ) (left : List ℕ) (gone more : ℕ) → 0 < length z.path
-      → at ≡ (look slots here).parent → IsPrior slots (look slots here).parent here prior → new ≡ with_next here free (unlinked at prior here slots)
+  pub deleted_now : (mid new : List Slot) (at : ℕ) (left : List ℕ) (gone more : ℕ) → 0 < length z.path
+      → at ≡ (look slots here).parent → IsDetached slots here mid → new ≡ with_next here free mid
       → trail ≡ left ++ gone ∷ [] → more ≡ room
       → IsArena new noted here at left more × (seen new noted at ≡ deleted_root z)
-  deleted_now new at prior left gone more h ea is e t r =
+  deleted_now mid new at left gone more h ea is e t r =
       let w = hangs h in
       let on =
       deleted_from slots noted free w.place a.game a.freed w.init left more a.laid w.ways w.short a.few (omega (arith, a.deep, r)) (front_is trail left (trail_at w.init 0 a.game) gone here t w.trail_is)
-      at prior here (ea ∙ w.parent_is) (is (under_at w.init a.game) w.place w.child) w.child.is in
+      at here (ea ∙ w.parent_is) w.child.is in
       let below : change_below (without_node w.place) w.init (plain noted a.game) ≡ change_node without_node a.path (plain noted a.game) =
       sym (node_last without_node w.init w.place (plain noted a.game)) ∙ ap (λ (p : List ℕ). change_node without_node p (plain noted a.game)) (sym w.path_is) in
-      subst (λ (x : List Slot). IsArena x noted here at left more × (seen x noted at ≡ deleted_root z)) (sym e)
+      subst (λ (x : List Slot). IsArena x noted here at left more × (seen x noted at ≡ deleted_root z))
+      (sym (e ∙ ap (with_next here free) (is (under_at w.init a.game) w.place w.child ∙ ap (λ (p : ℕ). unlinked p (last_of 0 (those_before w.place (under_at w.init a.game))) here slots) (sym ea))))
       (on.0, on.1 ∙ (λ j. record { root = with_below (λ _. below j) (standing noted a.game a.path).root; path = w.parent_path j }) ∙ ap deleted_root (sym z_is))
 
-  pub promoted_now : (new : List Slot) (at prior : ℕ) → 0 < length z.path
-      → at ≡ (look slots here).parent → IsPrior slots (look slots here).parent here prior → new ≡ hung_first at here (unlinked at prior here slots)
+  pub promoted_now : (mid new : List Slot) (at : ℕ) → 0 < length z.path
+      → at ≡ (look slots here).parent → IsDetached slots here mid → new ≡ hung_first at here mid
       → IsArena new noted free here trail room × (seen new noted here ≡ promoted_root z)
-  promoted_now new at prior h ea is e =
+  promoted_now mid new at h ea is e =
       let w = hangs h in
       let on =
       promoted_from slots noted free w.place a.game a.freed w.init trail room a.laid w.ways w.short a.few a.deep (w.trail_is ∙ ap (λ (x : ℕ). trail_at w.init 0 a.game ++ x ∷ []) w.child.is)
-      at prior here (ea ∙ w.parent_is) (is (under_at w.init a.game) w.place w.child) w.child.is in
+      at here (ea ∙ w.parent_is) w.child.is in
       let below : change_below (promoted w.place) w.init (plain noted a.game) ≡ change_node promoted a.path (plain noted a.game) =
       sym (node_last promoted w.init w.place (plain noted a.game)) ∙ ap (λ (p : List ℕ). change_node promoted p (plain noted a.game)) (sym w.path_is) in
-      subst (λ (x : List Slot). IsArena x noted free here trail room × (seen x noted here ≡ promoted_root z)) (sym e)
+      subst (λ (x : List Slot). IsArena x noted free here trail room × (seen x noted here ≡ promoted_root z))
+      (sym (e ∙ ap (hung_first at here) (is (under_at w.init a.game) w.place w.child ∙ ap (λ (p : ℕ). unlinked p (last_of 0 (those_before w.place (under_at w.init a.game))) here slots) (sym ea))))
       (on.0, on.1 ∙ (λ j. record { root = with_below (λ _. below j) (standing noted a.game a.path).root; path = w.parent_path j ++ 0 ∷ [] }) ∙ ap promoted_root (sym z_is))
 
   -- ---- add
 
-  -- more room for the trail changes nothing
-  pub more_room : (more : ℕ) → room ≤ more → IsArena slots noted free here trail more
-  more_room more h = record {
+  -- other notes and other room for the trail change nothing where it is high enough
+  stays : (later : ℕ → Noted) (more : ℕ) → height (plain later a.game) ≤ more → IsArena slots later free here trail more
+  stays later more h = record {
     game = a.game;
     freed = a.freed;
     path = a.path;
@@ -425,9 +412,12 @@ module _ (slots : List Slot) (noted : ℕ → Noted) (free here : ℕ) (trail : 
     ways = a.ways;
     here_is = a.here_is;
     trail_is = a.trail_is;
-    deep = omega (arith, a.deep, h);
+    deep = h;
     few = a.few;
   }
+
+  pub more_room : (more : ℕ) → room ≤ more → IsArena slots noted free here trail more
+  more_room more h = stays noted more (omega (arith, a.deep, h))
 
   pub pushed_now : (mid new : List Slot) (later : ℕ → Noted) (m : MoveParts) (n : ℕ) (way : List ℕ) (more : ℕ) → length slots ≤ 1000000 → n ≡ length slots
       → mid ≡ slots ++ leaf_slot m here ∷ [] → IsNotedAt noted later n no_notes → new ≡ hung_last here n mid → way ≡ trail ++ n ∷ [] → room ≤ more → length trail + 1 ≤ more
@@ -487,19 +477,6 @@ module _ (slots : List Slot) (noted : ℕ → Noted) (free here : ℕ) (trail : 
 
   -- ---- notes
 
-  other_notes : (later : ℕ → Noted) → height (plain later a.game) ≤ height (plain noted a.game) → IsArena slots later free here trail room
-  other_notes later h = record {
-    game = a.game;
-    freed = a.freed;
-    path = a.path;
-    laid = a.laid;
-    ways = a.ways;
-    here_is = a.here_is;
-    trail_is = a.trail_is;
-    deep = omega (arith, a.deep, h);
-    few = a.few;
-  }
-
   -- notes that are the same change nothing
   pub same_notes : (later : ℕ → Noted) → ((j : ℕ) → later j ≡ noted j) → IsArena slots later free here trail room × (seen slots later here ≡ z)
   same_notes later same =
@@ -508,11 +485,11 @@ module _ (slots : List Slot) (noted : ℕ → Noted) (free here : ℕ) (trail : 
 
   pub annotated_now : (later : ℕ → Noted) (nag : ℕ) → 0 < length z.path → IsNotedAt noted later here (record { nags = (noted here).nags ++ nag ∷ []; comment = (noted here).comment })
       → IsArena slots later free here trail room × (seen slots later here ≡ annotated_root nag z)
-  unfolding other_notes
+  unfolding stays
   annotated_now later nag h notes =
       let there = subst (λ (x : ℕ). IsNotedAt noted later x (record { nags = (noted x).nags ++ nag ∷ []; comment = (noted x).comment })) a.here_is notes in
       let on = annotated_game noted later nag a.path a.game (omega (arith, ap length long, h)) a.ways once_used there in
-      let now = other_notes later (omega (arith, ap height on.0, height_node (annotated nag) a.path (plain noted a.game) (height_annotated nag))) in (
+      let now = stays later room (omega (arith, a.deep, ap height on.0, height_node (annotated nag) a.path (plain noted a.game) (height_annotated nag))) in (
         now,
         seen_is slots later free here trail room now
             ∙ (λ j. record { root = record { move = no_move; nags = (on.1 j).nags; comment = (on.1 j).comment; below = on.0 j }; path = a.path })
@@ -521,21 +498,15 @@ module _ (slots : List Slot) (noted : ℕ → Noted) (free here : ℕ) (trail : 
 
   pub commented_now : (later : ℕ → Noted) (text : List ℕ) → IsNotedAt noted later here (record { nags = (noted here).nags; comment = text })
       → IsArena slots later free here trail room × (seen slots later here ≡ commented_root text z)
-  unfolding other_notes
+  unfolding stays
   commented_now later text notes =
       let there = subst (λ (x : ℕ). IsNotedAt noted later x (record { nags = (noted x).nags; comment = text })) a.here_is notes in
       let on = commented_standing noted later text a.path a.game a.ways once_used there in
       let now =
-      other_notes later (omega (arith, ap (λ (x : Rooted). height x.root.below) on, height_comment text a.path (standing noted a.game a.path).root)) in
+      stays later room (omega (arith, a.deep, ap (λ (x : Rooted). height x.root.below) on, height_comment text a.path (standing noted a.game a.path).root)) in
       (now, seen_is slots later free here trail room now ∙ on ∙ ap (commented_root text) (sym z_is))
 
 -- ---- the same through a slice of the vector
 
 pub read_parent : (slots slice : List Slot) (here : ℕ) (s : Slot) → slice ≡ slots → s ≡ look slice here → s.parent ≡ (look slots here).parent
 read_parent slots slice here s e r = ap (λ (x : Slot). x.parent) (r ∙ ap (λ (x : List Slot). look x here) e)
-
-pub child_now : (slots slice : List Slot) (here at : ℕ) → IsChild slots (look slots here).parent here → at ≡ (look slots here).parent → slice ≡ slots → IsChild slice at here
-child_now slots slice here at is e s = subst (λ (x : List Slot). IsChild x at here) (sym s) (subst (λ (x : ℕ). IsChild slots x here) (sym e) is)
-
-pub prior_now : (slots slice : List Slot) (here at before : ℕ) → at ≡ (look slots here).parent → slice ≡ slots → IsPrior slice at here before → IsPrior slots (look slots here).parent here before
-prior_now slots slice here at prior e s h = subst (λ (x : ℕ). IsPrior slots x here prior) e (subst (λ (x : List Slot). IsPrior x at here prior) s h)

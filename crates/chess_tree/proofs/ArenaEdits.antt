@@ -146,10 +146,10 @@ edited change noted game path new = record { root = with_below (change_below cha
 -- DELETED
 pub deleted_from : (slots : List Slot) (noted : ℕ → Noted) (free k : ℕ) (game freed : Grove) (path trail : List ℕ) (room : ℕ) → Laid slots free game freed Empty → Ways path game → k < wide (under_at path game) → length slots ≤ 1000001
     → height (plain noted game) ≤ room → trail ≡ trail_at path 0 game
-    → (p t h : ℕ) → p ≡ number_at path 0 game → t ≡ last_of 0 (those_before k (under_at path game)) → h ≡ node_number 0 k (under_at path game)
-    → IsArena (with_next h free (unlinked p t h slots)) noted h p trail room
-    × (seen (with_next h free (unlinked p t h slots)) noted p ≡ edited (without_node k) noted game path path)
-deleted_from slots noted free k game freed path trail room laid ways one few deep te p t h ep et eh =
+    → (p h : ℕ) → p ≡ number_at path 0 game → h ≡ node_number 0 k (under_at path game)
+    → IsArena (with_next h free (unlinked p (last_of 0 (those_before k (under_at path game))) h slots)) noted h p trail room
+    × (seen (with_next h free (unlinked p (last_of 0 (those_before k (under_at path game))) h slots)) noted p ≡ edited (without_node k) noted game path path)
+deleted_from slots noted free k game freed path trail room laid ways one few deep te p h ep eh =
     let p0 = number_at path 0 game in
     let b = under_at path game in
     let t0 = last_of 0 (those_before k b) in
@@ -175,16 +175,16 @@ deleted_from slots noted free k game freed path trail room laid ways one few dee
       few = omega (arith, few, l, unlinked_length slots p0 t0 h0);
     } in
     let sight = seen_is new noted h0 p0 trail room a ∙ (λ j. record { root = record { move = no_move; nags = (noted 0).nags; comment = (noted 0).comment; below = below j }; path = path }) in
-    let goal = λ (x y z : ℕ). IsArena (with_next z free (unlinked x y z slots)) noted z x trail room × (seen (with_next z free (unlinked x y z slots)) noted x ≡ edited (without_node k) noted game path path) in
-    subst (λ (x : ℕ). goal x t h) (sym ep) (subst (λ (x : ℕ). goal p0 x h) (sym et) (subst (λ (x : ℕ). goal p0 t0 x) (sym eh) (a, sight)))
+    let goal = λ (x z : ℕ). IsArena (with_next z free (unlinked x t0 z slots)) noted z x trail room × (seen (with_next z free (unlinked x t0 z slots)) noted x ≡ edited (without_node k) noted game path path) in
+    subst (λ (x : ℕ). goal x h) (sym ep) (subst (goal p0) (sym eh) (a, sight))
 
 -- PROMOTED
 pub promoted_from : (slots : List Slot) (noted : ℕ → Noted) (free k : ℕ) (game freed : Grove) (path trail : List ℕ) (room : ℕ) → Laid slots free game freed Empty → Ways path game → k < wide (under_at path game) → length slots ≤ 1000001
     → height (plain noted game) ≤ room → trail ≡ trail_at path 0 game ++ node_number 0 k (under_at path game) ∷ []
-    → (p t h : ℕ) → p ≡ number_at path 0 game → t ≡ last_of 0 (those_before k (under_at path game)) → h ≡ node_number 0 k (under_at path game)
-    → IsArena (hung_first p h (unlinked p t h slots)) noted free h trail room
-    × (seen (hung_first p h (unlinked p t h slots)) noted h ≡ edited (promoted k) noted game path (path ++ 0 ∷ []))
-promoted_from slots noted free k game freed path trail room laid ways one few deep te p t h ep et eh =
+    → (p h : ℕ) → p ≡ number_at path 0 game → h ≡ node_number 0 k (under_at path game)
+    → IsArena (hung_first p h (unlinked p (last_of 0 (those_before k (under_at path game))) h slots)) noted free h trail room
+    × (seen (hung_first p h (unlinked p (last_of 0 (those_before k (under_at path game))) h slots)) noted h ≡ edited (promoted k) noted game path (path ++ 0 ∷ []))
+promoted_from slots noted free k game freed path trail room laid ways one few deep te p h ep eh =
     let p0 = number_at path 0 game in
     let b = under_at path game in
     let t0 = last_of 0 (those_before k b) in
@@ -218,5 +218,5 @@ promoted_from slots noted free k game freed path trail room laid ways one few de
       few = omega (arith, few, laid2.all, off.0.all, size_change c path game1 was.0, unlinked_length slots p0 t0 h0);
     } in
     let sight = seen_is (hung_first p0 h0 mid) noted free h0 trail room a ∙ (λ j. record { root = record { move = no_move; nags = (noted 0).nags; comment = (noted 0).comment; below = below j }; path = path ++ 0 ∷ [] }) in
-    let goal = λ (x y z : ℕ). IsArena (hung_first x z (unlinked x y z slots)) noted free z trail room × (seen (hung_first x z (unlinked x y z slots)) noted z ≡ edited (promoted k) noted game path (path ++ 0 ∷ [])) in
-    subst (λ (x : ℕ). goal x t h) (sym ep) (subst (λ (x : ℕ). goal p0 x h) (sym et) (subst (λ (x : ℕ). goal p0 t0 x) (sym eh) (a, sight)))
+    let goal = λ (x z : ℕ). IsArena (hung_first x z (unlinked x t0 z slots)) noted free z trail room × (seen (hung_first x z (unlinked x t0 z slots)) noted z ≡ edited (promoted k) noted game path (path ++ 0 ∷ [])) in
+    subst (λ (x : ℕ). goal x h) (sym ep) (subst (goal p0) (sym eh) (a, sight))

@@ -9,7 +9,7 @@ use Rattle.chess_tree.specs.steps.Grove.{Grove, Empty, Tree, tally, times, size,
 use Rattle.chess_tree.specs.steps.Linked.{Linked, Owns}
 use Rattle.chess_tree.specs.steps.Laid.{Laid, look, uses, Same}
 use Rattle.chess_tree.specs.steps.Writes.{hung_first, hung_last, taken, unlinked, with_next}
-use Rattle.chess_tree.proofs.TimesLemmas.{tally_same, times_at, times_under, at_le, times_join, size_join, times_tail, parted}
+use Rattle.chess_tree.proofs.TimesLemmas.{last_below, tally_same, times_at, times_under, at_le, times_join, size_join, times_tail, parted}
 use Rattle.chess_tree.proofs.LinkLemmas.{NextIs, linked_parts}
 use Rattle.chess_tree.proofs.SeenLemmas.{once_at_most}
 use Rattle.chess_tree.proofs.WriteLemmas.{Unlinks, Fronts, unlinked_is, hung_last_is, hung_first_is, if_none, if_some, next_is, look_set_other}
@@ -22,11 +22,9 @@ apart j i g w h q = let one : tally j i ≡ 1 = subst (λ (y : ℕ). tally j y �
 pub in_range : (slots : List Slot) (free : ℕ) (game freed spare : Grove) → Laid slots free game freed spare → (j : ℕ) → 0 < uses j game freed spare → j < length slots
 in_range slots free game freed spare k j h = elim (cases_lt j (length slots)) [ inl w ↦ w | inr w ↦ (let no : uses j game freed spare ≡ 0 = k.none j w in absurd (omega (arith, no, h))) ]
 
-pub tail_range : (slots : List Slot) (free : ℕ) (game freed spare : Grove) → Laid slots free game freed spare → (f : Grove) → ((j : ℕ) → times j f ≤ times j game) → last_of 0 f < length slots
-tail_range slots free game freed spare k Empty h = omega (arith, k.all)
-tail_range slots free game freed spare k (Tree i m below next) h =
-    let t = last_of 0 (Tree i m below next) in
-    in_range slots free game freed spare k t (omega (arith, h t, times_tail (Tree i m below next) 0 (omega arith)))
+pub tail_range : (slots : List Slot) (free : ℕ) (game freed spare : Grove) → Laid slots free game freed spare → (f : Grove) → ((j : ℕ) → times j f ≤ uses j game freed spare)
+    → last_of 0 f < length slots
+tail_range slots free game freed spare k f h = last_below (length slots) f (omega (arith, k.all)) (λ j w. in_range slots free game freed spare k j (omega (arith, w, h j)))
 
 tail_in : (f : Grove) → 0 < last_of 0 f → 0 < times (last_of 0 f) f
 tail_in Empty h = absurd (omega (arith, h))
@@ -87,7 +85,7 @@ hung_last_laid slots free n m u game freed path laid ways branch =
     let own = linked_at (look slots) path 0 game ways laid.root laid.linked in
     let t_ne : 0 < t → p ≢ t = λ w q. apart t p b (omega (arith, once t)) (tail_in b w) (sym q) in
     let s = hung_last_is slots p n t (sym own.0.last_is) (in_range slots free game freed (Tree n m u Empty) laid p (omega (arith, times_at path 0 game ways)))
-    (tail_range slots free game freed (Tree n m u Empty) laid b in_game) t_ne in
+    (tail_range slots free game freed (Tree n m u Empty) laid b (λ j. omega (arith, in_game j))) t_ne in
     let chain = hang_last_chain (look slots) (look new) p n m b u once zero_out own.0 own.1 branch s.0.same s.0.prior s.0.first0 s.0.first1 s.1 in
     edit_laid slots new free game freed (Tree n m u Empty) Empty (λ g. join g (Tree n m u Empty)) path s.0.length_is laid ways
     (λ j ne no _. s.0.same j ne (λ w q. let two : 0 < times j b = subst (λ (y : ℕ). 0 < times y b) (sym q) (tail_in b w) in omega (arith, no, two)))

@@ -4,7 +4,7 @@ use Rattle.std.proofs.lemmas.Bool.{cases_lt}
 use Rattle.chess_tree.specs.declared.arena.slot.Slot.{Slot}
 use Rattle.chess_tree.specs.steps.Grove.{Grove, Empty, Tree, tally, times, size, wide, first_of, last_of, node_number, under, those_before, those_after, grove_move, plain, under_at, number_at, Ways}
 use Rattle.chess_tree.specs.steps.Laid.{Laid, look, Same}
-use Rattle.chess_tree.specs.steps.Siblings.{above, Child, Owner}
+use Rattle.chess_tree.specs.steps.Siblings.{above, Child, IsChild, IsPrior, Owner}
 use Rattle.chess_types.specs.board.MoveParts.{MoveParts}
 use Rattle.chess_tree.specs.Forest.{child}
 use Rattle.chess_tree.specs.GameTree.{find, is_move}
@@ -12,7 +12,7 @@ use Rattle.chess_tree.specs.steps.Rooted.{Held, Noted, shown}
 use Rattle.std.specs.Prelude.{option_map}
 use Rattle.chess_tree.proofs.FindLemmas.{find_here, find_none, find_on, from}
 use Rattle.chess_tree.proofs.GroveLemmas.{wide_plain}
-use Rattle.chess_tree.proofs.TimesLemmas.{tally_same, times_at, times_number, times_under}
+use Rattle.chess_tree.proofs.TimesLemmas.{last_below, tally_same, times_at, times_before, times_number, times_under}
 use Rattle.chess_tree.proofs.LinkLemmas.{linked_one}
 use Rattle.chess_tree.proofs.SeenLemmas.{once_at_most}
 use Rattle.chess_tree.proofs.LaidLemmas.{linked_at}
@@ -83,6 +83,18 @@ walk_wide slots at g o = omega (arith, wide_le g, o.few)
 
 pub walk_some : (slots : List Slot) (at k : ℕ) (g : Grove) → Owner slots at g → k < wide g → 0 < node_number 0 k g
 walk_some slots at k g o h = number_some k g o.no_root h
+
+-- the numbers of a child and of the one before it are the vector's
+pub child_range : (slots : List Slot) (at child : ℕ) → IsChild slots at child → child < length slots
+child_range slots at child is =
+    walk_range slots at is.1 child is.0 is.2.owner is.2.is (omega (arith, walk_some slots at is.1 is.0 is.2.owner is.2.place, is.2.is))
+
+pub prior_range : (slots slice : List Slot) (at child prior : ℕ) → slice ≡ slots → at ≡ (look slots child).parent → IsChild slots (look slots child).parent child
+    → IsPrior slice at child prior → prior < length slots
+prior_range slots slice at child prior s e is of_it =
+    let o = is.2.owner in
+    let last = last_below (length slots) (those_before is.1 is.0) (omega (arith, o.there)) (λ j h. o.range j (omega (arith, h, times_before j is.1 is.0))) in
+    omega (arith, last, subst (λ (x : ℕ). IsPrior slots x child prior) e (subst (λ (x : List Slot). IsPrior x at child prior) s of_it) is.0 is.1 is.2)
 
 -- different places, different numbers
 number_apart : (j k : ℕ) (g : Grove) → ((x : ℕ) → times x g ≤ 1) → j < k → k < wide g → node_number 0 j g ≢ node_number 0 k g

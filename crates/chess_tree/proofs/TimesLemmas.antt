@@ -32,6 +32,11 @@ times_tail Empty d h = absurd (omega arith)
 times_tail (Tree i m below Empty) d h = omega (arith, tally_same i)
 times_tail (Tree i m below (Tree j n b next)) d h = omega (arith, times_tail (Tree j n b next) i (omega arith))
 
+-- a bound of each of them, and of 0, is one of the last
+pub last_below : (n : ℕ) (g : Grove) → 0 < n → ((j : ℕ) → 0 < times j g → j < n) → last_of 0 g < n
+last_below n Empty some h = some
+last_below n (Tree i m below next) some h = h (last_of 0 (Tree i m below next)) (times_tail (Tree i m below next) 0 (omega arith))
+
 -- one of them, those before it and those after it
 pub parted : (k : ℕ) (g : Grove) (d : ℕ) → k < wide g → g ≡ join (those_before k g) (Tree (node_number d k g) (grove_move k g) (under k g) (those_after k g))
 parted k Empty d h = absurd (omega arith)
@@ -72,6 +77,11 @@ pub times_number : (d k : ℕ) (g : Grove) (j : ℕ) → k < wide g → tally j 
 times_number d k Empty j h = absurd (omega arith)
 times_number d zero (Tree i m below next) j h = omega arith
 times_number d (suc k) (Tree i m below next) j h = omega (arith, times_number d k next j (omega arith))
+
+pub times_before : (j k : ℕ) (g : Grove) → times j (those_before k g) ≤ times j g
+times_before j k Empty = omega arith
+times_before j zero (Tree i m below next) = omega arith
+times_before j (suc k) (Tree i m below next) = omega (arith, times_before j k next)
 
 pub times_below : (j k : ℕ) (g : Grove) → times j (under k g) ≤ times j g
 times_below j k Empty = omega arith

@@ -7,8 +7,9 @@ use Rattle.std.proofs.lemmas.List.{at_drop_more}
 use Rattle.std.proofs.lemmas.Option.{none-some}
 use Rattle.chess_tree.specs.Forest.{Forest, Bare, Node, NodeParts, below_at, below_child, child, count}
 use Rattle.chess_tree.specs.Edits.{parent}
-use Rattle.chess_tree.specs.GameTree.{TreeParts, at_path, has, main_line}
+use Rattle.chess_tree.specs.GameTree.{TreeParts, at_path, has, line_to, main_line, moves_along, nodes_here}
 use Rattle.chess_tree.specs.WellFormed.{Leads}
+use Rattle.chess_tree.proofs.LineLemmas.{along_append}
 
 -- ---- whether a path leads to a node
 
@@ -89,43 +90,40 @@ main_none (Node m nags comment below next) h = absurd (omega arith)
 stepped : (path : List ℕ) (f : Forest) → 0 < count (below_at path f) → main_line (below_at path f) ≡ 0 ∷ main_line (below_at (path ++ 0 ∷ []) f)
 stepped path f h = main_on (below_at path f) h ∙ ap (λ (x : Forest). 0 ∷ main_line x) (sym (below_at_on path 0 f))
 
-pub first_smaller : {E : Type 0} (r : Result (Unit {0}) E) (Q : E → Type 0) (old new : TreeParts) → is_ok r ≡ true
-    → OnOk r (new ≡ at_path (old.path ++ 0 ∷ []) old)
-    → MatchResult r (λ _. 0 < count (below_at old.path old.tree.below)) Q → length (main_line (below_at new.path new.tree.below)) < length (main_line (below_at old.path old.tree.below))
-first_smaller (Ok x) Q old new is ok some =
-    omega (arith, ap (λ (t : TreeParts). length (main_line (below_at t.path t.tree.below))) ok, ap length (stepped old.path old.tree.below some))
-first_smaller (Err x) Q old new is ok some = absurd (false≢true is)
+-- on the way from `start` to the end
+pub record Ending (start now : TreeParts) : Type 0 where
+  pub tree : now.tree ≡ start.tree
+  pub path : now.path ++ main_line (nodes_here now) ≡ start.path ++ main_line (nodes_here start)
 
-pub first_keeps : {E : Type 0} (r : Result (Unit {0}) E) (Q : E → Type 0) (old new : TreeParts) (goal : List ℕ) → is_ok r ≡ true
-    → OnOk r (new ≡ at_path (old.path ++ 0 ∷ []) old)
-    → MatchResult r (λ _. 0 < count (below_at old.path old.tree.below)) Q → old.path ++ main_line (below_at old.path old.tree.below) ≡ goal
-    → (new.tree ≡ old.tree) × (new.path ++ main_line (below_at new.path new.tree.below) ≡ goal)
-first_keeps (Ok x) Q old new goal is ok some e =
-    let path : new.path ++ main_line (below_at new.path new.tree.below) ≡ (old.path ++ 0 ∷ []) ++ main_line (below_at (old.path ++ 0 ∷ []) old.tree.below) =
-    ap (λ (t : TreeParts). t.path ++ main_line (below_at t.path t.tree.below)) ok in (
-      ap (λ (t : TreeParts). t.tree) ok,
-      path ∙ append_assoc old.path (0 ∷ []) (main_line (below_at (old.path ++ 0 ∷ []) old.tree.below)) ∙ ap (λ (p : List ℕ). old.path ++ p) (sym (stepped old.path old.tree.below some)) ∙ e,
+-- a step to child 0 stays on it, and less is left
+pub ending_on : {E : Type 0} (r : Result (Unit {0}) E) (F : E → Type 0) (start old new : TreeParts) (place : ℕ) → is_ok r ≡ true
+    → OnOk r (new ≡ at_path (old.path ++ place ∷ []) old)
+    → MatchResult r (λ _. place < count (nodes_here old)) (λ fault. F fault × (count (nodes_here old) ≤ place)) → place ≡ 0 → Ending start old
+    → (length (main_line (nodes_here new)) < length (main_line (nodes_here old))) × Ending start new
+ending_on (Ok x) F start old new place is ok some zeroth so =
+    let step : new ≡ at_path (old.path ++ 0 ∷ []) old = subst (λ (k : ℕ). new ≡ at_path (old.path ++ k ∷ []) old) zeroth ok in
+    let left = stepped old.path old.tree.below (omega (arith, some, zeroth)) in (
+      omega (arith, ap (λ (t : TreeParts). length (main_line (nodes_here t))) step, ap length left),
+      record {
+        tree = ap (λ (t : TreeParts). t.tree) step ∙ so.tree;
+        path = ap (λ (t : TreeParts). t.path ++ main_line (nodes_here t)) step
+            ∙ append_assoc old.path (0 ∷ []) (main_line (below_at (old.path ++ 0 ∷ []) old.tree.below)) ∙ ap (λ (p : List ℕ). old.path ++ p) (sym left) ∙ so.path;
+      },
     )
-first_keeps (Err x) Q old new goal is ok some e = absurd (false≢true is)
+ending_on (Err x) F start old new place is ok some zeroth so = absurd (false≢true is)
 
-pub first_ends : {E : Type 0} (r : Result (Unit {0}) E) (P : Type 0) (F : E → Type 0) (start old new : TreeParts) (goal : List ℕ) → is_ok r ≡ false
+-- where there is no child 0, it ends
+pub ending_there : {E : Type 0} (r : Result (Unit {0}) E) (F : E → Type 0) (start old new : TreeParts) (place : ℕ) → is_ok r ≡ false
     → OnErr r (new ≡ old)
-    → MatchResult r (λ _. P) (λ fault. F fault × (count (below_at old.path old.tree.below) ≡ 0)) → old.tree ≡ start.tree → old.path ++ main_line (below_at old.path old.tree.below) ≡ goal → new ≡ at_path goal start
-first_ends (Ok x) P F start old new goal is err none tree e = absurd (false≢true (sym is))
-first_ends (Err x) P F start old new goal is err none tree e =
-    let last : old.path ++ main_line (below_at old.path old.tree.below) ≡ old.path = ap (λ (p : List ℕ). old.path ++ p) (main_none (below_at old.path old.tree.below) none.1) ∙ append-nil old.path in
-    let path : old.path ≡ goal = sym last ∙ e in
-    err ∙ (λ i. record { tree = tree i; path = path i })
-
--- a step to the child at place 0, by what a step tells
-pub first_ok : {E : Type 0} (r : Result (Unit {0}) E) (old new : TreeParts) (place : ℕ) → OnOk r (new ≡ at_path (old.path ++ place ∷ []) old) → place ≡ 0
-    → OnOk r (new ≡ at_path (old.path ++ 0 ∷ []) old)
-first_ok r old new place ok zeroth = subst (λ (k : ℕ). OnOk r (new ≡ at_path (old.path ++ k ∷ []) old)) zeroth ok
-
-pub first_none : {E : Type 0} (r : Result (Unit {0}) E) (F : E → Type 0) (n place : ℕ) → MatchResult r (λ _. place < n) (λ fault. F fault × (n ≤ place)) → place ≡ 0
-    → MatchResult r (λ _. 0 < n) (λ fault. F fault × (n ≡ 0))
-first_none (Ok x) F n place some zeroth = omega (arith, some, zeroth)
-first_none (Err x) F n place none zeroth = (none.0, omega (arith, none.1, zeroth))
+    → MatchResult r (λ _. place < count (nodes_here old)) (λ fault. F fault × (count (nodes_here old) ≤ place)) → place ≡ 0 → Ending start old
+    → (new ≡ at_path (start.path ++ main_line (nodes_here start)) start)
+    × ((line_to new).moves ≡ (line_to start).moves ++ moves_along (main_line (nodes_here start)) (nodes_here start))
+ending_there (Ok x) F start old new place is err none zeroth so = absurd (false≢true (sym is))
+ending_there (Err x) F start old new place is err none zeroth so =
+    let last = main_none (nodes_here old) (omega (arith, none.1, zeroth)) in
+    let path : old.path ≡ start.path ++ main_line (nodes_here start) = sym (ap (λ (p : List ℕ). old.path ++ p) last ∙ append-nil old.path) ∙ so.path in
+    let there = err ∙ (λ i. record { tree = so.tree i; path = path i }) in
+    (there, ap (λ (t : TreeParts). (line_to t).moves) there ∙ along_append start.path (main_line (nodes_here start)) start.tree.below)
 
 -- where there is a node, the path leads to it
 pub has_leads : (path : List ℕ) (f : Forest) → has path f ≡ true → Leads path f

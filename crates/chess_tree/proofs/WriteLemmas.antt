@@ -58,6 +58,11 @@ if_none t x y h = let test : (t == 0) ≡ true = grind arith in rw test
 pub if_some : {T : Type 0} (t : ℕ) (x y : T) → 0 < t → (if t == 0 then x else y) ≡ y
 if_some t x y h = let test : (t == 0) ≡ false = grind arith in rw test
 
+-- what holds either way holds of the choice
+pub by_zero : {T : Type 0} (P : T → Type 0) (t : ℕ) (x y : T) → (t ≡ 0 → P x) → (0 < t → P y) → P (if t == 0 then x else y)
+by_zero P t x y none some =
+    elim (cases_lt 0 t) [ inl h ↦ subst P (sym (if_some t x y h)) (some h) | inr h ↦ (let e : t ≡ 0 = omega (arith, h) in subst P (sym (if_none t x y e)) (none e)) ]
+
 bridges_none : (slots : List Slot) (p t n : ℕ) → p < length slots → t ≡ 0 → Bridges slots (with_first p n slots) p t n
 bridges_none slots p t n hp none =
     record {
@@ -80,11 +85,7 @@ bridges_some slots p t n ht ne some =
 
 pub bridges : (slots : List Slot) (p t n : ℕ) → p < length slots → t < length slots → (0 < t → p ≢ t) → Bridges slots (bridged p t n slots) p t n
 bridges slots p t n hp ht ne =
-    elim (cases_lt 0 t) [
-      | inl h ↦ subst (λ (new : List Slot). Bridges slots new p t n) (sym (if_some t (with_first p n slots) (with_next t n slots) h)) (bridges_some slots p t n ht (ne h) h)
-      | inr h ↦ (let none : t ≡ 0 = omega (arith, h) in
-          subst (λ (new : List Slot). Bridges slots new p t n) (sym (if_none t (with_first p n slots) (with_next t n slots) none)) (bridges_none slots p t n hp none))
-    ]
+    by_zero (λ (new : List Slot). Bridges slots new p t n) t (with_first p n slots) (with_next t n slots) (bridges_none slots p t n hp) (λ h. bridges_some slots p t n ht (ne h) h)
 
 -- what the parent and the others are after a child was unlinked, or a branch hung
 pub record Unlinks (slots new : List Slot) (p t n : ℕ) : Type 0 where
@@ -131,13 +132,9 @@ unlinked_is slots p t h hp ht ne =
     let mid = bridged p t n slots in
     let b = bridges slots p t n hp ht ne in
     let u = bridge_unlinks slots mid p t n b in
-    let goal = λ (new : List Slot). Unlinks slots new p t n × (n ≡ 0 → (look new p).last ≡ t) × (0 < n → (look new p).last ≡ (look slots p).last) in
-    elim (cases_lt 0 n) [
-      | inl w ↦ subst goal (sym (if_some n (with_last p t mid) mid w)) (u, (λ q. absurd (omega (arith, q, w))), λ _. (both slots mid p t n b).1)
-      | inr w ↦ (let none : n ≡ 0 = omega (arith, w) in
-          subst goal (sym (if_none n (with_last p t mid) mid none))
-          (with_last_unlinks slots mid p t n t hp ne u, (λ _. last_at mid p t (omega (arith, b.length_is, hp))), λ q. absurd (omega (arith, q, none))))
-    ]
+    by_zero (λ (new : List Slot). Unlinks slots new p t n × (n ≡ 0 → (look new p).last ≡ t) × (0 < n → (look new p).last ≡ (look slots p).last)) n (with_last p t mid) mid
+    (λ none. (with_last_unlinks slots mid p t n t hp ne u, (λ _. last_at mid p t (omega (arith, b.length_is, hp))), λ q. absurd (omega (arith, q, none))))
+    (λ w. (u, (λ q. absurd (omega (arith, q, w))), λ _. (both slots mid p t n b).1))
 
 -- HUNG LAST, written; `t` is the last child
 pub hung_last_is : (slots : List Slot) (p n t : ℕ) → t ≡ (look slots p).last → p < length slots → t < length slots → (0 < t → p ≢ t)
@@ -159,47 +156,23 @@ pub record Fronts (slots new : List Slot) (p n f t : ℕ) : Type 0 where
   pub last0 : t ≡ 0 → (look new p).last ≡ n
   pub last1 : 0 < t → (look new p).last ≡ (look slots p).last
 
-fronts_none : (slots : List Slot) (p n f t : ℕ) → p < length slots → n < length slots → p ≢ n → t ≡ 0
-    → Fronts slots (with_first p n (with_last p n (with_next n f slots))) p n f t
-fronts_none slots p n f t hp hn ne none =
-    let s1 = with_next n f slots in
-    let l1 : length s1 ≡ length slots = length-set slots n (record (look slots n) { next = f }) in
-    let s2 = with_last p n s1 in
-    let l2 : length s2 ≡ length s1 = length-set s1 p (record (look s1 p) { last = n }) in
-    let s3 = with_first p n s2 in
-    let l3 : length s3 ≡ length s2 = length-set s2 p (record (look s2 p) { first = n }) in
-    let b1 = below_other slots slots p n (look slots p).first (look slots p).last (record (look slots n) { next = f }) ne (below_same (look slots p)) in
-    let b2 = below_last slots s1 p (look slots p).first (look slots p).last n (omega (arith, l1, hp)) b1 in
-    let b3 = below_first slots s2 p (look slots p).first n n (omega (arith, l1, l2, hp)) b2 in
-    let off : (j : ℕ) → j ≢ p → look s3 j ≡ look s1 j = λ j h. look_other s2 p j (record (look s2 p) { first = n }) h ∙ look_other s1 p j (record (look s1 p) { last = n }) h in
+-- from what is written before the first child: the last one is `l`
+fronts_from : (slots mid : List Slot) (p n f l t : ℕ) → p < length slots → n < length slots → p ≢ n → length mid ≡ length (with_next n f slots)
+    → ((j : ℕ) → j ≢ p → look mid j ≡ look (with_next n f slots) j) → Below (look slots p) (look mid p) (look slots p).first l
+    → (t ≡ 0 → l ≡ n) → (0 < t → l ≡ (look slots p).last) → Fronts slots (with_first p n mid) p n f t
+fronts_from slots mid p n f l t hp hn ne same_length same b none some =
+    let new = with_first p n mid in
+    let at_first : length mid ≡ length slots = same_length ∙ length-set slots n (record (look slots n) { next = f }) in
+    let on = below_first slots mid p (look slots p).first l n (omega (arith, at_first, hp)) b in
+    let off : (j : ℕ) → j ≢ p → look new j ≡ look (with_next n f slots) j = λ j h. look_other mid p j (record (look mid p) { first = n }) h ∙ same j h in
     record {
-      length_is = l3 ∙ l2 ∙ l1;
+      length_is = length-set mid p (record (look mid p) { first = n }) ∙ at_first;
       same = λ j h w. off j h ∙ look_other slots n j (record (look slots n) { next = f }) w;
       next = subst (λ (s : Slot). NextIs (look slots n) s f) (sym (off n (λ q. ne (sym q)))) (next_is slots n f hn);
-      stays = b3.stays;
-      first_is = b3.first_is;
-      last0 = λ _. b3.last_is;
-      last1 = λ h. absurd (omega (arith, h, none));
-    }
-
-fronts_some : (slots : List Slot) (p n f t : ℕ) → p < length slots → n < length slots → p ≢ n → 0 < t
-    → Fronts slots (with_first p n (with_next n f slots)) p n f t
-fronts_some slots p n f t hp hn ne some =
-    let s1 = with_next n f slots in
-    let l1 : length s1 ≡ length slots = length-set slots n (record (look slots n) { next = f }) in
-    let s3 = with_first p n s1 in
-    let l3 : length s3 ≡ length s1 = length-set s1 p (record (look s1 p) { first = n }) in
-    let b1 = below_other slots slots p n (look slots p).first (look slots p).last (record (look slots n) { next = f }) ne (below_same (look slots p)) in
-    let b3 = below_first slots s1 p (look slots p).first (look slots p).last n (omega (arith, l1, hp)) b1 in
-    let off : (j : ℕ) → j ≢ p → look s3 j ≡ look s1 j = λ j h. look_other s1 p j (record (look s1 p) { first = n }) h in
-    record {
-      length_is = l3 ∙ l1;
-      same = λ j h w. off j h ∙ look_other slots n j (record (look slots n) { next = f }) w;
-      next = subst (λ (s : Slot). NextIs (look slots n) s f) (sym (off n (λ q. ne (sym q)))) (next_is slots n f hn);
-      stays = b3.stays;
-      first_is = b3.first_is;
-      last0 = λ h. absurd (omega (arith, h, some));
-      last1 = λ _. b3.last_is;
+      stays = on.stays;
+      first_is = on.first_is;
+      last0 = λ h. on.last_is ∙ none h;
+      last1 = λ h. on.last_is ∙ some h;
     }
 
 -- HUNG FIRST, written
@@ -208,11 +181,13 @@ pub hung_first_is : (slots : List Slot) (p n : ℕ) → p < length slots → n <
 hung_first_is slots p n hp hn ne =
     let t = (look slots p).last in
     let f = (look slots p).first in
-    elim (cases_lt 0 t) [
-      | inl h ↦ subst (λ (new : List Slot). Fronts slots new p n f t) (sym (if_some t (with_first p n (with_last p n (with_next n f slots))) (with_first p n (with_next n f slots)) h)) (fronts_some slots p n f t hp hn ne h)
-      | inr h ↦ (let none : t ≡ 0 = omega (arith, h) in
-          subst (λ (new : List Slot). Fronts slots new p n f t) (sym (if_none t (with_first p n (with_last p n (with_next n f slots))) (with_first p n (with_next n f slots)) none)) (fronts_none slots p n f t hp hn ne none))
-    ]
+    let s = with_next n f slots in
+    let b = below_other slots slots p n f t (record (look slots n) { next = f }) ne (below_same (look slots p)) in
+    let at : p < length s = omega (arith, length-set slots n (record (look slots n) { next = f }), hp) in
+    by_zero (λ (new : List Slot). Fronts slots new p n f t) t (with_first p n (with_last p n s)) (with_first p n s)
+    (λ none. fronts_from slots (with_last p n s) p n f n t hp hn ne (length-set s p (record (look s p) { last = n }))
+    (λ j h. look_other s p j (record (look s p) { last = n }) h) (below_last slots s p f t n at b) (λ _. refl) (λ h. absurd (omega (arith, h, none))))
+    (λ some. fronts_from slots s p n f t t hp hn ne refl (λ j h. refl) b (λ h. absurd (omega (arith, h, some))) (λ _. refl))
 
 pub look_set : (slots : List Slot) (at : ℕ) (s : Slot) → at < length slots → look (set slots at s) at ≡ s
 look_set slots at s h = look_same slots at s h
@@ -222,26 +197,19 @@ look_set_other slots at j s h = look_other slots at j s h
 
 pub taken_length : (slots : List Slot) (free : ℕ) → length (taken free slots) ≡ length slots
 taken_length slots free =
-    let x = (look slots free).first in
     let t = (look slots free).last in
     let n = (look slots free).next in
-    elim (cases_lt 0 x) [
-      | inl h ↦ ap length (if_some x slots (with_next t n slots) h) ∙ length-set slots t (record (look slots t) { next = n })
-      | inr h ↦ (let none : x ≡ 0 = omega (arith, h) in ap length (if_none x slots (with_next t n slots) none))
-    ]
+    by_zero (λ (new : List Slot). length new ≡ length slots) (look slots free).first slots (with_next t n slots) (λ _. refl)
+    (λ _. length-set slots t (record (look slots t) { next = n }))
 
 bridged_length : (slots : List Slot) (p t n : ℕ) → length (bridged p t n slots) ≡ length slots
 bridged_length slots p t n =
-    elim (cases_lt 0 t) [
-      | inl h ↦ ap length (if_some t (with_first p n slots) (with_next t n slots) h) ∙ length-set slots t (record (look slots t) { next = n })
-      | inr h ↦ (let none : t ≡ 0 = omega (arith, h) in ap length (if_none t (with_first p n slots) (with_next t n slots) none) ∙ length-set slots p (record (look slots p) { first = n }))
-    ]
+    by_zero (λ (new : List Slot). length new ≡ length slots) t (with_first p n slots) (with_next t n slots)
+    (λ _. length-set slots p (record (look slots p) { first = n })) (λ _. length-set slots t (record (look slots t) { next = n }))
 
 pub unlinked_length : (slots : List Slot) (p t h : ℕ) → length (unlinked p t h slots) ≡ length slots
 unlinked_length slots p t h =
     let n = (look slots h).next in
     let mid = bridged p t n slots in
-    elim (cases_lt 0 n) [
-      | inl w ↦ ap length (if_some n (with_last p t mid) mid w) ∙ bridged_length slots p t n
-      | inr w ↦ (let none : n ≡ 0 = omega (arith, w) in ap length (if_none n (with_last p t mid) mid none) ∙ length-set mid p (record (look mid p) { last = t }) ∙ bridged_length slots p t n)
-    ]
+    by_zero (λ (new : List Slot). length new ≡ length slots) n (with_last p t mid) mid
+    (λ _. length-set mid p (record (look mid p) { last = t }) ∙ bridged_length slots p t n) (λ _. bridged_length slots p t n)

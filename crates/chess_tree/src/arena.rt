@@ -12,7 +12,7 @@ pub(crate) mod slot;
 
 use crate::node::NodeRef;
 use chess_types::Move;
-use links::{hang_first, hang_last, put, set_next, slot, unlink};
+use links::{hang_first, hang_last, put, set_next, slot};
 use notes::NoteMap;
 use slot::Slot;
 use std::alloc::{AllocError, Allocator};
@@ -193,9 +193,7 @@ impl<'a, A: Allocator> Arena<'a, A> {
         ensures { self.new ≡ deleted_root self.old }
     {
         let child = self.here;
-        let at = slot(self.slots.as_slice(), child).parent;
-        let before = siblings::prior(self.slots.as_slice(), at, child);
-        unlink(&mut self.slots, at, before, child);
+        let at = siblings::detach(&mut self.slots, child);
         set_next(&mut self.slots, child, self.free);
         self.free = child;
         let Some(_gone) = self.trail.pop() else {
@@ -210,9 +208,7 @@ impl<'a, A: Allocator> Arena<'a, A> {
         ensures { self.new ≡ promoted_root self.old }
     {
         let child = self.here;
-        let at = slot(self.slots.as_slice(), child).parent;
-        let before = siblings::prior(self.slots.as_slice(), at, child);
-        unlink(&mut self.slots, at, before, child);
+        let at = siblings::detach(&mut self.slots, child);
         hang_first(&mut self.slots, at, child);
     }
 

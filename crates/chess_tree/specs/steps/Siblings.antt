@@ -3,6 +3,7 @@
 --   Child    one of its children, and its place
 --   IsOwner, IsChild      there are such nodes
 --   IsPrior, IsPlace      the sibling before a child; its place
+--   IsDetached            a child is out of those of its parent
 --   above    the number before one on a trail
 --   IsAt, IsCount, IsFind      the child at a place; how many they are; the first one with a move
 use Rattle.std.specs.Prelude.{◌≡◌, ℕ, zero, suc, ◌<◌, ◌≤◌, List, length, Option}
@@ -14,6 +15,7 @@ use Rattle.chess_tree.specs.steps.Rooted.{Noted}
 use Rattle.chess_tree.specs.steps.Grove.{Grove, last_of, node_number, plain, size, those_before, times, wide}
 use Rattle.chess_tree.specs.steps.Linked.{Linked, Owns}
 use Rattle.chess_tree.specs.steps.Laid.{look, Same}
+use Rattle.chess_tree.specs.steps.Writes.{unlinked}
 
 -- the nodes below one of the vector's
 pub record Owner (slots : List Slot) (at : ℕ) (below : Grove) : Type 0 where
@@ -47,6 +49,11 @@ IsChild slots at child = (below : Grove) × (k : ℕ) × Child slots at child be
 -- the sibling before a child
 abbrev pub IsPrior : List Slot → ℕ → ℕ → ℕ → Type 0
 IsPrior slots at child prior = (below : Grove) (k : ℕ) → Child slots at child below k → prior ≡ last_of 0 (those_before k below)
+
+-- the child is out of those of its parent
+abbrev pub IsDetached : List Slot → ℕ → List Slot → Type 0
+IsDetached old child new =
+    (below : Grove) (k : ℕ) → Child old (look old child).parent child below k → new ≡ unlinked (look old child).parent (last_of 0 (those_before k below)) child old
 
 -- the place of a child
 abbrev pub IsPlace : List Slot → ℕ → ℕ → ℕ → Type 0

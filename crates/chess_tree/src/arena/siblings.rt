@@ -1,10 +1,12 @@
 ghost use Rattle.std.specs.Prelude.{◌≡◌, ◌≤◌, length};
 ghost use Rattle.chess_tree.specs.GameTree.{is_move};
-ghost use Rattle.chess_tree.specs.steps.Siblings.{above, IsAt, IsChild, IsCount, IsFind, IsOwner, IsPlace, IsPrior};
+ghost use Rattle.chess_tree.specs.steps.Laid.{look};
+ghost use Rattle.chess_tree.specs.steps.Siblings.{above, IsAt, IsChild, IsCount, IsDetached, IsFind, IsOwner, IsPlace, IsPrior};
 
-use super::links::slot;
+use super::links::{slot, unlink};
 use super::slot::Slot;
 use chess_types::Move;
+use std::alloc::Allocator;
 
 // Whether the moves are the same, promotion and all.
 #[tactic(auto, using(crate::proofs::FindLemmas::same_move))]
@@ -25,8 +27,8 @@ pub(crate) fn above(trail: &[u32], depth: usize) -> u32
     trail[depth - 1]
 }
 
-/// The sibling before a child of a node; 0 where it is the first.
-pub(crate) fn prior(slots: &[Slot], at: u32, child: u32) -> u32
+// The sibling before a child of a node; 0 where it is the first.
+fn prior(slots: &[Slot], at: u32, child: u32) -> u32
     requires { IsChild slots.now at child }
     ensures { IsPrior slots.now at child result }
 {
@@ -40,6 +42,19 @@ pub(crate) fn prior(slots: &[Slot], at: u32, child: u32) -> u32
         next = slot(slots, next).next;
     }
     prior
+}
+
+/// Takes a child out of those of its parent: the parent's number.
+pub(crate) fn detach<A: Allocator>(slots: &mut Vec<Slot, A>, child: u32) -> u32
+    requires { IsChild slots.old.items (look slots.old.items child).parent child }
+    ensures at { result ≡ (look slots.old.items child).parent }
+    ensures slots { IsDetached slots.old.items child slots.new.items }
+{
+    let links = slots.as_slice();
+    let at = slot(links, child).parent;
+    let before = prior(links, at, child);
+    unlink(slots, at, before, child);
+    at
 }
 
 /// The place of a child of a node.

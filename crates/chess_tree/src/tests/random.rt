@@ -110,16 +110,27 @@ fn grown<'l, A: Allocator>(
     Ok(out)
 }
 
+/// Runs of the list, one behind the other.
+fn runs_of<'l, A: Allocator>(
+    alloc: &'l A,
+    list: &[Entry],
+    runs: &[(usize, usize)],
+) -> Result<Vec<Entry, &'l A>, AllocError> {
+    let mut out = Vec::new(alloc);
+    for (from, end) in runs {
+        copy(&mut out, list, *from, *end)?;
+    }
+    Ok(out)
+}
+
 /// The list without a node and those below it.
 fn cut<'l, A: Allocator>(
     alloc: &'l A,
     list: &[Entry],
     at: usize,
 ) -> Result<Vec<Entry, &'l A>, AllocError> {
-    let mut out = Vec::new(alloc);
-    copy(&mut out, list, 0, at.saturating_sub(1))?;
-    copy(&mut out, list, all_below(list, at), list.len())?;
-    Ok(out)
+    let runs = [(0, at.saturating_sub(1)), (all_below(list, at), list.len())];
+    runs_of(alloc, list, &runs)
 }
 
 /// The list with a node in front of its siblings.
@@ -131,32 +142,8 @@ fn lifted<'l, A: Allocator>(
     let first = parent_of(list, at);
     let from = at.saturating_sub(1);
     let end = all_below(list, at);
-    let mut out = Vec::new(alloc);
-    copy(&mut out, list, 0, first)?;
-    copy(&mut out, list, from, end)?;
-    copy(&mut out, list, first, from)?;
-    copy(&mut out, list, end, list.len())?;
-    Ok(out)
-}
-
-/// The list with another note at a node.
-fn with_note<'l, A: Allocator>(
-    alloc: &'l A,
-    list: &[Entry],
-    at: usize,
-    note: u8,
-) -> Result<Vec<Entry, &'l A>, AllocError> {
-    let mut out = Vec::new(alloc);
-    copy(&mut out, list, 0, at.saturating_sub(1))?;
-    for entry in list.iter().take(at).skip(at.saturating_sub(1)) {
-        out.push(Entry {
-            depth: entry.depth,
-            played: entry.played,
-            note,
-        })?;
-    }
-    copy(&mut out, list, at, list.len())?;
-    Ok(out)
+    let runs = [(0, first), (from, end), (first, from), (end, list.len())];
+    runs_of(alloc, list, &runs)
 }
 
 /// Adds a move, where it is legal and the tree isn't too deep: whether it was added.
@@ -217,10 +204,11 @@ impl<'l, A: Allocator> Twins<'l, A> {
         Ok(())
     }
 
-    fn set_note(&mut self, alloc: &'l A, digit: u8) -> Result<(), TreeFault> {
+    fn set_note(&mut self, rt: &impl Abort, digit: u8) -> Result<(), TreeFault> {
         self.tree.set_comment(&[digit])?;
         if self.at > 0 {
-            self.list = with_note(alloc, &self.list, self.at, digit)?;
+            assert!(rt; self.at <= self.list.len());
+            self.list[self.at - 1].note = digit;
         }
         Ok(())
     }
@@ -255,7 +243,7 @@ impl<'l, A: Allocator> Twins<'l, A> {
                 Ok(())
             }
             11 | 12 => self.promote(alloc),
-            13 => self.set_note(alloc, b'0' + (pick % 10) as u8),
+            13 => self.set_note(rt, b'0' + (pick % 10) as u8),
             _ => self.thin_out(alloc, pick),
         }
     }

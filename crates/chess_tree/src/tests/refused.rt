@@ -12,21 +12,22 @@ use std::test::Fail;
 /// The comment of a few words, more than a small heap has room for.
 const LONG: &[u8] = b"a comment of some words that takes memory of its own";
 
-/// How many steps there are.
-const STEPS: u32 = 44;
+/// How many calls there are.
+const CALLS: u32 = 45;
 
-/// One step: a move, notes and a long comment, another move, and the path.
-fn grow_once<A: Allocator>(
+/// One of the calls that may want memory.
+fn a_call<A: Allocator>(
     rt: &impl Abort,
     tree: &mut Tree<'_, A>,
-    step: u32,
+    call: u32,
 ) -> Result<(), TreeFault> {
-    match step {
+    match call {
         0 => add(rt, tree, "e2e4"),
         1 => tree.set_comment(LONG),
-        2..=41 => tree.add_nag((step - 2) as u8),
+        2..=41 => tree.add_nag(7),
         42 => add(rt, tree, "e7e5"),
-        _ => is_path_found(tree),
+        43 => is_path_found(tree),
+        _ => tree.set_comment(b"another comment"),
     }
 }
 
@@ -38,15 +39,15 @@ fn is_path_found<A: Allocator>(tree: &Tree<'_, A>) -> Result<(), TreeFault> {
     }
 }
 
-/// Each step in turn.
+/// Each call in turn.
 fn grow_on<A: Allocator>(rt: &impl Abort, tree: &mut Tree<'_, A>) -> Result<u32, TreeFault> {
-    for step in 0..STEPS {
-        grow_once(rt, tree, step)?;
+    for call in 0..CALLS {
+        a_call(rt, tree, call)?;
     }
     Ok(tree.depth())
 }
 
-/// A tree with a move, notes and a long comment, on so little memory that a growth is refused.
+/// A tree with moves, notes and comments, on so little memory that a growth is refused.
 fn grow<A: Allocator>(rt: &impl Abort, alloc: &A) -> Result<u32, TreeFault> {
     let mut tree = begin(alloc)?;
     grow_on(rt, &mut tree)
@@ -153,25 +154,6 @@ fn an_empty_comment_takes_no_memory(rt: HostRuntime) -> Result<(), Fail> {
     Ok(())
 }
 
-/// How many calls there are.
-const CALLS: u32 = 25;
-
-/// One of the calls that may want memory.
-fn a_call<A: Allocator>(
-    rt: &impl Abort,
-    tree: &mut Tree<'_, A>,
-    call: u32,
-) -> Result<(), TreeFault> {
-    match call {
-        0 => add(rt, tree, "e2e4"),
-        1 => tree.set_comment(LONG),
-        2..=21 => tree.add_nag(7),
-        22 => add(rt, tree, "e7e5"),
-        23 => is_path_found(tree),
-        _ => tree.set_comment(b"another comment"),
-    }
-}
-
 /// What is compared: the depth, and the notes.
 fn seen<A: Allocator>(tree: &Tree<'_, A>) -> (u32, usize, usize) {
     let notes = tree.notes();
@@ -203,7 +185,7 @@ fn first_without(
     first_refused(rt, tree, 0)
 }
 
-const CALLED: &[Row] = &[Shows(Path(&[0, 0])), Does(Back), Shows(Nags(&[7; 20]))];
+const CALLED: &[Row] = &[Shows(Path(&[0, 0])), Does(Back), Shows(Nags(&[7; 40]))];
 
 /// Calls on a heap with so much room, until one is refused, and on from there once there is memory: whether one was.
 fn call_all(rt: &impl Abort, heap: &LocalHeap, room: usize) -> bool {

@@ -1,15 +1,12 @@
-use Rattle.std.proofs.Common.{◌≡◌, ap, ◌∙◌, arith}
+use Rattle.std.proofs.Common.{◌≡◌, ap, ◌∙◌}
 use Rattle.chess_types.specs.board.Position.{State}
 use Rattle.chess_types.specs.board.Lines.{last}
-use Rattle.chess_draws.proofs.LineLemmas.{here_last, clock_fits, number_fits}
+use Rattle.chess_draws.proofs.LineLemmas.{can_ask, here_last}
 use Rattle.chess_draws.proofs.AnswerLemmas.{status_is, claims_is}
 use Rattle.chess_draws.proofs.line.Line.claims.Goals as goal
 
-pub status_at-status-requires-clause-clock : goal.status_at-status-requires-clause-clock
-status_at-status-requires-clause-clock g c = omega (arith, clock_fits c.self.invariant)
-
-pub status_at-status-requires-clause-number : goal.status_at-status-requires-clause-number
-status_at-status-requires-clause-number g c = omega (arith, number_fits c.self.invariant)
+pub status_at-status-requires : goal.status_at-status-requires
+status_at-status-requires g c = can_ask c.self.invariant
 
 pub returns-clause-value : goal.returns-clause-value
 returns-clause-value g c =

@@ -1,4 +1,4 @@
-use Rattle.std.proofs.Common.{◌≡◌, Some, ap, ◌∙◌, arith}
+use Rattle.std.proofs.Common.{◌≡◌, Some, ap, ◌∙◌}
 use Rattle.chess_types.specs.declared.board.outcome.Claims.{Claims}
 use Rattle.chess_types.specs.board.Legal.{is_legal}
 use Rattle.chess_types.specs.board.Position.{State}
@@ -6,15 +6,12 @@ use Rattle.chess_types.specs.board.Lines.{Line, last, extended}
 use Rattle.chess_types.specs.board.Repetition.{repetitions}
 use Rattle.chess_types.specs.board.Outcome.{status}
 use Rattle.chess_draws.specs.LineParts.{LineParts}
-use Rattle.chess_draws.proofs.LineLemmas.{here_last, legal_last, clock_fits, number_fits}
+use Rattle.chess_draws.proofs.LineLemmas.{can_ask, here_last, legal_last}
 use Rattle.chess_draws.proofs.AnswerLemmas.{claims_with_is, claims_with_none}
 use Rattle.chess_draws.proofs.line.Line.claims_with.Goals as goal
 
-pub is_legal-requires-clause-clock : goal.is_legal-requires-clause-clock
-is_legal-requires-clause-clock g c = omega (arith, clock_fits c.self.invariant)
-
-pub is_legal-requires-clause-number : goal.is_legal-requires-clause-number
-is_legal-requires-clause-number g c = omega (arith, number_fits c.self.invariant)
+pub is_legal-requires : goal.is_legal-requires
+is_legal-requires g c = can_ask c.self.invariant
 
 pub returns-then-not-is_legal-clause-value : goal.returns-then-not-is_legal-clause-value
 returns-then-not-is_legal-clause-value g c =

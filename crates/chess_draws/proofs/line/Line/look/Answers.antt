@@ -1,16 +1,10 @@
 use Rattle.std.proofs.Common.{◌≡◌, ◌<◌, length, ap, arith}
 use Rattle.chess_draws.specs.LineParts.{LineParts}
-use Rattle.chess_draws.proofs.LineLemmas.{here_ends, here_last, legal_here, clock_fits, number_fits, played_after, held_looked, changed_there}
+use Rattle.chess_draws.proofs.LineLemmas.{can_step, here_ends, here_last, played_after, held_looked, changed_there}
 use Rattle.chess_draws.proofs.line.Line.look.Goals as goal
 
-pub step-ply-requires-clause-legal : goal.step-ply-requires-clause-legal
-step-ply-requires-clause-legal g c = legal_here c.self.invariant.line c.self.view_is c.args.m c.requires.legal
-
-pub step-ply-requires-clause-clock : goal.step-ply-requires-clause-clock
-step-ply-requires-clause-clock g c = omega (arith, clock_fits c.self.invariant)
-
-pub step-ply-requires-clause-number : goal.step-ply-requires-clause-number
-step-ply-requires-clause-number g c = omega (arith, number_fits c.self.invariant)
+pub step-ply-requires : goal.step-ply-requires
+step-ply-requires g c = can_step c.self.invariant c.self.view_is c.args.m c.requires.legal
 
 pub invariant_of-self : goal.invariant_of-self
 invariant_of-self g c =

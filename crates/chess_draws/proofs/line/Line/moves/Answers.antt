@@ -1,13 +1,10 @@
-use Rattle.std.proofs.Common.{ap, ◌∙◌, arith}
+use Rattle.std.proofs.Common.{ap, ◌∙◌}
 use Rattle.chess_types.specs.board.Legal.{legal_moves}
-use Rattle.chess_draws.proofs.LineLemmas.{here_last, clock_fits, number_fits}
+use Rattle.chess_draws.proofs.LineLemmas.{can_ask, here_last}
 use Rattle.chess_draws.proofs.line.Line.moves.Goals as goal
 
-pub moves-requires-clause-clock : goal.moves-requires-clause-clock
-moves-requires-clause-clock g c = omega (arith, clock_fits c.self.invariant)
-
-pub moves-requires-clause-number : goal.moves-requires-clause-number
-moves-requires-clause-number g c = omega (arith, number_fits c.self.invariant)
+pub moves-requires : goal.moves-requires
+moves-requires g c = can_ask c.self.invariant
 
 pub returns-clause-listed : goal.returns-clause-listed
 returns-clause-listed g c =

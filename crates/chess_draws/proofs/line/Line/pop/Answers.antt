@@ -1,13 +1,12 @@
-use Rattle.std.proofs.Common.{◌++◌, map, ap}
+use Rattle.std.proofs.Common.{◌++◌, map}
 use Rattle.chess_types.specs.board.Lines.{play}
-use Rattle.chess_draws.specs.LineParts.{LineParts}
 use Rattle.chess_draws.specs.steps.Plies.{move_of}
 use Rattle.chess_draws.proofs.LineLemmas.{here_ends, here_last, none_looked, left_popped, held_popped, changed_there}
 use Rattle.chess_draws.proofs.line.Line.pop.Goals as goal
 
 pub step_back-requires : goal.step_back-requires
 step_back-requires g c =
-    let none = none_looked c.self.inside.looked.items c.args.self.now (ap (λ (l : LineParts). l.looked) c.self.view_is) c.requires.none in
+    let none = none_looked c.self.invariant c.self.view_is c.requires.none in
     record {
       fits = record {
         before = play c.self.inside.root (map move_of (c.pop.new.self.items ++ c.self.inside.looked.items));
@@ -17,7 +16,7 @@ step_back-requires g c =
 
 pub invariant_of-self-2 : goal.invariant_of-self-2
 invariant_of-self-2 g c =
-    let none = none_looked c.self.inside.looked.items c.args.self.now (ap (λ (l : LineParts). l.looked) c.self.view_is) c.requires.none in
+    let none = none_looked c.self.invariant c.self.view_is c.requires.none in
     let left = left_popped c.self.invariant none c.pop.new.self.items c.in_ok-ply.ply c.in_ok-ply.ensures.items in
     held_popped c.self.invariant none c.pop.new.self.items c.in_ok-ply.ply c.in_ok-ply.ensures.items c.step_back.new.live c.step_back.new.here
     (c.step_back.ensures.position _ left.before) (c.step_back.ensures.here _ left.is_ply)

@@ -1,14 +1,11 @@
 use Rattle.std.proofs.Common.{◌≡◌, ◌+◌, ◌<◌, ◌≤◌, length, vec_capacity, refl, sym, ap, inl, inr, arith, rules}
 use Rattle.chess_draws.specs.LineParts.{LineParts}
-use Rattle.chess_draws.proofs.LineLemmas.{legal_last, none_looked, all_made, clock_fits, number_fits}
+use Rattle.chess_draws.proofs.LineLemmas.{can_ask, legal_last, all_made}
 use Rattle.chess_draws.proofs.AnswerLemmas.{answer_illegal, answer_long, answer_made}
 use Rattle.chess_draws.proofs.line.Line.prepare.Goals as goal
 
-pub is_legal-requires-clause-clock : goal.is_legal-requires-clause-clock
-is_legal-requires-clause-clock g c = omega (arith, clock_fits c.self.invariant)
-
-pub is_legal-requires-clause-number : goal.is_legal-requires-clause-number
-is_legal-requires-clause-number g c = omega (arith, number_fits c.self.invariant)
+pub is_legal-requires : goal.is_legal-requires
+is_legal-requires g c = can_ask c.self.invariant
 
 pub returns-then-not-is_legal-clause-answer : goal.returns-then-not-is_legal-clause-answer
 returns-then-not-is_legal-clause-answer g c =
@@ -24,8 +21,7 @@ returns-then-made-ge-LIMIT-clause-answer g c =
 pub returns-then-is_err-clause-answer : goal.returns-then-is_err-clause-answer
 returns-then-is_err-clause-answer g c =
     let plies : length c.self.inside.plies.items ≡ length c.args.self.now.line.moves =
-    all_made c.self.inside.plies.items c.self.inside.looked.items c.self.invariant.line c.self.view_is
-    (none_looked c.self.inside.looked.items c.args.self.now (ap (λ (l : LineParts). l.looked) c.self.view_is) c.requires.none) in
+    all_made c.self.invariant c.self.view_is c.requires.none in
     let room : vec_capacity c.self.inside.plies ≡ c.args.self.now.room = ap (λ (l : LineParts). l.room) c.self.view_is in
     let full : vec_capacity c.self.inside.plies < length c.self.inside.plies.items + 1 = search (rules, arith) in
     inr (
@@ -52,7 +48,6 @@ returns-clause-few g c =
 pub returns-clause-ready : goal.returns-clause-ready
 returns-clause-ready g c =
     let plies : length c.self.inside.plies.items ≡ length c.args.self.now.line.moves =
-    all_made c.self.inside.plies.items c.self.inside.looked.items c.self.invariant.line c.self.view_is
-    (none_looked c.self.inside.looked.items c.args.self.now (ap (λ (l : LineParts). l.looked) c.self.view_is) c.requires.none) in
+    all_made c.self.invariant c.self.view_is c.requires.none in
     let room : length c.self.inside.plies.items + 1 ≤ vec_capacity c.reserve.new.self = grind arith in
     omega (arith, plies, room)

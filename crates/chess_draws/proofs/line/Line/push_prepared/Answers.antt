@@ -1,21 +1,14 @@
-use Rattle.std.proofs.Common.{◌<◌, length, ap, arith}
-use Rattle.chess_draws.specs.LineParts.{LineParts}
-use Rattle.chess_draws.proofs.LineLemmas.{here_ends, here_last, legal_here, none_looked, all_made, clock_fits, number_fits, played_after, held_pushed, changed_there}
+use Rattle.std.proofs.Common.{◌<◌, length, arith}
+use Rattle.chess_draws.proofs.LineLemmas.{can_step, here_ends, here_last, none_looked, all_made, played_after, held_pushed, changed_there}
 use Rattle.chess_draws.proofs.line.Line.push_prepared.Goals as goal
 
-pub step-ply-requires-clause-legal : goal.step-ply-requires-clause-legal
-step-ply-requires-clause-legal g c = legal_here c.self.invariant.line c.self.view_is c.args.m c.requires.legal
-
-pub step-ply-requires-clause-clock : goal.step-ply-requires-clause-clock
-step-ply-requires-clause-clock g c = omega (arith, clock_fits c.self.invariant)
-
-pub step-ply-requires-clause-number : goal.step-ply-requires-clause-number
-step-ply-requires-clause-number g c = omega (arith, number_fits c.self.invariant)
+pub step-ply-requires : goal.step-ply-requires
+step-ply-requires g c = can_step c.self.invariant c.self.view_is c.args.m c.requires.legal
 
 pub invariant_of-self : goal.invariant_of-self
 invariant_of-self g c =
-    let none = none_looked c.self.inside.looked.items c.args.self.now (ap (λ (l : LineParts). l.looked) c.self.view_is) c.requires.none in
-    let few : length c.self.inside.plies.items < 20000 = omega (arith, all_made c.self.inside.plies.items c.self.inside.looked.items c.self.invariant.line c.self.view_is none, c.requires.few) in
+    let none = none_looked c.self.invariant c.self.view_is c.requires.none in
+    let few : length c.self.inside.plies.items < 20000 = omega (arith, all_made c.self.invariant c.self.view_is c.requires.none, c.requires.few) in
     held_pushed c.self.invariant none few c.step-ply.result c.step-ply.ensures.ply c.step-ply.new.live c.step-ply.new.here
     (played_after c.self.inside.live.position c.step-ply.result c.args.m c.step-ply.ensures.played c.step-ply.ensures.position) c.step-ply.ensures.here
     c.push_reserved.new.self.items c.push_reserved.ensures.items

@@ -1,16 +1,13 @@
-use Rattle.std.proofs.Common.{◌≡◌, true, ap, subst, ◌∙◌, arith}
+use Rattle.std.proofs.Common.{◌≡◌, true, ap, subst, ◌∙◌}
 use Rattle.std.specs.Result.{IfOk}
 use Rattle.chess_types.specs.board.Position.{State}
 use Rattle.chess_types.specs.board.Legal.{is_legal}
 use Rattle.chess_san.specs.Naming.{reading}
-use Rattle.chess_draws.proofs.LineLemmas.{here_last, clock_fits, number_fits}
+use Rattle.chess_draws.proofs.LineLemmas.{can_ask, here_last}
 use Rattle.chess_draws.proofs.line.Line.read_move.Goals as goal
 
-pub read-requires-clause-clock : goal.read-requires-clause-clock
-read-requires-clause-clock g c = omega (arith, clock_fits c.self.invariant)
-
-pub read-requires-clause-number : goal.read-requires-clause-number
-read-requires-clause-number g c = omega (arith, number_fits c.self.invariant)
+pub read-requires : goal.read-requires
+read-requires g c = can_ask c.self.invariant
 
 pub returns-clause-value : goal.returns-clause-value
 returns-clause-value g c = c.read.ensures.value ∙ ap (λ (p : State). reading p c.args.text.now) (here_last c.self.invariant.line c.self.view_is)

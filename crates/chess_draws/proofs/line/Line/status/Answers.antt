@@ -1,14 +1,11 @@
-use Rattle.std.proofs.Common.{ap, ◌∙◌, arith}
+use Rattle.std.proofs.Common.{ap, ◌∙◌}
 use Rattle.chess_types.specs.board.Lines.{last}
-use Rattle.chess_draws.proofs.LineLemmas.{here_last, clock_fits, number_fits}
+use Rattle.chess_draws.proofs.LineLemmas.{can_ask, here_last}
 use Rattle.chess_draws.proofs.AnswerLemmas.{status_is}
 use Rattle.chess_draws.proofs.line.Line.status.Goals as goal
 
-pub status_at-requires-clause-clock : goal.status_at-requires-clause-clock
-status_at-requires-clause-clock g c = omega (arith, clock_fits c.self.invariant)
-
-pub status_at-requires-clause-number : goal.status_at-requires-clause-number
-status_at-requires-clause-number g c = omega (arith, number_fits c.self.invariant)
+pub status_at-requires : goal.status_at-requires
+status_at-requires g c = can_ask c.self.invariant
 
 pub returns-clause-value : goal.returns-clause-value
 returns-clause-value g c =
