@@ -1,11 +1,11 @@
 -- What is answered of a text with a game at its front, and where a fault is.
-use Rattle.std.proofs.Common.{◌≡◌, ◌⊎◌, ℕ, Bool, true, List, [], ◌++◌, refl, sym, subst, ap, ◌∙◌, append-nil}
+use Rattle.std.proofs.Common.{◌≡◌, ◌⊎◌, ℕ, Bool, List, [], ◌++◌, refl, sym, subst, ap, ◌∙◌, append-nil}
 use Rattle.std.specs.Prelude.{Ok, Option, Some, None}
 use mathlib.Core.Logic.{inl, inr}
 use Rattle.chess_types.specs.bytes.Calls.{joined}
 use Rattle.chess_pgn.specs.Games as games
 use Rattle.chess_pgn.specs.Reading.{HasNoGame, IsAnswered, IsAtFront, IsWhite}
-use Rattle.chess_pgn.specs.Sources.{Breaks, HasFault, unread}
+use Rattle.chess_pgn.specs.Sources.{HasFault, unread}
 use Rattle.chess_pgn.specs.steps.GameAt.{FoundGame, IsFault, NotCome}
 use Rattle.chess_pgn.specs.steps.GameCode.{game_of}
 use Rattle.chess_pgn.specs.steps.Next.{HasKind}
@@ -15,9 +15,9 @@ use Rattle.chess_pgn.specs.declared.fault.PgnFault.{PgnFault}
 use Rattle.chess_pgn.specs.declared.game.Game.{Game}
 use Rattle.chess_pgn.specs.declared.games.GamesFault.{GamesFault}
 use Rattle.chess_pgn.specs.declared.games.GamesFault.TheVariants.{Pgn, Read}
-use Rattle.chess_pgn.proofs.BreakLemmas.{all_came}
+use Rattle.chess_pgn.proofs.BreakLemmas.{all_came, breaking, brings, ends_truly, has_all}
 use Rattle.chess_pgn.proofs.OneGameLemmas.{one_game, white_no_game}
-use Rattle.chess_pgn.proofs.SourceLemmas.{brings, has_all, no_bytes, whole_game, whole_none}
+use Rattle.chess_pgn.proofs.SourceLemmas.{no_bytes, whole_game, whole_none}
 
 -- ---- a whole text
 
@@ -63,15 +63,9 @@ module _ {X : Type 0} (breaks : X → X → Type 0) (at_hand : X → List ℕ) (
 
 -- ---- a source
 
-abbrev ends_truly : {R A : Type 0} → (R → Type 0) → AtHand R A → Type 0
-ends_truly ended s = s.has_ended ≡ true → ended s.source
-
 module _ {R A : Type 0} (gives : R → List ℕ → R → Type 0) (failed : R → Bool) (ended : R → Type 0) (old new : AtHand R A) where
-  abbrev breaking : AtHand R A → AtHand R A → Type 0
-  breaking s t = Breaks gives failed s t
-
   -- wherever the fault is placed
-  pub source_fault : (fault placed : GamesFault) → IsFault (brings gives failed) unread (has_all gives failed) (ends_truly ended) breaking old new fault → HasKind fault placed → HasFault gives failed ended old new placed
+  pub source_fault : (fault placed : GamesFault) → IsFault (brings gives failed) unread (has_all gives failed) (ends_truly gives failed ended) (breaking gives failed) old new fault → HasKind fault placed → HasFault gives failed ended old new placed
   source_fault (Pgn fault) (Pgn placed) (inl k) e =
       inl (e ∙ k.0, record { bytes = joined k.1.pieces; came = all_came gives failed old new k.1.pieces k.1.came; still = λ h. let s = k.1.still h in (s.0, s.2 s.1) })
   source_fault (Pgn fault) (Pgn placed) (inr h) e =

@@ -27,7 +27,7 @@ use Rattle.chess_pgn.proofs.GivenLemmas.{between_pass}
 use Rattle.chess_pgn.proofs.NoGameLemmas.{too_long}
 use Rattle.chess_pgn.proofs.OneGameLemmas.{either}
 use Rattle.chess_pgn.proofs.SpellLemmas.{first_found, one_spelling, place_behind}
-use Rattle.chess_pgn.proofs.SplitLemmas.{all_imply, all_of, movetext_after, movetext_behind, none_some, none_spelled, nothing_found, both_true, first_is, tests_apart}
+use Rattle.chess_pgn.proofs.SplitLemmas.{all_imply, all_of, movetext_after, movetext_behind, none_some, none_spelled, nothing_found, both_true, first_is, apart}
 use Rattle.chess_pgn.proofs.WhiteLemmas.{after_blank, nothing_after}
 
 -- ---- a white text goes on with white items
@@ -99,13 +99,13 @@ module _ {A : Type 0} (is : List Item) (white : list_all is_white is ≡ true) (
 
   in_head : Progress is r → InHead is r
   in_head (inl h) = h
-  in_head (inr h) = absurd (tests_apart (list_all is_white is) white (ap (list_all is_white) h.parts ∙ begun_dark h.head h.movetext h.begun))
+  in_head (inr h) = absurd (apart white (ap (list_all is_white) h.parts ∙ begun_dark h.head h.movetext h.begun))
 
   none_told : (item : Item) (fault : PgnFault) → is_white item ≡ true → InHead is r → (fault.kind ≡ Memory) ⊎ (Strays item fault r.header ⊎ ((is_heading item ≡ false) × RefusesFirst item fault.kind r)) → fault.kind ≡ Memory
   none_told item fault e h (inl k) = k
-  none_told item fault e h (inr (inl (inl k))) = absurd (tests_apart (is_begun r.header.part) k.0 (outside_tags h))
-  none_told item fault e h (inr (inl (inr k))) = absurd (tests_apart (is_tagged item) k.1 (white_untagged item e))
-  none_told item fault e h (inr (inr k)) = absurd (tests_apart (is_heading item) (white_heading item e) k.0)
+  none_told item fault e h (inr (inl (inl k))) = absurd (apart k.0 (outside_tags h))
+  none_told item fault e h (inr (inl (inr k))) = absurd (apart k.1 (white_untagged item e))
+  none_told item fault e h (inr (inr k)) = absurd (apart (white_heading item e) k.0)
 
   pub white_refused : (item : Item) (fault : PgnFault) (u : Reader A) → is_white item ≡ true → Progress is r → TakesItem r item (Err fault) u → fault.kind ≡ Memory
   white_refused item fault u e p k = (let h = in_head p in none_told item fault e h (subst (λ (b : Bool). takes_when b item (Err fault) r u) h.moving k))
@@ -133,7 +133,7 @@ dark_aground is input rest s w none some = (let g = goes_white is input rest s w
 
 -- some of what was taken isn't white
 pub dark_taken : (is : List Item) (input rest : List ℕ) → Spells GameStart input is rest → IsWhite input → list_all is_white is ≡ false → ⊥
-dark_taken is input rest s w e = tests_apart (list_all is_white is) ((goes_white is input rest s w).taken) e
+dark_taken is input rest s w e = apart ((goes_white is input rest s w).taken) e
 
 -- ---- white space beyond the limit
 
@@ -167,7 +167,7 @@ NoMark is = (ks : List Item) → is ≡ items.Mark ∷ ks → ⊥
 no_mark : (place : Place) (is : List Item) (bytes : List ℕ) → is_game_start place ≡ false → Spells place bytes is [] → NoMark is
 no_mark place [] bytes h s ks e = absurd cc
 no_mark place (i ∷ is) bytes h s ks e =
-    tests_apart (is_game_start place) (subst (λ (k : Item). may_stand place k ≡ true) (first_is i items.Mark is ks e) s.3.stands) h
+    apart (subst (λ (k : Item). may_stand place k ≡ true) (first_is i items.Mark is ks e) s.3.stands) h
 
 blank_first : (b : ℕ) (v : Bool) → eqb b 10 ≡ v → is_blank b ≡ true → white_byte column.First b ≡ Some (cond v column.First column.Later)
 unfolding white_byte
@@ -277,4 +277,4 @@ dark_over is at input rest hand more s w n over parts other =
     let ends : white_after (Some (column_at place)) rest ≡ None =
     ap (white_after (Some (column_at place))) parts ∙ white_after-append (Some (column_at place)) hand more ∙ ap (λ (c : Option Column). white_after c more) other ∙ nothing_after more
     in
-    tests_apart (is_some (white_after (Some (column_at place)) rest)) all (ap is_some ends)
+    apart all (ap is_some ends)

@@ -4,6 +4,7 @@ use Rattle.chess_types.specs.board.Position.{State}
 use Rattle.chess_tree.specs.Forest.{Forest, Bare}
 use Rattle.chess_pgn.specs.Grammar.{Derives, Element, Part, comments_joined, meaning, ◌>>=◌}
 use Rattle.chess_pgn.specs.steps.Elements.{run}
+use Rattle.chess_pgn.proofs.FoundLemmas.{some_is}
 use Rattle.chess_pgn.proofs.MeetLemmas.{Answer, ended, finish, meets}
 use Rattle.chess_pgn.proofs.ParseLemmas.{Lines, LastLine, More, Bad, parse, parse-of, parse-back}
 
@@ -13,9 +14,6 @@ outcome es start before = run es [] Bare [] None start before []
 
 abbrev given : List ℕ → Part → List ℕ × Forest
 given before r = ended [] Bare [] None before r
-
-some_is : {A : Type 0} (x y : A) → Some x ≡ Some y → x ≡ y
-some_is x y e = cc
 
 abbrev pair : List ℕ → Forest → Answer
 pair c f = Some (c, f)

@@ -1,5 +1,5 @@
 -- The code finds exactly the items of the definition: what is found is an item.
-use Rattle.std.proofs.Common.{◌≡◌, ◌≢◌, ◌<◌, ◌⊎◌, inl, inr, ℕ, ◌+◌, Bool, true, false, cond, eqb, ltb, List, [], ◌∷◌, ◌++◌, take, drop, map, Option, Some, None, refl, sym, ap, subst, arith, append_assoc, codes, bytes_eq}
+use Rattle.std.proofs.Common.{◌≡◌, ◌≢◌, ◌<◌, ◌⊎◌, inl, inr, ℕ, ◌+◌, Bool, true, false, cond, eqb, ltb, List, [], ◌∷◌, ◌++◌, take, drop, map, Option, Some, None, refl, sym, ap, subst, ◌∙◌, arith, append_assoc, codes, bytes_eq}
 use Rattle.std.specs.List.{prefix_len, list_all}
 use Rattle.std.proofs.lemmas.Bool.{eqb-true, ltb-true}
 use Rattle.std.proofs.lemmas.Bool.Decides.{nat_tests}
@@ -12,7 +12,7 @@ use Rattle.chess_pgn.specs.declared.outcome.Outcome.TheVariants.{WhiteWins, Blac
 use Rattle.chess_pgn.specs.declared.place.Place.{Place}
 use Rattle.chess_pgn.specs.declared.place.Place.TheVariants.{GameStart, LineStart, InLine, TagLineStart, InTag, InValue}
 use Rattle.chess_pgn.proofs.RunLemmas.{prefix_each, prefix_stops}
-use Rattle.chess_pgn.proofs.ItemLemmas.{stands_outside, stands_in_tag, stands_in_value}
+use Rattle.chess_pgn.proofs.ItemLemmas.{at_line_start, at_tag_line, in_a_value, in_line_outside, in_tag_line, stands_outside, stands_in_tag, stands_in_value}
 
 -- the front of the input, and its item, which may stand there
 abbrev pub Parted : (Item → Bool) → List ℕ → Item → List ℕ → Type 0
@@ -261,57 +261,10 @@ mark_taken (b ∷ c ∷ bytes) item next e =
       | inr h ↦ absurd cc
     ]
 
--- what may stand outside of tags may stand at these places
+-- what may stand outside of tags may stand at the start of a game
 at_start : (item : Item) → stands_outside true item ≡ true → may_stand GameStart item ≡ true
-at_start Mark s = refl
-at_start Hidden s = refl
-at_start TagClose s = absurd cc
-at_start (Name t) s = absurd cc
-at_start Quote s = absurd cc
-at_start (Stretch t) s = absurd cc
-at_start (Escaped b) s = absurd cc
-at_start _ s = refl
-
-at_line_start : (item : Item) → stands_outside true item ≡ true → may_stand LineStart item ≡ true
-at_line_start Mark s = absurd cc
-at_line_start Hidden s = refl
-at_line_start TagClose s = absurd cc
-at_line_start (Name t) s = absurd cc
-at_line_start Quote s = absurd cc
-at_line_start (Stretch t) s = absurd cc
-at_line_start (Escaped b) s = absurd cc
-at_line_start _ s = refl
-
-in_a_line : (item : Item) → stands_outside false item ≡ true → may_stand InLine item ≡ true
-in_a_line Mark s = absurd cc
-in_a_line Hidden s = absurd cc
-in_a_line TagClose s = absurd cc
-in_a_line (Name t) s = absurd cc
-in_a_line Quote s = absurd cc
-in_a_line (Stretch t) s = absurd cc
-in_a_line (Escaped b) s = absurd cc
-in_a_line _ s = refl
-
-at_tag_line : (item : Item) → stands_in_tag true item ≡ true → may_stand TagLineStart item ≡ true
-at_tag_line (Blank b) s = refl
-at_tag_line Hidden s = refl
-at_tag_line TagClose s = refl
-at_tag_line (Name t) s = refl
-at_tag_line Quote s = refl
-at_tag_line _ s = absurd cc
-
-in_a_tag : (item : Item) → stands_in_tag false item ≡ true → may_stand InTag item ≡ true
-in_a_tag (Blank b) s = refl
-in_a_tag TagClose s = refl
-in_a_tag (Name t) s = refl
-in_a_tag Quote s = refl
-in_a_tag _ s = absurd cc
-
-in_a_value : (item : Item) → stands_in_value item ≡ true → may_stand InValue item ≡ true
-in_a_value Quote s = refl
-in_a_value (Stretch t) s = refl
-in_a_value (Escaped b) s = refl
-in_a_value _ s = absurd cc
+at_start Mark s = absurd cc
+at_start _ s = s
 
 -- the front of the input is the text of the item
 abbrev pub Taken : Place → List ℕ → Item → List ℕ → Type 0
@@ -333,8 +286,8 @@ start_taken (b ∷ bytes) item next e =
 pub item_taken : (place : Place) (input : List ℕ) (item : Item) (next : List ℕ) → item_at place input ≡ Some (item, next) → Taken place input item next
 unfolding item_at
 item_taken GameStart input item next e = start_taken input item next e
-item_taken LineStart input item next e = at_place LineStart (stands_outside true) input item next at_line_start (outside_taken true input item next e)
-item_taken InLine input item next e = at_place InLine (stands_outside false) input item next in_a_line (outside_taken false input item next e)
-item_taken TagLineStart input item next e = at_place TagLineStart (stands_in_tag true) input item next at_tag_line (tag_taken true input item next e)
-item_taken InTag input item next e = at_place InTag (stands_in_tag false) input item next in_a_tag (tag_taken false input item next e)
-item_taken InValue input item next e = at_place InValue stands_in_value input item next in_a_value (value_taken input item next e)
+item_taken LineStart input item next e = at_place LineStart (stands_outside true) input item next (λ i s. at_line_start i ∙ s) (outside_taken true input item next e)
+item_taken InLine input item next e = at_place InLine (stands_outside false) input item next (λ i s. in_line_outside i ∙ s) (outside_taken false input item next e)
+item_taken TagLineStart input item next e = at_place TagLineStart (stands_in_tag true) input item next (λ i s. at_tag_line i ∙ s) (tag_taken true input item next e)
+item_taken InTag input item next e = at_place InTag (stands_in_tag false) input item next (λ i s. in_tag_line i ∙ s) (tag_taken false input item next e)
+item_taken InValue input item next e = at_place InValue stands_in_value input item next (λ i s. in_a_value i ∙ s) (value_taken input item next e)

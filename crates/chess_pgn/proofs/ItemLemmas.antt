@@ -78,7 +78,6 @@ stands_outside start _ = true
 
 pub outside_goes : (start : Bool) (item : Item) (text next : List ℕ) → stands_outside start item ≡ true → IsSpelled item text next → outside_at start (text ++ next) ≡ Some (item, next)
 unfolding outside_at sign_at is_word_byte is_name_byte is_digit is_blank is_glyph
-outside_goes start Mark text next s p = absurd cc
 outside_goes start (Blank b) text next s p = rw p.1 (blank_goes start b next p.0)
 outside_goes start Hidden text next s p = rw (p.1, s) (run_found in_line hidden_found p.0 next p.2.each p.2.stops)
 outside_goes start Skipped text next s (inl e) = rw e refl
@@ -92,12 +91,8 @@ outside_goes start Close text next s p = rw p refl
 outside_goes start (Marker o) text next s (inl p) = rw (p.0, p.1) refl
 outside_goes start (Marker o) text next s (inr p) = word_goes start text next (Marker o) p.0 p.1
 outside_goes start TagOpen text next s p = rw p refl
-outside_goes start TagClose text next s p = absurd cc
-outside_goes start (Name t) text next s p = absurd cc
-outside_goes start Quote text next s p = absurd cc
-outside_goes start (Stretch t) text next s p = absurd cc
-outside_goes start (Escaped b) text next s p = absurd cc
 outside_goes start (Word w) text next s p = word_goes start text next (Word w) p.0 p.1
+outside_goes start _ text next s p = absurd cc
 
 -- ---- between the parts of a tag
 
@@ -190,61 +185,34 @@ start_goes (b ∷ bytes) item next e = rw (not_mark true b bytes item next e) e
 at_start : (item : Item) (text next : List ℕ) → may_stand GameStart item ≡ true → IsSpelled item text next → start_at (text ++ next) ≡ Some (item, next)
 unfolding start_at
 at_start Mark text next s p = rw p refl
-at_start (Blank b) text next s p = start_goes (text ++ next) (Blank b) next (outside_goes true (Blank b) text next refl p)
-at_start Hidden text next s p = start_goes (text ++ next) Hidden next (outside_goes true Hidden text next refl p)
-at_start (Comment t) text next s p = start_goes (text ++ next) (Comment t) next (outside_goes true (Comment t) text next refl p)
-at_start Skipped text next s p = start_goes (text ++ next) Skipped next (outside_goes true Skipped text next refl p)
-at_start (Word t) text next s p = start_goes (text ++ next) (Word t) next (outside_goes true (Word t) text next refl p)
-at_start (Nag n) text next s p = start_goes (text ++ next) (Nag n) next (outside_goes true (Nag n) text next refl p)
-at_start Open text next s p = start_goes (text ++ next) Open next (outside_goes true Open text next refl p)
-at_start Close text next s p = start_goes (text ++ next) Close next (outside_goes true Close text next refl p)
-at_start (Marker o) text next s p = start_goes (text ++ next) (Marker o) next (outside_goes true (Marker o) text next refl p)
-at_start TagOpen text next s p = start_goes (text ++ next) TagOpen next (outside_goes true TagOpen text next refl p)
-at_start TagClose text next s p = absurd cc
-at_start (Name t) text next s p = absurd cc
-at_start Quote text next s p = absurd cc
-at_start (Stretch t) text next s p = absurd cc
-at_start (Escaped b) text next s p = absurd cc
+at_start item text next s p = start_goes (text ++ next) item next (outside_goes true item text next s p)
 
-at_line : (start : Bool) (place : Place) (item : Item) → ((place ≡ LineStart) × (start ≡ true)) ⊎ ((place ≡ InLine) × (start ≡ false)) → may_stand place item ≡ true → stands_outside start item ≡ true
-at_line start place Mark (inl h) s = rw h.0 at s
-at_line start place Mark (inr h) s = rw h.0 at s
-at_line start place Hidden (inl h) s = h.1
-at_line start place Hidden (inr h) s = rw h.1 (rw h.0 at s)
-at_line start place TagClose (inl h) s = rw h.0 at s
-at_line start place TagClose (inr h) s = rw h.0 at s
-at_line start place (Name t) (inl h) s = rw h.0 at s
-at_line start place (Name t) (inr h) s = rw h.0 at s
-at_line start place Quote (inl h) s = rw h.0 at s
-at_line start place Quote (inr h) s = rw h.0 at s
-at_line start place (Stretch t) (inl h) s = rw h.0 at s
-at_line start place (Stretch t) (inr h) s = rw h.0 at s
-at_line start place (Escaped b) (inl h) s = rw h.0 at s
-at_line start place (Escaped b) (inr h) s = rw h.0 at s
-at_line start place _ h s = refl
+pub at_line_start : (item : Item) → may_stand LineStart item ≡ stands_outside true item
+at_line_start Mark = refl
+at_line_start _ = refl
 
-in_tag : (start : Bool) (place : Place) (item : Item) → ((place ≡ TagLineStart) × (start ≡ true)) ⊎ ((place ≡ InTag) × (start ≡ false)) → may_stand place item ≡ true → stands_in_tag start item ≡ true
-in_tag start place (Blank b) h s = refl
-in_tag start place Hidden (inl h) s = h.1
-in_tag start place Hidden (inr h) s = rw h.1 (rw h.0 at s)
-in_tag start place TagClose h s = refl
-in_tag start place (Name t) h s = refl
-in_tag start place Quote h s = refl
-in_tag start place _ (inl h) s = rw h.0 at s
-in_tag start place _ (inr h) s = rw h.0 at s
+pub in_line_outside : (item : Item) → may_stand InLine item ≡ stands_outside false item
+in_line_outside Mark = refl
+in_line_outside _ = refl
 
-in_value : (item : Item) → may_stand InValue item ≡ true → stands_in_value item ≡ true
-in_value Quote s = refl
-in_value (Stretch t) s = refl
-in_value (Escaped b) s = refl
-in_value _ s = s
+pub at_tag_line : (item : Item) → may_stand TagLineStart item ≡ stands_in_tag true item
+at_tag_line Mark = refl
+at_tag_line _ = refl
+
+pub in_tag_line : (item : Item) → may_stand InTag item ≡ stands_in_tag false item
+in_tag_line Mark = refl
+in_tag_line _ = refl
+
+pub in_a_value : (item : Item) → may_stand InValue item ≡ stands_in_value item
+in_a_value Mark = refl
+in_a_value _ = refl
 
 -- what may stand at a place is found there
 pub item_goes : (place : Place) (item : Item) (text next : List ℕ) → IsItem place item text next → item_at place (text ++ next) ≡ Some (item, next)
 unfolding item_at start_at
 item_goes GameStart item text next p = at_start item text next p.stands p.spelled
-item_goes LineStart item text next p = outside_goes true item text next (at_line true LineStart item (inl (refl, refl)) p.stands) p.spelled
-item_goes InLine item text next p = outside_goes false item text next (at_line false InLine item (inr (refl, refl)) p.stands) p.spelled
-item_goes TagLineStart item text next p = tag_goes true item text next (in_tag true TagLineStart item (inl (refl, refl)) p.stands) p.spelled
-item_goes InTag item text next p = tag_goes false item text next (in_tag false InTag item (inr (refl, refl)) p.stands) p.spelled
-item_goes InValue item text next p = value_goes item text next (in_value item p.stands) p.spelled
+item_goes LineStart item text next p = outside_goes true item text next (sym (at_line_start item) ∙ p.stands) p.spelled
+item_goes InLine item text next p = outside_goes false item text next (sym (in_line_outside item) ∙ p.stands) p.spelled
+item_goes TagLineStart item text next p = tag_goes true item text next (sym (at_tag_line item) ∙ p.stands) p.spelled
+item_goes InTag item text next p = tag_goes false item text next (sym (in_tag_line item) ∙ p.stands) p.spelled
+item_goes InValue item text next p = value_goes item text next (sym (in_a_value item) ∙ p.stands) p.spelled

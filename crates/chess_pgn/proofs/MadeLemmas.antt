@@ -1,13 +1,14 @@
 -- Bytes at hand of a source are a text.
-use Rattle.std.proofs.Common.{◌≡◌, ℕ, ◌+◌, ◌*◌, ◌≤◌, inl, inr, Bool, true, false, List, [], ◌∷◌, ◌++◌, length, refl, ap, subst, ◌∙◌, arith, append_assoc, append-nil, length-append, Result, Ok, Err}
+use Rattle.std.proofs.Common.{◌≡◌, ℕ, ◌+◌, ◌≤◌, inl, inr, Bool, true, false, List, [], ◌∷◌, ◌++◌, length, refl, ap, subst, ◌∙◌, arith, append_assoc, append-nil, length-append, Result, Ok, Err}
 use Rattle.chess_types.specs.bytes.Calls.{joined}
 use Rattle.chess_pgn.specs.steps.Deciding.{Decides}
-use Rattle.chess_pgn.specs.Sources.{Came, unread}
+use Rattle.chess_pgn.specs.Sources.{unread}
 use Rattle.chess_pgn.specs.steps.AtHands.{Needed, HasRead, Readied}
 use Rattle.chess_pgn.specs.steps.Texts.{Near, AfterCame, MadeReady}
 use Rattle.chess_pgn.specs.declared.at_hand.AtHand.{AtHand}
 use Rattle.chess_pgn.specs.declared.at_hand.Fault.{Fault}
 use Rattle.chess_pgn.specs.declared.place.Place.{Place}
+use Rattle.chess_pgn.proofs.BreakLemmas.{brings, ends_truly, has_all, size_at_hand}
 use Rattle.chess_pgn.proofs.ReadLemmas.{joined_small}
 
 near_on : (place : Place) (front p all : List ℕ) → length p ≤ 65536 → (Decides place front → ⊥) → Near place (front ++ p) all → Near place front all
@@ -28,25 +29,13 @@ held_of most place front (p ∷ pieces) n few =
     subst (λ (x : List ℕ). length x ≤ most + 65536) (append_assoc front p (joined pieces)) (held_of most place (front ++ p) pieces n.3 (omega (arith, l, n.1, n.2)))
 
 module _ {R A : Type 0} (gives : R → List ℕ → R → Type 0) (ended : R → Type 0) (failed : R → Bool) (most : ℕ) (place : Place) (old new : AtHand R A) where
-  abbrev Comes : AtHand R A → List ℕ → AtHand R A → Type 0
-  Comes s bytes t = Came gives failed s bytes t
-
-  abbrev All : AtHand R A → Type 0
-  All s = s.has_ended ≡ true
-
-  abbrev Sound : AtHand R A → Type 0
-  Sound s = s.has_ended ≡ true → ended s.source
-
-  abbrev Size : AtHand R A → ℕ
-  Size s = s.reads * 65537 + length (unread s)
-
-  size_falls : (pieces : List (List ℕ)) → Needed most place (unread old) pieces → new.reads + length pieces ≡ old.reads → unread new ≡ unread old ++ joined pieces → Size new ≤ Size old
+  size_falls : (pieces : List (List ℕ)) → Needed most place (unread old) pieces → new.reads + length pieces ≡ old.reads → unread new ≡ unread old ++ joined pieces → size_at_hand gives failed new ≤ size_at_hand gives failed old
   size_falls pieces n counted e =
       let k = joined_small most place (unread old) pieces n in
       let l : length (unread new) ≡ length (unread old) + length (joined pieces) = ap length e ∙ length-append (unread old) (joined pieces) in
       omega (arith, k, l, counted)
 
-  came_after : (is_ready : Bool) (r : HasRead gives ended failed most place old new is_ready) → AfterCame Comes unread All Sound Size most place old (joined r.pieces) new is_ready
+  came_after : (is_ready : Bool) (r : HasRead gives ended failed most place old new is_ready) → AfterCame (brings gives failed) unread (has_all gives failed) (ends_truly gives failed ended) (size_at_hand gives failed) most place old (joined r.pieces) new is_ready
   came_after false r = record {
     longer = r.whole;
     over = r.after.0;
@@ -65,7 +54,7 @@ module _ {R A : Type 0} (gives : R → List ℕ → R → Type 0) (ended : R →
     held = (λ few. rw (r.whole) (held_of most place (unread old) r.pieces r.needed few));
   }
 
-  pub made_ready : (result : Result Bool Fault) → Readied gives ended failed most place old new result → MadeReady Comes unread All Sound Size most place old new result
+  pub made_ready : (result : Result Bool Fault) → Readied gives ended failed most place old new result → MadeReady (brings gives failed) unread (has_all gives failed) (ends_truly gives failed ended) (size_at_hand gives failed) most place old new result
   made_ready (Err e) r = tt
   made_ready (Ok is_ready) r = record {
     more = joined r.pieces;

@@ -1,5 +1,5 @@
 -- One item is offered.
-use Rattle.std.proofs.Common.{◌<◌, take, drop, ◌+◌, ◌≡◌, ◌≢◌, ℕ, length-append, ◌≤◌, ◌⊎◌, inl, inr, Bool, true, false, List, [], ◌∷◌, ◌++◌, length, Some, None, refl, sym, ap, subst, ◌∙◌, arith, append_assoc, append-nil, Ok}
+use Rattle.std.proofs.Common.{◌<◌, take, drop, ◌+◌, ◌-◌, ◌≡◌, ◌≢◌, ℕ, length-append, ◌≤◌, ◌⊎◌, inl, inr, Bool, true, false, List, [], ◌∷◌, ◌++◌, length, Some, None, refl, sym, ap, subst, ◌∙◌, arith, append_assoc, append-nil, Ok}
 use Rattle.std.proofs.lemmas.List.{take-append-drop, take-append-le}
 use Rattle.std.specs.Str.{byte}
 use Rattle.chess_types.specs.bytes.Calls.{joined}
@@ -7,9 +7,8 @@ use Rattle.chess_pgn.specs.Items.{Item, TagOpen, is_white, may_stand, place_afte
 use Rattle.chess_pgn.specs.steps.ItemAt.{Found, item_at}
 use Rattle.chess_pgn.specs.steps.Deciding.{longer, Decides}
 use Rattle.chess_pgn.specs.steps.Texts.{Oversized, Near, MadeReady, Keeps}
-use Rattle.chess_pgn.specs.steps.Taking.{TakesOne, Brackets, Offered, UsesItem, Rests, Next, Steps}
+use Rattle.chess_pgn.specs.steps.Taking.{TakesOne, Brackets, Offered, UsesItem, Next, AfterStop, Steps}
 use Rattle.chess_pgn.specs.declared.place.Place.{Place}
-use Rattle.chess_pgn.specs.declared.taker.Taken.TheVariants.{GoesOn, Ends}
 use Rattle.chess_pgn.specs.declared.taking.Answer.TheVariants as answer
 use Rattle.chess_pgn.specs.declared.taking.Stop.{Stop}
 use Rattle.chess_pgn.specs.declared.taking.Stop.TheVariants as stop
@@ -103,10 +102,15 @@ over_oversized most place hand more over undecided =
     none_sized most place (hand ++ more) (item_at place (hand ++ more)) refl (omega (arith, l)) (λ h. undecided_front most place hand more over shorter)
     (λ i rest h. let s = undecided_taken place hand more i rest undecided h in omega (arith, l, s))
 
-module _ {X T : Type 0} (comes : X → List ℕ → X → Type 0) (at_hand : X → List ℕ) (all sound : X → Type 0) (size : X → ℕ) (takes : TakesOne T) (at most : ℕ) (place : Place) (old mid : X) (t : T) where
+module _ {X : Type 0} {comes : X → List ℕ → X → Type 0} {at_hand : X → List ℕ} {all sound : X → Type 0} {size : X → ℕ} {most : ℕ} {place : Place} {old mid : X} {is_ready : Bool}
+    (made : MadeReady comes at_hand all sound size most place old mid (Ok is_ready)) where
+  made_as : (b : Bool) → is_ready ≡ b → MadeReady comes at_hand all sound size most place old mid (Ok b)
+  made_as b e = subst (λ (b : Bool). MadeReady comes at_hand all sound size most place old mid (Ok b)) e made
+
   -- too many bytes don't decide the item
-  pub step_undecided : MadeReady comes at_hand all sound size most place old mid (Ok false) → Steps comes at_hand all sound size takes at most place old mid t t (Ok (step.Stops stop.TooLarge))
-  step_undecided r =
+  pub step_undecided : {T : Type 0} {takes : TakesOne T} {at : ℕ} {t : T} → is_ready ≡ false → Steps comes at_hand all sound size takes at most place old mid t t (Ok (step.Stops stop.TooLarge))
+  step_undecided not =
+      let r = made_as false not in
       let a = r.after in
       record {
         pieces = r.more ∷ [];
@@ -120,25 +124,25 @@ module _ {X T : Type 0} (comes : X → List ℕ → X → Type 0) (at_hand : X �
         );
       }
 
-  module _ (r : MadeReady comes at_hand all sound size most place old mid (Ok true)) where
-    rests : Rests comes at_hand all sound size takes old (r.more ∷ []) mid
-    rests = record {
-      longer = r.after.longer ∙ ap (λ (x : List ℕ). at_hand old ++ x) (sym (append-nil r.more));
-      at_end = λ h. (append-nil r.more ∙ (r.after.at_end h).0, (r.after.at_end h).1);
-      sound_still = r.after.sound_still;
-    }
+  module _ (yes : is_ready ≡ true) where
+    r : MadeReady comes at_hand all sound size most place old mid (Ok true)
+    r = made_as true yes
 
-    -- no item, and too many bytes for its fault
-    pub step_exceeds : item_at place (at_hand mid) ≡ None → most < length (at_hand mid) → (Decides place (take (most + 1) (at_hand mid)) → ⊥) → Steps comes at_hand all sound size takes at most place old mid t t (Ok (step.Stops stop.TooLarge))
-    step_exceeds e over undecided = record {
+    pub sound_still : sound mid
+    sound_still = r.after.sound_still
+
+    -- nothing is used
+    stops : {T : Type 0} {takes : TakesOne T} {at : ℕ} {t : T} (why : Stop) (u : T) → AfterStop comes at_hand all sound size takes at most place old mid t u why → Steps comes at_hand all sound size takes at most place old mid t u (Ok (step.Stops why))
+    stops why u after = record {
       pieces = r.more ∷ [];
       came = (mid, r.came, refl);
       after = (
-        rests,
         record {
-          over = λ more none. none_oversized most place (at_hand mid) more over undecided (decided_item place (at_hand mid) more None (all mid) r.after.decided none e);
-          bracket = λ more none rest found. absurd (none_is_some rest (sym (decided_item place (at_hand mid) more None (all mid) r.after.decided none e) ∙ found));
+          longer = r.after.longer ∙ ap (λ (x : List ℕ). at_hand old ++ x) (sym (append-nil r.more));
+          at_end = λ h. (append-nil r.more ∙ (r.after.at_end h).0, (r.after.at_end h).1);
+          sound_still = sound_still;
         },
+        after,
       );
     }
 
@@ -146,93 +150,105 @@ module _ {X T : Type 0} (comes : X → List ℕ → X → Type 0) (at_hand : X �
     all_came hand e (inl d) = absurd (nothing_undecided place (subst (λ (x : List ℕ). Decides place x) e d))
     all_came hand e (inr h) = h
 
-    pub step_end : at_hand mid ≡ [] → Steps comes at_hand all sound size takes at most place old mid t t (Ok (step.Stops stop.End))
-    step_end e = record {
-      pieces = r.more ∷ [];
-      came = (mid, r.came, refl);
-      after = (rests, (all_came (at_hand mid) e r.after.decided, e, refl));
-    }
+    pub step_end : {T : Type 0} {takes : TakesOne T} {at : ℕ} {t : T} → at_hand mid ≡ [] → Steps comes at_hand all sound size takes at most place old mid t t (Ok (step.Stops stop.End))
+    step_end {t = t} e = stops stop.End t (all_came (at_hand mid) e r.after.decided, e, refl)
 
-    pub step_none : item_at place (at_hand mid) ≡ None → at_hand mid ≢ [] → (most < length (at_hand mid) → Decides place (take (most + 1) (at_hand mid))) → Steps comes at_hand all sound size takes at most place old mid t t (Ok (step.Stops stop.NoItem))
-    step_none e some within = record {
-      pieces = r.more ∷ [];
-      came = (mid, r.came, refl);
-      after = (rests, (record { none = (λ more none. decided_item place (at_hand mid) more None (all mid) r.after.decided none e); decided = r.after.decided; within = within; some = some }, refl));
-    }
+    -- what is found at the front is found whatever follows
+    module _ {bytes : List ℕ} (same : bytes ≡ at_hand mid) where
+      finds : (found : Found) → found ≡ item_at place bytes → (more : List ℕ) → (all mid → more ≡ []) → item_at place (at_hand mid ++ more) ≡ longer found more
+      finds found look more none = decided_item place (at_hand mid) more found (all mid) r.after.decided none (ap (item_at place) (sym same) ∙ sym look)
 
-    module _ (item : Item) (rest : List ℕ) (found : item_at place (at_hand mid) ≡ the item rest) where
-      -- the item is too long
-      step_over : most + length rest < length (at_hand mid) → (u : T) → (item ≡ TagOpen → Brackets takes at t u) → Steps comes at_hand all sound size takes at most place old mid t u (Ok (step.Stops stop.TooLarge))
-      step_over long u bracket = record {
-        pieces = r.more ∷ [];
-        came = (mid, r.came, refl);
-        after = (
-          rests,
-          record {
-            over = λ more none. long_oversized most place (at_hand mid) more item rest long (decided_item place (at_hand mid) more (the item rest) (all mid) r.after.decided none found);
-            bracket = λ more none other is. bracket (same_item item TagOpen (rest ++ more) other (sym (decided_item place (at_hand mid) more (the item rest) (all mid) r.after.decided none found) ∙ is));
-          },
-        );
-      }
+      -- no item
+      module _ (look : None ≡ item_at place bytes) {seen : List ℕ} (as_seen : seen ≡ at_hand mid) {T : Type 0} {takes : TakesOne T} {at : ℕ} {t : T} where
+        -- and too many bytes for its fault
+        pub step_exceeds : (most < length seen) × (Decides place (take (most + 1) seen) → ⊥) → Steps comes at_hand all sound size takes at most place old mid t t (Ok (step.Stops stop.TooLarge))
+        step_exceeds exceeds =
+            let both = subst (λ (x : List ℕ). (most < length x) × (Decides place (take (most + 1) x) → ⊥)) as_seen exceeds in
+            stops stop.TooLarge t (record {
+              over = λ more none. none_oversized most place (at_hand mid) more both.0 both.1 (finds None look more none);
+              bracket = λ more none rest found. absurd (none_is_some rest (sym (finds None look more none) ∙ found));
+            })
 
-      next_item : Next comes at_hand all sound size takes place old mid item
-      next_item = record {
-        rest = rest;
-        found = (λ more none. decided_item place (at_hand mid) more (the item rest) (all mid) r.after.decided none found);
-        near = (λ small. near_item place (at_hand old) (at_hand mid) rest item r.after.near found small);
-        bracket = (λ e small. near_bracket place (at_hand old) (at_hand mid) rest r.after.near (subst (λ (i : Item). item_at place (at_hand mid) ≡ the i rest) e found) small);
-      }
+        pub step_none : at_hand mid ≢ [] → (most < length seen → Decides place (take (most + 1) seen)) → Steps comes at_hand all sound size takes at most place old mid t t (Ok (step.Stops stop.NoItem))
+        step_none some within =
+            stops stop.NoItem t
+            (record { none = finds None look; decided = r.after.decided; within = subst (λ (x : List ℕ). most < length x → Decides place (take (most + 1) x)) as_seen within; some = some }, refl)
 
-      -- it isn't used
-      pub step_stops : (why : Stop) (used : ℕ) (u : T) → used + length rest ≡ length (at_hand mid) → Offered takes at item used most t u (answer.Stops why) → Steps comes at_hand all sound size takes at most place old mid t u (Ok (step.Stops why))
-      step_stops stop.Left used u counts o = record { pieces = r.more ∷ []; came = (mid, r.came, refl); after = (rests, (item, next_item, o)) }
-      step_stops (stop.Refused fault) used u counts o = record { pieces = r.more ∷ []; came = (mid, r.came, refl); after = (rests, (item, next_item, o)) }
-      step_stops stop.TooLarge used u counts o = step_over (omega (arith, counts, o.0)) u o.1
-      step_stops stop.Full used u counts o = absurd o
-      step_stops stop.End used u counts o = absurd o
-      step_stops stop.NoItem used u counts o = absurd o
+      module _ {item : Item} {rest : List ℕ} (look : the item rest ≡ item_at place bytes) {again : List ℕ} (once_more : again ≡ at_hand mid) where
+        found : item_at place (at_hand mid) ≡ the item rest
+        found = ap (item_at place) (sym same) ∙ sym look
 
-      module _ (new : X) (k : Keeps comes at_hand all sound size (length rest) mid new) (used : ℕ) (counts : used + length rest ≡ length (at_hand mid)) (few : used ≤ most) where
-        left : at_hand new ≡ rest
-        left = (let t = item_taken place (at_hand mid) item rest found in k.kept t.0 rest t.1 refl)
+        found_on : (more : List ℕ) → (all mid → more ≡ []) → item_at place (at_hand mid ++ more) ≡ the item (rest ++ more)
+        found_on = finds (the item rest) look
 
-        finds : (more : List ℕ) → (all new → more ≡ []) → item_at place (at_hand old ++ (joined (r.more ∷ [] ∷ []) ++ more)) ≡ Some (item, at_hand new ++ more)
-        finds more none =
-            let hand = at_hand mid in
-            let e : hand ++ more ≡ at_hand old ++ ((r.more ++ []) ++ more) =
-            ap (λ (x : List ℕ). x ++ more) r.after.longer ∙ append_assoc (at_hand old) r.more more ∙ ap (λ (x : List ℕ). at_hand old ++ (x ++ more)) (sym (append-nil r.more)) in
-            let d : item_at place (hand ++ more) ≡ the item (rest ++ more) = decided_item place hand more (the item rest) (all mid) r.after.decided (λ h. none (k.at_end h)) found in
-            ap (item_at place) (sym e) ∙ d ∙ ap (λ (x : List ℕ). the item (x ++ more)) (sym left)
+        pub rest_within : length rest ≤ length again
+        rest_within = (let s = item_shorter place (at_hand mid) item rest found in let n = ap length once_more in omega (arith, s, n))
 
-        counted : length (at_hand old) + length (joined (r.more ∷ [] ∷ [])) ≡ length (at_hand new) + used
-        counted =
-            let e = ap length r.after.longer in
-            let l = length-append (at_hand old) r.more in
-            let j = ap length (append-nil r.more) in
-            let n = ap length left in
-            omega (arith, e, l, j, n, counts)
+        abbrev used : ℕ
+        used = length again - length rest
 
-        takes_item : UsesItem comes at_hand all sound size takes most place old (r.more ∷ [] ∷ []) new item used
-        takes_item = record {
-          found = finds;
-          near = (λ small. rw left (near_item place (at_hand old) (at_hand mid) rest item r.after.near found small));
-          at_end = (λ h. (append-nil r.more ∙ (r.after.at_end h).0, k.at_end (r.after.at_end h).1));
-          sound_still = k.sound_still;
-          smaller = (let s = item_shorter place (at_hand mid) item rest found in omega (arith, s, k.smaller, r.after.no_larger));
-          counted = counted;
-          few = few;
+        counts : used + length rest ≡ length (at_hand mid)
+        counts = (let w = rest_within in let n = ap length once_more in omega (arith, w, n))
+
+        next_item : {T : Type 0} {takes : TakesOne T} → Next comes at_hand all sound size takes place old mid item
+        next_item = record {
+          rest = rest;
+          found = found_on;
+          near = (λ small. near_item place (at_hand old) (at_hand mid) rest item r.after.near found small);
+          bracket = (λ e small. near_bracket place (at_hand old) (at_hand mid) rest r.after.near (subst (λ (i : Item). item_at place (at_hand mid) ≡ the i rest) e found) small);
         }
 
-        pub step_on : (u : T) → takes t at item (Ok GoesOn) u → (next : Place) (white : Bool) → next ≡ place_after place item → white ≡ is_white item → Steps comes at_hand all sound size takes at most place old new t u (Ok (step.On next used white))
-        step_on u taken next white e h = record {
-          pieces = r.more ∷ [] ∷ [];
-          came = (mid, r.came, (new, k.came, refl));
-          after = (item, takes_item, taken, e, h);
-        }
+        module _ {T : Type 0} {takes : TakesOne T} {at : ℕ} {t : T} where
+          -- the item is too long
+          step_over : most < used → (u : T) → (item ≡ TagOpen → Brackets takes at t u) → Steps comes at_hand all sound size takes at most place old mid t u (Ok (step.Stops stop.TooLarge))
+          step_over long u bracket =
+              stops stop.TooLarge u (record {
+                over = λ more none. long_oversized most place (at_hand mid) more item rest (omega (arith, counts, long)) (found_on more none);
+                bracket = λ more none other is. bracket (same_item item TagOpen (rest ++ more) other (sym (found_on more none) ∙ is));
+              })
 
-        pub step_full : (u : T) → takes t at item (Ok Ends) u → (next : Place) (white : Bool) → next ≡ place_after place item → white ≡ is_white item → Steps comes at_hand all sound size takes at most place old new t u (Ok (step.Full next used white))
-        step_full u taken next white e h = record {
-          pieces = r.more ∷ [] ∷ [];
-          came = (mid, r.came, (new, k.came, refl));
-          after = (item, takes_item, taken, e, h);
-        }
+          -- it isn't used
+          pub step_stops : (why : Stop) (u : T) → Offered takes at item used most t u (answer.Stops why) → Steps comes at_hand all sound size takes at most place old mid t u (Ok (step.Stops why))
+          step_stops stop.Left u o = stops stop.Left u (item, next_item, o)
+          step_stops (stop.Refused fault) u o = stops (stop.Refused fault) u (item, next_item, o)
+          step_stops stop.TooLarge u o = step_over o.0 u o.1
+          step_stops stop.Full u o = absurd o
+          step_stops stop.End u o = absurd o
+          step_stops stop.NoItem u o = absurd o
+
+        module _ {new : X} (k : Keeps comes at_hand all sound size (length rest) mid new) where
+          left : at_hand new ≡ rest
+          left = (let t = item_taken place (at_hand mid) item rest found in k.kept t.0 rest t.1 refl)
+
+          finds_left : (more : List ℕ) → (all new → more ≡ []) → item_at place (at_hand old ++ (joined (r.more ∷ [] ∷ []) ++ more)) ≡ Some (item, at_hand new ++ more)
+          finds_left more none =
+              let hand = at_hand mid in
+              let e : hand ++ more ≡ at_hand old ++ ((r.more ++ []) ++ more) =
+              ap (λ (x : List ℕ). x ++ more) r.after.longer ∙ append_assoc (at_hand old) r.more more ∙ ap (λ (x : List ℕ). at_hand old ++ (x ++ more)) (sym (append-nil r.more)) in
+              ap (item_at place) (sym e) ∙ found_on more (λ h. none (k.at_end h)) ∙ ap (λ (x : List ℕ). the item (x ++ more)) (sym left)
+
+          counted : length (at_hand old) + length (joined (r.more ∷ [] ∷ [])) ≡ length (at_hand new) + used
+          counted =
+              let e = ap length r.after.longer in
+              let l = length-append (at_hand old) r.more in
+              let j = ap length (append-nil r.more) in
+              let n = ap length left in
+              omega (arith, e, l, j, n, counts)
+
+          uses : {T : Type 0} {takes : TakesOne T} → used ≤ most → UsesItem comes at_hand all sound size takes most place old (r.more ∷ [] ∷ []) new item used
+          uses few = record {
+            found = finds_left;
+            near = (λ small. rw left (near_item place (at_hand old) (at_hand mid) rest item r.after.near found small));
+            at_end = (λ h. (append-nil r.more ∙ (r.after.at_end h).0, k.at_end (r.after.at_end h).1));
+            sound_still = k.sound_still;
+            smaller = (let s = item_shorter place (at_hand mid) item rest found in omega (arith, s, k.smaller, r.after.no_larger));
+            counted = counted;
+            few = few;
+          }
+
+          module _ {T : Type 0} {takes : TakesOne T} {at : ℕ} {t u : T} {next : Place} {white : Bool} (e : next ≡ place_after place item) (h : white ≡ is_white item) where
+            pub step_on : Offered takes at item used most t u answer.GoesOn → Steps comes at_hand all sound size takes at most place old new t u (Ok (step.On next used white))
+            step_on o = record { pieces = r.more ∷ [] ∷ []; came = (mid, r.came, (new, k.came, refl)); after = (item, uses o.1, o.0, e, h) }
+
+            pub step_full : Offered takes at item used most t u answer.Ends → Steps comes at_hand all sound size takes at most place old new t u (Ok (step.Full next used white))
+            step_full o = record { pieces = r.more ∷ [] ∷ []; came = (mid, r.came, (new, k.came, refl)); after = (item, uses o.1, o.0, e, h) }

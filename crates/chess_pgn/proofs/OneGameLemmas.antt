@@ -16,7 +16,7 @@ use Rattle.chess_pgn.proofs.DerivedLemmas.{only_one}
 use Rattle.chess_pgn.proofs.GivenLemmas.{tags_once}
 use Rattle.chess_pgn.proofs.SameTagsLemmas.{one_tags}
 use Rattle.chess_pgn.proofs.SpellLemmas.{one_spelling, place_behind}
-use Rattle.chess_pgn.proofs.SplitLemmas.{All, Halts, all_of, begun_halts, begun_outside, behind_append, bracket_item, ending_halts, none_spelled, one_split, starts_more, tags_all_heading, tests_apart}
+use Rattle.chess_pgn.proofs.SplitLemmas.{All, Halts, all_of, begun_halts, begun_outside, behind_append, bracket_item, ending_halts, none_spelled, one_split, starts_more, tags_all_heading, apart}
 
 -- ---- the same items give the same game
 
@@ -194,10 +194,10 @@ white_front (i ∷ is) ks e = more (is_white i) (list_all is_white (is ++ ks)) e
 
 pub white_no_game : (input : List ℕ) (g : Game) (n : ℕ) → IsWhite input → IsAtFront input g n → ⊥
 white_no_game input g n w x = elim (either (length x.items) (length w.items)) [
-  | inl le ↦ (let c = one_spelling GameStart input x.items w.items x.rest [] x.spelled w.spelled le in tests_apart (list_all is_white x.items) (white_front x.items c.0 (ap (list_all is_white) (sym c.1) ∙ w.white)) x.some)
+  | inl le ↦ (let c = one_spelling GameStart input x.items w.items x.rest [] x.spelled w.spelled le in apart (white_front x.items c.0 (ap (list_all is_white) (sym c.1) ∙ w.white)) x.some)
   | inr le ↦
       (let c = one_spelling GameStart input w.items x.items [] x.rest w.spelled x.spelled le in
       let none = none_spelled (place_behind GameStart w.items) c.0 x.rest c.2 in
       let same : w.items ≡ x.items = sym (append-nil w.items) ∙ ap (λ (z : List Item). w.items ++ z) (sym none) ∙ sym c.1 in
-      tests_apart (list_all is_white x.items) (ap (list_all is_white) (sym same) ∙ w.white) x.some)
+      apart (ap (list_all is_white) (sym same) ∙ w.white) x.some)
 ]

@@ -1,17 +1,13 @@
 -- Reads until an item is decided.
-use Rattle.std.proofs.Common.{◌≡◌, ℕ, ◌+◌, ◌≤◌, ◌<◌, ◌⊎◌, inl, inr, Bool, true, false, List, [], ◌∷◌, ◌++◌, length, take, refl, sym, ap, subst, ◌∙◌, arith, append_assoc, append-nil, length-append, Ok, Err}
+use Rattle.std.proofs.Common.{◌≡◌, ℕ, ◌+◌, ◌≤◌, Bool, true, false, List, [], ◌∷◌, ◌++◌, length, take, refl, sym, ap, subst, ◌∙◌, arith, append_assoc, append-nil, length-append, Ok}
 use Rattle.std.proofs.lemmas.Bool.{false≢true}
 use Rattle.chess_types.specs.bytes.Calls.{Calls, joined}
 use Rattle.chess_types.proofs.CallLemmas.{Calls-more, joined-more}
 use Rattle.chess_pgn.specs.steps.Deciding.{Decides}
-use Rattle.chess_pgn.specs.Sources.{Breaks, Came, unread}
-use Rattle.chess_pgn.specs.steps.AtHands.{Reads, Needed, Readied}
-use Rattle.chess_pgn.specs.steps.Texts.{BreaksOff}
+use Rattle.chess_pgn.specs.Sources.{Came, unread}
+use Rattle.chess_pgn.specs.steps.AtHands.{Reads, Needed}
 use Rattle.chess_pgn.specs.declared.at_hand.AtHand.{AtHand}
-use Rattle.chess_pgn.specs.declared.at_hand.Fault.{Fault}
-use Rattle.chess_pgn.specs.declared.at_hand.Fault.TheVariants.{Memory, Read}
 use Rattle.chess_pgn.specs.declared.place.Place.{Place}
-use Rattle.chess_pgn.proofs.BreakLemmas.{came_none}
 use Rattle.chess_pgn.proofs.OpenLemmas.{nothing_undecided}
 use Rattle.chess_pgn.proofs.ReadLemmas.{joined_small, needed_more, take_front}
 
@@ -61,55 +57,9 @@ module _ {R A : Type 0} (gives : R → List ℕ → R → Type 0) (ended : R →
         undecided = subst (λ (x : List ℕ). Decides place (take (length (unread now)) x) → ⊥) (sym first) (subst (λ (x : List ℕ). Decides place x → ⊥) (sym (take_front (unread now) r.piece)) undecided);
       }
 
-  pub going_ready : (looked : ℕ) (now : AtHand R A) → Going gives ended failed most place looked old now → Decides place (unread now) ⊎ (now.has_ended ≡ true) → Readied gives ended failed most place old now (Ok true)
-  going_ready looked now g why = record {
-    pieces = g.pieces;
-    calls = g.calls;
-    needed = g.needed;
-    counted = g.counted;
-    well = g.well;
-    at_end = λ e. ((g.at_end e).1, (g.at_end e).0);
-    whole = g.whole;
-    ended_so = g.ended_so;
-    after = why;
-  }
+module _ {R A : Type 0} {gives : R → List ℕ → R → Type 0} {ended : R → Type 0} {failed : R → Bool} {most : ℕ} {place : Place} {looked : ℕ} {old now : AtHand R A} (g : Going gives ended failed most place looked old now) where
+  pub so_far : Came gives failed old (joined g.pieces) now
+  so_far = record { pieces = g.pieces; calls = g.calls; whole = refl; counted = g.counted; small = joined_small most place (unread old) g.pieces g.needed; well = g.well }
 
-  -- too many bytes are at hand
-  pub going_over : (looked : ℕ) (now : AtHand R A) → Going gives ended failed most place looked old now → (Decides place (unread now) → ⊥) → most < length (unread now) → Readied gives ended failed most place old now (Ok false)
-  going_over looked now g undecided over = record {
-    pieces = g.pieces;
-    calls = g.calls;
-    needed = g.needed;
-    counted = g.counted;
-    well = g.well;
-    at_end = λ e. ((g.at_end e).1, (g.at_end e).0);
-    whole = g.whole;
-    ended_so = g.ended_so;
-    after = (over, undecided);
-  }
-
-  abbrev Off : AtHand R A → Fault → Type 0
-  Off new fault = BreaksOff (λ (s : AtHand R A) bytes t. Came gives failed s bytes t) (λ s t. Breaks gives failed s t) (λ s. s.has_ended ≡ true) old new fault
-
-  module _ (looked : ℕ) (now : AtHand R A) (g : Going gives ended failed most place looked old now) (goes : now.has_ended ≡ false) where
-    so_far : Came gives failed old (joined g.pieces) now
-    so_far = record { pieces = g.pieces; calls = g.calls; whole = refl; counted = g.counted; small = joined_small most place (unread old) g.pieces g.needed; well = g.well }
-
-    not_ended : old.has_ended ≡ true → ⊥
-    not_ended e = false≢true (sym goes ∙ (g.at_end e).0)
-
-    -- there may be no more reads
-    pub going_many : now.reads ≡ 0 → Off now Read
-    going_many none = (not_ended, joined g.pieces ∷ [], now, (now, so_far, refl), inr (refl, none))
-
-    pub going_fault : (new : AtHand R A) (e : Fault) → Reads gives ended failed now new (Err e) → Off new e
-    going_fault new Read r = (not_ended, joined g.pieces ∷ [], now, (now, so_far, refl), inl (subst (λ (p : List ℕ). gives now.source p new.source) r.after.1 r.call, r.after.0))
-    going_fault new Memory r = (not_ended, joined g.pieces ∷ r.piece ∷ [], (now, so_far, (new, one, refl)))
-      where
-        one : Came gives failed now r.piece new
-        one = record { pieces = r.piece ∷ []; calls = (new.source, r.call, refl); whole = append-nil r.piece; counted = r.counted; small = r.small; well = r.after }
-
-    -- no buffer could be made
-    pub going_poor : (new : AtHand R A) (e : Fault) → e ≡ Memory → new.source ≡ now.source → new.reads ≡ now.reads → Off new e
-    going_poor new e memory source reads =
-        subst (λ (f : Fault). Off new f) (sym memory) (not_ended, joined g.pieces ∷ [] ∷ [], (now, so_far, (new, came_none gives failed now new source reads, refl)))
+  pub not_ended : now.has_ended ≡ false → old.has_ended ≡ true → ⊥
+  not_ended goes e = false≢true (sym goes ∙ (g.at_end e).0)

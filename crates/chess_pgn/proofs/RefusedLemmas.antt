@@ -25,16 +25,11 @@ use Rattle.chess_pgn.specs.declared.reader.header.Part.TheVariants.{Closing, Nam
 use Rattle.chess_pgn.specs.declared.reader.moves.Interrupted.{Interrupted}
 use Rattle.chess_pgn.proofs.ChainLemmas.{InHead, InMovetext, Moving, Progress, movetext_first}
 use Rattle.chess_pgn.proofs.DerivedLemmas.{read_again}
+use Rattle.chess_pgn.proofs.FoundLemmas.{some_is}
 use Rattle.chess_pgn.proofs.GivenLemmas.{none_go_on, none_on, tags_once, tags_read}
 use Rattle.chess_pgn.proofs.RefuseLemmas.{end_fails}
-use Rattle.chess_pgn.proofs.SplitLemmas.{All, Halts, all_of, begun_halts, ending_halts, one_split, starts_more, tags_all_heading}
+use Rattle.chess_pgn.proofs.SplitLemmas.{All, Halts, all_of, begun_halts, ending_halts, one_split, starts_more, tags_all_heading, apart, first_is, rest_is}
 use Rattle.chess_pgn.proofs.StepLemmas.{no_lines}
-
-apart : {b : Bool} → b ≡ true → b ≡ false → ⊥
-apart {b} e f = (let k : true ≡ false = sym e ∙ f in cc)
-
-some_is : {A : Type 0} (x y : A) → Some x ≡ Some y → x ≡ y
-some_is x y e = cc
 
 some_none : {A : Type 0} (x : A) (o : Option A) → o ≡ Some x → o ≡ None → ⊥
 some_none x o e f = (let k : Some x ≡ None = sym e ∙ f in cc)
@@ -55,12 +50,6 @@ none_left (i ∷ tail) h s = absurd (apart h.0 s)
 none_both : (xs ys : List Item) → xs ++ ys ≡ [] → (xs ≡ []) × (ys ≡ [])
 none_both [] ys e = (refl, e)
 none_both (x ∷ xs) ys e = absurd cc
-
-first_is : (i j : Item) (is js : List Item) → i ∷ is ≡ j ∷ js → i ≡ j
-first_is i j is js e = cc
-
-rest_is : (i j : Item) (is js : List Item) → i ∷ is ≡ j ∷ js → is ≡ js
-rest_is i j is js e = cc
 
 -- items that pass, and one more: it is in a front whose tail doesn't pass, or next to it
 parted : (p : Item → Bool) (xs : List Item) (x : Item) (more front tail : List Item) → xs ++ x ∷ more ≡ front ++ tail → All p xs → Halts p tail

@@ -8,6 +8,10 @@ use Rattle.chess_tree.specs.Comments.{blanks, normalised}
 use Rattle.chess_pgn.specs.Grammar.{comments_joined}
 use Rattle.chess_pgn.specs.steps.Readings.{IsSpaced}
 
+pub normalised_none : normalised [] ≡ []
+unfolding normalised
+normalised_none = refl
+
 -- a gap parts two texts
 parted : (gaps begun a b : List ℕ) (gap : ℕ) → is_gap gaps gap ≡ true → words_from gaps begun (a ++ gap ∷ b) ≡ words_from gaps begun a ++ words gaps b
 parted gaps begun [] b gap is = ap (λ (r : Bool). if r then as_word begun ++ words_from gaps [] b else words_from gaps (begun ++ gap ∷ []) b) is

@@ -10,6 +10,7 @@ use Rattle.std.specs.declared.cmp.Ordering.TheVariants.{Less, Equal, Greater}
 use Rattle.std.proofs.lemmas.Map.Text.{is_eq-slice_cmp}
 use Rattle.chess_pgn.specs.Games.{Tags, tag_in}
 use Rattle.chess_pgn.specs.Tags.{Ascend, HasTags}
+use Rattle.chess_pgn.proofs.FoundLemmas.{some_is}
 
 abbrev Pairs : Type 0
 Pairs = List (List ℕ × List ℕ)
@@ -57,9 +58,6 @@ there x xs = if_true (bytes_eq x.0 x.0) (Some x.1) (tag_in x.0 xs) (itself x.0)
 
 some_none : {A : Type 0} (x : A) → Some x ≡ None → ⊥
 some_none x e = cc
-
-some_is : {A : Type 0} (x y : A) → Some x ≡ Some y → x ≡ y
-some_is x y e = cc
 
 turned : (r : Ordering) → r ≡ Greater → ordering_reverse r ≡ Less
 turned r e = ap ordering_reverse e

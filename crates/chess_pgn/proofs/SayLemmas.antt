@@ -10,7 +10,7 @@ use Rattle.chess_pgn.specs.Grammar.{comments_joined}
 use Rattle.chess_pgn.specs.steps.Readings.{said_here}
 use Rattle.chess_pgn.proofs.HangLemmas.{hang-nothing, joined-nil}
 use Rattle.chess_pgn.proofs.PlaceLemmas.{commented_is, node_sound}
-use Rattle.chess_pgn.proofs.RemarkLemmas.{normalised_parted}
+use Rattle.chess_pgn.proofs.RemarkLemmas.{normalised_none, normalised_parted}
 
 said_tree : (tree : GameTree) (path n x : List ℕ) → Leads path tree.below → x ≡ comments_joined (node_of path (root_node tree)).comment n
     → commented_tree x path tree ≡ (said_here n (record { tree = tree; path = path })).tree
@@ -28,10 +28,6 @@ said_nothing t = at t.path
     at : (path : List ℕ) → record { tree = t.tree; path = path } ≡ said_here [] (record { tree = t.tree; path = path })
     at [] = ap (λ (z : List ℕ). record { tree = record { start = t.tree.start; comment = z; below = t.tree.below }; path = [] }) (sym (joined-nil t.tree.comment))
     at (k ∷ path) = ap (λ (z : Forest). record { tree = record { start = t.tree.start; comment = t.tree.comment; below = z }; path = k ∷ path }) (sym (hang-nothing (k ∷ path) t.tree.below))
-
-normalised_none : normalised [] ≡ []
-unfolding normalised
-normalised_none = refl
 
 pub nothing_said : (t : TreeParts) (text : List ℕ) → text ≡ [] → t ≡ said_here (normalised text) t
 nothing_said t text e = said_nothing t ∙ ap (λ (z : List ℕ). said_here z t) (sym normalised_none ∙ ap normalised (sym e))

@@ -1,19 +1,19 @@
 -- Games of a whole text, and of a source.
-use Rattle.std.proofs.Common.{◌≡◌, ℕ, ◌≤◌, ◌<◌, Bool, true, false, List, [], ◌∷◌, ◌++◌, length, refl, sym, subst, ap, ◌∙◌, arith, append-nil}
+use Rattle.std.proofs.Common.{◌≡◌, ℕ, ◌≤◌, ◌<◌, Bool, false, List, [], ◌∷◌, ◌++◌, length, refl, sym, subst, ap, ◌∙◌, arith, append-nil}
 use Rattle.std.specs.List.{list_all}
 use Rattle.std.specs.Prelude.{Result, Ok, Option, Some, None, IfSome}
 use Rattle.chess_types.specs.bytes.Calls.{Calls, joined}
 use Rattle.chess_pgn.specs.Games as games
 use Rattle.chess_pgn.specs.Items.{Item, Spells, is_white, place_after}
 use Rattle.chess_pgn.specs.Reading.{IsAtFront, IsWhite}
-use Rattle.chess_pgn.specs.Sources.{Came, HasGame, HasNone, unread}
+use Rattle.chess_pgn.specs.Sources.{HasGame, HasNone, unread}
 use Rattle.chess_pgn.specs.steps.GameAt.{FoundGame, HasCome, NoneCame}
 use Rattle.chess_pgn.specs.steps.GameCode.{game_of}
 use Rattle.chess_pgn.specs.declared.at_hand.AtHand.{AtHand}
 use Rattle.chess_pgn.specs.declared.game.Game.{Game}
 use Rattle.chess_pgn.specs.declared.place.Place.{Place}
 use Rattle.chess_pgn.specs.declared.place.Place.TheVariants.{GameStart}
-use Rattle.chess_pgn.proofs.BreakLemmas.{all_came}
+use Rattle.chess_pgn.proofs.BreakLemmas.{all_came, brings, has_all}
 use Rattle.chess_pgn.proofs.LocalLemmas.{text_shorter}
 
 -- ---- a whole text
@@ -59,13 +59,7 @@ front_some : (input : List ℕ) (game : games.Game) (used : ℕ) → IsAtFront i
 front_some input game used f = (let k = items_some input f.items f.rest f.spelled f.some in omega (arith, k, f.counted))
 
 module _ {R A : Type 0} (gives : R → List ℕ → R → Type 0) (failed : R → Bool) where
-  abbrev pub brings : AtHand R A → List ℕ → AtHand R A → Type 0
-  brings s bytes t = Came gives failed s bytes t
-
-  abbrev pub has_all : AtHand R A → Type 0
-  has_all s = s.has_ended ≡ true
-
-  one_game : {B : Type 0} (old new : AtHand R A) (game : Game B) (used : ℕ) → HasCome brings unread has_all old new game used → HasGame gives failed old new (game_of game)
+  one_game : {B : Type 0} (old new : AtHand R A) (game : Game B) (used : ℕ) → HasCome (brings gives failed) unread (has_all gives failed) old new game used → HasGame gives failed old new (game_of game)
   one_game old new game used h = record {
     bytes = joined h.pieces;
     came = all_came gives failed old new h.pieces h.came;
@@ -77,7 +71,7 @@ module _ {R A : Type 0} (gives : R → List ℕ → R → Type 0) (failed : R �
     still = h.still;
   }
 
-  no_game : (old new : AtHand R A) → NoneCame brings unread has_all old new → HasNone gives failed old new
+  no_game : (old new : AtHand R A) → NoneCame (brings gives failed) unread (has_all gives failed) old new → HasNone gives failed old new
   no_game old new h = record {
     bytes = joined h.pieces;
     came = all_came gives failed old new h.pieces h.came;
@@ -87,8 +81,8 @@ module _ {R A : Type 0} (gives : R → List ℕ → R → Type 0) (failed : R �
     still = h.still;
   }
 
-  pub source_game : {B : Type 0} (old new : AtHand R A) (found : Option (Game B × ℕ)) (game : Game B) (used : ℕ) → FoundGame brings unread has_all old new found → found ≡ Some (game, used) → HasGame gives failed old new (game_of game)
-  source_game old new found game used h e = one_game old new game used (subst (λ o. FoundGame brings unread has_all old new o) e h)
+  pub source_game : {B : Type 0} (old new : AtHand R A) (found : Option (Game B × ℕ)) (game : Game B) (used : ℕ) → FoundGame (brings gives failed) unread (has_all gives failed) old new found → found ≡ Some (game, used) → HasGame gives failed old new (game_of game)
+  source_game old new found game used h e = one_game old new game used (subst (λ o. FoundGame (brings gives failed) unread (has_all gives failed) old new o) e h)
 
-  pub source_none : {B : Type 0} (old new : AtHand R A) (found : Option (Game B × ℕ)) → FoundGame brings unread has_all old new found → found ≡ None → HasNone gives failed old new
-  source_none old new found h e = no_game old new (subst (λ o. FoundGame brings unread has_all old new o) e h)
+  pub source_none : {B : Type 0} (old new : AtHand R A) (found : Option (Game B × ℕ)) → FoundGame (brings gives failed) unread (has_all gives failed) old new found → found ≡ None → HasNone gives failed old new
+  source_none old new found h e = no_game old new (subst (λ o. FoundGame (brings gives failed) unread (has_all gives failed) old new o) e h)

@@ -27,14 +27,13 @@ abbrev pub Halts : (Item → Bool) → List Item → Type 0
 Halts p [] = ⊤
 Halts p (i ∷ is) = p i ≡ false
 
-pub tests_apart : (b : Bool) → b ≡ true → b ≡ false → ⊥
-tests_apart true e h = cc
-tests_apart false e h = cc
+pub apart : {b : Bool} → b ≡ true → b ≡ false → ⊥
+apart {b} e f = (let k : true ≡ false = sym e ∙ f in cc)
 
 pub first_is : (i j : Item) (is js : List Item) → i ∷ is ≡ j ∷ js → i ≡ j
 first_is i j is js e = cc
 
-rest_is : (i j : Item) (is js : List Item) → i ∷ is ≡ j ∷ js → is ≡ js
+pub rest_is : (i j : Item) (is js : List Item) → i ∷ is ≡ j ∷ js → is ≡ js
 rest_is i j is js e = cc
 
 conses : (i j : Item) (is js : List Item) → i ≡ j → is ≡ js → i ∷ is ≡ j ∷ js
@@ -43,8 +42,8 @@ conses i j is js e h = cc
 -- those that pass, up to the first that doesn't
 pub one_split : (p : Item → Bool) (a b xs ys : List Item) → All p a → All p b → Halts p xs → Halts p ys → a ++ xs ≡ b ++ ys → (a ≡ b) × (xs ≡ ys)
 one_split p [] [] xs ys ha hb hx hy e = (refl, e)
-one_split p [] (j ∷ b) xs ys ha hb hx hy e = absurd (tests_apart (p j) hb.0 (subst (Halts p) e hx))
-one_split p (i ∷ a) [] xs ys ha hb hx hy e = absurd (tests_apart (p i) ha.0 (subst (Halts p) (sym e) hy))
+one_split p [] (j ∷ b) xs ys ha hb hx hy e = absurd (apart hb.0 (subst (Halts p) e hx))
+one_split p (i ∷ a) [] xs ys ha hb hx hy e = absurd (apart ha.0 (subst (Halts p) (sym e) hy))
 one_split p (i ∷ a) (j ∷ b) xs ys ha hb hx hy e =
     let first = first_is i j (a ++ xs) (b ++ ys) e in
     let c = one_split p a b xs ys ha.1 hb.1 hx hy (rest_is i j (a ++ xs) (b ++ ys) e) in

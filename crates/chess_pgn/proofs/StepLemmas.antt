@@ -17,14 +17,14 @@ use Rattle.chess_tree.specs.WellFormed.{Leads}
 use Rattle.chess_pgn.specs.Grammar.{Element, Annotation, Remark, Open, Close, Text, Part, few_are_open, comments_joined, move_in, ok_move}
 use Rattle.chess_pgn.specs.steps.Hanging.{hang, leaf, nag, say}
 use Rattle.chess_pgn.specs.steps.Elements.{Frame, Last, path_of, last_of, end_of}
-use Rattle.chess_pgn.specs.steps.Readings.{Goes, Reading, fresh, goes_on, HoldsReading, is_nil, Pends, AreFrames, Nested, position_at, said_here, comment_at, forest_at}
+use Rattle.chess_pgn.specs.steps.Readings.{Goes, Reading, fresh, goes_on, HoldsReading, IsSpaced, is_nil, Pends, AreFrames, Nested, position_at, said_here, comment_at, forest_at}
 use Rattle.chess_pgn.specs.declared.reader.moves.Interrupted.{Interrupted}
 use Rattle.chess_tree.specs.declared.fault.TreeFault.{TreeFault}
 use Rattle.chess_tree.specs.declared.fault.TreeFault.TheVariants.{AtRoot, NoSuch}
 use Rattle.chess_pgn.proofs.KeepLemmas.{keeps, new-there}
 use Rattle.chess_pgn.proofs.MeetLemmas.{at-front}
 use Rattle.chess_pgn.proofs.PlaceLemmas.{added_is, annotated_is, moves_kept}
-use Rattle.chess_pgn.proofs.RemarkLemmas.{normalised_append, normalised_parted, spaced_append}
+use Rattle.chess_pgn.proofs.RemarkLemmas.{normalised_append, normalised_none, normalised_parted, spaced_append}
 
 -- what a step gives
 abbrev pub Next : Element → TreeParts → List Interrupted → Bool → List ℕ → ℕ → Reading → Type 0
@@ -65,32 +65,38 @@ pub cut_parts : (outer text comments : List ℕ) (from : ℕ) → comments ≡ o
 cut_parts outer text comments from e h =
     rw (e, cut_is outer text from h) (drop_at outer text (length outer) refl, take_at outer text (length outer) refl)
 
+-- a comment more is waiting
+abbrev pub remarked : List ℕ → Reading → Reading
+remarked text s =
+    record { start = s.start; comment = s.comment; forest = s.forest; up = s.up; last_move = s.last_move; here = s.here; lead = comments_joined s.lead (normalised text); interrupted = s.interrupted }
+
+remark_held : (t : TreeParts) (lines : List Interrupted) (played : Bool) (comments comments' text : List ℕ) (from : ℕ) (s : Reading)
+    → comments' ≡ comments ++ 32 ∷ text → HoldsReading t lines played comments from s → HoldsReading t lines played comments' from (remarked text s)
+remark_held t lines played comments comments' text from s e h = record {
+  start = h.start;
+  comment = h.comment;
+  forest = h.forest;
+  path = h.path;
+  played = h.played;
+  here = h.here;
+  before = h.before;
+  begins = h.begins;
+  nested = h.nested;
+  there = h.there;
+  frames = h.frames;
+  outer = h.outer;
+  text = h.text ++ 32 ∷ text;
+  parts = e ∙ ap (λ (z : List ℕ). z ++ 32 ∷ text) h.parts ∙ append_assoc h.outer h.text (32 ∷ text);
+  from = h.from;
+  spaced = spaced_append h.text (32 ∷ text) h.spaced refl;
+  lead = ap (λ (z : List ℕ). comments_joined z (normalised text)) h.lead ∙ sym (normalised_parted h.text text);
+  pends = h.pends;
+}
+
 pub remark_goes : (t : TreeParts) (lines : List Interrupted) (played : Bool) (comments comments' text : List ℕ) (from : ℕ) (s : Reading)
     → comments' ≡ comments ++ 32 ∷ text → HoldsReading t lines played comments from s → Next (Remark (normalised text)) t lines played comments' from s
-remark_goes t lines played comments comments' text from s e h = (
-  record { start = s.start; comment = s.comment; forest = s.forest; up = s.up; last_move = s.last_move; here = s.here; lead = comments_joined s.lead (normalised text); interrupted = s.interrupted },
-  record {
-    start = h.start;
-    comment = h.comment;
-    forest = h.forest;
-    path = h.path;
-    played = h.played;
-    here = h.here;
-    before = h.before;
-    begins = h.begins;
-    nested = h.nested;
-    there = h.there;
-    frames = h.frames;
-    outer = h.outer;
-    text = h.text ++ 32 ∷ text;
-    parts = e ∙ ap (λ (z : List ℕ). z ++ 32 ∷ text) h.parts ∙ append_assoc h.outer h.text (32 ∷ text);
-    from = h.from;
-    spaced = spaced_append h.text (32 ∷ text) h.spaced refl;
-    lead = ap (λ (z : List ℕ). comments_joined z (normalised text)) h.lead ∙ sym (normalised_parted h.text text);
-    pends = h.pends;
-  },
-  record { start = refl; given = λ es. refl; few = λ es. refl },
-)
+remark_goes t lines played comments comments' text from s e h =
+    (remarked text s, remark_held t lines played comments comments' text from s e h, record { start = refl; given = λ es. refl; few = λ es. refl })
 
 pub no_lines : (texts : List ℕ) (lines : List Interrupted) → Pends texts [] (reverse lines) → lines ≡ []
 no_lines texts lines h = by (reverse lines) refl h
@@ -98,10 +104,6 @@ no_lines texts lines h = by (reverse lines) refl h
     by : (is : List Interrupted) → reverse lines ≡ is → Pends texts [] is → lines ≡ []
     by [] e h = sym (reverse-reverse lines) ∙ ap reverse e
     by (i ∷ is) e h = absurd h
-
-normalised_none : normalised [] ≡ []
-unfolding normalised
-normalised_none = refl
 
 abbrev pub state : State → List ℕ → Forest → List ℕ → Last → State → List ℕ → List Frame → Reading
 state start c f up last_move here lead st = record { start = start; comment = c; forest = f; up = up; last_move = last_move; here = here; lead = lead; interrupted = st }
@@ -153,28 +155,51 @@ nag_ignored t lines played comments from n start c f up (Some x) here lead st no
 
 -- ---- moves
 
-some_is : {A : Type 0} (x y : A) → Some x ≡ Some y → x ≡ y
-some_is x y e = cc
-
 moved : (p : State) (w : List ℕ) (m : MoveParts) → reading p w ≡ Ok m → move_in p w ≡ Some m
 moved p w m e = ap ok_move e
 
 -- a move behind the place to which a path leads
 module _ (t t' : TreeParts) (m : MoveParts) (start : State) (f : Forest) (p : List ℕ) (es : t.tree.start ≡ start) (ef : t.tree.below ≡ f) (ep : t.path ≡ p) (e : t' ≡ added m t) (el : line_to t' ≡ extended (line_to t) m) where
-  pub added_forest : t'.tree.below ≡ hang p (leaf m) f
+  added_forest : t'.tree.below ≡ hang p (leaf m) f
   added_forest = ap (λ (z : TreeParts). z.tree.below) e ∙ rw (ep, ef) (added_is p m f)
 
-  pub added_path : t'.path ≡ p ++ count (below_at p f) ∷ []
+  added_path : t'.path ≡ p ++ count (below_at p f) ∷ []
   added_path = ap (λ (z : TreeParts). z.path) e ∙ rw (ep, ef) refl
 
-  pub added_start : t'.tree.start ≡ start
+  added_start : t'.tree.start ≡ start
   added_start = ap (λ (z : TreeParts). z.tree.start) e ∙ es
 
-  pub added_here : (here : State) → here ≡ position_at start f p → after here m ≡ position_at start (hang p (leaf m) f) (p ++ count (below_at p f) ∷ [])
+  added_here : (here : State) → here ≡ position_at start f p → after here m ≡ position_at start (hang p (leaf m) f) (p ++ count (below_at p f) ∷ [])
   added_here here eh =
       let at_t : position_at start f p ≡ last (line_to t) = rw (es, ef, ep) refl in
       let at_t' : last (line_to t') ≡ position_at start (hang p (leaf m) f) (p ++ count (below_at p f) ∷ []) = rw (added_start, added_forest, added_path) refl in
       ap (λ (z : State). after z m) (eh ∙ at_t) ∙ sym (last_extended (line_to t) m) ∙ sym (ap last el) ∙ at_t'
+
+  -- what is held behind the move
+  pub move_held : (lines : List Interrupted) (comments : List ℕ) (from : ℕ) (c : List ℕ) (here : State) (lead : List ℕ) (st : List Frame) (outer text : List ℕ)
+      → t.tree.comment ≡ c → here ≡ position_at start f p → Leads p f → Nested p st → AreFrames start f st
+      → comments ≡ outer ++ text → from ≡ length outer → IsSpaced text → lead ≡ normalised text → Pends outer st (reverse lines)
+      → HoldsReading t' lines true comments from (state start c (hang p (leaf m) f) p (Some (count (below_at p f), here)) (after here m) lead st)
+  move_held lines comments from c here lead st outer text said eh there nested frames parts behind spaced el pends = record {
+    start = added_start;
+    comment = ap (λ (z : TreeParts). z.tree.comment) e ∙ said;
+    forest = added_forest;
+    path = added_path;
+    played = refl;
+    here = added_here here eh;
+    before = eh ∙ sym (position_kept start p p (leaf m) f there);
+    begins = tt;
+    nested = nested;
+    there = new-there p m f there;
+    frames = frames_kept start p (leaf m) f st frames;
+    outer = outer;
+    text = text;
+    parts = parts;
+    from = behind;
+    spaced = spaced;
+    lead = el;
+    pends = pends;
+  }
 
 said_root : (t t1 : TreeParts) (text : List ℕ) → t.path ≡ [] → t1 ≡ said_here text t
     → (t1.tree.start ≡ t.tree.start) × (t1.tree.comment ≡ comments_joined t.tree.comment text) × (t1.tree.below ≡ t.tree.below) × (t1.path ≡ [])
@@ -222,29 +247,10 @@ word_goes t t1 t2 lines played comments comments' from w m er e1 ec e2 el which 
     let ef : t1.tree.below ≡ g = said.2 ∙ ap (hang p (say lead)) h.forest in
     let es : t1.tree.start ≡ start = said.0 ∙ h.start in
     let eh : here ≡ position_at start g p = h.here ∙ sym (position_kept start p p (say lead) f h.there) in
-    let er' : move_in here w ≡ Some m = ap (λ (z : State). move_in z w) (h.here ∙ rw (h.start, h.forest, h.path) refl) ∙ moved (last (line_to t)) w m er in
-    let there = keeps p p (say lead) f h.there in (
+    let er' : move_in here w ≡ Some m = ap (λ (z : State). move_in z w) (h.here ∙ rw (h.start, h.forest, h.path) refl) ∙ moved (last (line_to t)) w m er in (
       state start c (hang p (leaf m) g) p (Some (count (below_at p g), here)) (after here m) [] st,
-      record {
-        start = added_start t1 t2 m start g p es ef said.3 e2 el;
-        comment = ap (λ (z : TreeParts). z.tree.comment) e2 ∙ said.1 ∙ h.comment;
-        forest = added_forest t1 t2 m start g p es ef said.3 e2 el;
-        path = added_path t1 t2 m start g p es ef said.3 e2 el;
-        played = refl;
-        here = added_here t1 t2 m start g p es ef said.3 e2 el here eh;
-        before = eh ∙ sym (position_kept start p p (leaf m) g there);
-        begins = tt;
-        nested = nested-more up (x.0 ∷ []) st h.nested;
-        there = new-there p m g there;
-        frames = frames_kept start p (leaf m) g st (frames_kept start p (say lead) f st h.frames);
-        outer = h.outer;
-        text = [];
-        parts = ec ∙ cut.1 ∙ sym (append-nil h.outer);
-        from = h.from;
-        spaced = tt;
-        lead = sym normalised_none;
-        pends = h.pends;
-      },
+      move_held t1 t2 m start g p es ef said.3 e2 el lines comments' from c here [] st h.outer [] (said.1 ∙ h.comment) eh (keeps p p (say lead) f h.there) (nested-more up (x.0 ∷ []) st h.nested)
+          (frames_kept start p (say lead) f st h.frames) (ec ∙ cut.1 ∙ sym (append-nil h.outer)) h.from tt (sym normalised_none) h.pends,
       record { start = refl; given = λ es. rw er' refl; few = λ es. refl },
     )
 word_goes t t1 t2 lines played comments comments' from w m er e1 ec e2 el (inl k) start c f up None here lead (y ∷ ys) h = absurd (let z : true ≡ false = sym k ∙ h.played in cc)
@@ -259,26 +265,8 @@ word_goes t t1 t2 lines played comments comments' from w m er e1 ec e2 el which 
     let ep : t1.path ≡ up = said.3 ∙ sym root in
     let er' : move_in here w ≡ Some m = ap (λ (z : State). move_in z w) (h.here ∙ rw (h.start, h.forest, h.path) refl) ∙ moved (last (line_to t)) w m er in (
       state start (comments_joined c lead) (hang up (leaf m) f) up (Some (count (below_at up f), here)) (after here m) [] [],
-      record {
-        start = added_start t1 t2 m start f up es ef ep e2 el;
-        comment = ap (λ (z : TreeParts). z.tree.comment) e2 ∙ said.1 ∙ ap (λ (z : List ℕ). comments_joined z lead) h.comment;
-        forest = added_forest t1 t2 m start f up es ef ep e2 el;
-        path = added_path t1 t2 m start f up es ef ep e2 el;
-        played = refl;
-        here = added_here t1 t2 m start f up es ef ep e2 el here h.here;
-        before = h.here ∙ sym (position_kept start up up (leaf m) f h.there);
-        begins = tt;
-        nested = tt;
-        there = new-there up m f h.there;
-        frames = tt;
-        outer = h.outer;
-        text = [];
-        parts = ec ∙ cut.1 ∙ sym (append-nil h.outer);
-        from = h.from;
-        spaced = tt;
-        lead = sym normalised_none;
-        pends = h.pends;
-      },
+      move_held t1 t2 m start f up es ef ep e2 el lines comments' from (comments_joined c lead) here [] [] h.outer [] (said.1 ∙ ap (λ (z : List ℕ). comments_joined z lead) h.comment) h.here h.there tt tt
+          (ec ∙ cut.1 ∙ sym (append-nil h.outer)) h.from tt (sym normalised_none) h.pends,
       record { start = refl; given = λ es. rw er' refl; few = λ es. refl },
     )
 
@@ -292,26 +280,7 @@ first_goes t t' lines played comments from w m er e el none some start c f up No
 first_goes t t' lines played comments from w m er e el none some start c f up None here lead (y ∷ ys) h =
     let er' : move_in here w ≡ Some m = ap (λ (z : State). move_in z w) (h.here ∙ rw (h.start, h.forest, h.path) refl) ∙ moved (last (line_to t)) w m er in (
       state start c (hang up (leaf m) f) up (Some (count (below_at up f), here)) (after here m) lead (y ∷ ys),
-      record {
-        start = added_start t t' m start f up h.start h.forest h.path e el;
-        comment = ap (λ (z : TreeParts). z.tree.comment) e ∙ h.comment;
-        forest = added_forest t t' m start f up h.start h.forest h.path e el;
-        path = added_path t t' m start f up h.start h.forest h.path e el;
-        played = refl;
-        here = added_here t t' m start f up h.start h.forest h.path e el here h.here;
-        before = h.here ∙ sym (position_kept start up up (leaf m) f h.there);
-        begins = tt;
-        nested = h.nested;
-        there = new-there up m f h.there;
-        frames = frames_kept start up (leaf m) f (y ∷ ys) h.frames;
-        outer = h.outer;
-        text = h.text;
-        parts = h.parts;
-        from = h.from;
-        spaced = h.spaced;
-        lead = h.lead;
-        pends = h.pends;
-      },
+      move_held t t' m start f up h.start h.forest h.path e el lines comments from c here lead (y ∷ ys) h.outer h.text h.comment h.here h.there h.nested h.frames h.parts h.from h.spaced h.lead h.pends,
       record { start = refl; given = λ es. rw er' refl; few = λ es. refl },
     )
 
@@ -529,73 +498,43 @@ ends_read t t1 t2 lines played comments from e1 e2 el start c f up (Some y) here
 
 pub remark_leads : (t : TreeParts) (lines : List Interrupted) (played : Bool) (comments comments' text : List ℕ) (from : ℕ) (start : State) (before : List ℕ)
     → comments' ≡ comments ++ 32 ∷ text → HoldsReading t lines played comments from (fresh start before) → HoldsReading t lines played comments' from (fresh start (comments_joined before (normalised text)))
-remark_leads t lines played comments comments' text from start before e h = record {
-  start = h.start;
-  comment = h.comment;
-  forest = h.forest;
-  path = h.path;
-  played = h.played;
-  here = h.here;
-  before = h.before;
-  begins = h.begins;
-  nested = h.nested;
-  there = h.there;
-  frames = h.frames;
-  outer = h.outer;
-  text = h.text ++ 32 ∷ text;
-  parts = e ∙ ap (λ (z : List ℕ). z ++ 32 ∷ text) h.parts ∙ append_assoc h.outer h.text (32 ∷ text);
-  from = h.from;
-  spaced = spaced_append h.text (32 ∷ text) h.spaced refl;
-  lead = ap (λ (z : List ℕ). comments_joined z (normalised text)) h.lead ∙ sym (normalised_parted h.text text);
-  pends = h.pends;
-}
+remark_leads t lines played comments comments' text from start before e h = remark_held t lines played comments comments' text from (fresh start before) e h
 
 starts_there : (start : State) → start ≡ position_at start Bare []
 unfolding last
 starts_there start = refl
 
-pub begins_in : (t t' : TreeParts) (lines : List Interrupted) (played : Bool) (comments : List ℕ) (from : ℕ) (first start : State) (before : List ℕ)
-    → t' ≡ record { tree = record { start = start; comment = []; below = Bare }; path = [] } → HoldsReading t lines played comments from (fresh first before) → HoldsReading t' lines played comments from (fresh start before)
-begins_in t t' lines played comments from first start before e h = record {
+-- a tree without moves, and the comments before them
+fresh_held : (t : TreeParts) (lines : List Interrupted) (played : Bool) (comments outer text : List ℕ) (from : ℕ) (start : State) (before : List ℕ)
+    → t ≡ record { tree = record { start = start; comment = []; below = Bare }; path = [] } → played ≡ false → comments ≡ outer ++ text → from ≡ length outer → IsSpaced text → before ≡ normalised text
+    → Pends outer [] (reverse lines) → HoldsReading t lines played comments from (fresh start before)
+fresh_held t lines played comments outer text from start before e none parts behind spaced lead pends = record {
   start = ap (λ (z : TreeParts). z.tree.start) e;
   comment = ap (λ (z : TreeParts). z.tree.comment) e;
   forest = ap (λ (z : TreeParts). z.tree.below) e;
   path = ap (λ (z : TreeParts). z.path) e;
-  played = h.played;
+  played = none;
   here = starts_there start;
   before = tt;
   begins = refl;
   nested = tt;
   there = tt;
   frames = tt;
-  outer = h.outer;
-  text = h.text;
-  parts = h.parts;
-  from = h.from;
-  spaced = h.spaced;
-  lead = h.lead;
-  pends = h.pends;
+  outer = outer;
+  text = text;
+  parts = parts;
+  from = behind;
+  spaced = spaced;
+  lead = lead;
+  pends = pends;
 }
+
+pub begins_in : (t t' : TreeParts) (lines : List Interrupted) (played : Bool) (comments : List ℕ) (from : ℕ) (first start : State) (before : List ℕ)
+    → t' ≡ record { tree = record { start = start; comment = []; below = Bare }; path = [] } → HoldsReading t lines played comments from (fresh first before) → HoldsReading t' lines played comments from (fresh start before)
+begins_in t t' lines played comments from first start before e h =
+    fresh_held t' lines played comments h.outer h.text from start before e h.played h.parts h.from h.spaced h.lead h.pends
 
 pub starts : (t : TreeParts) (lines : List Interrupted) (comments : List ℕ) (start : State)
     → t ≡ record { tree = record { start = start; comment = []; below = Bare }; path = [] } → lines ≡ [] → comments ≡ [] → HoldsReading t lines false comments 0 (fresh start [])
-starts t lines comments start e el ec = record {
-  start = ap (λ (z : TreeParts). z.tree.start) e;
-  comment = ap (λ (z : TreeParts). z.tree.comment) e;
-  forest = ap (λ (z : TreeParts). z.tree.below) e;
-  path = ap (λ (z : TreeParts). z.path) e;
-  played = refl;
-  here = starts_there start;
-  before = tt;
-  begins = refl;
-  nested = tt;
-  there = tt;
-  frames = tt;
-  outer = [];
-  text = [];
-  parts = ec;
-  from = refl;
-  spaced = tt;
-  lead = sym normalised_none;
-  pends = subst (λ (z : List Interrupted). Pends [] [] z) (sym (ap reverse el)) tt;
-}
+starts t lines comments start e el ec =
+    fresh_held t lines false comments [] [] 0 start [] e refl ec refl tt (sym normalised_none) (subst (λ (z : List Interrupted). Pends [] [] z) (sym (ap reverse el)) tt)

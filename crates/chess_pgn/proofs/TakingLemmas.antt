@@ -205,24 +205,17 @@ module _ {X T : Type 0} (comes : X → List ℕ → X → Type 0) (at_hand : X �
   pub falls : (at : ℕ) (place : Place) (now new : X) (u v : T) (next : Place) (used : ℕ) (is : Bool) → Steps comes at_hand all sound size takes at (limit - at) place now new u v (Ok (step.On next used is)) → size new + 1 ≤ size now
   falls at place now new u v next used is s = (s.after.1).smaller
 
-  pub used_few : (at : ℕ) (place : Place) (now new : X) (u v : T) (next : Place) (used : ℕ) (is : Bool) → Steps comes at_hand all sound size takes at (limit - at) place now new u v (Ok (step.On next used is)) → used ≤ limit - at
-  used_few at place now new u v next used is s = (s.after.1).few
-
-  pub last_few : (at : ℕ) (place : Place) (now new : X) (u v : T) (next : Place) (used : ℕ) (is : Bool) → Steps comes at_hand all sound size takes at (limit - at) place now new u v (Ok (step.Full next used is)) → used ≤ limit - at
-  last_few at place now new u v next used is s = (s.after.1).few
+  -- whatever stopped it, it took some items
+  took_after : (new : X) (u : T) (pieces : List (List ℕ)) (at : ℕ) (place : Place) (white : Bool) (why : Stop) → AfterRun comes at_hand all sound size takes limit old pieces new t u at place white why → (items : List (ℕ × Item)) × Took comes at_hand all sound size takes limit old pieces new items at place white
+  took_after new u pieces at place white stop.Full a = (_, a.took)
+  took_after new u pieces at place white stop.Left a = (_, a.took)
+  took_after new u pieces at place white (stop.Refused fault) a = (_, a.took)
+  took_after new u pieces at place white stop.End a = (_, a.took)
+  took_after new u pieces at place white stop.NoItem a = (_, a.took)
+  took_after new u pieces at place white stop.TooLarge a = (_, a.took)
 
   pub sound_after : (new : X) (u : T) (pieces : List (List ℕ)) (at : ℕ) (place : Place) (white : Bool) (why : Stop) → AfterRun comes at_hand all sound size takes limit old pieces new t u at place white why → sound new
-  sound_after new u pieces at place white stop.Full a = a.took.sound_still
-  sound_after new u pieces at place white stop.Left a = a.took.sound_still
-  sound_after new u pieces at place white (stop.Refused fault) a = a.took.sound_still
-  sound_after new u pieces at place white stop.End a = a.took.sound_still
-  sound_after new u pieces at place white stop.NoItem a = a.took.sound_still
-  sound_after new u pieces at place white stop.TooLarge a = a.took.sound_still
+  sound_after new u pieces at place white why a = (took_after new u pieces at place white why a).1.sound_still
 
   pub ended_after : (new : X) (u : T) (pieces : List (List ℕ)) (at : ℕ) (place : Place) (white : Bool) (why : Stop) → AfterRun comes at_hand all sound size takes limit old pieces new t u at place white why → all old → (joined pieces ≡ []) × all new
-  ended_after new u pieces at place white stop.Full a = a.took.at_end
-  ended_after new u pieces at place white stop.Left a = a.took.at_end
-  ended_after new u pieces at place white (stop.Refused fault) a = a.took.at_end
-  ended_after new u pieces at place white stop.End a = a.took.at_end
-  ended_after new u pieces at place white stop.NoItem a = a.took.at_end
-  ended_after new u pieces at place white stop.TooLarge a = a.took.at_end
+  ended_after new u pieces at place white why a = (took_after new u pieces at place white why a).1.at_end

@@ -64,13 +64,9 @@ no_nodes (Node m nags comment below next) e = absurd cc
 pub record First (f : Forest) (m : MoveParts) (nags comment : List ℕ) (below rest : Forest) : Type 0 where
   pub is : f ≡ Node m nags comment below rest
 
-pub first_node : (f : Forest) (n : NodeParts) (rest : Forest) (m : MoveParts) (nags comment : List ℕ) (below : Forest) → Some n ≡ child 0 f → rest ≡ without_node 0 f → Some m ≡ n.move
-    → nags ≡ n.nags → comment ≡ n.comment → below ≡ n.below → First f m nags comment below rest
-first_node Bare n rest m a c b e r h e1 e2 e3 = absurd cc
-first_node (Node k nags comment below next) n rest m a c b e r h e1 e2 e3 =
-    let s : n ≡ record { move = Some k; nags = nags; comment = comment; below = below } = some_is n _ e in
-    let km : m ≡ k = some_move m k (h ∙ ap (λ (x : NodeParts). x.move) s) in
-    record { is = parts k m nags a comment c below b next rest (sym km) (sym (e1 ∙ ap (λ (x : NodeParts). x.nags) s)) (sym (e2 ∙ ap (λ (x : NodeParts). x.comment) s)) (sym (e3 ∙ ap (λ (x : NodeParts). x.below) s)) (sym r) }
+pub first_node : {f rest below : Forest} {found : Option NodeParts} {n : NodeParts} {played : Option MoveParts} {m : MoveParts} {nags comment : List ℕ} → found ≡ Some n → found ≡ child 0 f → rest ≡ without_node 0 f
+    → played ≡ Some m → played ≡ n.move → nags ≡ n.nags → comment ≡ n.comment → below ≡ n.below → First f m nags comment below rest
+first_node {f} {rest} {below} {n = n} {m = m} {nags = nags} {comment = comment} some is others move moved e1 e2 e3 = by f n rest m nags comment below (sym some ∙ is) others (sym move ∙ moved) e1 e2 e3
   where
     some_is : (x y : NodeParts) → Some x ≡ Some y → x ≡ y
     some_is x y e = cc
@@ -81,16 +77,13 @@ first_node (Node k nags comment below next) n rest m a c b e r h e1 e2 e3 =
     parts : (k m : MoveParts) (a b c d : List ℕ) (p q s t : Forest) → k ≡ m → a ≡ b → c ≡ d → p ≡ q → s ≡ t → Node k a c p s ≡ Node m b d q t
     parts k m a b c d p q s t e1 e2 e3 e4 e5 = cc
 
--- whatever it is, it has a move
-pub first_moves : (f : Forest) (n : NodeParts) → Some n ≡ child 0 f → None ≡ n.move → ⊥
-first_moves Bare n e h = cc
-first_moves (Node k nags comment below next) n e h =
-    let s : n ≡ record { move = Some k; nags = nags; comment = comment; below = below } = some_is n _ e in
-    let z : None ≡ Some k = h ∙ ap (λ (x : NodeParts). x.move) s in
-    cc
-  where
-    some_is : (x y : NodeParts) → Some x ≡ Some y → x ≡ y
-    some_is x y e = cc
+    by : (f : Forest) (n : NodeParts) (rest : Forest) (m : MoveParts) (nags comment : List ℕ) (below : Forest) → Some n ≡ child 0 f → rest ≡ without_node 0 f → Some m ≡ n.move
+        → nags ≡ n.nags → comment ≡ n.comment → below ≡ n.below → First f m nags comment below rest
+    by Bare n rest m a c b e r h e1 e2 e3 = absurd cc
+    by (Node k nags comment below next) n rest m a c b e r h e1 e2 e3 =
+        let s : n ≡ record { move = Some k; nags = nags; comment = comment; below = below } = some_is n _ e in
+        let km : m ≡ k = some_move m k (h ∙ ap (λ (x : NodeParts). x.move) s) in
+        record { is = parts k m nags a comment c below b next rest (sym km) (sym (e1 ∙ ap (λ (x : NodeParts). x.nags) s)) (sym (e2 ∙ ap (λ (x : NodeParts). x.comment) s)) (sym (e3 ∙ ap (λ (x : NodeParts). x.below) s)) (sym r) }
 
 pub first_legal : (p : State) (f : Forest) (m : MoveParts) (nags comment : List ℕ) (below rest : Forest) → First f m nags comment below rest → AreSound p f → is_legal p m ≡ true
 first_legal p f m nags comment below rest first are =
@@ -100,45 +93,8 @@ first_legal p f m nags comment below rest first are =
 three : (x y z t : List ℕ) → (x ++ (y ++ z)) ++ t ≡ x ++ (y ++ (z ++ t))
 three x y z t = append_assoc x (y ++ z) t ∙ ap (λ (s : List ℕ). x ++ s) (append_assoc y z t)
 
--- a first node of a line, what is below it, and the others
-pub step_moves : {A : Type 0} (old new : Lines A) (line : Line) (ts : List Todo) (f : Forest) (due : Bool) (m : MoveParts) (nags comment : List ℕ) (below rest : Forest) (due_below : Bool)
-    → First f m nags comment below rest → due_below ≡ is_noted nags comment || not (is_none (child 0 rest)) → AreTasks line (Moves f due ∷ ts)
-    → Adds old new (node_text (codes " ") due (last line) m nags comment) → WritesSome old new line line (Moves f due ∷ ts) (Variations rest ∷ Below m below due_below ∷ ts)
-step_moves old new line ts f due m nags comment below rest due_below first e are adds =
-    let p = last line in
-    let a : AreTasks line (Moves (Node m nags comment below rest) due ∷ ts) = subst (λ (x : Forest). AreTasks line (Moves x due ∷ ts)) first.is are in
-    record {
-      more = node_text (codes " ") due p m nags comment;
-      adds = adds;
-      text = ap (λ (x : Forest). moves_text false due p x ++ tasks_text line ts) first.is
-          ∙ rw e (three (node_text (codes " ") due p m nags comment) (moves_text true true p rest) (moves_text false (is_noted nags comment || not (is_none (child 0 rest))) (after p m) below) (tasks_text line ts));
-      tasks = (a.0.3, omega (arith, a.1), (a.0.0, a.0.2, omega (arith, a.1), a.2));
-      smaller = rw first.is (omega arith);
-    }
-
 four : (x y z u t : List ℕ) → (x ++ (y ++ (z ++ u))) ++ t ≡ x ++ (y ++ (z ++ (u ++ t)))
 four x y z u t = append_assoc x (y ++ (z ++ u)) t ∙ ap (λ (s : List ℕ). x ++ s) (three y z u t)
-
--- a first variation, what is below its move, and the others
-pub step_variation : {A : Type 0} (old new : Lines A) (line : Line) (ts : List Todo) (f : Forest) (m : MoveParts) (nags comment : List ℕ) (below rest : Forest) (due_below : Bool)
-    → First f m nags comment below rest → due_below ≡ is_noted nags comment → AreTasks line (Variations f ∷ ts)
-    → Adds old new (node_text (codes " (") true (last line) m nags comment) → WritesSome old new line (extended line m) (Variations f ∷ ts) (Moves below due_below ∷ Back ∷ Close ∷ Variations rest ∷ ts)
-step_variation old new line ts f m nags comment below rest due_below first e are adds =
-    let p = last line in
-    let next = extended line m in
-    let here : last next ≡ after p m = last_extended line m in
-    let back : shortened next ≡ line = shortened_extended line m in
-    let a : AreTasks line (Variations (Node m nags comment below rest) ∷ ts) = subst (λ (x : Forest). AreTasks line (Variations x ∷ ts)) first.is are in
-    let b : AreTasks line (Close ∷ Variations rest ∷ ts) = (a.0.3, omega (arith, a.1), a.2) in
-    record {
-      more = node_text (codes " (") true p m nags comment;
-      adds = adds;
-      text = ap (λ (x : Forest). moves_text true true p x ++ tasks_text line ts) first.is
-          ∙ four (node_text (codes " (") true p m nags comment) (moves_text false (is_noted nags comment) (after p m) below) (codes ")") (moves_text true true p rest) (tasks_text line ts)
-          ∙ rw (e, here, back) refl;
-      tasks = (subst (λ (x : State). AreSound x below) (sym here) a.0.2, omega (arith, a.1, length-append line.moves (m ∷ [])), subst (λ (x : Line). AreTasks x (Close ∷ Variations rest ∷ ts)) (sym back) b);
-      smaller = rw first.is (omega arith);
-    }
 
 -- what is below a move that is made
 step_below : {A : Type 0} (lines : Lines A) (line : Line) (ts : List Todo) (m : MoveParts) (nodes : Forest) (due : Bool) → AreTasks line (Below m nodes due ∷ ts) → Adds lines lines []
@@ -195,8 +151,8 @@ step_none lines line ts f due e are adds =
     record { more = []; adds = adds; text = rw bare refl; tasks = are.2; smaller = omega arith }
 
 -- the line and the tasks under other names
-pub steps_as : {A : Type 0} (old new : Lines A) (line line1 line2 : Line) (ts ts1 ts2 : List Todo) → line2 ≡ line1 → ts2 ≡ ts1 → WritesSome old new line line1 ts ts1 → WritesSome old new line line2 ts ts2
-steps_as old new line line1 line2 ts ts1 ts2 e h s =
+pub steps_as : {A : Type 0} {old new : Lines A} {line line1 line2 : Line} {ts ts1 ts2 : List Todo} → line2 ≡ line1 → ts2 ≡ ts1 → WritesSome old new line line1 ts ts1 → WritesSome old new line line2 ts ts2
+steps_as {old = old} {new} {line} {line1} {ts = ts} {ts2 = ts2} e h s =
     subst (λ (l : Line). WritesSome old new line l ts ts2) (sym e) (subst (λ (x : List Todo). WritesSome old new line line1 ts x) (sym h) s)
 
 pub todos_push : {A : Type 0} (items : List (Task A)) (t : Task A) → todos (items ++ t ∷ []) ≡ todo t ∷ todos items
@@ -207,17 +163,52 @@ no_variations lines line ts f e are adds =
     let bare = no_nodes f e in
     record { more = []; adds = adds; text = rw bare refl; tasks = are.2; smaller = omega arith }
 
--- the only one of some nodes, whose move is made
-pub step_only : {A : Type 0} (old new : Lines A) (line : Line) (items : List (Task A)) (f : Forest) (due : Bool) (m : MoveParts) (nags comment : List ℕ) (below rest : Forest) (due_below : Bool)
-    → First f m nags comment below rest → None ≡ child 0 rest → due_below ≡ is_noted nags comment || not (is_none (child 0 rest)) → AreTasks line (Moves f due ∷ todos items)
-    → Adds old new (node_text (codes " ") due (last line) m nags comment) → WritesSome old new line (extended line m) (Moves f due ∷ todos items) (Moves below due_below ∷ returning items)
-step_only {A} old new line items f due m nags comment below rest due_below first none e are adds =
-    let ts = todos items in
-    let one = step_moves old new line ts f due m nags comment below rest due_below first e are adds in
-    let two = no_variations new line (Below m below due_below ∷ ts) rest none one.tasks (adds_none new) in
-    let three = step_made new line items m below due_below two.tasks (adds_none new) in
-    steps_then old new new line line (extended line m) (Moves f due ∷ ts) (Variations rest ∷ Below m below due_below ∷ ts) (Moves below due_below ∷ returning items) one
-    (steps_then new new new line line (extended line m) (Variations rest ∷ Below m below due_below ∷ ts) (Below m below due_below ∷ ts) (Moves below due_below ∷ returning items) two three)
+module _ {A : Type 0} {old new : Lines A} {line : Line} {f : Forest} {m : MoveParts} {nags comment : List ℕ} {below rest : Forest} {due_below : Bool} (first : First f m nags comment below rest) where
+  -- a first node of a line, what is below it, and the others
+  pub step_moves : {ts : List Todo} {due : Bool} → due_below ≡ is_noted nags comment || not (is_none (child 0 rest)) → AreTasks line (Moves f due ∷ ts)
+      → Adds old new (node_text (codes " ") due (last line) m nags comment) → WritesSome old new line line (Moves f due ∷ ts) (Variations rest ∷ Below m below due_below ∷ ts)
+  step_moves {ts} {due} e are adds =
+      let p = last line in
+      let a : AreTasks line (Moves (Node m nags comment below rest) due ∷ ts) = subst (λ (x : Forest). AreTasks line (Moves x due ∷ ts)) first.is are in
+      record {
+        more = node_text (codes " ") due p m nags comment;
+        adds = adds;
+        text = ap (λ (x : Forest). moves_text false due p x ++ tasks_text line ts) first.is
+            ∙ rw e (three (node_text (codes " ") due p m nags comment) (moves_text true true p rest) (moves_text false (is_noted nags comment || not (is_none (child 0 rest))) (after p m) below) (tasks_text line ts));
+        tasks = (a.0.3, omega (arith, a.1), (a.0.0, a.0.2, omega (arith, a.1), a.2));
+        smaller = rw first.is (omega arith);
+      }
+
+  -- the only one of some nodes, whose move is made
+  pub step_only : (items : List (Task A)) {due : Bool} → None ≡ child 0 rest → due_below ≡ is_noted nags comment || not (is_none (child 0 rest)) → AreTasks line (Moves f due ∷ todos items)
+      → Adds old new (node_text (codes " ") due (last line) m nags comment) → WritesSome old new line (extended line m) (Moves f due ∷ todos items) (Moves below due_below ∷ returning items)
+  step_only items {due} none e are adds =
+      let ts = todos items in
+      let one = step_moves e are adds in
+      let two = no_variations new line (Below m below due_below ∷ ts) rest none one.tasks (adds_none new) in
+      let three = step_made new line items m below due_below two.tasks (adds_none new) in
+      steps_then old new new line line (extended line m) (Moves f due ∷ ts) (Variations rest ∷ Below m below due_below ∷ ts) (Moves below due_below ∷ returning items) one
+      (steps_then new new new line line (extended line m) (Variations rest ∷ Below m below due_below ∷ ts) (Below m below due_below ∷ ts) (Moves below due_below ∷ returning items) two three)
+
+  -- a first variation, what is below its move, and the others
+  pub step_variation : {ts : List Todo} → due_below ≡ is_noted nags comment → AreTasks line (Variations f ∷ ts)
+      → Adds old new (node_text (codes " (") true (last line) m nags comment) → WritesSome old new line (extended line m) (Variations f ∷ ts) (Moves below due_below ∷ Back ∷ Close ∷ Variations rest ∷ ts)
+  step_variation {ts} e are adds =
+      let p = last line in
+      let next = extended line m in
+      let here : last next ≡ after p m = last_extended line m in
+      let back : shortened next ≡ line = shortened_extended line m in
+      let a : AreTasks line (Variations (Node m nags comment below rest) ∷ ts) = subst (λ (x : Forest). AreTasks line (Variations x ∷ ts)) first.is are in
+      let b : AreTasks line (Close ∷ Variations rest ∷ ts) = (a.0.3, omega (arith, a.1), a.2) in
+      record {
+        more = node_text (codes " (") true p m nags comment;
+        adds = adds;
+        text = ap (λ (x : Forest). moves_text true true p x ++ tasks_text line ts) first.is
+            ∙ four (node_text (codes " (") true p m nags comment) (moves_text false (is_noted nags comment) (after p m) below) (codes ")") (moves_text true true p rest) (tasks_text line ts)
+            ∙ rw (e, here, back) refl;
+        tasks = (subst (λ (x : State). AreSound x below) (sym here) a.0.2, omega (arith, a.1, length-append line.moves (m ∷ [])), subst (λ (x : Line). AreTasks x (Close ∷ Variations rest ∷ ts)) (sym back) b);
+        smaller = rw first.is (omega arith);
+      }
 
 -- a move that is made and taken back
 pub taken_back : (o : Option MoveParts) (line made line' : Line) (m : MoveParts) → made ≡ extended line m → MatchOption o ((made.moves ≡ []) × (line' ≡ made)) (λ n. made ≡ extended line' n) → line' ≡ line
@@ -239,10 +230,10 @@ pub none_is : {A : Type 0} (o : Option A) (b : Bool) → b ≡ is_none o → b �
 none_is None b e h = refl
 none_is (Some x) b e h = absurd (let k : true ≡ false = sym h ∙ e in cc)
 
-pub steps_on : {A E : Type 0} (r : Result (Unit {0}) E) (old new1 new2 : Lines A) (line line1 line2 : Line) (ts ts1 ts2 : List Todo) → new2 ≡ new1 → OnOk r (line2 ≡ line1) → OnOk r (ts2 ≡ ts1) → WritesSome old new1 line line1 ts ts1
+pub steps_on : {A E : Type 0} (r : Result (Unit {0}) E) {old new1 new2 : Lines A} {line line1 : Line} (line2 : Line) {ts ts1 : List Todo} (ts2 : List Todo) → new2 ≡ new1 → OnOk r (line2 ≡ line1) → OnOk r (ts2 ≡ ts1) → WritesSome old new1 line line1 ts ts1
     → OnOk r (WritesSome old new2 line line2 ts ts2)
-steps_on {A} (Ok u) old new1 new2 line line1 line2 ts ts1 ts2 e h k s = subst (λ (x : Lines A). WritesSome old x line line2 ts ts2) (sym e) (steps_as old new1 line line1 line2 ts ts1 ts2 h k s)
-steps_on (Err u) old new1 new2 line line1 line2 ts ts1 ts2 e h k s = tt
+steps_on {A} (Ok u) {old = old} {line = line} line2 {ts = ts} ts2 e h k s = subst (λ (x : Lines A). WritesSome old x line line2 ts ts2) (sym e) (steps_as h k s)
+steps_on (Err u) line2 ts2 e h k s = tt
 
 -- ---- all the tasks
 

@@ -209,16 +209,16 @@ fn games_in_any_pieces(rt: HostRuntime) -> Result<(), Fail> {
     Ok(())
 }
 
-/// A game of so many variations, each in the one before.
+/// A game of so many variations of its first move, each in the one before.
 fn nested<'a, A: Allocator>(alloc: &'a A, many: u32) -> Result<Vec<u8, &'a A>, PgnFault> {
-    let mut text = Vec::from_slice(alloc, b"e4 ")?;
-    for depth in 0..many {
-        text.extend_from_slice(if depth % 2 == 0 { b"(d4 " } else { b"(e4 " })?;
+    let mut text = Vec::from_slice(alloc, b"1. e4")?;
+    for _ in 0..many {
+        text.extend_from_slice(b" (1. d4")?;
     }
     for _ in 0..many {
         text.push(b')')?;
     }
-    text.push(b'*')?;
+    text.extend_from_slice(b" *")?;
     Ok(text)
 }
 
@@ -227,7 +227,8 @@ fn no_more_than_128_variations_are_open(rt: HostRuntime) -> Result<(), Fail> {
     let alloc = rt.alloc();
     let table = KeyTable::new([0; 768]);
     let text = nested(&alloc, 128)?;
-    assert!(&rt; read_game(&alloc, &table, text.as_slice())?.is_some());
+    let (game, _) = read_game(&alloc, &table, text.as_slice())?.expect(&rt, "a game");
+    assert_eq!(&rt; game.tree.child_count(), 129);
     let text = nested(&alloc, 129)?;
     let Err(fault) = read_game(&alloc, &table, text.as_slice()) else {
         panic!(&rt; "a game");
@@ -235,7 +236,7 @@ fn no_more_than_128_variations_are_open(rt: HostRuntime) -> Result<(), Fail> {
     assert_eq!(&rt;
         fault,
         PgnFault {
-            place: 3 + 4 * 128,
+            place: 902,
             kind: FaultKind::Deep
         }
     );

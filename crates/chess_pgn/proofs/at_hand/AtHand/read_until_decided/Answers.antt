@@ -1,7 +1,8 @@
 use Rattle.std.proofs.Common.{rules, ◌≤◌, ℕ, List, length, sym, subst, refl}
 use Rattle.chess_pgn.specs.steps.Deciding.{Decides}
 use Rattle.chess_pgn.specs.Sources.{unread}
-use Rattle.chess_pgn.proofs.ReadyLemmas.{Going, going_start, going_on, going_fault, going_many, going_poor}
+use Rattle.chess_pgn.proofs.BreakLemmas.{off_fault, off_many, off_poor}
+use Rattle.chess_pgn.proofs.ReadyLemmas.{Going, going_start, going_on, not_ended, so_far}
 use Rattle.chess_pgn.proofs.at_hand.AtHand.read_until_decided.Goals as goal
 
 pub loop-self-init : goal.loop-self-init
@@ -9,16 +10,16 @@ loop-self-init g c = going_start g.R.Source.gives g.R.Source.ended g.R.Source.fa
 
 pub returns-then-self-eq0-clause-broken : goal.returns-then-self-eq0-clause-broken
 returns-then-self-eq0-clause-broken g c =
-    going_many g.R.Source.gives g.R.Source.ended g.R.Source.failed c.args.most c.args.place c.args.self.now c.loop-self.looked c.loop-self.self c.loop-self.invariant (search rules) (search rules)
+    off_many (so_far c.loop-self.invariant) (not_ended c.loop-self.invariant (search rules)) (search rules)
 
 pub returns-in-Err-clause-broken : goal.returns-in-Err-clause-broken
 returns-in-Err-clause-broken g c =
-    going_poor g.R.Source.gives g.R.Source.ended g.R.Source.failed c.args.most c.args.place c.args.self.now c.loop-self.looked c.loop-self.self c.loop-self.invariant (search rules) _ c.in-Err.fault c.in-Err.ensures.memory refl refl
+    off_poor (so_far c.loop-self.invariant) (not_ended c.loop-self.invariant (search rules)) _ c.in-Err.fault c.in-Err.ensures.memory refl refl
 
 pub returns-in-Err-read_on-clause-broken : goal.returns-in-Err-read_on-clause-broken
 returns-in-Err-read_on-clause-broken g c =
     let r = c.in-Err-read_on.ensures in
-    going_fault g.R.Source.gives g.R.Source.ended g.R.Source.failed c.args.most c.args.place c.args.self.now c.loop-self.looked c.loop-self.self c.loop-self.invariant (search rules) c.read_on.new.self c.in-Err-read_on.fault
+    off_fault (so_far c.loop-self.invariant) (not_ended c.loop-self.invariant (search rules)) g.R.Source.ended c.read_on.new.self c.in-Err-read_on.fault
     (record { piece = r.piece; call = r.call; small = r.small; counted = r.counted; after = r.after })
 
 pub loop-self-preserved : goal.loop-self-preserved

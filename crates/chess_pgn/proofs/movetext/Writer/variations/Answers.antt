@@ -1,10 +1,9 @@
-use Rattle.std.proofs.Common.{List, ◌≡◌, Some, ◌∷◌, ◌∙◌, ap, sym}
-use Rattle.chess_types.specs.board.Lines.{extended}
+use Rattle.std.proofs.Common.{List, ◌≡◌, ◌∷◌, ◌∙◌, ap, sym}
 use Rattle.chess_draws.specs.LineParts.{LineParts}
 use Rattle.chess_pgn.specs.steps.Tasks as tasks
 use Rattle.chess_pgn.specs.steps.TaskCode.{returning, todos}
 use Rattle.chess_pgn.proofs.AddLemmas.{adds_none}
-use Rattle.chess_pgn.proofs.TaskLemmas.{First, first_node, step_variation, no_variations, on_as, on_ok, steps_on, returning_pushed, todos_pushed}
+use Rattle.chess_pgn.proofs.TaskLemmas.{first_node, step_variation, no_variations, on_as, on_ok, steps_on, returning_pushed, todos_pushed}
 use Rattle.chess_pgn.specs.declared.movetext.Task.TheVariants.{Variations, Close}
 use Rattle.chess_pgn.proofs.movetext.Writer.variations.Goals as goal
 
@@ -14,28 +13,16 @@ returns-in_default-clause-steps g c =
 
 pub returns-clause-steps : goal.returns-clause-steps
 returns-clause-steps g c =
-    let old = c.args.self.now.lines in
-    let new = c.push_move.new.lines in
-    let line = c.args.self.now.line.line in
     let items = c.args.self.now.tasks.items in
     let ts = todos items in
-    let f = c.args.nodes in
-    let n = c.in-Some.node in
     let rest = c.next.new.self in
-    let m = c.in-Some-move_at.played in
-    let nags = c.notes-notes.result.nags.now in
-    let comment = c.notes-notes.result.comment.now in
-    let below = c.below.result in
-    let due = c.is_noted-due_below.result in
-    let some : Some n ≡ _ = sym c.in-Some.is ∙ c.next.ensures.first in
-    let move : Some m ≡ n.move = sym c.in-Some-move_at.is ∙ c.move_at.ensures in
-    let first : First f m nags comment below rest = first_node f n rest m nags comment below some c.next.ensures.rest move c.notes-notes.ensures.nags c.notes-notes.ensures.comment c.below.ensures in
+    let first = first_node c.in-Some.is c.next.ensures.first c.next.ensures.rest c.in-Some-move_at.is c.move_at.ensures c.notes-notes.ensures.nags c.notes-notes.ensures.comment c.below.ensures in
     let one = todos_pushed items c.push.new.self.items (Variations rest) c.in_ok-push.ensures.items in
     let two = todos_pushed c.push.new.self.items c.push-2.new.self.items Close c.in_ok-push-2.ensures.items in
     let pushed : todos c.push-2.new.self.items ≡ tasks.Close ∷ tasks.Variations rest ∷ ts = two ∙ ap (λ (x : List tasks.Todo). tasks.Close ∷ x) one in
     let behind : returning c.push-2.new.self.items ≡ tasks.Back ∷ tasks.Close ∷ tasks.Variations rest ∷ ts =
     ap returning c.in_ok-push-2.ensures.items ∙ returning_pushed c.push.new.self.items Close ∙ ap (λ (x : List tasks.Todo). tasks.Back ∷ x) (sym (ap todos c.in_ok-push-2.ensures.items) ∙ pushed) in
-    steps_on c.go_on.result old new c.go_on.new.self.lines line (extended line m) c.go_on.new.self.line.line (tasks.Variations f ∷ ts) (tasks.Moves below due ∷ tasks.Back ∷ tasks.Close ∷ tasks.Variations rest ∷ ts) (todos c.go_on.new.self.tasks.items)
-    c.go_on.ensures.lines (on_ok c.go_on.result (ap (λ (l : LineParts). l.line) c.go_on.ensures.line ∙ c.in_ok-push_move.ensures.line))
-    (on_as c.go_on.result _ _ _ c.go_on.ensures.tasks (ap (λ (x : List tasks.Todo). tasks.Moves below due ∷ x) behind))
-    (step_variation old new line ts f m nags comment below rest due first c.is_noted-due_below.ensures c.requires.tasks c.in_ok-push_move.ensures.adds)
+    let made = c.in_ok-push_move.ensures in
+    steps_on c.go_on.result _ _ c.go_on.ensures.lines (on_ok c.go_on.result (ap (λ (l : LineParts). l.line) c.go_on.ensures.line ∙ made.line))
+    (on_as c.go_on.result _ _ _ c.go_on.ensures.tasks (ap (λ (x : List tasks.Todo). tasks.Moves c.below.result c.is_noted-due_below.result ∷ x) behind))
+    (step_variation first c.is_noted-due_below.ensures c.requires.tasks made.adds)
