@@ -34,6 +34,3 @@ pub use laws::game_laws;
 pub use outcome::Outcome;
 pub use tags::Tags;
 pub use writer::{write_game, write_tree};
-
-#[cfg(test)]
-mod tests;

@@ -9,7 +9,6 @@ pub mod WalkLemmas
 pub mod AnalysisLemmas
 pub mod FindLemmas
 pub mod CommentLemmas
-pub mod TestLemmas
 pub mod TimesLemmas
 pub mod LinkLemmas
 pub mod WriteLemmas

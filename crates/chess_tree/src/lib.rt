@@ -16,6 +16,3 @@ pub use analysis::Analysis;
 pub use fault::{PlayFault, TreeFault};
 pub use node::{Children, NodeRef, Notes};
 pub use tree::Tree;
-
-#[cfg(test)]
-mod tests;

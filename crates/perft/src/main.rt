@@ -14,6 +14,8 @@ mod answer;
 mod leaves;
 mod lines;
 #[cfg(test)]
+mod live;
+#[cfg(test)]
 mod tests;
 #[cfg(test)]
 mod walks;

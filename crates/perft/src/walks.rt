@@ -8,7 +8,7 @@ use chess_play::Live;
 use chess_types::{Kind, Move, Square};
 use std::process::Abort;
 
-const PROMOTIONS: [Option<Kind>; 5] = [
+pub(crate) const PROMOTIONS: [Option<Kind>; 5] = [
     None,
     Some(Kind::Queen),
     Some(Kind::Rook),

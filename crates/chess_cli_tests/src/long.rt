@@ -1,0 +1,39 @@
+use chess_cli::{Ended, board};
+use chess_types::{FromBytes, ToBytes};
+use std::alloc::{AllocError, Allocator};
+use std::test::Fail;
+
+/// So many times the text.
+fn put_times<A: Allocator>(
+    out: &mut Vec<u8, A>,
+    text: &[u8],
+    times: u32,
+) -> Result<(), AllocError> {
+    for _ in 0..times {
+        out.extend_from_slice(text)?;
+    }
+    Ok(())
+}
+
+/// After 20,000 plies no move is made, and the cursor still goes to both ends; the whole line is deleted by its first move.
+#[test]
+fn plays_the_longest_line(rt: HostRuntime) -> Result<(), Fail> {
+    let alloc = rt.alloc();
+    let mut input = Vec::new(&alloc);
+    put_times(
+        &mut input,
+        b"play g1f3\nplay g8f6\nplay f3g1\nplay f6g8\n",
+        5_000,
+    )?;
+    input.extend_from_slice(b"play g1f3\nstart\nend\ngoto 0\ndelete\npath\nend\npath\n")?;
+    let mut output = Vec::new(&alloc);
+    put_times(&mut output, b"ok\n", 20_000)?;
+    output.extend_from_slice(b"refused 2 TooLong\nok\nok\nok\nok\n-\nok\n-\n")?;
+    let mut room = Vec::new(&alloc);
+    put_times(&mut room, &[0], 61_000)?;
+    let mut writer = ToBytes::new(room.as_mut_slice(), 65_536);
+    let mut reader = FromBytes::new(input.as_slice(), 65_536);
+    assert_eq!(rt; board(&alloc, &mut reader, &mut writer), Ended::Good);
+    assert!(rt; writer.taken() == output.as_slice());
+    Ok(())
+}

@@ -1,0 +1,2 @@
+-- Lemmas on the position at the cursor.
+pub mod ReplayLemmas
