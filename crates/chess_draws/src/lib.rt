@@ -15,8 +15,6 @@ mod stand;
 mod status;
 mod step;
 mod target;
-#[cfg(test)]
-mod tests;
 
 pub use chess_types::{Claims, Status};
 pub use fault::LineFault;

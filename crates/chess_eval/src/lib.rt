@@ -7,8 +7,6 @@
 #![tactic(auto)]
 
 mod sum;
-#[cfg(test)]
-mod tests;
 mod worths;
 
 pub use sum::Sum;

@@ -18,6 +18,3 @@ mod writer;
 pub use fault::FenFault;
 pub use reader::read;
 pub use writer::write;
-
-#[cfg(test)]
-mod tests;

@@ -7,8 +7,6 @@
 
 mod keys;
 mod table;
-#[cfg(test)]
-mod tests;
 
 pub use keys::Key;
 pub use table::KeyTable;

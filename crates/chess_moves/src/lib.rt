@@ -12,8 +12,6 @@ mod legal;
 mod listing;
 mod own;
 mod targets;
-#[cfg(test)]
-mod tests;
 
 pub use check::in_check;
 pub use counting::{count_legal, has_legal};

@@ -16,6 +16,3 @@ mod writer;
 pub use fault::SanFault;
 pub use reader::read;
 pub use writer::{write, write_mark, write_unmarked};
-
-#[cfg(test)]
-mod tests;

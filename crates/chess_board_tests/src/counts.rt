@@ -1,0 +1,87 @@
+use chess_attack::{Counts, in_check};
+use chess_types::{Colour, Man, Placement, Position, Square};
+use std::process::Abort;
+
+/// The board of men such as `Ke1`, a letter as FEN writes it and a square, parted by spaces.
+pub(crate) fn board(rt: &impl Abort, men: &str) -> Placement {
+    let mut placement = Placement::empty();
+    for name in men.as_bytes().split(|byte| *byte == b' ') {
+        assert!(rt; name.len() == 3);
+        let man = Man::of_letter(name[0]).expect(rt, "a man's letter");
+        let square = Square::parse(&name[1..]).expect(rt, "a square's name");
+        assert!(rt; placement.get(square).is_none());
+        assert!(rt; placement.men(man.colour) < 16);
+        placement.put(square, man);
+    }
+    placement
+}
+
+/// The counts of a colour on the rank, from the a-file to the h-file.
+fn row(rt: &impl Abort, counts: &Counts, colour: Colour, rank: u8) -> [u8; 8] {
+    assert!(rt; rank < 8);
+    let mut row = [0; 8];
+    for file in 0..8u8 {
+        row[file as usize] = counts.count(colour, Square::from_index(rank * 8 + file));
+    }
+    row
+}
+
+pub(crate) fn start() -> Placement {
+    Position::start().into_setup().placement
+}
+
+#[test]
+fn start_position(rt: HostRuntime) {
+    let counts = Counts::of(&start());
+    let first = [0, 1, 1, 1, 1, 1, 1, 0];
+    let second = [1, 1, 1, 4, 4, 1, 1, 1];
+    let third = [2, 2, 3, 2, 2, 3, 2, 2];
+    assert_eq!(rt; row(&rt, &counts, Colour::White, 0), first);
+    assert_eq!(rt; row(&rt, &counts, Colour::White, 1), second);
+    assert_eq!(rt; row(&rt, &counts, Colour::White, 2), third);
+    for rank in 3..8u8 {
+        assert_eq!(rt; row(&rt, &counts, Colour::White, rank), [0; 8]);
+    }
+    assert_eq!(rt; row(&rt, &counts, Colour::Black, 7), first);
+    assert_eq!(rt; row(&rt, &counts, Colour::Black, 6), second);
+    assert_eq!(rt; row(&rt, &counts, Colour::Black, 5), third);
+    for rank in 0..5u8 {
+        assert_eq!(rt; row(&rt, &counts, Colour::Black, rank), [0; 8]);
+    }
+    assert!(rt; !in_check(&start(), Colour::White));
+}
+
+#[test]
+fn empty_board(rt: HostRuntime) {
+    let empty = Counts::empty();
+    let counts = Counts::of(&Placement::empty());
+    for rank in 0..8u8 {
+        assert_eq!(rt; row(&rt, &empty, Colour::White, rank), [0; 8]);
+        assert_eq!(rt; row(&rt, &counts, Colour::Black, rank), [0; 8]);
+    }
+}
+
+#[test]
+fn up_to_and_with_the_first_man(rt: HostRuntime) {
+    let counts = Counts::of(&board(&rt, "Ra1 Nd1 pf1"));
+    // the rook attacks its knight, and nothing beyond it; the knight none of this rank
+    assert_eq!(rt;
+        row(&rt, &counts, Colour::White, 0),
+        [0, 1, 1, 1, 0, 0, 0, 0]
+    );
+    assert_eq!(rt;
+        row(&rt, &counts, Colour::White, 1),
+        [1, 1, 0, 0, 0, 1, 0, 0]
+    );
+    assert_eq!(rt;
+        row(&rt, &counts, Colour::White, 2),
+        [1, 0, 1, 0, 1, 0, 0, 0]
+    );
+}
+
+#[test]
+fn checks(rt: HostRuntime) {
+    let checked = board(&rt, "ke8 Re1 Kg1");
+    assert!(rt; in_check(&checked, Colour::Black));
+    assert!(rt; !in_check(&checked, Colour::White));
+}

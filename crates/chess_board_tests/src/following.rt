@@ -1,0 +1,143 @@
+ghost use Rattle.chess_attack.specs.KeptCounts.{AreCounts};
+
+use crate::counts::{board, start};
+use chess_attack::{Counts, Follower};
+use chess_types::{Colour, Kind, Man, Placement, Square};
+use std::process::Abort;
+
+/// A placement, and the counts that follow it.
+#[derive(Drop)]
+struct Followed {
+    placement: Placement,
+    counts: Counts,
+    ghost agrees: { AreCounts counts placement },
+}
+
+impl Followed {
+    fn empty() -> Followed {
+        let placement = Placement::empty();
+        let counts = Counts::empty();
+        Followed { placement, counts }
+    }
+
+    fn of(placement: Placement) -> Followed {
+        let counts = Counts::of(&placement);
+        Followed { placement, counts }
+    }
+
+    fn put(&mut self, rt: &impl Abort, at: Square, man: Man) {
+        assert!(rt; self.placement.get(at).is_none());
+        assert!(rt; self.placement.men(man.colour) < 16);
+        self.counts.put(&self.placement, at, man);
+        self.placement.put(at, man);
+    }
+
+    fn clear(&mut self, rt: &impl Abort, at: Square) {
+        assert!(rt; self.placement.get(at).is_some());
+        self.counts.clear(&self.placement, at);
+        self.placement.clear(at);
+    }
+}
+
+/// The counts are those of the placement, counted afresh.
+fn assert_afresh(rt: &impl Abort, followed: &Followed) {
+    let afresh = Counts::of(&followed.placement);
+    for number in 0..64u8 {
+        let square = Square::from_index(number);
+        for colour in [Colour::White, Colour::Black] {
+            assert_eq!(rt;
+                followed.counts.count(colour, square),
+                afresh.count(colour, square)
+            );
+        }
+    }
+}
+
+/// Puts each man of the start position and takes it away again, in the order of the squares where the step is 1.
+fn put_and_clear(rt: &impl Abort, step: u8) {
+    let men = start();
+    let mut followed = Followed::empty();
+    for turn in 0..64u16 {
+        let square = Square::from_index((turn * step as u16 % 64) as u8);
+        if let Some(man) = men.get(square) {
+            followed.put(rt, square, man);
+            assert_afresh(rt, &followed);
+        }
+    }
+    assert_eq!(rt;
+        followed.placement.men(Colour::White) + followed.placement.men(Colour::Black),
+        32
+    );
+    for turn in 0..64u16 {
+        let square = Square::from_index((63 - turn * step as u16 % 64) as u8);
+        if men.get(square).is_some() {
+            followed.clear(rt, square);
+            assert_afresh(rt, &followed);
+        }
+    }
+    for number in 0..64u8 {
+        let square = Square::from_index(number);
+        assert_eq!(rt; followed.counts.count(Colour::White, square), 0);
+        assert_eq!(rt; followed.counts.count(Colour::Black, square), 0);
+    }
+}
+
+#[test]
+fn every_man_by_square(rt: HostRuntime) {
+    put_and_clear(&rt, 1);
+}
+
+#[test]
+fn every_man_in_another_order(rt: HostRuntime) {
+    put_and_clear(&rt, 37);
+}
+
+/// The ticks of the man put on d4 of the placement; taking him away again makes as many.
+fn ticks_on_d4(rt: &impl Abort, followed: &mut Followed, man: Man) -> u32 {
+    let square = Square::from_index(27);
+    followed.counts.begin();
+    assert_eq!(rt; followed.counts.ticks(), 0);
+    assert_afresh(rt, followed);
+    followed.put(rt, square, man);
+    assert_afresh(rt, followed);
+    let ticks = followed.counts.ticks();
+    followed.counts.begin();
+    followed.clear(rt, square);
+    assert_afresh(rt, followed);
+    assert_eq!(rt; followed.counts.ticks(), ticks);
+    ticks
+}
+
+#[test]
+fn eight_sliders_look_at_d4(rt: HostRuntime) {
+    let mut followed = Followed::of(board(&rt, "rd8 bh8 ba7 ra4 rh4 ba1 rd1 bg1"));
+    // From d4 the ranks, files and diagonals go 4 and 3, 4 and 3, 4 and 3, 3 and 3 squares far: 27. On each of them a man looks
+    // over d4 to the man at the other end, so whoever comes to d4 takes 27 attacks away. A queen there attacks 27 squares
+    // herself, a rook 14, a bishop 13, a knight and a king 8, a pawn 2.
+    for (kind, own) in [
+        (Kind::Queen, 27),
+        (Kind::Rook, 14),
+        (Kind::Bishop, 13),
+        (Kind::Knight, 8),
+        (Kind::King, 8),
+        (Kind::Pawn, 2),
+    ] {
+        let man = Man {
+            colour: Colour::White,
+            kind,
+        };
+        assert_eq!(rt; ticks_on_d4(&rt, &mut followed, man), own + 27);
+    }
+}
+
+#[test]
+fn the_start_position_without_e2(rt: HostRuntime) {
+    let mut followed = Followed::of(start());
+    // the counts of each side add up to 6 on its first rank, 14 on its second and 18 on its third
+    assert_eq!(rt; followed.counts.ticks(), 2 * 38);
+    followed.counts.begin();
+    followed.clear(&rt, Square::from_index(12));
+    // the pawn's d3 and f3 go; d3, c4, b5, a6 for the bishop and f3, g4, h5 for the queen come
+    assert_eq!(rt; followed.counts.ticks(), 2 + 4 + 3);
+    assert_afresh(&rt, &followed);
+}

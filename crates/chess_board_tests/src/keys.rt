@@ -1,0 +1,135 @@
+ghost use Rattle.chess_key.specs.Keys.{IsKeyOf};
+
+use chess_attack::Follower;
+use chess_key::{Key, KeyTable};
+use chess_types::{Colour, Kind, Man, Placement, Square};
+use std::process::Abort;
+
+/// A board with its key.
+#[derive(Drop)]
+struct Kept<'k> {
+    placement: Placement,
+    key: Key<'k>,
+    ghost agrees: { IsKeyOf key placement },
+}
+
+impl<'k> Kept<'k> {
+    fn empty(table: &'k KeyTable) -> Kept<'k> {
+        Kept {
+            placement: Placement::empty(),
+            key: Key::empty(table),
+        }
+    }
+
+    fn put(&mut self, rt: &impl Abort, at: Square, man: Man) {
+        assert!(rt; self.placement.get(at).is_none());
+        assert!(rt; self.placement.men(man.colour) < 16);
+        self.key.put(&self.placement, at, man);
+        self.placement.put(at, man);
+    }
+
+    fn clear(&mut self, rt: &impl Abort, at: Square) {
+        assert!(rt; self.placement.get(at).is_some());
+        self.key.clear(&self.placement, at);
+        self.placement.clear(at);
+    }
+}
+
+/// A table of words without order, from a seed.
+fn table(seed: u64) -> KeyTable {
+    let mut words = [0; 768];
+    let mut word = seed;
+    for place in 0..768usize {
+        word = word
+            .wrapping_mul(6_364_136_223_846_793_005)
+            .wrapping_add(1_442_695_040_888_963_407);
+        words[place] = word;
+    }
+    KeyTable::new(words)
+}
+
+/// What stands on the square as a game begins.
+fn at_start(square: Square) -> Option<Man> {
+    let kind = match (square.rank(), square.file()) {
+        (1 | 6, _) => Kind::Pawn,
+        (0 | 7, 0 | 7) => Kind::Rook,
+        (0 | 7, 1 | 6) => Kind::Knight,
+        (0 | 7, 2 | 5) => Kind::Bishop,
+        (0 | 7, 3) => Kind::Queen,
+        (0 | 7, _) => Kind::King,
+        _ => return None,
+    };
+    let colour = if square.rank() < 4 {
+        Colour::White
+    } else {
+        Colour::Black
+    };
+    Some(Man { colour, kind })
+}
+
+/// Every square once, in another order for each turn.
+fn square(turn: u8, number: u8) -> Square {
+    Square::from_index((number ^ turn) % 64)
+}
+
+/// The start position, its men put in the order of that turn.
+fn start<'k>(rt: &impl Abort, table: &'k KeyTable, turn: u8) -> Kept<'k> {
+    let mut kept = Kept::empty(table);
+    for number in 0..64u8 {
+        let at = square(turn, number);
+        if let Some(man) = at_start(at) {
+            kept.put(rt, at, man);
+        }
+    }
+    kept
+}
+
+#[test]
+fn any_order_and_back_to_empty(rt: HostRuntime) {
+    let table = table(1);
+    let mut kept = start(&rt, &table, 0);
+    for turn in [21, 42, 63] {
+        let other = start(&rt, &table, turn);
+        assert!(rt; kept.key == other.key, "put in the order {turn}");
+    }
+    assert!(rt; kept.key == Key::of(&table, &kept.placement));
+    assert!(rt; kept.key != Key::empty(&table));
+    let whole = kept.key.clone().expect(&rt, "no memory is needed");
+    assert!(rt; whole == kept.key);
+    for number in 0..64u8 {
+        let at = square(42, number);
+        if at_start(at).is_some() {
+            kept.clear(&rt, at);
+        }
+    }
+    assert!(rt; kept.key == Key::empty(&table));
+    assert!(rt; kept.key != whole);
+}
+
+#[test]
+fn any_words(rt: HostRuntime) {
+    let (one, two, zeros) = (table(1), table(2), KeyTable::new([0; 768]));
+    let start_one = start(&rt, &one, 0);
+    assert!(rt; start_one.key != Key::of(&two, &start_one.placement));
+    assert!(rt; Key::empty(&one) == Key::empty(&two));
+    assert!(rt; Key::of(&zeros, &start_one.placement) == Key::empty(&zeros));
+}
+
+#[test]
+fn one_word_for_each_man_on_each_square(rt: HostRuntime) {
+    // the word of White's knight on c3 alone
+    let mut words = [0; 768];
+    words[64 + 18] = u64::MAX;
+    let table = KeyTable::new(words);
+    for (colour, kind, name, is_it) in [
+        (Colour::White, Kind::Knight, "c3", true),
+        (Colour::Black, Kind::Knight, "c3", false),
+        (Colour::White, Kind::Pawn, "c3", false),
+        (Colour::White, Kind::Knight, "f6", false),
+    ] {
+        let mut kept = Kept::empty(&table);
+        let at = Square::parse(name.as_bytes()).expect(&rt, "a square's name");
+        kept.put(&rt, at, Man { colour, kind });
+        assert_eq!(rt; kept.key != Key::empty(&table), is_it, "{name}");
+    }
+}

@@ -1,0 +1,114 @@
+use chess_types::{Failed, FromBytes, FromRead, Refusal, Sink, Source, ToBytes, ToWrite};
+use std::io::{self, Error, ErrorKind, Read, Write};
+
+/// A stream whose first calls have these faults. The calls after them carry one byte each.
+#[derive(Drop)]
+struct Faulty {
+    faults: [Option<ErrorKind>; 2],
+    calls: usize,
+}
+
+impl Faulty {
+    fn new(faults: [Option<ErrorKind>; 2]) -> Faulty {
+        Faulty { faults, calls: 0 }
+    }
+
+    fn call(&mut self) -> io::Result<()> {
+        let fault = self.faults.get(self.calls).copied().flatten();
+        self.calls = self.calls.saturating_add(1);
+        match fault {
+            Some(kind) => Err(Error::from(kind)),
+            None => Ok(()),
+        }
+    }
+}
+
+impl Read for Faulty {
+    fn read(&mut self, buf: &mut [u8]) -> io::Result<usize> {
+        self.call()?;
+        for byte in buf.iter_mut().take(1) {
+            *byte = b'a';
+        }
+        Ok(buf.len().min(1))
+    }
+}
+
+impl Write for Faulty {
+    fn write(&mut self, buf: &[u8]) -> io::Result<usize> {
+        self.call()?;
+        Ok(buf.len().min(1))
+    }
+
+    fn flush(&mut self) -> io::Result<()> {
+        Ok(())
+    }
+}
+
+/// The faults of the first calls, what the first call of the stream over them answers, and how many calls it makes.
+const FAULTS: [([Option<ErrorKind>; 2], Result<usize, Failed>, usize); 6] = [
+    ([None, None], Ok(1), 1),
+    ([Some(ErrorKind::Interrupted), None], Ok(1), 2),
+    (
+        [Some(ErrorKind::Interrupted), Some(ErrorKind::Interrupted)],
+        Ok(1),
+        3,
+    ),
+    ([Some(ErrorKind::Other), None], Err(Failed), 1),
+    ([Some(ErrorKind::WouldBlock), None], Err(Failed), 1),
+    (
+        [Some(ErrorKind::Interrupted), Some(ErrorKind::BrokenPipe)],
+        Err(Failed),
+        2,
+    ),
+];
+
+#[test]
+fn only_an_interrupted_read_is_tried_again(rt: HostRuntime) {
+    for (faults, answer, calls) in FAULTS {
+        let mut source = FromRead::new(Faulty::new(faults));
+        assert!(rt; !source.has_failed());
+        assert_eq!(rt; source.read(&mut [0; 4]), answer);
+        assert_eq!(rt; source.reader.calls, calls);
+        assert_eq!(rt; source.has_failed(), answer.is_err());
+    }
+}
+
+#[test]
+fn only_an_interrupted_write_is_tried_again(rt: HostRuntime) {
+    for (faults, answer, calls) in FAULTS {
+        let mut sink = ToWrite::new(Faulty::new(faults));
+        assert!(rt; !sink.has_failed());
+        assert_eq!(rt; sink.write(b"text"), answer);
+        assert_eq!(rt; sink.writer.calls, calls);
+        assert_eq!(rt; sink.has_failed(), answer.is_err());
+    }
+}
+
+#[test]
+fn lent_bytes_are_read_in_pieces(rt: HostRuntime) {
+    let mut source = FromBytes::failing_after(b"abcdefg", 3, 1);
+    let mut buf = [0; 5];
+    assert_eq!(rt; source.read(&mut buf), Ok(3));
+    assert_eq!(rt; source.read(&mut buf), Err(Failed));
+    assert_eq!(rt; source.read(&mut buf[3..]), Ok(2));
+    assert_eq!(rt; buf, *b"abcde");
+    assert_eq!(rt; source.read(&mut buf), Ok(2));
+    assert_eq!(rt; source.read(&mut buf), Ok(0));
+}
+
+#[test]
+fn lent_bytes_are_written_in_pieces(rt: HostRuntime) {
+    for (refusal, answer) in [
+        (Refusal::Fails, Err(Failed)),
+        (Refusal::TakesNothing, Ok(0)),
+    ] {
+        let mut room = [0; 6];
+        let mut sink = ToBytes::refusing_after(&mut room, 3, 1, refusal);
+        assert_eq!(rt; sink.write(b"abcde"), Ok(3));
+        assert_eq!(rt; sink.write(b"de"), answer);
+        assert_eq!(rt; sink.write(b"de"), Ok(2));
+        assert_eq!(rt; sink.write(b"fg"), Ok(1));
+        assert_eq!(rt; sink.write(b"g"), Ok(0));
+        assert_eq!(rt; sink.taken(), b"abcdef".as_slice());
+    }
+}
