@@ -58,23 +58,3 @@ path_in-path_text [] small = path_in-root (codes "-") [] refl refl
 path_in-path_text (n ∷ ns) small =
     path_in-parts (decimal n ++ gapped (codes ".") (map decimal ns)) (decimal n ∷ map decimal ns) (n ∷ ns) (no_root n ns small.0 small.1) (sym (parts-decimals n ns small.0 small.1))
     (numbers_in-decimals (n ∷ ns) small)
-
--- these places are the path
-abbrev pub IsReadAs : List ℕ → List ℕ → PathWord → Type 0
-IsReadAs path places (Read count) = (count ≤ 20000) × (take count places ≡ path)
-IsReadAs path places TooLong = ⊥
-IsReadAs path places Malformed = ⊥
-
--- so whoever reads it finds that path
-pub read_back : (path places : List ℕ) (how : PathWord) → AllByRecursion (λ n. n < 1000000) path → length path ≤ 20000 → ReadsPath (path_text path) places how → IsReadAs path places how
-read_back path places (Read count) small few reads = (reads.0, sym (cc (sym (path_in-path_text path small) ∙ reads.1)))
-read_back path places TooLong small few reads =
-    let same : path ≡ reads.0 = cc (sym (path_in-path_text path small) ∙ reads.1) in
-    absurd (omega (arith, few, reads.2, ap length same))
-read_back path places Malformed small few reads =
-    let none : Some path ≡ None = sym (path_in-path_text path small) ∙ reads in
-    absurd (cc none)
-
-pub read_as_none : (path places : List ℕ) (how : PathWord) → (how ≡ TooLong) ⊎ (how ≡ Malformed) → IsReadAs path places how → ⊥
-read_as_none path places how (inl is) read = subst (λ h. IsReadAs path places h) is read
-read_as_none path places how (inr is) read = subst (λ h. IsReadAs path places h) is read

@@ -1,5 +1,5 @@
 -- How a run of the board ends, one of a session, and one over a collection of games.
---   BoardEnds       the board's answers to the lines that were read are written
+--   BoardEnds       the board's answers to the lines that were read are written, with so many reads at most
 --   SittingEnds     so are a session's replies
 --   CollectionEnds  so are the games that were read
 use Rattle.std.specs.Prelude.{◌≡◌, ◌≢◌, ◌⊎◌, ℕ, Bool, List}
@@ -15,9 +15,9 @@ use Rattle.chess_cli.specs.RunEnds.{EndsGood, EndsOver, EndsReadFault, EndsWrite
 use Rattle.chess_cli.specs.Sittings.{Answered, AnsweredInPart, beginning_with, has_ended}
 
 module _ {R W : Type 0} (gives : R → List ℕ → R → Type 0) (read_failed : R → Bool) (takes : W → List ℕ → W → Type 0) (write_failed : W → Bool) (ended : R → Type 0) where
-  pub record BoardEnds (result : Ended) (r r' : R) (w w' : W) : Type 0 where
+  pub record BoardEnds (most : ℕ) (result : Ended) (r r' : R) (w w' : W) : Type 0 where
     pub good : result ≡ Good → (state : TreeParts) × EndsGood (Runs Answers) beginning gives read_failed takes write_failed ended state r r' w w'
-    pub read_fault : result ≡ ReadFault → (state : TreeParts) × EndsReadFault (Runs Answers) beginning gives read_failed takes write_failed most_reads state r r' w w'
+    pub read_fault : result ≡ ReadFault → (state : TreeParts) × EndsReadFault (Runs Answers) beginning gives read_failed takes write_failed most state r r' w w'
     pub write_fault : result ≡ WriteFault → (state : TreeParts) × EndsWriteFault (Runs Answers) beginning gives read_failed takes write_failed ended state r r' w w'
     -- there was no memory to begin with
     pub memory : result ≡ Memory → (r' ≡ r) × (w' ≡ w)

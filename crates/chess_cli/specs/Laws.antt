@@ -1,14 +1,19 @@
--- What holds of games that are written one behind the other.
---   CanBeRead       a game whose text isn't too long to be read, nor its variations too deep
---   WrittenAreRead  such games are read again, in their order, and only white space is left
---   ReadAreGames    what is read one behind the other are games, and their variations not too deep
-use Rattle.std.specs.Prelude.{ℕ, ◌≤◌, false, List, length}
+-- What holds of paths, and of games that are written one behind the other.
+--   PathsAreReadBack  a path that is written is read as that path
+--   CanBeRead         a game whose text isn't too long to be read, nor its variations too deep
+--   WrittenAreRead    such games are read again, in their order, and only white space is left
+--   ReadAreGames      what is read one behind the other are games, and their variations not too deep
+use Rattle.std.specs.Prelude.{◌≡◌, ℕ, ◌<◌, ◌≤◌, false, List, length, Some}
 use Rattle.std.specs.List.{AllByRecursion}
 use Rattle.chess_pgn.specs.Games.{Game}
 use Rattle.chess_pgn.specs.Laws.{IsGame, nesting}
 use Rattle.chess_pgn.specs.Reading.{IsWhite}
 use Rattle.chess_pgn.specs.Written.{game_text}
 use Rattle.chess_cli.specs.Collections.{AreGames, games_text}
+use Rattle.chess_cli.specs.Numbers.{path_in, path_text}
+
+abbrev pub PathsAreReadBack : Type 0
+PathsAreReadBack = (path : List ℕ) → AllByRecursion (λ place. place < 1000000) path → path_in (path_text path) ≡ Some path
 
 abbrev pub IsShallow : Game → Type 0
 IsShallow game = IsGame game × (nesting false game.tree.below ≤ 128)

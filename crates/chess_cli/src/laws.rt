@@ -1,4 +1,4 @@
-ghost use Rattle.chess_cli.specs.Laws.{ReadAreGames, WrittenAreRead};
+ghost use Rattle.chess_cli.specs.Laws.{PathsAreReadBack, ReadAreGames, WrittenAreRead};
 
 use chess_pgn::game_laws;
 
@@ -10,4 +10,10 @@ pub fn collection_laws()
     ensures read { ReadAreGames }
 {
     game_laws();
+}
+
+/// What `path` writes of a place in the tree, `goto` reads as that place: a law of the definitions by which the board does both, and it does nothing.
+pub fn path_laws()
+    ensures read_back { PathsAreReadBack }
+{
 }

@@ -33,11 +33,8 @@ mod write;
 pub use clock::Clock;
 pub use collection::{pgn, pgn_with};
 pub use ended::Ended;
-pub use laws::collection_laws;
+pub use laws::{collection_laws, path_laws};
 pub use over_bytes::board_over_bytes;
-pub use over_streams::{board, board_with};
+pub use over_streams::{board, board_with, board_within};
 pub use sessions::{uci, uci_with};
 pub use texts::{Kept, counts_text, eval_text};
-
-#[cfg(test)]
-mod tests;

@@ -1,5 +1,6 @@
 ghost use Rattle.std.specs.Prelude.{◌≡◌, false};
 ghost use Rattle.chess_cli.specs.Endings.{BoardEnds};
+ghost use Rattle.chess_cli.specs.RunEnds.{most_reads};
 
 use super::ended::Ended;
 use super::keys::key_table;
@@ -21,7 +22,7 @@ pub(crate) const READS: u64 = 1 << 40;
 pub fn board<A: Allocator, R: Source, W: Sink>(alloc: A, reader: &mut R, writer: &mut W) -> Ended
     requires reader { R.failed reader.old ≡ false }
     requires writer { W.failed writer.old ≡ false }
-    ensures { BoardEnds R.gives R.failed W.takes W.failed R.ended result reader.old reader.new writer.old writer.new }
+    ensures { BoardEnds R.gives R.failed W.takes W.failed R.ended most_reads result reader.old reader.new writer.old writer.new }
 {
     board_with(alloc, reader, writer, &key_table())
 }
@@ -35,10 +36,25 @@ pub fn board_with<A: Allocator, R: Source, W: Sink>(
 ) -> Ended
     requires reader { R.failed reader.old ≡ false }
     requires writer { W.failed writer.old ≡ false }
-    ensures { BoardEnds R.gives R.failed W.takes W.failed R.ended result reader.old reader.new writer.old writer.new }
+    ensures { BoardEnds R.gives R.failed W.takes W.failed R.ended most_reads result reader.old reader.new writer.old writer.new }
+{
+    board_within(alloc, reader, writer, table, READS)
+}
+
+/// `board_with`, with at most so many reads in place of 2^40: for a caller who wants to come back to other work.
+pub fn board_within<A: Allocator, R: Source, W: Sink>(
+    alloc: A,
+    reader: &mut R,
+    writer: &mut W,
+    table: &KeyTable,
+    reads: u64,
+) -> Ended
+    requires reader { R.failed reader.old ≡ false }
+    requires writer { W.failed writer.old ≡ false }
+    ensures { BoardEnds R.gives R.failed W.takes W.failed R.ended reads result reader.old reader.new writer.old writer.new }
 {
     let Ok(mut board) = Board::new(&alloc, table) else {
         return Ended::Memory;
     };
-    run(&alloc, &mut board, reader, writer, READS)
+    run(&alloc, &mut board, reader, writer, reads)
 }

@@ -4,6 +4,8 @@
 #[cfg(test)]
 mod games;
 #[cfg(test)]
+mod growths;
+#[cfg(test)]
 mod hostile;
 #[cfg(test)]
 mod lines;

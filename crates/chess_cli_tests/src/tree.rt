@@ -42,7 +42,8 @@ fn keeps_notes_and_walks(rt: HostRuntime) {
     let input =
         b"new\nplay e2e4\nnag 1\ncomment a  b\nplay e7e5\nstart\nend\npath\ngoto 0\npath\ncomment }\n\
         goto 0.1\npath\nnag 256\nnag 000255\nnag\nnag 1 2\ncomment\ngoto 00.000000\npath\ngoto -\npath\n\
-        nag 1\nnag 256\ngoto 0.\ngoto 0..0\ngoto\ngoto 0 0\ngoto --\ngoto 1234567\ngoto 999999\nstep\n\
+        nag 1\nnag 256\ngoto 0.\ngoto 0..0\ngoto .0\ngoto 0x\ngoto +1\ngoto -.0\ngoto\ngoto 0 0\ngoto --\n\
+        goto 1234567\ngoto 999999\nstep\n\
         step 1234567\nstep x\nstep 1\npath x\nstart x\nend x\npromote x\ndelete x\ncomment of the root\n\
         path\n";
     let output = b"\
@@ -69,6 +70,10 @@ ok
 ok
 -
 refused 2 AtRoot
+refused 7 Argument
+refused 7 Argument
+refused 7 Argument
+refused 7 Argument
 refused 7 Argument
 refused 7 Argument
 refused 7 Argument

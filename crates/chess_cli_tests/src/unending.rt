@@ -1,5 +1,6 @@
 //! Input in the greatest numbers, of all bytes, and without end.
-use chess_cli::{Ended, board, pgn, uci};
+use chess_cli::{Ended, board, board_within, pgn, uci};
+use chess_key::KeyTable;
 use chess_pgn::{FaultKind, PgnFault};
 use chess_types::{Failed, FromBytes, Sink, Source, ToBytes};
 use linked_list_allocator::LocalHeap;
@@ -114,6 +115,20 @@ fn a_million_lines_in_little_memory(rt: HostRuntime) -> Result<(), Fail> {
     assert_counted(&rt, &heap, b"play e4\nback\n", 1_300_000, 600_000, 200_000);
     assert_eq!(rt; heap.used(), 0);
     Ok(())
+}
+
+/// An input without end is read so many times and no more.
+#[test]
+fn stops_after_the_most_reads(rt: HostRuntime) {
+    let mut reader = Repeated::new(b"\n", u64::MAX);
+    let mut writer = Counted::new();
+    let table = KeyTable::new([0; 768]);
+    assert_eq!(rt;
+        board_within(rt.alloc(), &mut reader, &mut writer, &table, 100),
+        Ended::ReadFault
+    );
+    assert_eq!(rt; u64::MAX - reader.left, 6_553_600);
+    assert_eq!(rt; writer.bytes, 0);
 }
 
 #[test]

@@ -1,6 +1,6 @@
 use Rattle.chess_cli.specs.Answers.{Answers}
 use Rattle.chess_cli.proofs.RunEndLemmas.{never_over, whole_ends}
-use Rattle.chess_cli.proofs.over_streams.board_with.Goals as goal
+use Rattle.chess_cli.proofs.over_streams.board_within.Goals as goal
 
 pub returns : goal.returns
 returns g c =
