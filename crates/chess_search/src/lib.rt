@@ -10,8 +10,6 @@ mod roots;
 mod score;
 mod search;
 mod slices;
-#[cfg(test)]
-mod tests;
 
 pub use nodes::Nodes;
 pub use roots::{best, best_counted};

@@ -1,7 +1,7 @@
 use Rattle.std.proofs.Common.{◌≡◌, arith}
 use Rattle.std.proofs.lemmas.List.Sorted.{IsPermutation-refl}
 use Rattle.chess_search.proofs.WindowLemmas.{legal_at}
-use Rattle.chess_search.proofs.tests.+plain_value.Goals as goal
+use Rattle.chess_search_tests.proofs.plain.+plain_value.Goals as goal
 
 pub plain_value-plain_worth-worth-requires : goal.plain_value-plain_worth-worth-requires
 plain_value-plain_worth-worth-requires g t c κs within =

@@ -1,7 +1,7 @@
 use Rattle.std.proofs.Common.{◌+◌, ◌*◌}
 use Rattle.chess_draws.specs.LineParts.{IsAsBefore}
 use Rattle.chess_search.specs.Scores.{IsValue}
-use Rattle.chess_search.proofs.tests.+plain_value.Given as goal
+use Rattle.chess_search_tests.proofs.plain.+plain_value.Given as goal
 
 abbrev pub decreases-plain_value : goal.decreases-plain_value
 decreases-plain_value g l = 2 * l.depth

@@ -3,11 +3,11 @@ ghost use Rattle.std.specs.FinSet as set;
 ghost use Rattle.chess_draws.specs.LineParts.{IsAsBefore};
 ghost use Rattle.chess_search.specs.Slices.{GoesWith};
 
-use super::{MIDDLE_GAMES, START, at, plain_best};
-use crate::{Nodes, Slices, best_counted};
+use crate::plain::{MIDDLE_GAMES, at, plain_best};
 use arrayvec::ArrayVec;
 use chess_draws::Line;
 use chess_key::KeyTable;
+use chess_search::{Nodes, Slices, best_counted};
 use chess_types::{Move, SquareSet};
 use rand_core::utils::NextWord;
 use rand_pcg::Pcg64;
@@ -72,7 +72,7 @@ fn search_all<A: Allocator>(line: &mut Line<'_, A>, slices: &mut Slices) -> Opti
 }
 
 /// All three agree on the best of some of the moves.
-#[tactic(auto, using(crate::proofs::RootLemmas::part_legal))]
+#[tactic(auto, using(chess_search::proofs::RootLemmas::part_legal))]
 fn agree<A: Allocator>(
     rt: &impl Abort,
     line: &mut Line<'_, A>,

@@ -2,7 +2,7 @@ use Rattle.std.proofs.Common.{◌≡◌, ◌≤◌, take}
 use Rattle.std.specs.Prelude.{filter}
 use Rattle.std.specs.FinSet as set
 use Rattle.arrayvec.specs.ArrayVec.{array_vec_len}
-use Rattle.chess_search.proofs.tests.random.leading_to.Given as goal
+use Rattle.chess_search_tests.proofs.random.leading_to.Given as goal
 
 abbrev pub invariant-loop-m : goal.invariant-loop-m
 invariant-loop-m l = record {

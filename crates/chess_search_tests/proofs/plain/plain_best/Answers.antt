@@ -1,6 +1,6 @@
 use Rattle.std.proofs.Common.{arith}
 use Rattle.chess_search.proofs.RootLemmas.{root_legal}
-use Rattle.chess_search.proofs.tests.plain_best.Goals as goal
+use Rattle.chess_search_tests.proofs.plain.plain_best.Goals as goal
 
 pub plain_worth-value-requires-clause-legal : goal.plain_worth-value-requires-clause-legal
 plain_worth-value-requires-clause-legal g c =
