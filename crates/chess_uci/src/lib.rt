@@ -20,6 +20,3 @@ pub use event::Event;
 pub use laws::session_laws;
 pub use reply::Reply;
 pub use session::Session;
-
-#[cfg(test)]
-mod tests;

@@ -1,8 +1,6 @@
-mod interleavings;
-
-use crate::{Event, Reply, Session, session_laws};
 use chess_key::KeyTable;
 use chess_types::Move;
+use chess_uci::{Event, Reply, Session, session_laws};
 use linked_list_allocator::LocalHeap;
 use std::alloc::{AllocError, Allocator, Global};
 use std::process::Abort;

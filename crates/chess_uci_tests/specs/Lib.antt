@@ -1,0 +1,2 @@
+-- What the lines of the tests ask for.
+pub mod Named

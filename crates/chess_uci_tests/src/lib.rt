@@ -1,0 +1,11 @@
+//! Tests of `chess_uci` by its public calls. They stand in a crate of their own, so that nothing of `chess_uci` is proved a second time for them.
+#![tactic(auto)]
+
+#[cfg(test)]
+mod interleavings;
+#[cfg(test)]
+mod lines;
+#[cfg(test)]
+mod plain;
+#[cfg(test)]
+mod rows;
