@@ -1,6 +1,6 @@
 //! An analysis: its calls, as a reader of games makes them, and each growth refused in turn.
 use crate::calls::{Look, is_seen};
-use crate::refused::is_memory;
+use crate::refused::{LONG, fill, is_memory};
 use crate::trees::{a_move, a_table};
 use chess_key::KeyTable;
 use chess_san::SanFault;
@@ -298,9 +298,6 @@ const CALLS: u32 = 31;
 /// Four moves that lead back to where they began.
 const SHUFFLE: [&str; 4] = ["g1f3", "g8f6", "f3g1", "f6g8"];
 
-/// A long comment.
-const LONG: &[u8] = b"a comment of some words that takes memory of its own";
-
 /// One of the calls that may want memory, or the steps, which mustn't: whether it found none.
 fn is_refused<A: Allocator>(rt: &impl Abort, analysis: &mut Analysis<'_, A>, call: u32) -> bool {
     match call {
@@ -346,8 +343,7 @@ fn first_without(
     analysis: &mut Analysis<'_, LocalHeap>,
     room: usize,
 ) -> u32 {
-    let taken = 65_000usize.saturating_sub(heap.used()).saturating_sub(room);
-    let _other: Vec<u8, _> = Vec::with_capacity(heap, taken).expect(rt, "room");
+    let _other = fill(rt, heap, 65_000usize.saturating_sub(room));
     first_refused(rt, analysis, 0)
 }
 

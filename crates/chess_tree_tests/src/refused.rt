@@ -10,7 +10,7 @@ use std::process::Abort;
 use std::test::Fail;
 
 /// The comment of a few words, more than a small heap has room for.
-const LONG: &[u8] = b"a comment of some words that takes memory of its own";
+pub const LONG: &[u8] = b"a comment of some words that takes memory of its own";
 
 /// How many calls there are.
 const CALLS: u32 = 45;
@@ -110,10 +110,14 @@ fn faults_say_what_they_are(rt: HostRuntime) -> Result<(), Fail> {
 
 const BEGUN: &[Row] = &[Does(Add("e2e4"))];
 
+/// Takes what a heap has left of so many bytes, until it is dropped.
+pub fn fill<'a>(rt: &impl Abort, heap: &'a LocalHeap, bytes: usize) -> Vec<u8, &'a LocalHeap> {
+    Vec::with_capacity(heap, bytes.saturating_sub(heap.used())).expect(rt, "room")
+}
+
 /// A comment is refused while the heap is nearly full.
 fn is_comment_refused(rt: &impl Abort, heap: &LocalHeap, tree: &mut Tree<'_, LocalHeap>) {
-    let taken = 7_000usize.saturating_sub(heap.used());
-    let _other: Vec<u8, _> = Vec::with_capacity(heap, taken).expect(rt, "room");
+    let _other = fill(rt, heap, 7_000);
     assert!(rt; tree.set_comment(&[b'a'; 2_000]) == Err(TreeFault::Memory));
     run(rt, tree, &[Shows(Comment(b""))]);
 }
@@ -180,8 +184,7 @@ fn first_without(
     tree: &mut Tree<'_, LocalHeap>,
     room: usize,
 ) -> u32 {
-    let taken = 15_500usize.saturating_sub(heap.used()).saturating_sub(room);
-    let _other: Vec<u8, _> = Vec::with_capacity(heap, taken).expect(rt, "room");
+    let _other = fill(rt, heap, 15_500usize.saturating_sub(room));
     first_refused(rt, tree, 0)
 }
 
