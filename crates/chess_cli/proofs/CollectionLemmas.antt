@@ -67,13 +67,13 @@ module _ {R A : Type 0} (gives : R → List ℕ → R → Type 0) (failed : R �
         subst (λ (z : List ℕ). AreGames ((r.bytes ++ bytes) ++ more) games z) (sym (append_assoc (unread m) bytes more)) whole
 
     module _ (ended : R → Type 0) where
-      collected : (n.has_ended ≡ true → ended n.source) → (m.has_ended ≡ true → (bytes ≡ []) × (n.has_ended ≡ true)) → Collected gives failed ended s.source games
-      collected told still = record {
+      collected : (all : Bool) → (all ≡ true → ended n.source) → (m.has_ended ≡ true → (bytes ≡ []) × (all ≡ true)) → Collected gives failed ended s.source games
+      collected all told still = record {
         bytes = r.bytes ++ bytes;
         source = n.source;
         came = carries s n (r.bytes ++ bytes) all_bytes;
         well_read = well_read;
-        all = n.has_ended;
+        all = all;
         told = told;
         rest = unread m ++ bytes;
         are = λ more none. are_on more (λ e. (let b = still e in ap (λ (z : List ℕ). z ++ more) b.0 ∙ none b.1));
@@ -130,30 +130,17 @@ module _ {R W A : Type 0} (gives : R → List ℕ → R → Type 0) (read_failed
 
     -- what stands behind the games is refused, or there was no memory for it
     pub ends_at_fault : (m n : AtHand R A) (old new : W) (fault : PgnFault) → SoFar gives read_failed ended takes failed count s m old new → HasFault gives read_failed ended m n (Pgn fault) → EndsAtFault gives read_failed ended takes failed fault s.source old new
+    unfolding collected
     ends_at_fault m n old new fault so_far (inl (memory, starves)) = record {
-      bytes = so_far.reads.bytes ++ starves.bytes;
-      source = n.source;
-      came = carries gives read_failed s n (so_far.reads.bytes ++ starves.bytes) (came_append gives read_failed s m n so_far.reads.bytes starves.bytes so_far.reads.came starves.came);
-      well_read = well_read gives read_failed s m n so_far.games nothing first_read so_far.reads starves.bytes starves.came;
-      all = m.has_ended;
-      told = λ e. (starves.still e).1;
       games = so_far.games;
-      rest = unread m ++ starves.bytes;
-      are = λ more none. are_on gives read_failed s m n so_far.games nothing first_read so_far.reads starves.bytes starves.came more (λ e. ap (λ (z : List ℕ). z ++ more) (starves.still e).0 ∙ none e);
+      reads = collected gives read_failed s m n so_far.games nothing first_read so_far.reads starves.bytes starves.came ended m.has_ended (λ e. (starves.still e).1) (λ e. ((starves.still e).0, e));
       refused = inl memory;
       writes = so_far.writes;
       well_written = so_far.well_written;
     }
     ends_at_fault m n old new fault so_far (inr fails) = record {
-      bytes = so_far.reads.bytes ++ fails.bytes;
-      source = n.source;
-      came = carries gives read_failed s n (so_far.reads.bytes ++ fails.bytes) (came_append gives read_failed s m n so_far.reads.bytes fails.bytes so_far.reads.came fails.came);
-      well_read = well_read gives read_failed s m n so_far.games nothing first_read so_far.reads fails.bytes fails.came;
-      all = n.has_ended;
-      told = fails.told;
       games = so_far.games;
-      rest = unread m ++ fails.bytes;
-      are = λ more none. are_on gives read_failed s m n so_far.games nothing first_read so_far.reads fails.bytes fails.came more (λ e. (let still = fails.still e in ap (λ (z : List ℕ). z ++ more) still.0 ∙ none still.1));
+      reads = collected gives read_failed s m n so_far.games nothing first_read so_far.reads fails.bytes fails.came ended n.has_ended fails.told fails.still;
       refused = inr (λ more none.
           let same = sym (append_assoc (unread m) fails.bytes more) in
           (subst HasNoGame same (fails.none more none), subst (λ (z : List ℕ). IsWhite z → ⊥) same (fails.dark more none)));
@@ -201,7 +188,7 @@ module _ {R W A : Type 0} (gives : R → List ℕ → R → Type 0) (read_failed
     broken_more m n old mid new game told first so_far read broken = record {
       games = so_far.games ++ game ∷ [];
       reads = collected gives read_failed s n n (so_far.games ++ game ∷ []) nothing first_read (reads_more gives read_failed s m n so_far.games game so_far.reads read) []
-          (reads_none gives read_failed n).came ended told (λ e. (refl, e));
+          (reads_none gives read_failed n).came ended n.has_ended told (λ e. (refl, e));
       broken = record {
         front = games_text so_far.games ++ broken.front;
         rest = broken.rest;
@@ -219,7 +206,7 @@ module _ {R W A : Type 0} (gives : R → List ℕ → R → Type 0) (read_failed
     ends_written : (m n : AtHand R A) (old new : W) (game : Game) → (n.has_ended ≡ true → ended n.source) → SoFar gives read_failed ended takes failed count s m old new → HasGame gives read_failed m n game → EndsWritten gives read_failed ended takes failed s.source old new
     ends_written m n old new game told so_far read = record {
       games = so_far.games;
-      reads = collected gives read_failed s m n so_far.games nothing first_read so_far.reads read.bytes read.came ended told read.still;
+      reads = collected gives read_failed s m n so_far.games nothing first_read so_far.reads read.bytes read.came ended n.has_ended told read.still;
       writes = so_far.writes;
       well_written = so_far.well_written;
     }

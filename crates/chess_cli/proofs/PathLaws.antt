@@ -1,5 +1,5 @@
 -- The word that writes a path is read as that path.
-use Rattle.std.proofs.Common.{◌≡◌, ℕ, ◌<◌, ◌≤◌, ◌==◌, false, ne_eqb, List, [], ◌∷◌, ◌++◌, length, map, take, All, Option, Some, None, ◌⊎◌, inl, inr, refl, sym, ap, subst, ◌∙◌, append-nil, arith}
+use Rattle.std.proofs.Common.{◌≡◌, ℕ, ◌<◌, ◌==◌, false, ne_eqb, List, [], ◌∷◌, ◌++◌, length, map, All, Option, Some, None, refl, sym, ap, ◌∙◌, append-nil, arith}
 use Rattle.std.specs.Prelude.{bytes_eq, codes, decimal}
 use Rattle.std.specs.List.{AllByRecursion}
 use Rattle.std.proofs.lemmas.Bool.{false_from_ne_true, le-leb}
@@ -8,10 +8,8 @@ use Rattle.std.proofs.lemmas.List.{get_or_default}
 use Rattle.std.proofs.lemmas.List.Splits.{slice_split_at, slice_split_none}
 use Rattle.std.proofs.lemmas.Slice.Eq.{bytes_eq-Decides}
 use Rattle.std.proofs.lemmas.Str.Parse.{not_in_digits}
-use Rattle.chess_cli.specs.declared.numbers.PathWord.{PathWord}
-use Rattle.chess_cli.specs.declared.numbers.PathWord.TheVariants.{Read, TooLong, Malformed}
 use Rattle.chess_cli.specs.Gaps.{gapped}
-use Rattle.chess_cli.specs.Numbers.{number_in, numbers_in, path_in, path_text, ReadsPath}
+use Rattle.chess_cli.specs.Numbers.{number_in, numbers_in, path_in, path_text}
 use Rattle.chess_cli.proofs.NumberLemmas.{digits_own}
 use Rattle.chess_cli.proofs.PathLemmas.{parts_of, path_in-root, path_in-parts}
 

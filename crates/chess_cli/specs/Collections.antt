@@ -57,16 +57,9 @@ module _ {R W : Type 0} (gives : R → List ℕ → R → Type 0) (read_failed :
     pub well_written : failed new ≡ false
 
   pub record EndsAtFault (fault : PgnFault) (reader : R) (old new : W) : Type 0 where
-    pub bytes : List ℕ
-    pub source : R
-    pub came : Carries gives reader bytes source
-    pub well_read : read_failed source ≡ false
-    pub all : Bool
-    pub told : all ≡ true → ended source
     pub games : List Game
-    pub rest : List ℕ
-    pub are : (more : List ℕ) → (all ≡ true → more ≡ []) → AreGames (bytes ++ more) games (rest ++ more)
-    pub refused : (fault.kind ≡ Memory) ⊎ ((more : List ℕ) → (all ≡ true → more ≡ []) → HasNoGame (rest ++ more) × (IsWhite (rest ++ more) → ⊥))
+    pub reads : Collected gives read_failed ended reader games
+    pub refused : (fault.kind ≡ Memory) ⊎ ((more : List ℕ) → (reads.all ≡ true → more ≡ []) → HasNoGame (reads.rest ++ more) × (IsWhite (reads.rest ++ more) → ⊥))
     pub writes : Carries takes old (games_text games) new
     pub well_written : failed new ≡ false
 

@@ -15,5 +15,4 @@ pub fn collection_laws()
 /// What `path` writes of a place in the tree, `goto` reads as that place: a law of the definitions by which the board does both, and it does nothing.
 pub fn path_laws()
     ensures read_back { PathsAreReadBack }
-{
-}
+{}

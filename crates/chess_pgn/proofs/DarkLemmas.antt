@@ -4,7 +4,7 @@ use Rattle.std.specs.Prelude.{if◌then◌else◌}
 use Rattle.std.specs.List.{list_all}
 use mathlib.Core.Logic.{inl, inr}
 use Rattle.chess_pgn.specs.Items as items
-use Rattle.chess_pgn.specs.Items.{Each, IsSpelled, Item, Spells, may_stand, EndsRun, in_line, is_blank, is_game_start, is_outside, is_in_tag, behind_blank, is_white, place_after, starts_line}
+use Rattle.chess_pgn.specs.Items.{Each, IsSpelled, Item, Spells, may_stand, EndsRun, in_line, is_blank, is_game_start, is_outside, is_white, place_after, starts_line}
 use Rattle.chess_pgn.specs.Reading.{IsWhite, is_heading, is_movetext}
 use Rattle.chess_pgn.specs.Tags.{AreBetween, may_part_tags}
 use Rattle.chess_pgn.specs.steps.HeaderCode.{is_begun}
@@ -67,27 +67,15 @@ goes_white is input rest s w = elim (either (length is) (length w.items)) [
 
 -- ---- no white item is refused
 
-white_between : (i : Item) → is_white i ≡ true → may_part_tags i ≡ true
-white_between items.Mark e = refl
-white_between (items.Blank b) e = refl
-white_between items.Hidden e = refl
-white_between _ e = absurd cc
-
-white_heading : (i : Item) → is_white i ≡ true → is_heading i ≡ true
-white_heading items.Mark e = refl
-white_heading (items.Blank b) e = refl
-white_heading items.Hidden e = refl
-white_heading _ e = absurd cc
-
-white_untagged : (i : Item) → is_white i ≡ true → is_tagged i ≡ false
-white_untagged items.Mark e = refl
-white_untagged (items.Blank b) e = refl
-white_untagged items.Hidden e = refl
-white_untagged _ e = absurd cc
+white_stands : (i : Item) → is_white i ≡ true → (may_part_tags i ≡ true) × (is_heading i ≡ true) × (is_tagged i ≡ false) × (is_movetext i ≡ true)
+white_stands items.Mark e = (refl, refl, refl, refl)
+white_stands (items.Blank b) e = (refl, refl, refl, refl)
+white_stands items.Hidden e = (refl, refl, refl, refl)
+white_stands _ e = absurd cc
 
 are_between : (is : List Item) → list_all is_white is ≡ true → AreBetween is
 are_between [] e = tt
-are_between (i ∷ is) e = (let two = both_true (is_white i) (list_all is_white is) e in (white_between i two.0, are_between is two.1))
+are_between (i ∷ is) e = (let two = both_true (is_white i) (list_all is_white is) e in ((white_stands i two.0).0, are_between is two.1))
 
 none_begun : (b : Bool) (all read : List (List ℕ × List ℕ)) → Some all ≡ (if b then None else Some read) → b ≡ false
 none_begun true all read e = absurd cc
@@ -104,8 +92,8 @@ module _ {A : Type 0} (is : List Item) (white : list_all is_white is ≡ true) (
   none_told : (item : Item) (fault : PgnFault) → is_white item ≡ true → InHead is r → (fault.kind ≡ Memory) ⊎ (Strays item fault r.header ⊎ ((is_heading item ≡ false) × RefusesFirst item fault.kind r)) → fault.kind ≡ Memory
   none_told item fault e h (inl k) = k
   none_told item fault e h (inr (inl (inl k))) = absurd (apart k.0 (outside_tags h))
-  none_told item fault e h (inr (inl (inr k))) = absurd (apart k.1 (white_untagged item e))
-  none_told item fault e h (inr (inr k)) = absurd (apart (white_heading item e) k.0)
+  none_told item fault e h (inr (inl (inr k))) = absurd (apart k.1 (white_stands item e).2)
+  none_told item fault e h (inr (inr k)) = absurd (apart (white_stands item e).1 k.0)
 
   pub white_refused : (item : Item) (fault : PgnFault) (u : Reader A) → is_white item ≡ true → Progress is r → TakesItem r item (Err fault) u → fault.kind ≡ Memory
   white_refused item fault u e p k = (let h = in_head p in none_told item fault e h (subst (λ (b : Bool). takes_when b item (Err fault) r u) h.moving k))
@@ -137,12 +125,6 @@ dark_taken is input rest s w e = apart ((goes_white is input rest s w).taken) e
 
 -- ---- white space beyond the limit
 
-white_movetext : (i : Item) → is_white i ≡ true → is_movetext i ≡ true
-white_movetext items.Mark e = refl
-white_movetext (items.Blank b) e = refl
-white_movetext items.Hidden e = refl
-white_movetext _ e = absurd cc
-
 no_start : (v : Bool) → is_game_start (cond v LineStart InLine) ≡ false
 no_start true = refl
 no_start false = refl
@@ -158,7 +140,7 @@ later : (place : Place) (is : List Item) → is_outside place ≡ true → is_ga
 later place [] out h e = h
 later place (i ∷ is) out h e =
     let two = both_true (is_white i) (list_all is_white is) e in
-    later (place_after place i) is (movetext_after place i out (white_movetext i two.0)) (white_place place i out two.0) two.1
+    later (place_after place i) is (movetext_after place i out (white_stands i two.0).3) (white_place place i out two.0) two.1
 
 abbrev NoMark : List Item → Type 0
 NoMark is = (ks : List Item) → is ≡ items.Mark ∷ ks → ⊥
@@ -255,7 +237,7 @@ mark_short : (is : List Item) (at : ℕ) (input rest : List ℕ) → list_all is
     → (more : List Item) → Spells (place_behind GameStart is) rest more [] → NoMark more
 mark_short (i ∷ is) at input rest w s n over more t =
     let two = both_true (is_white i) (list_all is_white is) w in
-    no_mark (place_behind GameStart (i ∷ is)) more rest (later (place_after GameStart i) is (movetext_after GameStart i refl (white_movetext i two.0)) (white_place GameStart i refl two.0) two.1) t
+    no_mark (place_behind GameStart (i ∷ is)) more rest (later (place_after GameStart i) is (movetext_after GameStart i refl (white_stands i two.0).3) (white_place GameStart i refl two.0) two.1) t
 mark_short [] at input rest w s n over [] t = λ ks e. absurd cc
 mark_short [] at input rest w s n over (k ∷ more) t = λ ks e.
     let is_mark : k ≡ items.Mark = first_is k items.Mark more ks e in
@@ -272,7 +254,7 @@ pub dark_over : (is : List Item) (at : ℕ) (input rest hand more : List ℕ) �
 dark_over is at input rest hand more s w n over parts other =
     let g = goes_white is input rest s w in
     let place = place_behind GameStart is in
-    let out : is_outside place ≡ true = movetext_behind GameStart is refl (all_imply is_white is_movetext white_movetext is (all_of is_white is g.taken)) in
+    let out : is_outside place ≡ true = movetext_behind GameStart is refl (all_imply is_white is_movetext (λ i e. (white_stands i e).3) is (all_of is_white is g.taken)) in
     let all = white_line place g.more rest out g.white (mark_short is at input rest g.taken s n over g.more g.spelled) g.spelled in
     let ends : white_after (Some (column_at place)) rest ≡ None =
     ap (white_after (Some (column_at place))) parts ∙ white_after-append (Some (column_at place)) hand more ∙ ap (λ (c : Option Column). white_after c more) other ∙ nothing_after more

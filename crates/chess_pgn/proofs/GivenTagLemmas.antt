@@ -2,19 +2,20 @@
 use Rattle.std.proofs.Common.{◌≡◌, ℕ, Bool, true, false, not, ◌&&◌, ◌||◌, if◌then◌else◌, List, [], ◌∷◌, ◌++◌, codes, bytes_eq, refl, sym, ap, ◌∙◌, append_assoc}
 use Rattle.std.specs.Prelude.{Option, Some, None, Ok}
 use Rattle.std.specs.Cmp.Lexicographic.{bytes_decides}
-use Rattle.std.specs.List.{AllByRecursion}
+use Rattle.std.specs.List.{AllByRecursion, list_all}
 use Rattle.std.proofs.lemmas.Bool.{false≢true}
 use Rattle.chess_types.specs.board.Position.{State, start}
 use Rattle.chess_fen.specs.Reading.{reading}
 use Rattle.chess_fen.specs.Writing.{written}
 use Rattle.chess_pgn.specs.Games.{Tags, tag_in}
-use Rattle.chess_pgn.specs.Items.{is_digit, is_name_byte}
+use Rattle.chess_pgn.specs.Items.{Each, is_digit, is_name_byte}
 use Rattle.chess_pgn.specs.Laws.{HasTagTexts, IsOther, IsValue}
 use Rattle.chess_pgn.specs.Tags.{HasTags, is_own, start_in}
 use Rattle.chess_pgn.specs.Written.{behind_text, is_before, is_within, others_text, outcome_text, tag_text, tags_text}
 use Rattle.chess_pgn.specs.declared.outcome.Outcome.{Outcome}
 use Rattle.chess_pgn.specs.declared.outcome.Outcome.TheVariants.{WhiteWins, BlackWins, Draw, Unfinished}
 use Rattle.chess_pgn.proofs.FenTextLemmas.{usual}
+use Rattle.chess_pgn.proofs.SplitLemmas.{both_true}
 use Rattle.chess_pgn.proofs.TagTextLemmas.{AreGood, IsGood, IsName, given_text}
 
 abbrev pub Given : Type 0
@@ -123,23 +124,23 @@ good_append : (xs ys : Given) → AreGood xs → AreGood ys → AreGood (xs ++ y
 good_append [] ys p q = q
 good_append (tag ∷ xs) ys p q = (p.0, good_append xs ys p.1 q)
 
-fen_name : IsName (codes "FEN")
-unfolding is_name_byte is_digit
-fen_name = record { some = λ h. cc; each = (refl, (refl, (refl, tt))) }
+each_of : (p : ℕ → Bool) (bytes : List ℕ) → list_all p bytes ≡ true → Each p bytes
+each_of p [] e = tt
+each_of p (b ∷ bytes) e = (let two = both_true (p b) (list_all p bytes) e in (two.0, each_of p bytes two.1))
 
-set_up_name : IsName (codes "SetUp")
-unfolding is_name_byte is_digit
-set_up_name = record { some = λ h. cc; each = (refl, (refl, (refl, (refl, (refl, tt))))) }
+is_name : (b : ℕ) (bytes : List ℕ) → list_all is_name_byte (b ∷ bytes) ≡ true → IsName (b ∷ bytes)
+is_name b bytes e = record { some = λ h. cc; each = each_of is_name_byte (b ∷ bytes) e }
 
 either_good : (v : Bool) (xs ys : Given) → AreGood xs → AreGood ys → AreGood (if v then xs else ys)
 either_good true xs ys p q = p
 either_good false xs ys p q = q
 
 behind_good : (others : Given) (fen : List ℕ) → AllByRecursion IsOther others → IsValue fen → AreGood (behind_given others fen)
+unfolding is_name_byte is_digit
 behind_good others fen are in_it =
     either_good (bytes_eq fen (written start)) _ _ (within_good [] None others are)
     (good_append (within [] (Some (codes "FEN")) others) _ (within_good [] (Some (codes "FEN")) others are)
-    ((fen_name, in_it), good_append (within (codes "FEN") (Some (codes "SetUp")) others) _ (within_good (codes "FEN") (Some (codes "SetUp")) others are) ((set_up_name, (refl, tt)), within_good (codes "SetUp") None others are)))
+    ((is_name _ _ refl, in_it), good_append (within (codes "FEN") (Some (codes "SetUp")) others) _ (within_good (codes "FEN") (Some (codes "SetUp")) others are) ((is_name _ _ refl, (refl, tt)), within_good (codes "SetUp") None others are)))
 
 -- ---- all of them
 
@@ -163,43 +164,14 @@ outcome_value BlackWins = (refl, (refl, (refl, tt)))
 outcome_value Draw = (refl, (refl, (refl, (refl, (refl, (refl, (refl, tt)))))))
 outcome_value Unfinished = (refl, tt)
 
-five_name : (a b c d e : ℕ) → is_name_byte a ≡ true → is_name_byte b ≡ true → is_name_byte c ≡ true → is_name_byte d ≡ true → is_name_byte e ≡ true → IsName (a ∷ b ∷ c ∷ d ∷ e ∷ [])
-five_name a b c d e ha hb hc hd he = record { some = λ h. cc; each = (ha, (hb, (hc, (hd, (he, tt))))) }
-
-event_name : IsName (codes "Event")
-unfolding is_name_byte is_digit
-event_name = five_name _ _ _ _ _ refl refl refl refl refl
-
-round_name : IsName (codes "Round")
-unfolding is_name_byte is_digit
-round_name = five_name _ _ _ _ _ refl refl refl refl refl
-
-white_name : IsName (codes "White")
-unfolding is_name_byte is_digit
-white_name = five_name _ _ _ _ _ refl refl refl refl refl
-
-black_name : IsName (codes "Black")
-unfolding is_name_byte is_digit
-black_name = five_name _ _ _ _ _ refl refl refl refl refl
-
-site_name : IsName (codes "Site")
-unfolding is_name_byte is_digit
-site_name = record { some = λ h. cc; each = (refl, (refl, (refl, (refl, tt)))) }
-
-date_name : IsName (codes "Date")
-unfolding is_name_byte is_digit
-date_name = record { some = λ h. cc; each = (refl, (refl, (refl, (refl, tt)))) }
-
-result_name : IsName (codes "Result")
-unfolding is_name_byte is_digit
-result_name = record { some = λ h. cc; each = (refl, (refl, (refl, (refl, (refl, (refl, tt)))))) }
-
 pub event_good : (tags : Tags) → HasTagTexts tags → IsGood (event_tag tags)
-event_good tags has = (event_name, has.event)
+unfolding is_name_byte is_digit
+event_good tags has = (is_name _ _ refl, has.event)
 
 pub given_good : (tags : Tags) (outcome : Outcome) (p : State) → HasTagTexts tags → IsValue (written p) → AreGood (given_of tags outcome p)
+unfolding is_name_byte is_digit
 given_good tags outcome p has in_it =
-    ((site_name, has.site), ((date_name, has.date), ((round_name, has.round), ((white_name, has.white), ((black_name, has.black), ((result_name, outcome_value outcome), behind_good tags.others (written p) has.others in_it))))))
+    ((is_name _ _ refl, has.site), ((is_name _ _ refl, has.date), ((is_name _ _ refl, has.round), ((is_name _ _ refl, has.white), ((is_name _ _ refl, has.black), ((is_name _ _ refl, outcome_value outcome), behind_good tags.others (written p) has.others in_it))))))
 
 -- ---- what they tell
 

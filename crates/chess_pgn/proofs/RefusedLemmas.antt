@@ -70,21 +70,13 @@ elements_both : (xs bs : List Item) → elements (xs ++ bs) ≡ elements xs ++ e
 elements_both [] bs = refl
 elements_both (a ∷ xs) bs = ap (λ (z : List Element). element a ++ z) (elements_both xs bs) ∙ sym (append_assoc (element a) (elements xs) (elements bs))
 
-tagged_heads : (i : Item) → is_tagged i ≡ true → is_heading i ≡ true
-tagged_heads items.TagClose e = refl
-tagged_heads (items.Name n) e = refl
-tagged_heads items.Quote e = refl
-tagged_heads (items.Stretch t) e = refl
-tagged_heads (items.Escaped b) e = refl
-tagged_heads _ e = absurd cc
-
-tagged_moves : (i : Item) → is_tagged i ≡ true → is_movetext i ≡ false
-tagged_moves items.TagClose e = refl
-tagged_moves (items.Name n) e = refl
-tagged_moves items.Quote e = refl
-tagged_moves (items.Stretch t) e = refl
-tagged_moves (items.Escaped b) e = refl
-tagged_moves _ e = absurd cc
+tagged_stands : (i : Item) → is_tagged i ≡ true → (is_heading i ≡ true) × (is_movetext i ≡ false)
+tagged_stands items.TagClose e = (refl, refl)
+tagged_stands (items.Name n) e = (refl, refl)
+tagged_stands items.Quote e = (refl, refl)
+tagged_stands (items.Stretch t) e = (refl, refl)
+tagged_stands (items.Escaped b) e = (refl, refl)
+tagged_stands _ e = absurd cc
 
 -- ---- the tags
 
@@ -198,7 +190,7 @@ module _ {A : Type 0} (head0 m0 is : List Item) (r : Reader A) (h : InMovetext h
 
       strays : is_tagged item ≡ true → ⊥
       strays t = elim (where_it_is item more e) [
-        | inl x ↦ apart (moves_so item x.0 x.1) (tagged_moves item t)
+        | inl x ↦ apart (moves_so item x.0 x.1) (tagged_stands item t).1
         | inr x ↦ ends_so item more x.1 (inr t)
       ]
 
@@ -293,7 +285,7 @@ module _ {A : Type 0} (taken : List Item) (t : Reader A) (h : InHead taken t) (i
   strays_none item more fault e (inr x) = elim (head_parts item more e) [
     | inl p ↦
         none_on taken item t.header h.taken (λ read. stray_step t.header.part read t.header.name.items t.header.value.items item x.0 x.1) p.0 g.given (subst (λ (z : List Item). AreTags z g.given) p.1 g.are_tags)
-    | inr p ↦ not_first item more p.1 (tagged_heads item x.1)
+    | inr p ↦ not_first item more p.1 (tagged_stands item x.1).0
   ]
 
   first_none : (item : Item) (more : List Item) (kind : FaultKind) → is ≡ taken ++ item ∷ more → is_heading item ≡ false → IsWithinLimits game → (kind ≡ Memory → ⊥) → RefusesFirst item kind t → ⊥
