@@ -2,4 +2,4 @@ use Rattle.chess_cli.proofs.PathLaws.{path_in-path_text}
 use Rattle.chess_cli.proofs.laws.path_laws.Goals as goal
 
 pub returns : goal.returns
-returns c = path_in-path_text
+returns c = record { read_back = path_in-path_text }
