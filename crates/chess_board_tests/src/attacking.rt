@@ -1,14 +1,10 @@
 ghost use Rattle.std.specs.Prelude.{◌≡◌};
 ghost use Rattle.chess_types.specs.board.Men.{kings_of};
 
-use crate::counts::{board, start};
+use crate::boards::{board, square, start};
 use chess_attack::{attacks, attacks_square, checkers, is_clear, leaps, pinned};
 use chess_types::{Colour, Kind, Man, Placement, Square, SquareSet, is_king_of};
 use std::process::Abort;
-
-fn square(rt: &impl Abort, name: &str) -> Square {
-    Square::parse(name.as_bytes()).expect(rt, "a square's name")
-}
 
 /// The set holds these squares and no other.
 fn assert_holds(rt: &impl Abort, set: SquareSet, names: &[&str]) {

@@ -1,20 +1,7 @@
+use crate::boards::{board, start};
 use chess_attack::{Counts, in_check};
-use chess_types::{Colour, Man, Placement, Position, Square};
+use chess_types::{Colour, Placement, Square};
 use std::process::Abort;
-
-/// The board of men such as `Ke1`, a letter as FEN writes it and a square, parted by spaces.
-pub(crate) fn board(rt: &impl Abort, men: &str) -> Placement {
-    let mut placement = Placement::empty();
-    for name in men.as_bytes().split(|byte| *byte == b' ') {
-        assert!(rt; name.len() == 3);
-        let man = Man::of_letter(name[0]).expect(rt, "a man's letter");
-        let square = Square::parse(&name[1..]).expect(rt, "a square's name");
-        assert!(rt; placement.get(square).is_none());
-        assert!(rt; placement.men(man.colour) < 16);
-        placement.put(square, man);
-    }
-    placement
-}
 
 /// The counts of a colour on the rank, from the a-file to the h-file.
 fn row(rt: &impl Abort, counts: &Counts, colour: Colour, rank: u8) -> [u8; 8] {
@@ -24,10 +11,6 @@ fn row(rt: &impl Abort, counts: &Counts, colour: Colour, rank: u8) -> [u8; 8] {
         row[file as usize] = counts.count(colour, Square::from_index(rank * 8 + file));
     }
     row
-}
-
-pub(crate) fn start() -> Placement {
-    Position::start().into_setup().placement
 }
 
 #[test]

@@ -1,33 +1,10 @@
 ghost use Rattle.chess_eval.specs.Evaluation.{AreSumsOf};
 
+use crate::boards::{board, put, square, start};
 use chess_attack::Follower;
 use chess_eval::{Sum, end, middle, weight};
-use chess_types::{Colour, Kind, Man, Placement, Position, Square};
+use chess_types::{Colour, Kind, Man, Placement, Square};
 use std::process::Abort;
-
-/// Puts a man on an empty square.
-fn put(rt: &impl Abort, placement: &mut Placement, square: Square, man: Man) {
-    assert!(rt; placement.get(square).is_none());
-    assert!(rt; placement.men(man.colour) < 16);
-    placement.put(square, man);
-}
-
-/// The board of a diagram, whose first row is the eighth rank.
-fn board(rt: &impl Abort, diagram: [&[u8; 8]; 8]) -> Placement {
-    let mut placement = Placement::empty();
-    for number in 0..64u8 {
-        let square = Square::from_index(number);
-        let letter = diagram[7 - square.rank() as usize][square.file() as usize];
-        if let Some(man) = Man::of_letter(letter) {
-            put(rt, &mut placement, square, man);
-        }
-    }
-    placement
-}
-
-fn start() -> Placement {
-    Position::start().into_setup().placement
-}
 
 #[test]
 fn men_on_their_squares(rt: HostRuntime) {
@@ -51,9 +28,9 @@ fn men_on_their_squares(rt: HostRuntime) {
         (b'k', "d5", -36, 60),
     ] {
         let man = Man::of_letter(letter).expect(&rt, "a man's letter");
-        let square = Square::parse(name.as_bytes()).expect(&rt, "a square's name");
-        assert_eq!(rt; middle(man, square), in_middle, "{letter} on {name}");
-        assert_eq!(rt; end(man, square), at_end, "{letter} on {name}");
+        let at = square(&rt, name);
+        assert_eq!(rt; middle(man, at), in_middle, "{letter} on {name}");
+        assert_eq!(rt; end(man, at), at_end, "{letter} on {name}");
     }
 }
 
@@ -71,16 +48,8 @@ fn weights_of_the_kinds(rt: HostRuntime) {
 fn queens(rt: &impl Abort) -> Placement {
     board(
         rt,
-        [
-            b"kqqqqqqq",
-            b"qqqqqqqq",
-            b"........",
-            b"QQQQQQQQ",
-            b".QQQQQ..",
-            b"........",
-            b"......QQ",
-            b".......K",
-        ],
+        "ka8 qb8 qc8 qd8 qe8 qf8 qg8 qh8 qa7 qb7 qc7 qd7 qe7 qf7 qg7 qh7 \
+         Qa5 Qb5 Qc5 Qd5 Qe5 Qf5 Qg5 Qh5 Qb4 Qc4 Qd4 Qe4 Qf4 Qg2 Qh2 Kh1",
     )
 }
 
@@ -103,19 +72,7 @@ fn whole_boards(rt: HostRuntime) {
     assert_eq!(rt; Sum::of(&start()).white(), 0);
     assert_eq!(rt; Sum::of(&Placement::empty()).white(), 0);
     // no weight
-    let pawn_up = board(
-        &rt,
-        [
-            b"....k...",
-            b"........",
-            b"........",
-            b"........",
-            b"........",
-            b"........",
-            b"....P...",
-            b"....K...",
-        ],
-    );
+    let pawn_up = board(&rt, "ke8 Pe2 Ke1");
     assert_eq!(rt; Sum::of(&pawn_up).white(), 110);
     // 14,638 of 24 parts
     let mut rook_up = pawn_up;

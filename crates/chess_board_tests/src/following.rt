@@ -1,6 +1,6 @@
 ghost use Rattle.chess_attack.specs.KeptCounts.{AreCounts};
 
-use crate::counts::{board, start};
+use crate::boards::{board, start};
 use chess_attack::{Counts, Follower};
 use chess_types::{Colour, Kind, Man, Placement, Square};
 use std::process::Abort;

@@ -1,5 +1,6 @@
 ghost use Rattle.chess_key.specs.Keys.{IsKeyOf};
 
+use crate::boards::{square, start};
 use chess_attack::Follower;
 use chess_key::{Key, KeyTable};
 use chess_types::{Colour, Kind, Man, Placement, Square};
@@ -48,36 +49,18 @@ fn table(seed: u64) -> KeyTable {
     KeyTable::new(words)
 }
 
-/// What stands on the square as a game begins.
-fn at_start(square: Square) -> Option<Man> {
-    let kind = match (square.rank(), square.file()) {
-        (1 | 6, _) => Kind::Pawn,
-        (0 | 7, 0 | 7) => Kind::Rook,
-        (0 | 7, 1 | 6) => Kind::Knight,
-        (0 | 7, 2 | 5) => Kind::Bishop,
-        (0 | 7, 3) => Kind::Queen,
-        (0 | 7, _) => Kind::King,
-        _ => return None,
-    };
-    let colour = if square.rank() < 4 {
-        Colour::White
-    } else {
-        Colour::Black
-    };
-    Some(Man { colour, kind })
-}
-
 /// Every square once, in another order for each turn.
-fn square(turn: u8, number: u8) -> Square {
+fn nth(turn: u8, number: u8) -> Square {
     Square::from_index((number ^ turn) % 64)
 }
 
 /// The start position, its men put in the order of that turn.
-fn start<'k>(rt: &impl Abort, table: &'k KeyTable, turn: u8) -> Kept<'k> {
+fn put_in_order<'k>(rt: &impl Abort, table: &'k KeyTable, turn: u8) -> Kept<'k> {
+    let men = start();
     let mut kept = Kept::empty(table);
     for number in 0..64u8 {
-        let at = square(turn, number);
-        if let Some(man) = at_start(at) {
+        let at = nth(turn, number);
+        if let Some(man) = men.get(at) {
             kept.put(rt, at, man);
         }
     }
@@ -87,9 +70,10 @@ fn start<'k>(rt: &impl Abort, table: &'k KeyTable, turn: u8) -> Kept<'k> {
 #[test]
 fn any_order_and_back_to_empty(rt: HostRuntime) {
     let table = table(1);
-    let mut kept = start(&rt, &table, 0);
+    let men = start();
+    let mut kept = put_in_order(&rt, &table, 0);
     for turn in [21, 42, 63] {
-        let other = start(&rt, &table, turn);
+        let other = put_in_order(&rt, &table, turn);
         assert!(rt; kept.key == other.key, "put in the order {turn}");
     }
     assert!(rt; kept.key == Key::of(&table, &kept.placement));
@@ -97,8 +81,8 @@ fn any_order_and_back_to_empty(rt: HostRuntime) {
     let whole = kept.key.clone().expect(&rt, "no memory is needed");
     assert!(rt; whole == kept.key);
     for number in 0..64u8 {
-        let at = square(42, number);
-        if at_start(at).is_some() {
+        let at = nth(42, number);
+        if men.get(at).is_some() {
             kept.clear(&rt, at);
         }
     }
@@ -109,7 +93,7 @@ fn any_order_and_back_to_empty(rt: HostRuntime) {
 #[test]
 fn any_words(rt: HostRuntime) {
     let (one, two, zeros) = (table(1), table(2), KeyTable::new([0; 768]));
-    let start_one = start(&rt, &one, 0);
+    let start_one = put_in_order(&rt, &one, 0);
     assert!(rt; start_one.key != Key::of(&two, &start_one.placement));
     assert!(rt; Key::empty(&one) == Key::empty(&two));
     assert!(rt; Key::of(&zeros, &start_one.placement) == Key::empty(&zeros));
@@ -128,8 +112,7 @@ fn one_word_for_each_man_on_each_square(rt: HostRuntime) {
         (Colour::White, Kind::Knight, "f6", false),
     ] {
         let mut kept = Kept::empty(&table);
-        let at = Square::parse(name.as_bytes()).expect(&rt, "a square's name");
-        kept.put(&rt, at, Man { colour, kind });
+        kept.put(&rt, square(&rt, name), Man { colour, kind });
         assert_eq!(rt; kept.key != Key::empty(&table), is_it, "{name}");
     }
 }

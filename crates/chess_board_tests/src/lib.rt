@@ -5,6 +5,8 @@
 #[cfg(test)]
 mod attacking;
 #[cfg(test)]
+mod boards;
+#[cfg(test)]
 mod counts;
 #[cfg(test)]
 mod evaluation;
