@@ -1,4 +1,6 @@
 //! Each growth of memory refused in turn.
+ghost use Rattle.std.specs.Prelude.{◌≡◌, false};
+
 use chess_cli::{Ended, board_with};
 use chess_key::KeyTable;
 use chess_types::{Failed, FromBytes, Source, ToBytes};
@@ -108,7 +110,7 @@ fn answers<'h, R: Source>(
 }
 
 /// The texts, one behind the other.
-fn joined<'h>(other: &'h LocalHeap, texts: &[&[u8]]) -> Result<Text<'h>, AllocError> {
+fn joined<'h>(other: &'h LocalHeap, texts: &[&'static [u8]]) -> Result<Text<'h>, AllocError> {
     let mut whole = Vec::new(other);
     for text in texts {
         whole.extend_from_slice(text)?;
@@ -122,7 +124,7 @@ fn plain<'h>(
     heap: &'h LocalHeap,
     other: &'h LocalHeap,
     table: &KeyTable,
-    texts: &[&[u8]],
+    texts: &[&'static [u8]],
 ) -> Result<Text<'h>, Fail> {
     let input = joined(other, texts)?;
     let mut reader = FromBytes::new(input.as_slice(), 4000);
@@ -136,16 +138,18 @@ fn refusals<'h>(
     heap: &'h LocalHeap,
     other: &'h LocalHeap,
     table: &KeyTable,
-    before: &[u8],
-    line: &[u8],
+    before: &'static [u8],
+    line: &'static [u8],
 ) -> Result<usize, Fail> {
     let first = plain(rt, heap, other, table, &[before])?;
     let shown = plain(rt, heap, other, table, &[before, SHOWN])?;
     let usual = plain(rt, heap, other, table, &[before, line, SHOWN])?;
     let after = joined(other, &[SHOWN, line, SHOWN])?;
     assert!(rt; first.len() <= shown.len() && first.len() <= usual.len());
-    let (as_before, as_usual) = (&shown[first.len()..], &usual[first.len()..]);
-    let refused = joined(other, &[first.as_slice(), REFUSED, as_before, as_usual])?;
+    let mut refused = Vec::from_slice(other, first.as_slice())?;
+    refused.extend_from_slice(REFUSED)?;
+    refused.extend_from_slice(&shown[first.len()..])?;
+    refused.extend_from_slice(&usual[first.len()..])?;
     for turn in 0..400usize {
         let mut reader = Starving {
             heap,
@@ -167,16 +171,23 @@ fn refusals<'h>(
     Ok(0)
 }
 
+/// A part of the lines.
+fn part(from: usize, to: usize) -> &'static [u8] {
+    LINES.get(from..to).unwrap_or(&[])
+}
+
 #[test]
 fn refuses_each_growth_in_turn(rt: HostRuntime) -> Result<(), Fail> {
     let heap = LocalHeap::new(rt.alloc(), 400_000)?;
     let other = LocalHeap::new(rt.alloc(), 400_000)?;
     let table = KeyTable::new([1; 768]);
-    let mut refused = 0usize;
-    let mut start = 4usize;
-    while let Some(length) = LINES[start..].iter().position(|byte| *byte == b'\n') {
-        let end = start + length + 1;
-        let (before, line) = (&LINES[..start], &LINES[start..end]);
+    let (mut start, mut refused) = (4usize, 0usize);
+    for (number, byte) in LINES.iter().enumerate() {
+        let end = number.saturating_add(1);
+        if *byte != b'\n' || end <= start {
+            continue;
+        }
+        let (before, line) = (part(0, start), part(start, end));
         let count = refusals(&rt, &heap, &other, &table, before, line)?;
         if count > 0 {
             let word = line.split(|byte| byte.is_ascii_whitespace()).next();

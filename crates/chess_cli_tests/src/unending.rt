@@ -127,7 +127,7 @@ fn stops_after_the_most_reads(rt: HostRuntime) {
         board_within(rt.alloc(), &mut reader, &mut writer, &table, 100),
         Ended::ReadFault
     );
-    assert_eq!(rt; u64::MAX - reader.left, 6_553_600);
+    assert_eq!(rt; reader.left, u64::MAX - 6_553_600);
     assert_eq!(rt; writer.bytes, 0);
 }
 
