@@ -1,5 +1,5 @@
 /// Along an axis, to one side or the other.
-#[derive(Clone, Copy, Debug, PartialEq, Eq)]
+#[derive(Clone, Copy)]
 pub enum Way {
     /// To the squares of greater number.
     Up,

@@ -7,7 +7,7 @@ use itoa::Buffer;
 use std::alloc::Allocator;
 
 /// What there is of the answer to a line on the page: all of it, or nothing of the path to the cursor or of the game, which may be long.
-#[derive(Clone, Copy, Debug, PartialEq, Eq)]
+#[derive(Clone, Copy)]
 pub enum Told {
     Whole,
     Path,

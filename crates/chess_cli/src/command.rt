@@ -11,7 +11,7 @@ use chess_types::{Colour, split_word, trim};
 const GAPS: &[u8] = b" \t";
 
 /// What a line of the board asks for.
-#[derive(Clone, Copy, Debug, PartialEq, Eq)]
+#[derive(Clone, Copy)]
 pub enum Command<'a> {
     /// Nothing: the line has no words.
     Blank,

@@ -46,7 +46,7 @@ pub fn depth_in(word: &[u8]) -> Option<u8>
 }
 
 /// How a word was read as a path.
-#[derive(Clone, Copy, Debug, PartialEq, Eq)]
+#[derive(Clone, Copy)]
 pub enum PathWord {
     /// It writes a path of so many places.
     Read(usize),

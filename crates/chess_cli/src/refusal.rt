@@ -6,7 +6,7 @@ use chess_san::SanFault;
 use chess_tree::{PlayFault, TreeFault};
 
 /// Why a line of the board is refused. Number and name together tell which.
-#[derive(Clone, Copy, Debug, PartialEq, Eq)]
+#[derive(Clone, Copy)]
 pub enum Refusal {
     /// The text is no FEN.
     Fen(FenFault),

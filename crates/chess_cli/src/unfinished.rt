@@ -12,7 +12,7 @@ pub const LINE_LIMIT: usize = 1_048_576;
 const ROOM: usize = 65_536;
 
 /// How a line was read.
-#[derive(Clone, Copy, Debug, PartialEq, Eq)]
+#[derive(Clone, Copy)]
 pub enum Reading<'a> {
     /// It is kept whole.
     Whole(&'a [u8]),

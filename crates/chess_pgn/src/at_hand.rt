@@ -9,7 +9,7 @@ use chess_types::Source;
 use std::alloc::{AllocError, Allocator};
 
 /// Why no more bytes come.
-#[derive(Clone, Copy, Debug, PartialEq, Eq)]
+#[derive(Clone, Copy)]
 pub enum Fault {
     /// There is no memory.
     Memory,

@@ -1,5 +1,5 @@
 /// Where in a text an item stands.
-#[derive(Clone, Copy, Debug, PartialEq, Eq)]
+#[derive(Clone, Copy)]
 pub enum Place {
     /// Where the reading of a game begins.
     GameStart,

@@ -6,7 +6,7 @@ use crate::fault::PgnFault;
 use crate::token::Token;
 
 /// What becomes of an item that is offered.
-#[derive(Clone, Copy, Debug, PartialEq, Eq)]
+#[derive(Clone, Copy)]
 pub enum Taken {
     /// It is used, and more may come.
     GoesOn,

@@ -16,7 +16,7 @@ use crate::text::Text;
 use crate::token::Token;
 
 /// Why no more items are taken.
-#[derive(Clone, Copy, Debug, PartialEq, Eq)]
+#[derive(Clone, Copy)]
 pub enum Stop {
     /// The last item is used.
     Full,
@@ -33,7 +33,7 @@ pub enum Stop {
 }
 
 /// Where and why no more items are taken.
-#[derive(Clone, Copy, Debug, PartialEq, Eq)]
+#[derive(Clone, Copy)]
 pub struct Stopped {
     pub why: Stop,
     /// How many bytes are used.

@@ -6,7 +6,7 @@ use crate::outcome::Outcome;
 use crate::place::Place;
 
 /// An item of a text. Its bytes are the text's own.
-#[derive(Clone, Copy, Debug, PartialEq, Eq)]
+#[derive(Clone, Copy)]
 pub enum Token<'t> {
     /// EF BB BF
     Mark,

@@ -9,7 +9,7 @@ use chess_types::split_word;
 pub(crate) const GAPS: &[u8] = b"\t\n\x0b\x0c\r ";
 
 /// What a line asks for, with what stands behind the command.
-#[derive(Clone, Copy, Debug, PartialEq, Eq)]
+#[derive(Clone, Copy)]
 pub(crate) enum Command<'a> {
     Idle,
     Uci,

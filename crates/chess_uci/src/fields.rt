@@ -9,7 +9,7 @@ use crate::command::GAPS;
 use chess_types::split_word;
 
 /// A field of `go` that takes a number.
-#[derive(Clone, Copy, Debug, PartialEq, Eq)]
+#[derive(Clone, Copy)]
 pub(crate) enum Name {
     Depth,
     MoveTime,
@@ -22,7 +22,7 @@ pub(crate) enum Name {
 }
 
 /// What `go` asks for: a depth in plies, times in milliseconds.
-#[derive(Clone, Copy, Debug, Default, PartialEq, Eq)]
+#[derive(Clone, Copy, Default)]
 pub(crate) struct Fields {
     pub(crate) depth: Option<u32>,
     pub(crate) movetime: Option<u32>,

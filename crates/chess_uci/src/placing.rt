@@ -12,7 +12,7 @@ use chess_types::{Move, Position, split_word};
 use std::alloc::{AllocError, Allocator};
 
 /// Why a `position` line leads to no line of moves.
-#[derive(Clone, Copy, Debug, PartialEq, Eq)]
+#[derive(Clone, Copy)]
 pub(crate) enum PlaceFault {
     /// It names none.
     Refused,

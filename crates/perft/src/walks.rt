@@ -5,7 +5,7 @@ use chess_attack::in_check_by;
 use chess_key::KeyTable;
 use chess_moves::{count_legal, has_legal, moves};
 use chess_play::Live;
-use chess_types::{Kind, Move, Square};
+use chess_types::{Colour, Kind, Move, Square};
 use std::process::Abort;
 
 pub(crate) const PROMOTIONS: [Option<Kind>; 5] = [
@@ -40,13 +40,19 @@ const STARTS: [&[u8]; 20] = [
     b"n1n5/PPPk4/8/8/8/8/4Kppp/5N1N b - - 0 1",
 ];
 
+/// Whether the king of that colour is attacked.
+fn is_in_check(live: &Live, colour: Colour) -> bool {
+    in_check_by(live.counts(), &live.position().placement, colour)
+}
+
 /// Whether the mover's king isn't attacked after the pseudo-legal move: it is made, the king looked at, and taken back.
 fn is_safe(rt: &impl Abort, live: &mut Live, m: Move) -> bool {
     let side = live.position().side;
     assert!(rt; live.is_pseudo(m));
-    assert!(rt; live.position().clock < 1_000_000 && live.position().number < 1_000_000);
+    assert!(rt; live.position().clock < 1_000_000);
+    assert!(rt; live.position().number < 1_000_000);
     let made = live.make(m);
-    let safe = !in_check_by(live.counts(), &live.position().placement, side);
+    let safe = !is_in_check(live, side);
     live.undo(made);
     safe
 }
