@@ -92,8 +92,11 @@ module _ (given : List (List ℕ × List ℕ)) (name : List ℕ) where
   taken own b old new h k =
       under b (bytes_eq name own) _ _ _ h (k name ∙ ap (λ (c : Bool). if c then None else tag_in name old) (nat_list_eq_equiv.symm own name))
 
-pub or_text : (text : List ℕ) {x y : Option (List ℕ)} → x ≡ y → unwrap_or x text ≡ unwrap_or y text
+or_text : (text : List ℕ) {x y : Option (List ℕ)} → x ≡ y → unwrap_or x text ≡ unwrap_or y text
 or_text text e = ap (λ (z : Option (List ℕ)). unwrap_or z text) e
+
+pub or_else : (found : Option (List ℕ)) {x y : List ℕ} → x ≡ y → unwrap_or found x ≡ unwrap_or found y
+or_else found e = ap (λ (z : List ℕ). unwrap_or found z) e
 
 module _ (given t0 t1 t2 t3 t4 t5 t6 t7 t8 : List (List ℕ × List ℕ)) (finds : Finds given t0)
     (fen : Sets (codes "FEN") None t0 t1) (set_up : Sets (codes "SetUp") None t1 t2) (event : Sets (codes "Event") None t2 t3) (site : Sets (codes "Site") None t3 t4) (date : Sets (codes "Date") None t4 t5)

@@ -1,4 +1,4 @@
-ghost use Rattle.std.specs.Prelude.{◌≡◌, Option, IfOk, option_map, unwrap_or};
+ghost use Rattle.std.specs.Prelude.{◌≡◌, Option, IfOk, option_map};
 ghost use Rattle.chess_pgn.specs.Games.{tag_value, unknown};
 
 use crate::lexer::is;
@@ -23,20 +23,6 @@ fn value<'a, A: Allocator>(alloc: &'a A, text: &[u8]) -> Result<Vec<u8, &'a A>, 
     let mut value = Vec::new(alloc);
     value.extend_from_slice(text)?;
     Ok(value)
-}
-
-/// The value, or where there is none that text.
-pub fn value_or<'a, A: Allocator>(
-    alloc: &'a A,
-    found: Option<Vec<u8, &'a A>>,
-    text: &[u8],
-) -> Result<Vec<u8, &'a A>, AllocError>
-    ensures { IfOk result (λ value. value.items ≡ unwrap_or (option_map (λ value. value.items) found.entry) text.now) }
-{
-    match found {
-        Some(found) => Ok(found),
-        None => value(alloc, text),
-    }
 }
 
 impl<'a, A: Allocator> Tags<'a, A> {

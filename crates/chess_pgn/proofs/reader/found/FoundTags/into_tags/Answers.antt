@@ -1,10 +1,14 @@
-use Rattle.std.proofs.Common.{◌∙◌, refl}
-use Rattle.chess_pgn.proofs.TagLemmas.{has_tags, or_text}
+use Rattle.std.proofs.Common.{ap, ◌∙◌, refl}
+use Rattle.std.specs.Prelude.{codes}
+use Rattle.chess_pgn.specs.Games.{Tags, tag_in}
+use Rattle.chess_pgn.proofs.TagLemmas.{has_tags, or_else}
 use Rattle.chess_pgn.proofs.reader.found.FoundTags.into_tags.Goals as goal
 
 pub returns : goal.returns
 returns g c = λ given finds.
-    has_tags given _ _ _ _ _ _ _ _ _ finds c.remove-fen.ensures.removed c.remove-set_up.ensures.removed c.remove.ensures.removed c.remove-2.ensures.removed c.remove-3.ensures.removed
-    c.remove-4.ensures.removed c.remove-5.ensures.removed c.remove-6.ensures.removed c.remove-6.ensures.ascend _
-    (c.in_ok-value_or.ensures ∙ or_text _ c.remove.ensures.value) (c.in_ok-value_or-2.ensures ∙ or_text _ c.remove-2.ensures.value) (c.in_ok-value_or-3.ensures ∙ or_text _ c.remove-3.ensures.value)
-    (c.in_ok-value_or-4.ensures ∙ or_text _ c.remove-4.ensures.value) (c.in_ok-value_or-5.ensures ∙ or_text _ c.remove-5.ensures.value) (c.in_ok-value_or-6.ensures ∙ or_text _ c.remove-6.ensures.value) refl
+    let known = c.in_ok-tags.ensures in
+    has_tags given _ _ _ _ _ _ _ _ _ finds c.remove.ensures.removed c.remove-2.ensures.removed c.move_to.ensures.removed c.move_to-2.ensures.removed c.move_to-3.ensures.removed
+    c.move_to-4.ensures.removed c.move_to-5.ensures.removed c.move_to-6.ensures.removed c.move_to-6.ensures.ascend _
+    (c.move_to.ensures.value ∙ or_else (tag_in (codes "Event") c.remove-2.new.self) (ap (λ (t : Tags). t.event) known)) (c.move_to-2.ensures.value ∙ or_else (tag_in (codes "Site") c.move_to.new.tags) (ap (λ (t : Tags). t.site) known))
+    (c.move_to-3.ensures.value ∙ or_else (tag_in (codes "Date") c.move_to-2.new.tags) (ap (λ (t : Tags). t.date) known)) (c.move_to-4.ensures.value ∙ or_else (tag_in (codes "Round") c.move_to-3.new.tags) (ap (λ (t : Tags). t.round) known))
+    (c.move_to-5.ensures.value ∙ or_else (tag_in (codes "White") c.move_to-4.new.tags) (ap (λ (t : Tags). t.white) known)) (c.move_to-6.ensures.value ∙ or_else (tag_in (codes "Black") c.move_to-5.new.tags) (ap (λ (t : Tags). t.black) known)) refl
