@@ -7,7 +7,7 @@ ghost use Rattle.chess_pgn.specs.Sources.{Breaks, Came, HasFault, HasGame, HasNo
 ghost use Rattle.chess_pgn.specs.steps.GameAt.{TakesGame};
 ghost use Rattle.chess_pgn.specs.steps.GameCode.{game_of};
 ghost use Rattle.chess_pgn.specs.steps.Next.{HasKind, IsSound};
-ghost use Rattle.chess_pgn.specs.steps.ReaderCode.{Answered, Unanswered};
+ghost use Rattle.chess_pgn.specs.steps.ReaderCode.{Answered, EndsReading, Unanswered};
 ghost use Rattle.chess_pgn.specs.declared.fault.FaultKind.TheVariants.{Memory};
 
 use crate::at_hand::{AtHand, Fault};
@@ -64,6 +64,25 @@ fn aground<A: Allocator>(
     reader.unspelled(at)
 }
 
+// Ends the reading that has stopped; a fault where what was read is no game.
+fn end_reading<A: Allocator>(
+    reader: &mut Reader<'_, A>,
+    stopped: Stopped,
+    unread: &[u8],
+) -> Result<(), PgnFault>
+    ensures ends { IfOk result (λ _. EndsReading stopped.why reader.old reader.new) }
+    ensures refused { IfErr result (λ fault. Unanswered stopped.why reader.old fault) }
+{
+    let at = stopped.at;
+    match stopped.why {
+        Stop::Full | Stop::Left => Ok(()),
+        Stop::End => reader.finish(at),
+        Stop::Refused(fault) => Err(fault),
+        Stop::NoItem => Err(aground(reader, unread, at, stopped.place)),
+        Stop::TooLarge => Err(at_place(LIMIT, FaultKind::TooLarge)),
+    }
+}
+
 // The game whose reading has stopped.
 fn stopped_game<'a, A: Allocator>(
     reader: Reader<'a, A>,
@@ -73,14 +92,9 @@ fn stopped_game<'a, A: Allocator>(
     ensures game { IfOk result (λ game. Answered stopped.why reader.entry game) }
     ensures refused { IfErr result (λ fault. Unanswered stopped.why reader.entry fault) }
 {
-    let at = stopped.at;
-    match stopped.why {
-        Stop::Full | Stop::Left => reader.into_game(),
-        Stop::End => reader.finish(at),
-        Stop::Refused(fault) => Err(fault),
-        Stop::NoItem => Err(aground(&reader, unread, at, stopped.place)),
-        Stop::TooLarge => Err(at_place(LIMIT, FaultKind::TooLarge)),
-    }
+    let mut reader = reader;
+    end_reading(&mut reader, stopped, unread)?;
+    reader.into_game()
 }
 
 // The game at the front of a text, and how many bytes it took.

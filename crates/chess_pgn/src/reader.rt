@@ -1,7 +1,7 @@
 ghost use Rattle.std.specs.Prelude.{◌≡◌, ◌⊎◌, false, IfErr, IfOk, OnOk};
 ghost use Rattle.chess_pgn.specs.declared.fault.FaultKind.TheVariants.{Memory};
 ghost use Rattle.chess_pgn.specs.steps.HeaderCode.{is_begun};
-ghost use Rattle.chess_pgn.specs.steps.ReaderCode.{BeginsMoves, Closed, Finished, IsNew, MayNotEnd, Moved, NoStart, ending_item, takes_when};
+ghost use Rattle.chess_pgn.specs.steps.ReaderCode.{BeginsMoves, Closed, Finishes, IsNew, MayNotEnd, Moved, NoStart, ending_item, takes_when};
 ghost use Rattle.chess_pgn.specs.steps.Tokens.{item_of};
 
 mod found;
@@ -165,23 +165,22 @@ impl<'a, A: Allocator> Reader<'a, A> {
         })
     }
 
-    /// The game that was read, where the input ends at that place.
+    /// Ends the game where the input ends at that place.
     ///
     /// # Errors
     ///
     /// `Truncated` in a tag or a variation; `Fen` where the tags give no position; `Memory`.
-    pub fn finish(self, at: usize) -> Result<Game<'a, A>, PgnFault>
-        ensures game { IfOk result (λ game. Finished self.entry game) }
-        ensures refused { IfErr result (λ fault. (fault.kind ≡ Memory) ⊎ MayNotEnd self.entry) }
+    pub fn finish(&mut self, at: usize) -> Result<(), PgnFault>
+        ensures game { IfOk result (λ _. Finishes self.old self.new) }
+        ensures refused { IfErr result (λ fault. (fault.kind ≡ Memory) ⊎ MayNotEnd self.old) }
     {
-        let mut reader = self;
-        if reader.header.is_in_tag() || reader.moves.is_in_variation() {
+        if self.header.is_in_tag() || self.moves.is_in_variation() {
             return Err(at_place(at, FaultKind::Truncated));
         }
-        if !reader.moving {
-            reader.begin_moves()?;
+        if !self.moving {
+            self.begin_moves()?;
         }
-        reader.into_game()
+        Ok(())
     }
 }
 

@@ -8,6 +8,7 @@
 --   Finished  the same at the end of the input
 --   MayNotEnd no game is at its end here
 --   Answered  the game where the reading has stopped; Unanswered, a fault there
+--   Finishes, EndsReading  the reader is brought to where its game has ended
 use Rattle.std.specs.Prelude.{◌≡◌, ◌≢◌, ◌⊎◌, ℕ, Bool, true, false, List, [], Option, Some, None, Result, Ok, Err, ⊤}
 use Rattle.chess_types.specs.board.Position.{State, start}
 use Rattle.chess_pgn.specs.Grammar.{Element, element}
@@ -154,6 +155,10 @@ pub record Finished {A : Type 0} (old : Reader A) (game : Game A) : Type 0 where
   pub closed : old.moves.interrupted.items ≡ []
   pub ends : Closed reader game
 
+-- where the input ends, the game that is read afterwards is the one that ends there
+abbrev pub Finishes : {A : Type 0} → Reader A → Reader A → Type 0
+Finishes {A = A} old new = (game : Game A) → Closed new game → Finished old game
+
 -- in a tag or a variation, or where the movetext is still to begin and the tags tell no position, no game ends
 abbrev pub MayNotEnd : {A : Type 0} → Reader A → Type 0
 MayNotEnd reader = (is_begun reader.header.part ≡ true) ⊎ ((reader.moves.interrupted.items ≢ []) ⊎ ((reader.moving ≡ false) × NoStart reader.header))
@@ -173,3 +178,8 @@ Answered stop.End reader game = Finished reader game
 Answered (stop.Refused fault) reader game = ⊥
 Answered stop.NoItem reader game = ⊥
 Answered stop.TooLarge reader game = ⊥
+
+-- what is read afterwards is the game where the reading has stopped, and no memory for it is a fault there
+pub record EndsReading {A : Type 0} (why : Stop) (old new : Reader A) : Type 0 where
+  pub game : (game : Game A) → Closed new game → Answered why old game
+  pub memory : (fault : PgnFault) → fault.kind ≡ Memory → Unanswered why old fault
