@@ -106,35 +106,48 @@ with_value value request words = written_by request (option_and_then value (only
 abbrev pub nag_in : List ℕ → Option ℕ
 nag_in word = option_and_then (λ nag. if nat_le nag 255 then Some nag else None) (number_in word)
 
+-- a command that stands alone, by its word
+abbrev pub alone_named : List ℕ → Option Request
+alone_named word =
+    if bytes_eq word (codes "new") then Some New
+    else if bytes_eq word (codes "eval") then Some Eval
+    else if bytes_eq word (codes "fen") then Some Fen
+    else if bytes_eq word (codes "moves") then Some Moves
+    else if bytes_eq word (codes "checks") then Some Checks
+    else if bytes_eq word (codes "back") then Some Back
+    else if bytes_eq word (codes "start") then Some Start
+    else if bytes_eq word (codes "end") then Some End
+    else if bytes_eq word (codes "path") then Some Path
+    else if bytes_eq word (codes "promote") then Some Promote
+    else if bytes_eq word (codes "delete") then Some Delete
+    else if bytes_eq word (codes "count") then Some Count
+    else if bytes_eq word (codes "status") then Some Status
+    else if bytes_eq word (codes "claims") then Some Claims
+    else if bytes_eq word (codes "pgn") then Some Pgn
+    else None
+
+-- another command, by its word and what stands behind it
+abbrev pub with_rest : List ℕ → List ℕ → Request
+with_rest word rest =
+    if bytes_eq word (codes "set") then Set (trimmed gaps rest)
+    else if bytes_eq word (codes "counts") then with_colour Counts (words gaps rest)
+    else if bytes_eq word (codes "play") then with_word Play (words gaps rest)
+    else if bytes_eq word (codes "step") then with_value number_in Step (words gaps rest)
+    else if bytes_eq word (codes "goto") then with_value path_in Goto (words gaps rest)
+    else if bytes_eq word (codes "comment") then Comment (trimmed gaps rest)
+    else if bytes_eq word (codes "nag") then with_value nag_in Nag (words gaps rest)
+    else if bytes_eq word (codes "claim") then with_word Claim (words gaps rest)
+    else if bytes_eq word (codes "best") then with_value depth_in Best (words gaps rest)
+    else Unknown
+
+abbrev pub asked_by : Option Request → List (List ℕ) → Request → Request
+asked_by None others other = other
+asked_by (Some request) others other = alone request others
+
 -- what the words of the line ask for
 abbrev pub asked : List ℕ → List (List ℕ) → Request
 asked line [] = Blank
-asked line (word ∷ others) =
-    if bytes_eq word (codes "new") then alone New others
-    else if bytes_eq word (codes "set") then Set (trimmed gaps (rest_of line))
-    else if bytes_eq word (codes "counts") then with_colour Counts others
-    else if bytes_eq word (codes "eval") then alone Eval others
-    else if bytes_eq word (codes "fen") then alone Fen others
-    else if bytes_eq word (codes "moves") then alone Moves others
-    else if bytes_eq word (codes "checks") then alone Checks others
-    else if bytes_eq word (codes "play") then with_word Play others
-    else if bytes_eq word (codes "back") then alone Back others
-    else if bytes_eq word (codes "step") then with_value number_in Step others
-    else if bytes_eq word (codes "start") then alone Start others
-    else if bytes_eq word (codes "end") then alone End others
-    else if bytes_eq word (codes "goto") then with_value path_in Goto others
-    else if bytes_eq word (codes "path") then alone Path others
-    else if bytes_eq word (codes "promote") then alone Promote others
-    else if bytes_eq word (codes "delete") then alone Delete others
-    else if bytes_eq word (codes "comment") then Comment (trimmed gaps (rest_of line))
-    else if bytes_eq word (codes "nag") then with_value nag_in Nag others
-    else if bytes_eq word (codes "count") then alone Count others
-    else if bytes_eq word (codes "status") then alone Status others
-    else if bytes_eq word (codes "claims") then alone Claims others
-    else if bytes_eq word (codes "claim") then with_word Claim others
-    else if bytes_eq word (codes "best") then with_value depth_in Best others
-    else if bytes_eq word (codes "pgn") then alone Pgn others
-    else Unknown
+asked line (word ∷ others) = asked_by (alone_named word) others (with_rest word (rest_of line))
 
 abbrev pub request : List ℕ → Request
 request line = asked (without_return line) (words gaps (without_return line))

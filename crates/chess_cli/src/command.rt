@@ -1,6 +1,6 @@
-ghost use Rattle.std.specs.Prelude.{◌≡◌, Some, None, IfSome, IfNone};
+ghost use Rattle.std.specs.Prelude.{◌≡◌, Some, None, IfSome, IfNone, option_map};
 ghost use Rattle.chess_types.specs.bytes.Words.{words};
-ghost use Rattle.chess_cli.specs.Requests.{gaps, request, without_return, alone, only_word as only_word_of, with_colour, with_word, with_value, nag_in, Best as BestOf, Counts as CountsOf, Play as PlayOf, Claim as ClaimOf, Goto as GotoOf, Step as StepOf, Nag as NagOf};
+ghost use Rattle.chess_cli.specs.Requests.{gaps, request, without_return, alone, alone_named, with_rest, only_word as only_word_of, with_colour, with_word, with_value, nag_in, Best as BestOf, Counts as CountsOf, Play as PlayOf, Claim as ClaimOf, Goto as GotoOf, Step as StepOf, Nag as NagOf};
 ghost use Rattle.chess_cli.specs.Numbers.{depth_in, number_in as number_in_of, path_in};
 ghost use Rattle.chess_cli.specs.steps.Commands.{request_of};
 
@@ -182,6 +182,72 @@ fn best(rest: &[u8]) -> Command<'_>
     }
 }
 
+// The command that stands alone, by its word.
+fn standing_alone<'a>(word: &[u8]) -> Option<Command<'a>>
+    ensures { option_map request_of result ≡ alone_named word.now }
+{
+    if word == b"new".as_slice() {
+        Some(Command::New)
+    } else if word == b"eval".as_slice() {
+        Some(Command::Eval)
+    } else if word == b"fen".as_slice() {
+        Some(Command::Fen)
+    } else if word == b"moves".as_slice() {
+        Some(Command::Moves)
+    } else if word == b"checks".as_slice() {
+        Some(Command::Checks)
+    } else if word == b"back".as_slice() {
+        Some(Command::Back)
+    } else if word == b"start".as_slice() {
+        Some(Command::Start)
+    } else if word == b"end".as_slice() {
+        Some(Command::End)
+    } else if word == b"path".as_slice() {
+        Some(Command::Path)
+    } else if word == b"promote".as_slice() {
+        Some(Command::Promote)
+    } else if word == b"delete".as_slice() {
+        Some(Command::Delete)
+    } else if word == b"count".as_slice() {
+        Some(Command::Count)
+    } else if word == b"status".as_slice() {
+        Some(Command::Status)
+    } else if word == b"claims".as_slice() {
+        Some(Command::Claims)
+    } else if word == b"pgn".as_slice() {
+        Some(Command::Pgn)
+    } else {
+        None
+    }
+}
+
+// Another command, by its word and what stands behind it.
+fn with_rest<'a>(word: &[u8], rest: &'a [u8]) -> Command<'a>
+    ensures { request_of result ≡ with_rest word.now rest.now }
+{
+    if word == b"set".as_slice() {
+        Command::Set(trim(rest, GAPS))
+    } else if word == b"counts".as_slice() {
+        counts(rest)
+    } else if word == b"play".as_slice() {
+        play(rest)
+    } else if word == b"step".as_slice() {
+        step(rest)
+    } else if word == b"goto".as_slice() {
+        goto(rest)
+    } else if word == b"comment".as_slice() {
+        Command::Comment(trim(rest, GAPS))
+    } else if word == b"nag".as_slice() {
+        nag(rest)
+    } else if word == b"claim".as_slice() {
+        claim(rest)
+    } else if word == b"best".as_slice() {
+        best(rest)
+    } else {
+        Command::Unknown
+    }
+}
+
 /// What the line asks for.
 pub fn asked(line: &[u8]) -> Command<'_>
     ensures { request_of result ≡ request line.now }
@@ -189,55 +255,8 @@ pub fn asked(line: &[u8]) -> Command<'_>
     let Some((word, rest)) = split_word(without_return(line), GAPS) else {
         return Command::Blank;
     };
-    if word == b"new".as_slice() {
-        alone(Command::New, rest)
-    } else if word == b"set".as_slice() {
-        Command::Set(trim(rest, GAPS))
-    } else if word == b"counts".as_slice() {
-        counts(rest)
-    } else if word == b"eval".as_slice() {
-        alone(Command::Eval, rest)
-    } else if word == b"fen".as_slice() {
-        alone(Command::Fen, rest)
-    } else if word == b"moves".as_slice() {
-        alone(Command::Moves, rest)
-    } else if word == b"checks".as_slice() {
-        alone(Command::Checks, rest)
-    } else if word == b"play".as_slice() {
-        play(rest)
-    } else if word == b"back".as_slice() {
-        alone(Command::Back, rest)
-    } else if word == b"step".as_slice() {
-        step(rest)
-    } else if word == b"start".as_slice() {
-        alone(Command::Start, rest)
-    } else if word == b"end".as_slice() {
-        alone(Command::End, rest)
-    } else if word == b"goto".as_slice() {
-        goto(rest)
-    } else if word == b"path".as_slice() {
-        alone(Command::Path, rest)
-    } else if word == b"promote".as_slice() {
-        alone(Command::Promote, rest)
-    } else if word == b"delete".as_slice() {
-        alone(Command::Delete, rest)
-    } else if word == b"comment".as_slice() {
-        Command::Comment(trim(rest, GAPS))
-    } else if word == b"nag".as_slice() {
-        nag(rest)
-    } else if word == b"count".as_slice() {
-        alone(Command::Count, rest)
-    } else if word == b"status".as_slice() {
-        alone(Command::Status, rest)
-    } else if word == b"claims".as_slice() {
-        alone(Command::Claims, rest)
-    } else if word == b"claim".as_slice() {
-        claim(rest)
-    } else if word == b"best".as_slice() {
-        best(rest)
-    } else if word == b"pgn".as_slice() {
-        alone(Command::Pgn, rest)
-    } else {
-        Command::Unknown
+    match standing_alone(word) {
+        Some(command) => alone(command, rest),
+        None => with_rest(word, rest),
     }
 }
