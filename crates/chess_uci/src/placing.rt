@@ -1,8 +1,9 @@
 ghost use Rattle.std.specs.Prelude.{◌≡◌, ◌++◌, Some, OnOk, IfOk, codes};
 ghost use Rattle.chess_types.specs.board.Position.{start};
 ghost use Rattle.chess_types.specs.bytes.Words.{words};
+ghost use Rattle.chess_fen.specs.Reading.{reading};
 ghost use Rattle.chess_uci.specs.Commands.{gaps};
-ghost use Rattle.chess_uci.specs.Placing.{is_moves, before_moves, behind_moves, start_line, spaced, begun_by, line_with_word, line_played, placed};
+ghost use Rattle.chess_uci.specs.Placing.{is_moves, before_moves, behind_moves, start_line, spaced, if_read, begun_by, line_with_word, line_played, placed};
 ghost use Rattle.chess_uci.specs.steps.Places.{Places, Begins};
 
 use crate::command::GAPS;
@@ -74,6 +75,23 @@ fn fen_text<'a, A: Allocator>(alloc: &'a A, text: &[u8]) -> Result<Vec<u8, &'a A
     Ok(fen)
 }
 
+// The line that begins in the position whose FEN stands in front of the first `moves`.
+fn begin_in<'a, A: Allocator>(
+    alloc: &'a A,
+    table: &'a KeyTable,
+    text: &[u8],
+) -> Result<Line<'a, &'a A>, PlaceFault>
+    ensures begun { Begins (if_read (reading (spaced (before_moves (words gaps text.now))))) result }
+{
+    let Ok(fen) = fen_text(alloc, text) else {
+        return Err(PlaceFault::Memory);
+    };
+    match chess_fen::read(fen.as_slice()) {
+        Ok(position) => Ok(Line::start(alloc, position, table)),
+        Err(_fault) => Err(PlaceFault::Refused),
+    }
+}
+
 // Where the line begins, by the words up to the first `moves`.
 fn begin<'a, A: Allocator>(
     alloc: &'a A,
@@ -85,21 +103,15 @@ fn begin<'a, A: Allocator>(
     let Some((word, rest)) = split_word(text, GAPS) else {
         return Err(PlaceFault::Refused);
     };
-    if word == b"startpos".as_slice() {
-        return match split_word(rest, GAPS) {
-            Some((word, _rest)) if !is_moves(word) => Err(PlaceFault::Refused),
-            _ => Ok(start_line(alloc, table)),
-        };
+    if word == b"fen".as_slice() {
+        return begin_in(alloc, table, rest);
     }
-    if word != b"fen".as_slice() {
+    if word != b"startpos".as_slice() {
         return Err(PlaceFault::Refused);
     }
-    let Ok(fen) = fen_text(alloc, rest) else {
-        return Err(PlaceFault::Memory);
-    };
-    match chess_fen::read(fen.as_slice()) {
-        Ok(position) => Ok(Line::start(alloc, position, table)),
-        Err(_fault) => Err(PlaceFault::Refused),
+    match split_word(rest, GAPS) {
+        Some((word, _rest)) if !is_moves(word) => Err(PlaceFault::Refused),
+        _ => Ok(start_line(alloc, table)),
     }
 }
 
