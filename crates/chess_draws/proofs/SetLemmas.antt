@@ -18,7 +18,7 @@ use Rattle.chess_types.specs.board.Board.{Look}
 use Rattle.chess_types.specs.board.Men.{same_colour, is_king_of, is_pawn, is_king, holds_pawn}
 use Rattle.chess_types.specs.steps.KeptSets.{Gathers, is_straight, is_diagonal, holds_king, holds_straight, holds_diagonal}
 use Rattle.chess_types.specs.steps.SetWords.{squares-holds}
-use Rattle.chess_draws.specs.steps.Stands.{holds_straight as holds_straight_or_king, holds_short}
+use Rattle.chess_draws.specs.steps.Stands.{holds_straight_or_king, holds_short}
 
 -- what a set's squares have is what it holds
 listed : (set : FinSet nat_cmp) (i : ℕ) → (contains set i ≡ true → i < 64) → list_any (λ y. y == i) (filter (contains set) squares) ≡ contains set i
