@@ -51,11 +51,7 @@ kind_by false false false = Knight
 
 kind_told : (k : Kind) → kind_by (is_straight k || is_king k) (is_diagonal k) (is_pawn k || is_king k) ≡ k
 kind_told Pawn = refl
-kind_told Knight = refl
-kind_told Bishop = refl
-kind_told Rook = refl
-kind_told Queen = refl
-kind_told King = refl
+kind_told _ = refl
 
 abbrev man_by : Bool → Bool → Bool → Bool → Bool → Option Man
 man_by true black straight diagonal short = Some (record { colour = White; kind = kind_by straight diagonal short })

@@ -5,7 +5,7 @@ use Rattle.std.proofs.lemmas.List.FromFn.{get_or-map-range_with_len}
 use Rattle.chess_types.specs.declared.board.man.Colour.{Colour}
 use Rattle.chess_types.specs.declared.board.man.Colour.TheVariants.{White, Black}
 use Rattle.chess_types.specs.declared.board.man.Kind.{Kind}
-use Rattle.chess_types.specs.declared.board.man.Kind.TheVariants.{Pawn, Knight, Bishop, Rook, Queen, King}
+use Rattle.chess_types.specs.declared.board.man.Kind.TheVariants.{Pawn}
 use Rattle.chess_types.specs.declared.board.man.Man.{Man}
 use Rattle.chess_types.specs.steps.ManCode.{colour_of, kind_of}
 use Rattle.chess_types.specs.board.Squares.{squares}
@@ -33,18 +33,9 @@ end_is = refl
 
 -- a man's number is below 12, and it is the number of no other man
 numbered : (colour : Colour) (kind : Kind) → (6 * colour_number colour + kind_number kind < 12) × (man_of (6 * colour_number colour + kind_number kind) ≡ record { colour = colour; kind = kind })
-numbered White Pawn = (omega arith , refl)
-numbered White Knight = (omega arith , refl)
-numbered White Bishop = (omega arith , refl)
-numbered White Rook = (omega arith , refl)
-numbered White Queen = (omega arith , refl)
-numbered White King = (omega arith , refl)
-numbered Black Pawn = (omega arith , refl)
-numbered Black Knight = (omega arith , refl)
-numbered Black Bishop = (omega arith , refl)
-numbered Black Rook = (omega arith , refl)
-numbered Black Queen = (omega arith , refl)
-numbered Black King = (omega arith , refl)
+numbered White Pawn = (omega arith, refl)
+numbered Black Pawn = (omega arith, refl)
+numbered _ _ = (omega arith, refl)
 
 -- the entry of a man and a square
 entry : (table : List (List ℤ)) (worth : Man → ℕ → ℤ) (man : Man) (square : ℕ) → table ≡ table_of worth → square < 64 →

@@ -1,5 +1,5 @@
 -- While moves are only looked for, the position and the words of its key are as before; the ticks may be more.
-use Rattle.std.proofs.Common.{◌≡◌, refl, ◌∙◌}
+use Rattle.std.proofs.Common.{◌≡◌, refl}
 use Rattle.chess_play.specs.LiveParts.{LiveParts}
 
 pub record IsStill (now before : LiveParts) : Type 0 where

@@ -1,4 +1,4 @@
-use Rattle.std.proofs.Common.{ap, refl, ◌∙◌}
+use Rattle.std.proofs.Common.{ap, ◌∙◌}
 use Rattle.chess_types.specs.board.Position.{State}
 use Rattle.chess_moves.specs.steps.Targets.{move_to}
 use Rattle.chess_moves.proofs.Still.{still_first}

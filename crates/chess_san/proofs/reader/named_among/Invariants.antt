@@ -1,4 +1,3 @@
-use Rattle.std.proofs.Common.{◌≡◌}
 use Rattle.chess_moves.specs.steps.Targets.{move_to}
 use Rattle.chess_moves.proofs.Still.{IsStill}
 use Rattle.chess_moves.proofs.SafeSteps.{FoundAmong}
