@@ -21,7 +21,7 @@ use Rattle.chess_pgn.specs.declared.fault.PgnFault.{PgnFault}
 use Rattle.chess_pgn.specs.declared.reader.Reader.{Reader}
 use Rattle.chess_pgn.specs.declared.reader.header.Header.{Header}
 use Rattle.chess_pgn.specs.declared.reader.header.Part.{Part}
-use Rattle.chess_pgn.specs.declared.reader.header.Part.TheVariants.{Name, Nothing}
+use Rattle.chess_pgn.specs.declared.reader.header.Part.TheVariants.{Nothing}
 use Rattle.chess_pgn.specs.declared.reader.moves.Interrupted.{Interrupted}
 use Rattle.chess_pgn.proofs.ChainLemmas.{InHead, InMovetext, Moving, Progress, movetext_first}
 use Rattle.chess_pgn.proofs.DerivedLemmas.{read_again}
