@@ -16,18 +16,7 @@ axes_meet Rank Rank a b ha hb ne p q = refl
 axes_meet File File a b ha hb ne p q = refl
 axes_meet Rising Rising a b ha hb ne p q = refl
 axes_meet Falling Falling a b ha hb ne p q = refl
-axes_meet Rank File a b ha hb ne p q = absurd (omega arith)
-axes_meet Rank Rising a b ha hb ne p q = absurd (omega arith)
-axes_meet Rank Falling a b ha hb ne p q = absurd (omega arith)
-axes_meet File Rank a b ha hb ne p q = absurd (omega arith)
-axes_meet File Rising a b ha hb ne p q = absurd (omega arith)
-axes_meet File Falling a b ha hb ne p q = absurd (omega arith)
-axes_meet Rising Rank a b ha hb ne p q = absurd (omega arith)
-axes_meet Rising File a b ha hb ne p q = absurd (omega arith)
-axes_meet Rising Falling a b ha hb ne p q = absurd (omega arith)
-axes_meet Falling Rank a b ha hb ne p q = absurd (omega arith)
-axes_meet Falling File a b ha hb ne p q = absurd (omega arith)
-axes_meet Falling Rising a b ha hb ne p q = absurd (omega arith)
+axes_meet _ _ a b ha hb ne p q = absurd (omega arith)
 
 -- t is strictly between a and b on that axis
 pub record BetweenOn (axis : Axis) (a b t : ℕ) : Type 0 where

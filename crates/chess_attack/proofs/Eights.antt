@@ -1,5 +1,5 @@
 -- The eight halves of the axes through a square: a square is on one of them at most, and together they have at most 27 squares.
-use Rattle.std.proofs.Common.{◌≡◌, ℕ, ◌+◌, ◌<◌, ◌≤◌, ◌≢◌, true, false, arith, inl, inr, ◌⊎◌}
+use Rattle.std.proofs.Common.{◌≡◌, ◌∙◌, ℕ, ◌+◌, ◌<◌, ◌≤◌, ◌≢◌, true, false, arith, inl, inr, ◌⊎◌}
 use Rattle.std.proofs.lemmas.Bool.{cases_Bool, false_from_ne_true}
 use Rattle.chess_types.specs.declared.board.axis.Axis.{Axis}
 use Rattle.chess_types.specs.declared.board.axis.Axis.TheVariants.{Rank, File, Rising, Falling}
@@ -70,20 +70,17 @@ module _ (g : Axis → Way → ℕ) (at s : ℕ) (off : (axis : Axis) (way : Way
   pair_on axis Up half = omega (arith, off axis Down (false_from_ne_true _ (λ down. other_way axis at s half down)))
   pair_on axis Down half = omega (arith, off axis Up (false_from_ne_true _ (λ up. other_way axis at s up half)))
 
-  -- where s is on one of them, the others give nothing
+  -- where the other axes give nothing
+  only_pair : (axis : Axis) → ((j : Axis) → j ≢ axis → pair g j ≡ 0) → eight g ≡ pair g axis
+  only_pair Rank none = omega (arith, none File (λ e. cc), none Rising (λ e. cc), none Falling (λ e. cc))
+  only_pair File none = omega (arith, none Rank (λ e. cc), none Rising (λ e. cc), none Falling (λ e. cc))
+  only_pair Rising none = omega (arith, none Rank (λ e. cc), none File (λ e. cc), none Falling (λ e. cc))
+  only_pair Falling none = omega (arith, none Rank (λ e. cc), none File (λ e. cc), none Rising (λ e. cc))
+
+  -- where s is on one of the halves, the others give nothing
   pub eight_on : (axis : Axis) (way : Way) → at < 64 → s < 64 → on_half axis way at s ≡ true → eight g ≡ g axis way
-  eight_on Rank way hat hs half =
-      let o : (j : Axis) → j ≢ Rank → pair g j ≡ 0 = λ j ne. pair_off j (λ w. other_axis Rank way at s hat hs half j w ne) in
-      omega (arith, o File (λ e. cc), o Rising (λ e. cc), o Falling (λ e. cc), pair_on Rank way half)
-  eight_on File way hat hs half =
-      let o : (j : Axis) → j ≢ File → pair g j ≡ 0 = λ j ne. pair_off j (λ w. other_axis File way at s hat hs half j w ne) in
-      omega (arith, o Rank (λ e. cc), o Rising (λ e. cc), o Falling (λ e. cc), pair_on File way half)
-  eight_on Rising way hat hs half =
-      let o : (j : Axis) → j ≢ Rising → pair g j ≡ 0 = λ j ne. pair_off j (λ w. other_axis Rising way at s hat hs half j w ne) in
-      omega (arith, o Rank (λ e. cc), o File (λ e. cc), o Falling (λ e. cc), pair_on Rising way half)
-  eight_on Falling way hat hs half =
-      let o : (j : Axis) → j ≢ Falling → pair g j ≡ 0 = λ j ne. pair_off j (λ w. other_axis Falling way at s hat hs half j w ne) in
-      omega (arith, o Rank (λ e. cc), o File (λ e. cc), o Rising (λ e. cc), pair_on Falling way half)
+  eight_on axis way hat hs half =
+      only_pair axis (λ j ne. pair_off j (λ w. other_axis axis way at s hat hs half j w ne)) ∙ pair_on axis way half
 
   pub eight_off : ((axis : Axis) (way : Way) → on_half axis way at s ≡ false) → eight g ≡ 0
   eight_off h = omega (arith, pair_off Rank (h Rank), pair_off File (h File), pair_off Rising (h Rising), pair_off Falling (h Falling))

@@ -19,13 +19,10 @@ record StepsTo (axis : Axis) (way : Way) (at t : ℕ) : Type 0 where
 
 steps_to : (axis : Axis) (way : Way) (at : ℕ) → at < 64 → 0 < half_length axis way at → StepsTo axis way at (stepped way at (stride axis))
 steps_to Rank Up at h more = record { on_board = omega arith; line_is = omega arith; order = omega arith; nearest = λ s hs e o ne. omega arith; shorter = omega arith }
-steps_to Rank Down at h more = record { on_board = omega arith; line_is = omega arith; order = omega arith; nearest = λ s hs e o ne. omega arith; shorter = omega arith }
 steps_to File Up at h more = record { on_board = omega arith; line_is = omega arith; order = omega arith; nearest = λ s hs e o ne. omega arith; shorter = omega arith }
-steps_to File Down at h more = record { on_board = omega arith; line_is = omega arith; order = omega arith; nearest = λ s hs e o ne. omega arith; shorter = omega arith }
 steps_to Rising Up at h more = record { on_board = omega arith; line_is = omega arith; order = omega arith; nearest = λ s hs e o ne. omega arith; shorter = omega arith }
-steps_to Rising Down at h more = record { on_board = omega arith; line_is = omega arith; order = omega arith; nearest = λ s hs e o ne. omega arith; shorter = omega arith }
 steps_to Falling Up at h more = record { on_board = omega arith; line_is = omega arith; order = omega arith; nearest = λ s hs e o ne. omega arith; shorter = omega arith }
-steps_to Falling Down at h more = record { on_board = omega arith; line_is = omega arith; order = omega arith; nearest = λ s hs e o ne. omega arith; shorter = omega arith }
+steps_to _ _ at h more = record { on_board = omega arith; line_is = omega arith; order = omega arith; nearest = λ s hs e o ne. omega arith; shorter = omega arith }
 
 -- where the half has a square, one stride leads to the next
 pub step_next : (axis : Axis) (way : Way) (at : ℕ) → at < 64 → 0 < half_length axis way at → IsNext axis way at (stepped way at (stride axis))
@@ -47,13 +44,10 @@ step_next axis way at h more =
 -- a half of length 0 has no square
 ends : (axis : Axis) (way : Way) (at : ℕ) → at < 64 → half_length axis way at ≡ 0 → (s : ℕ) → s < 64 → line_of axis at ≡ line_of axis s → Towards way at s → ⊥
 ends Rank Up at h zero s hs e o = omega arith
-ends Rank Down at h zero s hs e o = omega arith
 ends File Up at h zero s hs e o = omega arith
-ends File Down at h zero s hs e o = omega arith
 ends Rising Up at h zero s hs e o = omega arith
-ends Rising Down at h zero s hs e o = omega arith
 ends Falling Up at h zero s hs e o = omega arith
-ends Falling Down at h zero s hs e o = omega arith
+ends _ _ at h zero s hs e o = omega arith
 
 -- where it has none, it ends
 pub step_end : (axis : Axis) (way : Way) (at : ℕ) → at < 64 → half_length axis way at ≡ 0 → IsEnd axis way at
@@ -71,15 +65,11 @@ step_end axis way at h short = record {
 -- a step down stays on the board
 pub step_room : (axis : Axis) (at : ℕ) → at < 64 → 0 < half_length axis Down at → stride axis ≤ at
 step_room Rank at h more = omega arith
-step_room File at h more = omega arith
-step_room Rising at h more = omega arith
-step_room Falling at h more = omega arith
+step_room _ at h more = omega arith
 
 pub stride_small : (axis : Axis) → stride axis ≤ 9
 stride_small Rank = omega arith
-stride_small File = omega arith
-stride_small Rising = omega arith
-stride_small Falling = omega arith
+stride_small _ = omega arith
 
 -- what `step` needs of its two halves
 pub ruleset steps = (step_next, step_end, step_room, stride_small)

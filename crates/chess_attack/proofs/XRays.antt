@@ -7,7 +7,7 @@ use Rattle.std.proofs.lemmas.Cmp.{nat_cmp_total}
 use Rattle.std.proofs.lemmas.Bool.{eqb-true, lt-ltb}
 use Rattle.chess_types.specs.declared.board.axis.Axis.TheVariants.{Rank, File, Rising, Falling}
 use Rattle.chess_types.specs.declared.board.man.Kind.{Kind}
-use Rattle.chess_types.specs.declared.board.man.Kind.TheVariants.{Pawn, Knight, Bishop, Rook, Queen, King}
+use Rattle.chess_types.specs.declared.board.man.Kind.TheVariants.{Pawn}
 use Rattle.chess_types.specs.steps.KeptSets.{Gathers}
 use Rattle.chess_attack.specs.steps.Halves.{on_half}
 use Rattle.std.proofs.Math.Bool.{and-true, and-false}
@@ -115,29 +115,10 @@ unlit_bare look axis way at b c s = rw (seen_bare look axis (opposite way) at c 
 of_kind : (axis : Axis) (m : Man) (kind : Kind) → m.kind ≡ kind → slides kind axis ≡ true → movers axis (Some m) ≡ true
 unfolding slides
 of_kind Rank m Pawn is h = rw is h
-of_kind Rank m Knight is h = rw is h
-of_kind Rank m Bishop is h = rw is h
-of_kind Rank m Rook is h = rw is h
-of_kind Rank m Queen is h = rw is h
-of_kind Rank m King is h = rw is h
 of_kind File m Pawn is h = rw is h
-of_kind File m Knight is h = rw is h
-of_kind File m Bishop is h = rw is h
-of_kind File m Rook is h = rw is h
-of_kind File m Queen is h = rw is h
-of_kind File m King is h = rw is h
 of_kind Rising m Pawn is h = rw is h
-of_kind Rising m Knight is h = rw is h
-of_kind Rising m Bishop is h = rw is h
-of_kind Rising m Rook is h = rw is h
-of_kind Rising m Queen is h = rw is h
-of_kind Rising m King is h = rw is h
 of_kind Falling m Pawn is h = rw is h
-of_kind Falling m Knight is h = rw is h
-of_kind Falling m Bishop is h = rw is h
-of_kind Falling m Rook is h = rw is h
-of_kind Falling m Queen is h = rw is h
-of_kind Falling m King is h = rw is h
+of_kind _ m _ is h = rw is h
 
 pub mover : (axis : Axis) (m : Man) → slides m.kind axis ≡ true → movers axis (Some m) ≡ true
 mover axis m h = of_kind axis m m.kind refl h

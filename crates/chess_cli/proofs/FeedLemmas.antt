@@ -4,6 +4,7 @@ use Rattle.std.proofs.Common.{◌≡◌, ℕ, ◌+◌, ◌==◌, Bool, true, fal
 use Rattle.memchr.specs.Find.{IsFirstByte, is_byte}
 use Rattle.chess_types.specs.declared.bytes.source.Failed.{Failed}
 use Rattle.chess_cli.specs.InputLines.{ended_lines, last_line, unfinished}
+use Rattle.chess_cli.specs.RunEnds.{IsFront}
 use Rattle.chess_cli.specs.Runs.{Runs}
 use Rattle.chess_cli.specs.steps.Reads.{Holds, AnswersLine, Feeds, Finishes}
 use Rattle.chess_cli.specs.steps.LineSoFar.{LineSoFar}
@@ -61,6 +62,17 @@ module _ {S W : Type 0} (step cut : S → List ℕ → List ℕ → S → Type 0
   line_next old now line w0 w1 page rest front at going first front_is =
       going.lines ∙ rw (ended_lines-at going.kept rest at first, ← front_is) (sym (append_assoc going.done ((going.kept ++ front) ∷ []) (ended_lines [] (drop (at + 1) rest))))
 
+  -- with it the lines answered are the first ones of the piece
+  front_next : (old now : S) (line : LineSoFar) (w0 w1 : W) (page rest front : List ℕ) (at : ℕ)
+      → (going : Going step over takes failed begun piece old now line w0 page w1 rest)
+      → IsFirstByte (is_byte 10) rest (Some at)
+      → front ≡ take at rest
+      → IsFront (going.done ++ (going.kept ++ front) ∷ []) (ended_lines begun piece)
+  front_next old now line w0 w1 page rest front at going first front_is = record {
+    others = ended_lines [] (drop (at + 1) rest);
+    whole = sym (line_next old now line w0 w1 page rest front at going first front_is);
+  }
+
   pub going_on : (old now next : S) (line line1 line2 : LineSoFar) (w0 w1 w2 : W) (page page1 rest front others : List ℕ) (at : ℕ)
       → (going : Going step over takes failed begun piece old now line w0 page w1 rest)
       → IsFirstByte (is_byte 10) rest (Some at)
@@ -96,10 +108,7 @@ module _ {S W : Type 0} (step cut : S → List ℕ → List ℕ → S → Type 0
         going.text ++ answer.0,
         record {
           lines = going.done ++ (going.kept ++ front) ∷ [];
-          front = record {
-            others = ended_lines [] (drop (at + 1) rest);
-            whole = sym (line_next old now line w0 w1 page rest front at going first front_is);
-          };
+          front = front_next old now line w0 w1 page rest front at going first front_is;
           runs = inr (record {
             done = going.done;
             line = going.kept ++ front;
@@ -129,10 +138,7 @@ module _ {S W : Type 0} (step cut : S → List ℕ → List ℕ → S → Type 0
         going.text ++ answer.0,
         record {
           lines = going.done ++ (going.kept ++ front) ∷ [];
-          front = record {
-            others = ended_lines [] (drop (at + 1) rest);
-            whole = sym (line_next old now line w0 w1 page rest front at going first front_is);
-          };
+          front = front_next old now line w0 w1 page rest front at going first front_is;
           runs = Runs-more step old now next going.done (going.kept ++ front) going.text answer.0 going.runs answer.1;
           rest = inl is_over;
         },

@@ -10,35 +10,27 @@ use Rattle.chess_tree.specs.declared.fault.PlayFault.TheVariants as play
 use Rattle.chess_cli.specs.declared.refusal.Refusal.{Refusal}
 use Rattle.chess_cli.specs.declared.refusal.Refusal.TheVariants.{Fen, Form, NoSuch, Illegal, TooLong, AtRoot, Ambiguous, Full, BadComment, Memory, Command, Argument, LongLine}
 
+-- a refusal's number and its name
+abbrev pub told : Refusal → ℕ × List ℕ
+told (Fen fault) = fen.told fault
+told Form = (1, codes "Form")
+told NoSuch = (1, codes "NoSuch")
+told Illegal = (2, codes "Illegal")
+told TooLong = (2, codes "TooLong")
+told AtRoot = (2, codes "AtRoot")
+told Ambiguous = (3, codes "Ambiguous")
+told Full = (3, codes "Full")
+told BadComment = (4, codes "BadComment")
+told Memory = (5, codes "Memory")
+told Command = (6, codes "Command")
+told Argument = (7, codes "Argument")
+told LongLine = (8, codes "LongLine")
+
 abbrev pub number_of : Refusal → ℕ
-number_of (Fen fault) = fen.number_of fault
-number_of Form = 1
-number_of NoSuch = 1
-number_of Illegal = 2
-number_of TooLong = 2
-number_of AtRoot = 2
-number_of Ambiguous = 3
-number_of Full = 3
-number_of BadComment = 4
-number_of Memory = 5
-number_of Command = 6
-number_of Argument = 7
-number_of LongLine = 8
+number_of refusal = (told refusal).0
 
 abbrev pub name_of : Refusal → List ℕ
-name_of (Fen fault) = fen.name_of fault
-name_of Form = codes "Form"
-name_of NoSuch = codes "NoSuch"
-name_of Illegal = codes "Illegal"
-name_of TooLong = codes "TooLong"
-name_of AtRoot = codes "AtRoot"
-name_of Ambiguous = codes "Ambiguous"
-name_of Full = codes "Full"
-name_of BadComment = codes "BadComment"
-name_of Memory = codes "Memory"
-name_of Command = codes "Command"
-name_of Argument = codes "Argument"
-name_of LongLine = codes "LongLine"
+name_of refusal = (told refusal).1
 
 -- a fault of a tree, as the board tells it
 abbrev pub tree_refusal : TreeFault → Refusal

@@ -7,7 +7,7 @@ use Rattle.std.proofs.lemmas.Bool.{cases_Bool, true≢false, false_from_ne_true}
 use Rattle.std.proofs.lemmas.Cmp.{nat_cmp_total}
 use Rattle.chess_types.specs.declared.board.man.Colour.TheVariants.{White, Black}
 use Rattle.chess_types.specs.declared.board.man.Kind.{Kind}
-use Rattle.chess_types.specs.declared.board.man.Kind.TheVariants.{Pawn, Knight, Bishop, Rook, Queen, King}
+use Rattle.chess_types.specs.declared.board.man.Kind.TheVariants.{Pawn, Bishop}
 use Rattle.chess_types.specs.declared.board.man.Man.{Man}
 use Rattle.chess_types.specs.board.Squares.{squares}
 use Rattle.chess_types.specs.board.Board.{Look}
@@ -34,11 +34,7 @@ others_listed occupied white black kings rest look are_occupied are_white are_bl
 
 bishop_kind : (k : Kind) → (is_diagonal k && not (is_straight k)) ≡ same_kind k Bishop
 bishop_kind Pawn = refl
-bishop_kind Knight = refl
-bishop_kind Bishop = refl
-bishop_kind Rook = refl
-bishop_kind Queen = refl
-bishop_kind King = refl
+bishop_kind _ = refl
 
 bishop_there : (there : Option Man) → (holds_diagonal there && not (holds_straight there)) ≡ holds_bishop there
 bishop_there None = refl

@@ -12,13 +12,13 @@ use Rattle.chess_types.specs.declared.board.man.Colour.{Colour}
 use Rattle.chess_types.specs.declared.board.man.Colour.TheVariants.{White, Black}
 use Rattle.chess_types.specs.declared.board.man.Man.{Man}
 use Rattle.chess_types.specs.declared.board.man.Kind.{Kind}
-use Rattle.chess_types.specs.declared.board.man.Kind.TheVariants.{Pawn, Knight, Bishop, Rook, Queen, King}
+use Rattle.chess_types.specs.declared.board.man.Kind.TheVariants.{Pawn}
 use Rattle.chess_types.specs.board.Squares.{squares}
 use Rattle.chess_types.specs.board.Board.{Look}
 use Rattle.chess_types.specs.board.Men.{same_colour, is_king_of, is_pawn, is_king, holds_pawn}
 use Rattle.chess_types.specs.steps.KeptSets.{Gathers, is_straight, is_diagonal, holds_king, holds_straight, holds_diagonal}
 use Rattle.chess_types.specs.steps.SetWords.{squares-holds}
-use Rattle.chess_draws.specs.steps.Stands.{holds_straight as holds_straight_or_king, holds_short}
+use Rattle.chess_draws.specs.steps.Stands.{holds_straight_or_king, holds_short}
 
 -- what a set's squares have is what it holds
 listed : (set : FinSet nat_cmp) (i : ℕ) → (contains set i ≡ true → i < 64) → list_any (λ y. y == i) (filter (contains set) squares) ≡ contains set i
@@ -31,11 +31,7 @@ listed set i below =
 
 kind_left : (k : Kind) → (not ((is_straight k || is_diagonal k) || is_king k) && is_pawn k) ≡ is_pawn k
 kind_left Pawn = refl
-kind_left Knight = refl
-kind_left Bishop = refl
-kind_left Rook = refl
-kind_left Queen = refl
-kind_left King = refl
+kind_left _ = refl
 
 left : (there : Option Man) → ((is_some there && not ((holds_straight there || holds_diagonal there) || holds_king there)) && holds_pawn there) ≡ holds_pawn there
 left None = refl

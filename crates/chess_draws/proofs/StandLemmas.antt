@@ -22,7 +22,7 @@ use Rattle.chess_types.proofs.SameLemmas.{same_is, kind_is, same_self, kind_self
 use Rattle.chess_draws.specs.declared.men.Men.{Men}
 use Rattle.chess_draws.specs.declared.stand.Stand.{Stand}
 use Rattle.chess_draws.specs.declared.ply.Ply.{Ply}
-use Rattle.chess_draws.specs.steps.Stands.{holds_straight, holds_short, IsMenOf, IsStandOf, same_set, same_men, same_ply}
+use Rattle.chess_draws.specs.steps.Stands.{holds_straight_or_king, holds_short, IsMenOf, IsStandOf, same_set, same_men, same_ply}
 use Rattle.chess_draws.specs.steps.Plies.{IsPly}
 
 -- what passes as the same man is
@@ -51,11 +51,7 @@ kind_by false false false = Knight
 
 kind_told : (k : Kind) → kind_by (is_straight k || is_king k) (is_diagonal k) (is_pawn k || is_king k) ≡ k
 kind_told Pawn = refl
-kind_told Knight = refl
-kind_told Bishop = refl
-kind_told Rook = refl
-kind_told Queen = refl
-kind_told King = refl
+kind_told _ = refl
 
 abbrev man_by : Bool → Bool → Bool → Bool → Bool → Option Man
 man_by true black straight diagonal short = Some (record { colour = White; kind = kind_by straight diagonal short })
@@ -68,11 +64,11 @@ man_told_by : (c : Colour) (k : Kind) →
 man_told_by White k = ap (λ (x : Kind). Some (record { colour = White; kind = x })) (kind_told k)
 man_told_by Black k = ap (λ (x : Kind). Some (record { colour = Black; kind = x })) (kind_told k)
 
-man_told : (a : Option Man) → man_by (is_of White a) (is_of Black a) (holds_straight a) (holds_diagonal a) (holds_short a) ≡ a
+man_told : (a : Option Man) → man_by (is_of White a) (is_of Black a) (holds_straight_or_king a) (holds_diagonal a) (holds_short a) ≡ a
 man_told None = refl
 man_told (Some man) = man_told_by man.colour man.kind
 
-men_agree : (a b : Option Man) → is_of White a ≡ is_of White b → is_of Black a ≡ is_of Black b → holds_straight a ≡ holds_straight b →
+men_agree : (a b : Option Man) → is_of White a ≡ is_of White b → is_of Black a ≡ is_of Black b → holds_straight_or_king a ≡ holds_straight_or_king b →
     holds_diagonal a ≡ holds_diagonal b → holds_short a ≡ holds_short b → a ≡ b
 men_agree a b white black straight diagonal short =
     sym (man_told a) ∙ (λ i. man_by (white i) (black i) (straight i) (diagonal i) (short i)) ∙ man_told b
@@ -153,7 +149,7 @@ men_there m n x y is_m is_n h s low =
     men_agree (x s) (y s)
     (by_sets m.white n.white (is_of White) x y is_m.white is_n.white d.0 s low)
     (by_sets m.black n.black (is_of Black) x y is_m.black is_n.black d.1 s low)
-    (by_sets m.straight n.straight holds_straight x y is_m.straight is_n.straight c.1 s low)
+    (by_sets m.straight n.straight holds_straight_or_king x y is_m.straight is_n.straight c.1 s low)
     (by_sets m.diagonal n.diagonal holds_diagonal x y is_m.diagonal is_n.diagonal b.1 s low)
     (by_sets m.short n.short holds_short x y is_m.short is_n.short a.1 s low)
 
@@ -163,7 +159,7 @@ men_from m n x y is_m is_n same =
     rw (
       by_look m.white n.white (is_of White) x y is_m.white is_n.white same,
       by_look m.black n.black (is_of Black) x y is_m.black is_n.black same,
-      by_look m.straight n.straight holds_straight x y is_m.straight is_n.straight same,
+      by_look m.straight n.straight holds_straight_or_king x y is_m.straight is_n.straight same,
       by_look m.diagonal n.diagonal holds_diagonal x y is_m.diagonal is_n.diagonal same,
       by_look m.short n.short holds_short x y is_m.short is_n.short same,
     ) refl

@@ -5,7 +5,7 @@ use Rattle.std.proofs.lemmas.Bool.{and_parts, and_from, or_cases, cases_eq, not-
 use Rattle.chess_types.specs.declared.board.man.Colour.{Colour}
 use Rattle.chess_types.specs.declared.board.man.Colour.TheVariants.{White, Black}
 use Rattle.chess_types.specs.declared.board.man.Kind.{Kind}
-use Rattle.chess_types.specs.declared.board.man.Kind.TheVariants.{Pawn, Knight, Bishop, Rook, Queen, King}
+use Rattle.chess_types.specs.declared.board.man.Kind.TheVariants.{Pawn}
 use Rattle.chess_types.specs.declared.board.man.Man.{Man}
 use Rattle.chess_types.specs.board.Squares.{file_of, rank_of}
 use Rattle.chess_types.specs.board.Board.{Look}
@@ -22,6 +22,7 @@ use Rattle.chess_types.proofs.MoveLemmas.{legal_pseudo, ahead_file}
 use Rattle.chess_play.proofs.Pawns.{target_is}
 use Rattle.chess_moves.specs.steps.Targets.{move_to}
 use Rattle.chess_moves.proofs.LegalLaws.{legal_listed, listed_legal}
+use Rattle.chess_san.proofs.PawnLemmas.{pawn_is}
 use Rattle.chess_draws.proofs.StandLemmas.{man_is}
 
 -- a pawn of the side to move stands there, and captures legally on the other square
@@ -134,14 +135,6 @@ leap_origins Black men a t l r e h o =
     let beside = eqb-true (distance (file_of a) (file_of t)) 1 p.0 in
     let next = eqb-true (rank_of a) (rank_of t + 1) p.1 in
     elim (cases_eq a l) [ inl same ↦ inl same | inr other ↦ inr (omega arith) ]
-
-pawn_is : (k : Kind) → is_pawn k ≡ true → k ≡ Pawn
-pawn_is Pawn h = refl
-pawn_is Knight h = absurd (true≢false (sym h))
-pawn_is Bishop h = absurd (true≢false (sym h))
-pawn_is Rook h = absurd (true≢false (sym h))
-pawn_is Queen h = absurd (true≢false (sym h))
-pawn_is King h = absurd (true≢false (sym h))
 
 -- what a legal capture on the target is: by a pawn of the side to move, which attacks it
 pub record Taking (p : State) (m : MoveParts) : Type 0 where

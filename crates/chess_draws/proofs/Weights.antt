@@ -6,7 +6,7 @@ use Rattle.std.specs.FinMap.{insert, remove}
 use Rattle.chess_types.specs.declared.board.man.Colour.{Colour}
 use Rattle.chess_types.specs.declared.board.man.Colour.TheVariants.{White, Black}
 use Rattle.chess_types.specs.declared.board.man.Kind.{Kind}
-use Rattle.chess_types.specs.declared.board.man.Kind.TheVariants.{Pawn, Knight, Bishop, Rook, Queen, King}
+use Rattle.chess_types.specs.declared.board.man.Kind.TheVariants.{Pawn}
 use Rattle.chess_types.specs.declared.board.man.Man.{Man}
 use Rattle.chess_types.specs.declared.board.position.Wing.{Wing}
 use Rattle.chess_types.specs.declared.board.position.Wing.TheVariants.{KingSide, QueenSide}
@@ -33,11 +33,7 @@ steps_left Black s = rank_of s
 
 abbrev pub man_weight : Kind → Colour → ℕ → ℕ
 man_weight Pawn c s = 2 + steps_left c s
-man_weight Knight c s = 1
-man_weight Bishop c s = 1
-man_weight Rook c s = 1
-man_weight Queen c s = 1
-man_weight King c s = 1
+man_weight _ c s = 1
 
 abbrev pub weight_at : Option Man → ℕ → ℕ
 weight_at None s = 0
@@ -114,35 +110,19 @@ positive (Some man) s h = one_at_least man.kind
   where
     one_at_least : (k : Kind) → 1 ≤ man_weight k man.colour s
     one_at_least Pawn = omega arith
-    one_at_least Knight = omega arith
-    one_at_least Bishop = omega arith
-    one_at_least Rook = omega arith
-    one_at_least Queen = omega arith
-    one_at_least King = omega arith
+    one_at_least _ = omega arith
 
 heaviest : (k : Kind) (c : Colour) (s : ℕ) → man_weight k c s ≤ 2 + steps_left c s
 heaviest Pawn c s = omega arith
-heaviest Knight c s = omega arith
-heaviest Bishop c s = omega arith
-heaviest Rook c s = omega arith
-heaviest Queen c s = omega arith
-heaviest King c s = omega arith
+heaviest _ c s = omega arith
 
 pawn_weight : (k : Kind) (c : Colour) (s : ℕ) → is_pawn k ≡ true → man_weight k c s ≡ 2 + steps_left c s
 pawn_weight Pawn c s h = refl
-pawn_weight Knight c s h = absurd (true≢false (sym h))
-pawn_weight Bishop c s h = absurd (true≢false (sym h))
-pawn_weight Rook c s h = absurd (true≢false (sym h))
-pawn_weight Queen c s h = absurd (true≢false (sym h))
-pawn_weight King c s h = absurd (true≢false (sym h))
+pawn_weight _ c s h = absurd (true≢false (sym h))
 
 piece_weight : (k : Kind) (c : Colour) (s : ℕ) → is_pawn k ≡ false → man_weight k c s ≡ 1
 piece_weight Pawn c s h = absurd (true≢false h)
-piece_weight Knight c s h = refl
-piece_weight Bishop c s h = refl
-piece_weight Rook c s h = refl
-piece_weight Queen c s h = refl
-piece_weight King c s h = refl
+piece_weight _ c s h = refl
 
 fewer_left : (c : Colour) (a b : ℕ) → a < 64 → b < 64 → Further c a b → steps_left c b < steps_left c a
 fewer_left White a b ha hb h = omega arith

@@ -95,11 +95,7 @@ pub record IsWeight (weight : ℤ) : Type 0 where
 
 weight_of_any : (kind : Kind) → IsWeight (weight_of kind)
 weight_of_any Pawn = record { low = omega (arith, ints); high = omega (arith, ints) }
-weight_of_any Knight = record { low = omega (arith, ints); high = omega (arith, ints) }
-weight_of_any Bishop = record { low = omega (arith, ints); high = omega (arith, ints) }
-weight_of_any Rook = record { low = omega (arith, ints); high = omega (arith, ints) }
-weight_of_any Queen = record { low = omega (arith, ints); high = omega (arith, ints) }
-weight_of_any King = record { low = omega (arith, ints); high = omega (arith, ints) }
+weight_of_any _ = record { low = omega (arith, ints); high = omega (arith, ints) }
 
 pub weight_small : (there : Option Man) (square : ℕ) → IsWeight (weight_there there square)
 weight_small None square = record { low = omega (arith, ints); high = omega (arith, ints) }

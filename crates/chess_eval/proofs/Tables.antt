@@ -5,7 +5,7 @@ use Rattle.std.proofs.lemmas.List.FromFn.{get_or-map-range_with_len}
 use Rattle.chess_types.specs.declared.board.man.Colour.{Colour}
 use Rattle.chess_types.specs.declared.board.man.Colour.TheVariants.{White, Black}
 use Rattle.chess_types.specs.declared.board.man.Kind.{Kind}
-use Rattle.chess_types.specs.declared.board.man.Kind.TheVariants.{Pawn, Knight, Bishop, Rook, Queen, King}
+use Rattle.chess_types.specs.declared.board.man.Kind.TheVariants.{Pawn}
 use Rattle.chess_types.specs.declared.board.man.Man.{Man}
 use Rattle.chess_types.specs.steps.ManCode.{colour_of, kind_of}
 use Rattle.chess_types.specs.board.Squares.{squares}
@@ -31,36 +31,11 @@ end_is : END ≡ table_of end_of
 unfolding table_of squares end_of
 end_is = refl
 
-man_of-parts : (colour : Colour) (kind : Kind) → man_of (6 * colour_number colour + kind_number kind) ≡ record { colour = colour; kind = kind }
-man_of-parts White Pawn = refl
-man_of-parts White Knight = refl
-man_of-parts White Bishop = refl
-man_of-parts White Rook = refl
-man_of-parts White Queen = refl
-man_of-parts White King = refl
-man_of-parts Black Pawn = refl
-man_of-parts Black Knight = refl
-man_of-parts Black Bishop = refl
-man_of-parts Black Rook = refl
-man_of-parts Black Queen = refl
-man_of-parts Black King = refl
-
-man_of-number : (man : Man) → man_of (number_of man) ≡ man
-man_of-number man = man_of-parts man.colour man.kind
-
-number_below : (colour : Colour) (kind : Kind) → 6 * colour_number colour + kind_number kind < 12
-number_below White Pawn = omega arith
-number_below White Knight = omega arith
-number_below White Bishop = omega arith
-number_below White Rook = omega arith
-number_below White Queen = omega arith
-number_below White King = omega arith
-number_below Black Pawn = omega arith
-number_below Black Knight = omega arith
-number_below Black Bishop = omega arith
-number_below Black Rook = omega arith
-number_below Black Queen = omega arith
-number_below Black King = omega arith
+-- a man's number is below 12, and it is the number of no other man
+numbered : (colour : Colour) (kind : Kind) → (6 * colour_number colour + kind_number kind < 12) × (man_of (6 * colour_number colour + kind_number kind) ≡ record { colour = colour; kind = kind })
+numbered White Pawn = (omega arith, refl)
+numbered Black Pawn = (omega arith, refl)
+numbered _ _ = (omega arith, refl)
 
 -- the entry of a man and a square
 entry : (table : List (List ℤ)) (worth : Man → ℕ → ℤ) (man : Man) (square : ℕ) → table ≡ table_of worth → square < 64 →
@@ -69,9 +44,9 @@ unfolding table_of squares
 entry table worth man square is h =
     ap (λ t. get_or (get_or t (number_of man) []) square (pos 0)) is
     ∙ ap (λ row. get_or row square (pos 0))
-    (get_or-map-range_with_len (λ n. map (worth (man_of n)) (range_with_len 0 64)) 0 12 (number_of man) (number_of man) [] (number_below man.colour man.kind) (omega arith))
+    (get_or-map-range_with_len (λ n. map (worth (man_of n)) (range_with_len 0 64)) 0 12 (number_of man) (number_of man) [] (numbered man.colour man.kind).0 (omega arith))
     ∙ get_or-map-range_with_len (worth (man_of (number_of man))) 0 64 square square (pos 0) h (omega arith)
-    ∙ ap (λ m. worth m square) (man_of-number man)
+    ∙ ap (λ m. worth m square) (numbered man.colour man.kind).1
 
 pub middle_entry : (man : Man) (square : ℕ) → square < 64 → get_or (get_or MIDDLE (number_of man) []) square (pos 0) ≡ middle_of man square
 middle_entry man square h = entry MIDDLE middle_of man square middle_is h

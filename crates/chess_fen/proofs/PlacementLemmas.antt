@@ -6,7 +6,7 @@ use Rattle.std.proofs.lemmas.List.FromFn.{length-map-range_with_len}
 use Rattle.chess_types.specs.declared.board.man.Colour.{Colour}
 use Rattle.chess_types.specs.declared.board.man.Colour.TheVariants.{White, Black}
 use Rattle.chess_types.specs.declared.board.man.Kind.{Kind}
-use Rattle.chess_types.specs.declared.board.man.Kind.TheVariants.{Pawn, Knight, Bishop, Rook, Queen, King}
+use Rattle.chess_types.specs.declared.board.man.Kind.TheVariants.{Pawn}
 use Rattle.chess_types.specs.declared.board.man.Man.{Man}
 use Rattle.chess_types.specs.board.Board.{Look}
 use Rattle.chess_types.specs.board.Squares.{squares}
@@ -26,17 +26,8 @@ record IsLetter (man : Man) : Type 0 where
 
 letters : (colour : Colour) (kind : Kind) → IsLetter (record { colour = colour; kind = kind })
 letters White Pawn = record { plain = refl; means = refl; high = omega arith }
-letters White Knight = record { plain = refl; means = refl; high = omega arith }
-letters White Bishop = record { plain = refl; means = refl; high = omega arith }
-letters White Rook = record { plain = refl; means = refl; high = omega arith }
-letters White Queen = record { plain = refl; means = refl; high = omega arith }
-letters White King = record { plain = refl; means = refl; high = omega arith }
 letters Black Pawn = record { plain = refl; means = refl; high = omega arith }
-letters Black Knight = record { plain = refl; means = refl; high = omega arith }
-letters Black Bishop = record { plain = refl; means = refl; high = omega arith }
-letters Black Rook = record { plain = refl; means = refl; high = omega arith }
-letters Black Queen = record { plain = refl; means = refl; high = omega arith }
-letters Black King = record { plain = refl; means = refl; high = omega arith }
+letters _ _ = record { plain = refl; means = refl; high = omega arith }
 
 letter : (man : Man) → IsLetter man
 letter man = letters man.colour man.kind

@@ -8,7 +8,7 @@ use Rattle.std.proofs.lemmas.Bool.{and_parts, or_cases, or_left, or_right, cases
 use Rattle.chess_types.specs.declared.board.man.Colour.{Colour}
 use Rattle.chess_types.specs.declared.board.man.Colour.TheVariants.{White, Black}
 use Rattle.chess_types.specs.declared.board.man.Kind.{Kind}
-use Rattle.chess_types.specs.declared.board.man.Kind.TheVariants.{Pawn, Knight, Bishop, Rook, Queen, King}
+use Rattle.chess_types.specs.declared.board.man.Kind.TheVariants.{Pawn, King}
 use Rattle.chess_types.specs.declared.board.man.Man.{Man}
 use Rattle.chess_types.specs.declared.board.position.Wing.TheVariants.{KingSide, QueenSide}
 use Rattle.chess_types.specs.board.Board.{Look}
@@ -27,19 +27,12 @@ use Rattle.chess_moves.proofs.Pieces.{pieces, pieces_first, from_pieces, all_pie
 
 unfoldable shape : Kind → Colour → ℕ → ℕ → Bool
 shape Pawn c a b = (leaps c Pawn a b || slides_to Pawn a b) || is_forward c 8 a b || is_forward c 16 a b
-shape Knight c a b = leaps c Knight a b || slides_to Knight a b
-shape Bishop c a b = leaps c Bishop a b || slides_to Bishop a b
-shape Rook c a b = leaps c Rook a b || slides_to Rook a b
-shape Queen c a b = leaps c Queen a b || slides_to Queen a b
 shape King c a b = (leaps c King a b || slides_to King a b) || reached c KingSide == b || reached c QueenSide == b
+shape k c a b = leaps c k a b || slides_to k a b
 
 abbrev weight : Kind → ℕ
 weight Pawn = 4
-weight Knight = 1
-weight Bishop = 1
-weight Rook = 1
-weight Queen = 1
-weight King = 1
+weight _ = 1
 
 -- at most 27 moves from a square
 abbrev is_few : Kind → Colour → ℕ → Bool
@@ -49,12 +42,9 @@ few_everywhere : (k : Kind) (c : Colour) → list_all (is_few k c) (range_with_l
 unfolding total shape leaps slides slides_to
 few_everywhere Pawn White = refl
 few_everywhere Pawn Black = refl
-few_everywhere Knight c = refl
-few_everywhere Bishop c = refl
-few_everywhere Rook c = refl
-few_everywhere Queen c = refl
 few_everywhere King White = refl
 few_everywhere King Black = refl
+few_everywhere _ c = refl
 
 shape_few : (k : Kind) (c : Colour) (a : ℕ) → a < 64 → total (λ b. weight k * bit (shape k c a b)) 0 64 ≤ 27
 shape_few k c a h = leb-true _ 27 (list_all_at (is_few k c) 0 64 a (few_everywhere k c) (omega arith) h)
@@ -76,12 +66,9 @@ more_reach false a' false c h e = or_right (a' || false) c e
 reach_shape : (p : State) (kind : Kind) (a b : ℕ) → is_candidate p kind a b ≡ true → shape kind p.side a b ≡ true
 unfolding is_candidate shape
 reach_shape p Pawn a b h = more_reach _ _ (is_forward p.side 8 a b) (is_forward p.side 16 a b) (reach_is (record { colour = p.side; kind = Pawn }) (look p) a b) h
-reach_shape p Knight a b h = reach_is (record { colour = p.side; kind = Knight }) (look p) a b h
-reach_shape p Bishop a b h = reach_is (record { colour = p.side; kind = Bishop }) (look p) a b h
-reach_shape p Rook a b h = reach_is (record { colour = p.side; kind = Rook }) (look p) a b h
-reach_shape p Queen a b h = reach_is (record { colour = p.side; kind = Queen }) (look p) a b h
 reach_shape p King a b h =
     more_reach _ _ (reached p.side KingSide == b) (reached p.side QueenSide == b) (reach_is (record { colour = p.side; kind = King }) (look p) a b) h
+reach_shape p k a b h = reach_is (record { colour = p.side; kind = k }) (look p) a b h
 
 filter_few : (test : MoveParts → Bool) (xs : List MoveParts) → length (filter test xs) ≤ length xs
 filter_few test xs = omega (arith, length-filter test xs, count_by-le-length test xs)
@@ -89,20 +76,12 @@ filter_few test xs = omega (arith, length-filter test xs, count_by-le-length tes
 -- there is always at least the move that names nothing
 weight_one : (kind : Kind) → 1 ≤ weight kind
 weight_one Pawn = omega arith
-weight_one Knight = omega arith
-weight_one Bishop = omega arith
-weight_one Rook = omega arith
-weight_one Queen = omega arith
-weight_one King = omega arith
+weight_one _ = omega arith
 
 -- a man that promotes is a pawn
 promotes_weight : (side : Colour) (kind : Kind) (b : ℕ) → promotes side kind b ≡ true → weight kind ≡ 4
 promotes_weight side Pawn b h = refl
-promotes_weight side Knight b h = absurd (true≢false (sym h))
-promotes_weight side Bishop b h = absurd (true≢false (sym h))
-promotes_weight side Rook b h = absurd (true≢false (sym h))
-promotes_weight side Queen b h = absurd (true≢false (sym h))
-promotes_weight side King b h = absurd (true≢false (sym h))
+promotes_weight side _ b h = absurd (true≢false (sym h))
 
 promotions_size : (a b : ℕ) → length (promotions_between a b) ≡ 4
 unfolding promotion_kinds

@@ -24,11 +24,7 @@ use Rattle.chess_moves.proofs.Pieces.{Splits, pieces_none, from_pieces}
 moves_as_is : (p : State) (kind : Kind) (m : MoveParts) → moves_as p kind m ≡ (is_pseudo_target p kind m.from m.to && promotion_fits p.side kind m)
 unfolding moves_as is_pseudo_target
 moves_as_is p Pawn m = refl
-moves_as_is p Knight m = refl
-moves_as_is p Bishop m = refl
-moves_as_is p Rook m = refl
-moves_as_is p Queen m = refl
-moves_as_is p King m = refl
+moves_as_is p _ m = refl
 
 -- so its moves are pseudo-legal
 pub pseudo_is : (p : State) (kind : Kind) (m : MoveParts) → look p m.from ≡ cell_of p.side kind → is_pseudo p m ≡ (is_pseudo_target p kind m.from m.to && promotion_fits p.side kind m)
@@ -77,10 +73,6 @@ go_reach p Pawn a b h =
       ]
       | inr x ↦ or_left _ (is_forward p.side 16 a b) (or_left _ (is_forward p.side 8 a b) (pawn_attacks p a b (and_parts _ _ x).0))
     ]
-go_reach p Knight a b h = (and_parts _ _ h).0
-go_reach p Bishop a b h = (and_parts _ _ h).0
-go_reach p Rook a b h = (and_parts _ _ h).0
-go_reach p Queen a b h = (and_parts _ _ h).0
 go_reach p King a b h =
     elim (or_cases (moves_as_it_attacks p King (move_to a b None) || castles p KingSide (move_to a b None)) (castles p QueenSide (move_to a b None)) h) [
       | inl s ↦ or_left _ (reached p.side QueenSide == b) (elim (or_cases (moves_as_it_attacks p King (move_to a b None)) (castles p KingSide (move_to a b None)) s) [
@@ -89,6 +81,7 @@ go_reach p King a b h =
       ])
       | inr x ↦ or_right (attacks_from p King a b || reached p.side KingSide == b) _ (eq-eqb (reached p.side QueenSide) b (sym (castling_parts p QueenSide (move_to a b None) x).to))
     ]
+go_reach p _ a b h = (and_parts _ _ h).0
 
 -- what is not pseudo-legal is not legal
 pub not_pseudo : (p : State) (m : MoveParts) → is_pseudo p m ≡ false → is_legal p m ≡ false

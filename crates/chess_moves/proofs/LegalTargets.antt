@@ -173,11 +173,8 @@ module _ (p : State) (setup : IsSetup p) (a b : ℕ) (ha : a < 64) (hb : b < 64)
   pub man_go : (kind : Kind) → is_king kind ≡ false → is_pawn kind ≡ false → is_pseudo_target p kind a b ≡ is_plain_target p kind a b
   unfolding is_pseudo_target is_plain_target
   man_go Pawn not_king not_pawn = absurd (true≢false not_pawn)
-  man_go Knight not_king not_pawn = refl
-  man_go Bishop not_king not_pawn = refl
-  man_go Rook not_king not_pawn = refl
-  man_go Queen not_king not_pawn = refl
   man_go King not_king not_pawn = absurd (true≢false not_king)
+  man_go _ not_king not_pawn = refl
 
   -- the king
   pub king_lands :

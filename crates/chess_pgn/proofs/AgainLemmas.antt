@@ -18,7 +18,7 @@ use Rattle.chess_pgn.specs.Layout.{in_lines}
 use Rattle.chess_pgn.specs.Reading.{IsAtFront, remarks}
 use Rattle.chess_pgn.specs.Written.{comment_text, game_text, moves_text, movetext, outcome_text, tags_text}
 use Rattle.chess_pgn.specs.declared.outcome.Outcome.{Outcome}
-use Rattle.chess_pgn.specs.declared.outcome.Outcome.TheVariants.{WhiteWins, BlackWins, Draw, Unfinished}
+use Rattle.chess_pgn.specs.declared.outcome.Outcome.TheVariants.{WhiteWins}
 use Rattle.chess_pgn.specs.declared.place.Place.{Place}
 use Rattle.chess_pgn.specs.declared.place.Place.TheVariants.{GameStart, LineStart}
 use Rattle.chess_pgn.proofs.FenTextLemmas.{fen_value}
@@ -37,9 +37,7 @@ use Rattle.chess_pgn.proofs.TagTextLemmas.{HasHead, behind_blanks, given_text, t
 
 marker_single : (o : Outcome) → is_single false (32 ∷ outcome_text o) ≡ true
 marker_single WhiteWins = refl
-marker_single BlackWins = refl
-marker_single Draw = refl
-marker_single Unfinished = refl
+marker_single _ = refl
 
 movetext_single : (tree : GameTree) (o : Outcome) → IsComment tree.comment → AreWritable tree.start tree.below → is_single false (movetext tree o) ≡ true
 movetext_single tree o is w =

@@ -63,6 +63,15 @@ taken_run stands p g b bytes item next is e found =
     let k = is text rest (run_of p b bytes e) in
     at_pair stands (b ∷ bytes) text (g text) item rest next (run_is p (λ text rest. Some (g text, rest)) (b ∷ bytes) _ found) (sym (take-append-drop n (b ∷ bytes))) k.0 k.1
 
+-- a byte and the longest run behind it, whatever is found there
+run_behind : (stands : Item → Bool) (b : ℕ) (p : ℕ → Bool) (f : List ℕ → List ℕ → Found)
+    → ((text rest : List ℕ) (item : Item) (next : List ℕ) → Each p text → EndsRun p rest → f text rest ≡ Some (item, next) → Parted stands (b ∷ text ++ rest) item next)
+    → (bytes : List ℕ) (item : Item) (next : List ℕ) → run_at p f bytes ≡ Some (item, next) → Parted stands (b ∷ bytes) item next
+run_behind stands b p f ends bytes item next found =
+    let n = prefix_len p bytes in
+    let e : b ∷ take n bytes ++ drop n bytes ≡ b ∷ bytes = ap (λ (x : List ℕ). b ∷ x) (take-append-drop n bytes) in
+    subst (λ (x : List ℕ). Parted stands x item next) e (ends (take n bytes) (drop n bytes) item next (prefix_each p bytes) (prefix_stops p bytes) (run_is p f bytes _ found))
+
 -- ---- words, numbers and comments
 
 word_spelled : (start : Bool) (w next : List ℕ) → IsRun is_word_byte w next → (stands_outside start (word_item w) ≡ true) × IsSpelled (word_item w) w next
@@ -98,10 +107,7 @@ dollar_ends start (d ∷ ds) rest item next each stops found =
     (λ n h. let s = small_is (digits_value 0 (d ∷ ds)) n h in inl (d ∷ ds, refl, record { some = λ z. cc; each = each; stops = stops }, s.0, s.1))
 
 dollar_taken : (start : Bool) (bytes : List ℕ) (item : Item) (next : List ℕ) → run_at is_digit digits_found bytes ≡ Some (item, next) → Parted (stands_outside start) (36 ∷ bytes) item next
-dollar_taken start bytes item next found =
-    let n = prefix_len is_digit bytes in
-    let e : 36 ∷ take n bytes ++ drop n bytes ≡ 36 ∷ bytes = ap (λ (x : List ℕ). 36 ∷ x) (take-append-drop n bytes) in
-    subst (λ (x : List ℕ). Parted (stands_outside start) x item next) e (dollar_ends start (take n bytes) (drop n bytes) item next (prefix_each is_digit bytes) (prefix_stops is_digit bytes) (run_is is_digit digits_found bytes _ found))
+dollar_taken start = run_behind (stands_outside start) 36 is_digit digits_found (dollar_ends start)
 
 brace_stop : (b : ℕ) → in_braces b ≡ false → b ≡ 125
 brace_stop b e = grind (arith, nat_tests)
@@ -113,10 +119,7 @@ brace_ends start t (b ∷ rest) item next each stops found =
     (rw (brace_stop b stops) (ap (λ (x : List ℕ). 123 ∷ x) (sym (append_assoc t (125 ∷ []) rest)))) refl (inl (refl, each))
 
 brace_taken : (start : Bool) (bytes : List ℕ) (item : Item) (next : List ℕ) → run_at in_braces braces_found bytes ≡ Some (item, next) → Parted (stands_outside start) (123 ∷ bytes) item next
-brace_taken start bytes item next found =
-    let n = prefix_len in_braces bytes in
-    let e : 123 ∷ take n bytes ++ drop n bytes ≡ 123 ∷ bytes = ap (λ (x : List ℕ). 123 ∷ x) (take-append-drop n bytes) in
-    subst (λ (x : List ℕ). Parted (stands_outside start) x item next) e (brace_ends start (take n bytes) (drop n bytes) item next (prefix_each in_braces bytes) (prefix_stops in_braces bytes) (run_is in_braces braces_found bytes _ found))
+brace_taken start = run_behind (stands_outside start) 123 in_braces braces_found (brace_ends start)
 
 line_of : (bytes : List ℕ) → IsToLineEnd (take (prefix_len in_line bytes) bytes) (drop (prefix_len in_line bytes) bytes)
 line_of bytes = record { each = prefix_each in_line bytes; stops = prefix_stops in_line bytes }

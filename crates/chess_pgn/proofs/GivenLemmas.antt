@@ -232,10 +232,7 @@ took_more taken item old new h goes = let more = goes h.0 h.1 in (more.0, more.2
 passed_over : (part : Part) (read : List (List ℕ × List ℕ)) (name value : List ℕ) (item : Item) → is_begun part ≡ false → may_part_tags item ≡ true
     → step (standing part read name value) item ≡ Some (standing part read name value)
 passed_over Nothing read name value item e g = rw g refl
-passed_over Name read name value item e g = absurd cc
-passed_over Opening read name value item e g = absurd cc
-passed_over Value read name value item e g = absurd cc
-passed_over Closing read name value item e g = absurd cc
+passed_over _ read name value item e g = absurd cc
 
 pub took_between : {A : Type 0} (taken : List Item) (item : Item) (header : Header A) → HasTaken taken header → is_begun header.part ≡ false → may_part_tags item ≡ true → HasTaken (taken ++ item ∷ []) header
 took_between taken item header h e g =

@@ -10,17 +10,14 @@ use Rattle.chess_pgn.specs.Tags.{is_tag_gap}
 use Rattle.chess_pgn.specs.steps.HeaderCode.{Heading, fresh, is_begun, is_spaced, step}
 use Rattle.chess_pgn.specs.steps.OtherCode.{Finds, Sets}
 use Rattle.chess_pgn.specs.declared.reader.header.Part.{Part}
-use Rattle.chess_pgn.specs.declared.reader.header.Part.TheVariants.{Closing, Name, Nothing, Opening, Value}
+use Rattle.chess_pgn.specs.declared.reader.header.Part.TheVariants.{Name, Nothing}
 
 abbrev pub standing : Part → List (List ℕ × List ℕ) → List ℕ → List ℕ → Heading
 standing part read name value = record { read = read; part = part; name = name; value = value }
 
 pub opens : (part : Part) (read : List (List ℕ × List ℕ)) (name value : List ℕ) → is_begun part ≡ false → step (standing part read name value) items.TagOpen ≡ Some (standing Name read name value)
 opens Nothing read name value e = refl
-opens Name read name value e = absurd cc
-opens Opening read name value e = absurd cc
-opens Value read name value e = absurd cc
-opens Closing read name value e = absurd cc
+opens _ read name value e = absurd cc
 
 -- white space between a tag's parts
 pub passed : (h : Heading) (item : Item) → is_spaced h.part && is_tag_gap item ≡ true → step h item ≡ Some h

@@ -79,11 +79,7 @@ capture_word false = tt
 piece_word : (kind : Kind) → IsLettered (piece_letter kind ∷ [])
 unfolding is_word_byte is_name_byte is_digit
 piece_word Pawn = record { each = (refl, tt); letter = refl }
-piece_word Knight = record { each = (refl, tt); letter = refl }
-piece_word Bishop = record { each = (refl, tt); letter = refl }
-piece_word Rook = record { each = (refl, tt); letter = refl }
-piece_word Queen = record { each = (refl, tt); letter = refl }
-piece_word King = record { each = (refl, tt); letter = refl }
+piece_word _ = record { each = (refl, tt); letter = refl }
 
 becoming_word : (promo : Option Kind) → Each is_word_byte (becoming_text promo)
 unfolding is_word_byte is_name_byte is_digit

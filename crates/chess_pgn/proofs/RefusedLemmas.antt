@@ -21,7 +21,7 @@ use Rattle.chess_pgn.specs.declared.fault.PgnFault.{PgnFault}
 use Rattle.chess_pgn.specs.declared.reader.Reader.{Reader}
 use Rattle.chess_pgn.specs.declared.reader.header.Header.{Header}
 use Rattle.chess_pgn.specs.declared.reader.header.Part.{Part}
-use Rattle.chess_pgn.specs.declared.reader.header.Part.TheVariants.{Closing, Name, Nothing, Opening, Value}
+use Rattle.chess_pgn.specs.declared.reader.header.Part.TheVariants.{Nothing}
 use Rattle.chess_pgn.specs.declared.reader.moves.Interrupted.{Interrupted}
 use Rattle.chess_pgn.proofs.ChainLemmas.{InHead, InMovetext, Moving, Progress, movetext_first}
 use Rattle.chess_pgn.proofs.DerivedLemmas.{read_again}
@@ -100,11 +100,7 @@ stray_step Nothing read name value (items.Name n) e t = refl
 stray_step Nothing read name value items.Quote e t = refl
 stray_step Nothing read name value (items.Stretch x) e t = refl
 stray_step Nothing read name value (items.Escaped b) e t = refl
-stray_step Nothing read name value _ e t = absurd cc
-stray_step Name read name value item e t = absurd cc
-stray_step Opening read name value item e t = absurd cc
-stray_step Value read name value item e t = absurd cc
-stray_step Closing read name value item e t = absurd cc
+stray_step _ read name value _ e t = absurd cc
 
 -- ---- the movetext
 

@@ -88,17 +88,7 @@ item_sound (items.Name name) text next e = record { some = subst (λ (x : List �
 item_sound (items.Stretch t) text next (e, inl run) = subst IsValue (sym e) (plain_value text run.each)
 item_sound (items.Stretch t) text next (e, inr slash) = subst IsValue (sym (e ∙ slash.0)) (refl, tt)
 item_sound (items.Escaped b) text next e = escapable_in_line b e.0
-item_sound items.Mark text next e = tt
-item_sound (items.Blank b) text next e = tt
-item_sound items.Hidden text next e = tt
-item_sound items.Skipped text next e = tt
-item_sound (items.Word w) text next e = tt
-item_sound items.Open text next e = tt
-item_sound items.Close text next e = tt
-item_sound (items.Marker o) text next e = tt
-item_sound items.TagOpen text next e = tt
-item_sound items.TagClose text next e = tt
-item_sound items.Quote text next e = tt
+item_sound _ text next e = tt
 
 pub spelled_sound : (place : Place) (input : List ℕ) (is : List Item) (rest : List ℕ) → Spells place input is rest → AreSoundItems is
 spelled_sound place input [] rest s = tt

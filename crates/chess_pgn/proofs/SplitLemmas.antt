@@ -152,7 +152,6 @@ first_after place (items.Word word) h e = refl
 first_after place (items.Nag n) h e = refl
 first_after place items.Open h e = refl
 first_after place items.Close h e = refl
-first_after place (items.Marker outcome) h e = absurd cc
 first_after place _ h e = absurd cc
 
 -- behind movetext that has begun is a place outside of tags
@@ -183,11 +182,7 @@ bracket_item place k ks more rest out s =
 pub nothing_found : (place : Place) → item_at place [] ≡ None
 unfolding item_at start_at outside_at tag_at value_at
 nothing_found GameStart = refl
-nothing_found LineStart = refl
-nothing_found InLine = refl
-nothing_found TagLineStart = refl
-nothing_found InTag = refl
-nothing_found InValue = refl
+nothing_found _ = refl
 
 pub none_some : {A : Type 0} (x : A) (o : Option A) → o ≡ Some x → o ≡ None → ⊥
 none_some x o e h = (let z : Some x ≡ None = sym e ∙ h in cc)

@@ -208,11 +208,7 @@ module _ {X T : Type 0} (comes : X → List ℕ → X → Type 0) (at_hand : X �
   -- whatever stopped it, it took some items
   took_after : (new : X) (u : T) (pieces : List (List ℕ)) (at : ℕ) (place : Place) (white : Bool) (why : Stop) → AfterRun comes at_hand all sound size takes limit old pieces new t u at place white why → (items : List (ℕ × Item)) × Took comes at_hand all sound size takes limit old pieces new items at place white
   took_after new u pieces at place white stop.Full a = (_, a.took)
-  took_after new u pieces at place white stop.Left a = (_, a.took)
-  took_after new u pieces at place white (stop.Refused fault) a = (_, a.took)
-  took_after new u pieces at place white stop.End a = (_, a.took)
-  took_after new u pieces at place white stop.NoItem a = (_, a.took)
-  took_after new u pieces at place white stop.TooLarge a = (_, a.took)
+  took_after new u pieces at place white _ a = (_, a.took)
 
   pub sound_after : (new : X) (u : T) (pieces : List (List ℕ)) (at : ℕ) (place : Place) (white : Bool) (why : Stop) → AfterRun comes at_hand all sound size takes limit old pieces new t u at place white why → sound new
   sound_after new u pieces at place white why a = (took_after new u pieces at place white why a).1.sound_still

@@ -3,24 +3,20 @@ use Rattle.std.specs.Prelude.{ℕ, List, codes}
 use Rattle.chess_pgn.specs.declared.fault.FaultKind.{FaultKind}
 use Rattle.chess_pgn.specs.declared.fault.FaultKind.TheVariants.{Token, Tag, Move, Variation, Deep, Truncated, Fen, Memory, TooLarge}
 
+-- a fault's number and its name
+abbrev pub told : FaultKind → ℕ × List ℕ
+told Token = (1, codes "Token")
+told Tag = (2, codes "Tag")
+told Move = (3, codes "Move")
+told Variation = (4, codes "Variation")
+told Deep = (5, codes "Deep")
+told Truncated = (6, codes "Truncated")
+told Fen = (7, codes "Fen")
+told Memory = (8, codes "Memory")
+told TooLarge = (9, codes "TooLarge")
+
 abbrev pub number_of : FaultKind → ℕ
-number_of Token = 1
-number_of Tag = 2
-number_of Move = 3
-number_of Variation = 4
-number_of Deep = 5
-number_of Truncated = 6
-number_of Fen = 7
-number_of Memory = 8
-number_of TooLarge = 9
+number_of fault = (told fault).0
 
 abbrev pub name_of : FaultKind → List ℕ
-name_of Token = codes "Token"
-name_of Tag = codes "Tag"
-name_of Move = codes "Move"
-name_of Variation = codes "Variation"
-name_of Deep = codes "Deep"
-name_of Truncated = codes "Truncated"
-name_of Fen = codes "Fen"
-name_of Memory = codes "Memory"
-name_of TooLarge = codes "TooLarge"
+name_of fault = (told fault).1

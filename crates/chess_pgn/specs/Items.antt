@@ -110,18 +110,14 @@ without_brace b = if b == byte "}" then byte ")" else b
 abbrev pub starts_line : Place → Bool
 starts_line GameStart = true
 starts_line LineStart = true
-starts_line InLine = false
 starts_line TagLineStart = true
-starts_line InTag = false
-starts_line InValue = false
+starts_line _ = false
 
 abbrev pub is_outside : Place → Bool
 is_outside GameStart = true
 is_outside LineStart = true
 is_outside InLine = true
-is_outside TagLineStart = false
-is_outside InTag = false
-is_outside InValue = false
+is_outside _ = false
 
 abbrev pub is_in_tag : Place → Bool
 is_in_tag TagLineStart = true

@@ -130,10 +130,8 @@ elsewhere Black White w v ne =
 pub same_wing : (c : Colour) (w v : Wing) → reached c w ≡ reached c v → w ≡ v
 same_wing c KingSide KingSide e = refl
 same_wing c QueenSide QueenSide e = refl
-same_wing White KingSide QueenSide e = absurd (omega arith)
-same_wing White QueenSide KingSide e = absurd (omega arith)
-same_wing Black KingSide QueenSide e = absurd (omega arith)
-same_wing Black QueenSide KingSide e = absurd (omega arith)
+same_wing White _ _ e = absurd (omega arith)
+same_wing Black _ _ e = absurd (omega arith)
 
 crossed_between : (c : Colour) (w : Wing) → is_between (king_home c) (rook_home c w) (crossed c w) ≡ true
 unfolding is_between

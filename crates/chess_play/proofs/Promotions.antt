@@ -4,7 +4,7 @@ use Rattle.std.proofs.lemmas.Bool.{cases_Bool, true≢false, eq-eqb, ne_eqb}
 use Rattle.chess_types.specs.declared.board.man.Colour.{Colour}
 use Rattle.chess_types.specs.declared.board.man.Colour.TheVariants.{White, Black}
 use Rattle.chess_types.specs.declared.board.man.Kind.{Kind}
-use Rattle.chess_types.specs.declared.board.man.Kind.TheVariants.{Pawn, Knight, Bishop, Rook, Queen, King}
+use Rattle.chess_types.specs.declared.board.man.Kind.TheVariants.{Pawn, King}
 use Rattle.chess_types.specs.declared.board.man.Man.{Man}
 use Rattle.chess_types.specs.board.Board.{Look}
 use Rattle.chess_types.specs.board.Squares.{rank_of}
@@ -37,23 +37,15 @@ mover_plain man promo h = rw (none_is promo h) refl
 
 promoted_king : (c : Colour) (promo : Option Kind) → (is_some promo && names_promotion promo) ≡ true →
     is_king (arriving (record { colour = c; kind = Pawn }) promo).kind ≡ false
-promoted_king c None h = refl
-promoted_king c (Some Pawn) h = refl
-promoted_king c (Some Knight) h = refl
-promoted_king c (Some Bishop) h = refl
-promoted_king c (Some Rook) h = refl
-promoted_king c (Some Queen) h = refl
 promoted_king c (Some King) h = absurd (true≢false (sym h))
+promoted_king c _ h = refl
 
 promoted_pawn : (c : Colour) (promo : Option Kind) → (is_some promo && names_promotion promo) ≡ true →
     is_pawn (arriving (record { colour = c; kind = Pawn }) promo).kind ≡ false
 promoted_pawn c None h = absurd (true≢false (sym h))
 promoted_pawn c (Some Pawn) h = absurd (true≢false (sym h))
-promoted_pawn c (Some Knight) h = refl
-promoted_pawn c (Some Bishop) h = refl
-promoted_pawn c (Some Rook) h = refl
-promoted_pawn c (Some Queen) h = refl
 promoted_pawn c (Some King) h = absurd (true≢false (sym h))
+promoted_pawn c _ h = refl
 
 -- a pawn never becomes a king
 pub pawn_king : (c : Colour) (m : MoveParts) → pawn_promotion_fits c m ≡ true → is_king (arriving (record { colour = c; kind = Pawn }) m.promo).kind ≡ false

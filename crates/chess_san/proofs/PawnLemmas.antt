@@ -4,7 +4,7 @@ use Rattle.std.proofs.lemmas.Bool.{and_parts, and_from, and_right, or_from, or_l
 use Rattle.chess_types.specs.declared.board.man.Colour.{Colour}
 use Rattle.chess_types.specs.declared.board.man.Colour.TheVariants.{White, Black}
 use Rattle.chess_types.specs.declared.board.man.Kind.{Kind}
-use Rattle.chess_types.specs.declared.board.man.Kind.TheVariants.{Pawn, Knight, Bishop, Rook, Queen, King}
+use Rattle.chess_types.specs.declared.board.man.Kind.TheVariants.{Pawn}
 use Rattle.chess_types.specs.declared.board.man.Man.{Man}
 use Rattle.chess_types.specs.board.Board.{Look}
 use Rattle.chess_types.specs.board.Squares.{file_of}
@@ -88,11 +88,7 @@ takes_captures p man m pawn takes =
 
 pub pawn_is : (kind : Kind) → is_pawn kind ≡ true → kind ≡ Pawn
 pawn_is Pawn h = refl
-pawn_is Knight h = absurd (true≢false (sym h))
-pawn_is Bishop h = absurd (true≢false (sym h))
-pawn_is Rook h = absurd (true≢false (sym h))
-pawn_is Queen h = absurd (true≢false (sym h))
-pawn_is King h = absurd (true≢false (sym h))
+pawn_is _ h = absurd (true≢false (sym h))
 
 pawn_move : (p : State) (m : MoveParts) (a : Mover p m) → a.man.kind ≡ Pawn → PawnMove p.side (look p) p.target m.from m.to
 unfolding moves_as

@@ -72,11 +72,7 @@ digit_plain r = rw (ne_eqb 43 (49 + r) (λ e. omega arith), ne_eqb 35 (49 + r) (
 promotion_plain : (to : ℕ) (promo : Option Kind) → Unmarked (square_text to ++ becoming_text promo)
 promotion_plain to None = digit_plain (rank_of to)
 promotion_plain to (Some Pawn) = refl
-promotion_plain to (Some Knight) = refl
-promotion_plain to (Some Bishop) = refl
-promotion_plain to (Some Rook) = refl
-promotion_plain to (Some Queen) = refl
-promotion_plain to (Some King) = refl
+promotion_plain to _ = refl
 
 pub piece_plain : (kind : Kind) (origin : Origin) (taken : Bool) (to : ℕ) → Unmarked (piece_text kind origin taken to)
 unfolding piece_text

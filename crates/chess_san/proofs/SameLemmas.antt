@@ -5,7 +5,7 @@ use Rattle.std.proofs.lemmas.Bool.{and_parts, and_from, true≢false, eqb-true, 
 use Rattle.std.proofs.lemmas.List.Folds.{list_any_at}
 use Rattle.chess_types.specs.declared.board.man.Colour.{Colour}
 use Rattle.chess_types.specs.declared.board.man.Kind.{Kind}
-use Rattle.chess_types.specs.declared.board.man.Kind.TheVariants.{Pawn, Knight, Bishop, Rook, Queen, King}
+use Rattle.chess_types.specs.declared.board.man.Kind.TheVariants.{Pawn}
 use Rattle.chess_types.specs.declared.board.man.Man.{Man}
 use Rattle.chess_types.specs.declared.board.position.Wing.{Wing}
 use Rattle.chess_types.specs.steps.ManCode.{kind_of, kind_of-number}
@@ -46,11 +46,7 @@ mover p m h =
 pub plain_promo : (p : State) (kind : Kind) (m : MoveParts) → is_pawn kind ≡ false → moves_as p kind m ≡ true → m.promo ≡ None
 unfolding moves_as
 plain_promo p Pawn m h moves = absurd (true≢false h)
-plain_promo p Knight m h moves = none_is _ (and_parts _ _ moves).1
-plain_promo p Bishop m h moves = none_is _ (and_parts _ _ moves).1
-plain_promo p Rook m h moves = none_is _ (and_parts _ _ moves).1
-plain_promo p Queen m h moves = none_is _ (and_parts _ _ moves).1
-plain_promo p King m h moves = none_is _ (and_parts _ _ moves).1
+plain_promo p _ m h moves = none_is _ (and_parts _ _ moves).1
 
 pub kind_is : (a b : Kind) → (kind_number a == kind_number b) ≡ true → a ≡ b
 kind_is a b h = sym (kind_of-number a) ∙ ap kind_of (eqb-true _ _ h) ∙ kind_of-number b

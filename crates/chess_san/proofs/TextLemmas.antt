@@ -3,7 +3,7 @@ use Rattle.std.proofs.Common.{◌≡◌, ◌≢◌, ℕ, ◌+◌, ◌<◌, Bool,
 use Rattle.std.specs.Option.{IfSome}
 use Rattle.std.proofs.lemmas.Bool.{le-leb, lt-leb, ne_eqb, true≢false}
 use Rattle.chess_types.specs.declared.board.man.Kind.{Kind}
-use Rattle.chess_types.specs.declared.board.man.Kind.TheVariants.{Pawn, Knight, Bishop, Rook, Queen, King}
+use Rattle.chess_types.specs.declared.board.man.Kind.TheVariants.{Pawn, King}
 use Rattle.chess_types.specs.board.Squares.{file_of, rank_of}
 use Rattle.chess_types.specs.board.Texts.{square_text, names_promotion}
 use Rattle.chess_san.specs.declared.form.Origin.{Origin}
@@ -33,13 +33,9 @@ square_read s low = rw (file_read (file_of s) (omega arith), rank_read (rank_of 
 
 pub ending_read : (promo : Option Kind) → names_promotion promo ≡ true → ending_in (becoming_text promo) ≡ Some promo
 unfolding ending_in promotion_in
-ending_read None h = refl
 ending_read (Some Pawn) h = absurd (true≢false (sym h))
-ending_read (Some Knight) h = refl
-ending_read (Some Bishop) h = refl
-ending_read (Some Rook) h = refl
-ending_read (Some Queen) h = refl
 ending_read (Some King) h = absurd (true≢false (sym h))
+ending_read _ h = refl
 
 -- three bytes end nothing, nor two of which the first is no =
 no_ending : (a b : ℕ) (rest : List ℕ) → a ≢ 61 → ending_in (a ∷ b ∷ rest) ≡ None

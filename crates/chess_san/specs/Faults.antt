@@ -3,12 +3,14 @@ use Rattle.std.specs.Prelude.{ℕ, List, codes}
 use Rattle.chess_san.specs.declared.fault.SanFault.{SanFault}
 use Rattle.chess_san.specs.declared.fault.SanFault.TheVariants.{Form, Illegal, Ambiguous}
 
+-- a fault's number and its name
+abbrev pub told : SanFault → ℕ × List ℕ
+told Form = (1, codes "Form")
+told Illegal = (2, codes "Illegal")
+told Ambiguous = (3, codes "Ambiguous")
+
 abbrev pub number_of : SanFault → ℕ
-number_of Form = 1
-number_of Illegal = 2
-number_of Ambiguous = 3
+number_of fault = (told fault).0
 
 abbrev pub name_of : SanFault → List ℕ
-name_of Form = codes "Form"
-name_of Illegal = codes "Illegal"
-name_of Ambiguous = codes "Ambiguous"
+name_of fault = (told fault).1

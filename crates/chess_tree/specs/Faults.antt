@@ -3,16 +3,16 @@ use Rattle.std.specs.Prelude.{ℕ, List, codes}
 use Rattle.chess_tree.specs.declared.fault.TreeFault.{TreeFault}
 use Rattle.chess_tree.specs.declared.fault.TreeFault.TheVariants.{NoSuch, AtRoot, Full, BadComment, Memory}
 
+-- a fault's number and its name
+abbrev pub told : TreeFault → ℕ × List ℕ
+told NoSuch = (1, codes "NoSuch")
+told AtRoot = (2, codes "AtRoot")
+told Full = (3, codes "Full")
+told BadComment = (4, codes "BadComment")
+told Memory = (5, codes "Memory")
+
 abbrev pub number_of : TreeFault → ℕ
-number_of NoSuch = 1
-number_of AtRoot = 2
-number_of Full = 3
-number_of BadComment = 4
-number_of Memory = 5
+number_of fault = (told fault).0
 
 abbrev pub name_of : TreeFault → List ℕ
-name_of NoSuch = codes "NoSuch"
-name_of AtRoot = codes "AtRoot"
-name_of Full = codes "Full"
-name_of BadComment = codes "BadComment"
-name_of Memory = codes "Memory"
+name_of fault = (told fault).1

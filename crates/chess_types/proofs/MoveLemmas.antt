@@ -5,7 +5,7 @@ use Rattle.std.proofs.lemmas.Bool.Decides.{nat_tests}
 use Rattle.chess_types.specs.declared.board.man.Colour.{Colour}
 use Rattle.chess_types.specs.declared.board.man.Colour.TheVariants.{White, Black}
 use Rattle.chess_types.specs.declared.board.man.Kind.{Kind}
-use Rattle.chess_types.specs.declared.board.man.Kind.TheVariants.{Pawn, Knight, Bishop, Rook, Queen, King}
+use Rattle.chess_types.specs.declared.board.man.Kind.TheVariants.{Pawn, Knight, King}
 use Rattle.chess_types.specs.declared.board.man.Man.{Man}
 use Rattle.chess_types.specs.board.Squares.{file_of}
 use Rattle.chess_types.specs.board.Attack.{leaps}
@@ -20,9 +20,7 @@ leaps_self c Knight a = grind (arith, nat_tests)
 leaps_self c King a = grind (arith, nat_tests)
 leaps_self White Pawn a = grind (arith, nat_tests)
 leaps_self Black Pawn a = grind (arith, nat_tests)
-leaps_self c Bishop a = refl
-leaps_self c Rook a = refl
-leaps_self c Queen a = refl
+leaps_self c _ a = refl
 
 pub ahead_file : (c : Colour) (a b : ℕ) → is_ahead c a b ≡ true → file_of a ≡ file_of b
 ahead_file White a b h = omega (arith, eqb-true b (a + 8) h)

@@ -5,7 +5,7 @@ use Rattle.std.proofs.lemmas.Bool.{and_parts, true≢false, eqb-true}
 use Rattle.chess_types.specs.declared.board.man.Colour.{Colour}
 use Rattle.chess_types.specs.declared.board.man.Colour.TheVariants.{White, Black}
 use Rattle.chess_types.specs.declared.board.man.Kind.{Kind}
-use Rattle.chess_types.specs.declared.board.man.Kind.TheVariants.{Pawn, Knight, Bishop, Rook, Queen, King}
+use Rattle.chess_types.specs.declared.board.man.Kind.TheVariants.{Pawn, King}
 use Rattle.chess_types.specs.declared.board.man.Man.{Man}
 use Rattle.chess_types.specs.board.Men.{kind_number, same_colour, same_kind, is_pawn, is_king, is_man}
 use Rattle.chess_types.specs.steps.ManCode.{kind_of, kind_of-number}
@@ -22,11 +22,7 @@ same_is Black Black h = refl
 
 pub kind_self : (k : Kind) → same_kind k k ≡ true
 kind_self Pawn = refl
-kind_self Knight = refl
-kind_self Bishop = refl
-kind_self Rook = refl
-kind_self Queen = refl
-kind_self King = refl
+kind_self _ = refl
 
 pub kind_is : (k l : Kind) → same_kind k l ≡ true → k ≡ l
 kind_is k l h = sym (kind_of-number k) ∙ ap kind_of (eqb-true (kind_number k) (kind_number l) h) ∙ kind_of-number l
@@ -49,17 +45,9 @@ none_is (Some x) h = absurd (true≢false (sym h))
 
 -- a pawn is no king
 pub pawn_no_king : (k : Kind) → is_pawn k ≡ true → is_king k ≡ false
-pawn_no_king Pawn h = refl
-pawn_no_king Knight h = refl
-pawn_no_king Bishop h = refl
-pawn_no_king Rook h = refl
-pawn_no_king Queen h = refl
 pawn_no_king King h = absurd (true≢false (sym h))
+pawn_no_king _ h = refl
 
 pub king_no_pawn : (kind : Kind) → is_king kind ≡ true → is_pawn kind ≡ false
 king_no_pawn Pawn h = absurd (true≢false (sym h))
-king_no_pawn Knight h = refl
-king_no_pawn Bishop h = refl
-king_no_pawn Rook h = refl
-king_no_pawn Queen h = refl
-king_no_pawn King h = refl
+king_no_pawn _ h = refl

@@ -7,7 +7,7 @@ use Rattle.chess_types.specs.board.Legal.{legal_moves}
 use Rattle.chess_types.specs.board.Lines.{Line as GameLine, last}
 use Rattle.chess_search.specs.Best.{best}
 use Rattle.chess_uci.specs.Placing.{placed}
-use Rattle.chess_uci.specs.Commands.{Command, Idle, Uci, IsReady, NewGame, Position, Unplaced, Go, Stop, Quit, SetOption, asked, without_memory, claims_set}
+use Rattle.chess_uci.specs.Commands.{Command, Idle, Position, Go, SetOption, asked, without_memory, claims_set}
 use Rattle.chess_uci.specs.Go.{fields}
 use Rattle.chess_uci.specs.Machine.{Event, Line, Starved, Slice, Moment, Search, State, Step, step, live_step, line_step, idle_command, busy_command, go_among, placed_at, set_claims, slice_step, slice_if, sliced, complete, moment_step, end_if, is_reached, begun}
 use Rattle.chess_uci.specs.Laws.{one, best_moves, cause, by_depth, by_time, by_line, by_command, at_once, is_stop}
@@ -27,28 +27,14 @@ claims_cause None s = refl
 claims_cause (Some c) s = refl
 
 idle_cause : (s : State) (c : Command) → best_moves (idle_command s c).0 ≡ one (by_command s.line c)
-idle_cause s Idle = refl
-idle_cause s Uci = refl
-idle_cause s IsReady = refl
-idle_cause s NewGame = refl
 idle_cause s (Position words) = placed_cause (placed words) s
-idle_cause s Unplaced = refl
 idle_cause s (Go words) = go_cause (legal_moves (last s.line)) (fields words).infinite (begun s words) s
-idle_cause s Stop = refl
-idle_cause s Quit = refl
 idle_cause s (SetOption words) = claims_cause (claims_set words) s
+idle_cause s _ = refl
 
 busy_cause : (x : Search) (s : State) (c : Command) → best_moves (busy_command x s c).0 ≡ one (is_stop c)
 busy_cause x s Idle = refl
-busy_cause x s Uci = refl
-busy_cause x s IsReady = refl
-busy_cause x s NewGame = refl
-busy_cause x s (Position words) = refl
-busy_cause x s Unplaced = refl
-busy_cause x s (Go words) = refl
-busy_cause x s Stop = refl
-busy_cause x s Quit = refl
-busy_cause x s (SetOption words) = refl
+busy_cause x s _ = refl
 
 line_cause : (s : State) (x : Option Search) (c : Command) → best_moves (line_step s x c).0 ≡ one (by_line s.line x c)
 line_cause s None c = idle_cause s c

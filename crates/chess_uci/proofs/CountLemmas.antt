@@ -8,7 +8,7 @@ use Rattle.chess_types.specs.board.Lines.{Line as GameLine, last}
 use Rattle.chess_search.specs.Best.{best}
 use Rattle.chess_uci.specs.Placing.{placed}
 use Rattle.chess_uci.specs.declared.reply.Reply.{Reply}
-use Rattle.chess_uci.specs.Commands.{Command, Idle, Uci, IsReady, NewGame, Position, Unplaced, Go, Stop, Quit, SetOption, asked, without_memory, claims_set}
+use Rattle.chess_uci.specs.Commands.{Command, Position, Go, Stop, Quit, SetOption, asked, without_memory, claims_set}
 use Rattle.chess_uci.specs.Go.{fields}
 use Rattle.chess_uci.specs.Machine.{Event, Line, Starved, Slice, Moment, Search, State, Step, Turn, step, step_if, live_step, line_step, idle_command, busy_command, go_among, placed_at, set_claims, slice_step, slice_if, sliced, complete, moment_step, end_if, is_reached, begun}
 use Rattle.chess_uci.specs.Laws.{replies, after_events, one, best_moves, is_best_move, is_go, is_quit, says_go, says_quit, running, is_taken, taken, unfinished}
@@ -31,28 +31,16 @@ claims_both None s e = rw e refl
 claims_both (Some c) s e = rw e refl
 
 idle_both : (s : State) (c : Command) → s.search ≡ None → is_quit c ≡ false → both (idle_command s c) ≡ one (is_go c)
-idle_both s Idle e q = rw e refl
-idle_both s Uci e q = rw e refl
-idle_both s IsReady e q = rw e refl
-idle_both s NewGame e q = rw e refl
 idle_both s (Position words) e q = placed_both (placed words) s e
-idle_both s Unplaced e q = rw e refl
 idle_both s (Go words) e q = go_both (legal_moves (last s.line)) (fields words).infinite (begun s words) s e
-idle_both s Stop e q = rw e refl
 idle_both s Quit e q = cc
 idle_both s (SetOption words) e q = claims_both (claims_set words) s e
+idle_both s _ e q = rw e refl
 
 busy_both : (x : Search) (s : State) (c : Command) → s.search ≡ Some x → is_quit c ≡ false → both (busy_command x s c) ≡ 1
-busy_both x s Idle e q = rw e refl
-busy_both x s Uci e q = rw e refl
-busy_both x s IsReady e q = rw e refl
-busy_both x s NewGame e q = rw e refl
-busy_both x s (Position words) e q = rw e refl
-busy_both x s Unplaced e q = rw e refl
-busy_both x s (Go words) e q = rw e refl
 busy_both x s Stop e q = refl
 busy_both x s Quit e q = cc
-busy_both x s (SetOption words) e q = rw e refl
+busy_both x s _ e q = rw e refl
 
 -- the same of a turn
 abbrev turn_both : Turn → ℕ
@@ -113,26 +101,9 @@ step_both s event q = step_if_both s.ended s event q
 
 -- `quit` is replied nothing
 live_quit : (s : State) (x : Option Search) (c : Command) → is_quit c ≡ true → line_step s x c ≡ ([], record s { ended = true; search = None })
-live_quit s None Idle q = cc
-live_quit s None Uci q = cc
-live_quit s None IsReady q = cc
-live_quit s None NewGame q = cc
-live_quit s None (Position words) q = cc
-live_quit s None Unplaced q = cc
-live_quit s None (Go words) q = cc
-live_quit s None Stop q = cc
 live_quit s None Quit q = refl
-live_quit s None (SetOption words) q = cc
-live_quit s (Some x) Idle q = cc
-live_quit s (Some x) Uci q = cc
-live_quit s (Some x) IsReady q = cc
-live_quit s (Some x) NewGame q = cc
-live_quit s (Some x) (Position words) q = cc
-live_quit s (Some x) Unplaced q = cc
-live_quit s (Some x) (Go words) q = cc
-live_quit s (Some x) Stop q = cc
 live_quit s (Some x) Quit q = refl
-live_quit s (Some x) (SetOption words) q = cc
+live_quit s _ _ q = cc
 
 live_step_quit : (s : State) (event : Event) → says_quit event ≡ true → live_step s event ≡ ([], record s { ended = true; search = None })
 live_step_quit s (Line bytes) q = live_quit s s.search (asked bytes) q
@@ -188,16 +159,8 @@ joined true first rest search old_search taken_here taken_rest unfinished_rest h
 joined false first rest search old_search taken_here taken_rest unfinished_rest here later none = omega (arith, here refl)
 
 no_quit_is_go : (c : Command) → is_quit c ≡ true → is_go c ≡ false
-no_quit_is_go Idle q = cc
-no_quit_is_go Uci q = cc
-no_quit_is_go IsReady q = cc
-no_quit_is_go NewGame q = cc
-no_quit_is_go (Position words) q = cc
-no_quit_is_go Unplaced q = cc
-no_quit_is_go (Go words) q = cc
-no_quit_is_go Stop q = cc
 no_quit_is_go Quit q = refl
-no_quit_is_go (SetOption words) q = cc
+no_quit_is_go _ q = cc
 
 not_go : (event : Event) → says_quit event ≡ true → says_go event ≡ false
 not_go (Line bytes) q = no_quit_is_go (asked bytes) q

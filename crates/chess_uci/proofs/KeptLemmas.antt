@@ -55,16 +55,11 @@ busy_good : (s : State) (event : Event) (x : Search) (c : Command) → IsKept s.
     Good s.line (Some x) event (busy_command x s c)
 busy_good s event x Idle k e f = (k, tt)
 busy_good s event x Uci k e f = (k, (tt, (tt, (tt, (tt, tt)))))
-busy_good s event x IsReady k e f = (k, (tt, tt))
-busy_good s event x NewGame k e f = (k, (tt, tt))
-busy_good s event x (Position words) k e f = (k, (tt, tt))
-busy_good s event x Unplaced k e f = (k, (tt, tt))
-busy_good s event x (Go words) k e f = (k, (tt, tt))
 busy_good s event x Stop k e f =
     let kept : IsKept s.line (Some x) = subst (IsKept s.line) e k in
     (tt, (ap (λ b. chosen b x.roots) (kept.0 ∙ ap (best_done s.line x) (sym f)), tt))
 busy_good s event x Quit k e f = (tt, tt)
-busy_good s event x (SetOption words) k e f = (k, (tt, tt))
+busy_good s event x _ k e f = (k, (tt, tt))
 
 -- the same of a turn
 abbrev GoodTurn : GameLine → Search → Event → Turn → Type 0

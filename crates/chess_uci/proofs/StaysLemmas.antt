@@ -4,7 +4,7 @@ use Rattle.std.specs.Prelude.{nat_lt}
 use Rattle.chess_types.specs.board.MoveParts.{MoveParts}
 use Rattle.chess_types.specs.board.Lines.{Line as GameLine}
 use Rattle.chess_search.specs.Best.{best}
-use Rattle.chess_uci.specs.Commands.{Command, Idle, Uci, IsReady, NewGame, Position, Unplaced, Go, Stop, Quit, SetOption, asked, without_memory}
+use Rattle.chess_uci.specs.Commands.{Command, Stop, Quit, asked, without_memory}
 use Rattle.chess_uci.specs.Machine.{Event, Line, Starved, Slice, Moment, Search, State, Step, beginning, step_if, live_step, line_step, busy_command, slice_step, slice_if, sliced, complete, moment_step, end_if, is_reached}
 use Rattle.chess_uci.specs.Laws.{after_events, KeepsSearching, SearchStays}
 
@@ -12,16 +12,9 @@ here : (s : State) (x : Search) → s.search ≡ Some x → KeepsSearching s.lin
 here s x e = subst (KeepsSearching s.line x s.line) (sym e) (refl, refl, refl, refl, refl, refl)
 
 busy_stays : (s : State) (x : Search) (c : Command) → s.search ≡ Some x → KeepsSearching s.line x (busy_command x s c).1.line (busy_command x s c).1.search
-busy_stays s x Idle e = here s x e
-busy_stays s x Uci e = here s x e
-busy_stays s x IsReady e = here s x e
-busy_stays s x NewGame e = here s x e
-busy_stays s x (Position words) e = here s x e
-busy_stays s x Unplaced e = here s x e
-busy_stays s x (Go words) e = here s x e
 busy_stays s x Stop e = tt
 busy_stays s x Quit e = tt
-busy_stays s x (SetOption words) e = here s x e
+busy_stays s x _ e = here s x e
 
 complete_stays : (l : GameLine) (last infinite : Bool) (x : Search) (best : Option (MoveParts × ℤ)) → KeepsSearching l x l (complete last infinite x best).1
 complete_stays l false infinite x best = (refl, refl, refl, refl, refl, refl)

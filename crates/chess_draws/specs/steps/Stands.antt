@@ -1,6 +1,6 @@
 -- What is kept of a position to compare it with others.
---   holds_straight, holds_short   a man stands there that is kept among those that go along ranks and files, or with the pawns: the
---                   kings are in both
+--   holds_straight_or_king   a man stands there that is kept among those that go along ranks and files
+--   holds_short     one that is kept with the pawns; the kings are in both
 --   IsMenOf         the sets of squares are those of what stands on a board
 --   IsStandOf       what is kept is that of a position
 --   same_ply        it agrees with what is kept of the position before a ply
@@ -21,9 +21,9 @@ use Rattle.chess_draws.specs.declared.stand.Stand.{Stand}
 use Rattle.chess_draws.specs.declared.ply.Ply.{Ply}
 
 -- a rook, a queen or a king stands there
-abbrev pub holds_straight : Option Man → Bool
-holds_straight None = false
-holds_straight (Some man) = is_straight man.kind || is_king man.kind
+abbrev pub holds_straight_or_king : Option Man → Bool
+holds_straight_or_king None = false
+holds_straight_or_king (Some man) = is_straight man.kind || is_king man.kind
 
 -- a pawn or a king stands there
 abbrev pub holds_short : Option Man → Bool
@@ -34,7 +34,7 @@ holds_short (Some man) = is_pawn man.kind || is_king man.kind
 pub record IsMenOf (men : Men) (look : Look) : Type 0 where
   pub white : Gathers men.white (is_of White) look
   pub black : Gathers men.black (is_of Black) look
-  pub straight : Gathers men.straight holds_straight look
+  pub straight : Gathers men.straight holds_straight_or_king look
   pub diagonal : Gathers men.diagonal holds_diagonal look
   pub short : Gathers men.short holds_short look
 

@@ -81,11 +81,9 @@ step_in Nothing h item = outside_step h item
 
 -- whether white space may come next, outside of tags apart
 abbrev pub is_spaced : Part → Bool
-is_spaced Name = true
-is_spaced Opening = true
 is_spaced Value = false
-is_spaced Closing = true
 is_spaced Nothing = false
+is_spaced _ = true
 
 abbrev pub step : Heading → Item → Option Heading
 step h item = if is_spaced h.part && is_tag_gap item then Some h else step_in h.part h item

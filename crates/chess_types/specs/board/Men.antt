@@ -41,19 +41,11 @@ same_kind k l = kind_number k == kind_number l
 
 abbrev pub is_pawn : Kind → Bool
 is_pawn Pawn = true
-is_pawn Knight = false
-is_pawn Bishop = false
-is_pawn Rook = false
-is_pawn Queen = false
-is_pawn King = false
+is_pawn _ = false
 
 abbrev pub is_king : Kind → Bool
-is_king Pawn = false
-is_king Knight = false
-is_king Bishop = false
-is_king Rook = false
-is_king Queen = false
 is_king King = true
+is_king _ = false
 
 -- a man of this colour and kind stands there
 abbrev pub is_man : Option Man → Colour → Kind → Bool

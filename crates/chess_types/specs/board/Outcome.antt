@@ -32,12 +32,8 @@ unfoldable pub status : Line → Status
 status line = status_at (last line) (repetitions line)
 
 abbrev pub is_play : Status → Bool
-is_play Mate = false
-is_play Stalemate = false
-is_play Dead = false
-is_play Fivefold = false
-is_play Seventyfive = false
 is_play Play = true
+is_play _ = false
 
 -- three times the same position (9.2), 50 moves without a capture or a pawn's move (9.3); neither where the game is over
 abbrev pub claims_at : Bool → ℕ → ℕ → Claims

@@ -9,26 +9,20 @@ use Rattle.std.specs.FinSet.{FinSet, contains}
 use Rattle.chess_types.specs.declared.board.kept.Kept.{Kept}
 use Rattle.chess_types.specs.declared.board.man.Man.{Man}
 use Rattle.chess_types.specs.declared.board.man.Kind.{Kind}
-use Rattle.chess_types.specs.declared.board.man.Kind.TheVariants.{Pawn, Knight, Bishop, Rook, Queen, King}
+use Rattle.chess_types.specs.declared.board.man.Kind.TheVariants.{Bishop, Rook, Queen}
 use Rattle.chess_types.specs.declared.board.man.Colour.TheVariants.{White, Black}
 use Rattle.chess_types.specs.board.Board.{Look}
 use Rattle.chess_types.specs.board.Men.{is_of, is_king}
 
 abbrev pub is_straight : Kind → Bool
-is_straight Pawn = false
-is_straight Knight = false
-is_straight Bishop = false
 is_straight Rook = true
 is_straight Queen = true
-is_straight King = false
+is_straight _ = false
 
 abbrev pub is_diagonal : Kind → Bool
-is_diagonal Pawn = false
-is_diagonal Knight = false
 is_diagonal Bishop = true
-is_diagonal Rook = false
 is_diagonal Queen = true
-is_diagonal King = false
+is_diagonal _ = false
 
 -- a king stands there
 abbrev pub holds_king : Option Man → Bool

@@ -5,6 +5,7 @@ use Rattle.chess_types.specs.board.Position.{State}
 use Rattle.chess_moves.proofs.Bound.{legal_few}
 use Rattle.chess_moves.proofs.Reach.{own_each, own_listed}
 use Rattle.chess_moves.proofs.SetCounts.{count_split}
+use Rattle.chess_moves.proofs.Still.{still_first}
 use Rattle.chess_moves.proofs.counting.count_up_to.Goals as goal
 use Rattle.chess_moves.proofs.counting.count_up_to.Goals.{After-count_from-count}
 
@@ -16,8 +17,7 @@ loop-from-init c =
     record {
       can = tt;
       finite = tt;
-      position = refl;
-      words = refl;
+      still = still_first;
       own = own_each p c.own_men-own.result c.own_men-own.ensures.own c.into_iter-from-iterator.result xs;
       left = zero-add (length (filter (is_legal p) (flat_map moves_from c.into_iter-from-iterator.result)))
           ∙ ap length (own_listed p c.own_men-own.result c.own_men-own.ensures.own c.into_iter-from-iterator.result xs {list = []} refl).is;
@@ -32,7 +32,7 @@ counted c =
       legal_few p c.own_men-own.ensures.few,
       c.count_from-count.ensures.count,
       c.loop-from.invariant.left,
-      count_split p c.loop-from.live.position c.in-Some.from c.loop-from.from-iterator c.next.new.self c.loop-from.invariant.position c.in-Some.ensures.steps,
+      count_split p c.loop-from.live.position c.in-Some.from c.loop-from.from-iterator c.next.new.self c.loop-from.invariant.still.position c.in-Some.ensures.steps,
     )
 
 pub overflow_add-count : goal.overflow_add-count

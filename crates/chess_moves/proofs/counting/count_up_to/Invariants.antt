@@ -3,6 +3,7 @@ use Rattle.std.specs.List.{list_all, flat_map}
 use Rattle.chess_types.specs.board.Legal.{is_legal, moves_from, legal_moves}
 use Rattle.chess_types.specs.board.Men.{is_of}
 use Rattle.chess_types.specs.board.Position.{look}
+use Rattle.chess_moves.proofs.Still.{IsStill}
 use Rattle.chess_moves.proofs.counting.count_up_to.Given as goal
 
 -- a man of the side to move stands on each square still to come, and the moves counted and those from there are all
@@ -10,8 +11,7 @@ abbrev pub invariant-loop-from : goal.invariant-loop-from
 invariant-loop-from l = record {
   can : (goal.iterator-loop-from).can_next l.from-iterator;
   finite : (goal.iterator-loop-from).is_finite l.from-iterator;
-  position : l.live.position ≡ l.fn.live.position;
-  words : l.live.words ≡ l.fn.live.words;
+  still : IsStill l.live l.fn.live;
   own : list_all (λ s. is_of l.fn.live.position.side (look l.fn.live.position s)) l.from-iterator ≡ true;
   left : l.count + length (filter (is_legal l.fn.live.position) (flat_map moves_from l.from-iterator)) ≡ length (legal_moves l.fn.live.position);
 }

@@ -1,10 +1,11 @@
-use Rattle.std.proofs.Common.{◌≤◌, length, ap, ◌∙◌, refl, arith}
+use Rattle.std.proofs.Common.{◌≤◌, length, ap, ◌∙◌, arith}
 use Rattle.std.specs.List.{flat_map}
 use Rattle.chess_types.specs.board.Legal.{moves_from, legal_moves}
 use Rattle.chess_types.specs.board.Position.{State}
 use Rattle.chess_moves.proofs.Bound.{legal_few}
 use Rattle.chess_moves.proofs.Pieces.{room_next, listed_end, next_piece}
 use Rattle.chess_moves.proofs.Reach.{own_each, own_listed}
+use Rattle.chess_moves.proofs.Still.{still_first}
 use Rattle.chess_moves.proofs.listing.moves_into.Goals as goal
 
 pub loop-from-init : goal.loop-from-init
@@ -14,8 +15,7 @@ loop-from-init c =
     record {
       can = tt;
       finite = tt;
-      position = refl;
-      words = refl;
+      still = still_first;
       own = own_each p c.own_men-own.result c.own_men-own.ensures.own c.into_iter-from-iterator.result xs;
       listed = own_listed p c.own_men-own.result c.own_men-own.ensures.own c.into_iter-from-iterator.result xs c.clear.ensures;
     }
@@ -25,7 +25,7 @@ unfolding legal_moves
 add_from-requires-clause-room c =
     let p : State = c.args.live.now.position in
     let few : length (legal_moves p) ≤ 432 = legal_few p c.own_men-own.ensures.few in
-    room_next c.loop-from.invariant.position c.loop-from.invariant.listed (next_piece moves_from c.in-Some.ensures.steps) (omega arith)
+    room_next c.loop-from.invariant.still.position c.loop-from.invariant.listed (next_piece moves_from c.in-Some.ensures.steps) (omega arith)
 
 pub returns-clause-listed : goal.returns-clause-listed
 unfolding legal_moves

@@ -1,6 +1,7 @@
-use Rattle.std.proofs.Common.{ap, refl, ◌∙◌}
+use Rattle.std.proofs.Common.{ap, ◌∙◌}
 use Rattle.chess_types.specs.board.Position.{State}
 use Rattle.chess_moves.specs.steps.Targets.{move_to}
+use Rattle.chess_moves.proofs.Still.{still_first}
 use Rattle.chess_moves.proofs.SafeSteps.{found_first, found_next, found_all}
 use Rattle.chess_san.specs.Naming.{names}
 use Rattle.chess_san.specs.steps.Origins.{legal_and}
@@ -10,8 +11,7 @@ pub loop-from-init : goal.loop-from-init
 loop-from-init c = record {
   can = tt;
   finite = tt;
-  position = refl;
-  words = refl;
+  still = still_first;
   found = found_first (λ a. legal_and (names c.args.live.now.position c.args.form.now) c.args.live.now.position (move_to a c.args.to c.args.promo)) c.empty-named.ensures
       (c.into_iter-from-iterator.ensures.into_iter_gives ∙ c.iter-from-items.ensures.value);
 }
@@ -20,10 +20,9 @@ pub loop-from-preserved : goal.loop-from-preserved
 loop-from-preserved c = record {
   can = tt;
   finite = tt;
-  position = c.is_named-passes.ensures.position ∙ c.loop-from.invariant.position;
-  words = c.is_named-passes.ensures.words ∙ c.loop-from.invariant.words;
+  still = record { position = c.is_named-passes.ensures.position ∙ c.loop-from.invariant.still.position; words = c.is_named-passes.ensures.words ∙ c.loop-from.invariant.still.words };
   found = found_next c.loop-from.invariant.found c.insert_if.ensures
-      (c.is_named-passes.ensures.value ∙ ap (λ (p : State). legal_and (names p c.args.form.now) p (move_to c.in-Some.from c.args.to c.args.promo)) c.loop-from.invariant.position)
+      (c.is_named-passes.ensures.value ∙ ap (λ (p : State). legal_and (names p c.args.form.now) p (move_to c.in-Some.from c.args.to c.args.promo)) c.loop-from.invariant.still.position)
       c.in-Some.ensures.steps;
 }
 

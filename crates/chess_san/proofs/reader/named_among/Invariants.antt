@@ -1,5 +1,5 @@
-use Rattle.std.proofs.Common.{◌≡◌}
 use Rattle.chess_moves.specs.steps.Targets.{move_to}
+use Rattle.chess_moves.proofs.Still.{IsStill}
 use Rattle.chess_moves.proofs.SafeSteps.{FoundAmong}
 use Rattle.chess_san.specs.Naming.{names}
 use Rattle.chess_san.specs.steps.Origins.{legal_and}
@@ -9,7 +9,6 @@ abbrev pub invariant-loop-from : goal.invariant-loop-from
 invariant-loop-from l = record {
   can : (goal.iterator-loop-from).can_next l.from-iterator;
   finite : (goal.iterator-loop-from).is_finite l.from-iterator;
-  position : l.live.position ≡ l.fn.live.position;
-  words : l.live.words ≡ l.fn.live.words;
+  still : IsStill l.live l.fn.live;
   found : FoundAmong (λ s. legal_and (names l.fn.live.position l.form) l.fn.live.position (move_to s l.to l.promo)) l.fn.all l.named l.from-iterator;
 }

@@ -2,7 +2,7 @@ use Rattle.chess_types.specs.board.Board.{man_at}
 use Rattle.chess_types.specs.declared.board.man.Colour.TheVariants.{White, Black}
 use Rattle.chess_types.specs.board.Men.{holds_pawn, is_king_of}
 use Rattle.chess_types.specs.steps.KeptSets.{Gathers, holds_king, holds_straight}
-use Rattle.chess_draws.specs.steps.Stands.{holds_straight as holds_straight_or_king, holds_short}
+use Rattle.chess_draws.specs.steps.Stands.{holds_straight_or_king, holds_short}
 use Rattle.chess_draws.proofs.SetLemmas.{both_gather, kings_there, straight_or_king, pawn_or_king}
 use Rattle.chess_draws.proofs.men.Men.of.Goals as goal
 
