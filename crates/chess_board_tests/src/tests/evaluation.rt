@@ -1,47 +1,63 @@
 ghost use Rattle.chess_eval.specs.Evaluation.{AreSumsOf};
 
-use crate::boards::{board, put, square, start};
+use super::boards::{board, put, square, start};
 use chess_attack::Follower;
 use chess_eval::{Sum, end, middle, weight};
 use chess_types::{Colour, Kind, Man, Placement, Square};
 use std::process::Abort;
 
-#[test]
-fn men_on_their_squares(rt: HostRuntime) {
-    for (letter, name, in_middle, at_end) in [
-        (b'P', "e2", 109, 110),
-        (b'P', "e4", 117, 130),
-        (b'P', "a7", 120, 160),
-        (b'N', "b1", 314, 314),
-        (b'N', "c3", 332, 332),
-        (b'p', "e7", 109, 110),
-        (b'p', "e5", 117, 130),
-        (b'n', "b8", 314, 314),
-        (b'n', "c6", 332, 332),
-        (b'B', "a1", 324, 324),
-        (b'b', "d4", 342, 342),
-        (b'R', "a7", 510, 510),
-        (b'R', "a2", 500, 500),
-        (b'r', "h2", 510, 510),
-        (b'q', "e5", 903, 903),
-        (b'K', "e1", -18, 30),
-        (b'k', "d5", -36, 60),
-    ] {
-        let man = Man::of_letter(letter).expect(&rt, "a man's letter");
-        let at = square(&rt, name);
-        assert_eq!(rt; middle(man, at), in_middle, "{letter} on {name}");
-        assert_eq!(rt; end(man, at), at_end, "{letter} on {name}");
-    }
+/// Men by their letters, their squares, and what each is worth there in the middlegame and in the endgame.
+const WORTHS: &[(u8, &str, i32, i32)] = &[
+    (b'P', "e2", 109, 110),
+    (b'P', "e4", 117, 130),
+    (b'P', "a7", 120, 160),
+    (b'N', "b1", 314, 314),
+    (b'N', "c3", 332, 332),
+    (b'p', "e7", 109, 110),
+    (b'p', "e5", 117, 130),
+    (b'n', "b8", 314, 314),
+    (b'n', "c6", 332, 332),
+    (b'B', "a1", 324, 324),
+    (b'b', "d4", 342, 342),
+    (b'R', "a7", 510, 510),
+    (b'R', "a2", 500, 500),
+    (b'r', "h2", 510, 510),
+    (b'q', "e5", 903, 903),
+    (b'K', "e1", -18, 30),
+    (b'k', "d5", -36, 60),
+];
+
+/// Whether the man is worth so much there in the middlegame and in the endgame.
+fn is_worth(man: Man, at: Square, in_middle: i32, at_end: i32) -> bool {
+    middle(man, at) == in_middle && end(man, at) == at_end
 }
 
 #[test]
+fn men_on_their_squares(rt: HostRuntime) {
+    for (letter, name, in_middle, at_end) in WORTHS {
+        let man = Man::of_letter(*letter).expect(&rt, "a man's letter");
+        let at = square(&rt, name);
+        assert!(rt;
+            is_worth(man, at, *in_middle, *at_end),
+            "{letter} on {name}"
+        );
+    }
+}
+
+const WEIGHTS: &[(Kind, i32)] = &[
+    (Kind::Pawn, 0),
+    (Kind::Knight, 1),
+    (Kind::Bishop, 1),
+    (Kind::Rook, 2),
+    (Kind::Queen, 4),
+    (Kind::King, 0),
+];
+
+#[test]
 fn weights_of_the_kinds(rt: HostRuntime) {
-    assert_eq!(rt; weight(Kind::Pawn), 0);
-    assert_eq!(rt; weight(Kind::Knight), 1);
-    assert_eq!(rt; weight(Kind::Bishop), 1);
-    assert_eq!(rt; weight(Kind::Rook), 2);
-    assert_eq!(rt; weight(Kind::Queen), 4);
-    assert_eq!(rt; weight(Kind::King), 0);
+    for (kind, wanted) in WEIGHTS {
+        assert!(rt; weight(*kind) == *wanted);
+    }
 }
 
 /// Fifteen queens and a king a side, White's queens nearer the middle.
@@ -67,27 +83,28 @@ fn mirror(rt: &impl Abort, placement: &Placement) -> Placement {
     mirrored
 }
 
+/// The evaluation of the board.
+fn assert_white(rt: &impl Abort, placement: &Placement, white: i32) {
+    assert!(rt; Sum::of(placement).white() == white);
+}
+
+/// The evaluation of the board, and how it is seen from the other side.
+fn assert_both(rt: &impl Abort, placement: &Placement, white: i32, mirrored: i32) {
+    assert_white(rt, placement, white);
+    assert_white(rt, &mirror(rt, placement), mirrored);
+    assert!(rt; Sum::of(placement).mirrored().white() == mirrored);
+}
+
 #[test]
 fn whole_boards(rt: HostRuntime) {
-    assert_eq!(rt; Sum::of(&start()).white(), 0);
-    assert_eq!(rt; Sum::of(&Placement::empty()).white(), 0);
+    assert_white(&rt, &start(), 0);
+    assert_white(&rt, &Placement::empty(), 0);
     // no weight
-    let pawn_up = board(&rt, "ke8 Pe2 Ke1");
-    assert_eq!(rt; Sum::of(&pawn_up).white(), 110);
+    assert_white(&rt, &board(&rt, "ke8 Pe2 Ke1"), 110);
     // 14,638 of 24 parts
-    let mut rook_up = pawn_up;
-    let rook = Man {
-        colour: Colour::White,
-        kind: Kind::Rook,
-    };
-    put(&rt, &mut rook_up, Square::from_index(0), rook);
-    assert_eq!(rt; Sum::of(&rook_up).white(), 609);
-    assert_eq!(rt; Sum::of(&mirror(&rt, &rook_up)).white(), -609);
-    assert_eq!(rt; Sum::of(&rook_up).mirrored().white(), -609);
+    assert_both(&rt, &board(&rt, "ke8 Pe2 Ke1 Ra1"), 609, -609);
     // a weight of 120
-    assert_eq!(rt; Sum::of(&queens(&rt)).white(), 33);
-    assert_eq!(rt; Sum::of(&mirror(&rt, &queens(&rt))).white(), -33);
-    assert_eq!(rt; Sum::of(&queens(&rt)).mirrored().white(), -33);
+    assert_both(&rt, &queens(&rt), 33, -33);
 }
 
 /// A board with its sums.
@@ -112,7 +129,7 @@ impl Kept {
         assert!(rt; self.placement.men(man.colour) < 16);
         self.sum.put(&self.placement, at, man);
         self.placement.put(at, man);
-        assert_eq!(rt; self.sum.white(), Sum::of(&self.placement).white());
+        assert!(rt; self.sum.white() == Sum::of(&self.placement).white());
     }
 
     /// Clears the square, and the evaluation is that of the board.
@@ -120,7 +137,7 @@ impl Kept {
         assert!(rt; self.placement.get(at).is_some());
         self.sum.clear(&self.placement, at);
         self.placement.clear(at);
-        assert_eq!(rt; self.sum.white(), Sum::of(&self.placement).white());
+        assert!(rt; self.sum.white() == Sum::of(&self.placement).white());
     }
 }
 
@@ -134,7 +151,7 @@ fn every_man_put_and_cleared(rt: HostRuntime) {
             kept.put(&rt, at, man);
         }
     }
-    assert_eq!(rt; kept.sum.white(), 0);
+    assert!(rt; kept.sum.white() == 0);
     for turn in 0..64u8 {
         // every square once, in another order
         let at = Square::from_index((turn ^ 42) % 64);
@@ -142,9 +159,6 @@ fn every_man_put_and_cleared(rt: HostRuntime) {
             kept.clear(&rt, at);
         }
     }
-    assert_eq!(rt; kept.sum.white(), Sum::empty().white());
-    assert_eq!(rt;
-        kept.placement.men(Colour::White) + kept.placement.men(Colour::Black),
-        0
-    );
+    assert!(rt; kept.sum.white() == Sum::empty().white());
+    assert!(rt; kept.placement.men(Colour::White) + kept.placement.men(Colour::Black) == 0);
 }

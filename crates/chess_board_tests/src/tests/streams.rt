@@ -1,5 +1,6 @@
 use chess_types::{Failed, FromBytes, FromRead, Refusal, Sink, Source, ToBytes, ToWrite};
 use std::io::{self, Error, ErrorKind, Read, Write};
+use std::process::Abort;
 
 /// A stream whose first calls have these faults. The calls after them carry one byte each.
 #[derive(Drop)]
@@ -62,25 +63,55 @@ const FAULTS: [([Option<ErrorKind>; 2], Result<usize, Failed>, usize); 6] = [
     ),
 ];
 
+/// What a stream over one with these faults answers at first, and how many calls it makes.
+fn assert_read(
+    rt: &impl Abort,
+    faults: [Option<ErrorKind>; 2],
+    answer: Result<usize, Failed>,
+    calls: usize,
+) {
+    let mut source = FromRead::new(Faulty::new(faults));
+    assert!(rt; !source.has_failed());
+    assert!(rt; source.read(&mut [0; 4]) == answer);
+    assert!(rt; source.reader.calls == calls && source.has_failed() == answer.is_err());
+}
+
 #[test]
 fn only_an_interrupted_read_is_tried_again(rt: HostRuntime) {
     for (faults, answer, calls) in FAULTS {
-        let mut source = FromRead::new(Faulty::new(faults));
-        assert!(rt; !source.has_failed());
-        assert_eq!(rt; source.read(&mut [0; 4]), answer);
-        assert_eq!(rt; source.reader.calls, calls);
-        assert_eq!(rt; source.has_failed(), answer.is_err());
+        assert_read(&rt, faults, answer, calls);
     }
+}
+
+/// What a stream over one with these faults answers at first, and how many calls it makes.
+fn assert_written(
+    rt: &impl Abort,
+    faults: [Option<ErrorKind>; 2],
+    answer: Result<usize, Failed>,
+    calls: usize,
+) {
+    let mut sink = ToWrite::new(Faulty::new(faults));
+    assert!(rt; !sink.has_failed());
+    assert!(rt; sink.write(b"text") == answer);
+    assert!(rt; sink.writer.calls == calls && sink.has_failed() == answer.is_err());
 }
 
 #[test]
 fn only_an_interrupted_write_is_tried_again(rt: HostRuntime) {
     for (faults, answer, calls) in FAULTS {
-        let mut sink = ToWrite::new(Faulty::new(faults));
-        assert!(rt; !sink.has_failed());
-        assert_eq!(rt; sink.write(b"text"), answer);
-        assert_eq!(rt; sink.writer.calls, calls);
-        assert_eq!(rt; sink.has_failed(), answer.is_err());
+        assert_written(&rt, faults, answer, calls);
+    }
+}
+
+/// What reads into the room answer, one after another.
+fn assert_reads(
+    rt: &impl Abort,
+    source: &mut FromBytes,
+    room: &mut [u8],
+    answers: &[Result<usize, Failed>],
+) {
+    for answer in answers {
+        assert!(rt; source.read(room) == *answer);
     }
 }
 
@@ -88,12 +119,15 @@ fn only_an_interrupted_write_is_tried_again(rt: HostRuntime) {
 fn lent_bytes_are_read_in_pieces(rt: HostRuntime) {
     let mut source = FromBytes::failing_after(b"abcdefg", 3, 1);
     let mut buf = [0; 5];
-    assert_eq!(rt; source.read(&mut buf), Ok(3));
-    assert_eq!(rt; source.read(&mut buf), Err(Failed));
-    assert_eq!(rt; source.read(&mut buf[3..]), Ok(2));
-    assert_eq!(rt; buf, *b"abcde");
-    assert_eq!(rt; source.read(&mut buf), Ok(2));
-    assert_eq!(rt; source.read(&mut buf), Ok(0));
+    assert_reads(&rt, &mut source, &mut buf, &[Ok(3), Err(Failed)]);
+    assert_reads(&rt, &mut source, &mut buf[3..], &[Ok(2)]);
+    assert!(rt; buf == *b"abcde");
+    assert_reads(&rt, &mut source, &mut buf, &[Ok(2), Ok(0)]);
+}
+
+/// What a write answers.
+fn assert_write(rt: &impl Abort, sink: &mut ToBytes, bytes: &[u8], answer: Result<usize, Failed>) {
+    assert!(rt; sink.write(bytes) == answer);
 }
 
 #[test]
@@ -104,11 +138,11 @@ fn lent_bytes_are_written_in_pieces(rt: HostRuntime) {
     ] {
         let mut room = [0; 6];
         let mut sink = ToBytes::refusing_after(&mut room, 3, 1, refusal);
-        assert_eq!(rt; sink.write(b"abcde"), Ok(3));
-        assert_eq!(rt; sink.write(b"de"), answer);
-        assert_eq!(rt; sink.write(b"de"), Ok(2));
-        assert_eq!(rt; sink.write(b"fg"), Ok(1));
-        assert_eq!(rt; sink.write(b"g"), Ok(0));
-        assert_eq!(rt; sink.taken(), b"abcdef".as_slice());
+        assert_write(&rt, &mut sink, b"abcde", Ok(3));
+        assert_write(&rt, &mut sink, b"de", answer);
+        assert_write(&rt, &mut sink, b"de", Ok(2));
+        assert_write(&rt, &mut sink, b"fg", Ok(1));
+        assert_write(&rt, &mut sink, b"g", Ok(0));
+        assert!(rt; sink.taken() == b"abcdef".as_slice());
     }
 }
