@@ -97,41 +97,30 @@ const QUEEN: Man = Man {
     kind: Kind::Queen,
 };
 
-/// Whether a queen on d4 attacks each of the squares.
-fn assert_attacks(rt: &impl Abort, placement: &Placement, squares: &[(&str, bool)]) {
+/// Whether a queen on d4 attacks each of the squares, and whether the line to it is clear.
+fn assert_seen(rt: &impl Abort, placement: &Placement, squares: &[(&str, bool, bool)]) {
     let from = square(rt, "d4");
-    for (name, attacks) in squares {
+    for (name, attacks, clear) in squares {
+        let to = square(rt, name);
         assert!(rt;
-            attacks_square(placement, QUEEN, from, square(rt, name)) == *attacks,
+            attacks_square(placement, QUEEN, from, to) == *attacks
+                && is_clear(placement, from, to) == *clear,
             "{name}"
         );
     }
 }
 
-/// Whether the line from d4 to each of the squares is clear.
-fn assert_clear(rt: &impl Abort, placement: &Placement, squares: &[(&str, bool)]) {
-    let from = square(rt, "d4");
-    for (name, clear) in squares {
-        assert!(rt;
-            is_clear(placement, from, square(rt, name)) == *clear,
-            "{name}"
-        );
-    }
-}
+const SEEN: &[(&str, bool, bool)] = &[
+    ("d6", true, true),
+    ("d7", false, false),
+    ("d8", false, false),
+    ("e6", false, true),
+];
 
 #[test]
 fn one_square(rt: HostRuntime) {
     let placement = middle(&rt);
-    assert_attacks(
-        &rt,
-        &placement,
-        &[("d6", true), ("d7", false), ("e6", false)],
-    );
-    assert_clear(
-        &rt,
-        &placement,
-        &[("d6", true), ("d8", false), ("e6", true)],
-    );
+    assert_seen(&rt, &placement, SEEN);
     let (from, to) = (square(&rt, "d4"), square(&rt, "e5"));
     assert!(rt; leaps(Colour::White, Kind::Pawn, from, to));
     assert!(rt; !leaps(Colour::Black, Kind::Pawn, from, to));

@@ -27,18 +27,18 @@ const WORTHS: &[(u8, &str, i32, i32)] = &[
     (b'k', "d5", -36, 60),
 ];
 
-/// Whether the man is worth so much there in the middlegame and in the endgame.
-fn is_worth(man: Man, at: Square, in_middle: i32, at_end: i32) -> bool {
+/// Whether the man of that letter is worth so much there in the middlegame and in the endgame.
+fn is_worth(rt: &impl Abort, letter: u8, name: &str, in_middle: i32, at_end: i32) -> bool {
+    let man = Man::of_letter(letter).expect(rt, "a man's letter");
+    let at = square(rt, name);
     middle(man, at) == in_middle && end(man, at) == at_end
 }
 
 #[test]
 fn men_on_their_squares(rt: HostRuntime) {
     for (letter, name, in_middle, at_end) in WORTHS {
-        let man = Man::of_letter(*letter).expect(&rt, "a man's letter");
-        let at = square(&rt, name);
         assert!(rt;
-            is_worth(man, at, *in_middle, *at_end),
+            is_worth(&rt, *letter, name, *in_middle, *at_end),
             "{letter} on {name}"
         );
     }
@@ -129,7 +129,7 @@ impl Kept {
         assert!(rt; self.placement.men(man.colour) < 16);
         self.sum.put(&self.placement, at, man);
         self.placement.put(at, man);
-        assert!(rt; self.sum.white() == Sum::of(&self.placement).white());
+        assert_white(rt, &self.placement, self.sum.white());
     }
 
     /// Clears the square, and the evaluation is that of the board.
@@ -137,28 +137,40 @@ impl Kept {
         assert!(rt; self.placement.get(at).is_some());
         self.sum.clear(&self.placement, at);
         self.placement.clear(at);
-        assert!(rt; self.sum.white() == Sum::of(&self.placement).white());
+        assert_white(rt, &self.placement, self.sum.white());
+    }
+}
+
+/// Puts each man of the start position.
+fn put_all(rt: &impl Abort, kept: &mut Kept) {
+    let whole = start();
+    for number in 0..64u8 {
+        let at = Square::from_index(number);
+        if let Some(man) = whole.get(at) {
+            kept.put(rt, at, man);
+        }
+    }
+}
+
+/// Clears the square of each man of the start position.
+fn clear_all(rt: &impl Abort, kept: &mut Kept) {
+    let whole = start();
+    for turn in 0..64u8 {
+        // every square once, in another order
+        let at = Square::from_index((turn ^ 42) % 64);
+        if whole.get(at).is_some() {
+            kept.clear(rt, at);
+        }
     }
 }
 
 #[test]
 fn every_man_put_and_cleared(rt: HostRuntime) {
-    let whole = start();
     let mut kept = Kept::empty();
-    for number in 0..64u8 {
-        let at = Square::from_index(number);
-        if let Some(man) = whole.get(at) {
-            kept.put(&rt, at, man);
-        }
-    }
+    put_all(&rt, &mut kept);
     assert!(rt; kept.sum.white() == 0);
-    for turn in 0..64u8 {
-        // every square once, in another order
-        let at = Square::from_index((turn ^ 42) % 64);
-        if whole.get(at).is_some() {
-            kept.clear(&rt, at);
-        }
-    }
+    clear_all(&rt, &mut kept);
     assert!(rt; kept.sum.white() == Sum::empty().white());
-    assert!(rt; kept.placement.men(Colour::White) + kept.placement.men(Colour::Black) == 0);
+    let board = &kept.placement;
+    assert!(rt; board.men(Colour::White) + board.men(Colour::Black) == 0);
 }

@@ -105,19 +105,29 @@ fn every_man_in_another_order(rt: HostRuntime) {
     put_and_clear(&rt, 37);
 }
 
-/// The ticks of the man put on d4 of the placement; taking him away again makes as many.
-fn ticks_on_d4(rt: &impl Abort, followed: &mut Followed, man: Man) -> u32 {
-    let square = Square::from_index(27);
+/// The ticks of the man put on the square.
+fn ticks_of_put(rt: &impl Abort, followed: &mut Followed, square: Square, man: Man) -> u32 {
     followed.counts.begin();
     assert!(rt; followed.counts.ticks() == 0);
     assert_afresh(rt, followed);
     followed.put(rt, square, man);
     assert_afresh(rt, followed);
-    let ticks = followed.counts.ticks();
+    followed.counts.ticks()
+}
+
+/// The ticks of the man taken from the square.
+fn ticks_of_clear(rt: &impl Abort, followed: &mut Followed, square: Square) -> u32 {
     followed.counts.begin();
     followed.clear(rt, square);
     assert_afresh(rt, followed);
-    assert!(rt; followed.counts.ticks() == ticks);
+    followed.counts.ticks()
+}
+
+/// The ticks of the man put on d4 of the placement; taking him away again makes as many.
+fn ticks_on_d4(rt: &impl Abort, followed: &mut Followed, man: Man) -> u32 {
+    let square = Square::from_index(27);
+    let ticks = ticks_of_put(rt, followed, square, man);
+    assert!(rt; ticks_of_clear(rt, followed, square) == ticks);
     ticks
 }
 
@@ -148,9 +158,6 @@ fn the_start_position_without_e2(rt: HostRuntime) {
     let mut followed = Followed::of(start());
     // the counts of each side add up to 6 on its first rank, 14 on its second and 18 on its third
     assert!(rt; followed.counts.ticks() == 2 * 38);
-    followed.counts.begin();
-    followed.clear(&rt, Square::from_index(12));
     // the pawn's d3 and f3 go; d3, c4, b5, a6 for the bishop and f3, g4, h5 for the queen come
-    assert!(rt; followed.counts.ticks() == 2 + 4 + 3);
-    assert_afresh(&rt, &followed);
+    assert!(rt; ticks_of_clear(&rt, &mut followed, Square::from_index(12)) == 2 + 4 + 3);
 }

@@ -40,6 +40,12 @@ fn is_move(text: &str) -> bool {
     }
 }
 
+/// Whether the text is that of a promotion, with the numbers of the squares.
+fn is_promotion(rt: &impl Abort, text: &[u8], from: usize, to: usize, kind: Kind) -> bool {
+    let read = Move::parse(text).expect(rt, "a move");
+    read.from.index() == from && read.to.index() == to && read.promo == Some(kind)
+}
+
 /// None of the texts is a move's.
 fn assert_no_moves(rt: &impl Abort, texts: &[&str]) {
     for text in texts {
@@ -56,9 +62,7 @@ fn moves_have_texts(rt: HostRuntime) {
     for text in MOVES {
         assert!(rt; is_move(text), "{text}");
     }
-    let read = Move::parse(b"e7e8q").expect(&rt, "a move");
-    assert!(rt; read.from.index() == 52 && read.to.index() == 60);
-    assert!(rt; read.promo == Some(Kind::Queen));
+    assert!(rt; is_promotion(&rt, b"e7e8q", 52, 60, Kind::Queen));
     assert!(rt; Move::default().text().as_str() == "a1a1");
     assert_no_moves(&rt, NO_MOVES);
 }

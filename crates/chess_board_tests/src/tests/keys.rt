@@ -114,9 +114,9 @@ fn any_order_and_back_to_empty(rt: HostRuntime) {
 fn any_words(rt: HostRuntime) {
     let (one, two, zeros) = (table(1), table(2), KeyTable::new([0; 768]));
     let start_one = put_in_order(&rt, &one, 0);
-    assert!(rt; start_one.key != Key::of(&two, &start_one.placement));
-    assert!(rt; Key::empty(&one) == Key::empty(&two));
-    assert!(rt; Key::of(&zeros, &start_one.placement) == Key::empty(&zeros));
+    assert!(rt; !is_of(&two, &start_one.key, &start_one.placement));
+    assert!(rt; is_empty(&two, &Key::empty(&one)));
+    assert!(rt; is_of(&zeros, &Key::empty(&zeros), &start_one.placement));
 }
 
 /// Whether a board of that man alone has another key than an empty one.

@@ -224,12 +224,18 @@ fn look_at<A: Allocator>(
     assert!(rt; line.count() == count && line.compared() == compared);
 }
 
-/// Takes two moves back that were looked at, in a position with a legal move, and without a check or a draw.
-fn unlook_both<A: Allocator>(rt: &impl Abort, line: &mut Line<A>)
+/// Whether there is a legal move, and neither a check nor a draw.
+fn is_open<A: Allocator>(line: &mut Line<A>) -> bool
+    ensures looked { line.new.looked ≡ line.old.looked }
+{
+    line.has_legal() && !line.in_check() && !line.is_drawn(true)
+}
+
+/// Takes two moves back that were looked at.
+fn unlook_both<A: Allocator>(line: &mut Line<A>)
     requires both { line.old.looked ≡ 2 }
     ensures none { line.new.looked ≡ 0 }
 {
-    assert!(rt; line.has_legal() && !line.in_check() && !line.is_drawn(true));
     line.unlook();
     line.unlook();
 }
@@ -244,7 +250,8 @@ fn looks_at_moves(rt: HostRuntime) {
     push_all(&rt, &mut line, &[b"g1f3", b"g8f6", b"f3g1"]);
     look_at(&rt, &mut line, b"Ng8", 2, 2);
     look_at(&rt, &mut line, b"e4", 1, 0);
-    unlook_both(&rt, &mut line);
+    assert!(rt; is_open(&mut line));
+    unlook_both(&mut line);
     run(&rt, &mut line, LOOKED);
 }
 
@@ -328,15 +335,24 @@ fn push_until_refused<A: Allocator>(rt: &impl Abort, line: &mut Line<A>) -> Opti
     None
 }
 
+/// Pushes rounds until a push finds no memory, and then neither does a `reserve`: the move that was refused.
+fn refused<A: Allocator>(rt: &impl Abort, line: &mut Line<A>) -> Move
+    requires none { line.old.looked ≡ 0 }
+    ensures none { line.new.looked ≡ 0 }
+{
+    let m = push_until_refused(rt, line).expect(rt, "a refused growth");
+    assert!(rt; line.reserve(1) == Err(LineFault::Memory));
+    m
+}
+
 /// Pushes rounds while so many bytes of a heap are taken, until a push finds no memory; the same push answers Ok when they are free.
 fn push_without_memory(rt: &impl Abort, heap: &LocalHeap, taken: usize) -> Result<(), Fail> {
     let table = KeyTable::new([1; 768]);
     let mut line = begin(rt, heap, &table);
     let hog: Vec<u8, _> = Vec::with_capacity(heap, taken)?;
-    let m = push_until_refused(rt, &mut line).expect(rt, "a refused growth");
-    assert!(rt; line.reserve(1) == Err(LineFault::Memory));
+    let m = refused(rt, &mut line);
     drop(hog);
-    assert!(rt; line.push(m) == Ok(()));
+    assert!(rt; line.push(m).is_ok());
     Ok(())
 }
 

@@ -63,43 +63,36 @@ const FAULTS: [([Option<ErrorKind>; 2], Result<usize, Failed>, usize); 6] = [
     ),
 ];
 
-/// What a stream over one with these faults answers at first, and how many calls it makes.
-fn assert_read(
-    rt: &impl Abort,
-    faults: [Option<ErrorKind>; 2],
-    answer: Result<usize, Failed>,
-    calls: usize,
-) {
+/// Whether a stream over one with these faults answers so at first, after so many calls.
+fn is_read(faults: [Option<ErrorKind>; 2], answer: Result<usize, Failed>, calls: usize) -> bool {
     let mut source = FromRead::new(Faulty::new(faults));
-    assert!(rt; !source.has_failed());
-    assert!(rt; source.read(&mut [0; 4]) == answer);
-    assert!(rt; source.reader.calls == calls && source.has_failed() == answer.is_err());
+    let fresh = !source.has_failed();
+    let found = source.read(&mut [0; 4]);
+    fresh
+        && found == answer
+        && source.reader.calls == calls
+        && source.has_failed() == answer.is_err()
 }
 
 #[test]
 fn only_an_interrupted_read_is_tried_again(rt: HostRuntime) {
     for (faults, answer, calls) in FAULTS {
-        assert_read(&rt, faults, answer, calls);
+        assert!(rt; is_read(faults, answer, calls));
     }
 }
 
-/// What a stream over one with these faults answers at first, and how many calls it makes.
-fn assert_written(
-    rt: &impl Abort,
-    faults: [Option<ErrorKind>; 2],
-    answer: Result<usize, Failed>,
-    calls: usize,
-) {
+/// Whether a stream over one with these faults answers so at first, after so many calls.
+fn is_written(faults: [Option<ErrorKind>; 2], answer: Result<usize, Failed>, calls: usize) -> bool {
     let mut sink = ToWrite::new(Faulty::new(faults));
-    assert!(rt; !sink.has_failed());
-    assert!(rt; sink.write(b"text") == answer);
-    assert!(rt; sink.writer.calls == calls && sink.has_failed() == answer.is_err());
+    let fresh = !sink.has_failed();
+    let found = sink.write(b"text");
+    fresh && found == answer && sink.writer.calls == calls && sink.has_failed() == answer.is_err()
 }
 
 #[test]
 fn only_an_interrupted_write_is_tried_again(rt: HostRuntime) {
     for (faults, answer, calls) in FAULTS {
-        assert_written(&rt, faults, answer, calls);
+        assert!(rt; is_written(faults, answer, calls));
     }
 }
 
@@ -130,19 +123,20 @@ fn assert_write(rt: &impl Abort, sink: &mut ToBytes, bytes: &[u8], answer: Resul
     assert!(rt; sink.write(bytes) == answer);
 }
 
+/// What writes into room for six bytes answer, the second of which is refused.
+fn assert_refused(rt: &impl Abort, refusal: Refusal, answer: Result<usize, Failed>) {
+    let mut room = [0; 6];
+    let mut sink = ToBytes::refusing_after(&mut room, 3, 1, refusal);
+    assert_write(rt, &mut sink, b"abcde", Ok(3));
+    assert_write(rt, &mut sink, b"de", answer);
+    assert_write(rt, &mut sink, b"de", Ok(2));
+    assert_write(rt, &mut sink, b"fg", Ok(1));
+    assert_write(rt, &mut sink, b"g", Ok(0));
+    assert!(rt; sink.taken() == b"abcdef".as_slice());
+}
+
 #[test]
 fn lent_bytes_are_written_in_pieces(rt: HostRuntime) {
-    for (refusal, answer) in [
-        (Refusal::Fails, Err(Failed)),
-        (Refusal::TakesNothing, Ok(0)),
-    ] {
-        let mut room = [0; 6];
-        let mut sink = ToBytes::refusing_after(&mut room, 3, 1, refusal);
-        assert_write(&rt, &mut sink, b"abcde", Ok(3));
-        assert_write(&rt, &mut sink, b"de", answer);
-        assert_write(&rt, &mut sink, b"de", Ok(2));
-        assert_write(&rt, &mut sink, b"fg", Ok(1));
-        assert_write(&rt, &mut sink, b"g", Ok(0));
-        assert!(rt; sink.taken() == b"abcdef".as_slice());
-    }
+    assert_refused(&rt, Refusal::Fails, Err(Failed));
+    assert_refused(&rt, Refusal::TakesNothing, Ok(0));
 }
