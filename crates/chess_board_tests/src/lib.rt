@@ -3,26 +3,4 @@
 #![tactic(auto)]
 
 #[cfg(test)]
-mod attacking;
-#[cfg(test)]
-mod boards;
-#[cfg(test)]
-mod counts;
-#[cfg(test)]
-mod evaluation;
-#[cfg(test)]
-mod following;
-#[cfg(test)]
-mod ground;
-#[cfg(test)]
-mod keys;
-#[cfg(test)]
-mod lines;
-#[cfg(test)]
-mod listing;
-#[cfg(test)]
-mod moves_written;
-#[cfg(test)]
-mod notation;
-#[cfg(test)]
-mod streams;
+mod tests;

@@ -1,6 +1,6 @@
 ghost use Rattle.chess_attack.specs.KeptCounts.{AreCounts};
 
-use crate::boards::{board, start};
+use super::boards::{board, start};
 use chess_attack::{Counts, Follower};
 use chess_types::{Colour, Kind, Man, Placement, Square};
 use std::process::Abort;
@@ -45,41 +45,54 @@ fn assert_afresh(rt: &impl Abort, followed: &Followed) {
     for number in 0..64u8 {
         let square = Square::from_index(number);
         for colour in [Colour::White, Colour::Black] {
-            assert_eq!(rt;
-                followed.counts.count(colour, square),
-                afresh.count(colour, square)
-            );
+            assert!(rt; followed.counts.count(colour, square) == afresh.count(colour, square));
         }
+    }
+}
+
+/// Puts each man of the start position, in the order of the squares where the step is 1.
+fn put_all(rt: &impl Abort, followed: &mut Followed, step: u8) {
+    let men = start();
+    for turn in 0..64u16 {
+        let square = Square::from_index((turn * step as u16 % 64) as u8);
+        if let Some(man) = men.get(square) {
+            followed.put(rt, square, man);
+            assert_afresh(rt, followed);
+        }
+    }
+}
+
+/// Takes each man of the start position away again.
+fn clear_all(rt: &impl Abort, followed: &mut Followed, step: u8) {
+    let men = start();
+    for turn in 0..64u16 {
+        let square = Square::from_index((63 - turn * step as u16 % 64) as u8);
+        if men.get(square).is_some() {
+            followed.clear(rt, square);
+            assert_afresh(rt, followed);
+        }
+    }
+}
+
+/// Every count is zero.
+fn assert_zero(rt: &impl Abort, counts: &Counts) {
+    for number in 0..64u8 {
+        let square = Square::from_index(number);
+        assert!(rt;
+            counts.count(Colour::White, square) == 0 && counts.count(Colour::Black, square) == 0
+        );
     }
 }
 
 /// Puts each man of the start position and takes it away again, in the order of the squares where the step is 1.
 fn put_and_clear(rt: &impl Abort, step: u8) {
-    let men = start();
     let mut followed = Followed::empty();
-    for turn in 0..64u16 {
-        let square = Square::from_index((turn * step as u16 % 64) as u8);
-        if let Some(man) = men.get(square) {
-            followed.put(rt, square, man);
-            assert_afresh(rt, &followed);
-        }
-    }
-    assert_eq!(rt;
-        followed.placement.men(Colour::White) + followed.placement.men(Colour::Black),
-        32
+    put_all(rt, &mut followed, step);
+    assert!(rt;
+        followed.placement.men(Colour::White) + followed.placement.men(Colour::Black) == 32
     );
-    for turn in 0..64u16 {
-        let square = Square::from_index((63 - turn * step as u16 % 64) as u8);
-        if men.get(square).is_some() {
-            followed.clear(rt, square);
-            assert_afresh(rt, &followed);
-        }
-    }
-    for number in 0..64u8 {
-        let square = Square::from_index(number);
-        assert_eq!(rt; followed.counts.count(Colour::White, square), 0);
-        assert_eq!(rt; followed.counts.count(Colour::Black, square), 0);
-    }
+    clear_all(rt, &mut followed, step);
+    assert_zero(rt, &followed.counts);
 }
 
 #[test]
@@ -92,19 +105,29 @@ fn every_man_in_another_order(rt: HostRuntime) {
     put_and_clear(&rt, 37);
 }
 
-/// The ticks of the man put on d4 of the placement; taking him away again makes as many.
-fn ticks_on_d4(rt: &impl Abort, followed: &mut Followed, man: Man) -> u32 {
-    let square = Square::from_index(27);
+/// The ticks of the man put on the square.
+fn ticks_of_put(rt: &impl Abort, followed: &mut Followed, square: Square, man: Man) -> u32 {
     followed.counts.begin();
-    assert_eq!(rt; followed.counts.ticks(), 0);
+    assert!(rt; followed.counts.ticks() == 0);
     assert_afresh(rt, followed);
     followed.put(rt, square, man);
     assert_afresh(rt, followed);
-    let ticks = followed.counts.ticks();
+    followed.counts.ticks()
+}
+
+/// The ticks of the man taken from the square.
+fn ticks_of_clear(rt: &impl Abort, followed: &mut Followed, square: Square) -> u32 {
     followed.counts.begin();
     followed.clear(rt, square);
     assert_afresh(rt, followed);
-    assert_eq!(rt; followed.counts.ticks(), ticks);
+    followed.counts.ticks()
+}
+
+/// The ticks of the man put on d4 of the placement; taking him away again makes as many.
+fn ticks_on_d4(rt: &impl Abort, followed: &mut Followed, man: Man) -> u32 {
+    let square = Square::from_index(27);
+    let ticks = ticks_of_put(rt, followed, square, man);
+    assert!(rt; ticks_of_clear(rt, followed, square) == ticks);
     ticks
 }
 
@@ -126,7 +149,7 @@ fn eight_sliders_look_at_d4(rt: HostRuntime) {
             colour: Colour::White,
             kind,
         };
-        assert_eq!(rt; ticks_on_d4(&rt, &mut followed, man), own + 27);
+        assert!(rt; ticks_on_d4(&rt, &mut followed, man) == own + 27);
     }
 }
 
@@ -134,10 +157,7 @@ fn eight_sliders_look_at_d4(rt: HostRuntime) {
 fn the_start_position_without_e2(rt: HostRuntime) {
     let mut followed = Followed::of(start());
     // the counts of each side add up to 6 on its first rank, 14 on its second and 18 on its third
-    assert_eq!(rt; followed.counts.ticks(), 2 * 38);
-    followed.counts.begin();
-    followed.clear(&rt, Square::from_index(12));
+    assert!(rt; followed.counts.ticks() == 2 * 38);
     // the pawn's d3 and f3 go; d3, c4, b5, a6 for the bishop and f3, g4, h5 for the queen come
-    assert_eq!(rt; followed.counts.ticks(), 2 + 4 + 3);
-    assert_afresh(&rt, &followed);
+    assert!(rt; ticks_of_clear(&rt, &mut followed, Square::from_index(12)) == 2 + 4 + 3);
 }

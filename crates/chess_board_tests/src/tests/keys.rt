@@ -1,6 +1,6 @@
 ghost use Rattle.chess_key.specs.Keys.{IsKeyOf};
 
-use crate::boards::{square, start};
+use super::boards::{square, start};
 use chess_attack::Follower;
 use chess_key::{Key, KeyTable};
 use chess_types::{Colour, Kind, Man, Placement, Square};
@@ -67,26 +67,46 @@ fn put_in_order<'k>(rt: &impl Abort, table: &'k KeyTable, turn: u8) -> Kept<'k> 
     kept
 }
 
-#[test]
-fn any_order_and_back_to_empty(rt: HostRuntime) {
-    let table = table(1);
+/// The men put in the order of that turn have the key that is kept.
+fn assert_same<'k>(rt: &impl Abort, table: &'k KeyTable, kept: &Kept<'k>, turn: u8) {
+    let other = put_in_order(rt, table, turn);
+    assert!(rt; kept.key == other.key, "put in the order {turn}");
+}
+
+/// Clears the square of each man of the start position.
+fn clear_all<'k>(rt: &impl Abort, kept: &mut Kept<'k>) {
     let men = start();
-    let mut kept = put_in_order(&rt, &table, 0);
-    for turn in [21, 42, 63] {
-        let other = put_in_order(&rt, &table, turn);
-        assert!(rt; kept.key == other.key, "put in the order {turn}");
-    }
-    assert!(rt; kept.key == Key::of(&table, &kept.placement));
-    assert!(rt; kept.key != Key::empty(&table));
-    let whole = kept.key.clone().expect(&rt, "no memory is needed");
-    assert!(rt; whole == kept.key);
     for number in 0..64u8 {
         let at = nth(42, number);
         if men.get(at).is_some() {
-            kept.clear(&rt, at);
+            kept.clear(rt, at);
         }
     }
-    assert!(rt; kept.key == Key::empty(&table));
+}
+
+/// Whether the key is that of an empty board.
+fn is_empty<'k>(table: &'k KeyTable, key: &Key<'k>) -> bool {
+    *key == Key::empty(table)
+}
+
+/// Whether the key is that of the board, by these words.
+fn is_of<'k>(table: &'k KeyTable, key: &Key<'k>, placement: &Placement) -> bool {
+    *key == Key::of(table, placement)
+}
+
+#[test]
+fn any_order_and_back_to_empty(rt: HostRuntime) {
+    let table = table(1);
+    let mut kept = put_in_order(&rt, &table, 0);
+    for turn in [21, 42, 63] {
+        assert_same(&rt, &table, &kept, turn);
+    }
+    assert!(rt; is_of(&table, &kept.key, &kept.placement));
+    assert!(rt; !is_empty(&table, &kept.key));
+    let whole = kept.key.clone().expect(&rt, "no memory is needed");
+    assert!(rt; whole == kept.key);
+    clear_all(&rt, &mut kept);
+    assert!(rt; is_empty(&table, &kept.key));
     assert!(rt; kept.key != whole);
 }
 
@@ -94,25 +114,40 @@ fn any_order_and_back_to_empty(rt: HostRuntime) {
 fn any_words(rt: HostRuntime) {
     let (one, two, zeros) = (table(1), table(2), KeyTable::new([0; 768]));
     let start_one = put_in_order(&rt, &one, 0);
-    assert!(rt; start_one.key != Key::of(&two, &start_one.placement));
-    assert!(rt; Key::empty(&one) == Key::empty(&two));
-    assert!(rt; Key::of(&zeros, &start_one.placement) == Key::empty(&zeros));
+    assert!(rt; !is_of(&two, &start_one.key, &start_one.placement));
+    assert!(rt; is_empty(&two, &Key::empty(&one)));
+    assert!(rt; is_of(&zeros, &Key::empty(&zeros), &start_one.placement));
 }
+
+/// Whether a board of that man alone has another key than an empty one.
+fn has_word<'k>(rt: &impl Abort, table: &'k KeyTable, name: &str, man: Man) -> bool {
+    let mut kept = Kept::empty(table);
+    kept.put(rt, square(rt, name), man);
+    !is_empty(table, &kept.key)
+}
+
+/// A table with the word of White's knight on c3 alone.
+fn knight_on_c3() -> KeyTable {
+    let mut words = [0; 768];
+    words[64 + 18] = u64::MAX;
+    KeyTable::new(words)
+}
+
+const ONE_WORD: &[(Colour, Kind, &str, bool)] = &[
+    (Colour::White, Kind::Knight, "c3", true),
+    (Colour::Black, Kind::Knight, "c3", false),
+    (Colour::White, Kind::Pawn, "c3", false),
+    (Colour::White, Kind::Knight, "f6", false),
+];
 
 #[test]
 fn one_word_for_each_man_on_each_square(rt: HostRuntime) {
-    // the word of White's knight on c3 alone
-    let mut words = [0; 768];
-    words[64 + 18] = u64::MAX;
-    let table = KeyTable::new(words);
-    for (colour, kind, name, is_it) in [
-        (Colour::White, Kind::Knight, "c3", true),
-        (Colour::Black, Kind::Knight, "c3", false),
-        (Colour::White, Kind::Pawn, "c3", false),
-        (Colour::White, Kind::Knight, "f6", false),
-    ] {
-        let mut kept = Kept::empty(&table);
-        kept.put(&rt, square(&rt, name), Man { colour, kind });
-        assert_eq!(rt; kept.key != Key::empty(&table), is_it, "{name}");
+    let table = knight_on_c3();
+    for (colour, kind, name, is_it) in ONE_WORD {
+        let man = Man {
+            colour: *colour,
+            kind: *kind,
+        };
+        assert!(rt; has_word(&rt, &table, name, man) == *is_it, "{name}");
     }
 }

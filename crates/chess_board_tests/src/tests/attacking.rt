@@ -1,7 +1,7 @@
 ghost use Rattle.std.specs.Prelude.{◌≡◌};
 ghost use Rattle.chess_types.specs.board.Men.{kings_of};
 
-use crate::boards::{board, square, start};
+use super::boards::{board, square, start};
 use chess_attack::{attacks, attacks_square, checkers, is_clear, leaps, pinned};
 use chess_types::{Colour, Kind, Man, Placement, Square, SquareSet, is_king_of};
 use std::process::Abort;
@@ -11,7 +11,7 @@ fn assert_holds(rt: &impl Abort, set: SquareSet, names: &[&str]) {
     for name in names {
         assert!(rt; set.contains(square(rt, name)));
     }
-    assert_eq!(rt; set.len(), names.len());
+    assert!(rt; set.len() == names.len());
 }
 
 /// The squares that the man attacks from the square of that name.
@@ -92,22 +92,38 @@ fn leapers_see_past_men(rt: HostRuntime) {
     );
 }
 
+const QUEEN: Man = Man {
+    colour: Colour::White,
+    kind: Kind::Queen,
+};
+
+/// Whether a queen on d4 attacks each of the squares, and whether the line to it is clear.
+fn assert_seen(rt: &impl Abort, placement: &Placement, squares: &[(&str, bool, bool)]) {
+    let from = square(rt, "d4");
+    for (name, attacks, clear) in squares {
+        let to = square(rt, name);
+        assert!(rt;
+            attacks_square(placement, QUEEN, from, to) == *attacks
+                && is_clear(placement, from, to) == *clear,
+            "{name}"
+        );
+    }
+}
+
+const SEEN: &[(&str, bool, bool)] = &[
+    ("d6", true, true),
+    ("d7", false, false),
+    ("d8", false, false),
+    ("e6", false, true),
+];
+
 #[test]
 fn one_square(rt: HostRuntime) {
     let placement = middle(&rt);
-    let queen = Man {
-        colour: Colour::White,
-        kind: Kind::Queen,
-    };
-    let from = square(&rt, "d4");
-    assert!(rt; attacks_square(&placement, queen, from, square(&rt, "d6")));
-    assert!(rt; !attacks_square(&placement, queen, from, square(&rt, "d7")));
-    assert!(rt; !attacks_square(&placement, queen, from, square(&rt, "e6")));
-    assert!(rt; is_clear(&placement, from, square(&rt, "d6")));
-    assert!(rt; !is_clear(&placement, from, square(&rt, "d8")));
-    assert!(rt; is_clear(&placement, from, square(&rt, "e6")));
-    assert!(rt; leaps(Colour::White, Kind::Pawn, from, square(&rt, "e5")));
-    assert!(rt; !leaps(Colour::Black, Kind::Pawn, from, square(&rt, "e5")));
+    assert_seen(&rt, &placement, SEEN);
+    let (from, to) = (square(&rt, "d4"), square(&rt, "e5"));
+    assert!(rt; leaps(Colour::White, Kind::Pawn, from, to));
+    assert!(rt; !leaps(Colour::Black, Kind::Pawn, from, to));
 }
 
 #[test]

@@ -1,0 +1,12 @@
+mod attacking;
+mod boards;
+mod counts;
+mod evaluation;
+mod following;
+mod ground;
+mod keys;
+mod lines;
+mod listing;
+mod moves_written;
+mod notation;
+mod streams;

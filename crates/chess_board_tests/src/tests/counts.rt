@@ -1,0 +1,78 @@
+use super::boards::{board, start};
+use chess_attack::{Counts, in_check};
+use chess_types::{Colour, Placement, Square};
+use std::process::Abort;
+
+/// The counts of a colour on the rank, from the a-file to the h-file.
+fn row(rt: &impl Abort, counts: &Counts, colour: Colour, rank: u8) -> [u8; 8] {
+    assert!(rt; rank < 8);
+    let mut row = [0; 8];
+    for file in 0..8u8 {
+        row[file as usize] = counts.count(colour, Square::from_index(rank * 8 + file));
+    }
+    row
+}
+
+/// A colour, a rank, and the counts of the colour on it.
+type Row = (Colour, u8, [u8; 8]);
+
+/// The counts are those of the rows.
+fn assert_rows(rt: &impl Abort, counts: &Counts, rows: &[Row]) {
+    for (colour, rank, wanted) in rows {
+        assert!(rt; row(rt, counts, *colour, *rank) == *wanted, "rank {rank}");
+    }
+}
+
+const AT_START: &[Row] = &[
+    (Colour::White, 0, [0, 1, 1, 1, 1, 1, 1, 0]),
+    (Colour::White, 1, [1, 1, 1, 4, 4, 1, 1, 1]),
+    (Colour::White, 2, [2, 2, 3, 2, 2, 3, 2, 2]),
+    (Colour::White, 3, [0; 8]),
+    (Colour::White, 4, [0; 8]),
+    (Colour::White, 5, [0; 8]),
+    (Colour::White, 6, [0; 8]),
+    (Colour::White, 7, [0; 8]),
+    (Colour::Black, 7, [0, 1, 1, 1, 1, 1, 1, 0]),
+    (Colour::Black, 6, [1, 1, 1, 4, 4, 1, 1, 1]),
+    (Colour::Black, 5, [2, 2, 3, 2, 2, 3, 2, 2]),
+    (Colour::Black, 4, [0; 8]),
+    (Colour::Black, 3, [0; 8]),
+    (Colour::Black, 2, [0; 8]),
+    (Colour::Black, 1, [0; 8]),
+    (Colour::Black, 0, [0; 8]),
+];
+
+#[test]
+fn start_position(rt: HostRuntime) {
+    assert_rows(&rt, &Counts::of(&start()), AT_START);
+    assert!(rt; !in_check(&start(), Colour::White));
+}
+
+#[test]
+fn empty_board(rt: HostRuntime) {
+    let empty = Counts::empty();
+    let counts = Counts::of(&Placement::empty());
+    for rank in 0..8u8 {
+        assert!(rt; row(&rt, &empty, Colour::White, rank) == [0; 8]);
+        assert!(rt; row(&rt, &counts, Colour::Black, rank) == [0; 8]);
+    }
+}
+
+// The rook attacks its knight, and nothing beyond it; the knight none of this rank.
+const BEHIND_A_ROOK: &[Row] = &[
+    (Colour::White, 0, [0, 1, 1, 1, 0, 0, 0, 0]),
+    (Colour::White, 1, [1, 1, 0, 0, 0, 1, 0, 0]),
+    (Colour::White, 2, [1, 0, 1, 0, 1, 0, 0, 0]),
+];
+
+#[test]
+fn up_to_and_with_the_first_man(rt: HostRuntime) {
+    assert_rows(&rt, &Counts::of(&board(&rt, "Ra1 Nd1 pf1")), BEHIND_A_ROOK);
+}
+
+#[test]
+fn checks(rt: HostRuntime) {
+    let checked = board(&rt, "ke8 Re1 Kg1");
+    assert!(rt; in_check(&checked, Colour::Black));
+    assert!(rt; !in_check(&checked, Colour::White));
+}
