@@ -2,20 +2,4 @@
 #![tactic(auto)]
 
 #[cfg(test)]
-mod games;
-#[cfg(test)]
-mod growths;
-#[cfg(test)]
-mod hostile;
-#[cfg(test)]
-mod lines;
-#[cfg(test)]
-mod long;
-#[cfg(test)]
-mod runs;
-#[cfg(test)]
-mod sessions;
-#[cfg(test)]
-mod tree;
-#[cfg(test)]
-mod unending;
+mod tests;

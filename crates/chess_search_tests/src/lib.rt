@@ -2,8 +2,4 @@
 #![tactic(auto)]
 
 #[cfg(test)]
-mod best;
-#[cfg(test)]
-mod plain;
-#[cfg(test)]
-mod random;
+mod tests;

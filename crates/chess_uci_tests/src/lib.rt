@@ -2,10 +2,4 @@
 #![tactic(auto)]
 
 #[cfg(test)]
-mod interleavings;
-#[cfg(test)]
-mod lines;
-#[cfg(test)]
-mod plain;
-#[cfg(test)]
-mod rows;
+mod tests;

@@ -1,0 +1,9 @@
+mod games;
+mod growths;
+mod hostile;
+mod lines;
+mod long;
+mod runs;
+mod sessions;
+mod tree;
+mod unending;

@@ -1,0 +1,155 @@
+//! Games that are read and written, and the game of the board.
+use crate::tests::runs::assert_answers;
+use chess_cli::{Ended, collection_laws, pgn};
+use chess_pgn::{FaultKind, PgnFault};
+use chess_types::{FromBytes, Refusal, ToBytes};
+use std::test::Fail;
+
+pub const INPUT: &[u8] =
+    b"1.e4 e5 (1...c5 2.Nf3 {x  y} $1) 2.Nf3 *\n[White \"A\"][Zed \"1\"] 1-0\n%";
+
+pub const OUTPUT: &[u8] = b"\
+[Event \"?\"]
+[Site \"?\"]
+[Date \"????.??.??\"]
+[Round \"?\"]
+[White \"?\"]
+[Black \"?\"]
+[Result \"*\"]
+
+1. e4 e5 (1... c5 2. Nf3 $1 {x y}) 2. Nf3 *
+
+[Event \"?\"]
+[Site \"?\"]
+[Date \"????.??.??\"]
+[Round \"?\"]
+[White \"A\"]
+[Black \"?\"]
+[Result \"1-0\"]
+[Zed \"1\"]
+
+1-0
+
+";
+
+/// How many bytes of the output the first game takes.
+pub const FIRST: usize = 138;
+
+#[test]
+fn writes_what_it_reads(rt: HostRuntime) -> Result<(), Fail> {
+    for piece in 1..80usize {
+        let mut room = [0; 400];
+        let mut writer = ToBytes::new(&mut room, piece);
+        let ended = pgn(rt.alloc(), FromBytes::new(INPUT, piece), &mut writer);
+        assert_eq!(rt; ended, Ended::Good);
+        assert_eq!(rt; writer.taken(), OUTPUT, "in pieces of {piece}");
+    }
+    Ok(())
+}
+
+#[test]
+fn what_is_written_is_read_as_it_is(rt: HostRuntime) {
+    collection_laws();
+    let mut room = [0; 400];
+    let mut writer = ToBytes::new(&mut room, 400);
+    let ended = pgn(rt.alloc(), FromBytes::new(OUTPUT, 100), &mut writer);
+    assert_eq!(rt; ended, Ended::Good);
+    assert_eq!(rt; writer.taken(), OUTPUT);
+}
+
+/// The games before a fault are written.
+#[test]
+fn stops_at_a_fault(rt: HostRuntime) -> Result<(), Fail> {
+    let input = b"1.e4 e5 (1...c5 2.Nf3 {x  y} $1) 2.Nf3 *\n1. e4 Ke2";
+    let mut room = [0; 400];
+    let mut writer = ToBytes::new(&mut room, 400);
+    let ended = pgn(rt.alloc(), FromBytes::new(input, 400), &mut writer);
+    let fault = PgnFault {
+        place: 47,
+        kind: FaultKind::Move,
+    };
+    assert_eq!(rt; ended, Ended::Input(fault));
+    assert_eq!(rt; ended.status(), 2);
+    assert_eq!(rt; ended.message().as_str(), "fault 47 3 Move");
+    assert_eq!(rt; writer.taken(), &OUTPUT[..FIRST]);
+    Ok(())
+}
+
+#[test]
+fn stops_at_a_failing_read_or_write(rt: HostRuntime) -> Result<(), Fail> {
+    let mut room = [0; 400];
+    let mut writer = ToBytes::new(&mut room, 400);
+    let reader = FromBytes::failing_after(INPUT, 45, 1);
+    assert_eq!(rt; pgn(rt.alloc(), reader, &mut writer), Ended::ReadFault);
+    assert_eq!(rt; writer.taken(), &OUTPUT[..FIRST]);
+    for refusal in [Refusal::Fails, Refusal::TakesNothing] {
+        for calls in 0..FIRST {
+            let mut room = [0; 400];
+            let mut writer = ToBytes::refusing_after(&mut room, 1, calls as u64, refusal);
+            let ended = pgn(rt.alloc(), FromBytes::new(INPUT, 400), &mut writer);
+            assert_eq!(rt; ended, Ended::WriteFault);
+            assert_eq!(rt; writer.taken(), &OUTPUT[..calls]);
+        }
+    }
+    Ok(())
+}
+
+#[test]
+fn tells_the_whole_game(rt: HostRuntime) {
+    let input =
+        b"play e4\nplay e5\nback\nplay c5\npromote\nback\nstep 1\ndelete\npgn x\npgn\npath\n";
+    let output = b"\
+ok
+ok
+ok
+ok
+ok
+ok
+ok
+ok
+refused 7 Argument
+[Event \"?\"]
+[Site \"?\"]
+[Date \"????.??.??\"]
+[Round \"?\"]
+[White \"?\"]
+[Black \"?\"]
+[Result \"*\"]
+
+1. e4 c5 *
+
+0
+";
+    assert_answers(&rt, rt.alloc(), input, output);
+}
+
+#[test]
+fn tells_the_notes_of_a_game(rt: HostRuntime) {
+    let input =
+        b"new\nplay e4\nnag 1\ncomment a  b\nplay e5\nstart\nend\npath\ngoto 0\npath\ncomment }\ngoto 0.1\npgn\n";
+    let output = b"\
+ok
+ok
+ok
+ok
+ok
+ok
+ok
+0.0
+ok
+0
+refused 4 BadComment
+refused 1 NoSuch
+[Event \"?\"]
+[Site \"?\"]
+[Date \"????.??.??\"]
+[Round \"?\"]
+[White \"?\"]
+[Black \"?\"]
+[Result \"*\"]
+
+1. e4 $1 {a b} 1... e5 *
+
+";
+    assert_answers(&rt, rt.alloc(), input, output);
+}

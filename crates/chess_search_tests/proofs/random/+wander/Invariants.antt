@@ -1,4 +1,0 @@
-use Rattle.chess_search_tests.proofs.random.+wander.Given as goal
-
-abbrev pub decreases-wander : goal.decreases-wander
-decreases-wander g l = l.plies

@@ -1,0 +1,3 @@
+mod best;
+mod plain;
+mod random;

@@ -1,0 +1,4 @@
+mod interleavings;
+mod lines;
+mod plain;
+mod rows;
