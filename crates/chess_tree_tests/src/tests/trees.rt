@@ -1,6 +1,8 @@
 //! What the tests of a tree begin with: its moves by their texts, and the position at its cursor, replayed.
-ghost use Rattle.std.specs.Prelude.{◌≡◌, OnOk, OnErr};
-ghost use Rattle.chess_types.specs.board.Lines.{last};
+ghost use Rattle.std.specs.Prelude.{◌≡◌, true, OnOk, OnErr};
+ghost use Rattle.chess_types.specs.board.After.{after};
+ghost use Rattle.chess_types.specs.board.Legal.{is_legal};
+ghost use Rattle.chess_types.specs.board.Lines.{extended, last};
 ghost use Rattle.chess_tree.specs.GameTree.{line_to};
 
 use chess_key::KeyTable;
@@ -26,6 +28,15 @@ pub(crate) fn begin<'a, A: Allocator>(alloc: &'a A) -> Result<Tree<'a, A>, TreeF
     Tree::new(alloc, Position::start())
 }
 
+/// Makes a move, which is pseudo-legal, on the board.
+fn make_on(rt: &impl Abort, live: &mut Live, played: Move)
+    ensures { live.new.position ≡ after live.old.position played }
+{
+    assert!(rt; live.position().clock < 100_000 && live.position().number < 100_000);
+    assert!(rt; live.is_pseudo(played));
+    live.make(played).keep();
+}
+
 /// The position at the cursor, by the moves on the way to it.
 pub(crate) fn position_here<'k, A: Allocator>(
     rt: &impl Abort,
@@ -41,11 +52,33 @@ pub(crate) fn position_here<'k, A: Allocator>(
         let place = tree.path_at(ply).expect(rt, "a place");
         node = node.child(place).expect(rt, "a child");
         let played = node.move_at().expect(rt, "a move");
-        assert!(rt; live.position().clock < 100_000 && live.position().number < 100_000);
-        assert!(rt; live.is_pseudo(played));
-        live.make(played).keep();
+        make_on(rt, &mut live, played);
     }
     live
+}
+
+/// The move is legal on the board.
+fn assert_legal(rt: &impl Abort, live: &mut Live, played: Move)
+    ensures legal { is_legal live.old.position played ≡ true }
+    ensures position { live.new.position ≡ live.old.position }
+{
+    assert!(rt; live.position().clock < 100_000 && live.position().number < 100_000);
+    assert!(rt; is_legal(live, played));
+}
+
+/// Adds a move, which is legal at the cursor.
+fn grow<A: Allocator>(
+    rt: &impl Abort,
+    tree: &mut Tree<'_, A>,
+    played: Move,
+) -> Result<(), TreeFault>
+    requires legal { is_legal (last (line_to tree.old)) played ≡ true }
+    ensures line { OnOk result (line_to tree.new ≡ extended (line_to tree.old) played) }
+    ensures err { OnErr result (tree.new ≡ tree.old) }
+{
+    assert!(rt; tree.position().setup().number < 100_000);
+    assert!(rt; tree.depth() < 20_000);
+    tree.add(played)
 }
 
 /// Adds the move of that text, which is legal where the board stands, at the cursor.
@@ -60,13 +93,9 @@ pub(crate) fn add_on<A: Allocator>(
     ensures err { OnErr result (tree.new ≡ tree.old) }
 {
     let played = a_move(rt, text);
-    assert!(rt; tree.position().setup().number < 100_000);
-    assert!(rt; live.position().clock < 100_000 && live.position().number < 100_000);
-    assert!(rt; is_legal(live, played));
-    assert!(rt; live.is_pseudo(played));
-    assert!(rt; tree.depth() < 20_000);
-    tree.add(played)?;
-    live.make(played).keep();
+    assert_legal(rt, live, played);
+    grow(rt, tree, played)?;
+    make_on(rt, live, played);
     Ok(())
 }
 

@@ -1,10 +1,10 @@
-use crate::calls::Call::{Add, AddNag, Back, Delete, End, Goto, Promote, SetComment, Start, Step};
-use crate::calls::Look::{
+use super::calls::Call::{Add, AddNag, Back, Delete, End, Goto, Promote, SetComment, Start, Step};
+use super::calls::Look::{
     Below, ChildCount, Comment, Depth, Find, Has, Nags, Path, Place, Played, RootCount,
 };
-use crate::calls::Row::{Does, Fails, Shows};
-use crate::calls::{Row, grown, play_all};
-use crate::trees::{a_move, child_move};
+use super::calls::Row::{Does, Fails, Shows};
+use super::calls::{Row, grown, play_all};
+use super::trees::{a_move, child_move};
 use chess_tree::{Children, Tree, TreeFault};
 use chess_types::Move;
 use std::alloc::Allocator;
@@ -165,14 +165,6 @@ fn a_number_is_taken_again_without_its_notes(rt: HostRuntime) {
     play_all(&rt, &rt.alloc(), TAKEN_AGAIN);
 }
 
-/// The move of the next child, and its first child's.
-fn next_moves<A: Allocator>(
-    children: &mut Children<'_, '_, A>,
-) -> Option<(Option<Move>, Option<Move>)> {
-    let child = children.next()?;
-    Some((child.move_at(), child_move(&child, 0)))
-}
-
 /// The next child has that move, and a child with the other.
 fn is_next<A: Allocator>(
     rt: &impl Abort,
@@ -180,7 +172,9 @@ fn is_next<A: Allocator>(
     text: &str,
     below: Option<Move>,
 ) {
-    assert!(rt; next_moves(children) == Some((Some(a_move(rt, text)), below)));
+    let child = children.next().expect(rt, "a child");
+    assert!(rt; child.move_at() == Some(a_move(rt, text)));
+    assert!(rt; child_move(&child, 0) == below);
 }
 
 fn is_gone_over<A: Allocator>(rt: &impl Abort, tree: &Tree<'_, A>) {

@@ -1,17 +1,26 @@
 //! The nodes of a tree, one after another.
-use chess_tree::{Children, Tree};
+use chess_tree::{Children, NodeRef, Tree};
 use chess_types::Move;
 use std::alloc::{AllocError, Allocator};
 use std::process::Abort;
 
 /// A node in the order of the text of a game: each before those below it.
-#[derive(Clone, Copy, Debug, PartialEq, Eq)]
+#[derive(Clone, Copy, PartialEq, Eq)]
 pub struct Entry {
     /// How deep it is; a child of the root is 1 deep.
     pub depth: usize,
     pub played: Move,
     /// The digit that its comment is; 0 for none.
     pub note: u8,
+}
+
+/// The entry of a node that is so deep.
+fn entry_of<A: Allocator>(rt: &impl Abort, node: &NodeRef<'_, '_, A>, depth: usize) -> Entry {
+    Entry {
+        depth,
+        played: node.move_at().expect(rt, "a move"),
+        note: node.notes().comment.first().copied().unwrap_or(0),
+    }
 }
 
 /// The next node, if there is one more beside the last of those that wait; those below it wait then.
@@ -26,11 +35,7 @@ fn next<'t, 'a, A: Allocator>(
         return Ok(None);
     };
     waiting.push(children)?;
-    let entry = Entry {
-        depth: waiting.len(),
-        played: node.move_at().expect(rt, "a move"),
-        note: node.notes().comment.first().copied().unwrap_or(0),
-    };
+    let entry = entry_of(rt, &node, waiting.len());
     waiting.push(node.below())?;
     Ok(Some(entry))
 }

@@ -2,7 +2,7 @@ use Rattle.std.proofs.Common.{◌≡◌, take}
 use Rattle.chess_types.specs.board.Lines.{play}
 use Rattle.chess_tree.specs.Forest.{below_at}
 use Rattle.chess_tree.specs.GameTree.{moves_along}
-use Rattle.chess_tree_tests.proofs.trees.position_here.Given as goal
+use Rattle.chess_tree_tests.proofs.tests.trees.position_here.Given as goal
 
 abbrev pub invariant-loop-ply : goal.invariant-loop-ply
 invariant-loop-ply g l = record {

@@ -1,7 +1,7 @@
 //! A tree of 100,000 random moves, read by way of its root, and the same moves in a list.
-use crate::analysis::begin;
-use crate::trees::a_table;
-use crate::walk::{Entry, list_nodes};
+use super::analysis::begin;
+use super::trees::a_table;
+use super::walk::{Entry, list_nodes};
 use chess_key::KeyTable;
 use chess_tree::{Analysis, Tree};
 use chess_types::Move;
@@ -25,6 +25,57 @@ struct Linked {
     next: usize,
 }
 
+fn first_of(list: &[Linked], number: usize) -> usize {
+    match list.get(number) {
+        Some(entry) => entry.first,
+        None => 0,
+    }
+}
+
+fn last_of(list: &[Linked], number: usize) -> usize {
+    match list.get(number) {
+        Some(entry) => entry.last,
+        None => 0,
+    }
+}
+
+/// The sibling after a node; 0 where there is none, as behind the root.
+fn next_of(list: &[Linked], number: usize) -> usize {
+    match list.get(number) {
+        Some(entry) => entry.next,
+        None => 0,
+    }
+}
+
+fn set_first(list: &mut [Linked], number: usize, first: usize) {
+    if number < list.len() {
+        list[number].first = first;
+    }
+}
+
+fn set_last(list: &mut [Linked], number: usize, last: usize) {
+    if number < list.len() {
+        list[number].last = last;
+    }
+}
+
+fn set_next(list: &mut [Linked], number: usize, next: usize) {
+    if number < list.len() {
+        list[number].next = next;
+    }
+}
+
+/// Makes a node the last child of another.
+fn hang(list: &mut [Linked], at: usize, number: usize) {
+    let last = last_of(list, at);
+    if last == 0 {
+        set_first(list, at, number);
+    } else {
+        set_next(list, last, number);
+    }
+    set_last(list, at, number);
+}
+
 /// Appends a move to those below a node. The first entry is the root's.
 fn append<A: Allocator>(
     list: &mut Vec<Linked, &A>,
@@ -38,51 +89,53 @@ fn append<A: Allocator>(
         last: 0,
         next: 0,
     })?;
-    if number == 0 {
-        return Ok(());
-    }
-    let Some(parent) = list.get(at).copied() else {
-        return Ok(());
-    };
-    if parent.last == 0 {
-        if at < list.len() {
-            list[at].first = number;
-        }
-    } else if parent.last < list.len() {
-        list[parent.last].next = number;
-    }
-    if at < list.len() {
-        list[at].last = number;
+    if number > 0 {
+        hang(list.as_mut_slice(), at, number);
     }
     Ok(())
 }
 
 /// The number of the child at a place; 0 where there is none.
 fn child_of(list: &[Linked], at: usize, place: u64) -> usize {
-    let Some(parent) = list.get(at) else {
-        return 0;
-    };
-    let mut child = parent.first;
+    let mut child = first_of(list, at);
     for _passed in 0..place {
-        if child == 0 {
-            return 0;
-        }
-        child = match list.get(child) {
-            Some(entry) => entry.next,
-            None => 0,
-        };
+        child = next_of(list, child);
     }
     child
 }
 
-/// One random legal move, if there is one.
-fn pick<A: Allocator>(analysis: &mut Analysis<'_, A>, word: u64) -> Option<Move> {
-    let moves = analysis.moves();
+/// One of the moves, if there is one.
+fn one_of(moves: &[Move], word: u64) -> Option<Move> {
     if moves.is_empty() {
         return None;
     }
-    let index = (word % 1_000) as usize % moves.len();
-    moves.as_slice().get(index).copied()
+    moves.get((word % 1_000) as usize % moves.len()).copied()
+}
+
+/// One random legal move, if there is one.
+fn pick<A: Allocator>(analysis: &mut Analysis<'_, A>, word: u64) -> Option<Move> {
+    one_of(analysis.moves().as_slice(), word)
+}
+
+/// The node at that index is so deep, and has that move.
+fn assert_node(rt: &impl Abort, nodes: &[Entry], index: usize, depth: usize, played: Move) {
+    let node = nodes.get(index).copied().expect(rt, "a node");
+    assert!(rt; node.depth == depth);
+    assert!(rt; node.played == played);
+}
+
+/// Compares an entry with the node at that index; the sibling after it, and its first child, wait then.
+fn visit<A: Allocator>(
+    rt: &impl Abort,
+    waiting: &mut Vec<usize, &A>,
+    nodes: &[Entry],
+    index: usize,
+    linked: Linked,
+) -> Result<(), AllocError> {
+    waiting.push(linked.next)?;
+    assert_node(rt, nodes, index, waiting.len(), linked.played);
+    waiting.push(linked.first)?;
+    Ok(())
 }
 
 /// Compares the nodes of the tree with the list, one by one.
@@ -97,18 +150,14 @@ fn compare<A: Allocator>(
     let mut index = 0usize;
     for _ in 0..4_000_000u32 {
         let Some(number) = waiting.pop() else {
-            assert_eq!(rt; index, nodes.len());
+            assert!(rt; index == nodes.len());
             return Ok(());
         };
-        if number == 0 {
-            continue;
+        if number > 0 {
+            let linked = list.get(number).copied().expect(rt, "an entry");
+            visit(rt, &mut waiting, nodes, index, linked)?;
+            index = index.saturating_add(1);
         }
-        let linked = list.get(number).copied().expect(rt, "an entry");
-        waiting.push(linked.next)?;
-        let node = nodes.get(index).copied().expect(rt, "a node");
-        assert_eq!(rt; (node.depth, node.played), (waiting.len(), linked.played));
-        index = index.saturating_add(1);
-        waiting.push(linked.first)?;
     }
     panic!(rt; "the walk did not end");
 }
@@ -190,7 +239,7 @@ fn is_listed<A: Allocator>(
 ) -> Result<(), AllocError> {
     let mut nodes = Vec::new(alloc);
     list_nodes(rt, alloc, tree, &mut nodes)?;
-    assert_eq!(rt; nodes.len(), MOVES);
+    assert!(rt; nodes.len() == MOVES);
     compare(rt, alloc, nodes.as_slice(), list)
 }
 
@@ -198,7 +247,7 @@ fn is_read<A: Allocator>(rt: &impl Abort, alloc: &A, table: &KeyTable) -> Result
     let mut analysis = begin(alloc, table)?;
     let mut list = Vec::new(alloc);
     grow(alloc, &mut analysis, &mut list)?;
-    assert_eq!(rt; list.len(), MOVES + 1);
+    assert!(rt; list.len() == MOVES + 1);
     is_listed(rt, alloc, analysis.tree(), list.as_slice())?;
     Ok(())
 }

@@ -1,8 +1,8 @@
-use crate::calls::Call::{Add, Back, Delete, End, First, Goto, Start, Step};
-use crate::calls::Look::{ChildCount, Depth, Path};
-use crate::calls::Row::{Does, Fails, Shows};
-use crate::calls::{Row, run};
-use crate::trees::{a_table, add_on, begin, position_here};
+use super::calls::Call::{Add, Back, Delete, End, First, Goto, Start, Step};
+use super::calls::Look::{ChildCount, Depth, Path};
+use super::calls::Row::{Does, Fails, Shows};
+use super::calls::{Row, run};
+use super::trees::{a_table, add_on, begin, position_here};
 use chess_tree::{Tree, TreeFault};
 use std::alloc::Allocator;
 use std::process::Abort;

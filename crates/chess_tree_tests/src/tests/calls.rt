@@ -1,5 +1,5 @@
 //! Calls on a tree and looks at it, as rows of a table.
-use crate::trees::{a_move, add, begin, child_move};
+use super::trees::{a_move, add, begin, child_move};
 use chess_tree::{Tree, TreeFault};
 use chess_types::Move;
 use std::alloc::Allocator;
@@ -113,16 +113,19 @@ pub fn is_seen<A: Allocator>(rt: &impl Abort, tree: &Tree<'_, A>, look: Look) ->
     }
 }
 
+/// Makes a row's call, or looks at the tree: whether the row is right.
+fn holds<A: Allocator>(rt: &impl Abort, tree: &mut Tree<'_, A>, row: Row) -> bool {
+    match row {
+        Row::Does(call) => answer(rt, tree, call) == Ok(()),
+        Row::Fails(fault, call) => answer(rt, tree, call) == Err(fault),
+        Row::Shows(look) => is_seen(rt, tree, look),
+    }
+}
+
 /// Goes by a table: makes its calls, and looks at the tree.
 pub fn run<A: Allocator>(rt: &impl Abort, tree: &mut Tree<'_, A>, rows: &[Row]) {
     for (index, row) in rows.iter().enumerate() {
-        match *row {
-            Row::Does(call) => assert_eq!(rt; answer(rt, tree, call), Ok(()), "row {index}"),
-            Row::Fails(fault, call) => {
-                assert_eq!(rt; answer(rt, tree, call), Err(fault), "row {index}");
-            }
-            Row::Shows(look) => assert!(rt; is_seen(rt, tree, look), "row {index}"),
-        }
+        assert!(rt; holds(rt, tree, *row), "row {index}");
     }
 }
 

@@ -1,8 +1,8 @@
-use crate::calls::Call::{Add, Back, SetComment};
-use crate::calls::Look::{Comment, Nags, Path};
-use crate::calls::Row::{Does, Shows};
-use crate::calls::{Row, grown, run};
-use crate::trees::{add, begin};
+use super::calls::Call::{Add, Back, SetComment};
+use super::calls::Look::{Comment, Nags, Path};
+use super::calls::Row::{Does, Fails, Shows};
+use super::calls::{Row, grown, run};
+use super::trees::{add, begin};
 use chess_tree::{Tree, TreeFault};
 use linked_list_allocator::LocalHeap;
 use std::alloc::{AllocError, Allocator, Global};
@@ -55,14 +55,14 @@ fn grow<A: Allocator>(rt: &impl Abort, alloc: &A) -> Result<u32, TreeFault> {
 
 /// The fault is that there is no memory.
 pub fn is_memory(rt: &impl Abort, fault: TreeFault) {
-    assert_eq!(rt; fault, TreeFault::Memory);
+    assert!(rt; fault == TreeFault::Memory);
 }
 
 /// Whether a growth is refused on that heap.
 fn is_refused_on(rt: &impl Abort, heap: &LocalHeap) -> bool {
     match grow(rt, heap) {
         Ok(depth) => {
-            assert_eq!(rt; depth, 2);
+            assert!(rt; depth == 2);
             false
         }
         Err(fault) => {
@@ -76,7 +76,7 @@ fn is_refused_on(rt: &impl Abort, heap: &LocalHeap) -> bool {
 fn is_too_small(rt: &impl Abort, alloc: Global, size: usize) -> Result<bool, AllocError> {
     let heap = LocalHeap::new(alloc, size)?;
     let refused = is_refused_on(rt, &heap);
-    assert_eq!(rt; heap.used(), 0);
+    assert!(rt; heap.used() == 0);
     Ok(refused)
 }
 
@@ -93,6 +93,18 @@ fn without_memory(rt: HostRuntime) -> Result<(), Fail> {
     Ok(())
 }
 
+/// A fault's text.
+fn assert_text(
+    rt: &impl Abort,
+    alloc: Global,
+    fault: TreeFault,
+    text: &str,
+) -> Result<(), AllocError> {
+    let said = format!(in alloc; "{fault}")?;
+    assert!(rt; said.as_str() == text);
+    Ok(())
+}
+
 #[test]
 fn faults_say_what_they_are(rt: HostRuntime) -> Result<(), Fail> {
     let texts = [
@@ -103,7 +115,7 @@ fn faults_say_what_they_are(rt: HostRuntime) -> Result<(), Fail> {
         (TreeFault::Memory, "there is no memory"),
     ];
     for (fault, text) in texts {
-        assert_eq!(rt; format!(in rt.alloc(); "{fault}")?.as_str(), text);
+        assert_text(&rt, rt.alloc(), fault, text)?;
     }
     Ok(())
 }
@@ -115,22 +127,26 @@ pub fn fill<'a>(rt: &impl Abort, heap: &'a LocalHeap, bytes: usize) -> Vec<u8, &
     Vec::with_capacity(heap, bytes.saturating_sub(heap.used())).expect(rt, "room")
 }
 
-/// A comment is refused while the heap is nearly full.
-fn is_comment_refused(rt: &impl Abort, heap: &LocalHeap, tree: &mut Tree<'_, LocalHeap>) {
-    let _other = fill(rt, heap, 7_000);
-    assert!(rt; tree.set_comment(&[b'a'; 2_000]) == Err(TreeFault::Memory));
-    run(rt, tree, &[Shows(Comment(b""))]);
-}
+/// A comment that most of a small heap is for.
+const LONGER: &[u8] = &[b'a'; 2_000];
 
-fn is_comment_set(rt: &impl Abort, tree: &mut Tree<'_, LocalHeap>) {
-    assert!(rt; tree.set_comment(&[b'a'; 2_000]) == Ok(()));
-    assert_eq!(rt; tree.notes().comment.len(), 2_000);
+const REFUSED: &[Row] = &[
+    Fails(TreeFault::Memory, SetComment(LONGER)),
+    Shows(Comment(b"")),
+];
+
+const SET: &[Row] = &[Does(SetComment(LONGER)), Shows(Comment(LONGER))];
+
+/// Goes by a table while the heap is nearly full.
+fn run_full(rt: &impl Abort, heap: &LocalHeap, tree: &mut Tree<'_, LocalHeap>, rows: &[Row]) {
+    let _other = fill(rt, heap, 7_000);
+    run(rt, tree, rows);
 }
 
 fn is_as_before(rt: &impl Abort, heap: &LocalHeap) {
     let mut tree = grown(rt, heap, BEGUN);
-    is_comment_refused(rt, heap, &mut tree);
-    is_comment_set(rt, &mut tree);
+    run_full(rt, heap, &mut tree, REFUSED);
+    run(rt, &mut tree, SET);
 }
 
 /// After a refusal all is as before, and the call is answered once there is memory.
@@ -143,11 +159,15 @@ fn as_before(rt: HostRuntime) -> Result<(), Fail> {
 
 const NO_WORDS: &[Row] = &[Does(SetComment(b" \t "))];
 
-fn is_free(rt: &impl Abort, heap: &LocalHeap) {
-    let mut tree = grown(rt, heap, BEGUN);
+/// Goes by a table, which takes nothing of the heap.
+fn run_free(rt: &impl Abort, heap: &LocalHeap, tree: &mut Tree<'_, LocalHeap>, rows: &[Row]) {
     let used = heap.used();
-    run(rt, &mut tree, NO_WORDS);
-    assert_eq!(rt; heap.used(), used);
+    run(rt, tree, rows);
+    assert!(rt; heap.used() == used);
+}
+
+fn is_free(rt: &impl Abort, heap: &LocalHeap) {
+    run_free(rt, heap, &mut grown(rt, heap, BEGUN), NO_WORDS);
 }
 
 /// A comment of no words is none.
@@ -159,7 +179,7 @@ fn an_empty_comment_takes_no_memory(rt: HostRuntime) -> Result<(), Fail> {
 }
 
 /// What is compared: the depth, and the notes.
-fn seen<A: Allocator>(tree: &Tree<'_, A>) -> (u32, usize, usize) {
+pub fn seen<A: Allocator>(tree: &Tree<'_, A>) -> (u32, usize, usize) {
     let notes = tree.notes();
     (tree.depth(), notes.nags.len(), notes.comment.len())
 }
@@ -194,7 +214,7 @@ const CALLED: &[Row] = &[Shows(Path(&[0, 0])), Does(Back), Shows(Nags(&[7; 40]))
 fn call_all(rt: &impl Abort, heap: &LocalHeap, room: usize) -> bool {
     let mut tree = begin(heap).expect(rt, "a tree");
     let call = first_without(rt, heap, &mut tree, room);
-    assert_eq!(rt; first_refused(rt, &mut tree, call), CALLS);
+    assert!(rt; first_refused(rt, &mut tree, call) == CALLS);
     run(rt, &mut tree, CALLED);
     call < CALLS
 }

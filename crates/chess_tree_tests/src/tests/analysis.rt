@@ -1,7 +1,7 @@
 //! An analysis: its calls, as a reader of games makes them, and each growth refused in turn.
-use crate::calls::{Look, is_seen};
-use crate::refused::{LONG, fill, is_memory};
-use crate::trees::{a_move, a_table};
+use super::calls::{Look, is_seen};
+use super::refused::{LONG, fill, is_memory, seen as seen_of};
+use super::trees::{a_move, a_table};
 use chess_key::KeyTable;
 use chess_san::SanFault;
 use chess_tree::{Analysis, PlayFault, TreeFault};
@@ -40,12 +40,14 @@ enum Call {
 }
 
 /// What it answers.
-#[derive(Clone, Copy, Debug, PartialEq, Eq)]
+#[derive(Clone, Copy, PartialEq, Eq)]
 enum Answer {
     Done,
-    Unread(SanFault),
-    NotPlayed(PlayFault),
-    Refused(TreeFault),
+    Illegal,
+    AtRoot,
+    NoSuch,
+    /// What no row wants.
+    Other,
 }
 
 /// What is asked at the cursor.
@@ -79,14 +81,17 @@ enum Row {
 fn of_play(played: Result<(), PlayFault>) -> Answer {
     match played {
         Ok(()) => Answer::Done,
-        Err(fault) => Answer::NotPlayed(fault),
+        Err(PlayFault::Illegal) => Answer::Illegal,
+        Err(_) => Answer::Other,
     }
 }
 
 fn of_tree(edited: Result<(), TreeFault>) -> Answer {
     match edited {
         Ok(()) => Answer::Done,
-        Err(fault) => Answer::Refused(fault),
+        Err(TreeFault::AtRoot) => Answer::AtRoot,
+        Err(TreeFault::NoSuch) => Answer::NoSuch,
+        Err(_) => Answer::Other,
     }
 }
 
@@ -94,7 +99,7 @@ fn of_tree(edited: Result<(), TreeFault>) -> Answer {
 fn read<A: Allocator>(analysis: &mut Analysis<'_, A>, text: &[u8]) -> Answer {
     match analysis.read_move(text) {
         Ok(m) => of_play(analysis.add(m)),
-        Err(fault) => Answer::Unread(fault),
+        Err(_) => Answer::Other,
     }
 }
 
@@ -151,15 +156,18 @@ fn is_so<A: Allocator>(rt: &impl Abort, analysis: &mut Analysis<'_, A>, asked: A
     }
 }
 
+/// Makes a row's call, or asks: whether the row is right.
+fn holds<A: Allocator>(rt: &impl Abort, analysis: &mut Analysis<'_, A>, row: Row) -> bool {
+    match row {
+        Row::Gives(want, call) => make_call(rt, analysis, call) == want,
+        Row::Is(asked) => is_so(rt, analysis, asked),
+    }
+}
+
 /// Goes by a table.
 fn run<A: Allocator>(rt: &impl Abort, analysis: &mut Analysis<'_, A>, rows: &[Row]) {
     for (index, row) in rows.iter().enumerate() {
-        match *row {
-            Row::Gives(want, call) => {
-                assert!(rt; make_call(rt, analysis, call) == want, "row {index}");
-            }
-            Row::Is(asked) => assert!(rt; is_so(rt, analysis, asked), "row {index}"),
-        }
+        assert!(rt; holds(rt, analysis, *row), "row {index}");
     }
 }
 
@@ -208,15 +216,15 @@ const PLAYED: &[Row] = &[
     Row::Is(Asked::Seen(Look::ChildCount(1))),
     Row::Gives(Answer::Done, Call::Add("e2e4")),
     Row::Is(Asked::Seen(Look::Path(&[1]))),
-    Row::Gives(Answer::NotPlayed(PlayFault::Illegal), Call::Add("e2e4")),
-    Row::Gives(Answer::NotPlayed(PlayFault::Illegal), Call::Play("e2e4")),
+    Row::Gives(Answer::Illegal, Call::Add("e2e4")),
+    Row::Gives(Answer::Illegal, Call::Play("e2e4")),
     Row::Gives(Answer::Done, Call::Promote),
     Row::Is(Asked::Seen(Look::Path(&[0]))),
     Row::Gives(Answer::Done, Call::Delete),
     Row::Is(Asked::Seen(Look::Depth(0))),
     Row::Is(Asked::Seen(Look::ChildCount(1))),
-    Row::Gives(Answer::Refused(TreeFault::AtRoot), Call::Delete),
-    Row::Gives(Answer::Refused(TreeFault::NoSuch), Call::Step(1)),
+    Row::Gives(Answer::AtRoot, Call::Delete),
+    Row::Gives(Answer::NoSuch, Call::Step(1)),
 ];
 
 /// A move that is there is stepped to by `play`, and added once more by `add`.
@@ -257,6 +265,18 @@ fn asks_at_the_cursor(rt: HostRuntime) {
     run_all(&rt, &rt.alloc(), ASKED);
 }
 
+/// A fault's text.
+fn assert_text(
+    rt: &impl Abort,
+    alloc: Global,
+    fault: PlayFault,
+    text: &str,
+) -> Result<(), AllocError> {
+    let said = format!(in alloc; "{fault}")?;
+    assert!(rt; said.as_str() == text);
+    Ok(())
+}
+
 #[test]
 fn faults_of_a_move_say_what_they_are(rt: HostRuntime) -> Result<(), Fail> {
     let texts = [
@@ -266,7 +286,7 @@ fn faults_of_a_move_say_what_they_are(rt: HostRuntime) -> Result<(), Fail> {
         (PlayFault::Memory, "there is no memory"),
     ];
     for (fault, text) in texts {
-        assert_eq!(rt; format!(in rt.alloc(); "{fault}")?.as_str(), text);
+        assert_text(&rt, rt.alloc(), fault, text)?;
     }
     Ok(())
 }
@@ -311,17 +331,10 @@ fn is_refused<A: Allocator>(rt: &impl Abort, analysis: &mut Analysis<'_, A>, cal
     }
 }
 
-/// What is compared: the depth of the tree and of the line, and the notes.
-fn seen<A: Allocator>(analysis: &Analysis<'_, A>) -> (u32, u32, u32, usize, usize) {
+/// What is compared: what is seen of the tree, the children at the cursor, and the depth of the line.
+fn seen<A: Allocator>(analysis: &Analysis<'_, A>) -> ((u32, usize, usize), u32, u32) {
     let tree = analysis.tree();
-    let notes = tree.notes();
-    (
-        tree.depth(),
-        tree.child_count(),
-        analysis.line().plies(),
-        notes.nags.len(),
-        notes.comment.len(),
-    )
+    (seen_of(tree), tree.child_count(), analysis.line().plies())
 }
 
 /// Calls in order, from one of them on, until one is refused, which leaves all as it was: its number, or how many there are.
@@ -351,7 +364,7 @@ fn first_without(
 fn call_all(rt: &impl Abort, heap: &LocalHeap, table: &KeyTable, room: usize) -> bool {
     let mut analysis = begin(heap, table).expect(rt, "an analysis");
     let call = first_without(rt, heap, &mut analysis, room);
-    assert_eq!(rt; first_refused(rt, &mut analysis, call), CALLS);
+    assert!(rt; first_refused(rt, &mut analysis, call) == CALLS);
     call < CALLS
 }
 
@@ -384,7 +397,7 @@ fn is_begin_refused(rt: &impl Abort, heap: &LocalHeap, table: &KeyTable) -> bool
 fn is_too_small(rt: &impl Abort, alloc: Global, size: usize) -> Result<bool, AllocError> {
     let heap = LocalHeap::new(alloc, size)?;
     let refused = is_begin_refused(rt, &heap, &a_table());
-    assert_eq!(rt; heap.used(), 0);
+    assert!(rt; heap.used() == 0);
     Ok(refused)
 }
 
