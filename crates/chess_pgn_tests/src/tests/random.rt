@@ -2,6 +2,7 @@
 ghost use Rattle.std.specs.Prelude.{◌<◌};
 ghost use Rattle.chess_pgn.specs.steps.Next.{IsSound};
 
+use super::common::a_table;
 use chess_key::KeyTable;
 use chess_pgn::{Game, Games, GamesFault, Outcome, Tags, write_game};
 use chess_tree::{Analysis, Tree};
@@ -9,6 +10,7 @@ use chess_types::{FromBytes, Position, Source};
 use rand_core::utils::NextWord;
 use rand_pcg::Pcg64;
 use std::alloc::{AllocError, Allocator};
+use std::process::Abort;
 use std::test::Fail;
 
 /// How many texts are read, each of one to three games.
@@ -145,6 +147,21 @@ fn strew<A: Allocator>(
     Ok(())
 }
 
+/// The text of a random game.
+fn written<'a, A: Allocator>(
+    alloc: &'a A,
+    table: &'a KeyTable,
+    random: &mut Pcg64,
+) -> Result<Vec<u8, &'a A>, AllocError> {
+    let Some(game) = game(alloc, table, random) else {
+        return Err(AllocError);
+    };
+    match write_game(alloc, &game) {
+        Ok(text) => Ok(text),
+        Err(_) => Err(AllocError),
+    }
+}
+
 /// Random games, one after another.
 fn collection<'a, A: Allocator>(
     alloc: &'a A,
@@ -155,12 +172,7 @@ fn collection<'a, A: Allocator>(
     let games = below(random, 3).saturating_add(1);
     let faulty = below(random, 2) == 0;
     for _ in 0..games {
-        let Some(game) = game(alloc, table, random) else {
-            return Err(AllocError);
-        };
-        let Ok(written) = write_game(alloc, &game) else {
-            return Err(AllocError);
-        };
+        let written = written(alloc, table, random)?;
         strew(&mut text, written.as_slice(), random, faulty)?;
     }
     Ok(text)
@@ -206,29 +218,85 @@ fn read_all<'a, A: Allocator>(
     Ok((text, fault))
 }
 
+/// What a source in pieces of that size gives is that text, and that fault.
+fn assert_same<A: Allocator>(
+    rt: &impl Abort,
+    alloc: &A,
+    table: &KeyTable,
+    input: &[u8],
+    piece: usize,
+    wanted: &[u8],
+    fault: Option<GamesFault>,
+) -> Result<(), AllocError>
+    requires { 0 < piece }
+{
+    let (text, found) = read_all(alloc, table, input, piece)?;
+    assert!(rt; text.as_slice() == wanted, "in pieces of {piece}");
+    assert!(rt; found == fault, "in pieces of {piece}");
+    Ok(())
+}
+
+/// The same in random pieces.
+fn assert_pieces<A: Allocator>(
+    rt: &impl Abort,
+    alloc: &A,
+    table: &KeyTable,
+    random: &mut Pcg64,
+    input: &[u8],
+    wanted: &[u8],
+    fault: Option<GamesFault>,
+) -> Result<(), AllocError> {
+    for most in [1, 7, 100, 5_000] {
+        let piece = (below(random, most) as usize).saturating_add(1);
+        assert_same(rt, alloc, table, input, piece, wanted, fault)?;
+    }
+    Ok(())
+}
+
+/// However the source is cut, its games and its fault are the same, and the games that are written are read again: whether there is no fault.
+fn is_good<A: Allocator>(
+    rt: &impl Abort,
+    alloc: &A,
+    table: &KeyTable,
+    random: &mut Pcg64,
+    input: &[u8],
+) -> Result<bool, AllocError> {
+    let (whole, fault) = read_all(alloc, table, input, 1_000_000)?;
+    assert_pieces(rt, alloc, table, random, input, whole.as_slice(), fault)?;
+    assert_same(
+        rt,
+        alloc,
+        table,
+        whole.as_slice(),
+        1_000_000,
+        whole.as_slice(),
+        None,
+    )?;
+    Ok(fault.is_none())
+}
+
+/// The same of a random collection.
+fn is_one_good<A: Allocator>(
+    rt: &impl Abort,
+    alloc: &A,
+    table: &KeyTable,
+    random: &mut Pcg64,
+) -> Result<bool, AllocError> {
+    let text = collection(alloc, table, random)?;
+    is_good(rt, alloc, table, random, text.as_slice())
+}
+
 /// However a source is cut, its games and its fault are the same; and games that are written are read again.
 #[test]
 fn random_games_in_random_pieces(rt: HostRuntime) -> Result<(), Fail> {
-    let alloc = rt.alloc();
-    let table = KeyTable::new([0; 768]);
+    let table = a_table();
     let mut random = Pcg64::new(17, 19);
     let (mut good, mut faulty) = (0u32, 0u32);
     for _ in 0..TEXTS {
-        let text = collection(&alloc, &table, &mut random)?;
-        let (whole, fault) = read_all(&alloc, &table, text.as_slice(), 1_000_000)?;
-        for most in [1, 7, 100, 5_000] {
-            let piece = (below(&mut random, most) as usize).saturating_add(1);
-            let (same, same_fault) = read_all(&alloc, &table, text.as_slice(), piece)?;
-            assert!(&rt; same.as_slice() == whole.as_slice(), "in pieces of {piece}");
-            assert_eq!(&rt; same_fault, fault, "in pieces of {piece}");
-        }
-        let (again, none) = read_all(&alloc, &table, whole.as_slice(), 1_000_000)?;
-        assert!(&rt; again.as_slice() == whole.as_slice());
-        assert_eq!(&rt; none, None);
-        if fault.is_some() {
-            faulty = faulty.saturating_add(1);
-        } else {
+        if is_one_good(&rt, &rt.alloc(), &table, &mut random)? {
             good = good.saturating_add(1);
+        } else {
+            faulty = faulty.saturating_add(1);
         }
     }
     assert!(&rt; good > 100 && faulty > 100);
