@@ -2,12 +2,4 @@
 #![tactic(auto)]
 
 #[cfg(test)]
-mod cut;
-#[cfg(test)]
-mod pieces;
-#[cfg(test)]
-mod random;
-#[cfg(test)]
-mod reads;
-#[cfg(test)]
-mod written;
+mod tests;

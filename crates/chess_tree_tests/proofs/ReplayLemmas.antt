@@ -7,22 +7,15 @@ use Rattle.std.proofs.lemmas.Option.{none-some, same_Some}
 use Rattle.chess_types.specs.board.MoveParts.{MoveParts}
 use Rattle.chess_types.specs.board.Position.{State}
 use Rattle.chess_types.specs.board.After.{after}
-use Rattle.chess_types.specs.board.Lines.{last, play}
+use Rattle.chess_types.specs.board.Lines.{Line, extended, last, play}
 use Rattle.chess_tree.specs.Forest.{Forest, Bare, Node, NodeParts, below_at, below_child, child}
-use Rattle.chess_tree.specs.GameTree.{TreeParts, added, line_to, move_of, moves_along}
-use Rattle.chess_tree.specs.WellFormed.{IsGameTree}
+use Rattle.chess_tree.specs.GameTree.{TreeParts, line_to, move_of, moves_along}
 use Rattle.chess_types.proofs.PlayLaws.{last_extended, play_on}
-use Rattle.chess_tree.proofs.LineLemmas.{along_on, line_added}
+use Rattle.chess_tree.proofs.LineLemmas.{along_on}
 use Rattle.chess_tree.proofs.WalkLemmas.{below_at_on}
 
-pub added_position : (m : MoveParts) (old new : TreeParts) (before now : State) → IsGameTree old → new ≡ added m old → before ≡ last (line_to old)
-    → now ≡ after before m → now ≡ last (line_to new)
-added_position m old new before now game e b n =
-    n
-    ∙ ap (λ (p : State). after p m) b
-    ∙ sym (last_extended (line_to old) m)
-    ∙ ap last (sym (line_added m old game))
-    ∙ ap (λ (t : TreeParts). last (line_to t)) (sym e)
+pub added_position : (m : MoveParts) (old new : Line) (before now : State) → new ≡ extended old m → before ≡ last old → now ≡ after before m → now ≡ last new
+added_position m old new before now e b n = n ∙ ap (λ (p : State). after p m) b ∙ sym (last_extended old m) ∙ ap last (sym e)
 
 pub place_is : (path : List ℕ) (ply place : ℕ) → slice_get path ply ≡ Some place → (ply < length path) × (place ≡ get_or path ply 0)
 place_is [] ply place e = absurd (none-some place e)

@@ -2,20 +2,4 @@
 #![tactic(auto)]
 
 #[cfg(test)]
-mod analysis;
-#[cfg(test)]
-mod calls;
-#[cfg(test)]
-mod edits;
-#[cfg(test)]
-mod long;
-#[cfg(test)]
-mod random;
-#[cfg(test)]
-mod read;
-#[cfg(test)]
-mod refused;
-#[cfg(test)]
-mod trees;
-#[cfg(test)]
-mod walk;
+mod tests;

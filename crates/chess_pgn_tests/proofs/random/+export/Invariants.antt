@@ -1,4 +1,0 @@
-use Rattle.chess_pgn_tests.proofs.random.+export.Given as goal
-
-abbrev pub decreases-export : goal.decreases-export
-decreases-export g l = l.most

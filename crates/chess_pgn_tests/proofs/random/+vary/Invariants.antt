@@ -1,4 +1,0 @@
-use Rattle.chess_pgn_tests.proofs.random.+vary.Given as goal
-
-abbrev pub decreases-vary : goal.decreases-vary
-decreases-vary g l = l.deep

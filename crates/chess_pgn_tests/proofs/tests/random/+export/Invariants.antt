@@ -1,0 +1,4 @@
+use Rattle.chess_pgn_tests.proofs.tests.random.+export.Given as goal
+
+abbrev pub decreases-export : goal.decreases-export
+decreases-export g l = l.most

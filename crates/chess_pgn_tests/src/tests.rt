@@ -1,0 +1,6 @@
+mod common;
+mod cut;
+mod pieces;
+mod random;
+mod reads;
+mod written;

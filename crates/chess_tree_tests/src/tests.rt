@@ -1,0 +1,9 @@
+mod analysis;
+mod calls;
+mod edits;
+mod long;
+mod random;
+mod read;
+mod refused;
+mod trees;
+mod walk;

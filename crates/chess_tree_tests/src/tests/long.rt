@@ -1,0 +1,93 @@
+use super::calls::Call::{Add, Back, Delete, End, First, Goto, Start, Step};
+use super::calls::Look::{ChildCount, Depth, Path};
+use super::calls::Row::{Does, Fails, Shows};
+use super::calls::{Row, run};
+use super::trees::{a_table, add_on, begin, position_here};
+use chess_tree::{Tree, TreeFault};
+use std::alloc::Allocator;
+use std::process::Abort;
+
+/// Four moves that lead back to where they began.
+const SHUFFLE: [&str; 4] = ["g1f3", "g8f6", "f3g1", "f6g8"];
+
+/// 20,000 plies more below the root.
+fn lengthen<A: Allocator>(rt: &impl Abort, tree: &mut Tree<'_, A>) -> Result<(), TreeFault> {
+    tree.start();
+    let table = a_table();
+    let mut live = position_here(rt, tree, &table);
+    for ply in 0..20_000usize {
+        add_on(rt, tree, &mut live, SHUFFLE[ply % 4])?;
+    }
+    Ok(())
+}
+
+/// A tree of so many lines of 20,000 plies, the cursor at the end of the last.
+fn long_lines<'a, A: Allocator>(
+    rt: &impl Abort,
+    alloc: &'a A,
+    lines: u32,
+) -> Result<Tree<'a, A>, TreeFault> {
+    let mut tree = begin(alloc)?;
+    for _ in 0..lines {
+        lengthen(rt, &mut tree)?;
+    }
+    Ok(tree)
+}
+
+/// Goes by a table at the end of so many lines.
+fn play_long<A: Allocator>(rt: &impl Abort, alloc: &A, lines: u32, rows: &[Row]) {
+    let mut tree = long_lines(rt, alloc, lines).expect(rt, "a tree");
+    run(rt, &mut tree, rows);
+}
+
+const WALKED: &[Row] = &[
+    Does(Start),
+    Shows(Depth(0)),
+    Does(End),
+    Shows(Depth(20_000)),
+];
+
+#[test]
+fn a_long_main_line_is_walked(rt: HostRuntime) {
+    play_long(&rt, &rt.alloc(), 1, WALKED);
+}
+
+const DELETED: &[Row] = &[
+    Does(Start),
+    Does(First),
+    Does(Delete),
+    Shows(Depth(0)),
+    Shows(ChildCount(0)),
+    Does(Add("e2e4")),
+    Does(Add("e7e5")),
+    Shows(ChildCount(0)),
+    Shows(Path(&[0, 0])),
+];
+
+/// The node deleted has all the others below it; their numbers are taken again.
+#[test]
+fn a_long_main_line_is_deleted(rt: HostRuntime) {
+    play_long(&rt, &rt.alloc(), 1, DELETED);
+}
+
+const FULL: &[Row] = &[
+    Does(Back),
+    Fails(TreeFault::Full, Add("f6g8")),
+    Shows(Depth(19_999)),
+    Shows(ChildCount(1)),
+    Does(Step(0)),
+    Does(Delete),
+    Does(Add("f6g8")),
+    Does(Back),
+    Fails(TreeFault::Full, Add("f6g8")),
+    Does(Goto(&[49])),
+    Does(Delete),
+    Does(Add("e2e4")),
+    Shows(Path(&[49])),
+];
+
+/// Fifty lines of 20,000 plies are a million moves, and not one more; where one is deleted one is added.
+#[test]
+fn a_full_tree(rt: HostRuntime) {
+    play_long(&rt, &rt.alloc(), 50, FULL);
+}
