@@ -29,7 +29,7 @@ use super::numbers::{PLACES, PathWord, depth_in, read_path};
 use super::outcomes::{best_text, claims_text, status_text};
 use super::page::Page;
 use super::path::write_path;
-use super::refusal::{Refusal, of_play, of_san, of_tree};
+use super::refusal::Refusal;
 use super::texts::{counts_text, eval_text};
 use super::unfinished::{Reading, Unfinished};
 use chess_attack::checkers;
@@ -185,7 +185,7 @@ impl<'k, A: Allocator> Board<'k, A> {
         requires number { position.number ≤ 99999 }
         ensures { HasEffect (Does (tree_from position)) self.old result self.new }
     {
-        self.analysis = Analysis::new(self.alloc, position, self.table).map_err(of_tree)?;
+        self.analysis = Analysis::new(self.alloc, position, self.table)?;
         Ok(())
     }
 
@@ -193,10 +193,7 @@ impl<'k, A: Allocator> Board<'k, A> {
     fn set(&mut self, fen: &[u8]) -> Result<(), Refusal>
         ensures { HasEffect (set_effect (reading fen.now)) self.old result self.new }
     {
-        match chess_fen::read(fen) {
-            Ok(position) => self.begin(position),
-            Err(fault) => Err(Refusal::Fen(fault)),
-        }
+        self.begin(chess_fen::read(fen)?)
     }
 
     // The attack counts of the colour.
@@ -247,24 +244,22 @@ impl<'k, A: Allocator> Board<'k, A> {
     fn play(&mut self, word: &[u8]) -> Result<(), Refusal>
         ensures { HasEffect (play_effect self.old (move_reading (last (line_to self.old)) word.now)) self.old result self.new }
     {
-        match self.analysis.read_move(word) {
-            Ok(m) => self.analysis.play(m).map_err(of_play),
-            Err(fault) => Err(of_san(fault)),
-        }
+        let m = self.analysis.read_move(word)?;
+        Ok(self.analysis.play(m)?)
     }
 
     // Steps to the parent.
     fn back(&mut self) -> Result<(), Refusal>
         ensures { HasEffectSurely (off_root self.old.path (at_path (parent self.old.path) self.old)) self.old result self.new }
     {
-        self.analysis.back().map_err(of_tree)
+        Ok(self.analysis.back()?)
     }
 
     // Steps to a child.
     fn step(&mut self, place: u32) -> Result<(), Refusal>
         ensures { HasEffectSurely (if_there (nat_lt place (count_children (nodes_here self.old))) (at_path (self.old.path ++ place ∷ []) self.old)) self.old result self.new }
     {
-        self.analysis.step(place).map_err(of_tree)
+        Ok(self.analysis.step(place)?)
     }
 
     // Goes to the root.
@@ -296,7 +291,7 @@ impl<'k, A: Allocator> Board<'k, A> {
             }
             PathWord::Read(count) => {
                 let path = &self.places.as_slice()[..count];
-                self.analysis.goto(path).map_err(of_tree)
+                Ok(self.analysis.goto(path)?)
             }
         }
     }
@@ -305,28 +300,28 @@ impl<'k, A: Allocator> Board<'k, A> {
     fn promote(&mut self) -> Result<(), Refusal>
         ensures { HasEffectSurely (off_root self.old.path (promoted_here self.old)) self.old result self.new }
     {
-        self.analysis.promote().map_err(of_tree)
+        Ok(self.analysis.promote()?)
     }
 
     // Takes out the node and all below it.
     fn delete(&mut self) -> Result<(), Refusal>
         ensures { HasEffectSurely (off_root self.old.path (deleted self.old)) self.old result self.new }
     {
-        self.analysis.delete().map_err(of_tree)
+        Ok(self.analysis.delete()?)
     }
 
     // A text for the node's comment.
     fn comment(&mut self, comment: &[u8]) -> Result<(), Refusal>
         ensures { HasEffect (comment_effect self.old comment.now) self.old result self.new }
     {
-        self.analysis.set_comment(comment).map_err(of_tree)
+        Ok(self.analysis.set_comment(comment)?)
     }
 
     // An annotation number more.
     fn nag(&mut self, nag: u8) -> Result<(), Refusal>
         ensures { HasEffect (off_root self.old.path (annotated_here nag self.old)) self.old result self.new }
     {
-        self.analysis.add_nag(nag).map_err(of_tree)
+        Ok(self.analysis.add_nag(nag)?)
     }
 
     // How often the position has come up.
@@ -364,7 +359,7 @@ impl<'k, A: Allocator> Board<'k, A> {
     {
         let m = match self.analysis.read_move(word) {
             Ok(m) => m,
-            Err(fault) => return put_refused(page, of_san(fault)),
+            Err(fault) => return put_refused(page, Refusal::from(fault)),
         };
         match self.analysis.claims_with(m) {
             None => put_refused(page, Refusal::Illegal),

@@ -1,6 +1,3 @@
-ghost use Rattle.std.specs.Prelude.{◌≡◌};
-ghost use Rattle.chess_cli.specs.Refusals.{play_refusal, san_refusal, tree_refusal};
-
 use chess_fen::FenFault;
 use chess_san::SanFault;
 use chess_tree::{PlayFault, TreeFault};
@@ -80,38 +77,65 @@ impl Refusal {
     }
 }
 
-/// The refusal of an edit of a tree.
-pub fn of_tree(fault: TreeFault) -> Refusal
-    ensures { result ≡ tree_refusal fault }
-{
-    match fault {
-        TreeFault::NoSuch => Refusal::NoSuch,
-        TreeFault::AtRoot => Refusal::AtRoot,
-        TreeFault::Full => Refusal::Full,
-        TreeFault::BadComment => Refusal::BadComment,
-        TreeFault::Memory => Refusal::Memory,
+impl From<FenFault> for Refusal {
+    ghost use Rattle.std.specs.Prelude.{◌≡◌};
+    ghost use Rattle.chess_cli.specs.declared.refusal.Refusal.TheVariants.{Fen};
+
+    ghost from_gives = { λ fault refusal. refusal ≡ Fen fault };
+
+    /// The refusal of a text that is no FEN.
+    fn from(fault: FenFault) -> Self {
+        Self::Fen(fault)
     }
 }
 
-/// The refusal of a move that isn't played.
-pub fn of_play(fault: PlayFault) -> Refusal
-    ensures { result ≡ play_refusal fault }
-{
-    match fault {
-        PlayFault::Illegal => Refusal::Illegal,
-        PlayFault::TooLong => Refusal::TooLong,
-        PlayFault::Full => Refusal::Full,
-        PlayFault::Memory => Refusal::Memory,
+impl From<SanFault> for Refusal {
+    ghost use Rattle.std.specs.Prelude.{◌≡◌};
+    ghost use Rattle.chess_cli.specs.Refusals.{san_refusal};
+
+    ghost from_gives = { λ fault refusal. refusal ≡ san_refusal fault };
+
+    /// The refusal of a text that names no one move.
+    fn from(fault: SanFault) -> Self {
+        match fault {
+            SanFault::Form => Self::Form,
+            SanFault::Illegal => Self::Illegal,
+            SanFault::Ambiguous => Self::Ambiguous,
+        }
     }
 }
 
-/// The refusal of a text that names no one move.
-pub fn of_san(fault: SanFault) -> Refusal
-    ensures { result ≡ san_refusal fault }
-{
-    match fault {
-        SanFault::Form => Refusal::Form,
-        SanFault::Illegal => Refusal::Illegal,
-        SanFault::Ambiguous => Refusal::Ambiguous,
+impl From<TreeFault> for Refusal {
+    ghost use Rattle.std.specs.Prelude.{◌≡◌};
+    ghost use Rattle.chess_cli.specs.Refusals.{tree_refusal};
+
+    ghost from_gives = { λ fault refusal. refusal ≡ tree_refusal fault };
+
+    /// The refusal of an edit of a tree.
+    fn from(fault: TreeFault) -> Self {
+        match fault {
+            TreeFault::NoSuch => Self::NoSuch,
+            TreeFault::AtRoot => Self::AtRoot,
+            TreeFault::Full => Self::Full,
+            TreeFault::BadComment => Self::BadComment,
+            TreeFault::Memory => Self::Memory,
+        }
+    }
+}
+
+impl From<PlayFault> for Refusal {
+    ghost use Rattle.std.specs.Prelude.{◌≡◌};
+    ghost use Rattle.chess_cli.specs.Refusals.{play_refusal};
+
+    ghost from_gives = { λ fault refusal. refusal ≡ play_refusal fault };
+
+    /// The refusal of a move that isn't played.
+    fn from(fault: PlayFault) -> Self {
+        match fault {
+            PlayFault::Illegal => Self::Illegal,
+            PlayFault::TooLong => Self::TooLong,
+            PlayFault::Full => Self::Full,
+            PlayFault::Memory => Self::Memory,
+        }
     }
 }

@@ -7,21 +7,9 @@ pub enum LineFault {
     #[error("the move isn't legal")]
     Illegal = 1,
     /// The line has 20,000 plies.
-    #[error("a line has at most 20,000 plies")]
+    #[error("a line has at most 20000 plies")]
     TooLong = 2,
     /// There is no memory for the line to grow.
     #[error("there is no memory")]
     Memory = 3,
-}
-
-impl LineFault {
-    ghost use Rattle.std.specs.Prelude.{◌≡◌};
-    ghost use Rattle.chess_draws.specs.Faults.{number_of};
-
-    /// The fault's number, 1 to 3.
-    pub fn number(self) -> u8
-        ensures { result ≡ number_of self }
-    {
-        self as u8
-    }
 }

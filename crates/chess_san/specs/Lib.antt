@@ -1,7 +1,6 @@
--- Moves in standard algebraic notation. What a reader has to believe: the forms of texts, which moves they name, the text of a move,
--- and the faults; `steps` has the words of the code's steps, which public contracts don't speak of.
+-- Moves in standard algebraic notation. What a reader has to believe: the forms of texts, which moves they name, and the text of a move;
+-- `steps` has the words of the code's steps, which public contracts don't speak of.
 pub mod Forms
 pub mod Naming
 pub mod Writing
-pub mod Faults
 pub mod steps

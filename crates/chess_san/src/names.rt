@@ -2,7 +2,7 @@ ghost use Rattle.std.specs.Prelude.{◌≡◌};
 ghost use Rattle.chess_san.specs.Naming.{is_kind, castles_by, is_castles, fits, follows, may_be_plain, names};
 
 use crate::form::{Course, Form, Origin};
-use chess_types::{Kind, Man, Move, Setup, Square, Wing};
+use chess_types::{Kind, Man, Move, Setup, Wing};
 
 pub(crate) fn is_kind(kind: Kind, there: Option<Man>) -> bool
     ensures { result ≡ is_kind kind there }

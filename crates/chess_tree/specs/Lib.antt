@@ -6,5 +6,4 @@ pub mod GameTree
 pub mod WellFormed
 pub mod CursorLine
 pub mod Plays
-pub mod Faults
 pub mod steps

@@ -33,31 +33,6 @@ impl From<AllocError> for TreeFault {
     }
 }
 
-impl TreeFault {
-    ghost use Rattle.std.specs.Prelude.{◌≡◌};
-    ghost use Rattle.chess_tree.specs.Faults.{number_of, name_of};
-
-    /// The fault's number, 1 to 5.
-    pub fn number(self) -> u8
-        ensures { result ≡ number_of self }
-    {
-        self as u8
-    }
-
-    /// The fault's name, as `NoSuch`.
-    pub fn name(self) -> &'static str
-        ensures { result.now ≡ name_of self }
-    {
-        match self {
-            TreeFault::NoSuch => "NoSuch",
-            TreeFault::AtRoot => "AtRoot",
-            TreeFault::Full => "Full",
-            TreeFault::BadComment => "BadComment",
-            TreeFault::Memory => "Memory",
-        }
-    }
-}
-
 /// Why a move isn't played or added. Where several apply, the first in this order is reported.
 #[derive(Clone, Copy, Debug, PartialEq, Eq, Error)]
 pub enum PlayFault {

@@ -205,7 +205,7 @@ fn ends_at_twenty_thousand_plies(rt: HostRuntime) {
         push_all(&rt, &mut line, &ROUND);
     }
     run(&rt, &mut line, ENDED);
-    assert!(rt; LineFault::TooLong.number() == 2);
+    assert!(rt; LineFault::TooLong as u8 == 2);
 }
 
 /// Looks at the move of a text, at how often the position has then come, and at how many plies were compared.
@@ -279,7 +279,7 @@ fn looks_back_to_the_start(rt: HostRuntime) {
 fn faults_say_what_they_are(rt: HostRuntime) -> Result<(), Fail> {
     let texts = [
         (LineFault::Illegal, "the move isn't legal"),
-        (LineFault::TooLong, "a line has at most 20,000 plies"),
+        (LineFault::TooLong, "a line has at most 20000 plies"),
         (LineFault::Memory, "there is no memory"),
     ];
     for (fault, text) in texts {

@@ -178,19 +178,16 @@ const WITHOUT_FORM: &[(&str, &str, Result<&str, SanFault>)] = &[
     (START, "P e4", Err(SanFault::Form)),
 ];
 
-const FAULTS: &[(SanFault, u8, &str)] = &[
-    (SanFault::Form, 1, "Form"),
-    (SanFault::Illegal, 2, "Illegal"),
-    (SanFault::Ambiguous, 3, "Ambiguous"),
+const FAULTS: &[(SanFault, u8)] = &[
+    (SanFault::Form, 1),
+    (SanFault::Illegal, 2),
+    (SanFault::Ambiguous, 3),
 ];
 
 #[test]
-fn faults_have_numbers_and_names(rt: HostRuntime) {
+fn faults_have_numbers(rt: HostRuntime) {
     assert_read(&rt, WITHOUT_FORM);
-    for (fault, number, name) in FAULTS {
-        assert!(rt;
-            fault.number() == *number && fault.name() == *name,
-            "{name}"
-        );
+    for (fault, number) in FAULTS {
+        assert!(rt; *fault as u8 == *number, "{fault}");
     }
 }
