@@ -1,8 +1,8 @@
 -- Games that are written one behind the other are read one after another.
 use Rattle.std.proofs.Common.{◌≡◌, ℕ, ◌+◌, ◌≤◌, List, [], ◌∷◌, ◌++◌, length, length-append, refl, sym, ap, ◌∙◌, append_assoc, append-nil, arith}
 use Rattle.std.specs.List.{AllByRecursion}
+use Rattle.chess_items.specs.Items.{Blank, Each, is_blank}
 use Rattle.chess_pgn.specs.Games.{Game}
-use Rattle.chess_pgn.specs.Items.{Blank, Each, is_blank}
 use Rattle.chess_pgn.specs.Laws.{ReadIsGame, WrittenIsRead}
 use Rattle.chess_pgn.specs.Layout.{in_lines}
 use Rattle.chess_pgn.specs.Reading.{IsWhite}

@@ -3,17 +3,18 @@ use Rattle.std.proofs.Common.{◌≡◌, ◌⊎◌, ℕ, ◌+◌, ◌≤◌, Boo
 use Rattle.std.specs.Prelude.{Result, Ok, Option, Some, IfErr, IfOk, IfSome}
 use Rattle.chess_types.specs.bytes.Calls.{Carries, joined}
 use Rattle.chess_types.proofs.CallLemmas.{Calls-append, Carries-none, Carries-append, joined-append}
+use Rattle.chess_items.specs.Coming.{Breaks, Came, unread}
+use Rattle.chess_items.specs.declared.at_hand.AtHand.{AtHand}
+use Rattle.chess_items.specs.declared.fault.PgnFault.{PgnFault}
+use Rattle.chess_items.proofs.BreakLemmas.{came_append, came_none}
 use Rattle.chess_pgn.specs.Games.{Game}
 use Rattle.chess_pgn.specs.Reading.{HasNoGame, IsAtFront, IsWhite}
-use Rattle.chess_pgn.specs.Sources.{Breaks, Came, HasFault, HasGame, HasNone, unread}
+use Rattle.chess_pgn.specs.Sources.{HasFault, HasGame, HasNone}
 use Rattle.chess_pgn.specs.Written.{game_text}
 use Rattle.chess_pgn.specs.steps.GameCode.{game_of}
-use Rattle.chess_pgn.specs.declared.at_hand.AtHand.{AtHand}
-use Rattle.chess_pgn.specs.declared.fault.PgnFault.{PgnFault}
 use Rattle.chess_pgn.specs.declared.game.Game.{Game as Code}
 use Rattle.chess_pgn.specs.declared.games.GamesFault.{GamesFault}
 use Rattle.chess_pgn.specs.declared.games.GamesFault.TheVariants.{Pgn, Read}
-use Rattle.chess_pgn.proofs.BreakLemmas.{came_append, came_none}
 use Rattle.chess_cli.specs.Collections.{AreGames, Collected, EndsAtFault, EndsInPart, EndsUnread, EndsWhole, EndsWritten, games_text}
 use Rattle.chess_cli.specs.RunEnds.{Broken, most_reads}
 use Rattle.chess_cli.specs.steps.Sending.{Sent}

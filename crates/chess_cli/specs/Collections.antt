@@ -9,11 +9,11 @@
 --   EndsInPart    a write failed or took no byte, and was the last call: a front of the games is written
 use Rattle.std.specs.Prelude.{◌≡◌, ◌⊎◌, ℕ, Bool, true, false, List, [], ◌∷◌, ◌++◌, length}
 use Rattle.chess_types.specs.bytes.Calls.{Calls, Carries, joined}
+use Rattle.chess_items.specs.declared.fault.FaultKind.TheVariants.{Memory}
+use Rattle.chess_items.specs.declared.fault.PgnFault.{PgnFault}
 use Rattle.chess_pgn.specs.Games.{Game}
 use Rattle.chess_pgn.specs.Reading.{HasNoGame, IsAtFront, IsWhite}
 use Rattle.chess_pgn.specs.Written.{game_text}
-use Rattle.chess_pgn.specs.declared.fault.FaultKind.TheVariants.{Memory}
-use Rattle.chess_pgn.specs.declared.fault.PgnFault.{PgnFault}
 use Rattle.chess_cli.specs.RunEnds.{Broken}
 
 abbrev pub games_text : List Game → List ℕ

@@ -3,8 +3,8 @@
 --   SittingEnds     so are a session's replies
 --   CollectionEnds  so are the games that were read
 use Rattle.std.specs.Prelude.{◌≡◌, ◌≢◌, ◌⊎◌, ℕ, Bool, List}
+use Rattle.chess_items.specs.declared.fault.PgnFault.{PgnFault}
 use Rattle.chess_tree.specs.GameTree.{TreeParts}
-use Rattle.chess_pgn.specs.declared.fault.PgnFault.{PgnFault}
 use Rattle.chess_cli.specs.declared.ended.Ended.{Ended}
 use Rattle.chess_cli.specs.declared.ended.Ended.TheVariants.{Good, Input, ReadFault, WriteFault, Memory}
 use Rattle.chess_cli.specs.declared.sitting.Sitting.{Sitting}

@@ -1,7 +1,7 @@
 -- What a run's end means to the system: the exit status, and the line for the standard error.
 use Rattle.std.specs.Prelude.{ℕ, List, ◌++◌, codes, decimal}
-use Rattle.chess_pgn.specs.declared.fault.PgnFault.{PgnFault}
-use Rattle.chess_pgn.specs.Faults.{number_of, name_of}
+use Rattle.chess_items.specs.declared.fault.PgnFault.{PgnFault}
+use Rattle.chess_items.specs.Faults.{number_of, name_of}
 use Rattle.chess_cli.specs.declared.ended.Ended.{Ended}
 use Rattle.chess_cli.specs.declared.ended.Ended.TheVariants.{Good, Input, ReadFault, WriteFault, Memory}
 

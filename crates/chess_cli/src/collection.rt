@@ -1,8 +1,8 @@
 ghost use Rattle.std.specs.Prelude.{◌≡◌, [], false, None};
+ghost use Rattle.chess_items.specs.Coming.{unread};
 ghost use Rattle.chess_pgn.specs.Written.{game_text};
 ghost use Rattle.chess_pgn.specs.steps.GameCode.{game_of};
 ghost use Rattle.chess_pgn.specs.steps.Next.{IsSound};
-ghost use Rattle.chess_pgn.specs.Sources.{unread};
 ghost use Rattle.chess_cli.specs.Endings.{CollectionEnds};
 ghost use Rattle.chess_cli.specs.RunEnds.{most_reads};
 ghost use Rattle.chess_cli.specs.steps.Collecting.{WritesAll, WritesOne};

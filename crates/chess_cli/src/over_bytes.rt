@@ -1,6 +1,6 @@
 ghost use Rattle.std.specs.Prelude.{◌≡◌, ◌≢◌, ◌≤◌, ◌<◌, ℕ, List, [], ◌++◌, true, false, length, ◌⊎◌};
+ghost use Rattle.chess_items.specs.declared.fault.PgnFault.{PgnFault};
 ghost use Rattle.chess_tree.specs.GameTree.{TreeParts};
-ghost use Rattle.chess_pgn.specs.declared.fault.PgnFault.{PgnFault};
 ghost use Rattle.chess_cli.specs.Answers.{Answers, beginning};
 ghost use Rattle.chess_cli.specs.RunEnds.{IsFront, most_reads};
 ghost use Rattle.chess_cli.specs.InputLines.{lines_of, ended_lines};

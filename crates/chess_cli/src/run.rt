@@ -2,7 +2,7 @@
 //!
 //! The answers to the lines of one read are written before the next, with as few calls as fit a page.
 ghost use Rattle.std.specs.Prelude.{◌≡◌, ◌⊎◌, ◌+◌, ◌≤◌, List, ℕ, [], ◌<◌, ◌≢◌, false, length, OnOk};
-ghost use Rattle.chess_pgn.specs.declared.fault.PgnFault.{PgnFault};
+ghost use Rattle.chess_items.specs.declared.fault.PgnFault.{PgnFault};
 ghost use Rattle.chess_cli.specs.Runs.{Runs, Partly};
 ghost use Rattle.chess_cli.specs.steps.Reads.{AnswersLine, Feeds, Finishes, Holds};
 ghost use Rattle.chess_cli.specs.RunEnds.{EndsGood, EndsOver, EndsReadFault, EndsWriteFault};

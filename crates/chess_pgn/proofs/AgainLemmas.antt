@@ -5,22 +5,22 @@ use Rattle.std.specs.List.Sorted.{IsStrictlySortedBy}
 use Rattle.std.proofs.lemmas.Bool.{and_parts}
 use Rattle.chess_types.specs.bytes.Words.{words}
 use Rattle.chess_types.specs.board.Position.{State}
+use Rattle.chess_items.specs.Items as items
+use Rattle.chess_items.specs.Items.{Each, Item, Spells, in_line, is_outside, is_white}
+use Rattle.chess_items.specs.declared.outcome.Outcome.{Outcome}
+use Rattle.chess_items.specs.declared.outcome.Outcome.TheVariants.{WhiteWins}
+use Rattle.chess_items.specs.declared.place.Place.{Place}
+use Rattle.chess_items.specs.declared.place.Place.TheVariants.{GameStart, LineStart}
 use Rattle.chess_tree.specs.Comments.{IsComment, normalised}
 use Rattle.chess_tree.specs.Forest.{Forest, Bare, Node, height}
 use Rattle.chess_tree.specs.GameTree.{GameTree}
 use Rattle.chess_fen.proofs.BackLemmas.{read_back}
 use Rattle.chess_pgn.specs.Games.{Game}
 use Rattle.chess_pgn.specs.Grammar.{Derives, elements}
-use Rattle.chess_pgn.specs.Items as items
-use Rattle.chess_pgn.specs.Items.{Each, Item, Spells, in_line, is_outside, is_white}
 use Rattle.chess_pgn.specs.Laws.{IsValue, NewIsGame, ReadIsGame, IsGame, WrittenIsRead, nesting}
 use Rattle.chess_pgn.specs.Layout.{in_lines}
 use Rattle.chess_pgn.specs.Reading.{IsAtFront, remarks}
 use Rattle.chess_pgn.specs.Written.{comment_text, game_text, moves_text, movetext, outcome_text, tags_text}
-use Rattle.chess_pgn.specs.declared.outcome.Outcome.{Outcome}
-use Rattle.chess_pgn.specs.declared.outcome.Outcome.TheVariants.{WhiteWins}
-use Rattle.chess_pgn.specs.declared.place.Place.{Place}
-use Rattle.chess_pgn.specs.declared.place.Place.TheVariants.{GameStart, LineStart}
 use Rattle.chess_pgn.proofs.FenTextLemmas.{fen_value}
 use Rattle.chess_pgn.proofs.ForestLemmas.{AreWritable, comment_piece, forest_piece}
 use Rattle.chess_pgn.proofs.GameLemmas.{movetext_words}

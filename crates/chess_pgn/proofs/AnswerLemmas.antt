@@ -3,19 +3,20 @@ use Rattle.std.proofs.Common.{◌≡◌, ◌⊎◌, ℕ, Bool, List, [], ◌++�
 use Rattle.std.specs.Prelude.{Ok, Option, Some, None}
 use mathlib.Core.Logic.{inl, inr}
 use Rattle.chess_types.specs.bytes.Calls.{joined}
+use Rattle.chess_items.specs.Coming.{unread}
+use Rattle.chess_items.specs.declared.at_hand.AtHand.{AtHand}
+use Rattle.chess_items.specs.declared.fault.FaultKind.TheVariants.{Memory}
+use Rattle.chess_items.specs.declared.fault.PgnFault.{PgnFault}
+use Rattle.chess_items.proofs.BreakLemmas.{all_came, breaking, brings, ends_truly, has_all}
 use Rattle.chess_pgn.specs.Games as games
 use Rattle.chess_pgn.specs.Reading.{HasNoGame, IsAnswered, IsAtFront, IsWhite}
-use Rattle.chess_pgn.specs.Sources.{HasFault, unread}
+use Rattle.chess_pgn.specs.Sources.{HasFault}
 use Rattle.chess_pgn.specs.steps.GameAt.{FoundGame, IsFault, NotCome}
 use Rattle.chess_pgn.specs.steps.GameCode.{game_of}
 use Rattle.chess_pgn.specs.steps.Next.{HasKind}
-use Rattle.chess_pgn.specs.declared.at_hand.AtHand.{AtHand}
-use Rattle.chess_pgn.specs.declared.fault.FaultKind.TheVariants.{Memory}
-use Rattle.chess_pgn.specs.declared.fault.PgnFault.{PgnFault}
 use Rattle.chess_pgn.specs.declared.game.Game.{Game}
 use Rattle.chess_pgn.specs.declared.games.GamesFault.{GamesFault}
 use Rattle.chess_pgn.specs.declared.games.GamesFault.TheVariants.{Pgn, Read}
-use Rattle.chess_pgn.proofs.BreakLemmas.{all_came, breaking, brings, ends_truly, has_all}
 use Rattle.chess_pgn.proofs.OneGameLemmas.{one_game, white_no_game}
 use Rattle.chess_pgn.proofs.SourceLemmas.{no_bytes, whole_game, whole_none}
 

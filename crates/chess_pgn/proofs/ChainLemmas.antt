@@ -4,21 +4,21 @@ use Rattle.std.specs.Prelude.{Ok, Some}
 use Rattle.std.specs.List.{list_all}
 use mathlib.Core.Logic.{inl, inr}
 use Rattle.chess_types.specs.board.Position.{State, start}
+use Rattle.chess_items.specs.Items.{Item}
+use Rattle.chess_items.specs.steps.Taking.{Takes}
+use Rattle.chess_items.specs.declared.outcome.Outcome.TheVariants.{Unfinished}
+use Rattle.chess_items.specs.declared.taker.Taken.TheVariants.{GoesOn}
+use Rattle.chess_items.proofs.TakingLemmas.{bare}
 use Rattle.chess_pgn.specs.Grammar.{Element, element, elements, few_are_open}
-use Rattle.chess_pgn.specs.Items.{Item}
 use Rattle.chess_pgn.specs.Reading.{HasBegun, Starts, is_heading, is_movetext, lead_after, remarks}
 use Rattle.chess_pgn.specs.Tags.{AreTags, start_in}
 use Rattle.chess_pgn.specs.steps.HeaderCode.{HasTaken, is_begun}
 use Rattle.chess_pgn.specs.steps.OtherCode.{Finds}
 use Rattle.chess_pgn.specs.steps.ReaderCode.{BeginsMoves, Headed, HeadsGame, IsNew, Read, TakesItem, TakesPart, takes_when}
 use Rattle.chess_pgn.specs.steps.Readings.{Reading, Stands, fresh, goes_on}
-use Rattle.chess_pgn.specs.steps.Taking.{Takes}
 use Rattle.chess_pgn.specs.declared.reader.Reader.{Reader}
 use Rattle.chess_pgn.specs.declared.reader.header.Header.{Header}
-use Rattle.chess_pgn.specs.declared.outcome.Outcome.TheVariants.{Unfinished}
-use Rattle.chess_pgn.specs.declared.taker.Taken.TheVariants.{GoesOn}
 use Rattle.chess_pgn.proofs.GivenLemmas.{took_between, took_more, took_tags}
-use Rattle.chess_pgn.proofs.TakingLemmas.{bare}
 
 -- all is head so far
 pub record InHead {A : Type 0} (is : List Item) (r : Reader A) : Type 0 where

@@ -3,32 +3,32 @@ use Rattle.std.proofs.Common.{◌≡◌, ◌⊎◌, ℕ, ◌+◌, ◌-◌, Bool,
 use Rattle.std.specs.Prelude.{if◌then◌else◌}
 use Rattle.std.specs.List.{list_all}
 use mathlib.Core.Logic.{inl, inr}
-use Rattle.chess_pgn.specs.Items as items
-use Rattle.chess_pgn.specs.Items.{Each, IsSpelled, Item, Spells, may_stand, EndsRun, in_line, is_blank, is_game_start, is_outside, is_white, place_after, starts_line}
+use Rattle.chess_items.specs.Items as items
+use Rattle.chess_items.specs.Items.{Each, IsSpelled, Item, Spells, may_stand, EndsRun, in_line, is_blank, is_game_start, is_outside, is_white, place_after, starts_line}
+use Rattle.chess_items.specs.steps.ItemAt.{item_at}
+use Rattle.chess_items.specs.steps.Skipping.{column_at, white_after, white_byte}
+use Rattle.chess_items.specs.steps.Texts.{Oversized}
+use Rattle.chess_items.specs.declared.blanks.Column.{Column}
+use Rattle.chess_items.specs.declared.blanks.Column.TheVariants as column
+use Rattle.chess_items.specs.declared.fault.FaultKind.TheVariants.{Memory}
+use Rattle.chess_items.specs.declared.fault.PgnFault.{PgnFault}
+use Rattle.chess_items.specs.declared.place.Place.{Place}
+use Rattle.chess_items.specs.declared.place.Place.TheVariants.{GameStart, LineStart, InLine}
+use Rattle.chess_items.proofs.BlankLemmas.{white_after-append}
+use Rattle.chess_items.proofs.FoundLemmas.{some_is, the}
+use Rattle.chess_items.proofs.SpellLemmas.{first_found, one_spelling, place_behind}
+use Rattle.chess_items.proofs.WhiteLemmas.{after_blank, nothing_after}
 use Rattle.chess_pgn.specs.Reading.{IsWhite, is_heading, is_movetext}
 use Rattle.chess_pgn.specs.Tags.{AreBetween, may_part_tags}
 use Rattle.chess_pgn.specs.steps.HeaderCode.{is_begun}
-use Rattle.chess_pgn.specs.steps.ItemAt.{item_at}
 use Rattle.chess_pgn.specs.steps.ReaderCode.{RefusesFirst, Strays, TakesItem, is_tagged, takes_when}
-use Rattle.chess_pgn.specs.steps.Skipping.{column_at, white_after, white_byte}
-use Rattle.chess_pgn.specs.steps.Texts.{Oversized}
-use Rattle.chess_pgn.specs.declared.blanks.Column.{Column}
-use Rattle.chess_pgn.specs.declared.blanks.Column.TheVariants as column
-use Rattle.chess_pgn.specs.declared.fault.FaultKind.TheVariants.{Memory}
-use Rattle.chess_pgn.specs.declared.fault.PgnFault.{PgnFault}
-use Rattle.chess_pgn.specs.declared.place.Place.{Place}
-use Rattle.chess_pgn.specs.declared.place.Place.TheVariants.{GameStart, LineStart, InLine}
 use Rattle.chess_pgn.specs.declared.reader.Reader.{Reader}
-use Rattle.chess_pgn.proofs.BlankLemmas.{white_after-append}
 use Rattle.chess_pgn.proofs.ChainLemmas.{InHead, Progress}
-use Rattle.chess_pgn.proofs.FoundLemmas.{some_is, the}
 use Rattle.chess_pgn.proofs.FrontLemmas.{begun_dark}
 use Rattle.chess_pgn.proofs.GivenLemmas.{between_pass}
 use Rattle.chess_pgn.proofs.NoGameLemmas.{too_long}
 use Rattle.chess_pgn.proofs.OneGameLemmas.{either}
-use Rattle.chess_pgn.proofs.SpellLemmas.{first_found, one_spelling, place_behind}
 use Rattle.chess_pgn.proofs.SplitLemmas.{all_imply, all_of, movetext_after, movetext_behind, none_some, none_spelled, nothing_found, both_true, first_is, apart}
-use Rattle.chess_pgn.proofs.WhiteLemmas.{after_blank, nothing_after}
 
 -- ---- a white text goes on with white items
 

@@ -1,10 +1,10 @@
 -- What is read from left to right is exactly what the elements derive, and nothing else is derived.
 use Rattle.std.proofs.Common.{◌≡◌, ℕ, List, [], Option, Some, None, refl, sym, ap, ◌∙◌}
 use Rattle.chess_types.specs.board.Position.{State}
+use Rattle.chess_items.proofs.FoundLemmas.{some_is}
 use Rattle.chess_tree.specs.Forest.{Forest, Bare}
 use Rattle.chess_pgn.specs.Grammar.{Derives, Element, Part, comments_joined, meaning, ◌>>=◌}
 use Rattle.chess_pgn.specs.steps.Elements.{run}
-use Rattle.chess_pgn.proofs.FoundLemmas.{some_is}
 use Rattle.chess_pgn.proofs.MeetLemmas.{Answer, ended, finish, meets}
 use Rattle.chess_pgn.proofs.ParseLemmas.{Lines, LastLine, More, Bad, parse, parse-of, parse-back}
 

@@ -7,6 +7,8 @@ use Rattle.chess_types.specs.board.Position.{State}
 use Rattle.chess_types.specs.board.After.{after}
 use Rattle.chess_types.specs.board.Legal.{is_legal}
 use Rattle.chess_types.specs.board.Lines.{Line, last}
+use Rattle.chess_items.specs.declared.fault.FaultKind.{FaultKind}
+use Rattle.chess_items.specs.declared.fault.FaultKind.TheVariants.{Memory, TooLarge}
 use Rattle.chess_tree.specs.Edits.{inside}
 use Rattle.chess_tree.specs.Forest.{Forest, Bare, Node, append, below_at, count, height, moves_held}
 use Rattle.chess_tree.specs.GameTree.{TreeParts, at_path, line_to, moves_along}
@@ -16,8 +18,6 @@ use Rattle.chess_pgn.specs.Grammar.{Element, Number, Annotation, Remark, Open, C
 use Rattle.chess_pgn.specs.steps.Elements.{Frame, Last, end_of, last_of, run}
 use Rattle.chess_pgn.specs.steps.Hanging.{hang, leaf, nag, on_node, say}
 use Rattle.chess_pgn.specs.steps.Readings.{AtLimit, HoldsReading, IsRoomFault, Reading, forest_at, goes_on, said_here}
-use Rattle.chess_pgn.specs.declared.fault.FaultKind.{FaultKind}
-use Rattle.chess_pgn.specs.declared.fault.FaultKind.TheVariants.{Memory, TooLarge}
 use Rattle.chess_pgn.specs.declared.reader.moves.Interrupted.{Interrupted}
 use Rattle.chess_pgn.proofs.KeepLemmas.{keeps, new-there}
 use Rattle.chess_pgn.proofs.PlaceLemmas.{added_is, moves_kept}

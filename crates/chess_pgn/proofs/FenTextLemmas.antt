@@ -13,13 +13,13 @@ use Rattle.chess_types.specs.board.Board.{man_at}
 use Rattle.chess_types.specs.board.Position.{State, look, start, start_cells}
 use Rattle.chess_types.proofs.CellLemmas.{get-board_of}
 use Rattle.chess_types.proofs.StartLemmas.{start_quiet, start_setup}
+use Rattle.chess_items.specs.Items.{in_line}
 use Rattle.chess_fen.specs.Reading.{reading}
 use Rattle.chess_fen.specs.Writing.{or_dash, placement_text, right_text, rights_text, side_text, target_text, written}
 use Rattle.chess_fen.specs.declared.fault.FenFault.{FenFault}
 use Rattle.chess_fen.proofs.BackLemmas.{read_back}
 use Rattle.chess_fen.proofs.PartLemmas.{Above, Above-append, Above-joined, Above-less}
 use Rattle.chess_fen.proofs.PlacementLemmas.{placement_text-word}
-use Rattle.chess_pgn.specs.Items.{in_line}
 use Rattle.chess_pgn.specs.Laws.{IsValue}
 
 -- ---- no part of it has a line feed

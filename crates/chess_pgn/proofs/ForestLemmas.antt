@@ -9,11 +9,11 @@ use Rattle.chess_types.specs.declared.board.man.Colour.TheVariants.{White, Black
 use Rattle.chess_types.specs.board.MoveParts.{MoveParts}
 use Rattle.chess_types.specs.board.Position.{State}
 use Rattle.chess_types.specs.board.After.{after}
+use Rattle.chess_items.specs.Items as items
+use Rattle.chess_items.specs.Items.{Each, Item, in_braces, is_outside}
 use Rattle.chess_tree.specs.Comments.{IsComment, blanks, has_brace, normalised}
 use Rattle.chess_tree.specs.Forest.{Forest, Bare, Node, child}
 use Rattle.chess_san.specs.Writing.{san}
-use Rattle.chess_pgn.specs.Items as items
-use Rattle.chess_pgn.specs.Items.{Each, Item, in_braces, is_outside}
 use Rattle.chess_pgn.specs.Grammar.{Element, Number, Annotation, Remark, Open, Close, Text}
 use Rattle.chess_pgn.specs.Written.{comment_text, is_noted, moves_text, nags_text, node_text, number_text}
 use Rattle.chess_pgn.proofs.NumeralLemmas.{numbered}

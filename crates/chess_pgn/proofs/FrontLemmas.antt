@@ -6,35 +6,35 @@ use Rattle.std.specs.Str.{byte}
 use mathlib.Core.Logic.{inl, inr}
 use Rattle.chess_types.specs.board.Position.{State}
 use Rattle.chess_types.specs.bytes.Calls.{Calls, joined}
+use Rattle.chess_items.specs.Items as items
+use Rattle.chess_items.specs.Items.{IsSpelled, Item, is_white, place_after}
+use Rattle.chess_items.specs.steps.Passing.{Passed, Passes, WasWhite}
+use Rattle.chess_items.specs.steps.Taking.{AfterRun, TakesOne, Took, RanFull, RanOut, RanUpTo, SpellsFrom, all_white}
+use Rattle.chess_items.specs.declared.fault.PgnFault.{PgnFault}
+use Rattle.chess_items.specs.declared.place.Place.{Place}
+use Rattle.chess_items.specs.declared.place.Place.TheVariants.{GameStart}
+use Rattle.chess_items.specs.declared.taker.Taken.{Taken}
+use Rattle.chess_items.specs.declared.taker.Taken.TheVariants.{Ends as AtEnd, Leaves}
+use Rattle.chess_items.specs.declared.taking.Stop.{Stop}
+use Rattle.chess_items.specs.declared.taking.Stop.TheVariants as stop
+use Rattle.chess_items.specs.declared.taking.Stopped.{Stopped}
+use Rattle.chess_items.proofs.FoundLemmas.{item_taken}
+use Rattle.chess_items.proofs.TakingLemmas.{bare, spells_bare}
 use Rattle.chess_pgn.specs.Grammar.{Derives, elements, few_are_open}
-use Rattle.chess_pgn.specs.Items as items
-use Rattle.chess_pgn.specs.Items.{IsSpelled, Item, is_white, place_after}
 use Rattle.chess_pgn.specs.Reading.{Ends, Gives, HasBegun, IsWithinLimits, Starts, is_heading, remarks}
 use Rattle.chess_pgn.specs.steps.GameCode.{game_of}
 use Rattle.chess_pgn.specs.steps.GameAt.{HasCome, NoneCame}
 use Rattle.chess_pgn.specs.steps.HeaderCode.{HasFound}
-use Rattle.chess_pgn.specs.steps.Passing.{Passed, Passes, WasWhite}
 use Rattle.chess_pgn.specs.steps.ReaderCode.{Answered, BeginsMoves, Closed, Ended, Finished, HeadsGame, IsNew, Left, TakesItem, begins_when, takes_when}
 use Rattle.chess_pgn.specs.steps.Readings.{IsRead, fresh, goes_on}
-use Rattle.chess_pgn.specs.steps.Taking.{AfterRun, TakesOne, Took, RanFull, RanOut, RanUpTo, SpellsFrom, all_white}
-use Rattle.chess_pgn.specs.declared.fault.PgnFault.{PgnFault}
 use Rattle.chess_pgn.specs.declared.game.Game.{Game}
-use Rattle.chess_pgn.specs.declared.place.Place.{Place}
-use Rattle.chess_pgn.specs.declared.place.Place.TheVariants.{GameStart}
 use Rattle.chess_pgn.specs.declared.reader.Reader.{Reader}
 use Rattle.chess_pgn.specs.declared.reader.header.Header.{Header}
 use Rattle.chess_pgn.specs.declared.reader.moves.Moves.{Moves}
-use Rattle.chess_pgn.specs.declared.taker.Taken.{Taken}
-use Rattle.chess_pgn.specs.declared.taker.Taken.TheVariants.{Ends as AtEnd, Leaves}
-use Rattle.chess_pgn.specs.declared.taking.Stop.{Stop}
-use Rattle.chess_pgn.specs.declared.taking.Stop.TheVariants as stop
-use Rattle.chess_pgn.specs.declared.taking.Stopped.{Stopped}
 use Rattle.chess_pgn.proofs.ChainLemmas.{InHead, InMovetext, Moving, Progress, begun_starts, movetext_first, progress_all, progress_new}
 use Rattle.chess_pgn.proofs.DerivedLemmas.{derived}
-use Rattle.chess_pgn.proofs.FoundLemmas.{item_taken}
 use Rattle.chess_pgn.proofs.GivenLemmas.{took_tags}
 use Rattle.chess_pgn.proofs.StepLemmas.{no_lines}
-use Rattle.chess_pgn.proofs.TakingLemmas.{bare, spells_bare}
 
 -- ---- what isn't white
 

@@ -4,12 +4,12 @@ use Rattle.std.specs.Prelude.{Result, Ok, Err, OnOk, Option, Vec}
 use Rattle.std.proofs.lemmas.List.{take_more}
 use Rattle.chess_types.specs.bytes.Words.{after_word, as_word, first_word, is_gap, words, words_from}
 use Rattle.chess_types.proofs.WordLemmas.{words_from-first}
+use Rattle.chess_items.specs.Items.{is_escapable}
+use Rattle.chess_items.specs.declared.outcome.Outcome.{Outcome}
+use Rattle.chess_items.specs.declared.outcome.Outcome.TheVariants.{WhiteWins, BlackWins, Draw, Unfinished}
 use Rattle.chess_tree.specs.GameTree.{GameTree}
-use Rattle.chess_pgn.specs.Items.{is_escapable}
 use Rattle.chess_pgn.specs.Written.{comment_text, escaped, is_within, movetext, moves_text, others_text, outcome_text, tag_text}
 use Rattle.chess_pgn.specs.steps.OtherCode.{shown}
-use Rattle.chess_pgn.specs.declared.outcome.Outcome.{Outcome}
-use Rattle.chess_pgn.specs.declared.outcome.Outcome.TheVariants.{WhiteWins, BlackWins, Draw, Unfinished}
 
 -- one part behind another; the last may fail
 pub then : {E : Type 0} (r : Result (Unit {0}) E) (x0 x1 x2 p q : List ℕ) → x1 ≡ x0 ++ p → OnOk r (x2 ≡ x1 ++ q) → OnOk r (x2 ≡ x0 ++ (p ++ q))

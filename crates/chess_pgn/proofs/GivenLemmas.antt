@@ -2,13 +2,13 @@
 use Rattle.std.proofs.Common.{◌≡◌, ℕ, Bool, true, false, List, [], ◌∷◌, ◌++◌, refl, sym, ap, subst, ◌∙◌, append_assoc, append-nil}
 use Rattle.std.specs.Prelude.{Option, Some, None, unwrap_or, if◌then◌else◌}
 use mathlib.Core.Bool.{false≢true}
+use Rattle.chess_items.specs.Items as items
+use Rattle.chess_items.specs.Items.{Item}
+use Rattle.chess_items.specs.declared.fault.PgnFault.{PgnFault}
 use Rattle.chess_pgn.specs.Grammar.{◌>>=◌}
-use Rattle.chess_pgn.specs.Items as items
-use Rattle.chess_pgn.specs.Items.{Item}
 use Rattle.chess_pgn.specs.Tags.{AreBetween, AreGaps, AreTags, AreValueParts, IsTag, may_part_tags, is_tag_gap, is_value_part, part_text, value_text}
 use Rattle.chess_pgn.specs.steps.HeaderCode.{HasTaken, Heading, Heads, RefusesTag, fresh, heading, heads_on, is_begun, is_spaced, opened, step, step_in}
 use Rattle.chess_pgn.specs.steps.OtherCode.{Finds}
-use Rattle.chess_pgn.specs.declared.fault.PgnFault.{PgnFault}
 use Rattle.chess_pgn.specs.declared.reader.header.Header.{Header}
 use Rattle.chess_pgn.specs.declared.reader.header.Part.{Part}
 use Rattle.chess_pgn.specs.declared.reader.header.Part.TheVariants.{Closing, Name, Nothing, Opening, Value}

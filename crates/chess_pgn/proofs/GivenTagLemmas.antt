@@ -5,15 +5,15 @@ use Rattle.std.specs.Cmp.Lexicographic.{bytes_decides}
 use Rattle.std.specs.List.{AllByRecursion, list_all}
 use Rattle.std.proofs.lemmas.Bool.{false≢true}
 use Rattle.chess_types.specs.board.Position.{State, start}
+use Rattle.chess_items.specs.Items.{Each, is_digit, is_name_byte}
+use Rattle.chess_items.specs.declared.outcome.Outcome.{Outcome}
+use Rattle.chess_items.specs.declared.outcome.Outcome.TheVariants.{WhiteWins, BlackWins, Draw, Unfinished}
 use Rattle.chess_fen.specs.Reading.{reading}
 use Rattle.chess_fen.specs.Writing.{written}
 use Rattle.chess_pgn.specs.Games.{Tags, tag_in}
-use Rattle.chess_pgn.specs.Items.{Each, is_digit, is_name_byte}
 use Rattle.chess_pgn.specs.Laws.{HasTagTexts, IsOther, IsValue}
 use Rattle.chess_pgn.specs.Tags.{HasTags, is_own, start_in}
 use Rattle.chess_pgn.specs.Written.{behind_text, is_before, is_within, others_text, outcome_text, tag_text, tags_text}
-use Rattle.chess_pgn.specs.declared.outcome.Outcome.{Outcome}
-use Rattle.chess_pgn.specs.declared.outcome.Outcome.TheVariants.{WhiteWins, BlackWins, Draw, Unfinished}
 use Rattle.chess_pgn.proofs.FenTextLemmas.{usual}
 use Rattle.chess_pgn.proofs.SplitLemmas.{both_true}
 use Rattle.chess_pgn.proofs.TagTextLemmas.{AreGood, IsGood, IsName, given_text}

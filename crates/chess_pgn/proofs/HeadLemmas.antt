@@ -3,18 +3,18 @@ use Rattle.std.proofs.Common.{◌≡◌, ◌⊎◌, ℕ, Bool, true, false, List
 use Rattle.std.specs.Borrow.{Bor}
 use Rattle.std.specs.Prelude.{Result, Ok, Err}
 use mathlib.Core.Logic.{inl, inr}
-use Rattle.chess_pgn.specs.Items as items
-use Rattle.chess_pgn.specs.Items.{Item}
+use Rattle.chess_items.specs.Items as items
+use Rattle.chess_items.specs.Items.{Item}
+use Rattle.chess_items.specs.steps.Tokens.{item_of}
+use Rattle.chess_items.specs.declared.fault.PgnFault.{PgnFault}
+use Rattle.chess_items.specs.declared.taker.Taken.{Taken}
+use Rattle.chess_items.specs.declared.taker.Taken.TheVariants.{GoesOn, Ends, Leaves}
+use Rattle.chess_items.specs.declared.token.Token.{Token}
+use Rattle.chess_items.specs.declared.token.Token.TheVariants.{Mark, Blank, Hidden, Braced, Line, TagOpen, TagClose, Name, Quote, Stretch, Escaped}
 use Rattle.chess_pgn.specs.Reading.{is_heading, is_movetext}
 use Rattle.chess_pgn.specs.steps.HeaderCode.{is_begun}
 use Rattle.chess_pgn.specs.steps.ReaderCode.{BeginsMoves, Moved, RefusesFirst, is_tagged, takes_when}
-use Rattle.chess_pgn.specs.steps.Tokens.{item_of}
-use Rattle.chess_pgn.specs.declared.fault.PgnFault.{PgnFault}
 use Rattle.chess_pgn.specs.declared.reader.Reader.{Reader}
-use Rattle.chess_pgn.specs.declared.taker.Taken.{Taken}
-use Rattle.chess_pgn.specs.declared.taker.Taken.TheVariants.{GoesOn, Ends, Leaves}
-use Rattle.chess_pgn.specs.declared.token.Token.{Token}
-use Rattle.chess_pgn.specs.declared.token.Token.TheVariants.{Mark, Blank, Hidden, Braced, Line, TagOpen, TagClose, Name, Quote, Stretch, Escaped}
 
 abbrev is_end : Item → Bool
 is_end (items.Marker outcome) = true

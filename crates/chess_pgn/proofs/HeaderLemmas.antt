@@ -3,9 +3,9 @@ use Rattle.std.proofs.Common.{◌≡◌, ℕ, Bool, true, false, List, [], ◌�
 use Rattle.std.specs.Cmp.Lexicographic.{bytes_decides, nat_list_eq_equiv}
 use Rattle.std.specs.Prelude.{Vec, Option, Some, None, Result, Ok, Err, OnOk, not, if◌then◌else◌, ◌||◌, ◌&&◌, is_some, bytes_eq, codes}
 use mathlib.Core.Bool.{false≢true}
+use Rattle.chess_items.specs.Items as items
+use Rattle.chess_items.specs.Items.{Item}
 use Rattle.chess_pgn.specs.Games.{tag_in}
-use Rattle.chess_pgn.specs.Items as items
-use Rattle.chess_pgn.specs.Items.{Item}
 use Rattle.chess_pgn.specs.Tags.{is_tag_gap}
 use Rattle.chess_pgn.specs.steps.HeaderCode.{Heading, fresh, is_begun, is_spaced, step}
 use Rattle.chess_pgn.specs.steps.OtherCode.{Finds, Sets}

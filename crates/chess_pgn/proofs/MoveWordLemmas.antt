@@ -15,10 +15,10 @@ use Rattle.chess_types.specs.board.Position.{State, look}
 use Rattle.chess_types.specs.board.Squares.{file_of, rank_of}
 use Rattle.chess_types.specs.board.Texts.{square_text}
 use Rattle.chess_types.proofs.AllMoves.{IsMove}
+use Rattle.chess_items.specs.Items.{Each, is_digit, is_name_byte, is_word_byte, word_item}
 use Rattle.chess_san.specs.declared.form.Origin.{Origin}
 use Rattle.chess_san.specs.Writing.{bare_text, becoming_text, capture_text, captures, file_letter, mark_text, origin_among, origin_by, origin_of, pawn_text, piece_letter, piece_text, rank_digit, rivals, san, share_file, share_rank, step_text}
 use Rattle.chess_san.proofs.SameLemmas.{mover}
-use Rattle.chess_pgn.specs.Items.{Each, is_digit, is_name_byte, is_word_byte, word_item}
 use Rattle.chess_pgn.proofs.PieceLemmas.{IsText}
 
 each_append : (p : ℕ → Bool) (a b : List ℕ) → Each p a → Each p b → Each p (a ++ b)

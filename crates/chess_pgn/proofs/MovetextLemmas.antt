@@ -6,21 +6,21 @@ use Rattle.chess_types.specs.board.Position.{State}
 use Rattle.chess_types.specs.board.After.{after}
 use Rattle.chess_types.proofs.AllMoves.{IsMove}
 use Rattle.chess_types.proofs.Counters.{number_more}
+use Rattle.chess_items.specs.Items as items
+use Rattle.chess_items.specs.Items.{Item, Each, Spells, EndsRun, is_digit, is_name_byte, is_outside, is_word_byte, place_after, word_item}
+use Rattle.chess_items.specs.declared.outcome.Outcome.{Outcome}
+use Rattle.chess_items.specs.declared.outcome.Outcome.TheVariants.{WhiteWins, BlackWins, Draw, Unfinished}
+use Rattle.chess_items.specs.declared.place.Place.{Place}
 use Rattle.chess_tree.specs.Comments.{IsComment, normalised}
 use Rattle.chess_tree.specs.Forest.{Forest, Bare, Node, child, height}
 use Rattle.chess_tree.specs.GameTree.{GameTree}
 use Rattle.chess_tree.specs.WellFormed.{AreSound}
 use Rattle.chess_san.proofs.LawLemmas.{read_back}
 use Rattle.chess_pgn.specs.Grammar.{Derives, Element, End, elements, few_are_open}
-use Rattle.chess_pgn.specs.Items as items
-use Rattle.chess_pgn.specs.Items.{Item, Each, Spells, EndsRun, is_digit, is_name_byte, is_outside, is_word_byte, place_after, word_item}
 use Rattle.chess_pgn.specs.Laws.{AreNoted, nesting}
 use Rattle.chess_pgn.specs.Reading.{Starts, is_movetext, remarks}
 use Rattle.chess_pgn.specs.Tags.{AreBetween}
 use Rattle.chess_pgn.specs.Written.{comment_text, is_noted, moves_text, movetext, node_text, outcome_text}
-use Rattle.chess_pgn.specs.declared.outcome.Outcome.{Outcome}
-use Rattle.chess_pgn.specs.declared.outcome.Outcome.TheVariants.{WhiteWins, BlackWins, Draw, Unfinished}
-use Rattle.chess_pgn.specs.declared.place.Place.{Place}
 use Rattle.chess_pgn.specs.steps.Hanging.{below}
 use Rattle.chess_pgn.proofs.ForestLemmas.{AreWritable, braced, forest_elements, forest_piece, node_elements, node_words}
 use Rattle.chess_pgn.proofs.HangLemmas.{joined-nil}

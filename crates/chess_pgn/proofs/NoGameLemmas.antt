@@ -3,25 +3,25 @@ use Rattle.std.proofs.Common.{◌≡◌, ◌≤◌, ◌<◌, ◌⊎◌, ℕ, ◌
 use Rattle.std.specs.Prelude.{MatchOption}
 use Rattle.std.specs.Str.{byte}
 use mathlib.Core.Logic.{inl, inr}
+use Rattle.chess_items.specs.Items as items
+use Rattle.chess_items.specs.Items.{IsItem, Item, Spells, is_outside, place_after}
+use Rattle.chess_items.specs.steps.Deciding.{Decides}
+use Rattle.chess_items.specs.steps.ItemAt.{Found, item_at}
+use Rattle.chess_items.specs.steps.Texts.{Oversized}
+use Rattle.chess_items.specs.declared.fault.PgnFault.{PgnFault}
+use Rattle.chess_items.specs.declared.fault.FaultKind.TheVariants.{Memory}
+use Rattle.chess_items.specs.declared.place.Place.{Place}
+use Rattle.chess_items.specs.declared.place.Place.TheVariants.{GameStart}
+use Rattle.chess_items.specs.declared.taker.Taken.TheVariants.{GoesOn, Ends as AtEnd}
+use Rattle.chess_items.proofs.FoundLemmas.{some_is, the}
+use Rattle.chess_items.proofs.SpellLemmas.{first_found, one_spelling, place_behind}
 use Rattle.chess_pgn.specs.Games.{Game}
-use Rattle.chess_pgn.specs.Items as items
-use Rattle.chess_pgn.specs.Items.{IsItem, Item, Spells, is_outside, place_after}
 use Rattle.chess_pgn.specs.Reading.{Ends, Gives, HasBegun, IsAtFront, is_heading, is_movetext}
-use Rattle.chess_pgn.specs.steps.Deciding.{Decides}
-use Rattle.chess_pgn.specs.steps.ItemAt.{Found, item_at}
 use Rattle.chess_pgn.specs.steps.ReaderCode.{Ended, MayNotEnd, Read, TakesItem, takes_when}
-use Rattle.chess_pgn.specs.steps.Texts.{Oversized}
-use Rattle.chess_pgn.specs.declared.fault.PgnFault.{PgnFault}
-use Rattle.chess_pgn.specs.declared.fault.FaultKind.TheVariants.{Memory}
-use Rattle.chess_pgn.specs.declared.place.Place.{Place}
-use Rattle.chess_pgn.specs.declared.place.Place.TheVariants.{GameStart}
 use Rattle.chess_pgn.specs.declared.reader.Reader.{Reader}
-use Rattle.chess_pgn.specs.declared.taker.Taken.TheVariants.{GoesOn, Ends as AtEnd}
 use Rattle.chess_pgn.proofs.ChainLemmas.{InHead, Moving, Progress}
-use Rattle.chess_pgn.proofs.FoundLemmas.{some_is, the}
 use Rattle.chess_pgn.proofs.OneGameLemmas.{InParts, either, ends_outside, given_parts, no_more, same_parts}
 use Rattle.chess_pgn.proofs.RefusedLemmas.{refused_bracket, refused_more, unended}
-use Rattle.chess_pgn.proofs.SpellLemmas.{first_found, one_spelling, place_behind}
 use Rattle.chess_pgn.proofs.SplitLemmas.{all_of, begun_halts, bracket_found, none_some, nothing_found}
 
 -- ---- what was taken, in parts

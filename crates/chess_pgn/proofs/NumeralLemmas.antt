@@ -7,7 +7,7 @@ use Rattle.std.proofs.lemmas.Bool.Decides.{nat_tests}
 use Rattle.std.proofs.lemmas.Fmt.{decimal_is_IsNumeral}
 use Rattle.std.proofs.lemmas.Str.{digit_value_digit}
 use Rattle.std.proofs.lemmas.Str.Parse.{digit_from_value}
-use Rattle.chess_pgn.specs.Items.{Each, Skipped, digits_value, is_digit, is_name_byte, is_word_byte, word_item}
+use Rattle.chess_items.specs.Items.{Each, Skipped, digits_value, is_digit, is_name_byte, is_word_byte, word_item}
 
 digit_low : (b : ℕ) → 48 ≤ b → b ≤ 57 → is_digit b ≡ true
 unfolding is_digit

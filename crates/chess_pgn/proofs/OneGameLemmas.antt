@@ -3,19 +3,19 @@ use Rattle.std.proofs.Common.{◌≡◌, ◌≤◌, ◌⊎◌, ℕ, ◌-◌, eq-
 use Rattle.std.specs.List.{list_all}
 use mathlib.Core.Logic.{inl, inr}
 use Rattle.chess_types.specs.board.Position.{State}
+use Rattle.chess_items.specs.Items as items
+use Rattle.chess_items.specs.Items.{Item, Spells, is_outside, is_white}
+use Rattle.chess_items.specs.declared.outcome.Outcome.{Outcome}
+use Rattle.chess_items.specs.declared.place.Place.TheVariants.{GameStart}
+use Rattle.chess_items.proofs.SpellLemmas.{one_spelling, place_behind}
 use Rattle.chess_tree.specs.GameTree.{GameTree}
 use Rattle.chess_pgn.specs.Games.{Game}
 use Rattle.chess_pgn.specs.Grammar.{Derives, elements}
-use Rattle.chess_pgn.specs.Items as items
-use Rattle.chess_pgn.specs.Items.{Item, Spells, is_outside, is_white}
 use Rattle.chess_pgn.specs.Reading.{Ends, Gives, HasBegun, IsAtFront, IsWhite, is_heading, is_movetext, remarks}
 use Rattle.chess_pgn.specs.Tags.{AreTags, HasTags, start_in}
-use Rattle.chess_pgn.specs.declared.outcome.Outcome.{Outcome}
-use Rattle.chess_pgn.specs.declared.place.Place.TheVariants.{GameStart}
 use Rattle.chess_pgn.proofs.DerivedLemmas.{only_one}
 use Rattle.chess_pgn.proofs.GivenLemmas.{tags_once}
 use Rattle.chess_pgn.proofs.SameTagsLemmas.{one_tags}
-use Rattle.chess_pgn.proofs.SpellLemmas.{one_spelling, place_behind}
 use Rattle.chess_pgn.proofs.SplitLemmas.{All, Halts, all_of, begun_halts, begun_outside, behind_append, bracket_item, ending_halts, none_spelled, one_split, starts_more, tags_all_heading, apart}
 
 -- ---- the same items give the same game

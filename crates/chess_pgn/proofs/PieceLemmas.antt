@@ -3,12 +3,12 @@ use Rattle.std.proofs.Common.{◌≡◌, ◌≢◌, inl, inr, ℕ, ◌<◌, Bool
 use Rattle.std.specs.List.{list_all}
 use Rattle.std.proofs.lemmas.Bool.{false≢true}
 use Rattle.std.proofs.lemmas.Bool.Decides.{nat_tests}
-use Rattle.chess_pgn.specs.Items as items
-use Rattle.chess_pgn.specs.Items.{Item, Each, IsItem, IsRun, Spells, EndsRun, in_braces, is_blank, is_digit, is_name_byte, is_outside, is_word_byte, place_after, word_item}
+use Rattle.chess_items.specs.Items as items
+use Rattle.chess_items.specs.Items.{Item, Each, IsItem, IsRun, Spells, EndsRun, in_braces, is_blank, is_digit, is_name_byte, is_outside, is_word_byte, place_after, word_item}
+use Rattle.chess_items.specs.declared.place.Place.{Place}
+use Rattle.chess_items.specs.declared.place.Place.TheVariants.{GameStart, LineStart, InLine, TagLineStart, InTag, InValue}
 use Rattle.chess_pgn.specs.Grammar.{Element, Number, Annotation, Open, Close, Text, element, elements}
 use Rattle.chess_pgn.specs.Reading.{Starts, is_heading, is_movetext}
-use Rattle.chess_pgn.specs.declared.place.Place.{Place}
-use Rattle.chess_pgn.specs.declared.place.Place.TheVariants.{GameStart, LineStart, InLine, TagLineStart, InTag, InValue}
 use Rattle.chess_pgn.proofs.NumeralLemmas.{IsNumber, digits_in_word, number_skipped, numbered}
 use Rattle.chess_pgn.proofs.RespaceLemmas.{Fills, NoSpace, Respaced, is_single, is_space, respaced_parts, respaced_same}
 

@@ -6,6 +6,8 @@ use mathlib.Core.Logic.{inl, inr}
 use Rattle.chess_types.specs.board.MoveParts.{MoveParts}
 use Rattle.chess_types.specs.board.Position.{State}
 use Rattle.chess_types.specs.board.Lines.{last}
+use Rattle.chess_items.specs.declared.fault.FaultKind.{FaultKind}
+use Rattle.chess_items.specs.declared.fault.FaultKind.TheVariants.{Memory, TooLarge}
 use Rattle.chess_san.specs.declared.fault.SanFault.{SanFault}
 use Rattle.chess_san.specs.Naming.{reading}
 use Rattle.chess_tree.specs.Forest.{Forest}
@@ -13,8 +15,6 @@ use Rattle.chess_tree.specs.GameTree.{TreeParts, line_to}
 use Rattle.chess_pgn.specs.Grammar.{Element, Open, Close, Text, few_are_open, move_in, ok_move}
 use Rattle.chess_pgn.specs.steps.Elements.{Frame, Last}
 use Rattle.chess_pgn.specs.steps.Readings.{Exceeds, Reading, RefusesElements, goes_on, HoldsReading, Pends, is_nil}
-use Rattle.chess_pgn.specs.declared.fault.FaultKind.{FaultKind}
-use Rattle.chess_pgn.specs.declared.fault.FaultKind.TheVariants.{Memory, TooLarge}
 use Rattle.chess_pgn.specs.declared.reader.moves.Interrupted.{Interrupted}
 use Rattle.chess_pgn.specs.declared.reader.moves.Moves.{Moves}
 use Rattle.chess_pgn.proofs.StepLemmas.{frames_long, no_frames, no_lines, state}

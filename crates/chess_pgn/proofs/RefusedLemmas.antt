@@ -4,10 +4,14 @@ use Rattle.std.specs.Prelude.{Option, Err, if◌then◌else◌}
 use Rattle.std.specs.Str.{byte}
 use mathlib.Core.Logic.{inl, inr}
 use Rattle.chess_types.specs.board.Position.{State}
+use Rattle.chess_items.specs.Items as items
+use Rattle.chess_items.specs.Items.{Item}
+use Rattle.chess_items.specs.declared.fault.FaultKind.{FaultKind}
+use Rattle.chess_items.specs.declared.fault.FaultKind.TheVariants.{Memory, TooLarge}
+use Rattle.chess_items.specs.declared.fault.PgnFault.{PgnFault}
+use Rattle.chess_items.proofs.FoundLemmas.{some_is}
 use Rattle.chess_pgn.specs.Games.{Game}
 use Rattle.chess_pgn.specs.Grammar.{Element, element, elements, few_are_open}
-use Rattle.chess_pgn.specs.Items as items
-use Rattle.chess_pgn.specs.Items.{Item}
 use Rattle.chess_pgn.specs.Reading.{Ends, Gives, IsWithinLimits, is_heading, is_movetext, remarks}
 use Rattle.chess_pgn.specs.Tags.{AreTags, start_in}
 use Rattle.chess_pgn.specs.steps.HeaderCode.{HasTaken, heading, heads_on, is_begun, Heading}
@@ -15,9 +19,6 @@ use Rattle.chess_pgn.specs.steps.HeaderCode as header_code
 use Rattle.chess_pgn.specs.steps.OtherCode.{Finds}
 use Rattle.chess_pgn.specs.steps.ReaderCode.{MayNotEnd, NoStart, RefusesFirst, RefusesItem, Strays, TakesItem, is_tagged, takes_when}
 use Rattle.chess_pgn.specs.steps.Readings.{Exceeds, FailsWith, FailsHere, fresh, goes_on, is_nil}
-use Rattle.chess_pgn.specs.declared.fault.FaultKind.{FaultKind}
-use Rattle.chess_pgn.specs.declared.fault.FaultKind.TheVariants.{Memory, TooLarge}
-use Rattle.chess_pgn.specs.declared.fault.PgnFault.{PgnFault}
 use Rattle.chess_pgn.specs.declared.reader.Reader.{Reader}
 use Rattle.chess_pgn.specs.declared.reader.header.Header.{Header}
 use Rattle.chess_pgn.specs.declared.reader.header.Part.{Part}
@@ -25,7 +26,6 @@ use Rattle.chess_pgn.specs.declared.reader.header.Part.TheVariants.{Nothing}
 use Rattle.chess_pgn.specs.declared.reader.moves.Interrupted.{Interrupted}
 use Rattle.chess_pgn.proofs.ChainLemmas.{InHead, InMovetext, Moving, Progress, movetext_first}
 use Rattle.chess_pgn.proofs.DerivedLemmas.{read_again}
-use Rattle.chess_pgn.proofs.FoundLemmas.{some_is}
 use Rattle.chess_pgn.proofs.GivenLemmas.{none_go_on, none_on, tags_once, tags_read}
 use Rattle.chess_pgn.proofs.RefuseLemmas.{end_fails}
 use Rattle.chess_pgn.proofs.SplitLemmas.{All, Halts, all_of, begun_halts, ending_halts, one_split, starts_more, tags_all_heading, apart, first_is, rest_is}

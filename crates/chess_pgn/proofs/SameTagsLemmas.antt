@@ -8,9 +8,9 @@ use Rattle.std.specs.Ordering.{is_eq, nat_cmp, ordering_reverse}
 use Rattle.std.specs.declared.cmp.Ordering.{Ordering}
 use Rattle.std.specs.declared.cmp.Ordering.TheVariants.{Less, Equal, Greater}
 use Rattle.std.proofs.lemmas.Map.Text.{is_eq-slice_cmp}
+use Rattle.chess_items.proofs.FoundLemmas.{some_is}
 use Rattle.chess_pgn.specs.Games.{Tags, tag_in}
 use Rattle.chess_pgn.specs.Tags.{Ascend, HasTags}
-use Rattle.chess_pgn.proofs.FoundLemmas.{some_is}
 
 abbrev Pairs : Type 0
 Pairs = List (List ℕ × List ℕ)

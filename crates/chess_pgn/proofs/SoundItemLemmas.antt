@@ -9,13 +9,13 @@ use Rattle.std.specs.declared.cmp.Ordering.TheVariants.{Less}
 use Rattle.std.proofs.lemmas.Bool.{false≢true}
 use Rattle.std.proofs.lemmas.Bool.Decides.{nat_tests}
 use Rattle.std.proofs.lemmas.Map.Text.{is_eq-slice_cmp}
+use Rattle.chess_items.specs.Items as items
+use Rattle.chess_items.specs.Items.{Item, Each, IsSpelled, Spells, in_braces, in_line, is_escapable, is_plain, place_after, without_brace}
+use Rattle.chess_items.specs.declared.place.Place.{Place}
 use Rattle.chess_tree.specs.Comments.{has_brace}
 use Rattle.chess_pgn.specs.Games.{Tags, tag_in}
-use Rattle.chess_pgn.specs.Items as items
-use Rattle.chess_pgn.specs.Items.{Item, Each, IsSpelled, Spells, in_braces, in_line, is_escapable, is_plain, place_after, without_brace}
 use Rattle.chess_pgn.specs.Laws.{HasTagTexts, IsOther, IsValue}
 use Rattle.chess_pgn.specs.Tags.{AreTags, AreValueParts, Ascend, HasTags, IsTag, is_own, is_value_part, part_text, value_in, value_text}
-use Rattle.chess_pgn.specs.declared.place.Place.{Place}
 use Rattle.chess_pgn.proofs.TagTextLemmas.{AreGood, IsGood, IsName}
 
 -- ---- items

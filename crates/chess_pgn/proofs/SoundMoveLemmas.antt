@@ -10,6 +10,8 @@ use Rattle.chess_types.specs.board.Legal.{is_legal, legal_moves}
 use Rattle.chess_types.specs.board.MoveParts.{MoveParts}
 use Rattle.chess_types.specs.board.Position.{State}
 use Rattle.chess_types.proofs.AllMoves.{IsMove}
+use Rattle.chess_items.specs.Items as items
+use Rattle.chess_items.specs.Items.{Item}
 use Rattle.chess_moves.proofs.LegalLaws.{moves_on_board}
 use Rattle.chess_tree.specs.Comments.{IsComment, has_brace, normalised}
 use Rattle.chess_tree.specs.Forest.{Forest, Bare, Node, append}
@@ -21,8 +23,6 @@ use Rattle.chess_san.specs.Forms.{form_in}
 use Rattle.chess_san.specs.Naming.{names, reading, reading_by, the_one}
 use Rattle.chess_san.proofs.GoesLemmas.{read_legal}
 use Rattle.chess_pgn.specs.Grammar.{Derives, Element, Annotation, Remark, Close, Line, End, Skip, Annotate, Say, Play, Vary, Part, with_annotation, element, elements, elements_of, few_are_open, with_opening_comment, comments_joined, meaning, ok_move, nothing, with_move_first, said, varied, ◌>>=◌}
-use Rattle.chess_pgn.specs.Items as items
-use Rattle.chess_pgn.specs.Items.{Item}
 use Rattle.chess_pgn.specs.Laws.{AreNoted, nesting}
 use Rattle.chess_pgn.specs.Reading.{lead_after, remarks}
 use Rattle.chess_pgn.proofs.RemarkLemmas.{normalised_parted}

@@ -3,18 +3,19 @@ use Rattle.std.proofs.Common.{◌≡◌, ℕ, ◌≤◌, ◌<◌, Bool, false, L
 use Rattle.std.specs.List.{list_all}
 use Rattle.std.specs.Prelude.{Result, Ok, Option, Some, None, IfSome}
 use Rattle.chess_types.specs.bytes.Calls.{Calls, joined}
+use Rattle.chess_items.specs.Items.{Item, Spells, is_white, place_after}
+use Rattle.chess_items.specs.Coming.{unread}
+use Rattle.chess_items.specs.declared.at_hand.AtHand.{AtHand}
+use Rattle.chess_items.specs.declared.place.Place.{Place}
+use Rattle.chess_items.specs.declared.place.Place.TheVariants.{GameStart}
+use Rattle.chess_items.proofs.BreakLemmas.{all_came, brings, has_all}
+use Rattle.chess_items.proofs.LocalLemmas.{text_shorter}
 use Rattle.chess_pgn.specs.Games as games
-use Rattle.chess_pgn.specs.Items.{Item, Spells, is_white, place_after}
 use Rattle.chess_pgn.specs.Reading.{IsAtFront, IsWhite}
-use Rattle.chess_pgn.specs.Sources.{HasGame, HasNone, unread}
+use Rattle.chess_pgn.specs.Sources.{HasGame, HasNone}
 use Rattle.chess_pgn.specs.steps.GameAt.{FoundGame, HasCome, NoneCame}
 use Rattle.chess_pgn.specs.steps.GameCode.{game_of}
-use Rattle.chess_pgn.specs.declared.at_hand.AtHand.{AtHand}
 use Rattle.chess_pgn.specs.declared.game.Game.{Game}
-use Rattle.chess_pgn.specs.declared.place.Place.{Place}
-use Rattle.chess_pgn.specs.declared.place.Place.TheVariants.{GameStart}
-use Rattle.chess_pgn.proofs.BreakLemmas.{all_came, brings, has_all}
-use Rattle.chess_pgn.proofs.LocalLemmas.{text_shorter}
 
 -- ---- a whole text
 

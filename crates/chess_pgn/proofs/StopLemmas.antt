@@ -4,33 +4,33 @@ use Rattle.std.specs.Prelude.{Result}
 use mathlib.Core.Logic.{inl, inr}
 use Rattle.chess_types.specs.bytes.Calls.{Calls, joined}
 use Rattle.chess_types.proofs.CallLemmas.{Calls-append, joined-append}
+use Rattle.chess_items.specs.Items as items
+use Rattle.chess_items.specs.Items.{IsItem, Item, Spells, is_outside, place_after}
+use Rattle.chess_items.specs.steps.ItemAt.{item_at}
+use Rattle.chess_items.specs.steps.Passing.{NotWhite, Passed, Passes}
+use Rattle.chess_items.specs.steps.Skipping.{column_at, white_after}
+use Rattle.chess_items.specs.steps.Taking.{AfterRun, Ran, RanAground, RanOut, RanOver, RanUpTo, Takes, Took, behind}
+use Rattle.chess_items.specs.steps.Texts.{Oversized}
+use Rattle.chess_items.specs.declared.fault.PgnFault.{PgnFault}
+use Rattle.chess_items.specs.declared.fault.FaultKind.{FaultKind}
+use Rattle.chess_items.specs.declared.fault.FaultKind.TheVariants.{Memory}
+use Rattle.chess_items.specs.declared.place.Place.{Place}
+use Rattle.chess_items.specs.declared.place.Place.TheVariants.{GameStart}
+use Rattle.chess_items.specs.declared.taker.Taken.{Taken}
+use Rattle.chess_items.specs.declared.taking.Stop.{Stop}
+use Rattle.chess_items.specs.declared.taking.Stop.TheVariants as stop
+use Rattle.chess_items.specs.declared.taking.Stopped.{Stopped}
+use Rattle.chess_items.proofs.FoundLemmas.{the}
+use Rattle.chess_items.proofs.SpellLemmas.{place_behind}
+use Rattle.chess_items.proofs.TakingLemmas.{bare, ended_after, spells_bare}
 use Rattle.chess_pgn.specs.Games.{Game}
-use Rattle.chess_pgn.specs.Items as items
-use Rattle.chess_pgn.specs.Items.{IsItem, Item, Spells, is_outside, place_after}
 use Rattle.chess_pgn.specs.Reading.{IsAtFront, IsWhite}
 use Rattle.chess_pgn.specs.steps.GameAt.{HasStarved, NotCome}
-use Rattle.chess_pgn.specs.steps.ItemAt.{item_at}
-use Rattle.chess_pgn.specs.steps.Passing.{NotWhite, Passed, Passes}
 use Rattle.chess_pgn.specs.steps.ReaderCode.{IsNew, MayNotEnd, TakesItem, Unanswered}
-use Rattle.chess_pgn.specs.steps.Skipping.{column_at, white_after}
-use Rattle.chess_pgn.specs.steps.Taking.{AfterRun, Ran, RanAground, RanOut, RanOver, RanUpTo, Takes, Took, behind}
-use Rattle.chess_pgn.specs.steps.Texts.{Oversized}
-use Rattle.chess_pgn.specs.declared.fault.PgnFault.{PgnFault}
-use Rattle.chess_pgn.specs.declared.fault.FaultKind.{FaultKind}
-use Rattle.chess_pgn.specs.declared.fault.FaultKind.TheVariants.{Memory}
-use Rattle.chess_pgn.specs.declared.place.Place.{Place}
-use Rattle.chess_pgn.specs.declared.place.Place.TheVariants.{GameStart}
 use Rattle.chess_pgn.specs.declared.reader.Reader.{Reader}
-use Rattle.chess_pgn.specs.declared.taker.Taken.{Taken}
-use Rattle.chess_pgn.specs.declared.taking.Stop.{Stop}
-use Rattle.chess_pgn.specs.declared.taking.Stop.TheVariants as stop
-use Rattle.chess_pgn.specs.declared.taking.Stopped.{Stopped}
 use Rattle.chess_pgn.proofs.ChainLemmas.{Progress, progress_all, progress_new}
 use Rattle.chess_pgn.proofs.DarkLemmas.{dark_aground, dark_over, dark_refused, dark_taken}
 use Rattle.chess_pgn.proofs.FrontLemmas.{whites_bare}
-use Rattle.chess_pgn.proofs.FoundLemmas.{the}
-use Rattle.chess_pgn.proofs.SpellLemmas.{place_behind}
-use Rattle.chess_pgn.proofs.TakingLemmas.{bare, ended_after, spells_bare}
 use Rattle.chess_pgn.proofs.NoGameLemmas.{none_aground, none_out, none_over, none_refused}
 
 -- ---- why the reading stops

@@ -3,15 +3,15 @@ use Rattle.std.proofs.Common.{◌≡◌, ◌≢◌, inl, ℕ, Bool, true, false,
 use Rattle.std.specs.List.{AllByRecursion}
 use Rattle.std.proofs.lemmas.Bool.{false≢true}
 use Rattle.std.proofs.lemmas.Bool.Decides.{nat_tests}
-use Rattle.chess_pgn.specs.Items as items
-use Rattle.chess_pgn.specs.Items.{Item, Each, Spells, EndsRun, in_line, is_digit, is_escapable, is_name_byte, is_outside, is_plain, place_after}
+use Rattle.chess_items.specs.Items as items
+use Rattle.chess_items.specs.Items.{Item, Each, Spells, EndsRun, in_line, is_digit, is_escapable, is_name_byte, is_outside, is_plain, place_after}
+use Rattle.chess_items.specs.declared.place.Place.{Place}
+use Rattle.chess_items.specs.declared.place.Place.TheVariants.{LineStart, InValue}
 use Rattle.chess_pgn.specs.Laws.{IsValue}
 use Rattle.chess_pgn.specs.Reading.{remarks}
 use Rattle.chess_pgn.specs.Tags.{AreBetween, AreTags, AreValueParts, IsTag, value_text}
 use Rattle.chess_pgn.specs.Written.{escaped, tag_text}
-use Rattle.chess_pgn.specs.declared.place.Place.{Place}
 use Rattle.chess_pgn.proofs.PieceLemmas.{out_blank}
-use Rattle.chess_pgn.specs.declared.place.Place.TheVariants.{LineStart, InValue}
 
 -- ---- values
 

@@ -6,9 +6,9 @@
 --   Game        a game
 --   untold      one of which the moves are known and nothing else
 use Rattle.std.specs.Prelude.{ℕ, if◌then◌else◌, List, [], ◌∷◌, Option, Some, None, codes, bytes_eq}
+use Rattle.chess_items.specs.declared.outcome.Outcome.{Outcome}
+use Rattle.chess_items.specs.declared.outcome.Outcome.TheVariants.{Unfinished}
 use Rattle.chess_tree.specs.GameTree.{GameTree}
-use Rattle.chess_pgn.specs.declared.outcome.Outcome.{Outcome}
-use Rattle.chess_pgn.specs.declared.outcome.Outcome.TheVariants.{Unfinished}
 
 -- tags are pairs of a name and a value
 abbrev pub tag_in : List ℕ → List (List ℕ × List ℕ) → Option (List ℕ)

@@ -13,12 +13,12 @@ use Rattle.std.specs.List.{flat_map}
 use Rattle.chess_types.specs.board.MoveParts.{MoveParts}
 use Rattle.chess_types.specs.board.Position.{State}
 use Rattle.chess_types.specs.board.After.{after}
+use Rattle.chess_items.specs.Items as items
+use Rattle.chess_items.specs.Items.{Item}
 use Rattle.chess_san.specs.declared.fault.SanFault.{SanFault}
 use Rattle.chess_san.specs.Naming.{reading}
 use Rattle.chess_tree.specs.Forest.{Forest, Bare, Node, append}
 use Rattle.chess_tree.specs.Comments.{normalised}
-use Rattle.chess_pgn.specs.Items as items
-use Rattle.chess_pgn.specs.Items.{Item}
 
 -- ---- syntax
 

@@ -11,11 +11,11 @@ use Rattle.std.specs.Prelude.{◌≡◌, ◌≢◌, ℕ, ◌<◌, ◌≤◌, ◌
 use Rattle.std.specs.List.{AllByRecursion}
 use Rattle.chess_types.specs.board.Board.{man_at}
 use Rattle.chess_types.specs.board.Position.{IsWellFormed, State}
+use Rattle.chess_items.specs.Items.{Each, in_line, is_blank, is_name_byte}
 use Rattle.chess_tree.specs.Comments.{IsComment}
 use Rattle.chess_tree.specs.Forest.{Forest, Bare, Node, height, moves_held}
 use Rattle.chess_tree.specs.WellFormed.{AreSound}
 use Rattle.chess_pgn.specs.Games.{Game, Tags, untold}
-use Rattle.chess_pgn.specs.Items.{Each, in_line, is_blank, is_name_byte}
 use Rattle.chess_pgn.specs.Reading.{IsAtFront}
 use Rattle.chess_pgn.specs.Tags.{Ascend, is_own}
 use Rattle.chess_pgn.specs.Written.{game_text}

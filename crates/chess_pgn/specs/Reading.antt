@@ -14,20 +14,20 @@
 use Rattle.std.specs.Prelude.{◌≡◌, ◌⊎◌, ℕ, ◌+◌, ◌≤◌, Bool, true, false, List, [], ◌∷◌, ◌++◌, length, Option, Some, None, Result, Ok, Err, ⊤}
 use Rattle.std.specs.List.{list_all}
 use Rattle.std.specs.Str.{byte}
+use Rattle.chess_items.specs.Items as items
+use Rattle.chess_items.specs.Items.{Item, Spells, is_white}
+use Rattle.chess_items.specs.declared.fault.FaultKind.TheVariants.{Memory}
+use Rattle.chess_items.specs.declared.fault.PgnFault.{PgnFault}
+use Rattle.chess_items.specs.declared.outcome.Outcome.{Outcome}
+use Rattle.chess_items.specs.declared.outcome.Outcome.TheVariants.{Unfinished}
+use Rattle.chess_items.specs.declared.place.Place.TheVariants.{GameStart}
 use Rattle.chess_tree.specs.Comments.{normalised}
 use Rattle.chess_tree.specs.Forest.{height, moves_held}
 use Rattle.chess_pgn.specs.Games.{Game}
 use Rattle.chess_pgn.specs.Grammar.{Derives, elements, few_are_open, comments_joined}
-use Rattle.chess_pgn.specs.Items as items
-use Rattle.chess_pgn.specs.Items.{Item, Spells, is_white}
 use Rattle.chess_pgn.specs.Tags.{AreTags, HasTags, start_in}
 use Rattle.chess_pgn.specs.steps.GameCode.{game_of}
-use Rattle.chess_pgn.specs.declared.fault.FaultKind.TheVariants.{Memory}
-use Rattle.chess_pgn.specs.declared.fault.PgnFault.{PgnFault}
 use Rattle.chess_pgn.specs.declared.game.Game as code
-use Rattle.chess_pgn.specs.declared.outcome.Outcome.{Outcome}
-use Rattle.chess_pgn.specs.declared.outcome.Outcome.TheVariants.{Unfinished}
-use Rattle.chess_pgn.specs.declared.place.Place.TheVariants.{GameStart}
 
 abbrev pub is_heading : Item → Bool
 is_heading items.Skipped = false

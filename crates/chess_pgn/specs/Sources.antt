@@ -1,7 +1,4 @@
--- Games of a source, one after another.
---   unread     the bytes that were read and not used
---   Came       reads of at most 65,536 bytes each gave these bytes, and none of them failed
---   Breaks     the next read failed, or there may be no more: of a new source, 2^40 were made
+-- Games of a source, one after another. The bytes that come are those of `chess_items/specs/Coming.antt`.
 --   HasGame    a game stands at the front of the bytes at hand and those that the source gave, whatever it gives next, and is used; at most
 --              65,536 bytes behind it were read; a source that has ended gives no more
 --   HasNone    the source has ended, and those bytes are white
@@ -9,29 +6,14 @@
 --   Starves    bytes came, and then there was no memory
 --   ReadFails  bytes came, and then a read failed, or there may be no more; the source had not ended before
 --   HasFault   a read failed, there was no memory, or no game stands there; but for the first, no read failed
-use Rattle.std.specs.Prelude.{◌≡◌, ◌⊎◌, ◌≤◌, ◌<◌, ℕ, ◌+◌, ◌*◌, Bool, true, List, [], ◌++◌, length, drop}
-use Rattle.chess_types.specs.bytes.Calls.{Calls, joined}
+use Rattle.std.specs.Prelude.{◌≡◌, ◌⊎◌, ◌≤◌, ◌<◌, ℕ, Bool, true, List, [], ◌++◌, length}
+use Rattle.chess_items.specs.Coming.{Breaks, Came, unread}
+use Rattle.chess_items.specs.declared.at_hand.AtHand.{AtHand}
+use Rattle.chess_items.specs.declared.fault.FaultKind.TheVariants.{Memory}
 use Rattle.chess_pgn.specs.Games.{Game}
 use Rattle.chess_pgn.specs.Reading.{HasNoGame, IsAtFront, IsWhite}
-use Rattle.chess_pgn.specs.declared.at_hand.AtHand.{AtHand}
-use Rattle.chess_pgn.specs.declared.fault.FaultKind.TheVariants.{Memory}
 use Rattle.chess_pgn.specs.declared.games.GamesFault.{GamesFault}
 use Rattle.chess_pgn.specs.declared.games.GamesFault.TheVariants.{Pgn, Read}
-
-abbrev pub unread : {R A : Type 0} → AtHand R A → List ℕ
-unread h = drop h.used h.bytes.items
-
--- there may be as many reads fewer
-pub record Came {R A : Type 0} (gives : R → List ℕ → R → Type 0) (failed : R → Bool) (old : AtHand R A) (bytes : List ℕ) (new : AtHand R A) : Type 0 where
-  pub pieces : List (List ℕ)
-  pub calls : Calls gives old.source pieces new.source
-  pub whole : joined pieces ≡ bytes
-  pub counted : new.reads + length pieces ≡ old.reads
-  pub small : length bytes ≤ 65536 * length pieces
-  pub well : failed new.source ≡ failed old.source
-
-abbrev pub Breaks : {R A : Type 0} → (R → List ℕ → R → Type 0) → (R → Bool) → AtHand R A → AtHand R A → Type 0
-Breaks gives failed old new = (gives old.source [] new.source × (failed new.source ≡ true)) ⊎ ((new.source ≡ old.source) × (old.reads ≡ 0))
 
 pub record HasGame {R A : Type 0} (gives : R → List ℕ → R → Type 0) (failed : R → Bool) (old new : AtHand R A) (game : Game) : Type 0 where
   pub bytes : List ℕ

@@ -11,10 +11,10 @@ use Rattle.std.specs.List.{AllByRecursion}
 use Rattle.std.specs.List.Sorted.{IsStrictlySortedBy}
 use Rattle.std.specs.Ordering.{nat_cmp}
 use Rattle.chess_types.specs.board.Position.{State, start}
+use Rattle.chess_items.specs.Items.{Item, Blank, Hidden, Comment, TagOpen, TagClose, Name, Quote, Stretch, Escaped, is_white}
 use Rattle.chess_fen.specs.Reading.{reading}
 use Rattle.chess_fen.specs.declared.fault.FenFault.{FenFault}
 use Rattle.chess_pgn.specs.Games.{Tags, tag_in}
-use Rattle.chess_pgn.specs.Items.{Item, Blank, Hidden, Comment, TagOpen, TagClose, Name, Quote, Stretch, Escaped, is_white}
 
 -- ---- a tag
 

@@ -16,15 +16,15 @@ use Rattle.chess_types.specs.declared.board.man.Colour.TheVariants.{White, Black
 use Rattle.chess_types.specs.board.MoveParts.{MoveParts}
 use Rattle.chess_types.specs.board.Position.{State, start}
 use Rattle.chess_types.specs.board.After.{after}
+use Rattle.chess_items.specs.Items.{is_escapable}
+use Rattle.chess_items.specs.declared.outcome.Outcome.{Outcome}
+use Rattle.chess_items.specs.declared.outcome.Outcome.TheVariants.{WhiteWins, BlackWins, Draw, Unfinished}
 use Rattle.chess_tree.specs.Forest.{Forest, Bare, Node, child}
 use Rattle.chess_tree.specs.GameTree.{GameTree}
 use Rattle.chess_fen.specs.Writing.{written}
 use Rattle.chess_san.specs.Writing.{san}
 use Rattle.chess_pgn.specs.Games.{Tags, Game}
-use Rattle.chess_pgn.specs.Items.{is_escapable}
 use Rattle.chess_pgn.specs.Layout.{in_lines}
-use Rattle.chess_pgn.specs.declared.outcome.Outcome.{Outcome}
-use Rattle.chess_pgn.specs.declared.outcome.Outcome.TheVariants.{WhiteWins, BlackWins, Draw, Unfinished}
 
 -- ---- tags
 

@@ -1,7 +1,4 @@
 -- Words of the code's steps: no definition rests on them.
-pub mod Classes
-pub mod ItemAt
-pub mod Tokens
 pub mod Hanging
 pub mod Elements
 pub mod Readings
@@ -11,12 +8,6 @@ pub mod Adding
 pub mod Tasks
 pub mod TaskCode
 pub mod GameCode
-pub mod Deciding
-pub mod AtHands
-pub mod Texts
-pub mod Taking
-pub mod Skipping
-pub mod Passing
 pub mod OtherCode
 pub mod HeaderCode
 pub mod Next

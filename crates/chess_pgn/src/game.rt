@@ -1,12 +1,11 @@
 ghost use Rattle.std.specs.Prelude.{◌≡◌, ◌≤◌, [], Option, IfOk, IfErr, option_map};
+ghost use Rattle.chess_items.specs.declared.fault.FaultKind.TheVariants.{Memory};
+ghost use Rattle.chess_items.specs.declared.outcome.Outcome.TheVariants.{Unfinished};
 ghost use Rattle.chess_tree.specs.Forest.{Bare};
 ghost use Rattle.chess_pgn.specs.Games.{tag_value, unknown};
-ghost use Rattle.chess_pgn.specs.declared.fault.FaultKind.TheVariants.{Memory};
-ghost use Rattle.chess_pgn.specs.declared.outcome.Outcome.TheVariants.{Unfinished};
 
-use crate::fault::{FaultKind, PgnFault};
-use crate::outcome::Outcome;
 use crate::tags::Tags;
+use chess_items::{FaultKind, Outcome, PgnFault};
 use chess_tree::Tree;
 use chess_types::Position;
 use std::alloc::Allocator;

@@ -1,23 +1,21 @@
 //! Games of a text or of a source, one after another.
 
 ghost use Rattle.std.specs.Prelude.{◌≡◌, ◌⊎◌, ℕ, false, [], true, Some, None, Ok, Err, IfErr, IfOk, IfSome};
+ghost use Rattle.chess_items.specs.Coming.{Breaks, Came, unread};
+ghost use Rattle.chess_items.specs.declared.fault.FaultKind.TheVariants.{Memory};
 ghost use Rattle.chess_pgn.specs.Games as games;
 ghost use Rattle.chess_pgn.specs.Reading.{HasNoGame, IsAnswered, IsAtFront, IsWhite};
-ghost use Rattle.chess_pgn.specs.Sources.{Breaks, Came, HasFault, HasGame, HasNone, unread};
+ghost use Rattle.chess_pgn.specs.Sources.{HasFault, HasGame, HasNone};
 ghost use Rattle.chess_pgn.specs.steps.GameAt.{TakesGame};
 ghost use Rattle.chess_pgn.specs.steps.GameCode.{game_of};
 ghost use Rattle.chess_pgn.specs.steps.Next.{HasKind, IsSound};
 ghost use Rattle.chess_pgn.specs.steps.ReaderCode.{Answered, EndsReading, Unanswered};
-ghost use Rattle.chess_pgn.specs.declared.fault.FaultKind.TheVariants.{Memory};
 
-use crate::at_hand::{AtHand, Fault};
-use crate::fault::{FaultKind, PgnFault, at_place};
 use crate::game::Game;
-use crate::passing::pass;
-use crate::place::Place;
 use crate::reader::Reader;
-use crate::taking::{Stop, Stopped};
-use crate::text::{Text, Whole};
+use chess_items::{
+    AtHand, Fault, FaultKind, PgnFault, Place, Stop, Stopped, Text, Whole, at_place, pass,
+};
 use chess_key::KeyTable;
 use chess_types::Source;
 use std::alloc::{AllocError, Allocator};

@@ -7,8 +7,8 @@ ghost use Rattle.chess_pgn.specs.Written.{comment_text, is_noted, movetext, move
 ghost use Rattle.chess_pgn.specs.steps.Adding.{Adds};
 
 use crate::lines::Lines;
-use crate::outcome::Outcome;
 use chess_draws::Line;
+use chess_items::Outcome;
 use chess_key::KeyTable;
 use chess_tree::{Children, Notes, Tree};
 use chess_types::{Colour, Move};

@@ -1,18 +1,15 @@
 ghost use Rattle.std.specs.Prelude.{◌≡◌, ◌⊎◌, false, IfErr, IfOk, OnOk};
-ghost use Rattle.chess_pgn.specs.declared.fault.FaultKind.TheVariants.{Memory};
+ghost use Rattle.chess_items.specs.declared.fault.FaultKind.TheVariants.{Memory};
+ghost use Rattle.chess_items.specs.steps.Tokens.{item_of};
 ghost use Rattle.chess_pgn.specs.steps.HeaderCode.{is_begun};
 ghost use Rattle.chess_pgn.specs.steps.ReaderCode.{BeginsMoves, Closed, Finishes, IsNew, MayNotEnd, Moved, NoStart, ending_item, takes_when};
-ghost use Rattle.chess_pgn.specs.steps.Tokens.{item_of};
 
 mod found;
 mod header;
 mod moves;
 
-use crate::fault::{FaultKind, PgnFault, at_place};
 use crate::game::Game;
-use crate::outcome::Outcome;
-use crate::taker::{Taken, Taker};
-use crate::token::Token;
+use chess_items::{FaultKind, Outcome, PgnFault, Taken, Taker, Token, at_place};
 use chess_key::KeyTable;
 use chess_types::Position;
 use header::Header;

@@ -1,8 +1,8 @@
 ghost use Rattle.std.specs.Prelude.{◌≡◌, Option, IfOk, option_map};
 ghost use Rattle.chess_pgn.specs.Games.{tag_value, unknown};
 
-use crate::lexer::is;
 use crate::others::OtherTags;
+use chess_items::is;
 use std::alloc::{AllocError, Allocator};
 
 /// The tags that each game has, besides Result (PGN 8.1.1).

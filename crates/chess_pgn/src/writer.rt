@@ -1,19 +1,16 @@
 ghost use Rattle.std.specs.Prelude.{◌≡◌, ◌++◌, ◌∷◌, [], if◌then◌else◌, option_map, IfOk, IfErr, OnOk};
+ghost use Rattle.chess_items.specs.declared.fault.FaultKind.TheVariants.{Memory};
 ghost use Rattle.chess_fen.specs.Writing.{written};
 ghost use Rattle.chess_pgn.specs.Games.{untold};
 ghost use Rattle.chess_pgn.specs.Written.{behind_text, escaped, game_text, is_before, is_within, others_text, tag_text, tags_text};
-ghost use Rattle.chess_pgn.specs.declared.fault.FaultKind.TheVariants.{Memory};
 ghost use Rattle.chess_pgn.specs.steps.GameCode.{game_of, tags_of};
 
-use crate::class::is_escapable;
-use crate::fault::PgnFault;
 use crate::game::Game;
-use crate::lexer::is;
 use crate::lines::Lines;
 use crate::movetext::{outcome_text, push_movetext};
 use crate::others::OtherTags;
-use crate::outcome::Outcome;
 use crate::tags::Tags;
+use chess_items::{Outcome, PgnFault, is, is_escapable};
 use chess_key::KeyTable;
 use chess_tree::Tree;
 use chess_types::Position;

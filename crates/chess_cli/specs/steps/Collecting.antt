@@ -5,9 +5,9 @@
 --   WritesAll   how the reading and writing ends
 use Rattle.std.specs.Prelude.{◌≡◌, Bool, true, false, List, [], ◌++◌, ℕ, ◌+◌, ◌≤◌, length, Result, Ok, Err}
 use Rattle.chess_types.specs.bytes.Calls.{Carries}
+use Rattle.chess_items.specs.Coming.{Came, unread}
+use Rattle.chess_items.specs.declared.at_hand.AtHand.{AtHand}
 use Rattle.chess_pgn.specs.Games.{Game}
-use Rattle.chess_pgn.specs.Sources.{Came, unread}
-use Rattle.chess_pgn.specs.declared.at_hand.AtHand.{AtHand}
 use Rattle.chess_cli.specs.Collections.{AreGames, EndsAtFault, EndsInPart, EndsUnread, EndsWhole, EndsWritten, games_text}
 use Rattle.chess_cli.specs.RunEnds.{Broken, most_reads}
 use Rattle.chess_cli.specs.steps.Sending.{Sent}

@@ -9,11 +9,11 @@
 --   TakesGame  what becomes of a text of which one game is taken
 use Rattle.std.specs.Prelude.{◌≡◌, ◌⊎◌, ◌≤◌, ℕ, List, [], ◌++◌, length, Option, Some, None, Result, Ok, Err}
 use Rattle.chess_types.specs.bytes.Calls.{Calls, joined}
+use Rattle.chess_items.specs.steps.Texts.{BreaksOff}
+use Rattle.chess_items.specs.declared.at_hand.Fault.TheVariants as fault
+use Rattle.chess_items.specs.declared.fault.FaultKind.TheVariants.{Memory}
 use Rattle.chess_pgn.specs.Reading.{HasNoGame, IsAtFront, IsWhite}
 use Rattle.chess_pgn.specs.steps.GameCode.{game_of}
-use Rattle.chess_pgn.specs.steps.Texts.{BreaksOff}
-use Rattle.chess_pgn.specs.declared.at_hand.Fault.TheVariants as fault
-use Rattle.chess_pgn.specs.declared.fault.FaultKind.TheVariants.{Memory}
 use Rattle.chess_pgn.specs.declared.game.Game.{Game}
 use Rattle.chess_pgn.specs.declared.games.GamesFault.{GamesFault}
 use Rattle.chess_pgn.specs.declared.games.GamesFault.TheVariants.{Pgn, Read}

@@ -8,17 +8,17 @@
 --   HasFound   the tags that it has read are a game's
 use Rattle.std.specs.Prelude.{◌≡◌, ℕ, ◌&&◌, if◌then◌else◌, Bool, true, false, List, [], ◌∷◌, ◌++◌, Option, Some, None, is_none, Result, Ok, Err, codes, bytes_eq}
 use Rattle.chess_types.specs.board.Position.{State}
+use Rattle.chess_items.specs.Items as items
+use Rattle.chess_items.specs.Items.{Item}
+use Rattle.chess_items.specs.declared.fault.FaultKind.TheVariants.{Fen, Tag}
+use Rattle.chess_items.specs.declared.fault.PgnFault.{PgnFault}
 use Rattle.chess_fen.specs.Reading.{reading}
 use Rattle.chess_fen.specs.declared.fault.FenFault.{FenFault}
 use Rattle.chess_pgn.specs.Games.{tag_in}
 use Rattle.chess_pgn.specs.Grammar.{◌>>=◌}
-use Rattle.chess_pgn.specs.Items as items
-use Rattle.chess_pgn.specs.Items.{Item}
 use Rattle.chess_pgn.specs.Tags.{HasTags, may_part_tags, is_tag_gap}
 use Rattle.chess_pgn.specs.steps.GameCode.{tags_of}
 use Rattle.chess_pgn.specs.steps.OtherCode.{Finds}
-use Rattle.chess_pgn.specs.declared.fault.FaultKind.TheVariants.{Fen, Tag}
-use Rattle.chess_pgn.specs.declared.fault.PgnFault.{PgnFault}
 use Rattle.chess_pgn.specs.declared.reader.header.Header.{Header}
 use Rattle.chess_pgn.specs.declared.reader.header.Part.{Part}
 use Rattle.chess_pgn.specs.declared.reader.header.Part.TheVariants.{Closing, Name, Nothing, Opening, Value}

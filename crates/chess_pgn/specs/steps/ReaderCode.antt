@@ -11,28 +11,28 @@
 --   Finishes, EndsReading  the reader is brought to where its game has ended
 use Rattle.std.specs.Prelude.{◌≡◌, ◌≢◌, ◌⊎◌, ℕ, Bool, true, false, List, [], Option, Some, None, Result, Ok, Err, ⊤}
 use Rattle.chess_types.specs.board.Position.{State, start}
+use Rattle.chess_items.specs.Items as items
+use Rattle.chess_items.specs.Items.{Item}
+use Rattle.chess_items.specs.declared.fault.FaultKind.{FaultKind}
+use Rattle.chess_items.specs.declared.fault.FaultKind.TheVariants.{Memory, TooLarge}
+use Rattle.chess_items.specs.declared.fault.PgnFault.{PgnFault}
+use Rattle.chess_items.specs.declared.outcome.Outcome.{Outcome}
+use Rattle.chess_items.specs.declared.outcome.Outcome.TheVariants.{Unfinished}
+use Rattle.chess_items.specs.declared.taking.Stop.{Stop}
+use Rattle.chess_items.specs.declared.taking.Stop.TheVariants as stop
+use Rattle.chess_items.specs.declared.taker.Taken.{Taken}
+use Rattle.chess_items.specs.declared.taker.Taken.TheVariants.{GoesOn, Ends, Leaves}
 use Rattle.chess_pgn.specs.Grammar.{Element, element}
-use Rattle.chess_pgn.specs.Items as items
-use Rattle.chess_pgn.specs.Items.{Item}
 use Rattle.chess_pgn.specs.Reading.{IsWithinLimits, is_heading, is_movetext, lead_after}
 use Rattle.chess_pgn.specs.Tags.{may_part_tags, start_in}
 use Rattle.chess_pgn.specs.steps.GameCode.{game_of}
 use Rattle.chess_pgn.specs.steps.HeaderCode.{HasFound, HasTaken, Heads as HeadsOn, RefusesTag, is_begun}
 use Rattle.chess_pgn.specs.steps.OtherCode.{Finds}
 use Rattle.chess_pgn.specs.steps.Readings.{Exceeds, FailsWith, FailsHere, Goes, IsRead, Reading, Stands, fresh}
-use Rattle.chess_pgn.specs.declared.fault.FaultKind.{FaultKind}
-use Rattle.chess_pgn.specs.declared.fault.FaultKind.TheVariants.{Memory, TooLarge}
-use Rattle.chess_pgn.specs.declared.fault.PgnFault.{PgnFault}
 use Rattle.chess_pgn.specs.declared.game.Game.{Game}
-use Rattle.chess_pgn.specs.declared.outcome.Outcome.{Outcome}
-use Rattle.chess_pgn.specs.declared.outcome.Outcome.TheVariants.{Unfinished}
 use Rattle.chess_pgn.specs.declared.reader.Reader.{Reader}
 use Rattle.chess_pgn.specs.declared.reader.header.Header.{Header}
 use Rattle.chess_pgn.specs.declared.reader.moves.Moves.{Moves}
-use Rattle.chess_pgn.specs.declared.taking.Stop.{Stop}
-use Rattle.chess_pgn.specs.declared.taking.Stop.TheVariants as stop
-use Rattle.chess_pgn.specs.declared.taker.Taken.{Taken}
-use Rattle.chess_pgn.specs.declared.taker.Taken.TheVariants.{GoesOn, Ends, Leaves}
 
 abbrev pub MovesOn : {A : Type 0} → List Element → Moves A → Moves A → Type 0
 MovesOn some old new = (s : Reading) → Stands old s → (s' : Reading) × Stands new s' × Goes some s s'

@@ -13,6 +13,8 @@
 use Rattle.std.specs.Prelude.{◌≡◌, ◌⊎◌, ◌<◌, ◌≤◌, ℕ, Bool, true, false, is_some, List, [], ◌∷◌, ◌++◌, length, reverse, Option, Some, None, IfSome, ⊤}
 use Rattle.chess_types.specs.board.Position.{State}
 use Rattle.chess_types.specs.board.Lines.{last}
+use Rattle.chess_items.specs.declared.fault.FaultKind.{FaultKind}
+use Rattle.chess_items.specs.declared.fault.FaultKind.TheVariants.{Memory, TooLarge}
 use Rattle.chess_tree.specs.Forest.{Forest, Bare, height, moves_held}
 use Rattle.chess_tree.specs.Comments.{normalised}
 use Rattle.chess_tree.specs.GameTree.{TreeParts, moves_along}
@@ -20,8 +22,6 @@ use Rattle.chess_tree.specs.WellFormed.{Leads}
 use Rattle.chess_pgn.specs.Grammar.{Element, few_are_open, comments_joined}
 use Rattle.chess_pgn.specs.steps.Hanging.{hang, say}
 use Rattle.chess_pgn.specs.steps.Elements.{Frame, Last, path_of, end_of, run}
-use Rattle.chess_pgn.specs.declared.fault.FaultKind.{FaultKind}
-use Rattle.chess_pgn.specs.declared.fault.FaultKind.TheVariants.{Memory, TooLarge}
 use Rattle.chess_pgn.specs.declared.reader.moves.Interrupted.{Interrupted}
 use Rattle.chess_pgn.specs.declared.reader.moves.Moves.{Moves}
 

@@ -1,18 +1,16 @@
 ghost use Rattle.std.specs.Prelude.{◌≡◌, ◌≤◌, ◌⊎◌, [], List, ℕ, true, false, ◌||◌, ◌&&◌, if◌then◌else◌, is_some, bytes_eq, codes, IfOk, IfErr, IfSome, OnOk};
+ghost use Rattle.chess_items.specs.Items.{TagOpen};
+ghost use Rattle.chess_items.specs.declared.fault.FaultKind.TheVariants.{Memory, Tag};
+ghost use Rattle.chess_items.specs.steps.Tokens.{item_of};
 ghost use Rattle.chess_pgn.specs.Games.{tag_in};
-ghost use Rattle.chess_pgn.specs.Items.{TagOpen};
 ghost use Rattle.chess_pgn.specs.Reading.{is_heading, lead_after};
 ghost use Rattle.chess_pgn.specs.Tags.{fen_in, is_tag_gap};
-ghost use Rattle.chess_pgn.specs.declared.fault.FaultKind.TheVariants.{Memory, Tag};
 ghost use Rattle.chess_pgn.specs.steps.HeaderCode.{Closes, HasFound, Heads, RefusesTag, fen_place, fresh, heading, is_begun, is_first_fen, is_spaced, start_told};
 ghost use Rattle.chess_pgn.specs.steps.OtherCode.{Finds};
-ghost use Rattle.chess_pgn.specs.steps.Tokens.{item_of};
 
-use crate::fault::{FaultKind, PgnFault, at_place};
-use crate::lexer::is;
 use crate::reader::found::FoundTags;
 use crate::tags::Tags;
-use crate::token::Token;
+use chess_items::{FaultKind, PgnFault, Token, at_place, is};
 use chess_types::Position;
 use std::alloc::{AllocError, Allocator};
 use std::mem;

@@ -2,15 +2,15 @@ ghost use Rattle.std.specs.Prelude.{◌≡◌, ◌<◌, ◌≤◌, if◌then◌e
 ghost use Rattle.chess_types.specs.board.Position.{State};
 ghost use Rattle.chess_types.specs.board.Legal.{is_legal};
 ghost use Rattle.chess_types.specs.board.Lines.{extended, last};
+ghost use Rattle.chess_items.specs.Items.{without_brace};
 ghost use Rattle.chess_tree.specs.Comments.{normalised};
 ghost use Rattle.chess_tree.specs.Forest.{below_at, count};
 ghost use Rattle.chess_tree.specs.GameTree.{added, at_path, commented_here, line_to};
 ghost use Rattle.chess_tree.specs.WellFormed.{IsGameTree};
 ghost use Rattle.chess_pgn.specs.Grammar as grammar;
-ghost use Rattle.chess_pgn.specs.Items.{without_brace};
 ghost use Rattle.chess_pgn.specs.steps.Readings.{IsRead, IsLed, IsRoomFault, Stands, fresh, is_nil, said_here};
 
-use crate::fault::{FaultKind, PgnFault, at_place};
+use chess_items::{FaultKind, PgnFault, at_place};
 use chess_key::KeyTable;
 use chess_tree::{Analysis, PlayFault, Tree};
 use chess_types::{Move, Position};

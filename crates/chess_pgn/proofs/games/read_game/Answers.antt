@@ -1,5 +1,5 @@
 use Rattle.std.specs.Prelude.{None}
-use Rattle.chess_pgn.specs.declared.text.Whole.{Whole}
+use Rattle.chess_items.specs.declared.text.Whole.{Whole}
 use Rattle.chess_pgn.proofs.AnswerLemmas.{only_fault, only_found, white_fault, white_found, whole_fault}
 use Rattle.chess_pgn.proofs.SourceLemmas.{ok_is, whole_game, whole_none}
 use Rattle.chess_pgn.proofs.games.read_game.Goals as goal

@@ -1,8 +1,8 @@
 use Rattle.std.proofs.Common.{◌≡◌, subst}
 use Rattle.std.specs.Prelude.{IfOk}
+use Rattle.chess_items.specs.declared.outcome.Outcome.TheVariants.{Unfinished}
 use Rattle.chess_pgn.specs.Games.{Tags}
 use Rattle.chess_pgn.specs.Written.{game_text}
-use Rattle.chess_pgn.specs.declared.outcome.Outcome.TheVariants.{Unfinished}
 use Rattle.chess_pgn.proofs.writer.write_tree.Goals as goal
 
 pub returns-clause-ok : goal.returns-clause-ok

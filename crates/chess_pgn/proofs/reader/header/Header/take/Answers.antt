@@ -1,7 +1,7 @@
 use Rattle.std.proofs.Common.{refl, sym, ap, ◌++◌, ◌∷◌, []}
 use Rattle.std.specs.Prelude.{Some}
+use Rattle.chess_items.specs.steps.Tokens.{item_of}
 use Rattle.chess_pgn.specs.steps.HeaderCode.{heading}
-use Rattle.chess_pgn.specs.steps.Tokens.{item_of}
 use Rattle.chess_pgn.proofs.HeaderLemmas.{passed}
 use Rattle.chess_pgn.proofs.reader.header.Header.take.Goals as goal
 

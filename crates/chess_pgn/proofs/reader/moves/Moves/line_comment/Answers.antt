@@ -1,5 +1,5 @@
 use Rattle.std.proofs.Common.{ap, ◌∙◌, ◌++◌, ◌∷◌, [], List, ℕ, map, append_assoc}
-use Rattle.chess_pgn.specs.Items.{without_brace}
+use Rattle.chess_items.specs.Items.{without_brace}
 use Rattle.chess_pgn.proofs.StepLemmas.{remark_goes, remark_leads}
 use Rattle.chess_pgn.proofs.reader.moves.Moves.line_comment.Goals as goal
 

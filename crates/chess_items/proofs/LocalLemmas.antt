@@ -1,0 +1,108 @@
+-- An item that ends in front of a byte does not depend on what is behind that byte.
+use Rattle.std.proofs.Common.{◌≡◌, ◌<◌, ◌≤◌, ◌⊎◌, inl, inr, ℕ, suc, ◌+◌, Bool, List, [], ◌∷◌, ◌++◌, length, refl, sym, ap, subst, ◌∙◌, arith, append_assoc, length-append}
+use Rattle.chess_items.specs.Items.{Item, Mark, Blank, Hidden, Comment, Skipped, Word, Nag, Open, Close, Marker, TagOpen, TagClose, Name, Quote, Stretch, Escaped}
+use Rattle.chess_items.specs.Items.{IsRun, IsToLineEnd, IsSpelled, IsItem, is_digit, is_glyph, is_name_byte, is_plain, is_word_byte}
+use Rattle.chess_items.specs.steps.ItemAt.{Found, item_at}
+use Rattle.chess_items.specs.steps.Deciding.{longer, Decides}
+use Rattle.chess_items.specs.declared.place.Place.{Place}
+use Rattle.chess_items.proofs.ItemLemmas.{item_goes}
+use Rattle.chess_items.proofs.FoundLemmas.{the, item_taken}
+
+run_local : (p : ℕ → Bool) (text : List ℕ) (c : ℕ) (n1 n2 : List ℕ) → IsRun p text (c ∷ n1) → IsRun p text (c ∷ n2)
+run_local p text c n1 n2 r = record { some = r.some; each = r.each; stops = r.stops }
+
+line_local : (line : List ℕ) (c : ℕ) (n1 n2 : List ℕ) → IsToLineEnd line (c ∷ n1) → IsToLineEnd line (c ∷ n2)
+line_local line c n1 n2 l = record { each = l.each; stops = l.stops }
+
+spelled_local : (item : Item) (text : List ℕ) (c : ℕ) (n1 n2 : List ℕ) → IsSpelled item text (c ∷ n1) → IsSpelled item text (c ∷ n2)
+spelled_local Mark text c n1 n2 p = p
+spelled_local (Blank b) text c n1 n2 p = p
+spelled_local Hidden text c n1 n2 p = (p.0, p.1, line_local p.0 c n1 n2 p.2)
+spelled_local (Comment t) text c n1 n2 (inl p) = inl p
+spelled_local (Comment t) text c n1 n2 (inr p) = inr (p.0, p.1, line_local p.0 c n1 n2 p.2, p.3)
+spelled_local Skipped text c n1 n2 (inl e) = inl e
+spelled_local Skipped text c n1 n2 (inr p) = inr (run_local is_word_byte text c n1 n2 p.0, p.1)
+spelled_local (Word w) text c n1 n2 p = (run_local is_word_byte text c n1 n2 p.0, p.1)
+spelled_local (Nag n) text c n1 n2 (inl p) = inl (p.0, p.1, run_local is_digit p.0 c n1 n2 p.2, p.3, p.4)
+spelled_local (Nag n) text c n1 n2 (inr p) = inr (run_local is_glyph text c n1 n2 p.0, p.1)
+spelled_local Open text c n1 n2 p = p
+spelled_local Close text c n1 n2 p = p
+spelled_local (Marker o) text c n1 n2 (inl e) = inl e
+spelled_local (Marker o) text c n1 n2 (inr p) = inr (run_local is_word_byte text c n1 n2 p.0, p.1)
+spelled_local TagOpen text c n1 n2 p = p
+spelled_local TagClose text c n1 n2 p = p
+spelled_local (Name t) text c n1 n2 p = (run_local is_name_byte text c n1 n2 p.0, p.1)
+spelled_local Quote text c n1 n2 p = p
+spelled_local (Stretch t) text c n1 n2 (e, inl run) = (e, inl (run_local is_plain text c n1 n2 run))
+spelled_local (Stretch t) text c n1 n2 (e, inr p) = (e, inr p)
+spelled_local (Escaped b) text c n1 n2 p = p
+
+item_local : (place : Place) (item : Item) (text : List ℕ) (c : ℕ) (n1 n2 : List ℕ) → IsItem place item text (c ∷ n1) → IsItem place item text (c ∷ n2)
+item_local place item text c n1 n2 p = record { stands = p.stands; spelled = spelled_local item text c n1 n2 p.spelled }
+
+-- text in front of a byte decides its item
+text_decides : (place : Place) (item : Item) (text : List ℕ) (c : ℕ) (n1 n2 : List ℕ) → IsItem place item text (c ∷ n1) → Decides place (text ++ c ∷ n2)
+text_decides place item text c n1 n2 is = λ more.
+    let longer_one : item_at place ((text ++ c ∷ n2) ++ more) ≡ the item (c ∷ (n2 ++ more)) =
+    rw (append_assoc text (c ∷ n2) more) (item_goes place item text (c ∷ (n2 ++ more)) (item_local place item text c n1 (n2 ++ more) is)) in
+    let short_one : item_at place (text ++ c ∷ n2) ≡ the item (c ∷ n2) = item_goes place item text (c ∷ n2) (item_local place item text c n1 n2 is) in
+    longer_one ∙ ap (λ (x : Found). longer x more) (sym short_one)
+
+-- either the item's text ends in the front, or it reaches its end
+abbrev Ends : List ℕ → List ℕ → List ℕ → List ℕ → Type 0
+Ends front p text next = ((c : ℕ) × (s : List ℕ) × (front ≡ text ++ c ∷ s) × (next ≡ c ∷ (s ++ p))) ⊎ (length next ≤ length p)
+
+tail_is : (a b : ℕ) (s t : List ℕ) → a ∷ s ≡ b ∷ t → (a ≡ b) × (s ≡ t)
+tail_is a b s t e = (cc, cc)
+
+where_ends : (front p text next : List ℕ) → front ++ p ≡ text ++ next → Ends front p text next
+where_ends [] p text next e = inr (let h : length p ≡ length text + length next = ap length e ∙ length-append text next in omega arith)
+where_ends (b ∷ front) p [] next e = inl (b, front, refl, sym e)
+where_ends (b ∷ front) p (c ∷ text) next e =
+    let t = tail_is b c (front ++ p) (text ++ next) e in
+    elim (where_ends front p text next t.1) [
+      | inl h ↦ inl (h.0, h.1, rw (t.0, h.2) refl, h.3)
+      | inr h ↦ inr h
+    ]
+
+-- Where the front does not decide the item, the item takes the whole front.
+pub undecided_taken : (place : Place) (front p : List ℕ) (item : Item) (next : List ℕ) → (Decides place front → ⊥) → item_at place (front ++ p) ≡ the item next → length next ≤ length p
+undecided_taken place front p item next undecided e =
+    let t = item_taken place (front ++ p) item next e in
+    elim (where_ends front p t.0 next t.1) [
+      | inl h ↦ absurd (undecided (rw (h.2) (text_decides place item t.0 h.0 (h.1 ++ p) h.1 (subst (λ (x : List ℕ). IsItem place item t.0 x) h.3 t.2))))
+      | inr h ↦ h
+    ]
+
+some_text : (item : Item) (next : List ℕ) → IsSpelled item [] next → ⊥
+some_text Mark next p = cc
+some_text (Blank b) next p = (let h = p.1 in cc)
+some_text Hidden next p = (let h = p.1 in cc)
+some_text (Comment t) next (inl p) = (let h = p.0 in cc)
+some_text (Comment t) next (inr p) = (let h = p.1 in cc)
+some_text Skipped next (inl p) = cc
+some_text Skipped next (inr p) = p.0.some refl
+some_text (Word w) next p = p.0.some refl
+some_text (Nag n) next (inl p) = (let h = p.1 in cc)
+some_text (Nag n) next (inr p) = p.0.some refl
+some_text Open next p = cc
+some_text Close next p = cc
+some_text (Marker o) next (inl p) = (let h = p.0 in cc)
+some_text (Marker o) next (inr p) = p.0.some refl
+some_text TagOpen next p = cc
+some_text TagClose next p = cc
+some_text (Name t) next p = p.0.some refl
+some_text Quote next p = cc
+some_text (Stretch t) next (e, inl run) = run.some refl
+some_text (Stretch t) next (e, inr p) = (let h = p.0 in cc)
+some_text (Escaped b) next p = (let h = p.1 in cc)
+
+-- An item has a byte.
+pub text_shorter : (place : Place) (item : Item) (text input next : List ℕ) → input ≡ text ++ next → IsItem place item text next → length next < length input
+text_shorter place item (b ∷ text) input next e p = (let h : length input ≡ suc (length text) + length next = ap length e ∙ length-append (b ∷ text) next in omega arith)
+text_shorter place item [] input next e p = absurd (some_text item next p.spelled)
+
+pub item_shorter : (place : Place) (input : List ℕ) (item : Item) (next : List ℕ) → item_at place input ≡ the item next → length next < length input
+item_shorter place input item next e =
+    let t = item_taken place input item next e in
+    text_shorter place item t.0 input next t.1 t.2

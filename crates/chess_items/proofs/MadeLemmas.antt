@@ -1,0 +1,63 @@
+-- Bytes at hand of a source are a text.
+use Rattle.std.proofs.Common.{◌≡◌, ℕ, ◌+◌, ◌≤◌, inl, inr, Bool, true, false, List, [], ◌∷◌, ◌++◌, length, refl, ap, subst, ◌∙◌, arith, append_assoc, append-nil, length-append, Result, Ok, Err}
+use Rattle.chess_types.specs.bytes.Calls.{joined}
+use Rattle.chess_items.specs.steps.Deciding.{Decides}
+use Rattle.chess_items.specs.Coming.{unread}
+use Rattle.chess_items.specs.steps.AtHands.{Needed, HasRead, Readied}
+use Rattle.chess_items.specs.steps.Texts.{Near, AfterCame, MadeReady}
+use Rattle.chess_items.specs.declared.at_hand.AtHand.{AtHand}
+use Rattle.chess_items.specs.declared.at_hand.Fault.{Fault}
+use Rattle.chess_items.specs.declared.place.Place.{Place}
+use Rattle.chess_items.proofs.BreakLemmas.{brings, ends_truly, has_all, size_at_hand}
+use Rattle.chess_items.proofs.ReadLemmas.{joined_small}
+
+near_on : (place : Place) (front p all : List ℕ) → length p ≤ 65536 → (Decides place front → ⊥) → Near place (front ++ p) all → Near place front all
+near_on place front p all small undecided (inl e) = inr (front, p, e, small, undecided)
+near_on place front p all small undecided (inr h) = inr h
+
+near_of : (most : ℕ) (place : Place) (front : List ℕ) (pieces : List (List ℕ)) → Needed most place front pieces → Near place front (front ++ joined pieces)
+near_of most place front [] n = inl (append-nil front)
+near_of most place front (p ∷ pieces) n =
+    near_on place front p (front ++ (p ++ joined pieces)) n.2 n.0
+    (subst (λ (x : List ℕ). Near place (front ++ p) x) (append_assoc front p (joined pieces)) (near_of most place (front ++ p) pieces n.3))
+
+-- What is held stays below the most that is asked for, and one piece.
+held_of : (most : ℕ) (place : Place) (front : List ℕ) (pieces : List (List ℕ)) → Needed most place front pieces → length front ≤ most + 65536 → length (front ++ joined pieces) ≤ most + 65536
+held_of most place front [] n few = rw (append-nil front) few
+held_of most place front (p ∷ pieces) n few =
+    let l = length-append front p in
+    subst (λ (x : List ℕ). length x ≤ most + 65536) (append_assoc front p (joined pieces)) (held_of most place (front ++ p) pieces n.3 (omega (arith, l, n.1, n.2)))
+
+module _ {R A : Type 0} (gives : R → List ℕ → R → Type 0) (ended : R → Type 0) (failed : R → Bool) (most : ℕ) (place : Place) (old new : AtHand R A) where
+  size_falls : (pieces : List (List ℕ)) → Needed most place (unread old) pieces → new.reads + length pieces ≡ old.reads → unread new ≡ unread old ++ joined pieces → size_at_hand gives failed new ≤ size_at_hand gives failed old
+  size_falls pieces n counted e =
+      let k = joined_small most place (unread old) pieces n in
+      let l : length (unread new) ≡ length (unread old) + length (joined pieces) = ap length e ∙ length-append (unread old) (joined pieces) in
+      omega (arith, k, l, counted)
+
+  came_after : (is_ready : Bool) (r : HasRead gives ended failed most place old new is_ready) → AfterCame (brings gives failed) unread (has_all gives failed) (ends_truly gives failed ended) (size_at_hand gives failed) most place old (joined r.pieces) new is_ready
+  came_after false r = record {
+    longer = r.whole;
+    over = r.after.0;
+    undecided = r.after.1;
+    at_end = λ e. (ap joined (r.at_end e).0, (r.at_end e).1);
+    sound_still = r.ended_so;
+    held = (λ few. rw (r.whole) (held_of most place (unread old) r.pieces r.needed few));
+  }
+  came_after true r = record {
+    longer = r.whole;
+    decided = r.after;
+    near = rw (r.whole) (near_of most place (unread old) r.pieces r.needed);
+    at_end = λ e. (ap joined (r.at_end e).0, (r.at_end e).1);
+    sound_still = r.ended_so;
+    no_larger = size_falls r.pieces r.needed r.counted r.whole;
+    held = (λ few. rw (r.whole) (held_of most place (unread old) r.pieces r.needed few));
+  }
+
+  pub made_ready : (result : Result Bool Fault) → Readied gives ended failed most place old new result → MadeReady (brings gives failed) unread (has_all gives failed) (ends_truly gives failed ended) (size_at_hand gives failed) most place old new result
+  made_ready (Err e) r = tt
+  made_ready (Ok is_ready) r = record {
+    more = joined r.pieces;
+    came = record { pieces = r.pieces; calls = r.calls; whole = refl; counted = r.counted; small = joined_small most place (unread old) r.pieces r.needed; well = r.well };
+    after = came_after is_ready r;
+  }

@@ -1,0 +1,254 @@
+-- One item is offered.
+use Rattle.std.proofs.Common.{◌<◌, take, drop, ◌+◌, ◌-◌, ◌≡◌, ◌≢◌, ℕ, length-append, ◌≤◌, ◌⊎◌, inl, inr, Bool, true, false, List, [], ◌∷◌, ◌++◌, length, Some, None, refl, sym, ap, subst, ◌∙◌, arith, append_assoc, append-nil, Ok}
+use Rattle.std.proofs.lemmas.List.{take-append-drop, take-append-le}
+use Rattle.std.specs.Str.{byte}
+use Rattle.chess_types.specs.bytes.Calls.{joined}
+use Rattle.chess_items.specs.Items.{Item, TagOpen, is_white, may_stand, place_after}
+use Rattle.chess_items.specs.steps.ItemAt.{Found, item_at}
+use Rattle.chess_items.specs.steps.Deciding.{longer, Decides}
+use Rattle.chess_items.specs.steps.Texts.{Oversized, Near, MadeReady, Keeps}
+use Rattle.chess_items.specs.steps.Taking.{TakesOne, Brackets, Offered, UsesItem, Next, AfterStop, Steps}
+use Rattle.chess_items.specs.declared.place.Place.{Place}
+use Rattle.chess_items.specs.declared.taking.Answer.TheVariants as answer
+use Rattle.chess_items.specs.declared.taking.Stop.{Stop}
+use Rattle.chess_items.specs.declared.taking.Stop.TheVariants as stop
+use Rattle.chess_items.specs.declared.taking.Step.TheVariants as step
+use Rattle.chess_items.proofs.FoundLemmas.{the, item_taken, some_is}
+use Rattle.chess_items.proofs.ItemLemmas.{item_goes}
+use Rattle.chess_items.proofs.OpenLemmas.{nothing_undecided}
+use Rattle.chess_items.proofs.LocalLemmas.{undecided_taken, item_shorter}
+
+decided_item : (place : Place) (hand more : List ℕ) (found : Found) (A : Type 0) → Decides place hand ⊎ A → (A → more ≡ []) → item_at place hand ≡ found → item_at place (hand ++ more) ≡ longer found more
+decided_item place hand more found A (inl d) none e = d more ∙ ap (λ (x : Found). longer x more) e
+decided_item place hand more found A (inr all) none e =
+    subst (λ (x : List ℕ). item_at place (hand ++ x) ≡ longer found x) (sym (none all)) (ap (item_at place) (append-nil hand) ∙ e ∙ whole found)
+  where
+    whole : (f : Found) → f ≡ longer f []
+    whole None = refl
+    whole (Some x) = ap (λ (y : List ℕ). Some (x.0, y)) (sym (append-nil x.1))
+
+near_item : (place : Place) (old hand rest : List ℕ) (item : Item) → Near place old hand → item_at place hand ≡ the item rest → length old ≤ 65536 → length rest ≤ 65536
+near_item place old hand rest item (inl e) found small = (let s = item_shorter place hand item rest found in let l = ap length e in omega (arith, s, l))
+near_item place old hand rest item (inr h) found small =
+    (let s = undecided_taken place h.0 h.1 item rest h.4 (subst (λ (x : List ℕ). item_at place x ≡ the item rest) h.2 found) in omega (arith, s, h.3))
+
+none_is_some : (rest : List ℕ) → None ≡ the TagOpen rest → ⊥
+none_is_some rest e = cc
+
+same_item : (i j : Item) (r q : List ℕ) → the i r ≡ the j q → i ≡ j
+same_item i j r q e = ap (λ (x : Item × List ℕ). x.0) (some_is {A = Item × List ℕ} (i, r) (j, q) e)
+
+first : (a b : ℕ) (xs ys : List ℕ) → a ∷ xs ≡ b ∷ ys → a ≡ b
+first a b xs ys e = cc
+
+-- one byte decides a bracket
+bracket_decided : (place : Place) (front : List ℕ) → may_stand place TagOpen ≡ true → Decides place (byte "[" ∷ front)
+bracket_decided place front e = λ more.
+    item_goes place TagOpen (byte "[" ∷ []) (front ++ more) (record { stands = e; spelled = refl })
+    ∙ ap (λ (x : Found). longer x more) (sym (item_goes place TagOpen (byte "[" ∷ []) front (record { stands = e; spelled = refl })))
+
+-- so bytes that don't decide the item at their front are no bracket's
+undecided_bracket : (place : Place) (hand more rest : List ℕ) → 0 < length hand → (Decides place hand → ⊥) → item_at place (hand ++ more) ≡ the TagOpen rest → ⊥
+undecided_bracket place [] more rest some undecided found = omega (arith, some)
+undecided_bracket place (b ∷ hand) more rest some undecided found =
+    let t = item_taken place (b ∷ hand ++ more) TagOpen rest found in
+    let k : b ≡ byte "[" = first b (byte "[") (hand ++ more) rest (t.1 ∙ ap (λ (x : List ℕ). x ++ rest) t.2.spelled) in
+    undecided (subst (λ (x : ℕ). Decides place (x ∷ hand)) (sym k) (bracket_decided place hand t.2.stands))
+
+-- so it was brought by a read for which nothing was at hand
+near_bracket : (place : Place) (old hand rest : List ℕ) → Near place old hand → item_at place hand ≡ the TagOpen rest → length old ≤ 65536 → length hand ≤ 65536
+near_bracket place old hand rest (inl e) found small = (let l = ap length e in omega (arith, l, small))
+near_bracket place old hand rest (inr h) found small = (let t = item_taken place hand TagOpen rest found in by h.0 h.1 h.2 h.3 h.4 t.2.stands (t.1 ∙ ap (λ (x : List ℕ). x ++ rest) t.2.spelled))
+  where
+    by : (front piece : List ℕ) → hand ≡ front ++ piece → length piece ≤ 65536 → (Decides place front → ⊥) → may_stand place TagOpen ≡ true → hand ≡ byte "[" ∷ rest → length hand ≤ 65536
+    by [] piece e few undecided stands is = (let l = ap length e in omega (arith, l, few))
+    by (b ∷ front) piece e few undecided stands is =
+        (let k : b ≡ byte "[" = first b (byte "[") (front ++ piece) rest (sym e ∙ is) in absurd (undecided (subst (λ (x : ℕ). Decides place (x ∷ front)) (sym k) (bracket_decided place front stands))))
+
+-- a longer front decides too
+decides_longer : (place : Place) (front more : List ℕ) → Decides place front → Decides place (front ++ more)
+decides_longer place front more d = λ further.
+    ap (item_at place) (append_assoc front more further) ∙ d (more ++ further) ∙ longer_twice (item_at place front) more further ∙ ap (λ (x : Found). longer x further) (sym (d more))
+  where
+    longer_twice : (f : Found) (more further : List ℕ) → longer f (more ++ further) ≡ longer (longer f more) further
+    longer_twice None more further = refl
+    longer_twice (Some x) more further = ap (λ (y : List ℕ). Some (x.0, y)) (sym (append_assoc x.1 more further))
+
+none_sized : (most : ℕ) (place : Place) (input : List ℕ) (found : Found) → item_at place input ≡ found → most < length input → (found ≡ None → Decides place (take (most + 1) input) → ⊥) → ((i : Item) (rest : List ℕ) → found ≡ the i rest → most + length rest < length input) → Oversized most place input
+none_sized most place input None e over f g = (over, rw e (f refl))
+none_sized most place input (Some x) e over f g = (over, rw e (g x.0 x.1 refl))
+
+undecided_front : (most : ℕ) (place : Place) (hand more : List ℕ) → most < length hand → (Decides place (take (most + 1) hand) → ⊥) → Decides place (take (most + 1) (hand ++ more)) → ⊥
+undecided_front most place hand more over undecided d = undecided (subst (λ (x : List ℕ). Decides place x) (take-append-le (most + 1) hand more (omega arith)) d)
+
+none_oversized : (most : ℕ) (place : Place) (hand more : List ℕ) → most < length hand → (Decides place (take (most + 1) hand) → ⊥) → item_at place (hand ++ more) ≡ None → Oversized most place (hand ++ more)
+none_oversized most place hand more over undecided e =
+    let l = length-append hand more in
+    none_sized most place (hand ++ more) None e (omega (arith, l)) (λ h. undecided_front most place hand more over undecided) (λ i rest h. absurd (none_the i rest h))
+  where
+    none_the : (i : Item) (rest : List ℕ) → None ≡ the i rest → ⊥
+    none_the i rest h = cc
+
+long_oversized : (most : ℕ) (place : Place) (hand more : List ℕ) (item : Item) (rest : List ℕ) → most + length rest < length hand → item_at place (hand ++ more) ≡ the item (rest ++ more) → Oversized most place (hand ++ more)
+long_oversized most place hand more item rest long e =
+    let l = length-append hand more in
+    let m = length-append rest more in
+    (omega (arith, l), rw e (omega (arith, l, m)))
+
+over_oversized : (most : ℕ) (place : Place) (hand more : List ℕ) → most < length hand → (Decides place hand → ⊥) → Oversized most place (hand ++ more)
+over_oversized most place hand more over undecided =
+    let l = length-append hand more in
+    let shorter : Decides place (take (most + 1) hand) → ⊥ = λ d. undecided (subst (λ (x : List ℕ). Decides place x) (take-append-drop (most + 1) hand) (decides_longer place (take (most + 1) hand) (drop (most + 1) hand) d)) in
+    none_sized most place (hand ++ more) (item_at place (hand ++ more)) refl (omega (arith, l)) (λ h. undecided_front most place hand more over shorter)
+    (λ i rest h. let s = undecided_taken place hand more i rest undecided h in omega (arith, l, s))
+
+module _ {X : Type 0} {comes : X → List ℕ → X → Type 0} {at_hand : X → List ℕ} {all sound : X → Type 0} {size : X → ℕ} {most : ℕ} {place : Place} {old mid : X} {is_ready : Bool}
+    (made : MadeReady comes at_hand all sound size most place old mid (Ok is_ready)) where
+  made_as : (b : Bool) → is_ready ≡ b → MadeReady comes at_hand all sound size most place old mid (Ok b)
+  made_as b e = subst (λ (b : Bool). MadeReady comes at_hand all sound size most place old mid (Ok b)) e made
+
+  -- too many bytes don't decide the item
+  pub step_undecided : {T : Type 0} {takes : TakesOne T} {at : ℕ} {t : T} → is_ready ≡ false → Steps comes at_hand all sound size takes at most place old mid t t (Ok (step.Stops stop.TooLarge))
+  step_undecided not =
+      let r = made_as false not in
+      let a = r.after in
+      record {
+        pieces = r.more ∷ [];
+        came = (mid, r.came, refl);
+        after = (
+          record { longer = a.longer ∙ ap (λ (x : List ℕ). at_hand old ++ x) (sym (append-nil r.more)); at_end = (λ h. (append-nil r.more ∙ (a.at_end h).0, (a.at_end h).1)); sound_still = a.sound_still },
+          record {
+            over = λ further none. over_oversized most place (at_hand mid) further a.over a.undecided;
+            bracket = λ further none rest found. absurd (undecided_bracket place (at_hand mid) further rest (omega (arith, a.over)) a.undecided found);
+          },
+        );
+      }
+
+  module _ (yes : is_ready ≡ true) where
+    r : MadeReady comes at_hand all sound size most place old mid (Ok true)
+    r = made_as true yes
+
+    pub sound_still : sound mid
+    sound_still = r.after.sound_still
+
+    -- nothing is used
+    stops : {T : Type 0} {takes : TakesOne T} {at : ℕ} {t : T} (why : Stop) (u : T) → AfterStop comes at_hand all sound size takes at most place old mid t u why → Steps comes at_hand all sound size takes at most place old mid t u (Ok (step.Stops why))
+    stops why u after = record {
+      pieces = r.more ∷ [];
+      came = (mid, r.came, refl);
+      after = (
+        record {
+          longer = r.after.longer ∙ ap (λ (x : List ℕ). at_hand old ++ x) (sym (append-nil r.more));
+          at_end = λ h. (append-nil r.more ∙ (r.after.at_end h).0, (r.after.at_end h).1);
+          sound_still = sound_still;
+        },
+        after,
+      );
+    }
+
+    all_came : (hand : List ℕ) → hand ≡ [] → Decides place hand ⊎ all mid → all mid
+    all_came hand e (inl d) = absurd (nothing_undecided place (subst (λ (x : List ℕ). Decides place x) e d))
+    all_came hand e (inr h) = h
+
+    pub step_end : {T : Type 0} {takes : TakesOne T} {at : ℕ} {t : T} → at_hand mid ≡ [] → Steps comes at_hand all sound size takes at most place old mid t t (Ok (step.Stops stop.End))
+    step_end {t = t} e = stops stop.End t (all_came (at_hand mid) e r.after.decided, e, refl)
+
+    -- what is found at the front is found whatever follows
+    module _ {bytes : List ℕ} (same : bytes ≡ at_hand mid) where
+      finds : (found : Found) → found ≡ item_at place bytes → (more : List ℕ) → (all mid → more ≡ []) → item_at place (at_hand mid ++ more) ≡ longer found more
+      finds found look more none = decided_item place (at_hand mid) more found (all mid) r.after.decided none (ap (item_at place) (sym same) ∙ sym look)
+
+      -- no item
+      module _ (look : None ≡ item_at place bytes) {seen : List ℕ} (as_seen : seen ≡ at_hand mid) {T : Type 0} {takes : TakesOne T} {at : ℕ} {t : T} where
+        -- and too many bytes for its fault
+        pub step_exceeds : (most < length seen) × (Decides place (take (most + 1) seen) → ⊥) → Steps comes at_hand all sound size takes at most place old mid t t (Ok (step.Stops stop.TooLarge))
+        step_exceeds exceeds =
+            let both = subst (λ (x : List ℕ). (most < length x) × (Decides place (take (most + 1) x) → ⊥)) as_seen exceeds in
+            stops stop.TooLarge t (record {
+              over = λ more none. none_oversized most place (at_hand mid) more both.0 both.1 (finds None look more none);
+              bracket = λ more none rest found. absurd (none_is_some rest (sym (finds None look more none) ∙ found));
+            })
+
+        pub step_none : at_hand mid ≢ [] → (most < length seen → Decides place (take (most + 1) seen)) → Steps comes at_hand all sound size takes at most place old mid t t (Ok (step.Stops stop.NoItem))
+        step_none some within =
+            stops stop.NoItem t
+            (record { none = finds None look; decided = r.after.decided; within = subst (λ (x : List ℕ). most < length x → Decides place (take (most + 1) x)) as_seen within; some = some }, refl)
+
+      module _ {item : Item} {rest : List ℕ} (look : the item rest ≡ item_at place bytes) {again : List ℕ} (once_more : again ≡ at_hand mid) where
+        found : item_at place (at_hand mid) ≡ the item rest
+        found = ap (item_at place) (sym same) ∙ sym look
+
+        found_on : (more : List ℕ) → (all mid → more ≡ []) → item_at place (at_hand mid ++ more) ≡ the item (rest ++ more)
+        found_on = finds (the item rest) look
+
+        pub rest_within : length rest ≤ length again
+        rest_within = (let s = item_shorter place (at_hand mid) item rest found in let n = ap length once_more in omega (arith, s, n))
+
+        abbrev used : ℕ
+        used = length again - length rest
+
+        counts : used + length rest ≡ length (at_hand mid)
+        counts = (let w = rest_within in let n = ap length once_more in omega (arith, w, n))
+
+        next_item : {T : Type 0} {takes : TakesOne T} → Next comes at_hand all sound size takes place old mid item
+        next_item = record {
+          rest = rest;
+          found = found_on;
+          near = (λ small. near_item place (at_hand old) (at_hand mid) rest item r.after.near found small);
+          bracket = (λ e small. near_bracket place (at_hand old) (at_hand mid) rest r.after.near (subst (λ (i : Item). item_at place (at_hand mid) ≡ the i rest) e found) small);
+        }
+
+        module _ {T : Type 0} {takes : TakesOne T} {at : ℕ} {t : T} where
+          -- the item is too long
+          step_over : most < used → (u : T) → (item ≡ TagOpen → Brackets takes at t u) → Steps comes at_hand all sound size takes at most place old mid t u (Ok (step.Stops stop.TooLarge))
+          step_over long u bracket =
+              stops stop.TooLarge u (record {
+                over = λ more none. long_oversized most place (at_hand mid) more item rest (omega (arith, counts, long)) (found_on more none);
+                bracket = λ more none other is. bracket (same_item item TagOpen (rest ++ more) other (sym (found_on more none) ∙ is));
+              })
+
+          -- it isn't used
+          pub step_stops : (why : Stop) (u : T) → Offered takes at item used most t u (answer.Stops why) → Steps comes at_hand all sound size takes at most place old mid t u (Ok (step.Stops why))
+          step_stops stop.Left u o = stops stop.Left u (item, next_item, o)
+          step_stops (stop.Refused fault) u o = stops (stop.Refused fault) u (item, next_item, o)
+          step_stops stop.TooLarge u o = step_over o.0 u o.1
+          step_stops stop.Full u o = absurd o
+          step_stops stop.End u o = absurd o
+          step_stops stop.NoItem u o = absurd o
+
+        module _ {new : X} (k : Keeps comes at_hand all sound size (length rest) mid new) where
+          left : at_hand new ≡ rest
+          left = (let t = item_taken place (at_hand mid) item rest found in k.kept t.0 rest t.1 refl)
+
+          finds_left : (more : List ℕ) → (all new → more ≡ []) → item_at place (at_hand old ++ (joined (r.more ∷ [] ∷ []) ++ more)) ≡ Some (item, at_hand new ++ more)
+          finds_left more none =
+              let hand = at_hand mid in
+              let e : hand ++ more ≡ at_hand old ++ ((r.more ++ []) ++ more) =
+              ap (λ (x : List ℕ). x ++ more) r.after.longer ∙ append_assoc (at_hand old) r.more more ∙ ap (λ (x : List ℕ). at_hand old ++ (x ++ more)) (sym (append-nil r.more)) in
+              ap (item_at place) (sym e) ∙ found_on more (λ h. none (k.at_end h)) ∙ ap (λ (x : List ℕ). the item (x ++ more)) (sym left)
+
+          counted : length (at_hand old) + length (joined (r.more ∷ [] ∷ [])) ≡ length (at_hand new) + used
+          counted =
+              let e = ap length r.after.longer in
+              let l = length-append (at_hand old) r.more in
+              let j = ap length (append-nil r.more) in
+              let n = ap length left in
+              omega (arith, e, l, j, n, counts)
+
+          uses : {T : Type 0} {takes : TakesOne T} → used ≤ most → UsesItem comes at_hand all sound size takes most place old (r.more ∷ [] ∷ []) new item used
+          uses few = record {
+            found = finds_left;
+            near = (λ small. rw left (near_item place (at_hand old) (at_hand mid) rest item r.after.near found small));
+            at_end = (λ h. (append-nil r.more ∙ (r.after.at_end h).0, k.at_end (r.after.at_end h).1));
+            sound_still = k.sound_still;
+            smaller = (let s = item_shorter place (at_hand mid) item rest found in omega (arith, s, k.smaller, r.after.no_larger));
+            counted = counted;
+            few = few;
+          }
+
+          module _ {T : Type 0} {takes : TakesOne T} {at : ℕ} {t u : T} {next : Place} {white : Bool} (e : next ≡ place_after place item) (h : white ≡ is_white item) where
+            pub step_on : Offered takes at item used most t u answer.GoesOn → Steps comes at_hand all sound size takes at most place old new t u (Ok (step.On next used white))
+            step_on o = record { pieces = r.more ∷ [] ∷ []; came = (mid, r.came, (new, k.came, refl)); after = (item, uses o.1, o.0, e, h) }
+
+            pub step_full : Offered takes at item used most t u answer.Ends → Steps comes at_hand all sound size takes at most place old new t u (Ok (step.Full next used white))
+            step_full o = record { pieces = r.more ∷ [] ∷ []; came = (mid, r.came, (new, k.came, refl)); after = (item, uses o.1, o.0, e, h) }

@@ -1,0 +1,247 @@
+-- An open item is not decided.
+use Rattle.std.proofs.Common.{◌≡◌, ◌<◌, ◌⊎◌, inl, inr, ℕ, zero, suc, take, Bool, true, false, cond, eqb, ◌&&◌, List, [], ◌∷◌, ◌++◌, length, map, Option, Some, None, refl, sym, ap, subst, ◌∙◌, MatchBool, arith, append-nil}
+use Rattle.std.specs.List.{list_all}
+use Rattle.std.proofs.lemmas.Bool.{ltb-true, lt-ltb}
+use Rattle.chess_items.specs.Items.{Item, Hidden, Comment, Nag, Marker, Name, Stretch, Escaped, Mark, Quote}
+use Rattle.chess_items.specs.Items.{digits_value, glyph_value, in_braces, in_line, is_blank, is_digit, is_glyph, is_name_byte, is_plain, is_word_byte, word_item, without_brace}
+use Rattle.chess_items.specs.steps.ItemAt.{Found, run_at, word_found, nag_found, small, digits_found, glyph_found, hidden_found, line_found, braces_found, name_found, stretch_found, hidden_at, sign_at, outside_at, tag_at, escaped_at, value_at, mark_at, start_at, item_at}
+use Rattle.chess_items.specs.steps.Deciding.{longer, Decides, sign_open, outside_open, tag_open, escape_open, value_open, mark_open, start_open, is_open}
+use Rattle.chess_items.specs.declared.outcome.Outcome.TheVariants.{Unfinished}
+use Rattle.chess_items.specs.declared.place.Place.{Place}
+use Rattle.chess_items.specs.declared.place.Place.TheVariants.{GameStart, LineStart, InLine, TagLineStart, InTag, InValue}
+use Rattle.chess_items.proofs.RunLemmas.{run_found}
+use Rattle.chess_items.proofs.ItemLemmas.{glyph_is, no_eqb}
+use Rattle.chess_items.proofs.FoundLemmas.{the, some_is}
+use Rattle.chess_items.proofs.ClosedLemmas.{all_each, each-append, closed_decides, plain_byte}
+
+-- two findings are not one, the second behind these bytes
+abbrev Differs : Found → Found → List ℕ → Type 0
+Differs x y more = x ≡ longer y more → ⊥
+
+-- some byte behind the front makes a difference
+abbrev Grows : (List ℕ → Found) → List ℕ → Type 0
+Grows at front = (c : ℕ) × Differs (at (front ++ c ∷ [])) (at front) (c ∷ [])
+
+-- a run that reaches the end
+run_whole : (p : ℕ → Bool) (f : List ℕ → List ℕ → Found) (bytes : List ℕ) → list_all p bytes ≡ true → run_at p f bytes ≡ f bytes []
+run_whole p f bytes h = subst (λ (x : List ℕ). run_at p f x ≡ f bytes []) (append-nil bytes) (run_found p f bytes [] (all_each p bytes h) tt)
+
+-- with another byte of the run
+run_longer : (p : ℕ → Bool) (f : List ℕ → List ℕ → Found) (bytes : List ℕ) (c : ℕ) → p c ≡ true → list_all p bytes ≡ true → run_at p f (bytes ++ c ∷ []) ≡ f (bytes ++ c ∷ []) []
+run_longer p f bytes c e h =
+    subst (λ (x : List ℕ). run_at p f x ≡ f (bytes ++ c ∷ []) []) (append-nil (bytes ++ c ∷ []))
+    (run_found p f (bytes ++ c ∷ []) [] (each-append p bytes (c ∷ []) (all_each p bytes h) (e, tt)) tt)
+
+-- what is found with nothing behind it is not what is found with a byte behind it
+ends : (i j : Item) (c : ℕ) → Some (i, []) ≡ longer (Some (j, [])) (c ∷ []) → ⊥
+ends i j c e =
+    let p = some_is {A = Item × List ℕ} (i, []) (j, c ∷ []) e in
+    let q : [] ≡ c ∷ [] = ap (λ (z : Item × List ℕ). z.1) p in
+    cc
+
+-- a run that is some item, however long
+run_grows : (p : ℕ → Bool) (f : List ℕ → List ℕ → Found) (g : List ℕ → Item) (bytes : List ℕ) (c : ℕ) → ((w : List ℕ) → f w [] ≡ Some (g w, [])) → p c ≡ true → list_all p bytes ≡ true → Differs (run_at p f (bytes ++ c ∷ [])) (run_at p f bytes) (c ∷ [])
+run_grows p f g bytes c some e h d =
+    let a : run_at p f (bytes ++ c ∷ []) ≡ Some (g (bytes ++ c ∷ []), []) = run_longer p f bytes c e h ∙ some (bytes ++ c ∷ []) in
+    let b : run_at p f bytes ≡ Some (g bytes, []) = run_whole p f bytes h ∙ some bytes in
+    ends (g (bytes ++ c ∷ [])) (g bytes) c (sym a ∙ d ∙ ap (λ (x : Found). longer x (c ∷ [])) b)
+
+braces_grow : (bytes : List ℕ) → list_all in_braces bytes ≡ true → Differs (run_at in_braces braces_found (bytes ++ 125 ∷ [])) (run_at in_braces braces_found bytes) (125 ∷ [])
+braces_grow bytes h d =
+    let a : run_at in_braces braces_found (bytes ++ 125 ∷ []) ≡ Some (Comment bytes, []) = run_found in_braces braces_found bytes (125 ∷ []) (all_each in_braces bytes h) refl in
+    let b : run_at in_braces braces_found bytes ≡ None = run_whole in_braces braces_found bytes h in
+    let k : the (Comment bytes) [] ≡ None = sym a ∙ d ∙ ap (λ (x : Found). longer x (125 ∷ [])) b in
+    cc
+
+small_some : (n : ℕ) → n < 256 → small n ≡ Some n
+small_some n h = rw (lt-ltb n 256 h) refl
+
+-- no annotation ends sooner than its run
+nag_ends : (o : Option ℕ) (n : ℕ) (c : ℕ) → nag_found o [] ≡ longer (Some (Nag n, [])) (c ∷ []) → ⊥
+nag_ends None n c e = cc
+nag_ends (Some m) n c e = ends (Nag m) (Nag n) c e
+
+digits_end : (ds : List ℕ) (n c : ℕ) → digits_found ds [] ≡ longer (Some (Nag n, [])) (c ∷ []) → ⊥
+digits_end [] n c e = cc
+digits_end (d ∷ ds) n c e = nag_ends (small (digits_value 0 (d ∷ ds))) n c e
+
+digits_grow : (bytes : List ℕ) → list_all is_digit bytes ≡ true → digits_value 0 bytes < 256 → Differs (run_at is_digit digits_found (bytes ++ 49 ∷ [])) (run_at is_digit digits_found bytes) (49 ∷ [])
+unfolding is_digit
+digits_grow [] h low d =
+    let a : run_at is_digit digits_found (49 ∷ []) ≡ the (Nag 1) [] = run_longer is_digit digits_found [] 49 refl refl in
+    let b : run_at is_digit digits_found [] ≡ None = run_whole is_digit digits_found [] refl in
+    let e : the (Nag 1) [] ≡ None = sym a ∙ d ∙ ap (λ (x : Found). longer x (49 ∷ [])) b in
+    cc
+digits_grow (x ∷ xs) h low d =
+    let bytes = x ∷ xs in
+    let a : run_at is_digit digits_found (bytes ++ 49 ∷ []) ≡ digits_found (bytes ++ 49 ∷ []) [] = run_longer is_digit digits_found bytes 49 refl h in
+    let b : run_at is_digit digits_found bytes ≡ Some (Nag (digits_value 0 bytes), []) = run_whole is_digit digits_found bytes h ∙ ap (λ (o : Option ℕ). nag_found o []) (small_some (digits_value 0 bytes) low) in
+    digits_end (bytes ++ 49 ∷ []) (digits_value 0 bytes) 49 (sym a ∙ d ∙ ap (λ (x : Found). longer x (49 ∷ [])) b)
+
+one_glyph : (b : ℕ) → (b ≡ 33) ⊎ (b ≡ 63) → (n : ℕ) × (glyph_value (b ∷ []) ≡ Some n)
+unfolding glyph_value
+one_glyph b (inl e) = (1, rw e refl)
+one_glyph b (inr e) = (2, rw e refl)
+
+two_glyphs : (b c : ℕ) → (b ≡ 33) ⊎ (b ≡ 63) → (c ≡ 33) ⊎ (c ≡ 63) → (n : ℕ) × (glyph_value (b ∷ c ∷ []) ≡ Some n)
+unfolding glyph_value
+two_glyphs b c (inl e) (inl h) = (3, rw (e, h) refl)
+two_glyphs b c (inr e) (inr h) = (4, rw (e, h) refl)
+two_glyphs b c (inl e) (inr h) = (5, rw (e, h) refl)
+two_glyphs b c (inr e) (inl h) = (6, rw (e, h) refl)
+
+one_true : (a : Bool) → a && true ≡ true → a ≡ true
+one_true true e = refl
+one_true false e = e
+
+few_glyphs : (b : ℕ) (bytes : List ℕ) → is_glyph b ≡ true → list_all is_glyph bytes ≡ true → length bytes < 2 → (n : ℕ) × (glyph_value (b ∷ bytes) ≡ Some n)
+few_glyphs b [] e h k = one_glyph b (glyph_is b e)
+few_glyphs b (c ∷ []) e h k = two_glyphs b c (glyph_is b e) (glyph_is c (one_true _ h))
+few_glyphs b (c ∷ d ∷ bytes) e h k = absurd (omega arith)
+
+glyphs_grow : (b : ℕ) (bytes : List ℕ) → is_glyph b ≡ true → list_all is_glyph bytes ≡ true → length bytes < 2 → Differs (run_at is_glyph glyph_found (b ∷ bytes ++ b ∷ [])) (run_at is_glyph glyph_found (b ∷ bytes)) (b ∷ [])
+glyphs_grow b bytes e h k d =
+    let few = few_glyphs b bytes e h k in
+    let whole : list_all is_glyph (b ∷ bytes) ≡ true = rw (e, h) refl in
+    let a : run_at is_glyph glyph_found (b ∷ bytes ++ b ∷ []) ≡ glyph_found (b ∷ bytes ++ b ∷ []) [] = run_longer is_glyph glyph_found (b ∷ bytes) b e whole in
+    let r : run_at is_glyph glyph_found (b ∷ bytes) ≡ Some (Nag few.0, []) = run_whole is_glyph glyph_found (b ∷ bytes) whole ∙ ap (λ (o : Option ℕ). nag_found o []) few.1 in
+    nag_ends (glyph_value (b ∷ bytes ++ b ∷ [])) few.0 b (sym a ∙ d ∙ ap (λ (x : Found). longer x (b ∷ [])) r)
+
+both : (a b : Bool) → a && b ≡ true → (a ≡ true) × (b ≡ true)
+both true b e = (refl, e)
+both false b e = absurd cc
+
+hidden_grows : (start : Bool) (bytes : List ℕ) → start && list_all in_line bytes ≡ true → Differs (hidden_at start (bytes ++ 37 ∷ [])) (hidden_at start bytes) (37 ∷ [])
+hidden_grows true bytes h d = run_grows in_line hidden_found (λ w. Hidden) bytes 37 (λ w. refl) refl h d
+hidden_grows false bytes h d = absurd cc
+
+-- a chain of tests goes together with another: what is open is a finding that grows
+choose : (v o1 o2 : Bool) (x1 x2 : ℕ → Found) (y1 y2 : Found) → cond v o1 o2 ≡ true → (v ≡ true → o1 ≡ true → (c : ℕ) × Differs (x1 c) y1 (c ∷ [])) → (v ≡ false → o2 ≡ true → (c : ℕ) × Differs (x2 c) y2 (c ∷ []))
+    → (c : ℕ) × Differs (cond v (x1 c) (x2 c)) (cond v y1 y2) (c ∷ [])
+choose true o1 o2 x1 x2 y1 y2 e f g = f refl e
+choose false o1 o2 x1 x2 y1 y2 e f g = g refl e
+
+sign_grows : (start : Bool) (b : ℕ) (bytes : List ℕ) → sign_open start b bytes ≡ true → (c : ℕ) × Differs (sign_at start b (bytes ++ c ∷ [])) (sign_at start b bytes) (c ∷ [])
+unfolding sign_open sign_at
+sign_grows start b bytes e =
+    choose (eqb b 37) _ _ _ _ _ _ e (λ w h. (37, hidden_grows start bytes h)) (λ w e.
+    choose (eqb b 59) _ _ _ _ _ _ e (λ w h. (37, run_grows in_line line_found (λ w. Comment (map without_brace w)) bytes 37 (λ w. refl) refl h)) (λ w e.
+    choose (eqb b 123) _ _ _ _ _ _ e (λ w h. (125, braces_grow bytes h)) (λ w e.
+    choose (eqb b 36) _ _ _ _ _ _ e (λ w h. (let two = both _ _ h in (49, digits_grow bytes two.0 (ltb-true _ _ two.1)))) (λ w e. absurd cc))))
+
+nothing_outside : (start : Bool) → Grows (outside_at start) []
+unfolding outside_at sign_at is_word_byte is_name_byte is_digit is_blank is_glyph
+nothing_outside start = (42, λ d. apart d)
+  where
+    apart : the (Marker Unfinished) [] ≡ None → ⊥
+    apart e = cc
+
+outside_grows : (start : Bool) (front : List ℕ) → outside_open start front ≡ true → Grows (outside_at start) front
+unfolding outside_open outside_at
+outside_grows start [] e = nothing_outside start
+outside_grows start (b ∷ bytes) e =
+    choose (is_word_byte b) _ _ _ _ _ _ e (λ w h. (b, run_grows is_word_byte word_found word_item (b ∷ bytes) b (λ w. refl) w (rw (w, h) refl))) (λ w e.
+    choose (is_blank b) _ _ _ _ _ _ e (λ w h. absurd cc) (λ w e.
+    choose (is_glyph b) _ _ _ _ _ _ e (λ w h. (let two = both _ _ h in (b, glyphs_grow b bytes w two.0 (ltb-true _ _ two.1)))) (λ w e. sign_grows start b bytes e)))
+
+nothing_in_tag : (start : Bool) → Grows (tag_at start) []
+unfolding tag_at is_name_byte is_digit is_blank
+nothing_in_tag start = (34, λ d. apart d)
+  where
+    apart : the Quote [] ≡ None → ⊥
+    apart e = cc
+
+tag_grows : (start : Bool) (front : List ℕ) → tag_open start front ≡ true → Grows (tag_at start) front
+unfolding tag_open tag_at
+tag_grows start [] e = nothing_in_tag start
+tag_grows start (b ∷ bytes) e =
+    choose (is_name_byte b) _ _ _ _ _ _ e (λ w h. (b, run_grows is_name_byte name_found Name (b ∷ bytes) b (λ w. refl) w (rw (w, h) refl))) (λ w e.
+    choose (is_blank b) _ _ _ _ _ _ e (λ w h. absurd cc) (λ w e.
+    choose (eqb b 34) _ _ _ _ _ _ e (λ w h. absurd cc) (λ w e.
+    choose (eqb b 93) _ _ _ _ _ _ e (λ w h. absurd cc) (λ w e.
+    choose (eqb b 37) _ _ _ _ _ _ e (λ w h. (37, hidden_grows start bytes h)) (λ w e. absurd cc)))))
+
+escape_grows : (bytes : List ℕ) → escape_open bytes ≡ true → Grows escaped_at bytes
+escape_grows [] e = (34, λ d. apart d)
+  where
+    apart : the (Escaped 34) [] ≡ the (Stretch (92 ∷ [])) (34 ∷ []) → ⊥
+    apart d = ends (Escaped 34) (Stretch (92 ∷ [])) 34 d
+escape_grows (b ∷ bytes) e = absurd cc
+
+value_grows : (front : List ℕ) → value_open front ≡ true → Grows value_at front
+unfolding value_open value_at
+value_grows [] e = (34, λ d. apart d)
+  where
+    apart : the Quote [] ≡ None → ⊥
+    apart e = cc
+value_grows (b ∷ bytes) e =
+    choose (eqb b 34) _ _ _ _ _ _ e (λ w h. absurd cc) (λ w1 e.
+    choose (eqb b 92) _ _ _ _ _ _ e (λ w h. escape_grows bytes h) (λ w2 e.
+    choose (eqb b 10) _ _ _ _ _ _ e (λ w h. absurd cc) (λ w3 h.
+    let p = plain_byte b w1 w2 w3 in (b, run_grows is_plain stretch_found Stretch (b ∷ bytes) b (λ w. refl) p (rw (p, h) refl)))))
+
+-- the bytes behind a front that begins as a mark does
+mark_grows : (bytes : List ℕ) → mark_open bytes ≡ true → (more : List ℕ) × Differs (mark_at (bytes ++ more)) (mark_at bytes) more
+mark_grows [] e = (187 ∷ 191 ∷ [], λ d. apart d)
+  where
+    apart : the Mark [] ≡ None → ⊥
+    apart e = cc
+mark_grows (b ∷ []) e = (191 ∷ [], λ d. apart (rw e at d))
+  where
+    apart : the Mark [] ≡ None → ⊥
+    apart e = cc
+mark_grows (b ∷ c ∷ bytes) e = absurd cc
+
+nothing_at_start : Differs (start_at (42 ∷ [])) (start_at []) (42 ∷ [])
+unfolding start_at outside_at sign_at is_word_byte is_name_byte is_digit is_blank is_glyph
+nothing_at_start d = apart d
+  where
+    apart : the (Marker Unfinished) [] ≡ None → ⊥
+    apart e = cc
+
+start_grows : (front : List ℕ) → start_open front ≡ true → (more : List ℕ) × Differs (start_at (front ++ more)) (start_at front) more
+unfolding start_open start_at
+start_grows [] e = (42 ∷ [], nothing_at_start)
+start_grows (b ∷ bytes) e = go (eqb b 239) e
+  where
+    go : (v : Bool) → cond v (mark_open bytes) (outside_open true (b ∷ bytes)) ≡ true → (more : List ℕ) × Differs (cond v (mark_at (bytes ++ more)) (outside_at true (b ∷ bytes ++ more))) (cond v (mark_at bytes) (outside_at true (b ∷ bytes))) more
+    go true e = mark_grows bytes e
+    go false e = (let g = outside_grows true (b ∷ bytes) e in (g.0 ∷ [], g.1))
+
+pub open_undecided : (place : Place) (front : List ℕ) → is_open place front ≡ true → Decides place front → ⊥
+unfolding is_open item_at
+open_undecided GameStart front e d = (let g = start_grows front e in g.1 (d g.0))
+open_undecided LineStart front e d = (let g = outside_grows true front e in g.1 (d (g.0 ∷ [])))
+open_undecided InLine front e d = (let g = outside_grows false front e in g.1 (d (g.0 ∷ [])))
+open_undecided TagLineStart front e d = (let g = tag_grows true front e in g.1 (d (g.0 ∷ [])))
+open_undecided InTag front e d = (let g = tag_grows false front e in g.1 (d (g.0 ∷ [])))
+open_undecided InValue front e d = (let g = value_grows front e in g.1 (d (g.0 ∷ [])))
+
+-- No bytes decide nothing.
+pub nothing_undecided : (place : Place) → Decides place [] → ⊥
+unfolding is_open start_open outside_open tag_open value_open
+nothing_undecided GameStart d = open_undecided GameStart [] refl d
+nothing_undecided LineStart d = open_undecided LineStart [] refl d
+nothing_undecided InLine d = open_undecided InLine [] refl d
+nothing_undecided TagLineStart d = open_undecided TagLineStart [] refl d
+nothing_undecided InTag d = open_undecided InTag [] refl d
+nothing_undecided InValue d = open_undecided InValue [] refl d
+
+pub open_if : (place : Place) (front : List ℕ) → (Decides place front → ⊥) → is_open place front ≡ true
+open_if place front h = go (is_open place front) refl
+  where
+    go : (v : Bool) → is_open place front ≡ v → is_open place front ≡ true
+    go true e = e
+    go false e = absurd (h (closed_decides place front e))
+
+pub decided_so : (place : Place) (front : List ℕ) (v : Bool) → v ≡ is_open place front → MatchBool v (Decides place front → ⊥) (Decides place front)
+decided_so place front true e = open_undecided place front (sym e)
+decided_so place front false e = closed_decides place front (sym e)
+
+open_front : (looked b : ℕ) (bytes : List ℕ) → (b ≡ 239 → ⊥) → start_open (take looked (b ∷ bytes)) ≡ true → outside_open true (take looked (b ∷ bytes)) ≡ true
+unfolding start_open outside_open
+open_front zero b bytes h e = refl
+open_front (suc n) b bytes h e = rw (no_eqb b 239 h) at e
+
+pub open_outside : (looked : ℕ) (bytes rest : List ℕ) (c : ℕ) → bytes ≡ c ∷ rest → (c ≡ 239 → ⊥) → start_open (take looked bytes) ≡ true → outside_open true (take looked bytes) ≡ true
+open_outside looked bytes rest c e h k = subst (λ (x : List ℕ). outside_open true (take looked x) ≡ true) (sym e) (open_front looked c rest h (subst (λ (x : List ℕ). start_open (take looked x) ≡ true) e k))

@@ -1,0 +1,56 @@
+-- All bytes at hand are used, and one read brings more.
+use Rattle.std.proofs.Common.{◌≡◌, ℕ, ◌≤◌, Bool, true, false, not, List, [], ◌∷◌, ◌++◌, length, refl, sym, ap, subst, ◌∙◌, arith, append-nil, Result, Ok, Err}
+use Rattle.std.proofs.lemmas.Bool.{false≢true}
+use Rattle.chess_types.specs.bytes.Calls.{joined}
+use Rattle.chess_items.specs.Coming.{unread}
+use Rattle.chess_items.specs.steps.AtHands.{Reads, AfterReading, HasRefilled, Refilled}
+use Rattle.chess_items.specs.steps.Texts.{BreaksOff, Refills}
+use Rattle.chess_items.specs.steps.Texts as texts
+use Rattle.chess_items.specs.declared.at_hand.AtHand.{AtHand}
+use Rattle.chess_items.specs.declared.at_hand.Fault.{Fault}
+use Rattle.chess_items.proofs.BreakLemmas.{brings, ends_truly, has_all, size_at_hand}
+use Rattle.chess_items.proofs.ReadLemmas.{empty_is}
+
+pub not_ended : {a b : Bool} → b ≡ a → b ≡ false → a ≡ true → ⊥
+not_ended same goes e = false≢true (sym goes ∙ same ∙ e)
+
+module _ {R A : Type 0} (gives : R → List ℕ → R → Type 0) (ended : R → Type 0) (failed : R → Bool) (old mid new : AtHand R A) (goes : mid.has_ended ≡ false) (source : mid.source ≡ old.source) (reads : mid.reads ≡ old.reads) (has_ended : mid.has_ended ≡ old.has_ended) where
+  refill_after : (v : Bool) → new.has_ended ≡ v → (r : Reads gives ended failed mid new (Ok tt)) → length (unread mid) ≡ 0 → AfterReading ended (r.piece ∷ []) new (not v)
+  refill_after false e r none =
+      let whole : unread new ≡ r.piece ++ [] = r.after.0 ∙ ap (λ (x : List ℕ). x ++ r.piece) (empty_is (unread mid) none) ∙ sym (append-nil r.piece) in
+      (whole, omega arith, e)
+  refill_after true e r none =
+      let nothing : r.piece ≡ [] = r.after.2 e in
+      (r.after.0 ∙ rw (empty_is (unread mid) none) nothing, rw nothing refl, e, r.after.1 e)
+
+  pub refilled : (r : Reads gives ended failed mid new (Ok tt)) → length (unread mid) ≡ 0 → Refilled gives ended failed old new (Ok (not new.has_ended))
+  refilled r none = record {
+    pieces = r.piece ∷ [];
+    calls = (new.source, subst (λ x. gives x r.piece new.source) source r.call, refl);
+    counted = omega (arith, r.counted, reads);
+    small = (let n = ap length (append-nil r.piece) in omega (arith, n, r.small));
+    well = r.after.3 ∙ ap failed source;
+    at_end = λ e. absurd (not_ended has_ended goes e);
+    after = refill_after new.has_ended refl r none;
+  }
+
+module _ {R A : Type 0} (gives : R → List ℕ → R → Type 0) (ended : R → Type 0) (failed : R → Bool) (old new : AtHand R A) where
+  some_pieces : (pieces : List (List ℕ)) → 1 ≤ length pieces → pieces ≡ [] → ⊥
+  some_pieces pieces some e = (let n = ap length e in omega (arith, n, some))
+
+  refills_after : (has_more : Bool) (r : HasRefilled gives ended failed old new has_more) → texts.AfterRefill (brings gives failed) unread (has_all gives failed) (ends_truly gives failed ended) (size_at_hand gives failed) old (joined r.pieces) new has_more
+  refills_after false r = (r.after.0, r.after.1, r.after.2, λ e. r.after.3)
+  refills_after true r = (
+    r.after.0,
+    (λ e. absurd (false≢true (sym r.after.2 ∙ e))),
+    (let n = ap length r.after.0 in omega (arith, n, r.small, r.after.1, r.counted)),
+    λ e. some_pieces r.pieces r.after.1 (r.at_end e).0,
+  )
+
+  pub refills : (result : Result Bool Fault) → Refilled gives ended failed old new result → Refills (brings gives failed) unread (has_all gives failed) (ends_truly gives failed ended) (size_at_hand gives failed) old new result
+  refills (Err e) r = tt
+  refills (Ok has_more) r = record {
+    more = joined r.pieces;
+    came = record { pieces = r.pieces; calls = r.calls; whole = refl; counted = r.counted; small = r.small; well = r.well };
+    after = refills_after has_more r;
+  }

@@ -1,0 +1,10 @@
+-- Words of the code's steps: no definition rests on them.
+pub mod Classes
+pub mod ItemAt
+pub mod Tokens
+pub mod Deciding
+pub mod AtHands
+pub mod Texts
+pub mod Taking
+pub mod Skipping
+pub mod Passing

@@ -1,0 +1,46 @@
+-- Items that are taken, where white space and hidden lines behind the limit are passed over.
+--   AreWhite  these bytes are white items, one after another
+--   Passes    items are taken, or the text was white
+use Rattle.std.specs.Prelude.{◌≡◌, ℕ, ◌⊎◌, true, false, List, [], ◌++◌, Option, Some, None, Result, Ok, Err}
+use Rattle.chess_types.specs.bytes.Calls.{Calls, joined}
+use Rattle.chess_items.specs.Items.{Item}
+use Rattle.chess_items.specs.steps.Skipping.{column_at, white_after}
+use Rattle.chess_items.specs.steps.Taking.{TakesOne, SpellsFrom, all_white, Ran}
+use Rattle.chess_items.specs.declared.at_hand.Fault.{Fault}
+use Rattle.chess_items.specs.declared.place.Place.{Place}
+use Rattle.chess_items.specs.declared.place.Place.TheVariants.{GameStart}
+use Rattle.chess_items.specs.declared.taking.Stop.TheVariants as stop
+use Rattle.chess_items.specs.declared.taking.Stopped.{Stopped}
+
+abbrev pub AreWhite : ℕ → Place → List ℕ → Type 0
+AreWhite at place bytes = (items : List (ℕ × Item)) × (all_white items ≡ true) × SpellsFrom at place bytes items []
+
+module _ {X T : Type 0} (comes : X → List ℕ → X → Type 0) (at_hand : X → List ℕ) (all sound : X → Type 0) (size : X → ℕ) (takes : TakesOne T) where
+  -- all has come, and was white
+  pub record WasWhite (old new : X) : Type 0 where
+    pub pieces : List (List ℕ)
+    pub came : Calls comes old pieces new
+    pub white : AreWhite 0 GameStart (at_hand old ++ joined pieces)
+    pub ended : all new
+    pub nothing : at_hand new ≡ []
+    pub still : all old → joined pieces ≡ []
+
+  -- only white items stood before the limit, and behind them comes something else
+  pub record NotWhite (stopped : Stopped) (mid new : X) : Type 0 where
+    pub over : stopped.why ≡ stop.TooLarge
+    pub white : stopped.white ≡ true
+    pub pieces : List (List ℕ)
+    pub came : Calls comes mid pieces new
+    pub other : white_after (Some (column_at stopped.place)) (at_hand mid ++ joined pieces) ≡ None
+    pub still : all mid → (joined pieces ≡ []) × all new
+
+  pub record Passed (limit : ℕ) (old new : X) (t u : T) (stopped : Stopped) : Type 0 where
+    pub mid : X
+    pub ran : Ran comes at_hand all sound size takes limit old mid t u (Ok stopped)
+    pub after : ((new ≡ mid) × (stopped.why ≡ stop.TooLarge → stopped.white ≡ false)) ⊎ NotWhite stopped mid new
+    pub more : stopped.why ≡ stop.End → stopped.white ≡ false
+
+  abbrev pub Passes : ℕ → X → X → T → T → Result (Option Stopped) Fault → Type 0
+  Passes limit old new t u (Err e) = Unit {0}
+  Passes limit old new t u (Ok None) = WasWhite old new
+  Passes limit old new t u (Ok (Some stopped)) = Passed limit old new t u stopped

@@ -1,0 +1,78 @@
+-- A text that comes bit by bit.
+--   Near        where bytes came, the last read was made where the bytes before it did not decide the item
+--   MadeReady   bytes came until the item at the front is decided or all have come
+--   Keeps       the first bytes are used
+--   Refills     all bytes at hand are used, and more come
+--   BreaksOff   why no more bytes come, though not all have: bytes came, and then there was no memory, or a read broke off
+--   Oversized   no item within so many bytes, and that there is none isn't decided by one byte more
+use Rattle.std.specs.Prelude.{◌≡◌, ℕ, ◌+◌, ◌≤◌, ◌<◌, ◌⊎◌, Bool, true, false, List, [], ◌++◌, length, take, MatchOption, Result, Ok, Err}
+use Rattle.chess_types.specs.bytes.Calls.{Calls}
+use Rattle.chess_items.specs.steps.Deciding.{Decides}
+use Rattle.chess_items.specs.steps.ItemAt.{item_at}
+use Rattle.chess_items.specs.declared.at_hand.Fault.{Fault}
+use Rattle.chess_items.specs.declared.at_hand.Fault.TheVariants.{Memory, Read}
+use Rattle.chess_items.specs.declared.place.Place.{Place}
+
+abbrev pub Near : Place → List ℕ → List ℕ → Type 0
+Near place old new = (new ≡ old) ⊎ ((front : List ℕ) × (piece : List ℕ) × (new ≡ front ++ piece) × (length piece ≤ 65536) × (Decides place front → ⊥))
+
+-- more than `most` bytes, of which no item of at most `most` is the first, and the first `most + 1` don't decide that there is none
+abbrev pub Oversized : ℕ → Place → List ℕ → Type 0
+Oversized most place input = (most < length input) × MatchOption (item_at place input) (Decides place (take (most + 1) input) → ⊥) (λ x. most + length x.1 < length input)
+
+abbrev pub BreaksOff : {X : Type 0} → (X → List ℕ → X → Type 0) → (X → X → Type 0) → (X → Type 0) → X → X → Fault → Type 0
+BreaksOff comes breaks all old new Memory = (all old → ⊥) × (pieces : List (List ℕ)) × Calls comes old pieces new
+BreaksOff {X} comes breaks all old new Read = (all old → ⊥) × (pieces : List (List ℕ)) × (mid : X) × Calls comes old pieces mid × breaks mid new
+
+module _ {X : Type 0} (comes : X → List ℕ → X → Type 0) (at_hand : X → List ℕ) (all sound : X → Type 0) (size : X → ℕ) where
+  pub record IsReady (most : ℕ) (place : Place) (old : X) (more : List ℕ) (new : X) : Type 0 where
+    pub longer : at_hand new ≡ at_hand old ++ more
+    pub decided : Decides place (at_hand new) ⊎ all new
+    pub near : Near place (at_hand old) (at_hand new)
+    pub at_end : all old → (more ≡ []) × all new
+    pub sound_still : sound new
+    pub no_larger : size new ≤ size old
+    pub held : length (at_hand old) ≤ most + 65536 → length (at_hand new) ≤ most + 65536
+
+  -- too many bytes are at hand, and they don't decide the item
+  pub record IsOver (most : ℕ) (place : Place) (old : X) (more : List ℕ) (new : X) : Type 0 where
+    pub longer : at_hand new ≡ at_hand old ++ more
+    pub over : most < length (at_hand new)
+    pub undecided : Decides place (at_hand new) → ⊥
+    pub at_end : all old → (more ≡ []) × all new
+    pub sound_still : sound new
+    pub held : length (at_hand old) ≤ most + 65536 → length (at_hand new) ≤ most + 65536
+
+  abbrev pub AfterCame : ℕ → Place → X → List ℕ → X → Bool → Type 0
+  AfterCame most place old more new true = IsReady most place old more new
+  AfterCame most place old more new false = IsOver most place old more new
+
+  pub record Made (most : ℕ) (place : Place) (old new : X) (is_ready : Bool) : Type 0 where
+    pub more : List ℕ
+    pub came : comes old more new
+    pub after : AfterCame most place old more new is_ready
+
+  abbrev pub MadeReady : ℕ → Place → X → X → Result Bool Fault → Type 0
+  MadeReady most place old new (Ok is_ready) = Made most place old new is_ready
+  MadeReady most place old new (Err e) = Unit {0}
+
+  pub record Keeps (left : ℕ) (old new : X) : Type 0 where
+    pub kept : (text rest : List ℕ) → at_hand old ≡ text ++ rest → length rest ≡ left → at_hand new ≡ rest
+    pub came : comes old [] new
+    pub at_end : all old → all new
+    pub not_yet : all new → all old
+    pub sound_still : sound new
+    pub smaller : size new + length (at_hand old) ≤ size old + left
+
+  abbrev pub AfterRefill : X → List ℕ → X → Bool → Type 0
+  AfterRefill old more new true = (at_hand new ≡ more) × sound new × (size new + 1 ≤ size old) × (all old → ⊥)
+  AfterRefill old more new false = (at_hand new ≡ []) × (more ≡ []) × all new × sound new
+
+  pub record Refill (old new : X) (has_more : Bool) : Type 0 where
+    pub more : List ℕ
+    pub came : comes old more new
+    pub after : AfterRefill old more new has_more
+
+  abbrev pub Refills : X → X → Result Bool Fault → Type 0
+  Refills old new (Ok has_more) = Refill old new has_more
+  Refills old new (Err e) = Unit {0}

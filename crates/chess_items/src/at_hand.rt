@@ -1,0 +1,182 @@
+//! Bytes of a source that are at hand.
+
+ghost use Rattle.std.specs.Prelude.{◌≡◌, ◌<◌, ◌≤◌, ℕ, List, [], ◌++◌, true, false, length, drop, vec_len, IfOk, IfErr};
+ghost use Rattle.chess_items.specs.declared.at_hand.Fault.TheVariants.{Memory};
+
+use crate::cut::is_undecided;
+use crate::place::Place;
+use chess_types::Source;
+use std::alloc::{AllocError, Allocator};
+
+/// Why no more bytes come.
+#[derive(Clone, Copy)]
+pub enum Fault {
+    /// There is no memory.
+    Memory,
+    /// A read failed, or there were too many.
+    Read,
+}
+
+/// A source, with the bytes that were read and are not used yet.
+#[derive(Drop)]
+pub struct AtHand<'a, R, A: Allocator> {
+    pub source: R,
+    pub bytes: Vec<u8, &'a A>,
+    pub used: usize,
+    pub has_ended: bool,
+    pub reads: u64,
+    /// Empty before the first read.
+    pub buffer: Vec<u8, &'a A>,
+    ghost within: { used ≤ vec_len bytes },
+    ghost few_at_a_time: { vec_len buffer ≤ 65536 },
+}
+
+/// The most bytes of a read.
+const PIECE: usize = 65_536;
+
+// The contract says no more, since a list of so many zeros would be written out in each goal.
+fn zeros<A: Allocator>(alloc: A, len: usize) -> Result<Vec<u8, A>, AllocError>
+    requires { 0 < len }
+    ensures { IfOk result (λ zeros. (0 < vec_len zeros) × (vec_len zeros ≤ len)) }
+{
+    vec![in alloc; 0u8; len]
+}
+
+// Lets the first bytes go.
+fn drop_front<A: Allocator>(bytes: &mut Vec<u8, A>, used: usize)
+    requires { used ≤ vec_len bytes.old }
+    ensures { bytes.new.items ≡ drop used bytes.old.items }
+{
+    if used > 0 {
+        drop(bytes.drain(..used));
+    }
+}
+
+// Makes the buffer, where there is none yet.
+fn make_buffer<A: Allocator>(alloc: A, buffer: &mut Vec<u8, A>) -> Result<(), Fault>
+    requires { vec_len buffer.old ≤ 65536 }
+    ensures few { vec_len buffer.new ≤ 65536 }
+    ensures some { IfOk result (λ _. 0 < vec_len buffer.new) }
+    ensures memory { IfErr result (λ fault. fault ≡ Memory) }
+{
+    if buffer.is_empty() {
+        let Ok(made) = zeros(alloc, PIECE) else {
+            return Err(Fault::Memory);
+        };
+        *buffer = made;
+    }
+    Ok(())
+}
+
+impl<'a, R: Source, A: Allocator> AtHand<'a, R, A> {
+    ghost use Rattle.chess_items.specs.Coming.{Breaks, Came, unread};
+    ghost use Rattle.chess_items.specs.steps.AtHands.{Reads, Readied, Refilled};
+    ghost use Rattle.chess_items.specs.steps.Texts.{BreaksOff};
+
+    /// The source, nothing of which is at hand.
+    pub fn new(alloc: &'a A, source: R) -> AtHand<'a, R, A>
+        ensures nothing { unread result ≡ [] }
+        ensures goes_on { result.has_ended ≡ false }
+        ensures source { result.source ≡ source }
+        ensures reads { result.reads ≡ 1099511627776 }
+    {
+        AtHand {
+            source,
+            bytes: Vec::new(alloc),
+            used: 0,
+            has_ended: false,
+            reads: 1 << 40,
+            buffer: Vec::new(alloc),
+        }
+    }
+
+    /// The bytes that are not used yet.
+    pub fn unread(&self) -> &[u8]
+        ensures { result.now ≡ unread self.now }
+    {
+        &self.bytes[self.used..]
+    }
+
+    /// Uses the first bytes, all but `left`.
+    pub fn keep(&mut self, left: usize)
+        requires { left ≤ length (unread self.old) }
+        ensures kept { (text rest : List ℕ) → unread self.old ≡ text ++ rest → length rest ≡ left → unread self.new ≡ rest }
+        ensures source { self.new.source ≡ self.old.source }
+        ensures ended { self.new.has_ended ≡ self.old.has_ended }
+        ensures reads { self.new.reads ≡ self.old.reads }
+        ensures len { length (unread self.new) ≡ left }
+    {
+        self.used = self.bytes.len() - left;
+    }
+
+    // Reads once.
+    fn read_on(&mut self) -> Result<(), Fault>
+        requires buffer { 0 < vec_len self.old.buffer }
+        requires reads { 0 < self.old.reads }
+        requires goes_on { self.old.has_ended ≡ false }
+        ensures { Reads R.gives R.ended R.failed self.old self.new result }
+    {
+        drop_front(&mut self.bytes, self.used);
+        self.used = 0;
+        self.reads -= 1;
+        match self.source.read(self.buffer.as_mut_slice()) {
+            Ok(0) => {
+                self.has_ended = true;
+                Ok(())
+            }
+            Ok(count) => match self.bytes.extend_from_slice(&self.buffer[..count]) {
+                Ok(()) => Ok(()),
+                Err(_) => Err(Fault::Memory),
+            },
+            Err(_) => Err(Fault::Read),
+        }
+    }
+
+    /// Reads until the bytes at hand decide the item at their front, or the source has ended. False where more than `most` bytes are at
+    /// hand and don't decide it.
+    pub fn read_until_decided(&mut self, place: Place, most: usize) -> Result<bool, Fault>
+        requires ended { self.old.has_ended ≡ true → R.ended self.old.source }
+        ensures readied { Readied R.gives R.ended R.failed most place self.old self.new result }
+        ensures broken { IfErr result (λ fault. BreaksOff (λ s bytes t. Came R.gives R.failed s bytes t) (λ s t. Breaks R.gives R.failed s t) (λ s. s.has_ended ≡ true) self.old self.new fault) }
+    {
+        let mut looked = 0;
+        while !self.has_ended && is_undecided(place, self.unread(), looked) {
+            if self.unread().len() > most {
+                return Ok(false);
+            }
+            if self.reads == 0 {
+                return Err(Fault::Read);
+            }
+            if let Err(fault) = make_buffer(*self.bytes.allocator(), &mut self.buffer) {
+                return Err(fault);
+            }
+            looked = self.unread().len();
+            if let Err(fault) = self.read_on() {
+                return Err(fault);
+            }
+        }
+        Ok(true)
+    }
+
+    /// Uses all bytes at hand, and reads once. False where the source has ended.
+    pub fn refill(&mut self) -> Result<bool, Fault>
+        requires ended { self.old.has_ended ≡ true → R.ended self.old.source }
+        ensures refilled { Refilled R.gives R.ended R.failed self.old self.new result }
+        ensures broken { IfErr result (λ fault. BreaksOff (λ s bytes t. Came R.gives R.failed s bytes t) (λ s t. Breaks R.gives R.failed s t) (λ s. s.has_ended ≡ true) self.old self.new fault) }
+    {
+        self.keep(0);
+        if self.has_ended {
+            return Ok(false);
+        }
+        if self.reads == 0 {
+            return Err(Fault::Read);
+        }
+        if let Err(fault) = make_buffer(*self.bytes.allocator(), &mut self.buffer) {
+            return Err(fault);
+        }
+        if let Err(fault) = self.read_on() {
+            return Err(fault);
+        }
+        Ok(!self.has_ended)
+    }
+}

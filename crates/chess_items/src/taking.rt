@@ -1,0 +1,178 @@
+//! Taking the items of a text, one after another.
+
+ghost use Rattle.std.specs.Prelude.{◌<◌, ◌+◌, length, take, IfErr, IfOk, MatchBool};
+ghost use Rattle.chess_items.specs.steps.Deciding.{Decides};
+ghost use Rattle.chess_items.specs.steps.Taking.{Offered, Steps, Ran};
+ghost use Rattle.chess_items.specs.steps.Texts.{BreaksOff};
+ghost use Rattle.chess_items.specs.steps.Tokens.{item_of};
+
+use crate::at_hand::Fault;
+use crate::cut::is_undecided;
+use crate::fault::PgnFault;
+use crate::lexer::item;
+use crate::place::Place;
+use crate::taker::{Taken, Taker};
+use crate::text::Text;
+use crate::token::Token;
+
+/// Why no more items are taken.
+#[derive(Clone, Copy)]
+pub enum Stop {
+    /// The last item is used.
+    Full,
+    /// The next item isn't used: all ended in front of it.
+    Left,
+    /// The next item is refused, with this fault.
+    Refused(PgnFault),
+    /// The text has ended.
+    End,
+    /// What comes next is no item, whatever follows.
+    NoItem,
+    /// The next item reaches past the limit, or what comes next isn't known to be none before it.
+    TooLarge,
+}
+
+/// Where and why no more items are taken.
+#[derive(Clone, Copy)]
+pub struct Stopped {
+    pub why: Stop,
+    /// How many bytes are used.
+    pub at: usize,
+    pub place: Place,
+    /// Whether the items were but white space, marks and hidden lines.
+    pub white: bool,
+}
+
+/// What becomes of one item: it is used, with its place behind it, its length and whether it is white, or it is where all stops.
+#[derive(Clone, Copy)]
+enum Step {
+    On(Place, usize, bool),
+    Full(Place, usize, bool),
+    Stops(Stop),
+}
+
+/// What becomes of an item that is offered.
+#[derive(Clone, Copy)]
+enum Answer {
+    GoesOn,
+    Ends,
+    Stops(Stop),
+}
+
+/// Whether there are more than `most` bytes, and the first `most + 1` don't decide the item.
+fn exceeds(place: Place, bytes: &[u8], most: usize) -> bool
+    ensures { MatchBool result
+        ((most < length bytes.now) × (Decides place (take (most + 1) bytes.now) → ⊥))
+        (most < length bytes.now → Decides place (take (most + 1) bytes.now)) }
+{
+    if bytes.len() <= most {
+        return false;
+    }
+    is_undecided(place, &bytes[..most + 1], 0)
+}
+
+// Offers an item of so many bytes, which may be at most `most`. A bracket is offered even behind the limit, since it may be left.
+fn offer<T: Taker>(taker: &mut T, at: usize, token: Token<'_>, used: usize, most: usize) -> Answer
+    ensures { Offered T.takes at (item_of token.entry) used most taker.old taker.new result }
+{
+    if used > most && !matches!(token, Token::TagOpen) {
+        return Answer::Stops(Stop::TooLarge);
+    }
+    match taker.take(at, token) {
+        Err(fault) => Answer::Stops(Stop::Refused(fault)),
+        Ok(Taken::Leaves) => Answer::Stops(Stop::Left),
+        Ok(Taken::GoesOn) => {
+            if used > most {
+                return Answer::Stops(Stop::TooLarge);
+            }
+            Answer::GoesOn
+        }
+        Ok(Taken::Ends) => {
+            if used > most {
+                return Answer::Stops(Stop::TooLarge);
+            }
+            Answer::Ends
+        }
+    }
+}
+
+// Takes one item, of at most `most` bytes.
+fn take_one<X: Text, T: Taker>(
+    text: &mut X,
+    taker: &mut T,
+    place: Place,
+    at: usize,
+    most: usize,
+) -> Result<Step, Fault>
+    requires { X.sound text.old }
+    ensures steps { Steps X.comes X.at_hand X.all X.sound X.size T.takes at most place text.old text.new taker.old taker.new result }
+    ensures broken { IfErr result (λ fault. BreaksOff X.comes X.breaks X.all text.old text.new fault) }
+{
+    match text.ready(place, most) {
+        Err(fault) => return Err(fault),
+        Ok(false) => return Ok(Step::Stops(Stop::TooLarge)),
+        Ok(true) => {}
+    }
+    if text.unread().is_empty() {
+        return Ok(Step::Stops(Stop::End));
+    }
+    let Some((token, rest)) = item(place, text.unread()) else {
+        if exceeds(place, text.unread(), most) {
+            return Ok(Step::Stops(Stop::TooLarge));
+        }
+        return Ok(Step::Stops(Stop::NoItem));
+    };
+    let left = rest.len();
+    let used = text.unread().len() - left;
+    let next = place.after(token);
+    let white = token.is_white();
+    match offer(taker, at, token, used, most) {
+        Answer::Stops(why) => Ok(Step::Stops(why)),
+        Answer::GoesOn => {
+            text.keep(left);
+            Ok(Step::On(next, used, white))
+        }
+        Answer::Ends => {
+            text.keep(left);
+            Ok(Step::Full(next, used, white))
+        }
+    }
+}
+
+/// Takes items while the taker wants more, of at most `limit` bytes together.
+pub fn run<X: Text, T: Taker>(text: &mut X, taker: &mut T, limit: usize) -> Result<Stopped, Fault>
+    requires { X.sound text.old }
+    ensures sound { IfOk result (λ _. X.sound text.new) }
+    ensures ran { Ran X.comes X.at_hand X.all X.sound X.size T.takes limit text.old text.new taker.old taker.new result }
+    ensures broken { IfErr result (λ fault. BreaksOff X.comes X.breaks X.all text.old text.new fault) }
+{
+    let mut place = Place::GameStart;
+    let mut at = 0usize;
+    let mut white = true;
+    loop {
+        match take_one(text, taker, place, at, limit - at) {
+            Err(fault) => return Err(fault),
+            Ok(Step::Stops(why)) => {
+                return Ok(Stopped {
+                    why,
+                    at,
+                    place,
+                    white,
+                });
+            }
+            Ok(Step::Full(next, used, is_white)) => {
+                return Ok(Stopped {
+                    why: Stop::Full,
+                    at: at + used,
+                    place: next,
+                    white: white & is_white,
+                });
+            }
+            Ok(Step::On(next, used, is_white)) => {
+                place = next;
+                at += used;
+                white = white & is_white;
+            }
+        }
+    }
+}
