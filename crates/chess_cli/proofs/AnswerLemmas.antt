@@ -4,12 +4,13 @@ use Rattle.std.proofs.lemmas.Bool.Decides.{nat_tests}
 use Rattle.chess_types.specs.declared.bytes.source.Failed.{Failed}
 use Rattle.chess_tree.specs.GameTree.{TreeParts}
 use Rattle.chess_cli.specs.declared.answer.Told.TheVariants.{Whole, Path, Game}
-use Rattle.chess_cli.specs.Answers.{Answers, AnswersWithin, IsGranted, Tells, TellsBy, answer, effect, takes_memory, tree_after, long_line, no_memory, line_limit, line_room}
+use Rattle.chess_loop.specs.InputLines.{line_limit, line_room}
+use Rattle.chess_cli.specs.Answers.{Answers, AnswersWithin, IsGranted, Tells, TellsBy, answer, effect, takes_memory, tree_after, long_line, no_memory}
 use Rattle.chess_cli.specs.Numbers.{path_text}
 use Rattle.chess_cli.specs.steps.Replies.{IsGameText, IsOnPage}
 use Rattle.chess_cli.specs.Requests.{Pgn, request}
-use Rattle.chess_cli.specs.steps.Sending.{Sends}
-use Rattle.chess_cli.proofs.SendingLemmas.{puts}
+use Rattle.chess_loop.specs.steps.Sending.{Sends}
+use Rattle.chess_loop.proofs.SendingLemmas.{puts}
 
 within : (bytes : List ℕ) → length bytes ≤ line_limit → leb (length bytes) line_limit ≡ true
 within bytes few = grind (arith, nat_tests, few)

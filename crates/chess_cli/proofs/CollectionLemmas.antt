@@ -16,12 +16,12 @@ use Rattle.chess_pgn.specs.declared.game.Game.{Game as Code}
 use Rattle.chess_pgn.specs.declared.games.GamesFault.{GamesFault}
 use Rattle.chess_pgn.specs.declared.games.GamesFault.TheVariants.{Pgn, Read}
 use Rattle.chess_cli.specs.Collections.{AreGames, Collected, EndsAtFault, EndsInPart, EndsUnread, EndsWhole, EndsWritten, games_text}
-use Rattle.chess_cli.specs.RunEnds.{Broken, most_reads}
-use Rattle.chess_cli.specs.steps.Sending.{Sent}
+use Rattle.chess_loop.specs.RunEnds.{Broken, most_reads}
+use Rattle.chess_loop.specs.steps.Sending.{Sent}
 use Rattle.chess_cli.specs.steps.Collecting.{Reads, SoFar, WritesAll, WritesOne}
 use Rattle.chess_cli.specs.declared.ended.Ended.{Ended}
 use Rattle.chess_cli.specs.declared.ended.Ended.TheVariants.{Good, Input, ReadFault, WriteFault, Memory}
-use Rattle.chess_cli.proofs.SendingLemmas.{sent_whole}
+use Rattle.chess_loop.proofs.SendingLemmas.{sent_whole}
 
 games_text-append : (games : List Game) (game : Game) → games_text (games ++ game ∷ []) ≡ games_text games ++ game_text game
 games_text-append [] game = append-nil (game_text game)

@@ -7,10 +7,10 @@ use Rattle.chess_types.specs.declared.bytes.source.Failed.{Failed}
 use Rattle.chess_cli.specs.Gaps.{gapped, parted_by}
 use Rattle.chess_cli.specs.Numbers.{path_text}
 use Rattle.chess_cli.specs.steps.Pieces.{next_place}
-use Rattle.chess_cli.specs.steps.Sending.{Sent, Flows, Sends}
-use Rattle.chess_cli.specs.RunEnds.{Broken}
+use Rattle.chess_loop.specs.steps.Sending.{Sent, Flows, Sends}
+use Rattle.chess_loop.specs.RunEnds.{Broken}
 use Rattle.chess_cli.proofs.PathLemmas.{take-whole}
-use Rattle.chess_cli.proofs.SendingLemmas.{sent_more, broken_longer}
+use Rattle.chess_loop.proofs.SendingLemmas.{sent_more, broken_longer}
 
 -- the text of some places
 abbrev pub places_text : List ℕ → List ℕ

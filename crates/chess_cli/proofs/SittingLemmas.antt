@@ -7,12 +7,12 @@ use Rattle.chess_uci.specs.declared.event.Event.TheVariants.{Line as LineCode, S
 use Rattle.chess_uci.specs.Machine.{Event, Line, Starved, State, step}
 use Rattle.chess_uci.specs.steps.Searches.{Does, Follows}
 use Rattle.chess_cli.specs.declared.sitting.Sitting.{Sitting}
-use Rattle.chess_cli.specs.Answers.{line_limit, line_room}
+use Rattle.chess_loop.specs.InputLines.{line_limit, line_room}
 use Rattle.chess_cli.specs.Sittings.{Answered, AnsweredSoFar, AnsweredWithin, IsLineEvent, is_fed, no_memory_line, reply_lines, too_long_line}
 use Rattle.chess_cli.specs.steps.Driving.{Drives, Happened}
-use Rattle.chess_cli.specs.steps.Sending.{Sent, Flows}
+use Rattle.chess_loop.specs.steps.Sending.{Sent, Flows}
 use Rattle.chess_cli.proofs.EventLemmas.{answering_goes_on, answering_starts, reply_lines-append}
-use Rattle.chess_cli.proofs.SendingLemmas.{sent_more}
+use Rattle.chess_loop.proofs.SendingLemmas.{sent_more}
 
 pub same_event : {P : Type 0} → P ⊎ P → P
 same_event h = ⊎_elim (λ p. p) (λ p. p) h

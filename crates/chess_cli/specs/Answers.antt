@@ -27,6 +27,7 @@ use Rattle.chess_tree.specs.Forest.{Bare, count as count_children, moves_held}
 use Rattle.chess_tree.specs.Edits.{parent}
 use Rattle.chess_tree.specs.Comments.{has_brace, normalised}
 use Rattle.chess_tree.specs.GameTree.{TreeParts, added, annotated_here, at_path, commented_here, deleted, find, has, line_to, main_line, nodes_here, promoted_here}
+use Rattle.chess_loop.specs.InputLines.{line_limit, line_room}
 use Rattle.chess_pgn.specs.Games.{untold}
 use Rattle.chess_pgn.specs.Written.{game_text}
 use Rattle.chess_cli.specs.declared.refusal.Refusal.{Refusal}
@@ -224,14 +225,6 @@ TellsBy answers old request new =
 
 abbrev pub Tells : TreeParts → Request → List ℕ → TreeParts → Type 0
 Tells old request text new = TellsBy (λ answer. text ≡ answer) old request new
-
--- the most bytes of a line, without its line feed
-abbrev pub line_limit : ℕ
-line_limit = 1048576
-
--- a line of no more bytes is kept while it is read, whatever memory there is
-abbrev pub line_room : ℕ
-line_room = 65536
 
 abbrev pub long_line : List ℕ
 long_line = refused LongLine

@@ -14,7 +14,7 @@ use Rattle.chess_items.specs.declared.fault.PgnFault.{PgnFault}
 use Rattle.chess_pgn.specs.Games.{Game}
 use Rattle.chess_pgn.specs.Reading.{HasNoGame, IsAtFront, IsWhite}
 use Rattle.chess_pgn.specs.Written.{game_text}
-use Rattle.chess_cli.specs.RunEnds.{Broken}
+use Rattle.chess_loop.specs.RunEnds.{Broken}
 
 abbrev pub games_text : List Game → List ℕ
 games_text [] = []

@@ -2,17 +2,26 @@
 --   BoardEnds       the board's answers to the lines that were read are written, with so many reads at most
 --   SittingEnds     so are a session's replies
 --   CollectionEnds  so are the games that were read
+--   ended_of        an end of the loop over lines, among these
 use Rattle.std.specs.Prelude.{◌≡◌, ◌≢◌, ◌⊎◌, ℕ, Bool, List}
 use Rattle.chess_items.specs.declared.fault.PgnFault.{PgnFault}
 use Rattle.chess_tree.specs.GameTree.{TreeParts}
 use Rattle.chess_cli.specs.declared.ended.Ended.{Ended}
 use Rattle.chess_cli.specs.declared.ended.Ended.TheVariants.{Good, Input, ReadFault, WriteFault, Memory}
 use Rattle.chess_cli.specs.declared.sitting.Sitting.{Sitting}
+use Rattle.chess_loop.specs.declared.driver.RunEnd.{RunEnd}
+use Rattle.chess_loop.specs.declared.driver.RunEnd.TheVariants as loop
 use Rattle.chess_cli.specs.Answers.{Answers, beginning}
 use Rattle.chess_cli.specs.Collections.{EndsAtFault, EndsInPart, EndsUnread, EndsWhole, EndsWritten}
-use Rattle.chess_cli.specs.Runs.{Runs, Partly}
-use Rattle.chess_cli.specs.RunEnds.{EndsGood, EndsOver, EndsReadFault, EndsWriteFault, most_reads}
+use Rattle.chess_loop.specs.Runs.{Runs, Partly}
+use Rattle.chess_loop.specs.RunEnds.{EndsGood, EndsOver, EndsReadFault, EndsWriteFault, most_reads}
 use Rattle.chess_cli.specs.Sittings.{Answered, AnsweredInPart, beginning_with, has_ended}
+
+abbrev pub ended_of : RunEnd → Ended
+ended_of loop.Good = Good
+ended_of loop.ReadFault = ReadFault
+ended_of loop.WriteFault = WriteFault
+ended_of loop.Memory = Memory
 
 module _ {R W : Type 0} (gives : R → List ℕ → R → Type 0) (read_failed : R → Bool) (takes : W → List ℕ → W → Type 0) (write_failed : W → Bool) (ended : R → Type 0) where
   pub record BoardEnds (most : ℕ) (result : Ended) (r r' : R) (w w' : W) : Type 0 where

@@ -12,7 +12,7 @@ use Rattle.chess_uci.specs.Replies.{reply_text}
 use Rattle.chess_uci.specs.Machine.{Event, Line, Starved, Slice, Moment, Search, State, beginning, is_infinite, is_waiting, depth_done}
 use Rattle.chess_uci.specs.Laws.{replies, after_events}
 use Rattle.chess_cli.specs.declared.sitting.Sitting.{Sitting}
-use Rattle.chess_cli.specs.Answers.{line_limit, line_room}
+use Rattle.chess_loop.specs.InputLines.{line_limit, line_room}
 
 abbrev pub reply_lines : List Reply → List ℕ
 reply_lines [] = []

@@ -1,8 +1,8 @@
 ghost use Rattle.std.specs.Prelude.{◌≡◌, ◌+◌, ◌≤◌, ◌++◌, length};
 ghost use Rattle.chess_cli.specs.Answers.{refused, ok_or_refused};
 
-use super::page::Page;
 use super::refusal::Refusal;
+use chess_loop::Page;
 use itoa::Buffer;
 use std::alloc::Allocator;
 

@@ -4,13 +4,13 @@ ghost use Rattle.chess_pgn.specs.Written.{game_text};
 ghost use Rattle.chess_pgn.specs.steps.GameCode.{game_of};
 ghost use Rattle.chess_pgn.specs.steps.Next.{IsSound};
 ghost use Rattle.chess_cli.specs.Endings.{CollectionEnds};
-ghost use Rattle.chess_cli.specs.RunEnds.{most_reads};
+ghost use Rattle.chess_loop.specs.RunEnds.{most_reads};
 ghost use Rattle.chess_cli.specs.steps.Collecting.{WritesAll, WritesOne};
 
 use super::ended::Ended;
 use super::keys::key_table;
-use super::write::write_all;
 use chess_key::KeyTable;
+use chess_loop::write_all;
 use chess_pgn::{Game, Games, GamesFault, write_game};
 use chess_types::{Sink, Source};
 use std::alloc::Allocator;

@@ -2,6 +2,7 @@ ghost use Rattle.std.specs.Prelude.{◌≡◌, []};
 ghost use Rattle.chess_cli.specs.ExitStatus.{fault_text};
 
 use arrayvec::ArrayString;
+use chess_loop::RunEnd;
 use chess_pgn::PgnFault;
 use itoa::Buffer;
 
@@ -61,5 +62,22 @@ impl Ended {
             Ended::Memory => message.push_str("out of memory"),
         }
         message
+    }
+}
+
+impl From<RunEnd> for Ended {
+    ghost use Rattle.std.specs.Prelude.{◌≡◌};
+    ghost use Rattle.chess_cli.specs.Endings.{ended_of};
+
+    ghost from_gives = { λ end ended. ended ≡ ended_of end };
+
+    /// The end of the loop over lines, which knows no games.
+    fn from(end: RunEnd) -> Self {
+        match end {
+            RunEnd::Good => Self::Good,
+            RunEnd::ReadFault => Self::ReadFault,
+            RunEnd::WriteFault => Self::WriteFault,
+            RunEnd::Memory => Self::Memory,
+        }
     }
 }

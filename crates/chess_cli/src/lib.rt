@@ -6,12 +6,10 @@
 #![tactic(auto)]
 
 mod answer;
-mod buffers;
 mod clock;
 mod collection;
 mod command;
 mod ended;
-mod engine;
 mod keys;
 mod laws;
 mod lists;
@@ -20,15 +18,11 @@ mod numbers;
 mod outcomes;
 mod over_bytes;
 mod over_streams;
-mod page;
 mod path;
 mod refusal;
-mod run;
 mod sessions;
 mod sitting;
 mod texts;
-mod unfinished;
-mod write;
 
 pub use clock::Clock;
 pub use collection::{pgn, pgn_with};

@@ -6,8 +6,8 @@ ghost use Rattle.chess_types.specs.board.Texts.{move_text, square_text};
 ghost use Rattle.chess_cli.specs.Answers.{list_text};
 ghost use Rattle.chess_cli.specs.steps.Lists.{behind};
 
-use super::page::Page;
 use arrayvec::ArrayString;
+use chess_loop::Page;
 use chess_types::{Move, SquareSet};
 use std::alloc::Allocator;
 

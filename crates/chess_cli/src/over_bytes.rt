@@ -2,9 +2,9 @@ ghost use Rattle.std.specs.Prelude.{◌≡◌, ◌≢◌, ◌≤◌, ◌<◌, �
 ghost use Rattle.chess_items.specs.declared.fault.PgnFault.{PgnFault};
 ghost use Rattle.chess_tree.specs.GameTree.{TreeParts};
 ghost use Rattle.chess_cli.specs.Answers.{Answers, beginning};
-ghost use Rattle.chess_cli.specs.RunEnds.{IsFront, most_reads};
-ghost use Rattle.chess_cli.specs.InputLines.{lines_of, ended_lines};
-ghost use Rattle.chess_cli.specs.Runs.{Runs};
+ghost use Rattle.chess_loop.specs.RunEnds.{IsFront, most_reads};
+ghost use Rattle.chess_loop.specs.InputLines.{lines_of, ended_lines};
+ghost use Rattle.chess_loop.specs.Runs.{Runs};
 
 use super::ended::Ended;
 use super::over_streams::board;

@@ -1,12 +1,12 @@
 ghost use Rattle.std.specs.Prelude.{◌≡◌, false};
 ghost use Rattle.chess_cli.specs.Endings.{BoardEnds};
-ghost use Rattle.chess_cli.specs.RunEnds.{most_reads};
+ghost use Rattle.chess_loop.specs.RunEnds.{most_reads};
 
 use super::ended::Ended;
 use super::keys::key_table;
 use super::machine::Board;
-use super::run::run;
 use chess_key::KeyTable;
+use chess_loop::run;
 use chess_types::{Sink, Source};
 use std::alloc::Allocator;
 
@@ -56,5 +56,5 @@ pub fn board_within<A: Allocator, R: Source, W: Sink>(
     let Ok(mut board) = Board::new(&alloc, table) else {
         return Ended::Memory;
     };
-    run(&alloc, &mut board, reader, writer, reads)
+    Ended::from(run(&alloc, &mut board, reader, writer, reads))
 }

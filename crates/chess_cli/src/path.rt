@@ -1,9 +1,9 @@
 ghost use Rattle.std.specs.Prelude.{◌≡◌, ◌+◌, ◌≤◌, ◌++◌, ◌∷◌, [], length};
 ghost use Rattle.chess_cli.specs.Numbers.{path_text};
 ghost use Rattle.chess_cli.specs.steps.Pieces.{next_place};
-ghost use Rattle.chess_cli.specs.steps.Sending.{Sends};
+ghost use Rattle.chess_loop.specs.steps.Sending.{Sends};
 
-use super::page::Page;
+use chess_loop::Page;
 use chess_tree::Tree;
 use chess_types::{Failed, Sink};
 use itoa::Buffer;

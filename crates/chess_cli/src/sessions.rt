@@ -5,9 +5,9 @@ use super::clock::Clock;
 use super::ended::Ended;
 use super::keys::key_table;
 use super::over_streams::READS;
-use super::run::run;
 use super::sitting::Sitting;
 use chess_key::KeyTable;
+use chess_loop::run;
 use chess_types::{Sink, Source};
 use chess_uci::Session;
 use std::alloc::Allocator;
@@ -52,5 +52,5 @@ pub fn uci_with<A: Allocator, R: Source, W: Sink, C: Clock + Drop>(
         session: Session::new(&alloc, table),
         clock,
     };
-    run(&alloc, &mut sitting, reader, writer, READS)
+    Ended::from(run(&alloc, &mut sitting, reader, writer, READS))
 }

@@ -5,10 +5,8 @@ ghost use Rattle.chess_cli.specs.Sittings.{Answered, AnsweredInPart, is_fed, rep
 ghost use Rattle.chess_cli.specs.steps.Driving.{Drives, Happened};
 
 use super::clock::Clock;
-use super::engine::Engine;
-use super::page::Page;
-use super::unfinished::{Reading, Unfinished};
 use arrayvec::ArrayVec;
+use chess_loop::{Engine, Page, Reading, Unfinished};
 use chess_types::{Failed, Sink};
 use chess_uci::{Event, Reply, Session};
 use std::alloc::Allocator;

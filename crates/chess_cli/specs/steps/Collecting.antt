@@ -9,8 +9,8 @@ use Rattle.chess_items.specs.Coming.{Came, unread}
 use Rattle.chess_items.specs.declared.at_hand.AtHand.{AtHand}
 use Rattle.chess_pgn.specs.Games.{Game}
 use Rattle.chess_cli.specs.Collections.{AreGames, EndsAtFault, EndsInPart, EndsUnread, EndsWhole, EndsWritten, games_text}
-use Rattle.chess_cli.specs.RunEnds.{Broken, most_reads}
-use Rattle.chess_cli.specs.steps.Sending.{Sent}
+use Rattle.chess_loop.specs.RunEnds.{Broken, most_reads}
+use Rattle.chess_loop.specs.steps.Sending.{Sent}
 use Rattle.chess_cli.specs.declared.ended.Ended.{Ended}
 use Rattle.chess_cli.specs.declared.ended.Ended.TheVariants.{Good, Input, ReadFault, WriteFault, Memory}
 

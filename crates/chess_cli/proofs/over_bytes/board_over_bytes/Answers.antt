@@ -3,9 +3,9 @@ use Rattle.chess_types.specs.bytes.Calls.{joined}
 use Rattle.chess_types.specs.bytes.Lent.{Left, Taken}
 use Rattle.chess_types.proofs.CallLemmas.{Calls-left, Calls-taken}
 use Rattle.chess_cli.specs.Answers.{Answers, beginning}
-use Rattle.chess_cli.specs.InputLines.{ended_lines}
-use Rattle.chess_cli.proofs.RunLemmas.{Runs-append}
-use Rattle.chess_cli.proofs.RunEndLemmas.{lines_first, left_after, many_or}
+use Rattle.chess_loop.specs.InputLines.{ended_lines}
+use Rattle.chess_loop.proofs.RunLemmas.{Runs-append}
+use Rattle.chess_loop.proofs.RunEndLemmas.{lines_first, left_after, many_or}
 use Rattle.chess_cli.proofs.over_bytes.board_over_bytes.Goals as goal
 
 pub returns-clause-good : goal.returns-clause-good

@@ -1,5 +1,7 @@
+use Rattle.std.proofs.Common.{sym, ◌∙◌}
 use Rattle.chess_cli.specs.Answers.{Answers}
-use Rattle.chess_cli.proofs.RunEndLemmas.{never_over, whole_ends}
+use Rattle.chess_cli.proofs.EndedLemmas.{no_input, was_good, was_memory, was_read_fault, was_write_fault}
+use Rattle.chess_loop.proofs.RunEndLemmas.{never_over, whole_ends}
 use Rattle.chess_cli.proofs.over_streams.board_within.Goals as goal
 
 pub returns : goal.returns
@@ -8,14 +10,14 @@ returns g c =
       good = λ is. (
         c.run.new.engine,
         rw c.in-Ok.ensures at (never_over Answers c.in-Ok.board g.R.Source.gives g.R.Source.failed g.W.Sink.takes g.W.Sink.failed g.R.Source.ended c.run.new.engine
-            c.args.reader.now c.run.new.reader c.args.writer.now c.run.new.writer (c.run.ensures.good is)),
+            c.args.reader.now c.run.new.reader c.args.writer.now c.run.new.writer (c.run.ensures.good (was_good c.run.result (sym c.from.ensures ∙ is)))),
       );
-      read_fault = λ is. (c.run.new.engine, rw c.in-Ok.ensures at (c.run.ensures.read_fault is));
+      read_fault = λ is. (c.run.new.engine, rw c.in-Ok.ensures at (c.run.ensures.read_fault (was_read_fault c.run.result (sym c.from.ensures ∙ is))));
       write_fault = λ is. (
         c.run.new.engine,
         rw c.in-Ok.ensures at (whole_ends Answers c.in-Ok.board g.R.Source.gives g.R.Source.failed g.W.Sink.takes g.W.Sink.failed g.R.Source.ended c.run.new.engine
-            c.args.reader.now c.run.new.reader c.args.writer.now c.run.new.writer (c.run.ensures.write_fault is)),
+            c.args.reader.now c.run.new.reader c.args.writer.now c.run.new.writer (c.run.ensures.write_fault (was_write_fault c.run.result (sym c.from.ensures ∙ is)))),
       );
-      memory = λ is. (let kept = c.run.ensures.memory is in (kept.1, kept.2));
-      input = c.run.ensures.input;
+      memory = λ is. (let kept = c.run.ensures.memory (was_memory c.run.result (sym c.from.ensures ∙ is)) in (kept.1, kept.2));
+      input = λ fault is. no_input c.run.result fault (sym c.from.ensures ∙ is);
     }

@@ -1,6 +1,6 @@
 use Rattle.std.proofs.Common.{refl, inl, inr}
 use Rattle.chess_cli.specs.Answers.{no_memory}
-use Rattle.chess_cli.proofs.SendingLemmas.{puts}
+use Rattle.chess_loop.proofs.SendingLemmas.{puts}
 use Rattle.chess_cli.proofs.machine.Board.write_game.Goals as goal
 
 pub returns-in_default : goal.returns-in_default

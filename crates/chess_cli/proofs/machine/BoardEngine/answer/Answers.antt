@@ -1,6 +1,6 @@
 use Rattle.chess_cli.specs.Answers.{long_line, no_memory}
 use Rattle.chess_cli.proofs.AnswerLemmas.{answers_long, answers_without_memory}
-use Rattle.chess_cli.proofs.SendingLemmas.{puts}
+use Rattle.chess_loop.proofs.SendingLemmas.{puts}
 use Rattle.std.proofs.Common.{refl}
 use Rattle.chess_cli.proofs.machine.BoardEngine.answer.Goals as goal
 

@@ -1,6 +1,6 @@
 use Rattle.chess_cli.specs.Sittings.{no_memory_line, too_long_line}
 use Rattle.chess_cli.proofs.SittingLemmas.{answered_long, answered_without_memory}
-use Rattle.chess_cli.proofs.SendingLemmas.{puts}
+use Rattle.chess_loop.proofs.SendingLemmas.{puts}
 use Rattle.chess_cli.proofs.sitting.SittingEngine.answer.Goals as goal
 
 pub returns-in-TooLong : goal.returns-in-TooLong

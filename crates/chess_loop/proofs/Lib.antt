@@ -1,0 +1,7 @@
+-- Lemmas on lines, runs and writes.
+pub mod LineLemmas
+pub mod RunLemmas
+pub mod SendingLemmas
+pub mod FeedLemmas
+pub mod EndLemmas
+pub mod RunEndLemmas

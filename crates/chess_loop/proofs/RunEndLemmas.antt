@@ -1,0 +1,81 @@
+-- How a run ends whose engine always takes lines, and answers a line whole even where its text isn't written whole.
+use Rattle.std.specs.List.{AllByRecursion}
+use Rattle.std.proofs.Common.{◌≡◌, ℕ, ◌<◌, ◌≤◌, ◌⊎◌, Bool, true, false, true≢false, inl, inr, List, [], ◌∷◌, ◌++◌, length, sym, ap, ◌∙◌, append_assoc, append-nil, arith}
+use Rattle.chess_types.specs.bytes.Calls.{Calls, joined}
+use Rattle.chess_types.proofs.CallLemmas.{joined-append, Calls-left}
+use Rattle.chess_loop.specs.RunEnds.{Awaited, IsFront, EndsGood, EndsOver, EndsWriteFault}
+use Rattle.chess_loop.specs.InputLines.{ended_lines, last_line, lines_of, unfinished}
+use Rattle.chess_loop.proofs.EndLemmas.{length-joined}
+use Rattle.chess_loop.proofs.LineLemmas.{ended_lines-append}
+use Rattle.chess_loop.specs.Runs.{Runs, Partly}
+use Rattle.chess_loop.proofs.RunLemmas.{Runs-more}
+
+module _ {S R W : Type 0} (step : S → List ℕ → List ℕ → S → Type 0) (beginning : S) (gives : R → List ℕ → R → Type 0) (read_failed : R → Bool) (takes : W → List ℕ → W → Type 0) (write_failed : W → Bool) where
+  pub never_over : (ended : R → Type 0) (state : S) (r r' : R) (w w' : W)
+      → EndsGood (Runs step) beginning gives read_failed takes write_failed ended state r r' w w'
+      ⊎ EndsOver (Runs step) beginning gives read_failed takes write_failed (λ (s : S). false) state r r' w w'
+      → EndsGood (Runs step) beginning gives read_failed takes write_failed ended state r r' w w'
+  never_over ended state r r' w w' (inl good) = good
+  never_over ended state r r' w w' (inr over) = absurd (true≢false (sym over.is_over))
+
+  whole_lines : (old new : S) (lines : List (List ℕ)) (text : List ℕ) → Partly step step old lines text new → Runs step old lines text new
+  whole_lines old new lines text (inl runs) = runs
+  whole_lines old new lines text (inr broken) =
+      rw (broken.lines_are, broken.text_is) (Runs-more step old broken.state new broken.done broken.line broken.answers broken.begun broken.runs broken.last)
+
+  pub whole_ends : (ended : R → Type 0) (state : S) (r r' : R) (w w' : W)
+      → EndsWriteFault (Partly step step) beginning gives read_failed takes write_failed ended state r r' w w'
+      → EndsWriteFault (Runs step) beginning gives read_failed takes write_failed ended state r r' w w'
+  whole_ends ended state r r' w w' end = record {
+    pieces = end.pieces;
+    piece = end.piece;
+    text = end.text;
+    middle = end.middle;
+    before = end.before;
+    lines = end.lines;
+    more = end.more;
+    reads = end.reads;
+    well_read = end.well_read;
+    answers = whole_lines beginning end.middle _ end.text end.answers;
+    writes = end.writes;
+    well_written = end.well_written;
+    awaited = end.awaited;
+    answers_last = whole_lines end.middle state end.lines end.more end.answers_last;
+    broken = end.broken;
+  }
+
+-- the lines that were answered before the last read and since are the first of all
+pub lines_first : {R : Type 0} (ended : R → Type 0) (pieces : List (List ℕ)) (piece : List ℕ) (lines : List (List ℕ)) (r : R) → Awaited ended (unfinished [] (joined pieces)) piece lines r
+    → IsFront (ended_lines [] (joined pieces) ++ lines) (lines_of (joined (pieces ++ piece ∷ [])))
+lines_first ended pieces piece lines r (inl front) =
+    let more : joined (pieces ++ piece ∷ []) ≡ joined pieces ++ piece = joined-append pieces (piece ∷ []) ∙ ap (λ (q : List ℕ). joined pieces ++ q) (append-nil piece) in
+    let last = last_line (unfinished [] (joined (pieces ++ piece ∷ []))) in
+    record {
+      others = front.others ++ last;
+      whole = append_assoc (ended_lines [] (joined pieces)) lines (front.others ++ last)
+          ∙ ap (λ (ls : List (List ℕ)). ended_lines [] (joined pieces) ++ ls) (sym (append_assoc lines front.others last) ∙ ap (λ (ls : List (List ℕ)). ls ++ last) front.whole)
+          ∙ sym (append_assoc (ended_lines [] (joined pieces)) (ended_lines (unfinished [] (joined pieces)) piece) last)
+          ∙ ap (λ (ls : List (List ℕ)). ls ++ last) (sym (ended_lines-append [] (joined pieces) piece) ∙ ap (ended_lines []) (sym more));
+    }
+lines_first ended pieces piece lines r (inr end) =
+    let more : joined (pieces ++ piece ∷ []) ≡ joined pieces =
+    joined-append pieces (piece ∷ []) ∙ ap (λ (q : List ℕ). joined pieces ++ (q ++ [])) end.0 ∙ append-nil (joined pieces) in
+    record {
+      others = [];
+      whole = append-nil (ended_lines [] (joined pieces) ++ lines) ∙ ap (λ (ls : List (List ℕ)). ended_lines [] (joined pieces) ++ ls) end.1 ∙ ap lines_of (sym more);
+    }
+
+-- a failure, or so many bytes
+pub many_or : {R : Type 0} (gives : R → List ℕ → R → Type 0) (failed : R → Bool) (most : ℕ) (pieces : List (List ℕ)) (before r : R) → AllByRecursion (λ p. 0 < length p) pieces
+    → (gives before [] r × (failed r ≡ true)) ⊎ ((before ≡ r) × (length pieces ≡ most)) → (failed r ≡ true) ⊎ (most ≤ length (joined pieces))
+many_or gives failed most pieces before r each (inl is) = inl is.1
+many_or gives failed most pieces before r each (inr many) = inr (omega (arith, many.1, length-joined pieces each))
+
+-- what is left after the last call
+pub left_after : {R : Type 0} (gives : R → List ℕ → R → Type 0) (left : R → List ℕ) (failed : R → Bool) (most : ℕ) (pieces : List (List ℕ)) (r before r' : R)
+    → ((s t : R) (p : List ℕ) → gives s p t → left s ≡ p ++ left t) → Calls gives r pieces before → (gives before [] r' × (failed r' ≡ true)) ⊎ ((before ≡ r') × (length pieces ≡ most))
+    → left r ≡ joined pieces ++ left r'
+left_after gives left failed most pieces r before r' one calls (inl is) =
+    Calls-left gives left one r before pieces calls ∙ ap (λ (x : List ℕ). joined pieces ++ x) (one before r' [] is.0)
+left_after {R} gives left failed most pieces r before r' one calls (inr many) =
+    Calls-left gives left one r before pieces calls ∙ ap (λ (x : R). joined pieces ++ left x) many.0

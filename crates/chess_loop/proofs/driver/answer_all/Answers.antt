@@ -1,0 +1,48 @@
+use Rattle.std.proofs.Common.{[], take, inl, inr, arith, ◌∙◌, sym}
+use Rattle.std.proofs.lemmas.Grind.{common_steps}
+use Rattle.chess_loop.proofs.EndLemmas.{underway_on, ends_over, ends_unwritten, ends_good, ends_unfinished}
+use Rattle.chess_loop.proofs.driver.answer_all.Goals as goal
+
+pub returns-in-Err-finish-clause-write_fault : goal.returns-in-Err-finish-clause-write_fault
+returns-in-Err-finish-clause-write_fault g c = λ _.
+    ends_unfinished g.E.Engine.step g.E.Engine.cut g.E.Engine.over c.args.engine.now g.R.Source.gives g.R.Source.failed g.W.Sink.takes g.W.Sink.failed g.R.Source.ended c.loop-turn._turn
+    c.loop-turn.engine c.finish.new.engine c.loop-turn.line
+    c.args.reader.now c.loop-turn.reader c.read.new.self c.args.writer.now c.loop-turn.writer c.finish.new.writer c.in-Err-finish.field-0
+    c.loop-turn.invariant.underway (rw c.in-Ok-eq0.field-0-test at c.in-Ok-eq0.ensures.gives) c.in-Ok-eq0.ensures.failed (c.in-Ok-eq0.ensures.ended c.in-Ok-eq0.field-0-test (omega arith))
+    c.in-Err-finish.ensures
+
+pub returns-in-Ok-eq0-clause-good : goal.returns-in-Ok-eq0-clause-good
+returns-in-Ok-eq0-clause-good g c = λ _. inl (
+    ends_good g.E.Engine.step g.E.Engine.cut g.E.Engine.over c.args.engine.now g.R.Source.gives g.R.Source.failed g.W.Sink.takes g.W.Sink.failed g.R.Source.ended c.loop-turn._turn
+    c.loop-turn.engine c.finish.new.engine c.loop-turn.line
+    c.args.reader.now c.loop-turn.reader c.read.new.self c.args.writer.now c.loop-turn.writer c.finish.new.writer
+    c.loop-turn.invariant.underway (rw c.in-Ok-eq0.field-0-test at c.in-Ok-eq0.ensures.gives) c.in-Ok-eq0.ensures.failed (c.in-Ok-eq0.ensures.ended c.in-Ok-eq0.field-0-test (omega arith))
+    c.in_default.ensures)
+
+pub returns-in-Err-feed-clause-write_fault : goal.returns-in-Err-feed-clause-write_fault
+returns-in-Err-feed-clause-write_fault g c = λ _.
+    ends_unwritten g.E.Engine.step g.E.Engine.cut g.E.Engine.over c.args.engine.now g.R.Source.gives g.R.Source.failed g.W.Sink.takes g.W.Sink.failed g.R.Source.ended c.loop-turn._turn
+    c.loop-turn.engine c.feed.new.engine c.loop-turn.line c.feed.new.line
+    c.args.reader.now c.loop-turn.reader c.read.new.self c.args.writer.now c.loop-turn.writer c.feed.new.writer
+    (take c.in-Ok.count c.read.new.buf) [] c.in-Err-feed.field-0
+    c.loop-turn.invariant.underway c.in-Ok.ensures.gives c.in-Ok.ensures.failed c.in-Err-feed.ensures.fed
+
+pub returns-then-is_over-clause-good : goal.returns-then-is_over-clause-good
+returns-then-is_over-clause-good g c = λ _. inr (
+    ends_over g.E.Engine.step g.E.Engine.cut g.E.Engine.over c.args.engine.now g.R.Source.gives g.R.Source.failed g.W.Sink.takes g.W.Sink.failed c.loop-turn._turn
+    c.loop-turn.engine c.feed.new.engine c.loop-turn.line c.feed.new.line
+    c.args.reader.now c.loop-turn.reader c.read.new.self c.args.writer.now c.loop-turn.writer c.feed.new.writer
+    (take c.in-Ok.count c.read.new.buf)
+    c.loop-turn.invariant.underway c.in-Ok.ensures.gives c.in-Ok.ensures.failed c.in_default-feed.ensures.fed (sym c.is_over.ensures ∙ c.if-is_over.true))
+
+pub loop-turn-preserved : goal.loop-turn-preserved
+loop-turn-preserved g c = record {
+  underway = underway_on g.E.Engine.step g.E.Engine.cut g.E.Engine.over c.args.engine.now g.R.Source.gives g.R.Source.failed g.W.Sink.takes g.W.Sink.failed c.loop-turn._turn
+      c.loop-turn.engine c.feed.new.engine c.loop-turn.line c.feed.new.line
+      c.args.reader.now c.loop-turn.reader c.read.new.self c.args.writer.now c.loop-turn.writer c.feed.new.writer
+      (take c.in-Ok.count c.read.new.buf) []
+      c.loop-turn.invariant.underway c.in-Ok.ensures.gives c.in-Ok.ensures.failed
+      (grind (arith, common_steps, c.in-Ok.count-test.1, c.in-Ok.ensures.bound)) c.in_default-feed.ensures.fed (sym c.is_over.ensures ∙ c.if-is_over.false);
+  awake = sym c.is_over.ensures ∙ c.if-is_over.false;
+  empty = c.in_default-feed.ensures.empty;
+}

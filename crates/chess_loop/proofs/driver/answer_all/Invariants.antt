@@ -1,0 +1,10 @@
+use Rattle.std.proofs.Common.{◌≡◌, [], false}
+use Rattle.chess_loop.proofs.EndLemmas.{Underway}
+use Rattle.chess_loop.proofs.driver.answer_all.Given as goal
+
+abbrev pub invariant-loop-turn : goal.invariant-loop-turn
+invariant-loop-turn g l = record {
+  underway : Underway g.E.Engine.step l.fn.engine g.R.Source.gives g.R.Source.failed g.W.Sink.takes g.W.Sink.failed l._turn l.engine l.line l.fn.reader l.reader l.fn.writer l.writer;
+  awake : g.E.Engine.over l.engine ≡ false;
+  empty : l.page ≡ [];
+}

@@ -1,0 +1,95 @@
+-- How a run over a source and a sink ends, for any engine: a state to begin with, and a relation that says which lines may be answered by which
+-- text, from which state to which.
+--   most_reads       the most reads of a run
+--   IsFront          these lines, and others behind them, are those
+--   Awaited          which lines are answered from one read to the next: those that end in the piece, or at the end of the input the last
+--   Broken           a call failed, after a front of the text was written; it was the last
+--   EndsGood         the whole input was read, and the answers to its lines are written; no call failed
+--   EndsOver         the engine takes no more lines: those up to then are answered, no call failed, and nothing was read after them
+--   EndsReadFault    a read failed, and nothing was read after it, or there were as many reads as there may be: the lines that had ended are answered
+--   EndsWriteFault   a write failed or took no byte, and nothing was read or written after it: what was read before the last read is answered, and a
+--                    front of the answers to what came last is written
+use Rattle.std.specs.Prelude.{◌≡◌, ℕ, ◌<◌, Bool, true, false, ◌⊎◌, List, [], ◌∷◌, ◌++◌, length}
+use Rattle.std.specs.List.{AllByRecursion}
+use Rattle.chess_types.specs.bytes.Calls.{Calls, Carries, joined}
+use Rattle.chess_loop.specs.InputLines.{lines_of, ended_lines, last_line, unfinished}
+
+-- 2^40
+abbrev pub most_reads : ℕ
+most_reads = 1099511627776
+
+pub record IsFront (lines all : List (List ℕ)) : Type 0 where
+  pub others : List (List ℕ)
+  pub whole : lines ++ others ≡ all
+
+abbrev pub Awaited : {R : Type 0} → (R → Type 0) → List ℕ → List ℕ → List (List ℕ) → R → Type 0
+Awaited ended begun piece lines r = IsFront lines (ended_lines begun piece) ⊎ ((piece ≡ []) × (lines ≡ last_line begun) × ended r)
+
+module _ {W : Type 0} (takes : W → List ℕ → W → Type 0) (failed : W → Bool) where
+  pub record Broken (old : W) (text : List ℕ) (new : W) : Type 0 where
+    pub front : List ℕ
+    pub rest : List ℕ
+    pub before : W
+    pub calls : Carries takes old front before
+    pub whole : front ++ rest ≡ text
+    pub unwritten : 0 < length rest
+    pub well : failed before ≡ failed old
+    pub last : takes before [] new
+    pub fails : failed new ≡ true
+
+module _ {S R W : Type 0} (runs : S → List (List ℕ) → List ℕ → S → Type 0) (beginning : S) (gives : R → List ℕ → R → Type 0) (read_failed : R → Bool) (takes : W → List ℕ → W → Type 0) (write_failed : W → Bool) where
+  -- Reads gave pieces up to the end of the input; writes took the answers to its lines, in order, and nothing else.
+  pub record EndsGood (ended : R → Type 0) (state : S) (r r' : R) (w w' : W) : Type 0 where
+    pub pieces : List (List ℕ)
+    pub text : List ℕ
+    pub reads : Calls gives r pieces r'
+    pub well_read : read_failed r' ≡ false
+    pub all : ended r'
+    pub answers : runs beginning (lines_of (joined pieces)) text state
+    pub writes : Carries takes w text w'
+    pub well_written : write_failed w' ≡ false
+
+  -- A read failed, the last, or there were `most` reads of some bytes each; writes took the answers to the lines that had ended.
+  pub record EndsReadFault (most : ℕ) (state : S) (r r' : R) (w w' : W) : Type 0 where
+    pub pieces : List (List ℕ)
+    pub text : List ℕ
+    pub before : R
+    pub reads : Calls gives r pieces before
+    pub well_read : read_failed before ≡ false
+    pub each : AllByRecursion (λ piece. 0 < length piece) pieces
+    pub cause : (gives before [] r' × (read_failed r' ≡ true)) ⊎ ((before ≡ r') × (length pieces ≡ most))
+    pub answers : runs beginning (ended_lines [] (joined pieces)) text state
+    pub writes : Carries takes w text w'
+    pub well_written : write_failed w' ≡ false
+
+  -- A write failed or took no byte, the last call. Of the answers to the lines that had ended before the last read all is written; of those
+  -- that came with it a front.
+  pub record EndsWriteFault (ended : R → Type 0) (state : S) (r r' : R) (w w' : W) : Type 0 where
+    pub pieces : List (List ℕ)
+    pub piece : List ℕ
+    pub text : List ℕ
+    pub middle : S
+    pub before : W
+    pub lines : List (List ℕ)
+    pub more : List ℕ
+    pub reads : Calls gives r (pieces ++ piece ∷ []) r'
+    pub well_read : read_failed r' ≡ false
+    pub answers : runs beginning (ended_lines [] (joined pieces)) text middle
+    pub writes : Carries takes w text before
+    pub well_written : write_failed before ≡ false
+    pub awaited : Awaited ended (unfinished [] (joined pieces)) piece lines r'
+    pub answers_last : runs middle lines more state
+    pub broken : Broken takes write_failed before more w'
+
+  -- The engine takes no more lines; writes took the answers to the lines before.
+  pub record EndsOver (over : S → Bool) (state : S) (r r' : R) (w w' : W) : Type 0 where
+    pub pieces : List (List ℕ)
+    pub lines : List (List ℕ)
+    pub text : List ℕ
+    pub reads : Calls gives r pieces r'
+    pub well_read : read_failed r' ≡ false
+    pub front : IsFront lines (ended_lines [] (joined pieces))
+    pub answers : runs beginning lines text state
+    pub is_over : over state ≡ true
+    pub writes : Carries takes w text w'
+    pub well_written : write_failed w' ≡ false

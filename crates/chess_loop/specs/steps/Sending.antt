@@ -1,0 +1,24 @@
+-- Texts on their way to a sink: they are gathered on a page, and written when it is full or before more is read.
+--   Sent     all of a text is written, but for what stands on the page
+--   Flows    whatever was sent before, no more is sent now, or a call failed
+--   Sends    whatever was sent before, this text is sent behind it, or a call failed
+use Rattle.std.specs.Prelude.{◌≡◌, ℕ, Bool, List, ◌++◌, Result, Ok, Err}
+use Rattle.chess_types.specs.bytes.Calls.{Carries}
+use Rattle.chess_loop.specs.RunEnds.{Broken}
+
+module _ {W : Type 0} (takes : W → List ℕ → W → Type 0) (failed : W → Bool) where
+  pub record Sent (old : W) (text page : List ℕ) (new : W) : Type 0 where
+    pub front : List ℕ
+    pub calls : Carries takes old front new
+    pub whole : front ++ page ≡ text
+    pub well : failed new ≡ failed old
+
+  abbrev pub SentOr : {X E : Type 0} → W → List ℕ → List ℕ → W → Result X E → Type 0
+  SentOr old text page new (Ok x) = Sent old text page new
+  SentOr old text page new (Err e) = Broken takes failed old text new
+
+  abbrev pub Flows : {X E : Type 0} → List ℕ → W → List ℕ → W → Result X E → Type 0
+  Flows page old page1 new result = (start : W) (text : List ℕ) → Sent start text page old → SentOr start text page1 new result
+
+  abbrev pub Sends : {X E : Type 0} → List ℕ → W → List ℕ → List ℕ → W → Result X E → Type 0
+  Sends page old text page1 new result = (start : W) (before : List ℕ) → Sent start before page old → SentOr start (before ++ text) page1 new result

@@ -1,0 +1,207 @@
+//! The loop over reads, lines and writes, for any engine: lines in, answers out.
+//!
+//! The answers to the lines of one read are written before the next, with as few calls as fit a page.
+ghost use Rattle.std.specs.Prelude.{◌≡◌, ◌⊎◌, ◌+◌, ◌≤◌, List, ℕ, [], ◌<◌, ◌≢◌, false, length, OnOk};
+ghost use Rattle.chess_loop.specs.Runs.{Runs, Partly};
+ghost use Rattle.chess_loop.specs.steps.Reads.{AnswersLine, Feeds, Finishes, Holds};
+ghost use Rattle.chess_loop.specs.RunEnds.{EndsGood, EndsOver, EndsReadFault, EndsWriteFault};
+
+use super::buffers::filled;
+use super::engine::Engine;
+use super::page::Page;
+use super::unfinished::Unfinished;
+use chess_types::{Failed, Sink, Source};
+use memchr::memchr;
+use std::alloc::Allocator;
+
+/// The most bytes of a read.
+const PIECE: usize = 65_536;
+
+/// How a run ended.
+#[derive(Clone, Copy, Debug, PartialEq, Eq)]
+pub enum RunEnd {
+    /// The whole input was read, or the engine takes no more lines, and all was written.
+    Good,
+    /// A read failed, or there were as many as there may be.
+    ReadFault,
+    /// A write failed or took no byte.
+    WriteFault,
+    /// There was no memory to begin with.
+    Memory,
+}
+
+// Answers the line, and begins another.
+fn answer_line<E: Engine, A: Allocator, W: Sink>(
+    engine: &mut E,
+    line: &mut Unfinished<A>,
+    page: &mut Page<A>,
+    writer: &mut W,
+) -> Result<(), Failed>
+    requires awake { E.over engine.old ≡ false }
+    requires room { length page.old + 2600 ≤ 65536 }
+    ensures answered { AnswersLine E.step E.cut W.takes W.failed line.old engine.old engine.new page.old writer.old page.new writer.new result }
+    ensures restarted { Holds line.new [] }
+{
+    let answered = engine.answer(line, page, writer);
+    line.restart();
+    answered
+}
+
+// Answers the lines that end in the piece, up to one after which the engine takes no more, and keeps the rest of the piece.
+fn answer_lines<E: Engine, A: Allocator, W: Sink>(
+    engine: &mut E,
+    line: &mut Unfinished<A>,
+    piece: &[u8],
+    page: &mut Page<A>,
+    writer: &mut W,
+) -> Result<(), Failed>
+    requires awake { E.over engine.old ≡ false }
+    requires empty { page.old ≡ [] }
+    ensures { (begun : List ℕ) → Holds line.old begun →
+        Feeds E.step E.cut W.takes W.failed E.over begun piece.now engine.old engine.new line.new writer.old page.new writer.new result }
+{
+    let mut rest = piece;
+    while let Some(at) = memchr(b'\n', rest) {
+        let (front, others) = rest.split_at(at);
+        line.add(front);
+        if let Err(failed) = page.make_room(writer) {
+            return Err(failed);
+        }
+        if let Err(failed) = answer_line(engine, line, page, writer) {
+            return Err(failed);
+        }
+        if engine.is_over() {
+            return Ok(());
+        }
+        rest = &others[1..];
+    }
+    line.add(rest);
+    Ok(())
+}
+
+// The same, and writes the answers.
+fn feed<E: Engine, A: Allocator, W: Sink>(
+    engine: &mut E,
+    line: &mut Unfinished<A>,
+    piece: &[u8],
+    page: &mut Page<A>,
+    writer: &mut W,
+) -> Result<(), Failed>
+    requires awake { E.over engine.old ≡ false }
+    requires empty { page.old ≡ [] }
+    ensures fed { (begun : List ℕ) → Holds line.old begun →
+        Feeds E.step E.cut W.takes W.failed E.over begun piece.now engine.old engine.new line.new writer.old [] writer.new result }
+    ensures empty { OnOk result (page.new ≡ []) }
+{
+    if let Err(failed) = answer_lines(engine, line, piece, page, writer) {
+        return Err(failed);
+    }
+    page.flush(writer)
+}
+
+// Answers what stands behind the last line feed, and writes the answer.
+fn finish<E: Engine, A: Allocator, W: Sink>(
+    engine: &mut E,
+    line: &mut Unfinished<A>,
+    page: &mut Page<A>,
+    writer: &mut W,
+) -> Result<(), Failed>
+    requires awake { E.over engine.old ≡ false }
+    requires empty { page.old ≡ [] }
+    ensures { (bytes : List ℕ) → Holds line.old bytes →
+        Finishes E.step E.cut W.takes W.failed bytes engine.old engine.new writer.old writer.new result }
+{
+    if line.is_empty() {
+        return Ok(());
+    }
+    let Err(failed) = answer_line(engine, line, page, writer) else {
+        return page.flush(writer);
+    };
+    Err(failed)
+}
+
+// Reads and answers to the end.
+fn answer_all<E: Engine, A: Allocator, R: Source, W: Sink>(
+    engine: &mut E,
+    line: &mut Unfinished<A>,
+    page: &mut Page<A>,
+    reader: &mut R,
+    buffer: &mut [u8],
+    writer: &mut W,
+    most: u64,
+) -> RunEnd
+    requires awake { E.over engine.old ≡ false }
+    requires line { Holds line.old [] }
+    requires empty { page.old ≡ [] }
+    requires reader { R.failed reader.old ≡ false }
+    requires buffer { 0 < length buffer.old }
+    requires writer { W.failed writer.old ≡ false }
+    ensures good { result ≡ RunEnd.Good →
+        EndsGood (Runs E.step) engine.old R.gives R.failed W.takes W.failed R.ended engine.new reader.old reader.new writer.old writer.new
+        ⊎ EndsOver (Runs E.step) engine.old R.gives R.failed W.takes W.failed E.over engine.new reader.old reader.new writer.old writer.new }
+    ensures read_fault { result ≡ RunEnd.ReadFault →
+        EndsReadFault (Runs E.step) engine.old R.gives R.failed W.takes W.failed most engine.new reader.old reader.new writer.old writer.new }
+    ensures write_fault { result ≡ RunEnd.WriteFault →
+        EndsWriteFault (Partly E.step E.cut) engine.old R.gives R.failed W.takes W.failed R.ended engine.new reader.old reader.new writer.old writer.new }
+    ensures memory { result ≢ RunEnd.Memory }
+{
+    for _turn in 0..most {
+        match reader.read(buffer) {
+            Err(_) => return RunEnd::ReadFault,
+            Ok(0) => {
+                if let Err(_) = finish(engine, line, page, writer) {
+                    return RunEnd::WriteFault;
+                }
+                return RunEnd::Good;
+            }
+            Ok(count) => {
+                if let Err(_) = feed(engine, line, &buffer[..count], page, writer) {
+                    return RunEnd::WriteFault;
+                }
+                if engine.is_over() {
+                    return RunEnd::Good;
+                }
+            }
+        }
+    }
+    RunEnd::ReadFault
+}
+
+/// Lets the engine answer the lines of the reader on the writer, until the input ends or the engine takes no more lines, with at most so
+/// many reads. `Memory` where there is none to begin with: then nothing was read or written.
+pub fn run<E: Engine, A: Allocator, R: Source, W: Sink>(
+    alloc: &A,
+    engine: &mut E,
+    reader: &mut R,
+    writer: &mut W,
+    most: u64,
+) -> RunEnd
+    requires awake { E.over engine.old ≡ false }
+    requires reader { R.failed reader.old ≡ false }
+    requires writer { W.failed writer.old ≡ false }
+    ensures good { result ≡ RunEnd.Good →
+        EndsGood (Runs E.step) engine.old R.gives R.failed W.takes W.failed R.ended engine.new reader.old reader.new writer.old writer.new
+        ⊎ EndsOver (Runs E.step) engine.old R.gives R.failed W.takes W.failed E.over engine.new reader.old reader.new writer.old writer.new }
+    ensures read_fault { result ≡ RunEnd.ReadFault →
+        EndsReadFault (Runs E.step) engine.old R.gives R.failed W.takes W.failed most engine.new reader.old reader.new writer.old writer.new }
+    ensures write_fault { result ≡ RunEnd.WriteFault →
+        EndsWriteFault (Partly E.step E.cut) engine.old R.gives R.failed W.takes W.failed R.ended engine.new reader.old reader.new writer.old writer.new }
+    ensures memory { result ≡ RunEnd.Memory → (engine.new ≡ engine.old) × (reader.new ≡ reader.old) × (writer.new ≡ writer.old) }
+{
+    let (Ok(mut buffer), Ok(mut line), Ok(mut page)) = (
+        filled(alloc, 0u8, PIECE),
+        Unfinished::new(alloc),
+        Page::new(alloc),
+    ) else {
+        return RunEnd::Memory;
+    };
+    answer_all(
+        engine,
+        &mut line,
+        &mut page,
+        reader,
+        buffer.as_mut_slice(),
+        writer,
+        most,
+    )
+}

@@ -1,0 +1,36 @@
+ghost use Rattle.std.specs.Prelude.{◌≡◌, ◌+◌, ◌≤◌, false, length};
+ghost use Rattle.chess_loop.specs.steps.Reads.{AnswersLine};
+
+use super::page::Page;
+use super::unfinished::Unfinished;
+use chess_types::{Failed, Sink};
+use std::alloc::Allocator;
+
+/// What answers lines. Contracts know which text may answer a line, and which state follows.
+pub trait Engine {
+    ghost use Rattle.std.specs.Prelude.{ℕ, Bool, List};
+
+    /// A line may be answered by this text, and lead from the first state to the second.
+    ghost step: { Self → List ℕ → List ℕ → Self → Type 0 };
+
+    /// The same of a line of which answering was broken off, since a call of the sink failed: of the text a front was written.
+    ghost cut: { Self → List ℕ → List ℕ → Self → Type 0 };
+
+    /// No further line is taken.
+    ghost over: { Self → Bool };
+
+    /// Answers the line behind what stands on the page, where there is room for 2,600 bytes. A longer text is written on the way.
+    fn answer<A: Allocator, W: Sink>(
+        &mut self,
+        line: &Unfinished<A>,
+        page: &mut Page<A>,
+        writer: &mut W,
+    ) -> Result<(), Failed>
+        requires awake { over self.old ≡ false }
+        requires room { length page.old + 2600 ≤ 65536 }
+        ensures { AnswersLine step cut W.takes W.failed line.now self.old self.new page.old writer.old page.new writer.new result };
+
+    /// Whether no further line is taken.
+    fn is_over(&self) -> bool
+        ensures { result ≡ over self.now };
+}
