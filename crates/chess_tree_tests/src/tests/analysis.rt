@@ -1,15 +1,12 @@
-//! An analysis: its calls, as a reader of games makes them, and each growth refused in turn.
+//! An analysis: its calls, as a reader of games makes them.
 use super::calls::{Look, is_seen};
-use super::refused::{LONG, fill, is_memory, seen as seen_of};
 use super::trees::{a_move, a_table};
 use chess_key::KeyTable;
 use chess_san::SanFault;
 use chess_tree::{Analysis, PlayFault, TreeFault};
 use chess_types::{Claims, Position, Status};
-use linked_list_allocator::LocalHeap;
-use std::alloc::{AllocError, Allocator, Global};
+use std::alloc::Allocator;
 use std::process::Abort;
-use std::test::Fail;
 
 /// The analysis of a game that begins.
 #[tactic(auto, unfolding(chess_types::specs::board::Position::start))]
@@ -22,7 +19,7 @@ pub fn begin<'a, A: Allocator>(
 
 /// A call on an analysis.
 #[derive(Clone, Copy)]
-enum Call {
+pub enum Call {
     /// The move that a text in standard algebraic notation names is added.
     Read(&'static [u8]),
     Play(&'static str),
@@ -41,18 +38,19 @@ enum Call {
 
 /// What it answers.
 #[derive(Clone, Copy, PartialEq, Eq)]
-enum Answer {
+pub enum Answer {
     Done,
     Illegal,
     AtRoot,
     NoSuch,
+    Memory,
     /// What no row wants.
     Other,
 }
 
 /// What is asked at the cursor.
 #[derive(Clone, Copy)]
-enum Asked {
+pub enum Asked {
     /// It is seen of the tree.
     Seen(Look),
     Plies(u32),
@@ -71,7 +69,7 @@ enum Asked {
 
 /// A row of a table.
 #[derive(Clone, Copy)]
-enum Row {
+pub enum Row {
     /// The call is answered so.
     Gives(Answer, Call),
     /// It is so then.
@@ -82,6 +80,7 @@ fn of_play(played: Result<(), PlayFault>) -> Answer {
     match played {
         Ok(()) => Answer::Done,
         Err(PlayFault::Illegal) => Answer::Illegal,
+        Err(PlayFault::Memory) => Answer::Memory,
         Err(_) => Answer::Other,
     }
 }
@@ -91,6 +90,7 @@ fn of_tree(edited: Result<(), TreeFault>) -> Answer {
         Ok(()) => Answer::Done,
         Err(TreeFault::AtRoot) => Answer::AtRoot,
         Err(TreeFault::NoSuch) => Answer::NoSuch,
+        Err(TreeFault::Memory) => Answer::Memory,
         Err(_) => Answer::Other,
     }
 }
@@ -113,7 +113,11 @@ fn play<A: Allocator>(
 }
 
 /// Makes a call.
-fn make_call<A: Allocator>(rt: &impl Abort, analysis: &mut Analysis<'_, A>, call: Call) -> Answer {
+pub fn make_call<A: Allocator>(
+    rt: &impl Abort,
+    analysis: &mut Analysis<'_, A>,
+    call: Call,
+) -> Answer {
     match call {
         Call::Read(text) => read(analysis, text),
         Call::Play(text) => of_play(play(rt, analysis, text)),
@@ -165,7 +169,7 @@ fn holds<A: Allocator>(rt: &impl Abort, analysis: &mut Analysis<'_, A>, row: Row
 }
 
 /// Goes by a table.
-fn run<A: Allocator>(rt: &impl Abort, analysis: &mut Analysis<'_, A>, rows: &[Row]) {
+pub fn run<A: Allocator>(rt: &impl Abort, analysis: &mut Analysis<'_, A>, rows: &[Row]) {
     for (index, row) in rows.iter().enumerate() {
         assert!(rt; holds(rt, analysis, *row), "row {index}");
     }
@@ -263,153 +267,4 @@ const ASKED: &[Row] = &[
 #[test]
 fn asks_at_the_cursor(rt: HostRuntime) {
     run_all(&rt, &rt.alloc(), ASKED);
-}
-
-/// A fault's text.
-fn assert_text(
-    rt: &impl Abort,
-    alloc: Global,
-    fault: PlayFault,
-    text: &str,
-) -> Result<(), AllocError> {
-    let said = format!(in alloc; "{fault}")?;
-    assert!(rt; said.as_str() == text);
-    Ok(())
-}
-
-#[test]
-fn faults_of_a_move_say_what_they_are(rt: HostRuntime) -> Result<(), Fail> {
-    let texts = [
-        (PlayFault::Illegal, "the move isn't legal"),
-        (PlayFault::TooLong, "a line has at most 20000 plies"),
-        (PlayFault::Full, "the tree holds 1000000 moves"),
-        (PlayFault::Memory, "there is no memory"),
-    ];
-    for (fault, text) in texts {
-        assert_text(&rt, rt.alloc(), fault, text)?;
-    }
-    Ok(())
-}
-
-/// Whether a move found no memory.
-fn is_move_refused(rt: &impl Abort, played: Result<(), PlayFault>) -> bool {
-    assert!(rt; played.is_ok() || played == Err(PlayFault::Memory));
-    played.is_err()
-}
-
-/// Whether an edit found no memory.
-fn is_edit_refused(rt: &impl Abort, edited: Result<(), TreeFault>) -> bool {
-    assert!(rt; edited.is_ok() || edited == Err(TreeFault::Memory));
-    edited.is_err()
-}
-
-/// To one place after another, for which no memory is wanted.
-const WALKED: &[Row] = &[
-    Row::Gives(Answer::Done, Call::Start),
-    Row::Gives(Answer::Done, Call::Step(0)),
-    Row::Gives(Answer::Done, Call::End),
-    Row::Is(Asked::Seen(Look::Depth(12))),
-    Row::Gives(Answer::Done, Call::Goto(&[0, 0, 0])),
-];
-
-/// How many calls there are.
-const CALLS: u32 = 31;
-
-/// Four moves that lead back to where they began.
-const SHUFFLE: [&str; 4] = ["g1f3", "g8f6", "f3g1", "f6g8"];
-
-/// One of the calls that may want memory, or the steps, which mustn't: whether it found none.
-fn is_refused<A: Allocator>(rt: &impl Abort, analysis: &mut Analysis<'_, A>, call: u32) -> bool {
-    match call {
-        0..=11 => is_move_refused(rt, play(rt, analysis, SHUFFLE[(call % 4) as usize])),
-        12 | 13 => is_edit_refused(rt, analysis.set_comment(LONG)),
-        14..=29 => is_edit_refused(rt, analysis.add_nag(7)),
-        _ => {
-            run(rt, analysis, WALKED);
-            false
-        }
-    }
-}
-
-/// What is compared: what is seen of the tree, the children at the cursor, and the depth of the line.
-fn seen<A: Allocator>(analysis: &Analysis<'_, A>) -> ((u32, usize, usize), u32, u32) {
-    let tree = analysis.tree();
-    (seen_of(tree), tree.child_count(), analysis.line().plies())
-}
-
-/// Calls in order, from one of them on, until one is refused, which leaves all as it was: its number, or how many there are.
-fn first_refused<A: Allocator>(rt: &impl Abort, analysis: &mut Analysis<'_, A>, from: u32) -> u32 {
-    for call in from..CALLS {
-        let before = seen(analysis);
-        if is_refused(rt, analysis, call) {
-            assert!(rt; seen(analysis) == before);
-            return call;
-        }
-    }
-    CALLS
-}
-
-/// The first call that is refused while the heap has so much room.
-fn first_without(
-    rt: &impl Abort,
-    heap: &LocalHeap,
-    analysis: &mut Analysis<'_, LocalHeap>,
-    room: usize,
-) -> u32 {
-    let _other = fill(rt, heap, 65_000usize.saturating_sub(room));
-    first_refused(rt, analysis, 0)
-}
-
-/// Calls on a heap with so much room, until one is refused, and on from there once there is memory: whether one was.
-fn call_all(rt: &impl Abort, heap: &LocalHeap, table: &KeyTable, room: usize) -> bool {
-    let mut analysis = begin(heap, table).expect(rt, "an analysis");
-    let call = first_without(rt, heap, &mut analysis, room);
-    assert!(rt; first_refused(rt, &mut analysis, call) == CALLS);
-    call < CALLS
-}
-
-/// Each growth is refused in turn: all is as before then, and the same call is answered once there is memory. Steps take none.
-#[test]
-fn without_memory(rt: HostRuntime) -> Result<(), Fail> {
-    let mut refused = 0u32;
-    for room in 0..700usize {
-        let heap = LocalHeap::new(rt.alloc(), 65_536)?;
-        if call_all(&rt, &heap, &a_table(), room * 64) {
-            refused = refused.saturating_add(1);
-        }
-    }
-    assert!(rt; refused > 10 && refused < 700);
-    Ok(())
-}
-
-/// Whether an analysis can't begin on that heap.
-fn is_begin_refused(rt: &impl Abort, heap: &LocalHeap, table: &KeyTable) -> bool {
-    match begin(heap, table) {
-        Ok(_) => false,
-        Err(fault) => {
-            is_memory(rt, fault);
-            true
-        }
-    }
-}
-
-/// Whether an analysis can't begin on a heap of that size, of which nothing is taken afterwards.
-fn is_too_small(rt: &impl Abort, alloc: Global, size: usize) -> Result<bool, AllocError> {
-    let heap = LocalHeap::new(alloc, size)?;
-    let refused = is_begin_refused(rt, &heap, &a_table());
-    assert!(rt; heap.used() == 0);
-    Ok(refused)
-}
-
-/// A growth is refused at the start, or none.
-#[test]
-fn begins_without_memory(rt: HostRuntime) -> Result<(), Fail> {
-    let mut refused = 0u32;
-    for size in 1..100usize {
-        if is_too_small(&rt, rt.alloc(), size * 16)? {
-            refused = refused.saturating_add(1);
-        }
-    }
-    assert!(rt; refused > 1 && refused < 99);
-    Ok(())
 }

@@ -20,6 +20,8 @@ pub enum Call {
     Delete,
     AddNag(u8),
     SetComment(&'static [u8]),
+    /// Asks for the path, whatever it is.
+    AskPath,
 }
 
 /// What is seen of a tree.
@@ -55,7 +57,7 @@ pub enum Row {
 }
 
 /// Makes a call: its answer.
-fn answer<A: Allocator>(
+pub fn answer<A: Allocator>(
     rt: &impl Abort,
     tree: &mut Tree<'_, A>,
     call: Call,
@@ -78,6 +80,10 @@ fn answer<A: Allocator>(
         Call::Delete => tree.delete(),
         Call::AddNag(nag) => tree.add_nag(nag),
         Call::SetComment(text) => tree.set_comment(text),
+        Call::AskPath => match tree.path() {
+            Ok(_) => Ok(()),
+            Err(fault) => Err(fault),
+        },
     }
 }
 

@@ -2,13 +2,10 @@ use super::calls::Call::{Add, Back, Delete, End, First, Goto, Start, Step};
 use super::calls::Look::{ChildCount, Depth, Path};
 use super::calls::Row::{Does, Fails, Shows};
 use super::calls::{Row, run};
-use super::trees::{a_table, add_on, begin, position_here};
+use super::trees::{SHUFFLE, a_table, add_on, begin, position_here};
 use chess_tree::{Tree, TreeFault};
 use std::alloc::Allocator;
 use std::process::Abort;
-
-/// Four moves that lead back to where they began.
-const SHUFFLE: [&str; 4] = ["g1f3", "g8f6", "f3g1", "f6g8"];
 
 /// 20,000 plies more below the root.
 fn lengthen<A: Allocator>(rt: &impl Abort, tree: &mut Tree<'_, A>) -> Result<(), TreeFault> {

@@ -13,6 +13,9 @@ use chess_types::{Move, Position};
 use std::alloc::Allocator;
 use std::process::Abort;
 
+/// Four moves that lead back to where they began.
+pub(crate) const SHUFFLE: [&str; 4] = ["g1f3", "g8f6", "f3g1", "f6g8"];
+
 pub(crate) fn a_move(rt: &impl Abort, text: &str) -> Move {
     Move::parse(text.as_bytes()).expect(rt, "a move")
 }
