@@ -13,38 +13,34 @@ fn row(rt: &impl Abort, counts: &Counts, colour: Colour, rank: u8) -> [u8; 8] {
     row
 }
 
-/// A colour, a rank, and the counts of the colour on it.
-type Row = (Colour, u8, [u8; 8]);
-
-/// The counts are those of the rows.
-fn assert_rows(rt: &impl Abort, counts: &Counts, rows: &[Row]) {
-    for (colour, rank, wanted) in rows {
-        assert!(rt; row(rt, counts, *colour, *rank) == *wanted, "rank {rank}");
+/// The counts of a colour on its first ranks are those of the rows.
+fn assert_rows(rt: &impl Abort, counts: &Counts, colour: Colour, rows: &[[u8; 8]]) {
+    for (index, wanted) in rows.iter().enumerate() {
+        assert!(rt; index < 8);
+        let rank = match colour {
+            Colour::White => index as u8,
+            Colour::Black => 7 - index as u8,
+        };
+        assert!(rt; row(rt, counts, colour, rank) == *wanted, "rank {rank}");
     }
 }
 
-const AT_START: &[Row] = &[
-    (Colour::White, 0, [0, 1, 1, 1, 1, 1, 1, 0]),
-    (Colour::White, 1, [1, 1, 1, 4, 4, 1, 1, 1]),
-    (Colour::White, 2, [2, 2, 3, 2, 2, 3, 2, 2]),
-    (Colour::White, 3, [0; 8]),
-    (Colour::White, 4, [0; 8]),
-    (Colour::White, 5, [0; 8]),
-    (Colour::White, 6, [0; 8]),
-    (Colour::White, 7, [0; 8]),
-    (Colour::Black, 7, [0, 1, 1, 1, 1, 1, 1, 0]),
-    (Colour::Black, 6, [1, 1, 1, 4, 4, 1, 1, 1]),
-    (Colour::Black, 5, [2, 2, 3, 2, 2, 3, 2, 2]),
-    (Colour::Black, 4, [0; 8]),
-    (Colour::Black, 3, [0; 8]),
-    (Colour::Black, 2, [0; 8]),
-    (Colour::Black, 1, [0; 8]),
-    (Colour::Black, 0, [0; 8]),
+const AT_START: &[[u8; 8]] = &[
+    [0, 1, 1, 1, 1, 1, 1, 0],
+    [1, 1, 1, 4, 4, 1, 1, 1],
+    [2, 2, 3, 2, 2, 3, 2, 2],
+    [0; 8],
+    [0; 8],
+    [0; 8],
+    [0; 8],
+    [0; 8],
 ];
 
 #[test]
 fn start_position(rt: HostRuntime) {
-    assert_rows(&rt, &Counts::of(&start()), AT_START);
+    let counts = Counts::of(&start());
+    assert_rows(&rt, &counts, Colour::White, AT_START);
+    assert_rows(&rt, &counts, Colour::Black, AT_START);
     assert!(rt; !in_check(&start(), Colour::White));
 }
 
@@ -59,15 +55,16 @@ fn empty_board(rt: HostRuntime) {
 }
 
 // The rook attacks its knight, and nothing beyond it; the knight none of this rank.
-const BEHIND_A_ROOK: &[Row] = &[
-    (Colour::White, 0, [0, 1, 1, 1, 0, 0, 0, 0]),
-    (Colour::White, 1, [1, 1, 0, 0, 0, 1, 0, 0]),
-    (Colour::White, 2, [1, 0, 1, 0, 1, 0, 0, 0]),
+const BEHIND_A_ROOK: &[[u8; 8]] = &[
+    [0, 1, 1, 1, 0, 0, 0, 0],
+    [1, 1, 0, 0, 0, 1, 0, 0],
+    [1, 0, 1, 0, 1, 0, 0, 0],
 ];
 
 #[test]
 fn up_to_and_with_the_first_man(rt: HostRuntime) {
-    assert_rows(&rt, &Counts::of(&board(&rt, "Ra1 Nd1 pf1")), BEHIND_A_ROOK);
+    let counts = Counts::of(&board(&rt, "Ra1 Nd1 pf1"));
+    assert_rows(&rt, &counts, Colour::White, BEHIND_A_ROOK);
 }
 
 #[test]

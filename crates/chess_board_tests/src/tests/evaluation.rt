@@ -1,9 +1,7 @@
-ghost use Rattle.chess_eval.specs.Evaluation.{AreSumsOf};
-
-use super::boards::{board, put, square, start};
-use chess_attack::Follower;
+use super::boards::{Followed, board, put, square, start};
 use chess_eval::{Sum, end, middle, weight};
-use chess_types::{Colour, Kind, Man, Placement, Square};
+use chess_key::KeyTable;
+use chess_types::{Kind, Man, Placement, Square};
 use std::process::Abort;
 
 /// Men by their letters, their squares, and what each is worth there in the middlegame and in the endgame.
@@ -107,70 +105,32 @@ fn whole_boards(rt: HostRuntime) {
     assert_both(&rt, &queens(&rt), 33, -33);
 }
 
-/// A board with its sums.
-#[derive(Drop)]
-struct Kept {
-    placement: Placement,
-    sum: Sum,
-    ghost agrees: { AreSumsOf sum placement },
+/// The sums that are kept are those of the board.
+fn assert_kept(rt: &impl Abort, board: &Followed) {
+    assert_white(rt, &board.placement, board.sum.white());
 }
 
-impl Kept {
-    fn empty() -> Kept {
-        Kept {
-            placement: Placement::empty(),
-            sum: Sum::empty(),
-        }
-    }
-
-    /// Puts the man, and the evaluation is that of the board.
-    fn put(&mut self, rt: &impl Abort, at: Square, man: Man) {
-        assert!(rt; self.placement.get(at).is_none());
-        assert!(rt; self.placement.men(man.colour) < 16);
-        self.sum.put(&self.placement, at, man);
-        self.placement.put(at, man);
-        assert_white(rt, &self.placement, self.sum.white());
-    }
-
-    /// Clears the square, and the evaluation is that of the board.
-    fn clear(&mut self, rt: &impl Abort, at: Square) {
-        assert!(rt; self.placement.get(at).is_some());
-        self.sum.clear(&self.placement, at);
-        self.placement.clear(at);
-        assert_white(rt, &self.placement, self.sum.white());
-    }
-}
-
-/// Puts each man of the start position.
-fn put_all(rt: &impl Abort, kept: &mut Kept) {
-    let whole = start();
+fn put_all(rt: &impl Abort, board: &mut Followed) {
     for number in 0..64u8 {
-        let at = Square::from_index(number);
-        if let Some(man) = whole.get(at) {
-            kept.put(rt, at, man);
-        }
+        board.put_at_home(rt, Square::from_index(number));
+        assert_kept(rt, board);
     }
 }
 
-/// Clears the square of each man of the start position.
-fn clear_all(rt: &impl Abort, kept: &mut Kept) {
-    let whole = start();
+/// Clears every square once, in another order.
+fn clear_all(rt: &impl Abort, board: &mut Followed) {
     for turn in 0..64u8 {
-        // every square once, in another order
-        let at = Square::from_index((turn ^ 42) % 64);
-        if whole.get(at).is_some() {
-            kept.clear(rt, at);
-        }
+        board.clear_if_held(rt, Square::from_index((turn ^ 42) % 64));
+        assert_kept(rt, board);
     }
 }
 
 #[test]
 fn every_man_put_and_cleared(rt: HostRuntime) {
-    let mut kept = Kept::empty();
-    put_all(&rt, &mut kept);
-    assert!(rt; kept.sum.white() == 0);
-    clear_all(&rt, &mut kept);
-    assert!(rt; kept.sum.white() == Sum::empty().white());
-    let board = &kept.placement;
-    assert!(rt; board.men(Colour::White) + board.men(Colour::Black) == 0);
+    let table = KeyTable::new([0; 768]);
+    let mut board = Followed::empty(&table);
+    put_all(&rt, &mut board);
+    assert!(rt; board.sum.white() == 0 && board.men() == 32);
+    clear_all(&rt, &mut board);
+    assert!(rt; board.sum.white() == Sum::empty().white() && board.men() == 0);
 }

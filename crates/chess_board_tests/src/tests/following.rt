@@ -1,43 +1,8 @@
-ghost use Rattle.chess_attack.specs.KeptCounts.{AreCounts};
-
-use super::boards::{board, start};
-use chess_attack::{Counts, Follower};
-use chess_types::{Colour, Kind, Man, Placement, Square};
+use super::boards::{Followed, board, start};
+use chess_attack::Counts;
+use chess_key::KeyTable;
+use chess_types::{Colour, Kind, Man, Square};
 use std::process::Abort;
-
-/// A placement, and the counts that follow it.
-#[derive(Drop)]
-struct Followed {
-    placement: Placement,
-    counts: Counts,
-    ghost agrees: { AreCounts counts placement },
-}
-
-impl Followed {
-    fn empty() -> Followed {
-        let placement = Placement::empty();
-        let counts = Counts::empty();
-        Followed { placement, counts }
-    }
-
-    fn of(placement: Placement) -> Followed {
-        let counts = Counts::of(&placement);
-        Followed { placement, counts }
-    }
-
-    fn put(&mut self, rt: &impl Abort, at: Square, man: Man) {
-        assert!(rt; self.placement.get(at).is_none());
-        assert!(rt; self.placement.men(man.colour) < 16);
-        self.counts.put(&self.placement, at, man);
-        self.placement.put(at, man);
-    }
-
-    fn clear(&mut self, rt: &impl Abort, at: Square) {
-        assert!(rt; self.placement.get(at).is_some());
-        self.counts.clear(&self.placement, at);
-        self.placement.clear(at);
-    }
-}
 
 /// The counts are those of the placement, counted afresh.
 fn assert_afresh(rt: &impl Abort, followed: &Followed) {
@@ -52,25 +17,17 @@ fn assert_afresh(rt: &impl Abort, followed: &Followed) {
 
 /// Puts each man of the start position, in the order of the squares where the step is 1.
 fn put_all(rt: &impl Abort, followed: &mut Followed, step: u8) {
-    let men = start();
     for turn in 0..64u16 {
-        let square = Square::from_index((turn * step as u16 % 64) as u8);
-        if let Some(man) = men.get(square) {
-            followed.put(rt, square, man);
-            assert_afresh(rt, followed);
-        }
+        followed.put_at_home(rt, Square::from_index((turn * step as u16 % 64) as u8));
+        assert_afresh(rt, followed);
     }
 }
 
-/// Takes each man of the start position away again.
+/// Takes each man away again.
 fn clear_all(rt: &impl Abort, followed: &mut Followed, step: u8) {
-    let men = start();
     for turn in 0..64u16 {
-        let square = Square::from_index((63 - turn * step as u16 % 64) as u8);
-        if men.get(square).is_some() {
-            followed.clear(rt, square);
-            assert_afresh(rt, followed);
-        }
+        followed.clear_if_held(rt, Square::from_index((63 - turn * step as u16 % 64) as u8));
+        assert_afresh(rt, followed);
     }
 }
 
@@ -86,11 +43,10 @@ fn assert_zero(rt: &impl Abort, counts: &Counts) {
 
 /// Puts each man of the start position and takes it away again, in the order of the squares where the step is 1.
 fn put_and_clear(rt: &impl Abort, step: u8) {
-    let mut followed = Followed::empty();
+    let table = KeyTable::new([0; 768]);
+    let mut followed = Followed::empty(&table);
     put_all(rt, &mut followed, step);
-    assert!(rt;
-        followed.placement.men(Colour::White) + followed.placement.men(Colour::Black) == 32
-    );
+    assert!(rt; followed.men() == 32);
     clear_all(rt, &mut followed, step);
     assert_zero(rt, &followed.counts);
 }
@@ -107,7 +63,7 @@ fn every_man_in_another_order(rt: HostRuntime) {
 
 /// The ticks of the man put on the square.
 fn ticks_of_put(rt: &impl Abort, followed: &mut Followed, square: Square, man: Man) -> u32 {
-    followed.counts.begin();
+    followed.begin();
     assert!(rt; followed.counts.ticks() == 0);
     assert_afresh(rt, followed);
     followed.put(rt, square, man);
@@ -117,7 +73,7 @@ fn ticks_of_put(rt: &impl Abort, followed: &mut Followed, square: Square, man: M
 
 /// The ticks of the man taken from the square.
 fn ticks_of_clear(rt: &impl Abort, followed: &mut Followed, square: Square) -> u32 {
-    followed.counts.begin();
+    followed.begin();
     followed.clear(rt, square);
     assert_afresh(rt, followed);
     followed.counts.ticks()
@@ -133,7 +89,9 @@ fn ticks_on_d4(rt: &impl Abort, followed: &mut Followed, man: Man) -> u32 {
 
 #[test]
 fn eight_sliders_look_at_d4(rt: HostRuntime) {
-    let mut followed = Followed::of(board(&rt, "rd8 bh8 ba7 ra4 rh4 ba1 rd1 bg1"));
+    let table = KeyTable::new([0; 768]);
+    let placement = board(&rt, "rd8 bh8 ba7 ra4 rh4 ba1 rd1 bg1");
+    let mut followed = Followed::of(&table, placement);
     // From d4 the ranks, files and diagonals go 4 and 3, 4 and 3, 4 and 3, 3 and 3 squares far: 27. On each of them a man looks
     // over d4 to the man at the other end, so whoever comes to d4 takes 27 attacks away. A queen there attacks 27 squares
     // herself, a rook 14, a bishop 13, a knight and a king 8, a pawn 2.
@@ -155,7 +113,8 @@ fn eight_sliders_look_at_d4(rt: HostRuntime) {
 
 #[test]
 fn the_start_position_without_e2(rt: HostRuntime) {
-    let mut followed = Followed::of(start());
+    let table = KeyTable::new([0; 768]);
+    let mut followed = Followed::of(&table, start());
     // the counts of each side add up to 6 on its first rank, 14 on its second and 18 on its third
     assert!(rt; followed.counts.ticks() == 2 * 38);
     // the pawn's d3 and f3 go; d3, c4, b5, a6 for the bishop and f3, g4, h5 for the queen come

@@ -1,40 +1,7 @@
-ghost use Rattle.chess_key.specs.Keys.{IsKeyOf};
-
-use super::boards::{square, start};
-use chess_attack::Follower;
+use super::boards::{Followed, square};
 use chess_key::{Key, KeyTable};
 use chess_types::{Colour, Kind, Man, Placement, Square};
 use std::process::Abort;
-
-/// A board with its key.
-#[derive(Drop)]
-struct Kept<'k> {
-    placement: Placement,
-    key: Key<'k>,
-    ghost agrees: { IsKeyOf key placement },
-}
-
-impl<'k> Kept<'k> {
-    fn empty(table: &'k KeyTable) -> Kept<'k> {
-        Kept {
-            placement: Placement::empty(),
-            key: Key::empty(table),
-        }
-    }
-
-    fn put(&mut self, rt: &impl Abort, at: Square, man: Man) {
-        assert!(rt; self.placement.get(at).is_none());
-        assert!(rt; self.placement.men(man.colour) < 16);
-        self.key.put(&self.placement, at, man);
-        self.placement.put(at, man);
-    }
-
-    fn clear(&mut self, rt: &impl Abort, at: Square) {
-        assert!(rt; self.placement.get(at).is_some());
-        self.key.clear(&self.placement, at);
-        self.placement.clear(at);
-    }
-}
 
 /// A table of words without order, from a seed.
 fn table(seed: u64) -> KeyTable {
@@ -55,32 +22,23 @@ fn nth(turn: u8, number: u8) -> Square {
 }
 
 /// The start position, its men put in the order of that turn.
-fn put_in_order<'k>(rt: &impl Abort, table: &'k KeyTable, turn: u8) -> Kept<'k> {
-    let men = start();
-    let mut kept = Kept::empty(table);
+fn put_in_order<'k>(rt: &impl Abort, table: &'k KeyTable, turn: u8) -> Followed<'k> {
+    let mut board = Followed::empty(table);
     for number in 0..64u8 {
-        let at = nth(turn, number);
-        if let Some(man) = men.get(at) {
-            kept.put(rt, at, man);
-        }
+        board.put_at_home(rt, nth(turn, number));
     }
-    kept
+    board
 }
 
-/// The men put in the order of that turn have the key that is kept.
-fn assert_same<'k>(rt: &impl Abort, table: &'k KeyTable, kept: &Kept<'k>, turn: u8) {
+/// The men put in the order of that turn have that key.
+fn assert_same<'k>(rt: &impl Abort, table: &'k KeyTable, key: &Key<'k>, turn: u8) {
     let other = put_in_order(rt, table, turn);
-    assert!(rt; kept.key == other.key, "put in the order {turn}");
+    assert!(rt; *key == other.key, "put in the order {turn}");
 }
 
-/// Clears the square of each man of the start position.
-fn clear_all<'k>(rt: &impl Abort, kept: &mut Kept<'k>) {
-    let men = start();
+fn clear_all<'k>(rt: &impl Abort, board: &mut Followed<'k>) {
     for number in 0..64u8 {
-        let at = nth(42, number);
-        if men.get(at).is_some() {
-            kept.clear(rt, at);
-        }
+        board.clear_if_held(rt, nth(42, number));
     }
 }
 
@@ -97,17 +55,17 @@ fn is_of<'k>(table: &'k KeyTable, key: &Key<'k>, placement: &Placement) -> bool 
 #[test]
 fn any_order_and_back_to_empty(rt: HostRuntime) {
     let table = table(1);
-    let mut kept = put_in_order(&rt, &table, 0);
+    let mut board = put_in_order(&rt, &table, 0);
     for turn in [21, 42, 63] {
-        assert_same(&rt, &table, &kept, turn);
+        assert_same(&rt, &table, &board.key, turn);
     }
-    assert!(rt; is_of(&table, &kept.key, &kept.placement));
-    assert!(rt; !is_empty(&table, &kept.key));
-    let whole = kept.key.clone().expect(&rt, "no memory is needed");
-    assert!(rt; whole == kept.key);
-    clear_all(&rt, &mut kept);
-    assert!(rt; is_empty(&table, &kept.key));
-    assert!(rt; kept.key != whole);
+    assert!(rt; is_of(&table, &board.key, &board.placement));
+    assert!(rt; !is_empty(&table, &board.key));
+    let whole = board.key.clone().expect(&rt, "no memory is needed");
+    assert!(rt; whole == board.key);
+    clear_all(&rt, &mut board);
+    assert!(rt; is_empty(&table, &board.key));
+    assert!(rt; board.key != whole);
 }
 
 #[test]
@@ -121,9 +79,9 @@ fn any_words(rt: HostRuntime) {
 
 /// Whether a board of that man alone has another key than an empty one.
 fn has_word<'k>(rt: &impl Abort, table: &'k KeyTable, name: &str, man: Man) -> bool {
-    let mut kept = Kept::empty(table);
-    kept.put(rt, square(rt, name), man);
-    !is_empty(table, &kept.key)
+    let mut board = Followed::empty(table);
+    board.put(rt, square(rt, name), man);
+    !is_empty(table, &board.key)
 }
 
 /// A table with the word of White's knight on c3 alone.

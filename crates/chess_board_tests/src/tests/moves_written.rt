@@ -56,9 +56,30 @@ fn long(rt: &impl Abort, text: &str) -> Move {
 }
 
 /// Positions, moves in long algebraic notation, and their texts.
-fn assert_written(rt: &impl Abort, rows: &[(&str, &str, &str)]) {
-    for (fen, m, text) in rows {
-        assert!(rt; text_in(rt, fen, m).as_str() == *text, "{text}");
+const WRITTEN: &[(&str, &str, &str)] = &[
+    // men are told apart
+    (PINNED, "g1e2", "Ne2"),
+    (KNIGHTS, "g1e2", "Nge2"),
+    (QUEENS, "h4e1", "Qh4e1"),
+    (QUEENS, "e4e1", "Qee1"),
+    (QUEENS, "h1e1", "Q1e1"),
+    // pawns promote, and kings castle
+    (PROMOTION, "a7a8q", "a8=Q+"),
+    (CASTLING, "e1g1", "O-O"),
+    (CASTLING, "e1c1", "O-O-O"),
+    // checks and mates are marked
+    (MATING, "a1a8", "Ra8#"),
+    (MATING, "a1a2", "Ra2"),
+    (CASTLING, "a1a8", "Rxa8+"),
+    // pawns capture
+    (CAPTURE, "e4d5", "exd5"),
+    (PASSING, "e5d6", "exd6"),
+];
+
+#[test]
+fn moves_are_written(rt: HostRuntime) {
+    for (fen, m, text) in WRITTEN {
+        assert!(rt; text_in(&rt, fen, m).as_str() == *text, "{text}");
     }
 }
 
@@ -68,36 +89,12 @@ fn long_or_fault(rt: &impl Abort, wanted: Result<&str, SanFault>) -> Result<Move
 }
 
 /// Positions, texts, and the moves that they read as in long algebraic notation, or their faults.
-fn assert_read(rt: &impl Abort, rows: &[(&str, &str, Result<&str, SanFault>)]) {
-    for (fen, text, wanted) in rows {
-        assert!(rt;
-            read_in(rt, fen, text) == long_or_fault(rt, *wanted),
-            "{text}"
-        );
-    }
-}
-
-const MEN_WRITTEN: &[(&str, &str, &str)] = &[
-    (PINNED, "g1e2", "Ne2"),
-    (KNIGHTS, "g1e2", "Nge2"),
-    (QUEENS, "h4e1", "Qh4e1"),
-    (QUEENS, "e4e1", "Qee1"),
-    (QUEENS, "h1e1", "Q1e1"),
-];
-
-const MEN_READ: &[(&str, &str, Result<&str, SanFault>)] = &[
+const READ: &[(&str, &str, Result<&str, SanFault>)] = &[
+    // men are told apart
     (PINNED, "Ne2", Ok("g1e2")),
     (KNIGHTS, "Ne2", Err(SanFault::Ambiguous)),
     (KNIGHTS, "N1xe2+#+", Ok("g1e2")),
-];
-
-#[test]
-fn men_are_told_apart(rt: HostRuntime) {
-    assert_written(&rt, MEN_WRITTEN);
-    assert_read(&rt, MEN_READ);
-}
-
-const PROMOTIONS_READ: &[(&str, &str, Result<&str, SanFault>)] = &[
+    // pawns promote
     (PROMOTION, "a8", Err(SanFault::Illegal)),
     (PROMOTION, "a9", Err(SanFault::Form)),
     (PROMOTION, "a8=", Err(SanFault::Form)),
@@ -105,20 +102,7 @@ const PROMOTIONS_READ: &[(&str, &str, Result<&str, SanFault>)] = &[
     (PROMOTION, "a7a8=q", Ok("a7a8q")),
     (START, "e4=Q", Err(SanFault::Illegal)),
     (START, "a1a1", Err(SanFault::Illegal)),
-];
-
-#[test]
-fn pawns_promote(rt: HostRuntime) {
-    assert_written(&rt, &[(PROMOTION, "a7a8q", "a8=Q+")]);
-    assert_read(&rt, PROMOTIONS_READ);
-}
-
-const CASTLING_WRITTEN: &[(&str, &str, &str)] = &[
-    (CASTLING, "e1g1", "O-O"),
-    (CASTLING, "e1c1", "O-O-O"),
-];
-
-const CASTLING_READ: &[(&str, &str, Result<&str, SanFault>)] = &[
+    // kings castle
     (CASTLING, "O-O+", Ok("e1g1")),
     (CASTLING, "0-0", Ok("e1g1")),
     (CASTLING, "e1xg1", Ok("e1g1")),
@@ -127,31 +111,7 @@ const CASTLING_READ: &[(&str, &str, Result<&str, SanFault>)] = &[
     (CASTLING, "o-o", Err(SanFault::Form)),
     (CASTLING, "0-0-0", Ok("e1c1")),
     (CASTLING, "Ke2", Ok("e1e2")),
-];
-
-#[test]
-fn kings_castle(rt: HostRuntime) {
-    assert_written(&rt, CASTLING_WRITTEN);
-    assert_read(&rt, CASTLING_READ);
-}
-
-const MARKED: &[(&str, &str, &str)] = &[
-    (MATING, "a1a8", "Ra8#"),
-    (MATING, "a1a2", "Ra2"),
-    (CASTLING, "a1a8", "Rxa8+"),
-];
-
-#[test]
-fn checks_and_mates_are_marked(rt: HostRuntime) {
-    assert_written(&rt, MARKED);
-}
-
-const CAPTURES_WRITTEN: &[(&str, &str, &str)] = &[
-    (CAPTURE, "e4d5", "exd5"),
-    (PASSING, "e5d6", "exd6"),
-];
-
-const CAPTURES_READ: &[(&str, &str, Result<&str, SanFault>)] = &[
+    // pawns capture
     (CAPTURE, "ed5", Ok("e4d5")),
     (CAPTURE, "4d5", Ok("e4d5")),
     (CAPTURE, "d5", Err(SanFault::Illegal)),
@@ -160,15 +120,7 @@ const CAPTURES_READ: &[(&str, &str, Result<&str, SanFault>)] = &[
     (CAPTURE, "xa4", Ok("a2a4")),
     (PASSING, "5d6", Err(SanFault::Ambiguous)),
     (PASSING, "cd6", Ok("c5d6")),
-];
-
-#[test]
-fn pawns_capture(rt: HostRuntime) {
-    assert_written(&rt, CAPTURES_WRITTEN);
-    assert_read(&rt, CAPTURES_READ);
-}
-
-const WITHOUT_FORM: &[(&str, &str, Result<&str, SanFault>)] = &[
+    // no form
     (START, "", Err(SanFault::Form)),
     (START, "+#", Err(SanFault::Form)),
     (START, "!", Err(SanFault::Form)),
@@ -178,6 +130,16 @@ const WITHOUT_FORM: &[(&str, &str, Result<&str, SanFault>)] = &[
     (START, "P e4", Err(SanFault::Form)),
 ];
 
+#[test]
+fn texts_are_read(rt: HostRuntime) {
+    for (fen, text, wanted) in READ {
+        assert!(rt;
+            read_in(&rt, fen, text) == long_or_fault(&rt, *wanted),
+            "{text}"
+        );
+    }
+}
+
 const FAULTS: &[(SanFault, u8)] = &[
     (SanFault::Form, 1),
     (SanFault::Illegal, 2),
@@ -186,7 +148,6 @@ const FAULTS: &[(SanFault, u8)] = &[
 
 #[test]
 fn faults_have_numbers(rt: HostRuntime) {
-    assert_read(&rt, WITHOUT_FORM);
     for (fault, number) in FAULTS {
         assert!(rt; *fault as u8 == *number, "{fault}");
     }

@@ -67,53 +67,84 @@ fn drops_a_right_whose_rook_is_away(rt: HostRuntime) -> Result<(), Fail> {
     Ok(())
 }
 
-/// Texts with the first fault of each.
-const FAULTS: &[(&[u8], FenFault)] = &[
-    (b"", FenFault::Fields),
-    (b"4k3/8/8/8/8/8/8/4K3 w - - 0", FenFault::Fields),
-    (b"4k3/8/8/8/8/8/8/4K3 w - - 0 1 1", FenFault::Fields),
-    (b"4k3/8/8/8/8/8/8/4K3 w -", FenFault::Fields),
-    (b"4k3/8/8/8/8/8/8/4K3\tw - - 0 1", FenFault::Fields),
-    (b"4k3/8/8/8/8/8/8/4K3 w - -\t0 1", FenFault::Fields),
+/// Faults, and texts of which each is the first fault.
+const FAULTS: &[(FenFault, &[&str])] = &[
     (
-        b"rnbqkbnrr/pppppppp/8/8/8/8/PPPPPPPP/RNBQKBNR w KQkq - 0 1",
+        FenFault::Fields,
+        &[
+            "",
+            "4k3/8/8/8/8/8/8/4K3 w - - 0",
+            "4k3/8/8/8/8/8/8/4K3 w - - 0 1 1",
+            "4k3/8/8/8/8/8/8/4K3 w -",
+            "4k3/8/8/8/8/8/8/4K3\tw - - 0 1",
+            "4k3/8/8/8/8/8/8/4K3 w - -\t0 1",
+        ],
+    ),
+    (
         FenFault::Placement,
+        &[
+            "rnbqkbnrr/pppppppp/8/8/8/8/PPPPPPPP/RNBQKBNR w KQkq - 0 1",
+            "4k3/8/8/8/8/8/44/4K3 w - - 0 1",
+            "4k3/8/8/8/8/8/08/4K3 w - - 0 1",
+            "4k3/8/8/8/8/8/9/4K3 w - - 0 1",
+            "4k3/8/8/8/8/8/x7/4K3 w - - 0 1",
+            "4k3/8/8/8/8/8/4K3 w - - 0 1",
+            "4k3/8/8/8/8/8/8/8/4K3 w - - 0 1",
+            "4k3/8/8/8/8/8/8/4K2 w - - 0 1",
+        ],
     ),
-    (b"4k3/8/8/8/8/8/44/4K3 w - - 0 1", FenFault::Placement),
-    (b"4k3/8/8/8/8/8/08/4K3 w - - 0 1", FenFault::Placement),
-    (b"4k3/8/8/8/8/8/9/4K3 w - - 0 1", FenFault::Placement),
-    (b"4k3/8/8/8/8/8/x7/4K3 w - - 0 1", FenFault::Placement),
-    (b"4k3/8/8/8/8/8/4K3 w - - 0 1", FenFault::Placement),
-    (b"4k3/8/8/8/8/8/8/8/4K3 w - - 0 1", FenFault::Placement),
-    (b"4k3/8/8/8/8/8/8/4K2 w - - 0 1", FenFault::Placement),
-    (b"8/8/8/8/8/8/8/K7 w - - 0 1", FenFault::Kings),
-    (b"8/8/8/8/8/8/8/4K3 x KK z9 a b", FenFault::Kings),
-    (b"P3k3/8/8/8/8/8/8/4K3 w - - 0 1", FenFault::PawnRank),
     (
-        b"rnbqkbnr/pppppppp/8/8/8/P7/PPPPPPPP/RNBQKBNR w KQkq - 0 1",
+        FenFault::Kings,
+        &[
+            "8/8/8/8/8/8/8/K7 w - - 0 1",
+            "8/8/8/8/8/8/8/4K3 x KK z9 a b",
+        ],
+    ),
+    (FenFault::PawnRank, &["P3k3/8/8/8/8/8/8/4K3 w - - 0 1"]),
+    (
         FenFault::TooManyMen,
+        &["rnbqkbnr/pppppppp/8/8/8/P7/PPPPPPPP/RNBQKBNR w KQkq - 0 1"],
     ),
-    (b"4k3/8/8/8/8/8/8/4K3 x - - 0 1", FenFault::Side),
-    (b"4k3/8/8/8/8/8/8/4K3 w KK - 0 1", FenFault::Castling),
-    (b"4k3/8/8/8/8/8/8/4K3 w KQkqK - 0 1", FenFault::Castling),
-    (b"4k3/8/8/8/8/8/8/4K3 w Kx - 0 1", FenFault::Castling),
-    (b"4k3/8/8/8/8/8/8/4K3 w - z9 0 1", FenFault::Target),
-    (b"4k3/8/8/8/8/8/8/4K3 w - e9 0 1", FenFault::Target),
-    (b"4k3/8/8/8/8/8/8/4K3 w - e 0 1", FenFault::Target),
-    (b"4k3/8/8/8/8/8/8/4K3 w - - x 1", FenFault::Counter),
-    (b"4k3/8/8/8/8/8/8/4K3 w - - +1 1", FenFault::Counter),
-    (b"4k3/8/8/8/8/8/8/4K3 w - - 0 100000", FenFault::Counter),
+    (FenFault::Side, &["4k3/8/8/8/8/8/8/4K3 x - - 0 1"]),
     (
-        b"4k3/8/8/8/8/8/8/4K3 w - - 9999999999999 1",
-        FenFault::Counter,
+        FenFault::Castling,
+        &[
+            "4k3/8/8/8/8/8/8/4K3 w KK - 0 1",
+            "4k3/8/8/8/8/8/8/4K3 w KQkqK - 0 1",
+            "4k3/8/8/8/8/8/8/4K3 w Kx - 0 1",
+        ],
     ),
-    (b"4k3/8/8/8/8/8/8/4R1K1 w - - 0 1", FenFault::InCheck),
+    (
+        FenFault::Target,
+        &[
+            "4k3/8/8/8/8/8/8/4K3 w - z9 0 1",
+            "4k3/8/8/8/8/8/8/4K3 w - e9 0 1",
+            "4k3/8/8/8/8/8/8/4K3 w - e 0 1",
+        ],
+    ),
+    (
+        FenFault::Counter,
+        &[
+            "4k3/8/8/8/8/8/8/4K3 w - - x 1",
+            "4k3/8/8/8/8/8/8/4K3 w - - +1 1",
+            "4k3/8/8/8/8/8/8/4K3 w - - 0 100000",
+            "4k3/8/8/8/8/8/8/4K3 w - - 9999999999999 1",
+        ],
+    ),
+    (FenFault::InCheck, &["4k3/8/8/8/8/8/8/4R1K1 w - - 0 1"]),
 ];
+
+/// That is the first fault of each text.
+fn assert_faults(rt: &impl Abort, fault: FenFault, texts: &[&str]) {
+    for text in texts {
+        assert!(rt; read(text.as_bytes()).err() == Some(fault), "{text}");
+    }
+}
 
 #[test]
 fn reports_the_first_fault(rt: HostRuntime) {
-    for (text, fault) in FAULTS {
-        assert!(rt; read(text).err() == Some(*fault));
+    for (fault, texts) in FAULTS {
+        assert_faults(&rt, *fault, texts);
     }
 }
 
