@@ -1,5 +1,5 @@
 //! Random lists of events, heard by a session and by a plain machine.
-use crate::tests::lines::{Said, go_line, other_line, place_line};
+use crate::tests::lines::{Said, go_line, other_line, place_line, place_said};
 use crate::tests::plain::Plain;
 use chess_key::KeyTable;
 use chess_uci::{Event, Session};
@@ -13,105 +13,95 @@ const LISTS: u32 = 20_000;
 
 const EVENTS: u32 = 40;
 
-/// Both show the same.
-fn same<A: Allocator>(rt: &impl Abort, session: &Session<'_, A>, plain: &Plain) {
-    assert_eq!(rt; session.ended(), plain.ended);
-    let running = plain.search;
-    match running {
-        None => {
-            assert!(rt; !session.searching() && !session.infinite() && !session.waiting());
-            assert_eq!(rt; session.depth_done(), 0);
-        }
-        Some(search) => {
-            assert!(rt; session.searching());
-            assert_eq!(rt; session.infinite(), search.going.infinite);
-            let waits = search.going.infinite && search.searched >= search.roots;
-            assert_eq!(rt; session.waiting(), waits);
-            assert_eq!(rt; session.depth_done(), search.done);
-        }
-    }
+/// What both are told.
+#[derive(Clone, Copy)]
+enum Told {
+    /// A line, and what it asks for.
+    Line(&'static [u8], Said),
+    Slice,
+    Moment(u64),
 }
 
-/// Both hear a line.
-fn hear<'a, A: Allocator>(
-    rt: &impl Abort,
-    alloc: &'a A,
-    table: &'a KeyTable,
+/// Whether both show the same.
+fn is_same<A: Allocator>(session: &Session<'_, A>, plain: &Plain<'_, A>) -> bool {
+    let running = plain.search;
+    let shown = (
+        session.searching(),
+        session.infinite(),
+        session.waiting(),
+        session.depth_done(),
+    );
+    let wanted = match running {
+        None => (false, false, false, 0),
+        Some(search) => {
+            let infinite = search.going.infinite;
+            let waits = infinite && search.searched >= search.roots;
+            (true, infinite, waits, search.done)
+        }
+    };
+    session.ended() == plain.ended && shown == wanted
+}
+
+/// Whether both reply the same.
+fn is_replied<'a, A: Allocator>(
     session: &mut Session<'a, A>,
-    plain: &mut Plain,
-    line: &[u8],
-    said: Said,
-) {
-    let replies = session.event(Event::Line(line));
-    let wanted = plain.hear(alloc, table, said);
-    assert_eq!(rt; replies.as_slice(), wanted.as_slice());
+    plain: &mut Plain<'a, A>,
+    told: Told,
+) -> bool {
+    let (event, wanted) = match told {
+        Told::Line(line, said) => (Event::Line(line), plain.hear(said)),
+        Told::Slice => (Event::Slice, plain.slice()),
+        Told::Moment(moment) => (Event::Moment(moment), plain.reach(moment)),
+    };
+    session.event(event).as_slice() == wanted.as_slice()
 }
 
 /// Both search so many roots.
-fn slices<'a, A: Allocator>(
+fn search<'a, A: Allocator>(
     rt: &impl Abort,
-    alloc: &'a A,
-    table: &'a KeyTable,
     session: &mut Session<'a, A>,
-    plain: &mut Plain,
+    plain: &mut Plain<'a, A>,
     number: u64,
 ) {
     for _ in 0..number {
         if plain.is_deep() {
             return;
         }
-        let replies = session.event(Event::Slice);
-        let wanted = plain.slice(alloc, table);
-        assert_eq!(rt; replies.as_slice(), wanted.as_slice());
+        assert!(rt; is_replied(session, plain, Told::Slice));
     }
 }
 
-/// Both reach a moment.
-fn reach<A: Allocator>(
-    rt: &impl Abort,
-    session: &mut Session<'_, A>,
-    plain: &mut Plain,
-    moment: u64,
-) {
-    let replies = session.event(Event::Moment(moment));
-    let wanted = plain.reach(moment);
-    assert_eq!(rt; replies.as_slice(), wanted.as_slice());
+/// A random event other than a slice, at that moment.
+fn told_at(moment: u64, kind: u64, pick: u64) -> Told {
+    let number = pick % 8;
+    match kind {
+        6 | 7 => Told::Moment(moment.saturating_add(pick % 40)),
+        8 => Told::Moment(pick % 400),
+        9 | 10 => Told::Line(place_line(number), place_said(number)),
+        11 | 12 => Told::Line(go_line(number), Said::Go(number)),
+        _ => {
+            let (line, said) = other_line(pick % 16);
+            Told::Line(line, said)
+        }
+    }
 }
 
 /// A random event.
 fn happen<'a, A: Allocator>(
     rt: &impl Abort,
-    alloc: &'a A,
-    table: &'a KeyTable,
     session: &mut Session<'a, A>,
-    plain: &mut Plain,
+    plain: &mut Plain<'a, A>,
     word: u64,
 ) {
     let pick = word / 16;
     match word % 16 {
-        0..=5 => slices(rt, alloc, table, session, plain, pick % 24),
-        6 | 7 => {
-            let moment = plain.moment.saturating_add(pick % 40);
-            reach(rt, session, plain, moment);
-        }
-        8 => reach(rt, session, plain, pick % 400),
-        9 | 10 => {
-            let said = match pick % 8 {
-                6 | 7 => Said::Misplace,
-                number => Said::Place(number),
-            };
-            hear(rt, alloc, table, session, plain, place_line(pick % 8), said);
-        }
-        11 | 12 => {
-            let (line, said) = (go_line(pick % 8), Said::Go(pick % 8));
-            hear(rt, alloc, table, session, plain, line, said);
-        }
-        _ => {
-            let (line, said) = other_line(pick % 16);
-            hear(rt, alloc, table, session, plain, line, said);
+        0..=5 => search(rt, session, plain, pick % 24),
+        kind => {
+            let told = told_at(plain.moment, kind, pick);
+            assert!(rt; is_replied(session, plain, told));
         }
     }
-    same(rt, session, plain);
+    assert!(rt; is_same(session, plain));
 }
 
 /// A list of random events; at its end both show the same best of those searched at the last depth.
@@ -122,17 +112,17 @@ fn play_a_list<'a, A: Allocator>(
     random: &mut Pcg64,
 ) {
     let mut session = Session::new(alloc, table);
-    let mut plain = Plain::new();
+    let mut plain = Plain::new(alloc, table);
     for _ in 0..EVENTS {
         let word: u64 = random.next_word();
-        happen(rt, alloc, table, &mut session, &mut plain, word);
+        happen(rt, &mut session, &mut plain, word);
         if plain.ended {
             let replies = session.event(Event::Line(b"isready"));
-            assert_eq!(rt; replies.len(), 0);
+            assert!(rt; replies.is_empty());
             return;
         }
     }
-    assert_eq!(rt; session.so_far(), plain.so_far(alloc, table));
+    assert!(rt; session.so_far() == plain.so_far());
 }
 
 #[test]

@@ -40,6 +40,14 @@ pub(crate) fn place_line(number: u64) -> &'static [u8] {
     }
 }
 
+/// What it asks for.
+pub(crate) fn place_said(number: u64) -> Said {
+    match number {
+        6 | 7 => Said::Misplace,
+        _ => Said::Place(number),
+    }
+}
+
 /// The number of the `position` line with a king each, and a draw in ten plies.
 pub(crate) const BARE_KINGS: u64 = 2;
 

@@ -61,39 +61,10 @@ fn roots_of<A: Allocator>(line: &mut Line<'_, A>, go: u64) -> ArrayVec<Move, 432
     if named.is_empty() { moves } else { named }
 }
 
-/// How many roots a search has, and the first.
-fn count_roots<'a, A: Allocator>(
-    alloc: &'a A,
-    table: &'a KeyTable,
-    position: u64,
-    go: u64,
-) -> (usize, Option<Move>) {
-    let Some(mut line) = line_of(alloc, table, position) else {
-        return (0, None);
-    };
-    let roots = roots_of(&mut line, go);
-    (roots.len(), roots.as_slice().first().copied())
-}
+/// What is replied to an event.
+type Replies = ArrayVec<Reply, 4>;
 
-/// The best of so many of its first roots.
-#[tactic(auto, using(crate::proofs::FrontLemmas::first_legal))]
-fn best_of_first<'a, A: Allocator>(
-    alloc: &'a A,
-    table: &'a KeyTable,
-    position: u64,
-    go: u64,
-    depth: u8,
-    claims: bool,
-    number: usize,
-) -> Option<(Move, i32)> {
-    let mut line = line_of(alloc, table, position)?;
-    let mut roots = roots_of(&mut line, go);
-    roots.truncate(number);
-    let depth = depth.max(1).min(16);
-    best_counted(&mut line, depth, &roots, &mut Nodes::new(), claims)
-}
-
-fn silence() -> ArrayVec<Reply, 4> {
+fn silence() -> Replies {
     ArrayVec::new()
 }
 
@@ -125,8 +96,10 @@ pub(crate) struct Running {
 }
 
 /// The plain machine.
-#[derive(Clone, Copy)]
-pub(crate) struct Plain {
+#[derive(Drop)]
+pub(crate) struct Plain<'a, A: Allocator> {
+    alloc: &'a A,
+    table: &'a KeyTable,
     pub(crate) moment: u64,
     pub(crate) ended: bool,
     pub(crate) search: Option<Running>,
@@ -134,10 +107,12 @@ pub(crate) struct Plain {
     claims: bool,
 }
 
-impl Plain {
+impl<'a, A: Allocator> Plain<'a, A> {
     /// As it begins.
-    pub(crate) fn new() -> Plain {
+    pub(crate) fn new(alloc: &'a A, table: &'a KeyTable) -> Plain<'a, A> {
         Plain {
+            alloc,
+            table,
             moment: 0,
             ended: false,
             search: None,
@@ -146,7 +121,32 @@ impl Plain {
         }
     }
 
-    fn stop(&mut self) -> ArrayVec<Reply, 4> {
+    /// How many roots a search has, and the first.
+    fn count_roots(&self, go: u64) -> (usize, Option<Move>) {
+        let Some(mut line) = line_of(self.alloc, self.table, self.position) else {
+            return (0, None);
+        };
+        let roots = roots_of(&mut line, go);
+        (roots.len(), roots.as_slice().first().copied())
+    }
+
+    /// The best of so many of the first roots of a `go` line.
+    #[tactic(auto, using(crate::proofs::FrontLemmas::first_legal))]
+    fn best_of_first(
+        &self,
+        go: u64,
+        depth: u8,
+        claims: bool,
+        number: usize,
+    ) -> Option<(Move, i32)> {
+        let mut line = line_of(self.alloc, self.table, self.position)?;
+        let mut roots = roots_of(&mut line, go);
+        roots.truncate(number);
+        let depth = depth.max(1).min(16);
+        best_counted(&mut line, depth, &roots, &mut Nodes::new(), claims)
+    }
+
+    fn stop(&mut self) -> Replies {
         let running = self.search;
         self.search = None;
         match running {
@@ -155,14 +155,9 @@ impl Plain {
         }
     }
 
-    fn go<'a, A: Allocator>(
-        &mut self,
-        alloc: &'a A,
-        table: &'a KeyTable,
-        line: u64,
-    ) -> ArrayVec<Reply, 4> {
+    fn go(&mut self, line: u64) -> Replies {
         let going = asked_by(line);
-        let (roots, chosen) = count_roots(alloc, table, self.position, line);
+        let (roots, chosen) = self.count_roots(line);
         if roots == 0 && !going.infinite {
             return one(Reply::BestMove(None));
         }
@@ -180,30 +175,20 @@ impl Plain {
         silence()
     }
 
-    fn obey<'a, A: Allocator>(
-        &mut self,
-        alloc: &'a A,
-        table: &'a KeyTable,
-        said: Said,
-    ) -> ArrayVec<Reply, 4> {
+    fn obey(&mut self, said: Said) -> Replies {
         match said {
             Said::NewGame => self.position = 0,
             Said::Place(number) => self.position = number,
             Said::Misplace => return one(Reply::Refused),
             Said::Claims(claims) => self.claims = claims,
-            Said::Go(number) => return self.go(alloc, table, number),
+            Said::Go(number) => return self.go(number),
             _ => {}
         }
         silence()
     }
 
     /// Hears a line.
-    pub(crate) fn hear<'a, A: Allocator>(
-        &mut self,
-        alloc: &'a A,
-        table: &'a KeyTable,
-        said: Said,
-    ) -> ArrayVec<Reply, 4> {
+    pub(crate) fn hear(&mut self, said: Said) -> Replies {
         match said {
             Said::Nothing => silence(),
             Said::Uci => ArrayVec::from([
@@ -223,13 +208,13 @@ impl Plain {
                 if self.search.is_some() {
                     return one(Reply::Busy);
                 }
-                self.obey(alloc, table, said)
+                self.obey(said)
             }
         }
     }
 
     /// Reaches a moment.
-    pub(crate) fn reach(&mut self, moment: u64) -> ArrayVec<Reply, 4> {
+    pub(crate) fn reach(&mut self, moment: u64) -> Replies {
         self.moment = self.moment.max(moment);
         let running = self.search;
         let Some(search) = running else {
@@ -241,7 +226,7 @@ impl Plain {
         }
     }
 
-    fn tell(&mut self, running: Running, best: Move, value: i32) -> ArrayVec<Reply, 4> {
+    fn tell(&mut self, running: Running, best: Move, value: i32) -> Replies {
         let depth = running.depth;
         let info = Reply::Info { depth, best, value };
         let is_last = depth >= running.going.last;
@@ -265,26 +250,15 @@ impl Plain {
     }
 
     /// Searches one root more.
-    pub(crate) fn slice<'a, A: Allocator>(
-        &mut self,
-        alloc: &'a A,
-        table: &'a KeyTable,
-    ) -> ArrayVec<Reply, 4> {
+    pub(crate) fn slice(&mut self) -> Replies {
         let running = self.search;
         match running {
-            Some(search) if search.searched < search.roots => {
-                self.search_one(alloc, table, search)
-            }
+            Some(search) if search.searched < search.roots => self.search_one(search),
             _ => silence(),
         }
     }
 
-    fn search_one<'a, A: Allocator>(
-        &mut self,
-        alloc: &'a A,
-        table: &'a KeyTable,
-        running: Running,
-    ) -> ArrayVec<Reply, 4> {
+    fn search_one(&mut self, running: Running) -> Replies {
         let (line, depth, claims) = (running.line, running.depth, running.claims);
         let roots = running.roots;
         let searched = running.searched.saturating_add(1);
@@ -295,7 +269,7 @@ impl Plain {
             });
             return silence();
         }
-        match best_of_first(alloc, table, self.position, line, depth, claims, roots) {
+        match self.best_of_first(line, depth, claims, roots) {
             Some((best, value)) => self.tell(running, best, value),
             None => silence(),
         }
@@ -311,14 +285,9 @@ impl Plain {
     }
 
     /// The best of the roots that were searched at the last depth.
-    pub(crate) fn so_far<'a, A: Allocator>(
-        &self,
-        alloc: &'a A,
-        table: &'a KeyTable,
-    ) -> Option<(Move, i32)> {
+    pub(crate) fn so_far(&self) -> Option<(Move, i32)> {
         let running = self.search?;
         let (line, depth, claims) = (running.line, running.depth, running.claims);
-        let searched = running.searched;
-        best_of_first(alloc, table, self.position, line, depth, claims, searched)
+        self.best_of_first(line, depth, claims, running.searched)
     }
 }

@@ -34,26 +34,25 @@ enum Row {
 use Look::{DepthDone, Ended, Infinite, Searching, SoFar, Waiting};
 use Row::{Line, Moment, Shows, Slices, Unheard};
 
-/// The event is replied these lines.
-fn told<A: Allocator>(rt: &impl Abort, session: &mut Session<'_, A>, event: Event, want: &[&[u8]]) {
+/// Whether the event is replied these lines.
+fn is_told<A: Allocator>(session: &mut Session<'_, A>, event: Event, want: &[&[u8]]) -> bool {
     let replies = session.event(event);
-    assert_eq!(rt; replies.len(), want.len());
     for (reply, line) in replies.as_slice().iter().zip(want.iter()) {
-        assert_eq!(rt; reply.write().as_bytes(), *line);
+        if reply.write().as_bytes() != *line {
+            return false;
+        }
     }
+    replies.len() == want.len()
 }
 
-/// Of so many slices the last alone is replied anything, and it these lines.
-fn slices<A: Allocator>(
-    rt: &impl Abort,
-    session: &mut Session<'_, A>,
-    number: u32,
-    want: &[&[u8]],
-) {
+/// Whether of so many slices the last alone is replied anything, and it these lines.
+fn are_told<A: Allocator>(session: &mut Session<'_, A>, number: u32, want: &[&[u8]]) -> bool {
     for _ in 1..number {
-        told(rt, session, Event::Slice, &[]);
+        if !is_told(session, Event::Slice, &[]) {
+            return false;
+        }
     }
-    told(rt, session, Event::Slice, want);
+    is_told(session, Event::Slice, want)
 }
 
 /// So many slices, whatever is replied.
@@ -83,16 +82,24 @@ fn is_seen<A: Allocator>(rt: &impl Abort, session: &Session<'_, A>, look: Look) 
     }
 }
 
+/// Whether the row is right.
+fn holds<A: Allocator>(rt: &impl Abort, session: &mut Session<'_, A>, row: Row) -> bool {
+    match row {
+        Line(line, want) => is_told(session, Event::Line(line), want),
+        Moment(moment, want) => is_told(session, Event::Moment(moment), want),
+        Slices(number, want) => are_told(session, number, want),
+        Unheard(number) => {
+            unheard(session, number);
+            true
+        }
+        Shows(look) => is_seen(rt, session, look),
+    }
+}
+
 /// Goes by a table.
 fn run<A: Allocator>(rt: &impl Abort, session: &mut Session<'_, A>, rows: &[Row]) {
     for (index, row) in rows.iter().enumerate() {
-        match *row {
-            Line(line, want) => told(rt, session, Event::Line(line), want),
-            Moment(moment, want) => told(rt, session, Event::Moment(moment), want),
-            Slices(number, want) => slices(rt, session, number, want),
-            Unheard(number) => unheard(session, number),
-            Shows(look) => assert!(rt; is_seen(rt, session, look), "row {index}"),
-        }
+        assert!(rt; holds(rt, session, *row), "row {index}");
     }
 }
 
@@ -333,7 +340,7 @@ fn is_starved(
 fn is_starved_with(rt: &impl Abort, alloc: Global, free: usize) -> Result<bool, AllocError> {
     let heap = LocalHeap::new(alloc, 20_480)?;
     let starved = is_starved(rt, &heap, &KeyTable::new([1; 768]), free)?;
-    assert_eq!(rt; heap.used(), 0);
+    assert!(rt; heap.used() == 0);
     Ok(starved)
 }
 
@@ -377,22 +384,20 @@ fn reads_what_go_asks_for(rt: HostRuntime) {
     run_all(&rt, &rt.alloc(), ASKED_FOR);
 }
 
-/// A `go` line at moment 0 ends at this moment, and not before.
-fn ends_at<A: Allocator>(rt: &impl Abort, session: &mut Session<'_, A>, text: &[u8], end: u64) {
-    told(rt, session, Event::Line(text), &[]);
-    told(rt, session, Event::Slice, &[]);
-    told(rt, session, Event::Moment(end.saturating_sub(1)), &[]);
-    assert!(rt; session.searching() && !session.infinite());
-    told(rt, session, Event::Moment(end), &[b"bestmove b1a3"]);
+/// A `go` line at moment 0 of a new session ends at this moment, and not before.
+fn ends_at<A: Allocator>(rt: &impl Abort, alloc: &A, text: &'static [u8], end: u64) {
+    let rows = [
+        Line(text, &[]),
+        Slices(1, &[]),
+        Moment(end.saturating_sub(1), &[]),
+        Shows(Searching(true)),
+        Shows(Infinite(false)),
+        Moment(end, &[b"bestmove b1a3"]),
+    ];
+    run_all(rt, alloc, &rows);
 }
 
-/// The same in a new session.
-fn ends_alone<A: Allocator>(rt: &impl Abort, alloc: &A, table: &KeyTable, text: &[u8], end: u64) {
-    let mut session = Session::new(alloc, table);
-    ends_at(rt, &mut session, text, end);
-}
-
-const ENDS: [(&[u8], u64); 7] = [
+const ENDS: [(&'static [u8], u64); 7] = [
     (b"go wtime 40", 1),
     (b"go wtime -40 winc 100", 1),
     (b"go movetime 99999999999 wtime 5", 1_000_000_000),
@@ -418,7 +423,7 @@ const BLACK_CLOCK: &[Row] = &[
 #[test]
 fn shares_the_time(rt: HostRuntime) {
     for (text, end) in ENDS {
-        ends_alone(&rt, &rt.alloc(), &KeyTable::new([1; 768]), text, end);
+        ends_at(&rt, &rt.alloc(), text, end);
     }
     run_all(&rt, &rt.alloc(), BLACK_CLOCK);
 }
