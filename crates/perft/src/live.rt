@@ -2,7 +2,7 @@
 ghost use Rattle.std.specs.Prelude.{◌≡◌};
 ghost use Rattle.chess_play.specs.Records.{IsBefore};
 
-use crate::walks::PROMOTIONS;
+use crate::walks::{PROMOTIONS, make_move};
 use chess_attack::Counts;
 use chess_eval::Sum;
 use chess_fen::read;
@@ -23,34 +23,42 @@ fn a_table() -> KeyTable {
     KeyTable::new(words)
 }
 
-/// The numbers that are kept are those of the position, computed afresh.
-fn assert_afresh(rt: &impl Abort, live: &Live, table: &KeyTable) {
-    let placement = &live.position().placement;
-    let counts = Counts::of(placement);
+/// Whether the counts are the same.
+fn are_counts(kept: &Counts, counts: &Counts) -> bool {
     for number in 0..64u8 {
         let square = Square::from_index(number);
         for colour in [Colour::White, Colour::Black] {
-            assert_eq!(rt;
-                live.counts().count(colour, square),
-                counts.count(colour, square)
-            );
+            if kept.count(colour, square) != counts.count(colour, square) {
+                return false;
+            }
         }
     }
-    assert_eq!(rt; live.white(), Sum::of(placement).white());
-    assert!(rt; *live.key() == Key::of(table, placement));
+    true
 }
 
-/// The two positions have the same six fields.
-fn assert_same(rt: &impl Abort, now: &Setup, setup: &Setup) {
-    for number in 0..64u8 {
-        let square = Square::from_index(number);
-        assert_eq!(rt; now.placement.get(square), setup.placement.get(square));
-    }
-    assert_eq!(rt; now.side, setup.side);
-    assert_eq!(rt; now.rights, setup.rights);
-    assert_eq!(rt; now.target, setup.target);
-    assert_eq!(rt; now.clock, setup.clock);
-    assert_eq!(rt; now.number, setup.number);
+/// Whether the numbers that are kept are those of the position, computed afresh.
+fn is_afresh(live: &Live, table: &KeyTable) -> bool {
+    let placement = &live.position().placement;
+    are_counts(live.counts(), &Counts::of(placement))
+        && live.white() == Sum::of(placement).white()
+        && *live.key() == Key::of(table, placement)
+}
+
+/// Whether the two positions have the same six fields.
+fn is_same(now: &Setup, setup: &Setup) -> bool {
+    now.placement.cells() == setup.placement.cells()
+        && now.side == setup.side
+        && now.rights == setup.rights
+        && now.target == setup.target
+        && now.clock == setup.clock
+        && now.number == setup.number
+}
+
+/// The position and what is kept for it, after at most 216 ticks.
+fn assert_now(rt: &impl Abort, live: &Live, table: &KeyTable, setup: &Setup) {
+    assert!(rt; live.last_ticks() <= 216);
+    assert!(rt; is_same(live.position(), setup));
+    assert!(rt; is_afresh(live, table));
 }
 
 /// Makes the move, which leads to that position, and takes it back.
@@ -62,15 +70,10 @@ fn make_and_undo(
     before: &Setup,
     after: &Setup,
 ) {
-    assert!(rt; live.is_pseudo(m));
-    assert!(rt; live.position().clock < 1_000_000);
-    assert!(rt; live.position().number < 1_000_000);
-    let made = live.make(m);
-    assert_same(rt, live.position(), after);
-    assert_afresh(rt, live, table);
+    let made = make_move(rt, live, m);
+    assert_now(rt, live, table, after);
     live.undo(made);
-    assert_same(rt, live.position(), before);
-    assert_afresh(rt, live, table);
+    assert_now(rt, live, table, before);
 }
 
 /// Makes the move if it is pseudo-legal, and takes it back: all is as before. Whether it is.
@@ -84,15 +87,11 @@ fn try_and_undo(
     if !live.is_pseudo(m) {
         return false;
     }
-    assert!(rt; live.position().clock < 1_000_000);
-    assert!(rt; live.position().number < 1_000_000);
-    let made = live.make(m);
+    let made = make_move(rt, live, m);
     assert!(rt; live.last_ticks() <= 216);
-    assert_afresh(rt, live, table);
+    assert!(rt; is_afresh(live, table));
     live.undo(made);
-    assert!(rt; live.last_ticks() <= 216);
-    assert_same(rt, live.position(), before);
-    assert_afresh(rt, live, table);
+    assert_now(rt, live, table, before);
     true
 }
 
@@ -142,7 +141,7 @@ fn each_move_made_and_taken_back(rt: HostRuntime) -> Result<(), Fail> {
         let more = try_origin(&rt, &mut live, &table, from, before.setup());
         count = count.saturating_add(more);
     }
-    assert_eq!(rt; count, 48);
+    assert!(rt; count == 48);
     Ok(())
 }
 
@@ -203,14 +202,8 @@ fn the_position_after(rt: HostRuntime) -> Result<(), Fail> {
     for (before, text, after) in MOVES {
         let mut live = Live::new(read(before)?, &table);
         let m = Move::parse(text).expect(&rt, "a move");
-        make_and_undo(
-            &rt,
-            &mut live,
-            &table,
-            m,
-            read(before)?.setup(),
-            read(after)?.setup(),
-        );
+        let (before, after) = (read(before)?, read(after)?);
+        make_and_undo(&rt, &mut live, &table, m, before.setup(), after.setup());
     }
     Ok(())
 }
@@ -220,21 +213,13 @@ fn the_position_after(rt: HostRuntime) -> Result<(), Fail> {
 fn en_passant(rt: HostRuntime) -> Result<(), Fail> {
     let table = a_table();
     let mut live = Live::new(read(b"8/8/8/K1pP3r/8/8/8/4k3 w - c6 0 2")?, &table);
-    let m = Move::parse(b"d5c6").expect(&rt, "a move");
-    assert!(rt; live.is_pseudo(m));
-    assert!(rt; live.position().clock < 1_000_000);
-    assert!(rt; live.position().number < 1_000_000);
-    let made = live.make(m);
+    let made = make(&rt, &mut live, "d5c6");
     for (name, is_held) in [("c6", true), ("c5", false), ("d5", false)] {
-        let square = Square::parse(name.as_bytes()).expect(&rt, "a square's name");
-        assert_eq!(rt;
-            live.position().placement.get(square).is_some(),
-            is_held,
-            "{name}"
-        );
+        let found = live.position().placement.get(square(&rt, name));
+        assert!(rt; found.is_some() == is_held, "{name}");
     }
     live.undo(made);
-    assert_afresh(&rt, &live, &table);
+    assert!(rt; is_afresh(&live, &table));
     Ok(())
 }
 
@@ -269,13 +254,9 @@ fn not_pseudo_legal(rt: HostRuntime) -> Result<(), Fail> {
 fn a_king_is_never_taken(rt: HostRuntime) -> Result<(), Fail> {
     let table = a_table();
     let mut live = Live::new(read(b"4k3/8/8/8/4r3/8/4R3/4K3 w - - 0 1")?, &table);
-    let m = Move::parse(b"e2a2").expect(&rt, "a move");
-    assert!(rt; live.is_pseudo(m));
-    assert!(rt; live.position().clock < 1_000_000);
-    assert!(rt; live.position().number < 1_000_000);
-    let made = live.make(m);
-    assert!(rt; live.is_pseudo(Move::parse(b"e4e2").expect(&rt, "a move")));
-    assert!(rt; !live.is_pseudo(Move::parse(b"e4e1").expect(&rt, "a move")));
+    let made = make(&rt, &mut live, "e2a2");
+    assert!(rt; live.is_pseudo(a_move(&rt, "e4e2")));
+    assert!(rt; !live.is_pseudo(a_move(&rt, "e4e1")));
     live.undo(made);
     Ok(())
 }
@@ -294,38 +275,39 @@ fn a_move(rt: &impl Abort, text: &str) -> Move {
 fn make(rt: &impl Abort, live: &mut Live, text: &str) -> Made
     ensures { IsBefore live.new.position result live.old.position }
 {
-    let m = a_move(rt, text);
-    assert!(rt; live.is_pseudo(m));
-    assert!(rt; live.position().clock < 1_000_000);
-    assert!(rt; live.position().number < 1_000_000);
-    live.make(m)
+    make_move(rt, live, a_move(rt, text))
 }
 
-/// The side to move, the clock and the number, and at most 216 ticks, all of them those of the counts.
-fn assert_now(rt: &impl Abort, live: &Live, side: Colour, clock: u32, number: u32) {
+/// The side to move, the clock and the number, and at most 216 ticks, all of them those of the counts; what is kept is as computed afresh.
+fn assert_turn(
+    rt: &impl Abort,
+    live: &Live,
+    table: &KeyTable,
+    side: Colour,
+    clock: u32,
+    number: u32,
+) {
     let setup = live.position();
-    assert_eq!(rt; setup.side, side);
-    assert_eq!(rt; (setup.clock, setup.number), (clock, number));
-    assert!(rt; live.last_ticks() > 0 && live.last_ticks() <= 216);
-    assert_eq!(rt; live.last_ticks(), live.counts().ticks());
+    assert!(rt; setup.side == side && setup.clock == clock && setup.number == number);
+    assert!(rt; (1..=216).contains(&live.last_ticks()));
+    assert!(rt; live.last_ticks() == live.counts().ticks());
+    assert!(rt; is_afresh(live, table));
 }
 
 #[test]
 fn a_pawn_advances_and_comes_back(rt: HostRuntime) {
     let table = a_table();
     let mut live = Live::new(Position::start(), &table);
-    assert_eq!(rt; live.last_ticks(), 0);
+    assert!(rt; live.last_ticks() == 0);
     assert!(rt; !live.is_pseudo(a_move(&rt, "e2e5")));
     let made = make(&rt, &mut live, "e2e4");
-    assert_now(&rt, &live, Colour::Black, 0, 1);
-    assert_eq!(rt; live.white(), 8);
-    assert_eq!(rt; live.position().target, Some(square(&rt, "e3")));
-    assert_afresh(&rt, &live, &table);
+    assert_turn(&rt, &live, &table, Colour::Black, 0, 1);
+    assert!(rt; live.white() == 8);
+    assert!(rt; live.position().target == Some(square(&rt, "e3")));
     live.undo(made);
-    assert_now(&rt, &live, Colour::White, 0, 1);
-    assert_eq!(rt; live.white(), 0);
-    assert_eq!(rt; live.position().target, None);
-    assert_afresh(&rt, &live, &table);
+    assert_turn(&rt, &live, &table, Colour::White, 0, 1);
+    assert!(rt; live.white() == 0);
+    assert!(rt; live.position().target.is_none());
 }
 
 /// A knight goes and comes back, by a record that is kept.
@@ -333,9 +315,9 @@ fn there_and_back(rt: &impl Abort, live: &mut Live, table: &KeyTable, text: &str
     ensures { live.new.position ≡ live.old.position }
 {
     let past = make(rt, live, text).keep();
-    assert_afresh(rt, live, table);
+    assert!(rt; is_afresh(live, table));
     live.take_back(past);
-    assert_afresh(rt, live, table);
+    assert!(rt; is_afresh(live, table));
 }
 
 #[test]
@@ -343,10 +325,9 @@ fn moves_taken_back_in_turn(rt: HostRuntime) {
     let table = a_table();
     let mut live = Live::new(Position::start(), &table);
     let first = make(&rt, &mut live, "g1f3");
-    assert_now(&rt, &live, Colour::Black, 1, 1);
+    assert_turn(&rt, &live, &table, Colour::Black, 1, 1);
     there_and_back(&rt, &mut live, &table, "b8c6");
-    assert_now(&rt, &live, Colour::Black, 1, 1);
+    assert_turn(&rt, &live, &table, Colour::Black, 1, 1);
     live.undo(first);
-    assert_now(&rt, &live, Colour::White, 0, 1);
-    assert_afresh(&rt, &live, &table);
+    assert_turn(&rt, &live, &table, Colour::White, 0, 1);
 }

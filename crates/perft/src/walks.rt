@@ -1,10 +1,11 @@
 //! Random walks: at each ply the list of legal moves is the one found by making each pseudo-legal move and looking at the king.
+ghost use Rattle.chess_play.specs.Records.{IsBefore};
 
 use arrayvec::ArrayVec;
 use chess_attack::in_check_by;
 use chess_key::KeyTable;
 use chess_moves::{count_legal, has_legal, moves};
-use chess_play::Live;
+use chess_play::{Live, Made};
 use chess_types::{Colour, Kind, Move, Square};
 use std::process::Abort;
 
@@ -40,6 +41,15 @@ const STARTS: [&[u8]; 20] = [
     b"n1n5/PPPk4/8/8/8/8/4Kppp/5N1N b - - 0 1",
 ];
 
+/// Makes a move, which is pseudo-legal.
+pub(crate) fn make_move(rt: &impl Abort, live: &mut Live, m: Move) -> Made
+    ensures { IsBefore live.new.position result live.old.position }
+{
+    assert!(rt; live.is_pseudo(m));
+    assert!(rt; live.position().clock < 1_000_000 && live.position().number < 1_000_000);
+    live.make(m)
+}
+
 /// Whether the king of that colour is attacked.
 fn is_in_check(live: &Live, colour: Colour) -> bool {
     in_check_by(live.counts(), &live.position().placement, colour)
@@ -48,10 +58,7 @@ fn is_in_check(live: &Live, colour: Colour) -> bool {
 /// Whether the mover's king isn't attacked after the pseudo-legal move: it is made, the king looked at, and taken back.
 fn is_safe(rt: &impl Abort, live: &mut Live, m: Move) -> bool {
     let side = live.position().side;
-    assert!(rt; live.is_pseudo(m));
-    assert!(rt; live.position().clock < 1_000_000);
-    assert!(rt; live.position().number < 1_000_000);
-    let made = live.make(m);
+    let made = make_move(rt, live, m);
     let safe = !is_in_check(live, side);
     live.undo(made);
     safe
@@ -90,18 +97,16 @@ fn step(rt: &impl Abort, live: &mut Live, chosen: u64) -> bool {
     assert!(rt; live.position().clock < 1_000_000 && live.position().number < 1_000_000);
     let list = moves(live);
     let expected = tried(rt, live);
-    assert_eq!(rt; list.as_slice(), expected.as_slice());
+    assert!(rt; list.as_slice() == expected.as_slice());
     assert!(rt; live.position().clock < 1_000_000 && live.position().number < 1_000_000);
-    assert_eq!(rt; count_legal(live), list.len());
+    assert!(rt; count_legal(live) == list.len());
     assert!(rt; live.position().clock < 1_000_000 && live.position().number < 1_000_000);
-    assert_eq!(rt; has_legal(live), !list.is_empty());
+    assert!(rt; has_legal(live) == !list.is_empty());
     if list.is_empty() {
         return false;
     }
     let m = list[chosen as usize % list.len()];
-    assert!(rt; live.is_pseudo(m));
-    assert!(rt; live.position().clock < 1_000_000 && live.position().number < 1_000_000);
-    live.make(m).keep();
+    make_move(rt, live, m).keep();
     true
 }
 
