@@ -10,6 +10,7 @@ use Rattle.chess_items.specs.steps.Deciding.{longer, Decides, sign_open, outside
 use Rattle.chess_items.specs.declared.place.Place.{Place}
 use Rattle.chess_items.specs.declared.place.Place.TheVariants.{GameStart, LineStart, InLine, TagLineStart, InTag, InValue}
 use Rattle.chess_items.proofs.RunLemmas.{run_found, prefix_each, prefix_stops}
+use Rattle.chess_items.proofs.ItemLemmas.{plain_byte}
 
 -- a run that stops: its text, and the byte at which it stops
 abbrev Parted : (ℕ → Bool) → List ℕ → Type 0
@@ -143,19 +144,21 @@ digits_fault bytes more h k =
     r.2 ∙ digits_none (bytes ++ r.0) r.1 (rw (digits-append 0 bytes r.0) (omega (arith, grows (digits_value 0 bytes) r.0)))
 
 -- a fault for what is at hand, and for all that is longer
-both_none : (x y : Found) (more : List ℕ) → x ≡ None → y ≡ None → x ≡ longer y more
-both_none x y more e h = rw (e, h) refl
+fault_closed : (p : ℕ → Bool) (f : List ℕ → List ℕ → Found) (bytes more : List ℕ) → ((more : List ℕ) → run_at p f (bytes ++ more) ≡ None) → run_at p f (bytes ++ more) ≡ longer (run_at p f bytes) more
+fault_closed p f bytes more none =
+    let here : run_at p f bytes ≡ None = subst (λ (x : List ℕ). run_at p f x ≡ None) (append-nil bytes) (none []) in
+    rw (none more, here) refl
 
 glyph_closed : (b : ℕ) (bytes more : List ℕ) → is_glyph b ≡ true → list_all is_glyph bytes && ltb (length bytes) 2 ≡ false → run_at is_glyph glyph_found (b ∷ bytes ++ more) ≡ longer (run_at is_glyph glyph_found (b ∷ bytes)) more
 glyph_closed b bytes more e h = elim (and_false _ _ h) [
   | inl k ↦ run_closed is_glyph glyph_found (b ∷ bytes) more glyph_natural (rw e k)
-  | inr k ↦ both_none _ _ more (glyphs_fault b bytes more e k.0 k.1) (rw append-nil at (glyphs_fault b bytes [] e k.0 k.1))
+  | inr k ↦ fault_closed is_glyph glyph_found (b ∷ bytes) more (λ more. glyphs_fault b bytes more e k.0 k.1)
 ]
 
 digits_closed : (bytes more : List ℕ) → list_all is_digit bytes && ltb (digits_value 0 bytes) 256 ≡ false → run_at is_digit digits_found (bytes ++ more) ≡ longer (run_at is_digit digits_found bytes) more
 digits_closed bytes more h = elim (and_false _ _ h) [
   | inl k ↦ run_closed is_digit digits_found bytes more digits_natural k
-  | inr k ↦ both_none _ _ more (digits_fault bytes more k.0 k.1) (rw append-nil at (digits_fault bytes [] k.0 k.1))
+  | inr k ↦ fault_closed is_digit digits_found bytes more (λ more. digits_fault bytes more k.0 k.1)
 ]
 
 hidden_closed : (start : Bool) (bytes more : List ℕ) → start && list_all in_line bytes ≡ false → hidden_at start (bytes ++ more) ≡ longer (hidden_at start bytes) more
@@ -196,10 +199,6 @@ tag_closed start (b ∷ bytes) more e =
 escape_closed : (bytes more : List ℕ) → escape_open bytes ≡ false → escaped_at (bytes ++ more) ≡ longer (escaped_at bytes) more
 escape_closed [] more e = absurd cc
 escape_closed (b ∷ bytes) more e = one_more (is_escapable b) _ _ _ _ more refl refl
-
-pub plain_byte : (b : ℕ) → eqb b 34 ≡ false → eqb b 92 ≡ false → eqb b 10 ≡ false → is_plain b ≡ true
-unfolding is_plain
-plain_byte b h1 h2 h3 = rw (h1, h2, h3) refl
 
 value_closed : (front more : List ℕ) → value_open front ≡ false → value_at (front ++ more) ≡ longer (value_at front) more
 unfolding value_open value_at

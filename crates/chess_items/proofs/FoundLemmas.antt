@@ -1,5 +1,5 @@
 -- The code finds exactly the items of the definition: what is found is an item.
-use Rattle.std.proofs.Common.{◌≡◌, ◌≢◌, ◌<◌, ◌⊎◌, inl, inr, ℕ, ◌+◌, Bool, true, false, cond, eqb, ltb, List, [], ◌∷◌, ◌++◌, take, drop, map, Option, Some, None, refl, sym, ap, subst, ◌∙◌, arith, append_assoc, codes, bytes_eq}
+use Rattle.std.proofs.Common.{◌≡◌, ◌≢◌, ◌<◌, inl, inr, ℕ, ◌+◌, Bool, true, false, cond, eqb, ltb, List, [], ◌∷◌, ◌++◌, take, drop, map, Option, Some, None, refl, sym, ap, subst, ◌∙◌, arith, append_assoc, codes, bytes_eq}
 use Rattle.std.specs.List.{prefix_len, list_all}
 use Rattle.std.proofs.lemmas.Bool.{eqb-true, ltb-true}
 use Rattle.std.proofs.lemmas.Bool.Decides.{nat_tests}
@@ -12,15 +12,16 @@ use Rattle.chess_items.specs.declared.outcome.Outcome.TheVariants.{WhiteWins, Bl
 use Rattle.chess_items.specs.declared.place.Place.{Place}
 use Rattle.chess_items.specs.declared.place.Place.TheVariants.{GameStart, LineStart, InLine, TagLineStart, InTag, InValue}
 use Rattle.chess_items.proofs.RunLemmas.{prefix_each, prefix_stops}
-use Rattle.chess_items.proofs.ItemLemmas.{at_line_start, at_tag_line, in_a_value, in_line_outside, in_tag_line, stands_outside, stands_in_tag, stands_in_value}
+use Rattle.chess_items.proofs.ItemLemmas.{at_line_start, at_tag_line, in_a_value, in_line_outside, in_tag_line, plain_byte, stands_outside, stands_in_tag, stands_in_value}
 
 -- the front of the input, and its item, which may stand there
 abbrev pub Parted : (Item → Bool) → List ℕ → Item → List ℕ → Type 0
 Parted stands input item next = (text : List ℕ) × (input ≡ text ++ next) × (stands item ≡ true) × IsSpelled item text next
 
-pub chosen : {A : Type 0} (b : Bool) (x y z : A) → cond b x y ≡ z → ((b ≡ true) × (x ≡ z)) ⊎ ((b ≡ false) × (y ≡ z))
-chosen true x y z e = inl (refl, e)
-chosen false x y z e = inr (refl, e)
+-- what was found by a test
+by_test : {A C : Type 0} (v : Bool) (x y z : A) → cond v x y ≡ z → (v ≡ true → x ≡ z → C) → (v ≡ false → y ≡ z → C) → C
+by_test true x y z e f g = f refl e
+by_test false x y z e f g = g refl e
 
 abbrev pub the : Item → List ℕ → Found
 the i rest = Some (i, rest)
@@ -98,7 +99,7 @@ glyph_taken start b bytes item next e found =
     nag_taken start (b ∷ bytes) w (glyph_value w) item rest next (run_is is_glyph glyph_found (b ∷ bytes) _ found) (sym (take-append-drop n (b ∷ bytes))) (λ k h. inr (run_of is_glyph b bytes e, h))
 
 small_is : (v n : ℕ) → small v ≡ Some n → (n ≡ v) × (n < 256)
-small_is v n e = elim (chosen (ltb v 256) _ _ _ e) [ inl h ↦ let s : v ≡ n = some_is _ _ h.1 in (sym s, omega (arith, ltb-true _ _ h.0)) | inr h ↦ absurd cc ]
+small_is v n e = by_test (ltb v 256) _ _ _ e (λ w h. let s : v ≡ n = some_is _ _ h in (sym s, omega (arith, ltb-true _ _ w))) (λ w h. absurd cc)
 
 dollar_ends : (start : Bool) (ds rest : List ℕ) (item : Item) (next : List ℕ) → Each is_digit ds → EndsRun is_digit rest → digits_found ds rest ≡ Some (item, next) → Parted (stands_outside start) (36 ∷ ds ++ rest) item next
 dollar_ends start [] rest item next each stops found = absurd cc
@@ -143,39 +144,15 @@ sign_taken : (start : Bool) (b : ℕ) (bytes : List ℕ) (item : Item) (next : L
 unfolding sign_at
 sign_taken start b bytes item next e =
     let at = stands_outside start in
-    elim (chosen (eqb b 37) _ _ _ e) [
-      | inl h ↦ headed at b 37 bytes item next h.0 (hidden_taken at start bytes item next refl h.1)
-      | inr h ↦
-          elim (chosen (eqb b 59) _ _ _ h.1) [
-            | inl h ↦ headed at b 59 bytes item next h.0 (line_taken start bytes item next h.1)
-            | inr h ↦
-                elim (chosen (eqb b 123) _ _ _ h.1) [
-                  | inl h ↦ headed at b 123 bytes item next h.0 (brace_taken start bytes item next h.1)
-                  | inr h ↦
-                      elim (chosen (eqb b 36) _ _ _ h.1) [
-                        | inl h ↦ headed at b 36 bytes item next h.0 (dollar_taken start bytes item next h.1)
-                        | inr h ↦
-                            elim (chosen (eqb b 40) _ _ _ h.1) [
-                              | inl h ↦ one_byte at b 40 bytes Open item next h.0 refl refl h.1
-                              | inr h ↦
-                                  elim (chosen (eqb b 41) _ _ _ h.1) [
-                                    | inl h ↦ one_byte at b 41 bytes Close item next h.0 refl refl h.1
-                                    | inr h ↦
-                                        elim (chosen (eqb b 42) _ _ _ h.1) [
-                                          | inl h ↦ one_byte at b 42 bytes (Marker Unfinished) item next h.0 refl (inl (refl, refl)) h.1
-                                          | inr h ↦
-                                              elim (chosen (eqb b 46) _ _ _ h.1) [
-                                                | inl h ↦ one_byte at b 46 bytes Skipped item next h.0 refl (inl refl) h.1
-                                                | inr h ↦
-                                                    elim (chosen (eqb b 91) _ _ _ h.1) [ inl h ↦ one_byte at b 91 bytes TagOpen item next h.0 refl refl h.1 | inr h ↦ absurd cc ]
-                                              ]
-                                        ]
-                                  ]
-                            ]
-                      ]
-                ]
-          ]
-    ]
+    by_test (eqb b 37) _ _ _ e (λ w h. headed at b 37 bytes item next w (hidden_taken at start bytes item next refl h)) (λ w e.
+    by_test (eqb b 59) _ _ _ e (λ w h. headed at b 59 bytes item next w (line_taken start bytes item next h)) (λ w e.
+    by_test (eqb b 123) _ _ _ e (λ w h. headed at b 123 bytes item next w (brace_taken start bytes item next h)) (λ w e.
+    by_test (eqb b 36) _ _ _ e (λ w h. headed at b 36 bytes item next w (dollar_taken start bytes item next h)) (λ w e.
+    by_test (eqb b 40) _ _ _ e (λ w h. one_byte at b 40 bytes Open item next w refl refl h) (λ w e.
+    by_test (eqb b 41) _ _ _ e (λ w h. one_byte at b 41 bytes Close item next w refl refl h) (λ w e.
+    by_test (eqb b 42) _ _ _ e (λ w h. one_byte at b 42 bytes (Marker Unfinished) item next w refl (inl (refl, refl)) h) (λ w e.
+    by_test (eqb b 46) _ _ _ e (λ w h. one_byte at b 46 bytes Skipped item next w refl (inl refl) h) (λ w e.
+    by_test (eqb b 91) _ _ _ e (λ w h. one_byte at b 91 bytes TagOpen item next w refl refl h) (λ w e. absurd cc)))))))))
 
 blank_taken : (stands : Item → Bool) (b : ℕ) (bytes : List ℕ) (item : Item) (next : List ℕ) → stands (Blank b) ≡ true → is_blank b ≡ true → the (Blank b) bytes ≡ the item next → Parted stands (b ∷ bytes) item next
 blank_taken stands b bytes item next s h e = at_pair stands (b ∷ bytes) (b ∷ []) (Blank b) item bytes next e refl s (h, refl)
@@ -185,15 +162,9 @@ unfolding outside_at
 outside_taken start [] item next e = absurd cc
 outside_taken start (b ∷ bytes) item next e =
     let at = stands_outside start in
-    elim (chosen (is_word_byte b) _ _ _ e) [
-      | inl h ↦ taken_run at is_word_byte word_item b bytes item next (word_spelled start) h.0 h.1
-      | inr h ↦
-          elim (chosen (is_blank b) _ _ _ h.1) [
-            | inl h ↦ blank_taken at b bytes item next refl h.0 h.1
-            | inr h ↦
-                elim (chosen (is_glyph b) _ _ _ h.1) [ inl h ↦ glyph_taken start b bytes item next h.0 h.1 | inr h ↦ sign_taken start b bytes item next h.1 ]
-          ]
-    ]
+    by_test (is_word_byte b) _ _ _ e (λ w h. taken_run at is_word_byte word_item b bytes item next (word_spelled start) w h) (λ w e.
+    by_test (is_blank b) _ _ _ e (λ w h. blank_taken at b bytes item next refl w h) (λ w e.
+    by_test (is_glyph b) _ _ _ e (λ w h. glyph_taken start b bytes item next w h) (λ w e. sign_taken start b bytes item next e)))
 
 -- ---- between the parts of a tag, and in its value
 
@@ -202,53 +173,26 @@ unfolding tag_at
 tag_taken start [] item next e = absurd cc
 tag_taken start (b ∷ bytes) item next e =
     let at = stands_in_tag start in
-    elim (chosen (is_name_byte b) _ _ _ e) [
-      | inl h ↦ taken_run at is_name_byte Name b bytes item next (λ text rest run. (refl, (run, refl))) h.0 h.1
-      | inr h ↦
-          elim (chosen (is_blank b) _ _ _ h.1) [
-            | inl h ↦ blank_taken at b bytes item next refl h.0 h.1
-            | inr h ↦
-                elim (chosen (eqb b 34) _ _ _ h.1) [
-                  | inl h ↦ one_byte at b 34 bytes Quote item next h.0 refl refl h.1
-                  | inr h ↦
-                      elim (chosen (eqb b 93) _ _ _ h.1) [
-                        | inl h ↦ one_byte at b 93 bytes TagClose item next h.0 refl refl h.1
-                        | inr h ↦
-                            elim (chosen (eqb b 37) _ _ _ h.1) [ inl h ↦ headed at b 37 bytes item next h.0 (hidden_taken at start bytes item next refl h.1) | inr h ↦ absurd cc ]
-                      ]
-                ]
-          ]
-    ]
+    by_test (is_name_byte b) _ _ _ e (λ w h. taken_run at is_name_byte Name b bytes item next (λ text rest run. (refl, (run, refl))) w h) (λ w e.
+    by_test (is_blank b) _ _ _ e (λ w h. blank_taken at b bytes item next refl w h) (λ w e.
+    by_test (eqb b 34) _ _ _ e (λ w h. one_byte at b 34 bytes Quote item next w refl refl h) (λ w e.
+    by_test (eqb b 93) _ _ _ e (λ w h. one_byte at b 93 bytes TagClose item next w refl refl h) (λ w e.
+    by_test (eqb b 37) _ _ _ e (λ w h. headed at b 37 bytes item next w (hidden_taken at start bytes item next refl h)) (λ w e. absurd cc)))))
 
 escaped_taken : (bytes : List ℕ) (item : Item) (next : List ℕ) → escaped_at bytes ≡ Some (item, next) → Parted stands_in_value (92 ∷ bytes) item next
 escaped_taken [] item next e = at_pair stands_in_value (92 ∷ []) (92 ∷ []) (Stretch (92 ∷ [])) item [] next e refl refl (refl, inr (refl, tt))
 escaped_taken (b ∷ bytes) item next e =
-    elim (chosen (is_escapable b) _ _ _ e) [
-      | inl h ↦ at_pair stands_in_value (92 ∷ b ∷ bytes) (92 ∷ b ∷ []) (Escaped b) item bytes next h.1 refl refl (h.0, refl)
-      | inr h ↦ at_pair stands_in_value (92 ∷ b ∷ bytes) (92 ∷ []) (Stretch (92 ∷ [])) item (b ∷ bytes) next h.1 refl refl (refl, inr (refl, h.0))
-    ]
-
-plain_byte : (b : ℕ) → eqb b 34 ≡ false → eqb b 92 ≡ false → eqb b 10 ≡ false → is_plain b ≡ true
-unfolding is_plain
-plain_byte b h1 h2 h3 = rw (h1, h2, h3) refl
+    by_test (is_escapable b) _ _ _ e (λ w h. at_pair stands_in_value (92 ∷ b ∷ bytes) (92 ∷ b ∷ []) (Escaped b) item bytes next h refl refl (w, refl))
+    (λ w h. at_pair stands_in_value (92 ∷ b ∷ bytes) (92 ∷ []) (Stretch (92 ∷ [])) item (b ∷ bytes) next h refl refl (refl, inr (refl, w)))
 
 pub value_taken : (input : List ℕ) (item : Item) (next : List ℕ) → value_at input ≡ Some (item, next) → Parted stands_in_value input item next
 unfolding value_at
 value_taken [] item next e = absurd cc
 value_taken (b ∷ bytes) item next e =
-    elim (chosen (eqb b 34) _ _ _ e) [
-      | inl h ↦ one_byte stands_in_value b 34 bytes Quote item next h.0 refl refl h.1
-      | inr h1 ↦
-          elim (chosen (eqb b 92) _ _ _ h1.1) [
-            | inl h ↦ headed stands_in_value b 92 bytes item next h.0 (escaped_taken bytes item next h.1)
-            | inr h2 ↦
-                elim (chosen (eqb b 10) _ _ _ h2.1) [
-                  | inl h ↦ absurd cc
-                  | inr h3 ↦
-                      taken_run stands_in_value is_plain Stretch b bytes item next (λ text rest run. (refl, (refl, inl run))) (plain_byte b h1.0 h2.0 h3.0) h3.1
-                ]
-          ]
-    ]
+    by_test (eqb b 34) _ _ _ e (λ w h. one_byte stands_in_value b 34 bytes Quote item next w refl refl h) (λ w1 e.
+    by_test (eqb b 92) _ _ _ e (λ w h. headed stands_in_value b 92 bytes item next w (escaped_taken bytes item next h)) (λ w2 e.
+    by_test (eqb b 10) _ _ _ e (λ w h. absurd cc) (λ w3 h.
+    taken_run stands_in_value is_plain Stretch b bytes item next (λ text rest run. (refl, (refl, inl run))) (plain_byte b w1 w2 w3) h)))
 
 -- ---- anywhere
 
@@ -256,13 +200,8 @@ mark_taken : (bytes : List ℕ) (item : Item) (next : List ℕ) → mark_at byte
 mark_taken [] item next e = absurd cc
 mark_taken (b ∷ []) item next e = absurd cc
 mark_taken (b ∷ c ∷ bytes) item next e =
-    elim (chosen (eqb b 187) _ _ _ e) [
-      | inl h ↦ elim (chosen (eqb c 191) _ _ _ h.1) [
-        | inl k ↦ at_pair (may_stand GameStart) (239 ∷ b ∷ c ∷ bytes) (239 ∷ 187 ∷ 191 ∷ []) Mark item bytes next k.1 (rw (eqb-true _ _ h.0, eqb-true _ _ k.0) refl) refl refl
-        | inr k ↦ absurd cc
-      ]
-      | inr h ↦ absurd cc
-    ]
+    by_test (eqb b 187) _ _ _ e (λ w e.
+    by_test (eqb c 191) _ _ _ e (λ v h. at_pair (may_stand GameStart) (239 ∷ b ∷ c ∷ bytes) (239 ∷ 187 ∷ 191 ∷ []) Mark item bytes next h (rw (eqb-true _ _ w, eqb-true _ _ v) refl) refl refl) (λ v h. absurd cc)) (λ w h. absurd cc)
 
 -- what may stand outside of tags may stand at the start of a game
 at_start : (item : Item) → stands_outside true item ≡ true → may_stand GameStart item ≡ true
@@ -280,10 +219,8 @@ start_taken : (input : List ℕ) (item : Item) (next : List ℕ) → start_at in
 unfolding start_at
 start_taken [] item next e = absurd cc
 start_taken (b ∷ bytes) item next e =
-    elim (chosen (eqb b 239) _ _ _ e) [
-      | inl h ↦ at_place GameStart (may_stand GameStart) (b ∷ bytes) item next (λ i s. s) (headed (may_stand GameStart) b 239 bytes item next h.0 (mark_taken bytes item next h.1))
-      | inr h ↦ at_place GameStart (stands_outside true) (b ∷ bytes) item next at_start (outside_taken true (b ∷ bytes) item next h.1)
-    ]
+    by_test (eqb b 239) _ _ _ e (λ w h. at_place GameStart (may_stand GameStart) (b ∷ bytes) item next (λ i s. s) (headed (may_stand GameStart) b 239 bytes item next w (mark_taken bytes item next h)))
+    (λ w h. at_place GameStart (stands_outside true) (b ∷ bytes) item next at_start (outside_taken true (b ∷ bytes) item next h))
 
 -- what is found at a place is an item that may stand there
 pub item_taken : (place : Place) (input : List ℕ) (item : Item) (next : List ℕ) → item_at place input ≡ Some (item, next) → Taken place input item next

@@ -129,6 +129,10 @@ tag_goes start _ text next s p = absurd cc
 pub no_eqb : (a b : ℕ) → a ≢ b → eqb a b ≡ false
 no_eqb a b h = grind (arith, nat_tests)
 
+pub plain_byte : (b : ℕ) → eqb b 34 ≡ false → eqb b 92 ≡ false → eqb b 10 ≡ false → is_plain b ≡ true
+unfolding is_plain
+plain_byte b h1 h2 h3 = rw (h1, h2, h3) refl
+
 plain_is : (b : ℕ) → is_plain b ≡ true → (b ≢ 34) × (b ≢ 92) × (b ≢ 10)
 unfolding is_plain
 plain_is b e = grind (arith, nat_tests)

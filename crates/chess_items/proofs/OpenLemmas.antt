@@ -10,9 +10,9 @@ use Rattle.chess_items.specs.declared.outcome.Outcome.TheVariants.{Unfinished}
 use Rattle.chess_items.specs.declared.place.Place.{Place}
 use Rattle.chess_items.specs.declared.place.Place.TheVariants.{GameStart, LineStart, InLine, TagLineStart, InTag, InValue}
 use Rattle.chess_items.proofs.RunLemmas.{run_found}
-use Rattle.chess_items.proofs.ItemLemmas.{glyph_is, no_eqb}
+use Rattle.chess_items.proofs.ItemLemmas.{glyph_is, no_eqb, plain_byte}
 use Rattle.chess_items.proofs.FoundLemmas.{the, some_is}
-use Rattle.chess_items.proofs.ClosedLemmas.{all_each, each-append, closed_decides, plain_byte}
+use Rattle.chess_items.proofs.ClosedLemmas.{all_each, each-append, closed_decides}
 
 -- two findings are not one, the second behind these bytes
 abbrev Differs : Found → Found → List ℕ → Type 0
@@ -39,6 +39,9 @@ ends i j c e =
     let q : [] ≡ c ∷ [] = ap (λ (z : Item × List ℕ). z.1) p in
     cc
 
+apart : (item : Item) (rest : List ℕ) → the item rest ≡ None → ⊥
+apart item rest e = cc
+
 -- a run that is some item, however long
 run_grows : (p : ℕ → Bool) (f : List ℕ → List ℕ → Found) (g : List ℕ → Item) (bytes : List ℕ) (c : ℕ) → ((w : List ℕ) → f w [] ≡ Some (g w, [])) → p c ≡ true → list_all p bytes ≡ true → Differs (run_at p f (bytes ++ c ∷ [])) (run_at p f bytes) (c ∷ [])
 run_grows p f g bytes c some e h d =
@@ -50,8 +53,7 @@ braces_grow : (bytes : List ℕ) → list_all in_braces bytes ≡ true → Diffe
 braces_grow bytes h d =
     let a : run_at in_braces braces_found (bytes ++ 125 ∷ []) ≡ Some (Comment bytes, []) = run_found in_braces braces_found bytes (125 ∷ []) (all_each in_braces bytes h) refl in
     let b : run_at in_braces braces_found bytes ≡ None = run_whole in_braces braces_found bytes h in
-    let k : the (Comment bytes) [] ≡ None = sym a ∙ d ∙ ap (λ (x : Found). longer x (125 ∷ [])) b in
-    cc
+    apart (Comment bytes) [] (sym a ∙ d ∙ ap (λ (x : Found). longer x (125 ∷ [])) b)
 
 small_some : (n : ℕ) → n < 256 → small n ≡ Some n
 small_some n h = rw (lt-ltb n 256 h) refl
@@ -70,8 +72,7 @@ unfolding is_digit
 digits_grow [] h low d =
     let a : run_at is_digit digits_found (49 ∷ []) ≡ the (Nag 1) [] = run_longer is_digit digits_found [] 49 refl refl in
     let b : run_at is_digit digits_found [] ≡ None = run_whole is_digit digits_found [] refl in
-    let e : the (Nag 1) [] ≡ None = sym a ∙ d ∙ ap (λ (x : Found). longer x (49 ∷ [])) b in
-    cc
+    apart (Nag 1) [] (sym a ∙ d ∙ ap (λ (x : Found). longer x (49 ∷ [])) b)
 digits_grow (x ∷ xs) h low d =
     let bytes = x ∷ xs in
     let a : run_at is_digit digits_found (bytes ++ 49 ∷ []) ≡ digits_found (bytes ++ 49 ∷ []) [] = run_longer is_digit digits_found bytes 49 refl h in
@@ -131,10 +132,7 @@ sign_grows start b bytes e =
 
 nothing_outside : (start : Bool) → Grows (outside_at start) []
 unfolding outside_at sign_at is_word_byte is_name_byte is_digit is_blank is_glyph
-nothing_outside start = (42, λ d. apart d)
-  where
-    apart : the (Marker Unfinished) [] ≡ None → ⊥
-    apart e = cc
+nothing_outside start = (42, apart (Marker Unfinished) [])
 
 outside_grows : (start : Bool) (front : List ℕ) → outside_open start front ≡ true → Grows (outside_at start) front
 unfolding outside_open outside_at
@@ -146,10 +144,7 @@ outside_grows start (b ∷ bytes) e =
 
 nothing_in_tag : (start : Bool) → Grows (tag_at start) []
 unfolding tag_at is_name_byte is_digit is_blank
-nothing_in_tag start = (34, λ d. apart d)
-  where
-    apart : the Quote [] ≡ None → ⊥
-    apart e = cc
+nothing_in_tag start = (34, apart Quote [])
 
 tag_grows : (start : Bool) (front : List ℕ) → tag_open start front ≡ true → Grows (tag_at start) front
 unfolding tag_open tag_at
@@ -162,18 +157,12 @@ tag_grows start (b ∷ bytes) e =
     choose (eqb b 37) _ _ _ _ _ _ e (λ w h. (37, hidden_grows start bytes h)) (λ w e. absurd cc)))))
 
 escape_grows : (bytes : List ℕ) → escape_open bytes ≡ true → Grows escaped_at bytes
-escape_grows [] e = (34, λ d. apart d)
-  where
-    apart : the (Escaped 34) [] ≡ the (Stretch (92 ∷ [])) (34 ∷ []) → ⊥
-    apart d = ends (Escaped 34) (Stretch (92 ∷ [])) 34 d
+escape_grows [] e = (34, ends (Escaped 34) (Stretch (92 ∷ [])) 34)
 escape_grows (b ∷ bytes) e = absurd cc
 
 value_grows : (front : List ℕ) → value_open front ≡ true → Grows value_at front
 unfolding value_open value_at
-value_grows [] e = (34, λ d. apart d)
-  where
-    apart : the Quote [] ≡ None → ⊥
-    apart e = cc
+value_grows [] e = (34, apart Quote [])
 value_grows (b ∷ bytes) e =
     choose (eqb b 34) _ _ _ _ _ _ e (λ w h. absurd cc) (λ w1 e.
     choose (eqb b 92) _ _ _ _ _ _ e (λ w h. escape_grows bytes h) (λ w2 e.
@@ -182,22 +171,13 @@ value_grows (b ∷ bytes) e =
 
 -- the bytes behind a front that begins as a mark does
 mark_grows : (bytes : List ℕ) → mark_open bytes ≡ true → (more : List ℕ) × Differs (mark_at (bytes ++ more)) (mark_at bytes) more
-mark_grows [] e = (187 ∷ 191 ∷ [], λ d. apart d)
-  where
-    apart : the Mark [] ≡ None → ⊥
-    apart e = cc
-mark_grows (b ∷ []) e = (191 ∷ [], λ d. apart (rw e at d))
-  where
-    apart : the Mark [] ≡ None → ⊥
-    apart e = cc
+mark_grows [] e = (187 ∷ 191 ∷ [], apart Mark [])
+mark_grows (b ∷ []) e = (191 ∷ [], λ d. apart Mark [] (rw e at d))
 mark_grows (b ∷ c ∷ bytes) e = absurd cc
 
 nothing_at_start : Differs (start_at (42 ∷ [])) (start_at []) (42 ∷ [])
 unfolding start_at outside_at sign_at is_word_byte is_name_byte is_digit is_blank is_glyph
-nothing_at_start d = apart d
-  where
-    apart : the (Marker Unfinished) [] ≡ None → ⊥
-    apart e = cc
+nothing_at_start = apart (Marker Unfinished) []
 
 start_grows : (front : List ℕ) → start_open front ≡ true → (more : List ℕ) × Differs (start_at (front ++ more)) (start_at front) more
 unfolding start_open start_at
@@ -217,15 +197,14 @@ open_undecided TagLineStart front e d = (let g = tag_grows true front e in g.1 (
 open_undecided InTag front e d = (let g = tag_grows false front e in g.1 (d (g.0 ∷ [])))
 open_undecided InValue front e d = (let g = value_grows front e in g.1 (d (g.0 ∷ [])))
 
+starts_open : (place : Place) → is_open place [] ≡ true
+unfolding is_open start_open outside_open tag_open value_open
+starts_open GameStart = refl
+starts_open _ = refl
+
 -- No bytes decide nothing.
 pub nothing_undecided : (place : Place) → Decides place [] → ⊥
-unfolding is_open start_open outside_open tag_open value_open
-nothing_undecided GameStart d = open_undecided GameStart [] refl d
-nothing_undecided LineStart d = open_undecided LineStart [] refl d
-nothing_undecided InLine d = open_undecided InLine [] refl d
-nothing_undecided TagLineStart d = open_undecided TagLineStart [] refl d
-nothing_undecided InTag d = open_undecided InTag [] refl d
-nothing_undecided InValue d = open_undecided InValue [] refl d
+nothing_undecided place = open_undecided place [] (starts_open place)
 
 pub open_if : (place : Place) (front : List ℕ) → (Decides place front → ⊥) → is_open place front ≡ true
 open_if place front h = go (is_open place front) refl

@@ -1,5 +1,5 @@
 -- White items before the limit, and white space and hidden lines behind it.
-use Rattle.std.proofs.Common.{◌≡◌, ℕ, ◌+◌, inr, Bool, true, false, cond, ◌&&◌, List, [], ◌∷◌, ◌++◌, length, refl, sym, ap, subst, ◌∙◌, arith, append-nil, length-append, Ok}
+use Rattle.std.proofs.Common.{◌≡◌, ℕ, ◌+◌, inr, Bool, true, false, ◌&&◌, List, [], ◌∷◌, ◌++◌, length, refl, sym, ap, subst, ◌∙◌, arith, append-nil, length-append, Ok}
 use Rattle.chess_types.specs.bytes.Calls.{joined}
 use Rattle.chess_types.proofs.CallLemmas.{Calls-append, joined-append}
 use Rattle.chess_items.specs.Items.{Item, Mark, Blank, Hidden}
@@ -10,13 +10,13 @@ use Rattle.chess_items.specs.steps.Taking.{TakesOne, SpellsFrom, behind, all_whi
 use Rattle.chess_items.specs.steps.Texts.{BreaksOff}
 use Rattle.chess_items.specs.declared.at_hand.Fault.{Fault}
 use Rattle.chess_items.specs.declared.place.Place.{Place}
-use Rattle.chess_items.specs.declared.place.Place.TheVariants.{GameStart, LineStart, InLine}
+use Rattle.chess_items.specs.declared.place.Place.TheVariants.{GameStart}
 use Rattle.chess_items.specs.declared.taking.Stop.{Stop}
 use Rattle.chess_items.specs.declared.taking.Stop.TheVariants as stop
 use Rattle.chess_items.specs.declared.taking.Stopped.{Stopped}
 use Rattle.chess_items.proofs.BreakLemmas.{breaks_later}
 use Rattle.chess_items.proofs.TakingLemmas.{ended_after}
-use Rattle.chess_items.proofs.WhiteLemmas.{after_blank, are_white}
+use Rattle.chess_items.proofs.WhiteLemmas.{are_white, stays_outside}
 
 -- items, and more behind them
 spells_join : (at : ℕ) (place : Place) (input : List ℕ) (items more : List (ℕ × Item)) (mid rest : List ℕ) (here : ℕ) → here + length mid ≡ at + length input → SpellsFrom at place input items mid
@@ -39,15 +39,11 @@ white_join : (items more : List (ℕ × Item)) → all_white items ≡ true → 
 white_join [] more e h = h
 white_join (x ∷ items) more e h = (let two = both (is_white x.1) (all_white items) e in and_true (is_white x.1) (all_white (items ++ more)) two.0 (white_join items more two.1 h))
 
-place_or : (v : Bool) → is_outside (cond v LineStart InLine) ≡ true
-place_or true = refl
-place_or false = refl
-
 -- a white item leads to a place outside of tags
 outside_after : (place : Place) (item : Item) → is_outside place ≡ true → is_white item ≡ true → is_outside (place_after place item) ≡ true
 outside_after place Mark out e = refl
-outside_after place (Blank b) out e = ap is_outside (after_blank place _ out) ∙ place_or _
-outside_after place Hidden out e = ap is_outside (after_blank place false out)
+outside_after place (Blank b) out e = stays_outside place _ out
+outside_after place Hidden out e = stays_outside place _ out
 outside_after place _ out e = absurd cc
 
 outside_behind : (place : Place) (items : List (ℕ × Item)) → is_outside place ≡ true → all_white items ≡ true → is_outside (behind place items) ≡ true

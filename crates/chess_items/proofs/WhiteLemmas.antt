@@ -8,7 +8,7 @@ use Rattle.chess_items.specs.steps.Taking.{SpellsFrom}
 use Rattle.chess_items.specs.declared.blanks.Column.{Column}
 use Rattle.chess_items.specs.declared.blanks.Column.TheVariants as column
 use Rattle.chess_items.specs.declared.place.Place.{Place}
-use Rattle.chess_items.specs.declared.place.Place.TheVariants.{GameStart, LineStart, InLine, TagLineStart, InTag, InValue}
+use Rattle.chess_items.specs.declared.place.Place.TheVariants.{GameStart, LineStart, InLine}
 
 -- in a hidden line: its rest, and then white items
 record Rest (bytes : List ℕ) : Type 0 where
@@ -23,16 +23,22 @@ Seen column.First bytes = (at : ℕ) (place : Place) → is_outside place ≡ tr
 Seen column.Later bytes = (at : ℕ) (place : Place) → is_outside place ≡ true → AreWhite at place bytes
 Seen column.Hidden bytes = Rest bytes
 
+outside_blank : (v : Bool) → behind_blank false v ≡ cond v LineStart InLine
+outside_blank true = refl
+outside_blank false = refl
+
 pub after_blank : (place : Place) (v : Bool) → is_outside place ≡ true → behind_blank (is_in_tag place) v ≡ cond v LineStart InLine
-after_blank GameStart true e = refl
-after_blank GameStart false e = refl
-after_blank LineStart true e = refl
-after_blank LineStart false e = refl
-after_blank InLine true e = refl
-after_blank InLine false e = refl
-after_blank TagLineStart v e = absurd cc
-after_blank InTag v e = absurd cc
-after_blank InValue v e = absurd cc
+after_blank GameStart v e = outside_blank v
+after_blank LineStart v e = outside_blank v
+after_blank InLine v e = outside_blank v
+after_blank _ v e = absurd cc
+
+pub stays_outside : (place : Place) (v : Bool) → is_outside place ≡ true → is_outside (behind_blank (is_in_tag place) v) ≡ true
+stays_outside place v out = ap is_outside (after_blank place v out) ∙ either v
+  where
+    either : (v : Bool) → is_outside (cond v LineStart InLine) ≡ true
+    either true = refl
+    either false = refl
 
 feed_blank : (b : ℕ) → eqb b 10 ≡ true → is_blank b ≡ true
 unfolding is_blank
