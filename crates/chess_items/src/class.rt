@@ -5,22 +5,22 @@ ghost use Rattle.chess_items.specs.steps.Classes.{bit_of, has_byte};
 
 use memchr::memchr;
 
-/// What the bytes of a run have in common.
+/// What the bytes of a run have in common, with its bit in the table.
 #[derive(Clone, Copy)]
 pub enum Class {
     /// Moves, numbers and markers.
-    Word,
-    Digit,
+    Word = 1,
+    Digit = 2,
     /// `!` and `?`
-    Glyph,
+    Glyph = 4,
     /// A tag's name.
-    Name,
+    Name = 8,
     /// A tag's value as it stands.
-    Plain,
+    Plain = 16,
     /// All but the line feed.
-    Line,
+    Line = 32,
     /// All but the right brace.
-    Braced,
+    Braced = 64,
 }
 
 // The bits of the classes that each byte is of.
@@ -76,15 +76,7 @@ impl Class {
     fn bit(self) -> u8
         ensures { result ≡ bit_of self }
     {
-        match self {
-            Class::Word => 1,
-            Class::Digit => 2,
-            Class::Glyph => 4,
-            Class::Name => 8,
-            Class::Plain => 16,
-            Class::Line => 32,
-            Class::Braced => 64,
-        }
+        self as u8
     }
 
     #[inline(always)]
