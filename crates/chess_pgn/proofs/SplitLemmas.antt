@@ -1,5 +1,5 @@
 -- Items parted by a test, the place behind movetext, and what may come next there.
-use Rattle.std.proofs.Common.{◌≡◌, ℕ, Bool, true, false, cond, ◌&&◌, List, [], ◌∷◌, ◌++◌, Option, Some, None, refl, sym, ap, subst, ◌∙◌}
+use Rattle.std.proofs.Common.{◌≡◌, ℕ, Bool, true, false, ◌&&◌, List, [], ◌∷◌, ◌++◌, Option, Some, None, refl, sym, ap, subst, ◌∙◌}
 use Rattle.std.specs.Prelude.{⊤}
 use Rattle.std.specs.List.{AllByRecursion, list_all}
 use Rattle.std.specs.Str.{byte}
@@ -9,11 +9,11 @@ use Rattle.chess_items.specs.Items.{IsItem, Item, TagOpen, Spells, behind_blank,
 use Rattle.chess_items.specs.steps.ItemAt.{item_at, outside_at, sign_at, start_at, tag_at, value_at}
 use Rattle.chess_items.specs.declared.outcome.Outcome.{Outcome}
 use Rattle.chess_items.specs.declared.place.Place.{Place}
-use Rattle.chess_items.specs.declared.place.Place.TheVariants.{GameStart, LineStart, InLine, TagLineStart, InTag, InValue}
+use Rattle.chess_items.specs.declared.place.Place.TheVariants.{GameStart, LineStart, InLine}
 use Rattle.chess_items.proofs.FoundLemmas.{some_is}
 use Rattle.chess_items.proofs.ItemLemmas.{item_goes}
 use Rattle.chess_items.proofs.SpellLemmas.{place_behind}
-use Rattle.chess_items.proofs.WhiteLemmas.{after_blank}
+use Rattle.chess_items.proofs.WhiteLemmas.{stays_outside}
 use Rattle.chess_pgn.specs.Reading.{Ends, HasBegun, Starts, is_heading, is_movetext}
 use Rattle.chess_pgn.specs.Tags.{AreGaps, AreTags, IsTag, may_part_tags, is_tag_gap, is_value_part}
 
@@ -126,21 +126,10 @@ pub behind_append : (place : Place) (is js : List Item) → place_behind place (
 behind_append place [] js = refl
 behind_append place (i ∷ is) js = behind_append (place_after place i) is js
 
-blank_or : (v : Bool) → is_outside (cond v LineStart InLine) ≡ true
-blank_or true = refl
-blank_or false = refl
-
 pub movetext_after : (place : Place) (i : Item) → is_outside place ≡ true → is_movetext i ≡ true → is_outside (place_after place i) ≡ true
-movetext_after place items.Mark out e = refl
-movetext_after place (items.Blank b) out e = ap is_outside (after_blank place _ out) ∙ blank_or _
-movetext_after place items.Hidden out e = ap is_outside (after_blank place false out)
-movetext_after place (items.Comment text) out e = refl
-movetext_after place items.Skipped out e = refl
-movetext_after place (items.Word word) out e = refl
-movetext_after place (items.Nag n) out e = refl
-movetext_after place items.Open out e = refl
-movetext_after place items.Close out e = refl
-movetext_after place _ out e = absurd cc
+movetext_after place (items.Blank b) out e = stays_outside place _ out
+movetext_after place items.Hidden out e = stays_outside place _ out
+movetext_after place _ out e = cc
 
 pub movetext_behind : (place : Place) (is : List Item) → is_outside place ≡ true → All is_movetext is → is_outside (place_behind place is) ≡ true
 movetext_behind place [] out h = out
@@ -148,11 +137,7 @@ movetext_behind place (i ∷ is) out h = movetext_behind (place_after place i) i
 
 first_after : (place : Place) (i : Item) → is_heading i ≡ false → is_movetext i ≡ true → is_outside (place_after place i) ≡ true
 first_after place items.Skipped h e = refl
-first_after place (items.Word word) h e = refl
-first_after place (items.Nag n) h e = refl
-first_after place items.Open h e = refl
-first_after place items.Close h e = refl
-first_after place _ h e = absurd cc
+first_after place _ h e = cc
 
 -- behind movetext that has begun is a place outside of tags
 pub begun_outside : (place : Place) (is : List Item) → HasBegun is → All is_movetext is → is_outside (place_behind place is) ≡ true
@@ -170,9 +155,7 @@ unfolding item_at start_at
 bracket_found GameStart out more = bracket_outside true more
 bracket_found LineStart out more = bracket_outside true more
 bracket_found InLine out more = bracket_outside false more
-bracket_found TagLineStart out more = absurd cc
-bracket_found InTag out more = absurd cc
-bracket_found InValue out more = absurd cc
+bracket_found _ out more = absurd cc
 
 -- outside of tags a bracket is the bracket of a tag
 pub bracket_item : (place : Place) (k : Item) (ks : List Item) (more rest : List ℕ) → is_outside place ≡ true → Spells place (byte "[" ∷ more) (k ∷ ks) rest → k ≡ TagOpen
