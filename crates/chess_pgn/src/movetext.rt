@@ -145,7 +145,7 @@ struct Writer<'t, 'k, 'a, A: Allocator> {
 
 impl<'t, 'k, 'a, A: Allocator> Writer<'t, 'k, 'a, A> {
     ghost use Rattle.chess_pgn.specs.steps.Tasks as tasks;
-    ghost use Rattle.chess_pgn.specs.steps.Tasks.{AreTasks, tasks_text, work};
+    ghost use Rattle.chess_pgn.specs.steps.Tasks.{AreTasks, tasks_text};
     ghost use Rattle.chess_pgn.specs.steps.TaskCode.{WritesSome, returning, todo, todos};
 
     fn close(&mut self) -> Result<(), AllocError>
