@@ -128,11 +128,6 @@ impl<'a, A: Allocator> Reader<'a, A> {
         }
     }
 
-    /// Whether a tag has begun and not ended.
-    pub fn is_in_tag(&self) -> bool {
-        self.header.is_in_tag()
-    }
-
     /// The fault where at that place no item stands.
     pub fn unspelled(&self, at: usize) -> PgnFault {
         if self.header.is_in_tag() {
