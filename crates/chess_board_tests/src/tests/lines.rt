@@ -208,7 +208,7 @@ fn ends_at_twenty_thousand_plies(rt: HostRuntime) {
     assert!(rt; LineFault::TooLong as u8 == 2);
 }
 
-/// Looks at the move of a text, at how often the position has then come, and at how many plies were compared.
+/// Looks at the move of a text, which is its text, at how often the position has then come, and at how many plies were compared.
 fn look_at<A: Allocator>(
     rt: &impl Abort,
     line: &mut Line<A>,
@@ -220,6 +220,7 @@ fn look_at<A: Allocator>(
     ensures looked { line.new.looked ≡ line.old.looked + 1 }
 {
     let m = line.read_move(text).expect(rt, "a legal move");
+    assert!(rt; line.write_move(m).as_bytes() == text);
     line.look(m);
     assert!(rt; line.count() == count && line.compared() == compared);
 }
