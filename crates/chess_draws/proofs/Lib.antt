@@ -2,6 +2,7 @@
 -- of it.
 pub mod StandLemmas
 pub mod SetLemmas
+pub mod SettleLemmas
 pub mod DeadLemmas
 pub mod TargetLemmas
 pub mod SameLemmas

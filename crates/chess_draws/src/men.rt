@@ -1,10 +1,10 @@
 ghost use Rattle.std.specs.Prelude.{◌≡◌, true, false};
-ghost use Rattle.chess_types.specs.board.Board.{man_at};
+ghost use Rattle.chess_types.specs.board.Board.{Look, man_at};
 ghost use Rattle.chess_types.specs.board.Men.{holds_pawn};
 ghost use Rattle.chess_types.specs.steps.KeptSets.{Gathers, holds_king};
-ghost use Rattle.chess_draws.specs.steps.Stands.{IsMenOf, same_set as same_set_of, same_men};
+ghost use Rattle.chess_draws.specs.steps.Stands.{IsMenOf, Settles, holds_pawn_or_knight, holds_short, same_set as same_set_of, same_men};
 
-use chess_types::{Colour, Placement, SquareSet, holds_pawn};
+use chess_types::{Colour, Placement, Square, SquareSet, holds_pawn};
 
 /// The men of a position as five sets of squares, which tell what stands on each square.
 #[derive(Clone, Copy)]
@@ -19,22 +19,53 @@ pub(crate) struct Men {
     pub(crate) short: SquareSet,
 }
 
-// The squares of the pawns. Where rooks, bishops, queens and kings stand there are none.
+// The squares of the kings.
 #[inline(always)]
-fn pawns(placement: &Placement, kings: SquareSet) -> SquareSet
+fn both_kings(placement: &Placement) -> SquareSet
+    ensures { Gathers result holds_king (man_at placement.now) }
+{
+    placement
+        .king(Colour::White)
+        .union(placement.king(Colour::Black))
+}
+
+// The squares of the pawns and the knights: where rooks, bishops, queens and kings stand there are none.
+#[inline(always)]
+fn pawns_and_knights(placement: &Placement, kings: SquareSet) -> SquareSet
     requires kings { Gathers kings holds_king (man_at placement.now) }
-    ensures { Gathers result holds_pawn (man_at placement.now) }
+    ensures { Gathers result holds_pawn_or_knight (man_at placement.now) }
 {
     let others = placement
         .straight()
         .union(placement.diagonal())
         .union(kings);
-    let rest = placement.occupied().difference(others);
+    placement.occupied().difference(others)
+}
+
+// The squares of the pawns.
+fn pawns(placement: &Placement, kings: SquareSet) -> SquareSet
+    requires kings { Gathers kings holds_king (man_at placement.now) }
+    ensures { Gathers result holds_pawn (man_at placement.now) }
+{
+    let rest = pawns_and_knights(placement, kings);
     let mut found = SquareSet::empty();
     for at in rest.iter() {
         let holds = holds_pawn(placement.get(at));
         found.insert_if(at, holds);
     }
+    found
+}
+
+// The squares of the pawns after a move to that square, by those of the pawns and the kings before it.
+#[inline(always)]
+fn pawns_moved(short: SquareSet, placement: &Placement, kings: SquareSet, to: Square) -> SquareSet
+    requires kings { Gathers kings holds_king (man_at placement.now) }
+    ensures { (before : Look) → Gathers short holds_short before → Settles to before (man_at placement.now) → Gathers result holds_pawn (man_at placement.now) }
+{
+    let mut found = short.intersection(pawns_and_knights(placement, kings));
+    let holds = holds_pawn(placement.get(to));
+    found.remove(to);
+    found.insert_if(to, holds);
     found
 }
 
@@ -51,20 +82,37 @@ fn same_set(set: SquareSet, other: SquareSet) -> bool
 }
 
 impl Men {
-    /// The men of a placement.
-    pub(crate) fn of(placement: &Placement) -> Men
-        ensures { IsMenOf result (man_at placement.now) }
+    // Those of a placement, by its kings and its pawns.
+    #[inline(always)]
+    fn with(placement: &Placement, kings: SquareSet, pawns: SquareSet) -> Men
+        requires kings { Gathers kings holds_king (man_at placement.now) }
+        ensures { Gathers pawns holds_pawn (man_at placement.now) → IsMenOf result (man_at placement.now) }
     {
-        let kings = placement
-            .king(Colour::White)
-            .union(placement.king(Colour::Black));
         Men {
             white: placement.of(Colour::White),
             black: placement.of(Colour::Black),
             straight: placement.straight().union(kings),
             diagonal: placement.diagonal(),
-            short: pawns(placement, kings).union(kings),
+            short: pawns.union(kings),
         }
+    }
+
+    /// The men of a placement.
+    pub(crate) fn of(placement: &Placement) -> Men
+        ensures { IsMenOf result (man_at placement.now) }
+    {
+        let kings = both_kings(placement);
+        Men::with(placement, kings, pawns(placement, kings))
+    }
+
+    /// The men of the placement to which a move to that square has led. No square but that one is looked at.
+    #[inline(always)]
+    pub(crate) fn moved(&self, placement: &Placement, to: Square) -> Men
+        ensures { (before : Look) → IsMenOf self.now before → Settles to before (man_at placement.now) → IsMenOf result (man_at placement.now) }
+    {
+        let kings = both_kings(placement);
+        let pawns = pawns_moved(self.short, placement, kings, to);
+        Men::with(placement, kings, pawns)
     }
 
     /// No men.

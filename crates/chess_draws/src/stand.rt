@@ -1,6 +1,7 @@
 ghost use Rattle.std.specs.Prelude.{◌≡◌, Option};
+ghost use Rattle.chess_types.specs.board.Position.{State, look};
 ghost use Rattle.chess_types.specs.board.Repetition.{counting_target, same_rights, same_target};
-ghost use Rattle.chess_draws.specs.steps.Stands.{IsStandOf, same_ply};
+ghost use Rattle.chess_draws.specs.steps.Stands.{IsStandOf, Settles, same_ply};
 
 use crate::men::Men;
 use crate::ply::Ply;
@@ -42,6 +43,21 @@ impl Stand {
         let setup = live.position();
         Stand {
             men: Men::of(&setup.placement),
+            side: setup.side,
+            rights: setup.rights,
+            target,
+        }
+    }
+
+    /// That of the position to which a move to that square has led.
+    #[inline(always)]
+    pub(crate) fn moved(&self, live: &Live, to: Square, target: Option<Square>) -> Stand
+        requires { target ≡ counting_target live.now.position }
+        ensures { (before : State) → IsStandOf self.now before → Settles to (look before) (look live.now.position) → IsStandOf result live.now.position }
+    {
+        let setup = live.position();
+        Stand {
+            men: self.men.moved(&setup.placement, to),
             side: setup.side,
             rights: setup.rights,
             target,

@@ -34,7 +34,7 @@ pub(crate) fn step(live: &mut Live, here: &mut Stand, m: Move) -> Ply
         target: here.target,
         past,
     };
-    *here = Stand::of(live, target);
+    *here = here.moved(live, m.to, target);
     ply
 }
 

@@ -1,7 +1,7 @@
 use Rattle.std.proofs.Common.{◌==◌, ◌&&◌, ◌||◌, ap, ◌∙◌}
 use Rattle.std.specs.List.{list_any}
 use Rattle.std.specs.Ordering.{nat_cmp}
-use Rattle.std.specs.FinSet.{FinSet, contains, contains-empty, union, difference}
+use Rattle.std.specs.FinSet.{contains, contains-empty}
 use Rattle.chess_types.specs.board.Board.{man_at}
 use Rattle.chess_types.specs.board.Men.{holds_pawn}
 use Rattle.chess_moves.proofs.SafeSteps.{safe_next}
@@ -17,10 +17,7 @@ loop-at-init c = record {
       (ap (λ x. contains x s) c.empty-found.ensures ∙ contains-empty nat_cmp s)
       ∙ ap (λ xs. list_any (λ t. t == s) xs && holds_pawn (man_at c.args.placement.now s))
       (c.into_iter-at-iterator.ensures.into_iter_gives ∙ c.iter-at-items.ensures.value)
-      ∙ pawns_left c.occupied.result c.straight.result c.diagonal.result c.args.kings c.difference-rest.result (man_at c.args.placement.now)
-      c.occupied.ensures c.straight.ensures c.diagonal.ensures c.requires.kings
-      (c.difference-rest.ensures ∙ ap (difference c.occupied.result) (c.union-others.ensures ∙ ap (λ (x : FinSet nat_cmp). union x c.args.kings) c.union.ensures))
-      c.iter-at-items.ensures.below s;
+      ∙ pawns_left c.pawns_and_knights-rest.result (man_at c.args.placement.now) c.pawns_and_knights-rest.ensures c.iter-at-items.ensures.below s;
 }
 
 pub loop-at-preserved : goal.loop-at-preserved
