@@ -13,7 +13,7 @@ use clock::MachineClock;
 use std::process::ExitCode;
 use words::{Asked, Refused, read_words};
 
-/// The status where the words behind the program's name are refused.
+/// The status where the words after the program's name are refused, `--help` among them.
 const WORDS_REFUSED: u8 = 1;
 
 fn main(rt: HostRuntime) -> ExitCode {
@@ -34,6 +34,11 @@ fn main(rt: HostRuntime) -> ExitCode {
             FromRead::new(rt.stdin()),
             &mut ToWrite::new(rt.stdout()),
         ),
+        Err(Refused::Help(text)) => {
+            // A fault of the standard output is ignored, as one of the standard error below.
+            let _ = print!(rt; "{text}");
+            return ExitCode::from(WORDS_REFUSED);
+        }
         Err(Refused::Words(message)) => {
             // A fault of the standard error is ignored, here and below.
             let _ = eprint!(rt; "{message}");

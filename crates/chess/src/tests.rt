@@ -26,6 +26,14 @@ fn other_words_are_refused(rt: HostRuntime) {
     assert!(rt; is_refused(parse_words(rt.alloc(), &["chess", "board", "board"])));
     assert!(rt; is_refused(parse_words(rt.alloc(), &["chess", "boards"])));
     assert!(rt; is_refused(parse_words(rt.alloc(), &["chess", ""])));
-    assert!(rt; is_refused(parse_words(rt.alloc(), &["chess", "--help"])));
     assert!(rt; is_refused(parse_words(rt.alloc(), &["chess", "board", "--version"])));
+}
+
+#[test]
+fn help_is_asked_for(rt: HostRuntime) {
+    let Err(Refused::Help(text)) = parse_words(rt.alloc(), &["chess", "--help"]) else {
+        assert!(rt; false);
+        return;
+    };
+    assert!(rt; text.contains("Lines of board:"));
 }

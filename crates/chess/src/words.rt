@@ -16,6 +16,8 @@ pub enum Asked {
 /// Why the words ask for none.
 #[derive(Debug, Drop)]
 pub enum Refused {
+    /// They ask how the program is used. The text says so.
+    Help(String),
     /// They aren't the name of one engine. The text says what is wrong and how the program is used.
     Words(String),
     /// There was no memory to read them.
@@ -60,7 +62,12 @@ Lines of board:
   claims       the draws that may be claimed
   claim MOVE   those that may be claimed with that move
   best DEPTH   the best move, 1 to 16 plies deep, and its score
-An answer `refused N NAME` changes nothing; docs/FORMATS.md lists the refusals.";
+  pgn          the whole game in export form
+An answer `refused N NAME` changes nothing.
+
+`perft`, another program (crates/perft), counts the leaves of the tree of legal moves.
+The pages: README.md first; docs/FORMATS.md has every line, answer and error,
+docs/PROMISES.md what is proved.";
 
 fn matched<S: AsStr>(alloc: Global, words: &[S]) -> Result<Option<Asked>, Error> {
     let engine = Arg::new(alloc, "engine")
@@ -80,12 +87,16 @@ fn matched<S: AsStr>(alloc: Global, words: &[S]) -> Result<Option<Asked>, Error>
     })
 }
 
-/// What the words ask for, the program's name first: exactly one word behind it, the name of an engine.
+/// What the words ask for, the program's name first: exactly one word after it, the name of an engine. `--help` is refused, too, with the
+/// help as its text.
 pub fn parse_words<S: AsStr>(alloc: Global, words: &[S]) -> Result<Asked, Refused> {
     match matched(alloc, words) {
         Ok(Some(asked)) => Ok(asked),
         Ok(None) => Err(Refused::Words(String::new(alloc))),
         Err(error) if error.kind() == ErrorKind::OutOfMemory => Err(Refused::Memory),
+        Err(error) if error.kind() == ErrorKind::DisplayHelp => {
+            Err(Refused::Help(format!(in alloc; "{error}")?))
+        }
         Err(error) => Err(Refused::Words(format!(in alloc; "{error}")?)),
     }
 }

@@ -1,0 +1,87 @@
+"""The pages say what is so: what they name exists, and crates stand on what the map says."""
+import glob
+import os
+import re
+import unittest
+
+import runs
+
+PAGES = ["README.md", "CONTRIBUTING.md", *sorted(glob.glob("docs/*.md", root_dir=runs.TOP))]
+
+# Words that no source has: commands of the machine, the letters of men, a move that is not read, and a name that stands for others.
+ELSEWHERE = {"bash", "cc", "git", "parallel", "polyglot", "sed", "stockfish", "valgrind", "xboard", "Z0", "After-f", "NAME"}
+MEN = re.compile(r"[PNBRQK]+|[pnbrqk]+|[PNBRQKpnbrqk]{12}")
+
+
+def text_of(path):
+    with open(f"{runs.TOP}/{path}", encoding="utf-8") as file:
+        return file.read()
+
+
+def sources():
+    for folder, below, names in os.walk(f"{runs.TOP}/crates"):
+        below[:] = [name for name in below if name != "out"]
+        for name in names:
+            yield os.path.relpath(f"{folder}/{name}", runs.TOP)
+
+
+def marked(page):
+    """What a page has between back-ticks, blocks of code left out."""
+    return re.findall(r"`([^`\n]+)`", re.sub(r"^(```.*?^```|    .*?)$", "", text_of(page), flags=re.M | re.S))
+
+
+class Pages(unittest.TestCase):
+    @classmethod
+    def setUpClass(cls):
+        cls.files = list(sources())
+        cls.words = set()
+        for path in cls.files:
+            cls.words.update(re.findall(r"\w+", path))
+            cls.words.update(re.split(r"[/.]", path))
+            if path.endswith((".rt", ".antt", ".edit", "stdin", "parts.txt")):
+                cls.words.update(re.findall(r"[\w-]+|\w+", text_of(path)))
+                cls.words.update(re.findall(r"\w+", text_of(path)))
+        for path in ("chess", "build", "test", "tools/growths", "tools/parts", "tools/release", "tools/sources", "crates.txt"):
+            cls.words.update(re.findall(r"[\w-]+", text_of(path)))
+
+    def test_each_link_leads_somewhere(self):
+        for page in PAGES:
+            for target in re.findall(r"\]\(([^)#\s]+)[^)]*\)", text_of(page)):
+                if "://" not in target:
+                    with self.subTest(page=page, target=target):
+                        self.assertTrue(os.path.exists(os.path.join(runs.TOP, os.path.dirname(page), target)))
+
+    def test_each_file_that_is_named_exists(self):
+        for page in PAGES:
+            for text in marked(page):
+                for path in re.findall(r"[\w./*-]+\.(?:rt|antt|edit|md|txt|py)\b|(?:crates|docs|tools|tests|release)/[\w./*-]+", text):
+                    with self.subTest(page=page, path=path):
+                        shape = re.escape(path.rstrip("/.")).replace(r"\*", "[^/]*")
+                        there = os.path.exists(f"{runs.TOP}/{path}") or any(re.search(f"(^|/){shape}($|/)", file) for file in self.files)
+                        self.assertTrue(there or glob.glob(f"{runs.TOP}/{path}") or "NAME" in path)
+
+    def test_each_name_that_is_named_exists(self):
+        for page in PAGES:
+            for text in marked(page):
+                if re.fullmatch(r"[A-Za-z_][\w-]*(::[A-Za-z_]\w*)*(\(\))?", text):
+                    for word in re.findall(r"[\w-]+", text):
+                        with self.subTest(page=page, name=text):
+                            self.assertTrue(word in self.words or word in ELSEWHERE or MEN.fullmatch(word))
+
+    def test_crates_stand_on_what_the_map_says(self):
+        known = dict(re.findall(r"^([a-z_]+)(?: staticlib)?:(.*)$", text_of("crates.txt"), flags=re.M))
+        rows = re.findall(r"^\| (`[a-z_`, ]+`) \| .* \| ([^|]*) \|$", text_of("docs/ARCHITECTURE.md"), flags=re.M)
+        told = {}
+        for crates, below in rows:
+            names = re.findall(r"`([a-z_]+)`", crates)
+            if len(names) == 1 and names[0] in known:
+                told[names[0]] = below.strip()
+        for name, below in told.items():
+            own = {it.removeprefix("chess_") for it in known[name].split() if it in known}
+            with self.subTest(crate=name):
+                if below != "all above":
+                    self.assertEqual(set(re.findall(r"\w+", below)), own)
+        self.assertGreater(len(told), 15)
+        for name in known:
+            with self.subTest(crate=name):
+                self.assertIn(f"`{name}`", text_of("docs/ARCHITECTURE.md"))

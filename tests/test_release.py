@@ -1,0 +1,203 @@
+"""The released program is what the sources give, and ./chess runs it there and nowhere else."""
+import hashlib
+import os
+import re
+import shutil
+import subprocess
+import tempfile
+import unittest
+
+import runs
+
+PROGRAM = "x86_64-linux/bin/chess"
+# The system's own folders: no kit is on this path.
+BARE = {"PATH": "/usr/bin:/bin"}
+
+
+def manifest(top=runs.TOP):
+    """The manifest's words, each with the rest of its line; a file by its path."""
+    with open(f"{top}/release/MANIFEST", encoding="utf-8") as text:
+        lines = [line.split(maxsplit=1) for line in text.read().splitlines() if not line.startswith("#")]
+    return {word: rest for word, rest in lines if word != "file"}, {rest.split()[0]: rest.split()[1:] for word, rest in lines if word == "file"}
+
+
+def sum_of(data):
+    return hashlib.sha256(data).hexdigest()
+
+
+def read(path):
+    with open(path, "rb") as file:
+        return file.read()
+
+
+def difference(released, built, kit_of_release, kit_here):
+    """Why the released program is not the one that was built, or None where it is, or where kits differ and both write the same."""
+    if read(released) == read(built):
+        return None
+    if kit_of_release == kit_here:
+        return f"it is not the program that {kit_here} builds from these sources"
+    for each in runs.RUNS:
+        if runs.run(released, each) != runs.run(built, each):
+            return f"the two programs differ in the run '{each.name}'"
+    print(f"release: built by {kit_of_release}, and by {kit_here} to other bytes; all {len(runs.RUNS)} runs of both write the same")
+    return None
+
+
+class TheRelease(unittest.TestCase):
+    def test_the_sources_are_those_of_the_manifest(self):
+        sources = subprocess.run([f"{runs.TOP}/tools/sources"], capture_output=True, check=True).stdout
+        self.assertEqual(sum_of(sources), manifest()[0]["sources"], "make release/ anew: tools/release")
+        self.assertEqual(sources, read(f"{runs.TOP}/release/chess.sources"))
+
+    def test_the_version_is_that_of_the_repository(self):
+        self.assertEqual(read(f"{runs.TOP}/VERSION").decode().strip(), manifest()[0]["version"])
+
+    def test_each_file_is_as_the_manifest_says_and_there_is_no_other(self):
+        found = set()
+        for path, (size, digest) in manifest()[1].items():
+            data = read(f"{runs.TOP}/release/{path}")
+            self.assertEqual((len(data), sum_of(data)), (int(size), digest), path)
+        for folder, _, names in os.walk(f"{runs.TOP}/release"):
+            found.update(os.path.relpath(f"{folder}/{name}", f"{runs.TOP}/release") for name in names)
+        self.assertEqual(found - {"MANIFEST", "chess.sources"}, set(manifest()[1]))
+
+    def test_the_program_is_the_one_just_built(self):
+        kit = subprocess.run(["rt", "version"], capture_output=True, check=True, text=True).stdout.strip()
+        self.assertIsNone(difference(f"{runs.TOP}/release/{PROGRAM}", runs.BUILT, manifest()[0]["kit"], kit))
+
+
+class ADifference(unittest.TestCase):
+    """One byte fails the gate under the same kit; under another one the runs decide."""
+
+    def setUp(self):
+        self.folder = tempfile.TemporaryDirectory()
+        self.addCleanup(self.folder.cleanup)
+        self.other = f"{self.folder.name}/chess"
+
+    def write(self, data):
+        with open(self.other, "wb") as file:
+            file.write(data)
+        os.chmod(self.other, 0o755)
+
+    def test_one_byte_more(self):
+        self.write(read(runs.BUILT) + b"\0")
+        self.assertIn("not the program", difference(self.other, runs.BUILT, "kit logic", "kit logic"))
+        self.assertIsNone(difference(self.other, runs.BUILT, "another kit logic", "kit logic"))
+
+    def test_another_answer(self):
+        self.write(f'#!/bin/sh\n"{runs.BUILT}" "$@" | sed s/mate/draw/\n'.encode())
+        self.assertIn("differ in the run", difference(self.other, runs.BUILT, "another kit logic", "kit logic"))
+
+
+class TheCommand(unittest.TestCase):
+    """./chess in a copy of what it needs, where the kit is not on the path."""
+
+    def setUp(self):
+        folder = tempfile.TemporaryDirectory()
+        self.addCleanup(folder.cleanup)
+        self.top = f"{folder.name}/a clone"
+        os.mkdir(self.top)
+        for path in ("chess", "build", "VERSION", "crates.txt"):
+            shutil.copy2(f"{runs.TOP}/{path}", self.top)
+        for path in ("tools", "release"):
+            shutil.copytree(f"{runs.TOP}/{path}", f"{self.top}/{path}")
+        shutil.copytree(f"{runs.TOP}/crates", f"{self.top}/crates", ignore=shutil.ignore_patterns("out"))
+
+    def answers(self, command=None, words=("board",), path=BARE["PATH"]):
+        ran = subprocess.run([command or f"{self.top}/chess", *words], input="new\neval\n", capture_output=True, text=True, env={"PATH": path}, cwd="/")
+        return ran.returncode, ran.stdout, ran.stderr
+
+    def change(self, path, old, new):
+        text = read(f"{self.top}/{path}")
+        self.assertIn(old, text)
+        with open(f"{self.top}/{path}", "wb") as file:
+            file.write(text.replace(old, new, 1))
+
+    def assert_refused(self, *parts):
+        """Nothing is run, since nothing can be built without the kit; the standard error says these."""
+        status, output, error = self.answers()
+        self.assertEqual((status, output), (126, ""))
+        for part in (*parts, "rt, the command of Rattle's kit, is not on the path"):
+            self.assertIn(part, error)
+
+    def test_a_clone_answers_without_the_kit(self):
+        self.assertEqual(self.answers(), (0, "ok\n0\n", ""))
+
+    def test_by_a_link_from_another_folder(self):
+        with tempfile.TemporaryDirectory() as folder:
+            os.symlink(f"{self.top}/chess", f"{folder}/engine")
+            self.assertEqual(self.answers(f"{folder}/engine"), (0, "ok\n0\n", ""))
+
+    def test_a_folder_that_can_not_be_written(self):
+        for folder, _, _ in os.walk(self.top):
+            os.chmod(folder, 0o555)
+        self.addCleanup(subprocess.run, ["chmod", "-R", "u+w", self.top])
+        self.assertEqual(self.answers(), (0, "ok\n0\n", ""))
+
+    def test_a_changed_proof_changes_no_program(self):
+        self.change("crates/chess_types/proofs/Lib.antt", b"\n", b"\n-- a comment\n")
+        self.assertEqual(self.answers(), (0, "ok\n0\n", ""))
+
+    def test_a_changed_comment(self):
+        self.change("crates/chess_types/src/lib.rt", b"//!", b"//! ")
+        self.assert_refused("crates/chess_types/src/lib.rt is not as it was at the release")
+
+    def test_a_changed_line_of_code(self):
+        self.change("crates/chess_cli/src/ended.rt", b"pub ", b"pub  ")
+        self.assert_refused("crates/chess_cli/src/ended.rt is not as it was at the release")
+
+    def test_another_library_below(self):
+        self.change("crates.txt", b"chess_types: arrayvec", b"chess_types: arrayvec itoa")
+        self.assert_refused("crates.txt is not as it was at the release")
+
+    def test_a_crate_that_the_program_does_not_stand_on(self):
+        self.change("crates/perft/src/main.rt", b"//!", b"//! ")
+        self.assertEqual(self.answers(), (0, "ok\n0\n", ""))
+
+    def test_one_byte_of_the_program_turned(self):
+        data = bytearray(read(f"{self.top}/release/{PROGRAM}"))
+        data[len(data) // 2] ^= 1
+        with open(f"{self.top}/release/{PROGRAM}", "wb") as file:
+            file.write(data)
+        self.assert_refused(f"release/{PROGRAM} is not the file that release/MANIFEST names, and is not run")
+
+    def test_no_program(self):
+        os.remove(f"{self.top}/release/{PROGRAM}")
+        self.assert_refused(f"release/{PROGRAM} is missing")
+
+    def test_no_release(self):
+        shutil.rmtree(f"{self.top}/release")
+        self.assert_refused("there is no release/MANIFEST")
+
+    def build_by(self, script):
+        """A path with a stand-in for the kit's command, which does this."""
+        os.mkdir(f"{self.top}/kit")
+        with open(f"{self.top}/kit/rt", "w", encoding="utf-8") as file:
+            file.write(f"#!/bin/sh\n{script}\n")
+        os.chmod(f"{self.top}/kit/rt", 0o755)
+        return f"{self.top}/kit:{BARE['PATH']}"
+
+    def test_changed_sources_are_built_once(self):
+        self.change("crates/chess_types/src/lib.rt", b"//!", b"//! ")
+        path = self.build_by(f'echo built >>"{self.top}/builds"; cp "{runs.BUILT}" out/chess')
+        status, output, error = self.answers(path=path)
+        self.assertEqual((status, output), (0, "ok\n0\n"))
+        self.assertRegex(error, r"\Achess: crates/chess_types/src/lib.rt is not as it was .*minutes")
+        self.assertEqual(self.answers(path=path), (0, "ok\n0\n", ""))
+        self.assertEqual(read(f"{self.top}/builds"), b"built\n")
+        self.change("crates/chess_types/src/lib.rt", b"//! ", b"//!  ")
+        self.assertEqual(self.answers(path=path)[:2], (0, "ok\n0\n"))
+        self.assertEqual(read(f"{self.top}/builds"), b"built\nbuilt\n")
+
+    def test_a_build_that_fails(self):
+        self.change("crates/chess_types/src/lib.rt", b"//!", b"//! ")
+        status, output, error = self.answers(path=self.build_by("echo 'error: not proved'; exit 1"))
+        self.assertEqual((status, output), (126, ""))
+        self.assertIn("error: not proved", error)
+
+    def test_a_build_on_purpose(self):
+        path = self.build_by(f'cp "{runs.BUILT}" out/chess')
+        for words in (["--build"],):
+            status, _, error = self.answers(words=words, path=path)
+            self.assertEqual(status, 0, error)
+            self.assertTrue(os.path.exists(f"{self.top}/crates/chess/out/chess.made"))
