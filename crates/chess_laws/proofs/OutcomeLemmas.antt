@@ -1,0 +1,59 @@
+-- The status of a line, the claims, and the texts of moves.
+use Rattle.std.proofs.Common.{◌≡◌, ◌&&◌, not, nat_le, Bool, true, false, ℕ, Some, Ok, if◌then◌else◌, refl, sym, ap, ◌∙◌}
+use Rattle.std.specs.List.{Contains}
+use Rattle.chess_types.specs.declared.board.outcome.Status.TheVariants.{Mate, Stalemate, Dead, Fivefold, Seventyfive, Play}
+use Rattle.chess_types.specs.board.MoveParts.{MoveParts}
+use Rattle.chess_types.specs.board.Attack.{in_check}
+use Rattle.chess_types.specs.board.Position.{State, look}
+use Rattle.chess_types.specs.board.Legal.{is_legal, legal_moves}
+use Rattle.chess_types.specs.board.Lines.{Line, last, extended}
+use Rattle.chess_types.specs.board.Outcome.{is_without, is_play, status_at, status, claims_at, claims, claims_with}
+use Rattle.chess_types.specs.board.Repetition.{repetitions}
+use Rattle.chess_types.specs.board.Dead.{is_dead}
+use Rattle.chess_laws.specs.DeadLaws.{is_mate}
+use Rattle.chess_laws.specs.OutcomeLaws.{shows_mate, shows_stalemate}
+
+-- the draws by count and clock are neither
+neither_draw : (dead five most : Bool) → shows_mate (if dead then Dead else (if five then Fivefold else (if most then Seventyfive else Play))) ≡ false
+neither_draw true five most = refl
+neither_draw false true most = refl
+neither_draw false false true = refl
+neither_draw false false false = refl
+
+nor_stalemate : (dead five most : Bool) → shows_stalemate (if dead then Dead else (if five then Fivefold else (if most then Seventyfive else Play))) ≡ false
+nor_stalemate true five most = refl
+nor_stalemate false true most = refl
+nor_stalemate false false true = refl
+nor_stalemate false false false = refl
+
+pub mate_is_mate : (line : Line) → shows_mate (status line) ≡ is_mate (last line)
+unfolding status status_at
+mate_is_mate line =
+    by_tests (is_without (legal_moves (last line))) (in_check (look (last line)) (last line).side) (is_dead (last line)) (nat_le 5 (repetitions line))
+    (nat_le 150 (last line).clock)
+  where
+    by_tests : (none check dead five most : Bool) →
+        shows_mate (if none then (if check then Mate else Stalemate) else (if dead then Dead else (if five then Fivefold else (if most then Seventyfive else Play))))
+        ≡ (none && check)
+    by_tests true true dead five most = refl
+    by_tests true false dead five most = refl
+    by_tests false check dead five most = neither_draw dead five most
+
+pub stalemate_is_none : (line : Line) →
+    shows_stalemate (status line) ≡ (is_without (legal_moves (last line)) && not (in_check (look (last line)) (last line).side))
+unfolding status status_at
+stalemate_is_none line =
+    by_tests (is_without (legal_moves (last line))) (in_check (look (last line)) (last line).side) (is_dead (last line)) (nat_le 5 (repetitions line))
+    (nat_le 150 (last line).clock)
+  where
+    by_tests : (none check dead five most : Bool) →
+        shows_stalemate (if none then (if check then Mate else Stalemate) else (if dead then Dead else (if five then Fivefold else (if most then Seventyfive else Play))))
+        ≡ (none && not check)
+    by_tests true true dead five most = refl
+    by_tests true false dead five most = refl
+    by_tests false check dead five most = nor_stalemate dead five most
+
+pub claims_agree : (line : Line) (m : MoveParts) → is_legal (last line) m ≡ true → is_play (status line) ≡ true → is_play (status (extended line m)) ≡ true →
+    claims_with line m ≡ Some (claims (extended line m))
+unfolding claims claims_with
+claims_agree line m legal before after = rw (legal, before, after) refl

@@ -1,0 +1,14 @@
+use Rattle.chess_laws.proofs.ArmyLemmas.{armies_stay, men_never_rise, pawns_never_rise}
+use Rattle.chess_laws.proofs.CountLemmas.{clock_counts, number_counts, rights_are_lost, taken_at_once}
+use Rattle.chess_laws.proofs.moves.move_laws.Goals as goal
+
+pub returns : goal.returns
+returns c = record {
+  men = men_never_rise;
+  pawns = pawns_never_rise;
+  armies = armies_stay;
+  rights = rights_are_lost;
+  en_passant = taken_at_once;
+  clock = clock_counts;
+  number = number_counts;
+}

@@ -1,0 +1,5 @@
+-- Laws of the definitions of the Laws, one subject a file.
+pub mod DeadLaws
+pub mod MoveLaws
+pub mod OutcomeLaws
+pub mod TextLaws

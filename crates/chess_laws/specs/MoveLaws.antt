@@ -1,0 +1,85 @@
+-- What legal moves keep, and what they count (FIDE Laws, articles 3.7.3, 3.8.2 and 9.3; PGN 16.1.3).
+--   how_many       how many men of a colour and a kind are on the board
+--   promoted       how many of them must have been pawns
+--   IsArmy         pawns, and men who must have been pawns, are at most eight
+--   MenNeverRise, PawnsNeverRise   a legal move adds no man of either colour, and no pawn
+--   ArmiesStay     two such armies stay such armies
+--   RightsAreLost  a castling right that is held after some legal moves was held before them
+--   TakenAtOnce    a pawn that is captured en passant has made its advance of two squares on the move before
+--   ClockCounts    the halfmove clock is 0 exactly after a pawn's move or a capture, else one more
+--   black_moves    how many of some moves are Black's
+--   NumberCounts   the fullmove number has grown by them
+use Rattle.std.specs.Prelude.{◌≡◌, ℕ, ◌+◌, ◌-◌, ◌≤◌, ◌==◌, Bool, true, false, ◌||◌, ◌⊎◌, if◌then◌else◌, List, [], ◌∷◌, is_some}
+use Rattle.std.specs.List.{Contains}
+use Rattle.chess_types.specs.declared.board.man.Colour.{Colour}
+use Rattle.chess_types.specs.declared.board.man.Colour.TheVariants.{White, Black}
+use Rattle.chess_types.specs.declared.board.man.Kind.{Kind}
+use Rattle.chess_types.specs.declared.board.man.Kind.TheVariants.{Pawn, Knight, Bishop, Rook, Queen}
+use Rattle.chess_types.specs.declared.board.position.Wing.{Wing}
+use Rattle.chess_types.specs.board.Board.{Board}
+use Rattle.chess_types.specs.board.MoveParts.{MoveParts}
+use Rattle.chess_types.specs.board.Men.{count_squares, holds_pawn, is_man, men_of}
+use Rattle.chess_types.specs.board.Position.{State, IsWellFormed, holds, look}
+use Rattle.chess_types.specs.board.Pseudo.{midway}
+use Rattle.chess_types.specs.board.After.{after}
+use Rattle.chess_types.specs.board.Legal.{legal_moves}
+use Rattle.chess_types.specs.board.Lines.{play}
+use Rattle.chess_types.specs.board.Repetition.{takes_target}
+use Rattle.chess_laws.specs.DeadLaws.{AreListed}
+
+-- how many men of the colour and the kind
+abbrev pub how_many : Colour → Kind → Board → ℕ
+how_many c kind board = count_squares (λ there. is_man there c kind) board
+
+-- the knights, bishops and rooks beyond two of a kind, and the queens beyond one (2.2)
+abbrev pub promoted : Colour → Board → ℕ
+promoted c board = (how_many c Knight board - 2) + (how_many c Bishop board - 2) + (how_many c Rook board - 2) + (how_many c Queen board - 1)
+
+-- with the pawns they are at most eight
+abbrev pub IsArmy : Colour → Board → Type 0
+IsArmy c board = how_many c Pawn board + promoted c board ≤ 8
+
+-- no man comes onto the board
+abbrev pub MenNeverRise : Type 0
+MenNeverRise = (p : State) (m : MoveParts) → IsWellFormed p → Contains (legal_moves p) m → (c : Colour) → men_of (after p m).placement c ≤ men_of p.placement c
+
+-- and no pawn
+abbrev pub PawnsNeverRise : Type 0
+PawnsNeverRise =
+    (p : State) (m : MoveParts) → IsWellFormed p → Contains (legal_moves p) m → (c : Colour) →
+    how_many c Pawn (after p m).placement ≤ how_many c Pawn p.placement
+
+-- who promotes is a pawn no more
+abbrev pub ArmiesStay : Type 0
+ArmiesStay =
+    (p : State) (moves : List MoveParts) → IsWellFormed p → AreListed p moves → (c : Colour) → IsArmy c p.placement → IsArmy c (play p moves).placement
+
+-- a castling right isn't won back (3.8.2.1)
+abbrev pub RightsAreLost : Type 0
+RightsAreLost =
+    (p : State) (moves : List MoveParts) → IsWellFormed p → AreListed p moves → (c : Colour) (w : Wing) →
+    holds (play p moves).rights c w ≡ true → holds p.rights c w ≡ true
+
+-- the move before a capture en passant is the advance of the captured pawn over that square (3.7.3.1, 3.7.3.2)
+abbrev pub TakenAtOnce : Type 0
+TakenAtOnce =
+    (p : State) (m n : MoveParts) → IsWellFormed p → Contains (legal_moves p) m → Contains (legal_moves (after p m)) n →
+    takes_target (after p m) (look (after p m) n.from) n ≡ true →
+    (holds_pawn (look p m.from) ≡ true) × ((m.to ≡ m.from + 16) ⊎ (m.from ≡ m.to + 16)) × (midway m ≡ n.to)
+
+-- no pawn's move and no capture goes uncounted, and no other move sets the clock back (9.3)
+abbrev pub ClockCounts : Type 0
+ClockCounts =
+    (p : State) (m : MoveParts) → IsWellFormed p → Contains (legal_moves p) m →
+    ((after p m).clock == 0) ≡ (holds_pawn (look p m.from) || is_some (look p m.to))
+
+-- of moves from a position, those that Black makes
+abbrev pub black_moves : Colour → List MoveParts → ℕ
+black_moves c [] = 0
+black_moves White (m ∷ moves) = black_moves Black moves
+black_moves Black (m ∷ moves) = 1 + black_moves White moves
+
+-- the number counts them (PGN 16.1.3.6)
+abbrev pub NumberCounts : Type 0
+NumberCounts =
+    (p : State) (moves : List MoveParts) → IsWellFormed p → AreListed p moves → (play p moves).number ≡ p.number + black_moves p.side moves

@@ -1,0 +1,12 @@
+-- What the texts of moves tell (PGN 8.2.3).
+--   OneTextOneMove   two legal moves of a position with the same text are one move
+use Rattle.std.specs.Prelude.{◌≡◌}
+use Rattle.std.specs.List.{Contains}
+use Rattle.chess_types.specs.board.MoveParts.{MoveParts}
+use Rattle.chess_types.specs.board.Position.{State}
+use Rattle.chess_types.specs.board.Legal.{legal_moves}
+use Rattle.chess_san.specs.Writing.{san}
+
+-- the text of a move tells it from all others
+abbrev pub OneTextOneMove : Type 0
+OneTextOneMove = (p : State) (m n : MoveParts) → Contains (legal_moves p) m → Contains (legal_moves p) n → san p m ≡ san p n → m ≡ n

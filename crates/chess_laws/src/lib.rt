@@ -1,0 +1,15 @@
+//! Laws of the Laws: what the definitions of `chess_types/specs/board` say of one another. That those definitions are the Laws of Chess has to be
+//! believed; a law that is proved of them is a part of that belief less.
+//!
+//! Each law is the clause of a function that does nothing, and stands in `specs/`.
+#![tactic(auto)]
+
+mod dead;
+mod moves;
+mod outcomes;
+mod texts;
+
+pub use dead::dead_laws;
+pub use moves::move_laws;
+pub use outcomes::outcome_laws;
+pub use texts::text_laws;

@@ -1,0 +1,6 @@
+ghost use Rattle.chess_laws.specs.TextLaws.{OneTextOneMove};
+
+/// Two legal moves of one position never have the same text in standard algebraic notation (PGN 8.2.3): so a game's text says which game it was.
+pub fn text_laws()
+    ensures one_move { OneTextOneMove }
+{}
