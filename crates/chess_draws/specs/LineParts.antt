@@ -2,10 +2,11 @@
 --   LineParts   the line itself, how many of its last moves are only looked at, the words of its key table, the ticks of the last move
 --               made or taken back, the room: how many plies it can have without another growth, and how many plies the last count
 --               compared
+--   comparisons   how many positions a count of repetitions compares with the last one
 --   IsAsBefore  all of it but the ticks and the number of plies compared is as it was
-use Rattle.std.specs.Prelude.{◌≡◌, ℕ, List, refl}
+use Rattle.std.specs.Prelude.{◌≡◌, ℕ, ◌/◌, min, List, length, refl}
 use Rattle.std.specs.Coded.{Coded, code_by, coded×, coded_ℕ, coded_list}
-use Rattle.chess_types.specs.board.Lines.{Line}
+use Rattle.chess_types.specs.board.Lines.{Line, last}
 use Rattle.chess_types.specs.steps.LineCode.{coded_line}
 
 pub record LineParts : Type 0 where
@@ -24,6 +25,10 @@ coded_parts =
     (λ l. ((l.line, l.looked), (l.words, (l.ticks, (l.room, l.compared)))))
     (λ p. record { line = p.0.0; looked = p.0.1; words = p.1.0; ticks = p.1.1.0; room = p.1.1.1.0; compared = p.1.1.1.1 })
     (λ _. refl)
+
+-- every second one before it, as far back as the halfmove clock tells
+abbrev pub comparisons : Line → ℕ
+comparisons line = min (length line.moves) (last line).clock / 2
 
 pub record IsAsBefore (old new : LineParts) : Type 0 where
   pub line : new.line ≡ old.line

@@ -13,3 +13,15 @@ pub enum LineFault {
     #[error("there is no memory")]
     Memory = 3,
 }
+
+impl LineFault {
+    ghost use Rattle.std.specs.Prelude.{◌≡◌};
+    ghost use Rattle.chess_draws.specs.Faults.{number_of};
+
+    /// The fault's number, 1 to 3.
+    pub fn number(self) -> u8
+        ensures { result ≡ number_of self }
+    {
+        self as u8
+    }
+}

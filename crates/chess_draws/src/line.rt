@@ -12,7 +12,7 @@ ghost use Rattle.chess_san.specs.Naming.{reading};
 ghost use Rattle.chess_san.specs.Writing.{mark_text, san};
 ghost use Rattle.chess_draws.specs.declared.fault.LineFault.TheVariants.{Memory};
 ghost use Rattle.chess_draws.specs.Draws.{is_drawn, is_claimable};
-ghost use Rattle.chess_draws.specs.LineParts.{IsAsBefore};
+ghost use Rattle.chess_draws.specs.LineParts.{IsAsBefore, comparisons};
 ghost use Rattle.chess_draws.specs.Pushes.{AnswersPush, line_after};
 
 use crate::fault::LineFault;
@@ -21,7 +21,7 @@ use crate::ply::Ply;
 use crate::stand::Stand;
 use crate::status::{claims_at, is_drawn_at, status_at};
 use crate::step::{step, step_back};
-use crate::target::counting_target;
+use crate::target::begin;
 use arrayvec::{ArrayString, ArrayVec};
 use chess_key::KeyTable;
 use chess_moves::{has_legal, in_check, is_legal, moves};
@@ -72,12 +72,14 @@ impl<'k, A: Allocator> Line<'k, A> {
         ensures line { result.line ≡ record { start = position; moves = [] } }
         ensures looked { result.looked ≡ 0 }
         ensures words { result.words ≡ table.now }
+        ensures ticks { result.ticks ≡ 0 }
+        ensures room { result.room ≡ 0 }
+        ensures compared { result.compared ≡ 0 }
     {
         let Ok(root) = position.clone() else {
             unreachable!();
         };
-        let mut live = Live::new(position, table);
-        let target = counting_target(&mut live);
+        let (live, target) = begin(position, table);
         let here = Stand::of(&live, target);
         Line {
             root,
@@ -102,6 +104,7 @@ impl<'k, A: Allocator> Line<'k, A> {
         ensures looked { self.new.looked ≡ 0 }
         ensures words { self.new.words ≡ self.old.words }
         ensures room { self.old.room ≤ self.new.room }
+        ensures compared { self.new.compared ≡ self.old.compared }
         ensures at_most { OnOk result (self.new.ticks ≤ 216) }
         ensures at_least { OnOk result (changed_of (look (last self.old.line)) (look (last self.new.line)) ≤ self.new.ticks) }
     {
@@ -125,6 +128,7 @@ impl<'k, A: Allocator> Line<'k, A> {
         ensures looked { self.new.looked ≡ 0 }
         ensures words { self.new.words ≡ self.old.words }
         ensures room { self.old.room ≤ self.new.room }
+        ensures compared { self.new.compared ≡ self.old.compared }
     {
         let made = self.plies();
         if !is_legal(&mut self.live, m) {
@@ -150,6 +154,7 @@ impl<'k, A: Allocator> Line<'k, A> {
         ensures looked { self.new.looked ≡ 0 }
         ensures words { self.new.words ≡ self.old.words }
         ensures room { self.new.room ≡ self.old.room }
+        ensures compared { self.new.compared ≡ self.old.compared }
         ensures at_most { self.new.ticks ≤ 216 }
         ensures at_least { changed_of (look (last self.old.line)) (look (last self.new.line)) ≤ self.new.ticks }
     {
@@ -164,6 +169,7 @@ impl<'k, A: Allocator> Line<'k, A> {
         ensures looked { self.new.looked ≡ 0 }
         ensures words { self.new.words ≡ self.old.words }
         ensures room { self.new.room ≡ self.old.room }
+        ensures compared { self.new.compared ≡ self.old.compared }
         ensures at_most { IfSome result (λ _. self.new.ticks ≤ 216) }
         ensures at_least { IfSome result (λ _. changed_of (look (last self.old.line)) (look (last self.new.line)) ≤ self.new.ticks) }
     {
@@ -182,6 +188,7 @@ impl<'k, A: Allocator> Line<'k, A> {
         ensures looked { self.new.looked ≡ self.old.looked + 1 }
         ensures words { self.new.words ≡ self.old.words }
         ensures room { self.new.room ≡ self.old.room }
+        ensures compared { self.new.compared ≡ self.old.compared }
         ensures at_most { self.new.ticks ≤ 216 }
         ensures at_least { changed_of (look (last self.old.line)) (look (last self.new.line)) ≤ self.new.ticks }
     {
@@ -196,6 +203,7 @@ impl<'k, A: Allocator> Line<'k, A> {
         ensures looked { self.new.looked + 1 ≡ self.old.looked }
         ensures words { self.new.words ≡ self.old.words }
         ensures room { self.new.room ≡ self.old.room }
+        ensures compared { self.new.compared ≡ self.old.compared }
         ensures at_most { self.new.ticks ≤ 216 }
         ensures at_least { changed_of (look (last self.old.line)) (look (last self.new.line)) ≤ self.new.ticks }
     {
@@ -219,6 +227,7 @@ impl<'k, A: Allocator> Line<'k, A> {
         ensures line { self.new.line ≡ self.old.line }
         ensures looked { self.new.looked ≡ 0 }
         ensures words { self.new.words ≡ self.old.words }
+        ensures compared { self.new.compared ≡ self.old.compared }
     {
         if self.plies.reserve(plies as usize).is_err() {
             return Err(LineFault::Memory);
@@ -272,6 +281,7 @@ impl<'k, A: Allocator> Line<'k, A> {
     pub fn moves(&mut self) -> ArrayVec<Move, 432>
         ensures listed { result.items ≡ legal_moves (last self.old.line) }
         ensures as_before { IsAsBefore self.old self.new }
+        ensures compared { self.new.compared ≡ self.old.compared }
     {
         moves(&mut self.live)
     }
@@ -280,6 +290,7 @@ impl<'k, A: Allocator> Line<'k, A> {
     pub fn has_legal(&mut self) -> bool
         ensures value { result ≡ nat_lt 0 (length (legal_moves (last self.old.line))) }
         ensures as_before { IsAsBefore self.old self.new }
+        ensures compared { self.new.compared ≡ self.old.compared }
     {
         has_legal(&mut self.live)
     }
@@ -300,6 +311,7 @@ impl<'k, A: Allocator> Line<'k, A> {
         ensures value { result ≡ reading (last self.old.line) text.now }
         ensures legal { IfOk result (λ m. is_legal_in (last self.old.line) m ≡ true) }
         ensures as_before { IsAsBefore self.old self.new }
+        ensures compared { self.new.compared ≡ self.old.compared }
     {
         chess_san::read(&mut self.live, text)
     }
@@ -309,6 +321,7 @@ impl<'k, A: Allocator> Line<'k, A> {
         requires legal { IsTrue (is_legal_in (last self.old.line) m) }
         ensures value { result.bytes ≡ san (last self.old.line) m }
         ensures as_before { IsAsBefore self.old self.new }
+        ensures compared { self.new.compared ≡ self.old.compared }
     {
         chess_san::write(&mut self.live, m)
     }
@@ -318,6 +331,7 @@ impl<'k, A: Allocator> Line<'k, A> {
         requires legal { IsTrue (is_legal_in (last self.old.line) m) }
         ensures value { result.bytes ++ mark_text (after (last self.old.line) m) ≡ san (last self.old.line) m }
         ensures as_before { IsAsBefore self.old self.new }
+        ensures compared { self.new.compared ≡ self.old.compared }
     {
         chess_san::write_unmarked(&mut self.live, m)
     }
@@ -326,6 +340,7 @@ impl<'k, A: Allocator> Line<'k, A> {
     pub fn write_mark(&mut self) -> &'static str
         ensures value { result.now ≡ mark_text (last self.old.line) }
         ensures as_before { IsAsBefore self.old self.new }
+        ensures compared { self.new.compared ≡ self.old.compared }
     {
         chess_san::write_mark(&mut self.live)
     }
@@ -335,6 +350,7 @@ impl<'k, A: Allocator> Line<'k, A> {
     pub fn count(&mut self) -> u32
         ensures value { result ≡ repetitions self.old.line }
         ensures as_before { IsAsBefore self.old self.new }
+        ensures compared { self.new.compared ≡ comparisons self.old.line }
         ensures at_least { result ≤ self.new.compared + 1 }
         ensures at_most { self.new.compared ≤ (last self.old.line).clock }
         // No position before the last pawn move or capture is the same.
@@ -352,7 +368,7 @@ impl<'k, A: Allocator> Line<'k, A> {
     }
 
     /// How many plies the last count of repetitions compared with the last position, by itself or for `status`, `claims`,
-    /// `claims_with` or `is_drawn`; 0 before any.
+    /// `claims_with` or `is_drawn`: every second one, as far back as the halfmove clock tells; 0 before any. No other call changes it.
     pub fn compared(&self) -> u32
         ensures { result ≡ self.now.compared }
     {
@@ -363,6 +379,7 @@ impl<'k, A: Allocator> Line<'k, A> {
     pub fn status(&mut self) -> Status
         ensures value { result ≡ status self.old.line }
         ensures as_before { IsAsBefore self.old self.new }
+        ensures compared { self.new.compared ≡ comparisons self.old.line }
     {
         let count = self.count();
         status_at(&mut self.live, count)
@@ -373,6 +390,7 @@ impl<'k, A: Allocator> Line<'k, A> {
     pub fn is_drawn(&mut self, claims: bool) -> bool
         ensures value { result ≡ (is_drawn self.old.line || (claims && is_claimable self.old.line)) }
         ensures as_before { IsAsBefore self.old self.new }
+        ensures compared { self.new.compared ≡ comparisons self.old.line }
     {
         let count = self.count();
         is_drawn_at(self.live.position(), count, claims)
@@ -383,6 +401,7 @@ impl<'k, A: Allocator> Line<'k, A> {
         requires none { self.old.looked ≡ 0 }
         ensures value { result ≡ claims self.old.line }
         ensures as_before { IsAsBefore self.old self.new }
+        ensures compared { self.new.compared ≡ comparisons self.old.line }
     {
         let count = self.count();
         let status = status_at(&mut self.live, count);
@@ -395,6 +414,8 @@ impl<'k, A: Allocator> Line<'k, A> {
         requires none { self.old.looked ≡ 0 }
         ensures value { result ≡ claims_with self.old.line m }
         ensures as_before { IsAsBefore self.old self.new }
+        // Where the move is legal, the last count is that of the line with it.
+        ensures compared { MatchOption result (self.new.compared ≡ self.old.compared) (λ _. self.new.compared ≡ comparisons (extended self.old.line m)) }
     {
         if !is_legal(&mut self.live, m) {
             return None;

@@ -1,4 +1,4 @@
-ghost use Rattle.std.specs.Prelude.{◌≡◌, ℕ, ◌+◌, ◌*◌, ◌++◌, ◌<◌, ◌≤◌, drop, length};
+ghost use Rattle.std.specs.Prelude.{◌≡◌, ℕ, ◌+◌, ◌*◌, ◌++◌, ◌<◌, ◌≤◌, ◌/◌, drop, length, min};
 ghost use Rattle.chess_draws.specs.steps.LookBack.{first_same, came_back};
 
 use crate::ply::Ply;
@@ -22,6 +22,7 @@ fn begins_same(plies: &[Ply], looked: &[Ply], at: usize, here: &Stand) -> bool
 pub(crate) fn look_back(plies: &[Ply], looked: &[Ply], here: &Stand, clock: u32) -> (u32, u32)
     requires few { length plies.now ≤ 20000 }
     requires ahead { length looked.now ≤ 16 }
+    ensures compared { result.1 ≡ min (length plies.now + length looked.now) clock / 2 }
     ensures count { result.0 ≡ came_back here.now (plies.now ++ looked.now) result.1 }
     ensures within { 2 * result.1 ≤ length (plies.now ++ looked.now) }
     ensures reaches { (n : ℕ) → n ≤ clock → n ≤ length (plies.now ++ looked.now) → n ≤ 2 * result.1 + 1 }

@@ -9,9 +9,10 @@ ghost use Rattle.chess_attack.specs.KeptCounts.{changed_of};
 ghost use Rattle.chess_moves.specs.steps.Targets.{move_to};
 ghost use Rattle.chess_play.specs.Records.{record_of};
 
+use chess_key::KeyTable;
 use chess_moves::is_legal;
 use chess_play::{Live, Record};
-use chess_types::{Colour, Kind, Man, Move, Setup, Square};
+use chess_types::{Colour, Kind, Man, Move, Position, Setup, Square};
 
 // The squares on both sides of the pawn that has just passed the target. At the edge of the board one of them is on another rank,
 // from where no pawn captures on the target.
@@ -89,6 +90,25 @@ fn is_beside(setup: &Setup) -> bool
     };
     let (left, right) = origins(setup.side, target);
     is_taker(setup, left) || is_taker(setup, right)
+}
+
+/// The position with the numbers that are kept for it, and its target, where it counts. No tick.
+pub(crate) fn begin<'k>(position: Position, table: &'k KeyTable) -> (Live<'k>, Option<Square>)
+    requires clock { position.clock ≤ 1000000 }
+    requires number { position.number ≤ 1000000 }
+    ensures live { result.0 ≡ record { position = position; words = table.now; ticks = 0 } }
+    ensures target { result.1 ≡ counting_target position }
+{
+    let Ok(same) = position.clone() else {
+        unreachable!();
+    };
+    let mut live = Live::new(position, table);
+    if !is_beside(live.position()) {
+        return (live, None);
+    }
+    // The captures that are tried leave ticks.
+    let target = counting_target(&mut live);
+    (Live::new(same, table), target)
 }
 
 /// Makes the legal move. The answer is its record, and the target of the position after it, where it counts. The ticks are those

@@ -13,3 +13,15 @@ pub enum SanFault {
     #[error("more than one legal move has that text")]
     Ambiguous = 3,
 }
+
+impl SanFault {
+    ghost use Rattle.std.specs.Prelude.{◌≡◌};
+    ghost use Rattle.chess_san.specs.Faults.{number_of};
+
+    /// The fault's number, 1 to 3.
+    pub fn number(self) -> u8
+        ensures { result ≡ number_of self }
+    {
+        self as u8
+    }
+}

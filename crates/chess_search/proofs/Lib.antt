@@ -1,4 +1,7 @@
--- Lemmas on the greatest of some numbers and on answers in a window, on the best of one move more, and on one slice more.
+-- Lemmas on the greatest of some numbers and on answers in a window, on the best of one move more, on the positions asked for, on mates, and on one
+-- slice more.
 pub mod WindowLemmas
 pub mod RootLemmas
+pub mod AskedLemmas
+pub mod BorderLemmas
 pub mod SliceLemmas

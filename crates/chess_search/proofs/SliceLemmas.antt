@@ -1,17 +1,17 @@
 -- One slice more.
-use Rattle.std.proofs.Common.{◌≡◌, ◌+◌, ◌-◌, ◌<◌, ◌≤◌, None, Some, arith, eq-eqb, ⊎_elim, ℤ, ap, sym, ◌∙◌, Option, length, get_or, take, subst}
+use Rattle.std.proofs.Common.{◌≡◌, ℕ, ◌+◌, ◌-◌, ◌<◌, ◌≤◌, None, Some, arith, eq-eqb, ⊎_elim, ℤ, ap, sym, ◌∙◌, Option, length, get_or, take, subst}
 use Rattle.std.proofs.lemmas.Bool.{cases_lt}
 use Rattle.std.proofs.Math.Seq.{take-length}
 use Rattle.chess_types.specs.board.MoveParts.{MoveParts}
 use Rattle.chess_types.specs.board.Lines.{Line}
 use Rattle.chess_search.specs.Value.{worth}
 use Rattle.chess_search.specs.Best.{best}
-use Rattle.chess_search.specs.Slices.{Progress, GoesWith, sliced, done_of}
+use Rattle.chess_search.specs.Slices.{Progress, GoesWith, done_of}
 use Rattle.chess_search.specs.steps.Windows.{better}
 use Rattle.chess_search.proofs.RootLemmas.{best_more_root, best_some}
 
-abbrev pub with_kept : Progress → Option (MoveParts × ℤ) → Progress
-with_kept p k = record { depth = p.depth; claims = p.claims; roots = p.roots; searched = p.searched + 1; kept = k }
+abbrev pub with_kept : Progress → Option (MoveParts × ℤ) → ℕ → Progress
+with_kept p k n = record { depth = p.depth; claims = p.claims; roots = p.roots; searched = p.searched + 1; kept = k; nodes = n }
 
 -- the better of what was kept and the next root is the best of one root more
 pub slice_kept : (line : Line) (p : Progress) (k : Option (MoveParts × ℤ)) (m : MoveParts) → GoesWith line p → p.searched < length p.roots →
@@ -19,13 +19,9 @@ pub slice_kept : (line : Line) (p : Progress) (k : Option (MoveParts × ℤ)) (m
 slice_kept line p k m goes left is step =
     step ∙ ap (λ x. better x m (worth p.claims (p.depth - 1) line 0 m)) goes.kept ∙ sym (best_more_root (worth p.claims (p.depth - 1) line 0) p.roots p.searched m left is)
 
-pub slice_is : (line : Line) (p : Progress) (k : Option (MoveParts × ℤ)) → k ≡ best p.claims p.depth line (take (p.searched + 1) p.roots) →
-    with_kept p k ≡ sliced line p
-slice_is line p k e = ap (with_kept p) e
-
-pub slice_goes : (line now : Line) (p : Progress) (k : Option (MoveParts × ℤ)) → GoesWith line p → now ≡ line →
-    k ≡ best p.claims p.depth line (take (p.searched + 1) p.roots) → GoesWith now (with_kept p k)
-slice_goes line now p k goes same e = subst (λ l. GoesWith l (with_kept p k)) (sym same) (record { legal = goes.legal; kept = e })
+pub slice_goes : (line now : Line) (p : Progress) (k : Option (MoveParts × ℤ)) (n : ℕ) → GoesWith line p → now ≡ line →
+    k ≡ best p.claims p.depth line (take (p.searched + 1) p.roots) → GoesWith now (with_kept p k n)
+slice_goes line now p k n goes same e = subst (λ l. GoesWith l (with_kept p k n)) (sym same) (record { legal = goes.legal; kept = e })
 
 -- once each root was searched, what is done is the best of all
 pub done_is : (line : Line) (p : Progress) → GoesWith line p → p.searched ≡ length p.roots → done_of p ≡ best p.claims p.depth line p.roots

@@ -1,10 +1,11 @@
-ghost use Rattle.std.specs.Prelude.{◌≡◌, ◌≤◌, true, false};
+ghost use Rattle.std.specs.Prelude.{◌≡◌, ◌≤◌, ◌+◌, ◌-◌, true, false, length};
 ghost use Rattle.std.specs.List.{All};
 ghost use Rattle.chess_types.specs.board.Legal.{is_legal};
 ghost use Rattle.chess_types.specs.board.Lines.{last};
 ghost use Rattle.chess_draws.specs.LineParts.{IsAsBefore};
 ghost use Rattle.chess_search.specs.Best.{best};
-ghost use Rattle.chess_search.specs.Slices.{IsInRange};
+ghost use Rattle.chess_search.specs.Slices.{IsInRange, HasBorder};
+ghost use Rattle.chess_search.specs.Asked.{trees_below};
 
 use crate::nodes::Nodes;
 use crate::search::Searcher;
@@ -29,6 +30,10 @@ pub fn best_counted<A: Allocator>(
     requires roots { All (λ m. is_legal (last line.old.line) m ≡ true) roots.now.items }
     ensures best { result ≡ best claims depth line.old.line roots.now.items }
     ensures in_range { IsInRange result }
+    ensures border { HasBorder result }
+    // The line itself and each root are asked for, and no more positions than by plain minimax.
+    ensures at_least { length roots.now.items + 1 ≤ nodes.new }
+    ensures at_most { nodes.new ≤ 1 + trees_below claims (depth - 1) line.old.line roots.now.items }
     ensures line { IsAsBefore line.old line.new }
 {
     let mut searcher = Searcher::new(claims);
@@ -53,6 +58,7 @@ pub fn best<A: Allocator>(
     requires roots { All (λ m. is_legal (last line.old.line) m ≡ true) roots.now.items }
     ensures best { result ≡ best false depth line.old.line roots.now.items }
     ensures in_range { IsInRange result }
+    ensures border { HasBorder result }
     ensures line { IsAsBefore line.old line.new }
 {
     let mut nodes = Nodes::new();

@@ -1,10 +1,11 @@
-ghost use Rattle.std.specs.Prelude.{◌≡◌, ◌+◌, ◌-◌, ◌≤◌, ◌<◌, Bool, [], IsTrue, Some, pos, neg_ℤ, ◌<ℤ◌, ◌≤ℤ◌};
+ghost use Rattle.std.specs.Prelude.{◌≡◌, ◌+◌, ◌-◌, ◌≤◌, ◌<◌, Bool, [], IsTrue, Some, pos, neg_ℤ, ◌<ℤ◌, ◌≤ℤ◌, ◌^◌, min};
 ghost use Rattle.chess_types.specs.board.Legal.{is_legal, legal_moves};
 ghost use Rattle.chess_types.specs.board.Lines.{last};
 ghost use Rattle.chess_draws.specs.LineParts.{IsAsBefore};
-ghost use Rattle.chess_search.specs.Scores.{IsValue};
+ghost use Rattle.chess_search.specs.Scores.{IsValue, IsApart};
 ghost use Rattle.chess_search.specs.Value.{ended, evaluation_for, value, worth};
-ghost use Rattle.chess_search.specs.Slices.{IsInRange};
+ghost use Rattle.chess_search.specs.Slices.{IsInRange, HasBorder};
+ghost use Rattle.chess_search.specs.Asked.{tree_below, tree_size};
 ghost use Rattle.chess_search.specs.steps.Windows.{FitsWindow, better};
 
 use crate::nodes::Nodes;
@@ -33,6 +34,7 @@ const DRAW: i32 = 0;
 pub(crate) fn evaluation_for(live: &Live) -> i32
     ensures value { result ≡ evaluation_for live.now.position }
     ensures in_range { IsValue result }
+    ensures border { IsApart result }
 {
     let white = live.white();
     match live.position().side {
@@ -47,6 +49,7 @@ fn end_value<A: Allocator>(line: &Line<'_, A>, distance: u8) -> i32
     requires distance { distance ≤ 16 }
     ensures value { (claims : Bool) → ended claims line.now.line distance ≡ Some result }
     ensures in_range { IsValue result }
+    ensures border { IsApart result }
 {
     if !line.in_check() {
         return STALEMATE;
@@ -59,6 +62,7 @@ fn leaf_value<A: Allocator>(line: &mut Line<'_, A>, distance: u8, claims: bool) 
     requires distance { distance ≤ 16 }
     ensures value { result ≡ value claims 0 line.old.line distance }
     ensures in_range { IsValue result }
+    ensures border { IsApart result }
     ensures line { IsAsBefore line.old line.new }
 {
     if !line.has_legal() {
@@ -74,7 +78,8 @@ fn leaf_value<A: Allocator>(line: &mut Line<'_, A>, distance: u8, claims: bool) 
 impl Searcher {
     /// A search that begins: its root is asked for.
     pub(crate) fn new(claims: bool) -> Searcher
-        ensures { result.claims ≡ claims }
+        ensures claims { result.claims ≡ claims }
+        ensures nodes { result.nodes ≡ 1 }
     {
         let mut nodes = Nodes::new();
         nodes.tick();
@@ -83,6 +88,15 @@ impl Searcher {
             nodes,
             experience: Experience::new(),
         }
+    }
+
+    /// The same search begins anew, with what was learned: its root is asked for.
+    pub(crate) fn begin(&mut self)
+        ensures claims { self.new.claims ≡ self.old.claims }
+        ensures nodes { self.new.nodes ≡ 1 }
+    {
+        self.nodes = Nodes::new();
+        self.nodes.tick();
     }
 
     /// An answer for the line's value in the window from alpha to beta (fail-soft alpha-beta).
@@ -102,6 +116,9 @@ impl Searcher {
         requires beta { beta ≤ℤ pos 30001 }
         ensures answer { FitsWindow alpha beta (value self.old.claims depth line.old.line distance) result }
         ensures in_range { IsValue result }
+        ensures border { IsApart result }
+        ensures at_least { min (self.old.nodes + 1) (2 ^ 64 - 1) ≤ self.new.nodes }
+        ensures at_most { self.new.nodes ≤ self.old.nodes + tree_size self.old.claims depth line.old.line }
         ensures claims { self.new.claims ≡ self.old.claims }
         ensures line { IsAsBefore line.old line.new }
     {
@@ -149,6 +166,9 @@ impl Searcher {
         requires beta { beta ≤ℤ pos 30001 }
         ensures answer { FitsWindow alpha beta (worth self.old.claims depth line.old.line distance m) result }
         ensures in_range { IsValue result }
+        ensures border { IsApart result }
+        ensures at_least { min (self.old.nodes + 1) (2 ^ 64 - 1) ≤ self.new.nodes }
+        ensures at_most { self.new.nodes ≤ self.old.nodes + tree_below self.old.claims depth line.old.line m }
         ensures claims { self.new.claims ≡ self.old.claims }
         ensures line { IsAsBefore line.old line.new }
     {
@@ -171,8 +191,12 @@ impl Searcher {
         requires deep { 1 ≤ depth }
         requires shallow { depth ≤ 16 }
         requires kept { IsInRange kept }
+        requires border { HasBorder kept }
         ensures better { result ≡ better kept m (worth self.old.claims (depth - 1) line.old.line 0 m) }
         ensures in_range { IsInRange result }
+        ensures border { HasBorder result }
+        ensures at_least { min (self.old.nodes + 1) (2 ^ 64 - 1) ≤ self.new.nodes }
+        ensures at_most { self.new.nodes ≤ self.old.nodes + tree_below self.old.claims (depth - 1) line.old.line m }
         ensures claims { self.new.claims ≡ self.old.claims }
         ensures line { IsAsBefore line.old line.new }
     {

@@ -1,7 +1,8 @@
-ghost use Rattle.std.specs.Prelude.{◌≡◌, ◌+◌, ◌<◌, ◌≤◌, None, length};
+ghost use Rattle.std.specs.Prelude.{◌≡◌, ◌+◌, ◌-◌, ◌^◌, ◌<◌, ◌≤◌, None, length, min, take};
 ghost use Rattle.chess_draws.specs.LineParts.{IsAsBefore};
 ghost use Rattle.chess_search.specs.Best.{best};
-ghost use Rattle.chess_search.specs.Slices.{Progress, IsInRange, GoesWith, sliced, done_of};
+ghost use Rattle.chess_search.specs.Slices.{Progress, IsInRange, HasBorder, GoesWith, done_of, next_root};
+ghost use Rattle.chess_search.specs.Asked.{trees_below};
 
 use crate::search::Searcher;
 use arrayvec::ArrayVec;
@@ -22,13 +23,13 @@ pub struct Slices {
 
 impl Model for Slices {
     ghost use Rattle.std.specs.Prelude.{◌≤◌, length};
-    ghost use Rattle.chess_search.specs.Slices.{Progress, IsInRange};
+    ghost use Rattle.chess_search.specs.Slices.{Progress, IsInRange, HasBorder};
 
     ghost Value = { Progress };
 
-    ghost view = { λ s. record { depth = s.depth; claims = s.searcher.claims; roots = s.roots.items; searched = s.searched; kept = s.kept } };
+    ghost view = { λ s. record { depth = s.depth; claims = s.searcher.claims; roots = s.roots.items; searched = s.searched; kept = s.kept; nodes = s.searcher.nodes } };
 
-    ghost invariant = { λ s. (1 ≤ s.depth) × (s.depth ≤ 16) × (s.searched ≤ length s.roots.items) × IsInRange s.kept };
+    ghost invariant = { λ s. (1 ≤ s.depth) × (s.depth ≤ 16) × (s.searched ≤ length s.roots.items) × IsInRange s.kept × HasBorder s.kept };
 }
 
 impl Slices {
@@ -36,7 +37,7 @@ impl Slices {
     pub fn start(depth: u8, roots: ArrayVec<Move, 432>, claims: bool) -> Slices
         requires deep { 1 ≤ depth }
         requires shallow { depth ≤ 16 }
-        ensures { result ≡ record { depth = depth; claims = claims; roots = roots.items; searched = 0; kept = None } }
+        ensures { result ≡ record { depth = depth; claims = claims; roots = roots.items; searched = 0; kept = None; nodes = 1 } }
     {
         Slices {
             depth,
@@ -54,7 +55,12 @@ impl Slices {
         requires some { 0 < length self.old.roots }
         requires none { line.old.looked ≡ 0 }
         requires goes { GoesWith line.old.line self.old }
-        ensures slice { self.new ≡ sliced line.old.line self.old }
+        ensures search { (self.new.depth ≡ self.old.depth) × (self.new.claims ≡ self.old.claims) × (self.new.roots ≡ self.old.roots) }
+        ensures searched { self.new.searched ≡ self.old.searched + 1 }
+        ensures kept { self.new.kept ≡ best self.old.claims self.old.depth line.old.line (take (self.old.searched + 1) self.old.roots) }
+        // The root is asked for, and no more positions than plain minimax asks for it.
+        ensures at_least { min (self.old.nodes + 1) (2 ^ 64 - 1) ≤ self.new.nodes }
+        ensures at_most { self.new.nodes ≤ self.old.nodes + trees_below self.old.claims (self.old.depth - 1) line.old.line (next_root self.old) }
         ensures goes { GoesWith line.new.line self.new }
         ensures done { self.new.searched ≡ length self.new.roots → done_of self.new ≡ best self.new.claims self.new.depth line.new.line self.new.roots }
         ensures line { IsAsBefore line.old line.new }
@@ -64,15 +70,16 @@ impl Slices {
         self.searched += 1;
     }
 
-    /// The search of the same roots at another depth, 1 to 16 plies, which has not begun.
+    /// The search of the same roots at another depth, 1 to 16 plies, which has not begun. What was learned of the order of moves is kept.
     pub fn again(&mut self, depth: u8)
         requires deep { 1 ≤ depth }
         requires shallow { depth ≤ 16 }
-        ensures { self.new ≡ record { depth = depth; claims = self.old.claims; roots = self.old.roots; searched = 0; kept = None } }
+        ensures { self.new ≡ record { depth = depth; claims = self.old.claims; roots = self.old.roots; searched = 0; kept = None; nodes = 1 } }
     {
         self.depth = depth;
         self.searched = 0;
         self.kept = None;
+        self.searcher.begin();
     }
 
     /// How many plies deep each root is searched.
@@ -103,6 +110,7 @@ impl Slices {
     pub fn so_far(&self) -> Option<(Move, i32)>
         ensures kept { result ≡ self.now.kept }
         ensures in_range { IsInRange result }
+        ensures border { HasBorder result }
     {
         self.kept
     }
@@ -119,7 +127,9 @@ impl Slices {
     }
 
     /// The positions whose value this search has asked for, its root included.
-    pub fn nodes(&self) -> u64 {
+    pub fn nodes(&self) -> u64
+        ensures { result ≡ self.now.nodes }
+    {
         self.searcher.nodes.nodes()
     }
 }

@@ -1,11 +1,12 @@
-use Rattle.std.proofs.Common.{◌≡◌, ◌+◌, ◌*◌, ◌++◌, ◌≤◌, ℕ, List, length, ap, subst, ◌∙◌, arith}
+use Rattle.std.proofs.Common.{◌≡◌, ◌+◌, ◌*◌, ◌++◌, ◌≤◌, ℕ, ◌/◌, List, length, min, ap, sym, subst, ◌∙◌, arith}
+use Rattle.std.proofs.lemmas.List.{length-append}
 use Rattle.chess_types.specs.board.Position.{State}
 use Rattle.chess_types.specs.board.Lines.{last}
 use Rattle.chess_types.specs.board.Repetition.{repetitions}
 use Rattle.chess_draws.specs.declared.ply.Ply.{Ply}
 use Rattle.chess_draws.specs.steps.LookBack.{came_back}
 use Rattle.chess_draws.specs.LineParts.{LineParts}
-use Rattle.chess_draws.proofs.LineLemmas.{here_last, came_often, recently, IsRecent}
+use Rattle.chess_draws.proofs.LineLemmas.{here_last, plies_moves, came_often, recently, IsRecent}
 use Rattle.chess_draws.proofs.line.Line.count.Goals as goal
 
 pub returns-clause-value : goal.returns-clause-value
@@ -20,6 +21,16 @@ returns-clause-value g c =
     (subst (λ (xs : List Ply). (n : ℕ) → n ≤ c.behind-self.inside.clock → n ≤ length xs → n ≤ 2 * c.look_back-count.result.1 + 1) all
     c.look_back-count.ensures.reaches)
     ∙ ap (λ (l : LineParts). repetitions l.line) c.self.view_is
+
+pub returns-clause-compared : goal.returns-clause-compared
+returns-clause-compared g c =
+    let clock : c.behind-self.inside.clock ≡ (last c.args.self.now.line).clock =
+    ap (λ (s : State). s.clock) (c.behind-self.view_is ∙ c.position.ensures.value ∙ here_last c.self.invariant.line c.self.view_is) in
+    let plies : length c.as_slice.result.now + length c.as_slice-2.result.now ≡ length c.args.self.now.line.moves =
+    sym (length-append c.as_slice.result.now c.as_slice-2.result.now)
+    ∙ ap length (λ i. c.as_slice.ensures.value i ++ c.as_slice-2.ensures.value i)
+    ∙ plies_moves c.self.invariant.line c.self.view_is in
+    c.look_back-count.ensures.compared ∙ (λ i. min (plies i) (clock i) / 2)
 
 pub returns-clause-at_most : goal.returns-clause-at_most
 returns-clause-at_most g c =

@@ -1,14 +1,19 @@
-use Rattle.std.proofs.Common.{◌≡◌, ◌<◌, length, take, map, pos, neg_ℤ, ◌≤ℤ◌, ◌-◌, arith, ◌∙◌, w32, to_z}
+use Rattle.std.proofs.Common.{◌≡◌, ◌+◌, ◌<◌, ◌≤◌, length, take, map, pos, neg_ℤ, ◌≤ℤ◌, ◌-◌, arith, ap, sym, ◌∙◌, w32, to_z}
 use Rattle.std.proofs.lemmas.Int.{ints, clamps}
 use Rattle.std.proofs.lemmas.List.{length-map}
 use Rattle.std.proofs.lemmas.List.Sorted.{length_permutation}
 use Rattle.std.proofs.Math.Seq.{take-length}
+use Rattle.std.proofs.lemmas.List.Sums.{sum_by_more, sum_by_more_le}
+use Rattle.std.specs.List.{sum_by}
 use Rattle.std.specs.List.Sorted.{IsPermutation}
 use Rattle.chess_types.specs.board.Legal.{legal_moves}
 use Rattle.chess_types.specs.board.Lines.{last}
 use Rattle.chess_search.specs.Value.{worth, greatest}
+use Rattle.chess_search.specs.Asked.{tree_below}
 use Rattle.chess_search.specs.steps.Windows.{FitsWindow}
 use Rattle.chess_search.proofs.WindowLemmas.{value-any_order, value-ended, ended-drawn, drawn_at, FitsWindow-refl, answered_all, FitsWindow-negated, best_more, upper_more, lower_more, cut_off, within_greatest, legal_at}
+use Rattle.chess_search.proofs.AskedLemmas.{tree_any_order}
+use Rattle.chess_search.proofs.BorderLemmas.{apart_negated, apart_next}
 use Rattle.chess_search.proofs.search.Searcher.+search.Goals as goal
 
 pub score-returns-clause-answer : goal.score-returns-clause-answer
@@ -71,12 +76,18 @@ search-loop-m-preserved g t c =
     let r = c.score-answer.ensures.in_range in
     let l = c.score-answer.ensures.line in
     let a = rw (i.line.line, i.claims) at c.score-answer.ensures.answer in
+    let below = tree_below claims (c.args.depth - 1) line in
+    let trees : sum_by below (take (c.loop-m.m-index + 1) items) ≡ sum_by below (take c.loop-m.m-index items) + below m =
+    sum_by_more below items c.loop-m.m-index m (omega arith) ∙ ap (λ x. sum_by below (take c.loop-m.m-index items) + below x) (sym c.m-item.is) in
     let more = best_more worths (neg_ℤ (pos 30001)) items c.loop-m.m-index m (omega arith) c.m-item.is in
     record {
       line = record { line = l.line ∙ i.line.line; looked = l.looked ∙ i.line.looked; words = l.words ∙ i.line.words; room = l.room ∙ i.line.room };
       claims = c.score-answer.ensures.claims ∙ i.claims;
       below = omega (arith, ints);
       low = omega (arith, ints, r.low);
+      border = λ h. apart_next best c.score-answer.result _ i.border r.low c.score-answer.ensures.border (omega (arith, ints, clamps));
+      at_least = omega (arith, i.at_least, c.score-answer.ensures.at_least);
+      at_most = omega (arith, i.at_most, rw (i.line.line, i.claims) at c.score-answer.ensures.at_most, trees);
       answered = λ h. omega (arith, ints, r.low);
       high = omega (arith, ints, clamps, r.high);
       upper = rw more (upper_more c.args.beta best c.score-answer.result _ _ _ i.upper (λ h. a.upper (omega (arith, ints))) (omega (arith, ints, clamps)) (omega (arith, ints)));
@@ -110,3 +121,51 @@ search-returns-clause-in_range g t c =
     let same_length = length_permutation moves items permuted in
     let some : 0 < length items = grind (arith, c.is_empty.ensures, c.if-is_empty.false, same_length) in
     record { low = omega (arith, ints, c.loop-m.invariant.answered (omega arith)); high = c.loop-m.invariant.high }
+
+pub score-returns-clause-border : goal.score-returns-clause-border
+score-returns-clause-border g t c = apart_negated c.search-answer.result _ (omega (arith, ints)) c.search-answer.ensures.border
+
+pub score-returns-clause-at_most : goal.score-returns-clause-at_most
+score-returns-clause-at_most g t c = rw c.look.ensures.line at c.search-answer.ensures.at_most
+
+pub search-returns-then-best-beta-clause-border : goal.search-returns-then-best-beta-clause-border
+search-returns-then-best-beta-clause-border g t c =
+    apart_next (to_z w32 c.loop-m.best-bits) c.score-answer.result _ c.loop-m.invariant.border c.score-answer.ensures.in_range.low c.score-answer.ensures.border (omega (arith, ints, clamps))
+
+pub search-returns-clause-border : goal.search-returns-clause-border
+search-returns-clause-border g t c =
+    let items = c.as_slice-m-items.result.now in
+    let permuted : IsPermutation c.moves-moves.result.items items = rw c.as_slice-m-items.ensures.value c.put_in_order.ensures in
+    let same_length = length_permutation c.moves-moves.result.items items permuted in
+    let some : 0 < length items = grind (arith, c.is_empty.ensures, c.if-is_empty.false, same_length) in
+    c.loop-m.invariant.border (omega (arith, ints, c.loop-m.invariant.answered (omega arith)))
+
+pub search-returns-then-best-beta-clause-at_most : goal.search-returns-then-best-beta-clause-at_most
+search-returns-then-best-beta-clause-at_most g t c =
+    let items = c.as_slice-m-items.result.now in
+    let m = c.m-item.result in
+    let claims = c.args.self.now.claims in
+    let line = c.args.line.now.line in
+    let i = c.loop-m.invariant in
+    let permuted : IsPermutation c.moves-moves.result.items items = rw c.as_slice-m-items.ensures.value c.put_in_order.ensures in
+    let playing = drawn_at claims _ _ _ _ c.moves-moves.ensures.as_before.line c.is_drawn.ensures.value c.if-is_drawn.false in
+    let deep : 0 < c.args.depth = omega arith in
+    let below = tree_below claims (c.args.depth - 1) line in
+    let part : sum_by below (take c.loop-m.m-index items) + below m ≤ sum_by below items =
+    omega (arith, ap below c.m-item.is, sum_by_more_le below items c.loop-m.m-index m (omega arith)) in
+    let whole = tree_any_order claims c.args.depth line items playing deep (rw c.moves-moves.ensures.listed at permuted) in
+    omega (arith, i.at_most, rw (i.line.line, i.claims) at c.score-answer.ensures.at_most, part, whole)
+
+pub search-returns-clause-at_most : goal.search-returns-clause-at_most
+search-returns-clause-at_most g t c =
+    let items = c.as_slice-m-items.result.now in
+    let claims = c.args.self.now.claims in
+    let line = c.args.line.now.line in
+    let i = c.loop-m.invariant in
+    let permuted : IsPermutation c.moves-moves.result.items items = rw c.as_slice-m-items.ensures.value c.put_in_order.ensures in
+    let playing = drawn_at claims _ _ _ _ c.moves-moves.ensures.as_before.line c.is_drawn.ensures.value c.if-is_drawn.false in
+    let deep : 0 < c.args.depth = omega arith in
+    let at_end : c.loop-m.m-index ≡ length items = omega arith in
+    let all : take c.loop-m.m-index items ≡ items = rw at_end (take-length items) in
+    let whole = tree_any_order claims c.args.depth line items playing deep (rw c.moves-moves.ensures.listed at permuted) in
+    omega (arith, rw all at i.at_most, whole)

@@ -1,7 +1,9 @@
-use Rattle.std.proofs.Common.{◌≡◌, ◌+◌, ◌*◌, ◌-◌, ◌<◌, ◌≤ℤ◌, ◌<ℤ◌, fold, map, take, neg_ℤ, pos}
+use Rattle.std.proofs.Common.{◌≡◌, ◌+◌, ◌*◌, ◌-◌, ◌^◌, ◌<◌, ◌≤◌, ◌≤ℤ◌, ◌<ℤ◌, min, fold, map, take, neg_ℤ, pos}
 use Rattle.std.specs.Int.{int_max}
 use Rattle.chess_draws.specs.LineParts.{IsAsBefore}
 use Rattle.chess_search.specs.Value.{worth}
+use Rattle.chess_search.specs.Scores.{IsApart}
+use Rattle.chess_search.specs.Asked.{trees_below}
 use Rattle.chess_search.proofs.search.Searcher.+search.Given as goal
 
 abbrev pub decreases-search : goal.decreases-search
@@ -19,6 +21,9 @@ invariant-search-loop-m g l =
       claims : l.self.claims ≡ l.fn.self.claims;
       below : l.best <ℤ l.fn.beta;
       low : neg_ℤ (pos 30001) ≤ℤ l.best;
+      border : neg_ℤ (pos 30001) <ℤ l.best → IsApart l.best;
+      at_least : min (l.fn.self.nodes + 1) (2 ^ 64 - 1) ≤ l.self.nodes;
+      at_most : l.self.nodes ≤ l.fn.self.nodes + 1 + trees_below l.fn.self.claims (l.fn.depth - 1) l.fn.line.line (take l.m-index l.m-items);
       answered : 0 < l.m-index → neg_ℤ (pos 30000) ≤ℤ l.best;
       high : l.best ≤ℤ pos 30000;
       upper : so_far ≤ℤ l.best;

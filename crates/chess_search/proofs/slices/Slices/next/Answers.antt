@@ -1,8 +1,10 @@
-use Rattle.std.proofs.Common.{◌≡◌, ◌+◌, take, arith, refl}
+use Rattle.std.proofs.Common.{◌≡◌, ◌+◌, ◌-◌, take, arith, refl}
 use Rattle.chess_search.specs.contracts.slices.Slices.{the_view}
 use Rattle.chess_search.specs.Best.{best}
+use Rattle.chess_search.specs.Asked.{tree_below}
 use Rattle.chess_search.proofs.RootLemmas.{root_legal}
-use Rattle.chess_search.proofs.SliceLemmas.{slice_kept, slice_is, slice_goes, done_is, IsUnderway, underway}
+use Rattle.chess_search.proofs.SliceLemmas.{slice_kept, slice_goes, done_is, IsUnderway, underway}
+use Rattle.chess_search.proofs.AskedLemmas.{next_tree}
 use Rattle.chess_search.proofs.slices.Slices.next.Given.{Over}
 use Rattle.chess_search.proofs.slices.Slices.next.Goals.{After-as_slice, After-try_root-self-inside}
 use Rattle.chess_search.proofs.slices.Slices.next.Goals as goal
@@ -32,23 +34,29 @@ try_root-self-inside-requires-clause-legal g c =
 pub invariant_of-self : goal.invariant_of-self
 invariant_of-self g c =
     let before = found g (goal.at.invariant_of-self g c).After-as_slice in
-    (c.self.invariant.0, c.self.invariant.1, omega (arith, before.left), c.try_root-self-inside.ensures.in_range)
+    (c.self.invariant.0, c.self.invariant.1, omega (arith, before.left), c.try_root-self-inside.ensures.in_range, c.try_root-self-inside.ensures.border)
 
-pub returns-clause-slice : goal.returns-clause-slice
-returns-clause-slice g c =
-    rw (← c.self.view_is, c.try_root-self-inside.ensures.claims)
-    (slice_is c.args.line.now.line (the_view c.self.inside) _ (kept g (goal.at.returns-clause-slice g c).After-try_root-self-inside))
+pub returns-clause-kept : goal.returns-clause-kept
+returns-clause-kept g c = rw (← c.self.view_is) (kept g (goal.at.returns-clause-kept g c).After-try_root-self-inside)
+
+pub returns-clause-at_most : goal.returns-clause-at_most
+returns-clause-at_most g c =
+    let p = the_view c.self.inside in
+    let before = found g (goal.at.returns-clause-at_most g c).After-as_slice in
+    let tree = next_tree (tree_below p.claims (p.depth - 1) c.args.line.now.line) p.roots p.searched c.index-as_slice-self.result before.left
+    (rw c.as_slice.ensures.value at c.index-as_slice-self.is) in
+    rw (← c.self.view_is) (omega (arith, tree, c.try_root-self-inside.ensures.at_most))
 
 pub returns-clause-goes : goal.returns-clause-goes
 returns-clause-goes g c =
     let at = goal.at.returns-clause-goes g c in
     rw c.try_root-self-inside.ensures.claims
-    (slice_goes c.args.line.now.line _ (the_view c.self.inside) _ (found g at.After-as_slice).goes c.try_root-self-inside.ensures.line.line
+    (slice_goes c.args.line.now.line _ (the_view c.self.inside) _ _ (found g at.After-as_slice).goes c.try_root-self-inside.ensures.line.line
     (kept g at.After-try_root-self-inside))
 
 pub returns-clause-done : goal.returns-clause-done
 returns-clause-done g c =
     let at = goal.at.returns-clause-done g c in
-    let goes_on = slice_goes c.args.line.now.line _ (the_view c.self.inside) _ (found g at.After-as_slice).goes c.try_root-self-inside.ensures.line.line
+    let goes_on = slice_goes c.args.line.now.line _ (the_view c.self.inside) _ 0 (found g at.After-as_slice).goes c.try_root-self-inside.ensures.line.line
     (kept g at.After-try_root-self-inside) in
     λ e. rw c.try_root-self-inside.ensures.claims (done_is _ _ goes_on e)
