@@ -1,5 +1,5 @@
 -- How many men of a sort the board has after a legal move.
-use Rattle.std.proofs.Common.{◌⊎◌, ◌≡◌, ℕ, ◌+◌, ◌-◌, ◌<◌, ◌≤◌, ◌&&◌, Bool, true, false, List, [], ◌∷◌, Option, Some, None, refl, sym, ap, subst, ◌∙◌, arith, inl, inr}
+use Rattle.std.proofs.Common.{◌⊎◌, ◌≡◌, ℕ, ◌+◌, ◌-◌, ◌<◌, ◌≤◌, ◌&&◌, Bool, true, false, List, [], ◌∷◌, Option, Some, None, refl, sym, ap, subst, arith, inl, inr}
 use Rattle.std.specs.List.{Contains}
 use Rattle.std.proofs.lemmas.Bool.{cases_Bool}
 use Rattle.chess_types.specs.declared.board.man.Colour.{Colour}
@@ -8,7 +8,6 @@ use Rattle.chess_types.specs.declared.board.man.Kind.{Kind}
 use Rattle.chess_types.specs.declared.board.man.Kind.TheVariants.{Pawn, Knight, Bishop, Rook, Queen, King}
 use Rattle.chess_types.specs.declared.board.man.Man.{Man}
 use Rattle.chess_types.specs.declared.board.position.Wing.TheVariants.{KingSide, QueenSide}
-use Rattle.chess_types.specs.board.Board.{Board}
 use Rattle.chess_types.specs.board.Texts.{names_promotion}
 use Rattle.chess_types.specs.board.Men.{count_squares, is_man, is_of, is_pawn, men_of, same_colour, same_kind}
 use Rattle.chess_types.specs.board.MoveParts.{MoveParts}
@@ -26,7 +25,7 @@ use Rattle.chess_play.proofs.Castled.{ready, rook_census}
 use Rattle.chess_moves.proofs.Candidates.{pseudo_names}
 use Rattle.chess_moves.proofs.LegalLaws.{listed_legal, legal_well_formed}
 use Rattle.chess_laws.specs.DeadLaws.{AreListed}
-use Rattle.chess_laws.specs.MoveLaws.{how_many, promoted, IsArmy}
+use Rattle.chess_laws.specs.MoveLaws.{how_many, IsArmy}
 
 -- how many men of a sort there are now, with the captured one, where a man of colour d has become another
 abbrev Turned : Colour → Colour → Kind → Kind → Kind → (now captured before : ℕ) → Type 0
@@ -155,6 +154,7 @@ module _ (p : State) (m : MoveParts) (man : Man) (setup : IsSetup p) (from : m.f
             λ kind. subst (λ (x : Man). Counted c kind x) other.3 (counted c kind) in
             promotes c man.colour man.kind other.0 _ _ _ _ _ _ _ _ _ _ _ _ _ _ _ other.1 other.2 (each Pawn) (each Knight) (each Bishop) (each Rook) (each Queen) before
       ]
+
 -- a listed move, with the man who makes it
 record Moved (p : State) (m : MoveParts) : Type 0 where
   from : m.from < 64

@@ -1,33 +1,31 @@
 -- What the list of dead positions says of each man, and that a legal move keeps it.
-use Rattle.std.proofs.Common.{◌⊎◌, ◌≡◌, ◌≢◌, ℕ, zero, suc, ◌+◌, ◌%◌, ◌<◌, ◌≤◌, ◌==◌, nat_le, Bool, true, false, not, ◌&&◌, ◌||◌, length, filter, Option, Some, None, is_none, refl, sym, ap, subst, ◌∙◌, arith, inl, inr, count_by}
+use Rattle.std.proofs.Common.{◌⊎◌, ◌≡◌, ◌≢◌, ℕ, ◌<◌, ◌≤◌, nat_le, Bool, true, false, not, ◌||◌, length, Option, Some, None, refl, sym, ap, subst, ◌∙◌, arith, inl, inr, count_by}
 use Rattle.std.specs.List.{list_all, Contains}
 use Rattle.std.proofs.lemmas.List.Sums.{length-filter}
-use Rattle.std.proofs.lemmas.Bool.{and_parts, and_from, or_cases, or_left, or_right, cases_Bool, cases_eq, not-true, eqb-true, eq-eqb, true≢false, false_from_ne_true, le-leb, leb-true}
+use Rattle.std.proofs.lemmas.Bool.{and_parts, and_from, or_cases, or_left, or_right, cases_eq, eqb-true, eq-eqb, true≢false, false_from_ne_true, le-leb, leb-true}
 use Rattle.std.proofs.lemmas.Bool.Decides.{nat_tests}
-use Rattle.chess_types.specs.declared.board.man.Colour.{Colour}
-use Rattle.chess_types.specs.declared.board.man.Colour.TheVariants.{White, Black}
 use Rattle.chess_types.specs.declared.board.man.Kind.{Kind}
-use Rattle.chess_types.specs.declared.board.man.Kind.TheVariants.{Pawn, Knight, Bishop, Rook, Queen, King}
+use Rattle.chess_types.specs.declared.board.man.Kind.TheVariants.{Pawn, Knight, Bishop, Rook}
 use Rattle.chess_types.specs.declared.board.man.Man.{Man}
 use Rattle.chess_types.specs.declared.board.position.Wing.{Wing}
 use Rattle.chess_types.specs.declared.board.position.Wing.TheVariants.{KingSide, QueenSide}
-use Rattle.chess_types.specs.board.Board.{Board, Look, man_at}
+use Rattle.chess_types.specs.board.Board.{Look, man_at}
 use Rattle.chess_types.specs.board.Squares.{squares}
 use Rattle.chess_types.specs.board.Men.{same_kind, is_king, is_pawn, count_squares}
 use Rattle.chess_types.specs.board.MoveParts.{MoveParts}
 use Rattle.chess_types.specs.board.Attack.{leaps, slides_to, attacks_as}
 use Rattle.chess_types.specs.board.Position.{State, IsSetup, IsWellFormed, look, rook_home}
-use Rattle.chess_types.specs.board.Pseudo.{castles, moves_as, moves_man, is_pseudo}
-use Rattle.chess_types.specs.board.After.{after, after_by, arriving, captured_at, is_castling, placement_after, transferred}
-use Rattle.chess_types.specs.board.Legal.{is_legal, legal_moves}
-use Rattle.chess_types.specs.board.Dead.{is_other, holds_bishop, holds_minor, is_light, others, is_lone_minor, is_one_coloured, is_dead}
+use Rattle.chess_types.specs.board.Pseudo.{moves_as, moves_man, is_pseudo}
+use Rattle.chess_types.specs.board.After.{after, after_by, arriving, captured_at, is_castling, transferred}
+use Rattle.chess_types.specs.board.Legal.{legal_moves}
+use Rattle.chess_types.specs.board.Dead.{is_other, holds_bishop, holds_minor, is_light, others, is_dead}
 use Rattle.chess_types.proofs.Runs.{list_all_at, list_all_from}
 use Rattle.chess_types.proofs.Sums.{bit}
 use Rattle.chess_types.proofs.SameLemmas.{kind_is}
 use Rattle.chess_types.proofs.MoveLemmas.{legal_pseudo, pseudo_man}
 use Rattle.chess_play.proofs.Facts.{Facts, facts, never}
-use Rattle.chess_play.proofs.CastlingSquares.{IsCastling, castling_parts, rook_inside}
-use Rattle.chess_play.proofs.Carried.{carried_census, carried_here, carried_from, carried_there, captured, Captured}
+use Rattle.chess_play.proofs.CastlingSquares.{castling_parts, rook_inside}
+use Rattle.chess_play.proofs.Carried.{carried_census, carried_here, carried_from, carried_there}
 use Rattle.chess_moves.proofs.GuardLemmas.{list_all-filter}
 use Rattle.chess_moves.proofs.LegalLaws.{listed_legal}
 use Rattle.chess_laws.proofs.SquareColours.{tone, bishop_tone}
@@ -83,14 +81,20 @@ dead_is p h =
           let a : (list_all (λ s. holds_bishop (men s)) (others men) ≡ true) × ((list_all is_light (others men) || list_all (λ s. not (is_light s)) (others men)) ≡ true) =
           and_parts _ _ one in
           elim (or_cases _ _ a.1) [
-            | inl light ↦ inr (1, record {
+            | inl light ↦ inr (
+              1,
+              record {
                 bishops = others_each (λ s. holds_bishop (men s)) men a.0;
                 alike = λ s inside other. light_tone s (others_each is_light men light s inside other);
-              })
-            | inr dark ↦ inr (0, record {
+              },
+            )
+            | inr dark ↦ inr (
+              0,
+              record {
                 bishops = others_each (λ s. holds_bishop (men s)) men a.0;
                 alike = λ s inside other. dark_tone s (others_each (λ x. not (is_light x)) men dark s inside other);
-              })
+              },
+            )
           ]
     ]
 

@@ -1,9 +1,9 @@
 -- No dead position is mate: a king that is checked there has a square to go to, on its file or its rank.
-use Rattle.std.proofs.Common.{◌⊎◌, ◌≡◌, ◌≢◌, ℕ, zero, suc, ◌+◌, ◌<◌, ◌≤◌, ◌==◌, nat_lt, cond, eqb, Bool, true, false, not, ◌&&◌, ◌||◌, List, [], ◌∷◌, length, Option, Some, None, refl, sym, ap, subst, ◌∙◌, arith, inl, inr, count_by}
+use Rattle.std.proofs.Common.{◌≡◌, ◌≢◌, ℕ, ◌+◌, ◌<◌, ◌≤◌, cond, eqb, Bool, true, false, not, ◌&&◌, List, [], ◌∷◌, Option, Some, None, refl, sym, ap, subst, ◌∙◌, arith, inl, inr, count_by}
 use Rattle.std.specs.List.{list_any, Contains}
 use Rattle.std.proofs.lemmas.Option.{same_Some}
 use Rattle.std.proofs.Math.Bool.{and-false}
-use Rattle.std.proofs.lemmas.Bool.{and_parts, and_from, or_cases, or_left, or_right, cases_Bool, cases_eq, not-true, not_from_false, eqb-true, eq-eqb, ne_eqb, true≢false, false_from_ne_true, ltb-true}
+use Rattle.std.proofs.lemmas.Bool.{and_parts, and_from, or_cases, or_left, cases_Bool, cases_eq, not-true, not_from_false, eqb-true, eq-eqb, ne_eqb, true≢false, false_from_ne_true, ltb-true}
 use Rattle.std.proofs.lemmas.Bool.Decides.{nat_tests}
 use Rattle.chess_types.specs.declared.board.man.Colour.{Colour}
 use Rattle.chess_types.specs.declared.board.man.Colour.TheVariants.{White, Black}
@@ -12,11 +12,11 @@ use Rattle.chess_types.specs.declared.board.man.Kind.TheVariants.{Pawn, Knight, 
 use Rattle.chess_types.specs.declared.board.man.Man.{Man}
 use Rattle.chess_types.specs.board.Board.{Board, Look, man_at}
 use Rattle.chess_types.specs.board.Squares.{squares}
-use Rattle.chess_types.specs.board.Men.{opponent, same_colour, same_kind, is_king, is_of, is_king_of, count_squares, kings_of, men_of}
+use Rattle.chess_types.specs.board.Men.{opponent, same_colour, is_king, is_of, is_king_of, count_squares, kings_of, men_of}
 use Rattle.chess_types.specs.board.MoveParts.{MoveParts}
 use Rattle.chess_types.specs.board.Attack.{leaps, slides, slides_to, attacks_as, attacks_for, is_attacked, in_check}
 use Rattle.chess_types.specs.board.Position.{State, IsSetup, IsWellFormed, look}
-use Rattle.chess_types.specs.board.Pseudo.{may_enter, moves_as, moves_man, is_pseudo}
+use Rattle.chess_types.specs.board.Pseudo.{moves_as, moves_man, is_pseudo}
 use Rattle.chess_types.specs.board.After.{after}
 use Rattle.chess_types.specs.board.Lines.{play}
 use Rattle.chess_types.specs.board.Legal.{is_legal, legal_moves}
@@ -26,7 +26,6 @@ use Rattle.chess_types.proofs.Runs.{list_any_at, list_any_from}
 use Rattle.chess_types.proofs.Sums.{bit, total, total-add, total-agree, total-at, total-one, sum_by-range}
 use Rattle.chess_types.proofs.SameLemmas.{same_self, same_is, kind_is}
 use Rattle.chess_types.proofs.MoveLemmas.{leaps_self}
-use Rattle.chess_types.proofs.AllMoves.{IsMove}
 use Rattle.chess_attack.proofs.Kings.{no_king}
 use Rattle.chess_attack.proofs.KingSteps.{check_there}
 use Rattle.chess_attack.proofs.Lifted.{OnlyKing, only_king, not_attacked, check_from, no_check}
@@ -35,7 +34,7 @@ use Rattle.chess_play.proofs.Setups.{setup_after_move}
 use Rattle.chess_moves.proofs.LegalLaws.{legal_listed, listed_legal, legal_well_formed}
 use Rattle.chess_laws.specs.DeadLaws.{AreListed, is_mate}
 use Rattle.chess_laws.proofs.SquareColours.{tone, beside, bishop_tone, knight_tone, escapes, escape}
-use Rattle.chess_laws.proofs.DeadLemmas.{IsLone, IsBishops, dead_is, lone_dead, dead_minors, dead_stays, now_here, now_gone, now_there}
+use Rattle.chess_laws.proofs.DeadLemmas.{IsLone, IsBishops, dead_is, lone_dead, dead_stays, now_here, now_gone, now_there}
 
 -- a test that some square meets
 found : (test : ℕ → Bool) → list_any test squares ≡ true → (t : ℕ) × (t < 64) × (test t ≡ true)
@@ -288,16 +287,20 @@ flight p well dead checked =
           let kind : man.kind ≡ Bishop = bishop_kind man (sym (ap holds_bishop here) ∙ one.1.bishops x hx there) in
           let of_king : tone k ≡ one.0 = sym (bishop_tone x k hx own.on_board (bishop_reach man men x k kind attacks)) ∙ one.1.alike x hx there in
           bishops_leave men one.0 e inside one.1 (λ same. omega arith)
-    ] in
-    (k, j, e, record {
-      own = own;
-      theirs = theirs;
-      inside = inside;
-      near = f.1;
-      far = not-true _ d.1;
-      apart = λ same. true≢false (sym (eq-eqb j e same) ∙ not-true _ b.1);
-      leave = leave;
-    })
+    ] in (
+      k,
+      j,
+      e,
+      record {
+        own = own;
+        theirs = theirs;
+        inside = inside;
+        near = f.1;
+        far = not-true _ d.1;
+        apart = λ same. true≢false (sym (eq-eqb j e same) ∙ not-true _ b.1);
+        leave = leave;
+      },
+    )
 
 module _ (p : State) (k j e : ℕ) (well : IsWellFormed p) (dead : is_dead p ≡ true) (way : Flight p k j e) where
   abbrev king : Man
@@ -420,8 +423,21 @@ two_kings p well white black =
     let o : ℕ → ℕ = λ s. bit (is_other (men s)) in
     let e : total (λ s. w s + b s) 0 64 ≡ total (λ s. (kw s + kb s) + o s) 0 64 = total-agree (λ s. w s + b s) (λ s. (kw s + kb s) + o s) 0 64 (λ s low high. sorts (men s)) in
     let none : total o 0 64 ≡ 0 =
-    omega (arith, e, total-add w b 0 64, total-add (λ s. kw s + kb s) o 0 64, total-add kw kb 0 64, sum_by-range w 0 64, sum_by-range b 0 64, sum_by-range kw 0 64,
-    sum_by-range kb 0 64, white, black, well.setup.kings White, well.setup.kings Black) in
+    omega (
+      arith,
+      e,
+      total-add w b 0 64,
+      total-add (λ s. kw s + kb s) o 0 64,
+      total-add kw kb 0 64,
+      sum_by-range w 0 64,
+      sum_by-range b 0 64,
+      sum_by-range kw 0 64,
+      sum_by-range kb 0 64,
+      white,
+      black,
+      well.setup.kings White,
+      well.setup.kings Black,
+    ) in
     lone_dead p (record {
       minors = λ s inside is. absurd (let one : o s ≡ 1 = ap bit is in omega (arith, total-at o s 0 64 (omega arith) inside));
       few = omega (arith, none, sum_by-range o 0 64);

@@ -1,13 +1,12 @@
 -- The status of a line, the claims, and the texts of moves.
-use Rattle.std.proofs.Common.{◌≡◌, ◌&&◌, not, nat_le, Bool, true, false, ℕ, Some, Ok, if◌then◌else◌, refl, sym, ap, ◌∙◌}
-use Rattle.std.specs.List.{Contains}
+use Rattle.std.proofs.Common.{◌≡◌, ◌&&◌, not, nat_le, Bool, true, false, Some, if◌then◌else◌, refl}
 use Rattle.chess_types.specs.declared.board.outcome.Status.TheVariants.{Mate, Stalemate, Dead, Fivefold, Seventyfive, Play}
 use Rattle.chess_types.specs.board.MoveParts.{MoveParts}
 use Rattle.chess_types.specs.board.Attack.{in_check}
-use Rattle.chess_types.specs.board.Position.{State, look}
+use Rattle.chess_types.specs.board.Position.{look}
 use Rattle.chess_types.specs.board.Legal.{is_legal, legal_moves}
 use Rattle.chess_types.specs.board.Lines.{Line, last, extended}
-use Rattle.chess_types.specs.board.Outcome.{is_without, is_play, status_at, status, claims_at, claims, claims_with}
+use Rattle.chess_types.specs.board.Outcome.{is_without, is_play, status_at, status, claims, claims_with}
 use Rattle.chess_types.specs.board.Repetition.{repetitions}
 use Rattle.chess_types.specs.board.Dead.{is_dead}
 use Rattle.chess_laws.specs.DeadLaws.{is_mate}

@@ -1,9 +1,9 @@
 -- The colours of squares: a bishop keeps to one, a knight changes it with each move, and so does a king that goes along a rank or a file.
 use Rattle.std.proofs.Common.{◌∙◌, ◌≡◌, ◌≢◌, ℕ, ◌+◌, ◌-◌, ◌%◌, ◌<◌, ◌==◌, nat_lt, Bool, true, false, not, ◌&&◌, ◌||◌, List, [], ◌∷◌, refl, sym, arith, inl, inr}
 use Rattle.std.specs.List.{list_all, list_any}
-use Rattle.std.proofs.lemmas.Bool.{and_parts, or_cases, not-true, eqb-true, true≢false, ne_eqb}
+use Rattle.std.proofs.lemmas.Bool.{or_cases, eqb-true, true≢false, ne_eqb}
 use Rattle.chess_types.specs.declared.board.man.Colour.{Colour}
-use Rattle.chess_types.specs.declared.board.man.Colour.TheVariants.{White, Black}
+use Rattle.chess_types.specs.declared.board.man.Colour.TheVariants.{White}
 use Rattle.chess_types.specs.declared.board.man.Kind.TheVariants.{Knight, Bishop, King}
 use Rattle.chess_types.specs.board.Squares.{file_of, rank_of, squares}
 use Rattle.chess_types.specs.board.Attack.{leaps, slides, slides_to}

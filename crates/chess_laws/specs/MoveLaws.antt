@@ -9,7 +9,7 @@
 --   ClockCounts    the halfmove clock is 0 exactly after a pawn's move or a capture, else one more
 --   black_moves    how many of some moves are Black's
 --   NumberCounts   the fullmove number has grown by them
-use Rattle.std.specs.Prelude.{◌≡◌, ℕ, ◌+◌, ◌-◌, ◌≤◌, ◌==◌, Bool, true, false, ◌||◌, ◌⊎◌, if◌then◌else◌, List, [], ◌∷◌, is_some}
+use Rattle.std.specs.Prelude.{◌≡◌, ℕ, ◌+◌, ◌-◌, ◌≤◌, ◌==◌, true, ◌||◌, ◌⊎◌, List, [], ◌∷◌, is_some}
 use Rattle.std.specs.List.{Contains}
 use Rattle.chess_types.specs.declared.board.man.Colour.{Colour}
 use Rattle.chess_types.specs.declared.board.man.Colour.TheVariants.{White, Black}
