@@ -5,3 +5,7 @@ pub mod ArmyLemmas
 pub mod CountLemmas
 pub mod OutcomeLemmas
 pub mod TextLemmas
+pub mod AcrossLemmas
+pub mod TurnLemmas
+pub mod TurnMoves
+pub mod TurnAfter

@@ -14,10 +14,10 @@ abbrev pub tone : ℕ → ℕ
 tone s = (file_of s + rank_of s) % 2
 
 -- a test of two squares that holds of all
-abbrev on_all : (ℕ → ℕ → Bool) → Bool
+abbrev pub on_all : (ℕ → ℕ → Bool) → Bool
 on_all test = list_all (λ a. list_all (test a) squares) squares
 
-at_two : (test : ℕ → ℕ → Bool) → on_all test ≡ true → (a b : ℕ) → a < 64 → b < 64 → test a b ≡ true
+pub at_two : (test : ℕ → ℕ → Bool) → on_all test ≡ true → (a b : ℕ) → a < 64 → b < 64 → test a b ≡ true
 unfolding squares
 at_two test all a b ha hb = list_all_at (test a) 0 64 b (list_all_at (λ x. list_all (test x) squares) 0 64 a all (omega arith) (omega arith)) (omega arith) (omega arith)
 

@@ -3,3 +3,4 @@ pub mod DeadLaws
 pub mod MoveLaws
 pub mod OutcomeLaws
 pub mod TextLaws
+pub mod MirrorLaws

@@ -5,11 +5,13 @@
 #![tactic(auto)]
 
 mod dead;
+mod mirror;
 mod moves;
 mod outcomes;
 mod texts;
 
 pub use dead::dead_laws;
+pub use mirror::mirror_laws;
 pub use moves::move_laws;
 pub use outcomes::outcome_laws;
 pub use texts::text_laws;

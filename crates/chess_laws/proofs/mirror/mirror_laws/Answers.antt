@@ -1,0 +1,13 @@
+use Rattle.chess_types.specs.board.Position.{look}
+use Rattle.chess_laws.proofs.TurnLemmas.{check_across, count_across}
+use Rattle.chess_laws.proofs.TurnAfter.{after_turns, legal_turns, mate_turns}
+use Rattle.chess_laws.proofs.mirror.mirror_laws.Goals as goal
+
+pub returns : goal.returns
+returns c = record {
+  counts = λ p q both. count_across (look p) (look q) both.board;
+  checks = λ p q both. check_across (look p) (look q) both.board;
+  legal = legal_turns;
+  after = after_turns;
+  mate = mate_turns;
+}
