@@ -9,3 +9,4 @@ pub mod AcrossLemmas
 pub mod TurnLemmas
 pub mod TurnMoves
 pub mod TurnAfter
+pub mod TurnLines

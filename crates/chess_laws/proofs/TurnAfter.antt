@@ -113,7 +113,7 @@ some_recoloured None = refl
 some_recoloured (Some man) = refl
 
 module _ (p q : State) (setup : IsSetup p) (both : IsTurned p q) (m : MoveParts) (from : m.from < 64) (to : m.to < 64) (man : Man) where
-  passing : is_en_passant q.target (other_man man) (turned m) ≡ is_en_passant p.target man m
+  pub passing : is_en_passant q.target (other_man man) (turned m) ≡ is_en_passant p.target man m
   passing = λ i.
       is_pawn man.kind && (ap (λ t. is_target_at t) both.target ∙ target_across p.target m.to (target_inside p setup) to) i && not (same_files m.from m.to from to i)
     where
@@ -221,31 +221,40 @@ listed_some : (moves : List MoveParts) (m : MoveParts) → Contains moves m → 
 listed_some [] m h = absurd (omega (arith, h.1))
 listed_some (x ∷ moves) m h = refl
 
-pub mate_turns : (p q : State) → IsSetup p → IsTurned p q → is_mate q ≡ is_mate p
-mate_turns p q setup both =
-    λ i. none i && (ap (in_check (look q)) both.side ∙ check_across (look p) (look q) both.board p.side) i
-  where
-    moved_on : (m : MoveParts) → Contains (legal_moves p) m → is_without (legal_moves q) ≡ false
-    moved_on m listed =
-        let (on, legal) = listed_legal p m listed in
-        listed_some (legal_moves q) (turned m)
-        (legal_listed q (turned m) (record { from = across_inside m.from on.from; to = across_inside m.to on.to }) (legal_turns p q setup both m on.from on.to ∙ legal))
+-- a listed move is listed there, turned, and back
+pub listed_turns : (p q : State) → IsSetup p → IsTurned p q → (m : MoveParts) → Contains (legal_moves p) m → Contains (legal_moves q) (turned m)
+listed_turns p q setup both m listed =
+    let (on, legal) = listed_legal p m listed in
+    legal_listed q (turned m) (record { from = across_inside m.from on.from; to = across_inside m.to on.to }) (legal_turns p q setup both m on.from on.to ∙ legal)
 
-    moved_back : (n : MoveParts) → Contains (legal_moves q) n → is_without (legal_moves p) ≡ false
-    moved_back n listed =
-        let (on, legal) = listed_legal q n listed in
-        let inside_from : across n.from < 64 = across_inside n.from on.from in
-        let inside_to : across n.to < 64 = across_inside n.to on.to in
-        let same : turned (turned n) ≡ n = λ i. record { from = across_twice n.from on.from i; to = across_twice n.to on.to i; promo = n.promo } in
-        listed_some (legal_moves p) (turned n)
-        (legal_listed p (turned n) (record { from = inside_from; to = inside_to })
-        (sym (legal_turns p q setup both (turned n) inside_from inside_to) ∙ ap (is_legal q) same ∙ legal))
+pub turned_twice : (n : MoveParts) → n.from < 64 → n.to < 64 → turned (turned n) ≡ n
+turned_twice n from to = λ i. record { from = across_twice n.from from i; to = across_twice n.to to i; promo = n.promo }
 
-    none : is_without (legal_moves q) ≡ is_without (legal_moves p)
-    none = elim (cases_Bool (is_without (legal_moves p))) [
+pub listed_back : (p q : State) → IsSetup p → IsTurned p q → (n : MoveParts) → Contains (legal_moves q) n → Contains (legal_moves p) (turned n)
+listed_back p q setup both n listed =
+    let (on, legal) = listed_legal q n listed in
+    let inside_from : across n.from < 64 = across_inside n.from on.from in
+    let inside_to : across n.to < 64 = across_inside n.to on.to in
+    legal_listed p (turned n) (record { from = inside_from; to = inside_to })
+    (sym (legal_turns p q setup both (turned n) inside_from inside_to) ∙ ap (is_legal q) (turned_twice n on.from on.to) ∙ legal)
+
+-- there is a legal move where the other side has one
+pub none_turns : (p q : State) → IsSetup p → IsTurned p q → is_without (legal_moves q) ≡ is_without (legal_moves p)
+none_turns p q setup both =
+    elim (cases_Bool (is_without (legal_moves p))) [
       | inr some ↦ let (m, listed) = first_of (legal_moves p) some in moved_on m listed ∙ sym some
       | inl empty ↦ elim (cases_Bool (is_without (legal_moves q))) [
         | inl also ↦ also ∙ sym empty
         | inr some ↦ let (n, listed) = first_of (legal_moves q) some in absurd (true≢false (sym empty ∙ moved_back n listed))
       ]
     ]
+  where
+    moved_on : (m : MoveParts) → Contains (legal_moves p) m → is_without (legal_moves q) ≡ false
+    moved_on m listed = listed_some (legal_moves q) (turned m) (listed_turns p q setup both m listed)
+
+    moved_back : (n : MoveParts) → Contains (legal_moves q) n → is_without (legal_moves p) ≡ false
+    moved_back n listed = listed_some (legal_moves p) (turned n) (listed_back p q setup both n listed)
+
+pub mate_turns : (p q : State) → IsSetup p → IsTurned p q → is_mate q ≡ is_mate p
+mate_turns p q setup both =
+    λ i. none_turns p q setup both i && (ap (in_check (look q)) both.side ∙ check_across (look p) (look q) both.board p.side) i

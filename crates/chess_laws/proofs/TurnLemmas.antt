@@ -41,7 +41,7 @@ module _ (P Q : ℕ → Bool) (same : (t : ℕ) → t < 64 → Q (across t) ≡ 
       list_any_from Q 0 64 (across t) (omega arith) (across_inside t (omega arith)) (same t (omega arith) ∙ e))
 
 -- a sum over all squares is the sum over the squares across
-total_across : (f : ℕ → ℕ) → total (λ t. f (across t)) 0 64 ≡ total f 0 64
+pub total_across : (f : ℕ → ℕ) → total (λ t. f (across t)) 0 64 ≡ total f 0 64
 unfolding total
 total_across f = omega arith
 

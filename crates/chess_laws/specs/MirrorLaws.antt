@@ -6,17 +6,21 @@
 --   LegalTurns   the legal moves are the turned ones
 --   AfterTurns   and lead to the turned positions
 --   MateTurns    it is mate where the other is
-use Rattle.std.specs.Prelude.{◌≡◌, ℕ, ◌<◌, option_map}
+--   LinesTurn    and a line so seen has as many repetitions, the same status and the same claims
+use Rattle.std.specs.Prelude.{◌≡◌, ℕ, ◌<◌, map, option_map}
 use Rattle.chess_types.specs.declared.board.man.Colour.{Colour}
 use Rattle.chess_types.specs.declared.board.position.Wing.{Wing}
 use Rattle.chess_types.specs.board.MoveParts.{MoveParts}
 use Rattle.chess_types.specs.board.Men.{opponent}
 use Rattle.chess_types.specs.board.Attack.{count, in_check}
-use Rattle.chess_types.specs.board.Position.{State, IsSetup, holds, look}
+use Rattle.chess_types.specs.board.Position.{State, IsSetup, IsWellFormed, holds, look}
 use Rattle.chess_types.specs.board.After.{after}
 use Rattle.chess_types.specs.board.Legal.{is_legal}
 use Rattle.chess_eval.specs.Mirror.{across, IsMirror}
-use Rattle.chess_laws.specs.DeadLaws.{is_mate}
+use Rattle.chess_types.specs.board.Lines.{Line}
+use Rattle.chess_types.specs.board.Repetition.{repetitions}
+use Rattle.chess_types.specs.board.Outcome.{status, claims}
+use Rattle.chess_laws.specs.DeadLaws.{AreListed, is_mate}
 
 -- the same move on the board seen from the other side
 abbrev pub turned : MoveParts → MoveParts
@@ -50,3 +54,9 @@ AfterTurns = (p q : State) → IsSetup p → IsTurned p q → (m : MoveParts) �
 -- mate is mate from either side
 abbrev pub MateTurns : Type 0
 MateTurns = (p q : State) → IsSetup p → IsTurned p q → is_mate q ≡ is_mate p
+
+-- the same line from the other side ends as the line does (5.1, 5.2, 9.2, 9.3, 9.6)
+abbrev pub LinesTurn : Type 0
+LinesTurn =
+    (line other : Line) → IsWellFormed line.start → IsTurned line.start other.start → other.moves ≡ map turned line.moves → AreListed line.start line.moves →
+    (repetitions other ≡ repetitions line) × (status other ≡ status line) × (claims other ≡ claims line)

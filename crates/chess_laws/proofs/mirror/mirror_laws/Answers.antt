@@ -1,6 +1,7 @@
 use Rattle.chess_types.specs.board.Position.{look}
 use Rattle.chess_laws.proofs.TurnLemmas.{check_across, count_across}
 use Rattle.chess_laws.proofs.TurnAfter.{after_turns, legal_turns, mate_turns}
+use Rattle.chess_laws.proofs.TurnLines.{claims_turn, repetitions_turn, status_turns}
 use Rattle.chess_laws.proofs.mirror.mirror_laws.Goals as goal
 
 pub returns : goal.returns
@@ -10,4 +11,6 @@ returns c = record {
   legal = legal_turns;
   after = after_turns;
   mate = mate_turns;
+  lines = λ line other well both moves listed.
+      (repetitions_turn line other well both moves listed, status_turns line other well both moves listed, claims_turn line other well both moves listed);
 }
