@@ -10,3 +10,4 @@ pub mod TurnLemmas
 pub mod TurnMoves
 pub mod TurnAfter
 pub mod TurnLines
+pub mod CastledLemmas

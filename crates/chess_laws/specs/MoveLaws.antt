@@ -5,22 +5,25 @@
 --   MenNeverRise, PawnsNeverRise   a legal move adds no man of either colour, and no pawn
 --   ArmiesStay     two such armies stay such armies
 --   RightsAreLost  a castling right that is held after some legal moves was held before them
+--   IsCastled      the king and the rook have castled, with the right, over squares that were not attacked
+--   CastlingIsSound   so it is after each legal move of a king as castling takes it
 --   TakenAtOnce    a pawn that is captured en passant has made its advance of two squares on the move before
 --   ClockCounts    the halfmove clock is 0 exactly after a pawn's move or a capture, else one more
 --   black_moves    how many of some moves are Black's
 --   NumberCounts   the fullmove number has grown by them
-use Rattle.std.specs.Prelude.{◌≡◌, ℕ, ◌+◌, ◌-◌, ◌≤◌, ◌==◌, true, ◌||◌, ◌⊎◌, List, [], ◌∷◌, is_some}
+use Rattle.std.specs.Prelude.{◌≡◌, ℕ, ◌+◌, ◌-◌, ◌≤◌, ◌==◌, true, ◌||◌, ◌⊎◌, List, [], ◌∷◌, is_some, Some, None, false}
 use Rattle.std.specs.List.{Contains}
 use Rattle.chess_types.specs.declared.board.man.Colour.{Colour}
 use Rattle.chess_types.specs.declared.board.man.Colour.TheVariants.{White, Black}
 use Rattle.chess_types.specs.declared.board.man.Kind.{Kind}
-use Rattle.chess_types.specs.declared.board.man.Kind.TheVariants.{Pawn, Knight, Bishop, Rook, Queen}
+use Rattle.chess_types.specs.declared.board.man.Kind.TheVariants.{Pawn, Knight, Bishop, Rook, Queen, King}
 use Rattle.chess_types.specs.declared.board.position.Wing.{Wing}
 use Rattle.chess_types.specs.board.Board.{Board}
 use Rattle.chess_types.specs.board.MoveParts.{MoveParts}
-use Rattle.chess_types.specs.board.Men.{count_squares, holds_pawn, is_man, men_of}
-use Rattle.chess_types.specs.board.Position.{State, IsWellFormed, holds, look}
-use Rattle.chess_types.specs.board.Pseudo.{midway}
+use Rattle.chess_types.specs.board.Men.{count_squares, holds_pawn, is_man, men_of, opponent}
+use Rattle.chess_types.specs.board.Position.{State, IsWellFormed, holds, king_home, look, rook_home}
+use Rattle.chess_types.specs.board.Attack.{in_check, is_attacked}
+use Rattle.chess_types.specs.board.Pseudo.{castles_to, crossed, midway, reached}
 use Rattle.chess_types.specs.board.After.{after}
 use Rattle.chess_types.specs.board.Legal.{legal_moves}
 use Rattle.chess_types.specs.board.Lines.{play}
@@ -59,6 +62,24 @@ abbrev pub RightsAreLost : Type 0
 RightsAreLost =
     (p : State) (moves : List MoveParts) → IsWellFormed p → AreListed p moves → (c : Colour) (w : Wing) →
     holds (play p moves).rights c w ≡ true → holds p.rights c w ≡ true
+
+-- How castling leaves a position: the king came from its home with its right and passed no attacked square, it and the rook stand where castling
+-- takes them, and nothing stands where they came from (3.8.2).
+pub record IsCastled (p q : State) (w : Wing) : Type 0 where
+  pub right : holds p.rights p.side w ≡ true
+  pub out_of_check : is_attacked (look p) (opponent p.side) (king_home p.side) ≡ false
+  pub over_safe : is_attacked (look p) (opponent p.side) (crossed p.side w) ≡ false
+  pub into_safe : in_check (look q) p.side ≡ false
+  pub king : look q (reached p.side w) ≡ Some (record { colour = p.side; kind = King })
+  pub rook : look q (crossed p.side w) ≡ Some (record { colour = p.side; kind = Rook })
+  pub king_left : look q (king_home p.side) ≡ None
+  pub rook_left : look q (rook_home p.side w) ≡ None
+
+-- a legal move of the king by two squares is such a castling
+abbrev pub CastlingIsSound : Type 0
+CastlingIsSound =
+    (p : State) (m : MoveParts) (w : Wing) → IsWellFormed p → Contains (legal_moves p) m →
+    look p m.from ≡ Some (record { colour = p.side; kind = King }) → castles_to p.side w m ≡ true → IsCastled p (after p m) w
 
 -- the move before a capture en passant is the advance of the captured pawn over that square (3.7.3.1, 3.7.3.2)
 abbrev pub TakenAtOnce : Type 0

@@ -1,6 +1,7 @@
 -- What the texts of moves tell (PGN 8.2.3).
 --   OneTextOneMove   two legal moves of a position with the same text are one move
-use Rattle.std.specs.Prelude.{◌≡◌}
+--   TextsAreShort    no text has more than seven letters, the mark of check or mate among them
+use Rattle.std.specs.Prelude.{◌≡◌, ◌≤◌, length}
 use Rattle.std.specs.List.{Contains}
 use Rattle.chess_types.specs.board.MoveParts.{MoveParts}
 use Rattle.chess_types.specs.board.Position.{State}
@@ -10,3 +11,7 @@ use Rattle.chess_san.specs.Writing.{san}
 -- the text of a move tells it from all others
 abbrev pub OneTextOneMove : Type 0
 OneTextOneMove = (p : State) (m n : MoveParts) → Contains (legal_moves p) m → Contains (legal_moves p) n → san p m ≡ san p n → m ≡ n
+
+-- as `Qh4xe1#`
+abbrev pub TextsAreShort : Type 0
+TextsAreShort = (p : State) (m : MoveParts) → length (san p m) ≤ 7

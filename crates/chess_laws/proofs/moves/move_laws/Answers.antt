@@ -1,4 +1,5 @@
 use Rattle.chess_laws.proofs.ArmyLemmas.{armies_stay, men_never_rise, pawns_never_rise}
+use Rattle.chess_laws.proofs.CastledLemmas.{castling_is_sound}
 use Rattle.chess_laws.proofs.CountLemmas.{clock_counts, number_counts, rights_are_lost, taken_at_once}
 use Rattle.chess_laws.proofs.moves.move_laws.Goals as goal
 
@@ -8,6 +9,7 @@ returns c = record {
   pawns = pawns_never_rise;
   armies = armies_stay;
   rights = rights_are_lost;
+  castling = castling_is_sound;
   en_passant = taken_at_once;
   clock = clock_counts;
   number = number_counts;
