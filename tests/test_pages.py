@@ -8,9 +8,9 @@ import runs
 
 PAGES = ["README.md", "CONTRIBUTING.md", *sorted(glob.glob("docs/*.md", root_dir=runs.TOP))]
 
-# Words that no source has: commands of the machine, the letters of men, a move that is not read, and a name that stands for others.
+# Words that no source has: commands of the machine, letters of men and moves, a move that is not read, and a name that stands for others.
 ELSEWHERE = {"bash", "cc", "git", "parallel", "polyglot", "sed", "stockfish", "valgrind", "xboard", "Z0", "After-f", "NAME"}
-MEN = re.compile(r"[PNBRQK]+|[pnbrqk]+|[PNBRQKpnbrqk]{12}")
+LETTERS = re.compile(r"[PNBRQK]+|[pnbrqk]+|[PNBRQKpnbrqk]{12}|([a-h][1-8]){2}")
 
 
 def text_of(path):
@@ -66,7 +66,7 @@ class Pages(unittest.TestCase):
                 if re.fullmatch(r"[A-Za-z_][\w-]*(::[A-Za-z_]\w*)*(\(\))?", text):
                     for word in re.findall(r"[\w-]+", text):
                         with self.subTest(page=page, name=text):
-                            self.assertTrue(word in self.words or word in ELSEWHERE or MEN.fullmatch(word))
+                            self.assertTrue(word in self.words or word in ELSEWHERE or LETTERS.fullmatch(word))
 
     def test_crates_stand_on_what_the_map_says(self):
         known = dict(re.findall(r"^([a-z_]+)(?: staticlib)?:(.*)$", text_of("crates.txt"), flags=re.M))
