@@ -4,4 +4,5 @@ pub mod WindowLemmas
 pub mod RootLemmas
 pub mod AskedLemmas
 pub mod BorderLemmas
+pub mod OrderLemmas
 pub mod SliceLemmas

@@ -1,2 +1,3 @@
--- The words of the code's steps: what a search in a window may answer.
+-- The words of the code's steps: what a search in a window may answer, and the order in which moves are tried.
 pub mod Windows
+pub mod Order

@@ -138,6 +138,20 @@ word_added done now w rest others text loop split e =
     let some = first_some w (words blanks others) (words blanks rest) split (are_words blanks [] rest tt) in
     ap (λ (x : List ℕ). behind x (words blanks others)) e ∙ behind_next done w (words blanks others) some ∙ ap (behind done) (sym split) ∙ loop
 
+-- with a word more it isn't empty
+behind_some : (done w : List ℕ) (ws : List (List ℕ)) → 0 < length w → 0 < length (behind done (w ∷ ws))
+behind_some [] [] ws some = absurd (omega arith)
+behind_some [] (x ∷ w) [] some = omega arith
+behind_some [] (x ∷ w) (v ∷ ws) some = omega arith
+behind_some (b ∷ done) w ws some = omega arith
+
+-- so a text with a word isn't blank
+pub word_left : (done w rest others text : List ℕ) → behind done (words blanks rest) ≡ normalised text → words blanks rest ≡ w ∷ words blanks others →
+    0 < length (normalised text)
+word_left done w rest others text loop split =
+    let some = first_some w (words blanks others) (words blanks rest) split (are_words blanks [] rest tt) in
+    subst (λ (x : List ℕ). 0 < length x) (ap (behind done) (sym split) ∙ loop) (behind_some done w (words blanks others) some)
+
 pub behind_start : (done text : List ℕ) → done ≡ [] → behind done (words blanks text) ≡ normalised text
 unfolding normalised
 behind_start done text e = ap (λ (x : List ℕ). behind x (words blanks text)) e

@@ -1,10 +1,10 @@
-ghost use Rattle.std.specs.Prelude.{◌≡◌, ◌<◌, ◌≤◌, [], length, true, Err, IfErr, IfOk, Ok, OnErr, OnOk, nat_le, if◌then◌else◌};
+ghost use Rattle.std.specs.Prelude.{◌≡◌, ℕ, ◌<◌, ◌≤◌, [], length, true, Some, Err, IfErr, IfOk, Ok, OnErr, OnOk, nat_le, if◌then◌else◌};
 ghost use Rattle.chess_types.specs.board.Legal.{is_legal};
 ghost use Rattle.chess_types.specs.board.Lines.{extended, last};
 ghost use Rattle.chess_tree.specs.declared.fault.TreeFault.TheVariants.{Memory};
 ghost use Rattle.chess_tree.specs.declared.fault.PlayFault.TheVariants.{Full as TreeFull, Memory as NoMemory};
 ghost use Rattle.chess_tree.specs.Forest.{Bare, moves_held};
-ghost use Rattle.chess_tree.specs.GameTree.{added, line_to};
+ghost use Rattle.chess_tree.specs.GameTree.{added, find, line_to, nodes_here};
 ghost use Rattle.chess_tree.specs.WellFormed.{IsGameTree};
 ghost use Rattle.chess_tree.specs.Plays.{IsAnswer, add_answer, play_answer, played};
 
@@ -139,10 +139,12 @@ impl<'a, A: Allocator> Analysis<'a, A> {
     ///
     /// # Errors
     ///
-    /// Those of `add`; but for `Illegal` none where a child has the move. All is then as before.
+    /// Those of `add`; none where a child has the move. All is then as before.
     #[tactic(auto, using(crate::proofs::AnalysisLemmas::found_line))]
     pub fn play(&mut self, m: Move) -> Result<(), PlayFault>
         ensures answer { IsAnswer (play_answer self.old m) result }
+        // A step takes no memory.
+        ensures found { (place : ℕ) → find m (nodes_here self.old) ≡ Some place → result ≡ Ok tt }
         ensures ok { OnOk result (self.new ≡ played m self.old) }
         ensures line { OnOk result (line_to self.new ≡ extended (line_to self.old) m) }
         ensures err { OnErr result (self.new ≡ self.old) }

@@ -1,4 +1,4 @@
-ghost use Rattle.std.specs.Prelude.{◌≡◌, ◌<◌, ◌≤◌, ◌++◌, ◌∷◌, [], nat_le, nat_lt, true, false, length, slice_index, IfOk, OnOk, OnErr};
+ghost use Rattle.std.specs.Prelude.{◌≡◌, ◌<◌, ◌≤◌, ◌++◌, ◌∷◌, [], nat_le, nat_lt, true, false, length, slice_index, IfOk, IsOk, OnOk, OnErr};
 ghost use Rattle.chess_tree.specs.Forest.{below_at, count, moves_held};
 ghost use Rattle.chess_tree.specs.Edits.{parent};
 ghost use Rattle.chess_tree.specs.GameTree.{find, node_of};
@@ -226,6 +226,7 @@ impl<'a, A: Allocator> Arena<'a, A> {
     pub(crate) fn set_comment(&mut self, comment: Vec<u8, &'a A>) -> Result<(), AllocError>
         ensures ok { OnOk result (self.new ≡ commented_root comment.entry.items self.old) }
         ensures err { OnErr result (self.new ≡ self.old) }
+        ensures removed { comment.entry.items ≡ [] → IsOk result }
     {
         notes::set_comment(&mut self.notes, self.alloc, self.here, comment)?;
         Ok(())

@@ -21,6 +21,18 @@ pub enum TreeFault {
     Memory = 5,
 }
 
+impl TreeFault {
+    ghost use Rattle.std.specs.Prelude.{◌≡◌};
+    ghost use Rattle.chess_tree.specs.Faults.{number_of};
+
+    /// The fault's number, 1 to 5.
+    pub fn number(self) -> u8
+        ensures { result ≡ number_of self }
+    {
+        self as u8
+    }
+}
+
 impl From<AllocError> for TreeFault {
     ghost use Rattle.std.specs.Prelude.{◌≡◌};
     ghost use Rattle.chess_tree.specs.declared.fault.TreeFault.TheVariants.{Memory};

@@ -17,7 +17,7 @@ Legal line moves = All (λ m. is_legal (last line) m ≡ true) moves
 
 -- the search of the same roots at another depth
 abbrev pub again : ℕ → Progress → Progress
-again depth p = record { depth = depth; claims = p.claims; roots = p.roots; searched = 0; kept = None }
+again depth p = record { depth = depth; claims = p.claims; roots = p.roots; searched = 0; kept = None; nodes = 1 }
 
 goes_again : (line : Line) (depth : ℕ) (p q : Progress) → GoesWith line p → q ≡ again depth p → GoesWith line q
 goes_again line depth p q goes e =
@@ -55,13 +55,13 @@ or_all_some moves [] h = h
 or_all_some moves (m ∷ ms) h = omega arith
 
 pub going_starts : (listed line : Line) (claims : Bool) (named : MoveParts → Bool) (moves : List MoveParts) (x : Code) → moves ≡ legal_moves (last listed) → line ≡ listed →
-    x.slices ≡ record { depth = 1; claims = claims; roots = or_all (filter named moves) moves; searched = 0; kept = None } → 1 ≤ x.last → x.last ≤ 16 →
+    x.slices ≡ record { depth = 1; claims = claims; roots = or_all (filter named moves) moves; searched = 0; kept = None; nodes = 1 } → 1 ≤ x.last → x.last ≤ 16 →
     (0 < length moves) ⊎ (x.infinite ≡ true) → GoesOn line x
 going_starts listed line claims named moves x e same is deep shallow some =
     let roots = or_all (filter named moves) moves in
     let all : Legal listed moves = subst (Legal listed) (sym e) (moves_legal (last listed)) in
     let here : Legal line moves = subst (λ (l : Line). Legal l moves) (sym same) all in
-    let fresh : Progress = record { depth = 1; claims = claims; roots = roots; searched = 0; kept = None } in
+    let fresh : Progress = record { depth = 1; claims = claims; roots = roots; searched = 0; kept = None; nodes = 1 } in
     let goes : GoesWith line fresh = record { legal = or_all_legal line moves (filter named moves) here (All-filter named (λ m. is_legal (last line) m ≡ true) moves here); kept = refl } in
     record {
       goes = subst (GoesWith line) (sym is) goes;

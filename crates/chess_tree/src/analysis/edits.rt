@@ -1,4 +1,4 @@
-ghost use Rattle.std.specs.Prelude.{◌≡◌, ◌<◌, [], true, false, length, Err, MatchResult, IfErr, OnErr, OnOk};
+ghost use Rattle.std.specs.Prelude.{◌≡◌, ◌<◌, [], true, false, length, Ok, Err, MatchResult, IfErr, OnErr, OnOk};
 ghost use Rattle.chess_tree.specs.declared.fault.TreeFault.TheVariants.{AtRoot, BadComment, Memory};
 ghost use Rattle.chess_tree.specs.Comments.{has_brace, normalised};
 ghost use Rattle.chess_tree.specs.GameTree.{annotated_here, commented_here, deleted, line_to, promoted_here};
@@ -34,13 +34,14 @@ impl<'a, A: Allocator> Analysis<'a, A> {
     }
 
     /// Sets the comment at the cursor (PGN 8.2.5): the words of the text with one space between two; an empty one removes it.
-    /// `BadComment` where a right brace stands in it, else `Memory` where there is none.
+    /// `BadComment` where a right brace stands in it, else `Memory` where there is none; a text without words takes none.
     pub fn set_comment(&mut self, text: &[u8]) -> Result<(), TreeFault>
         ensures ok { OnOk result (self.new ≡ commented_here (normalised text.now) self.old) }
         ensures line { line_to self.new ≡ line_to self.old }
         ensures err { OnErr result (self.new ≡ self.old) }
         ensures bad_comment { has_brace text.now ≡ true → result ≡ Err BadComment }
         ensures memory { has_brace text.now ≡ false → IfErr result (λ fault. fault ≡ Memory) }
+        ensures no_words { has_brace text.now ≡ false → normalised text.now ≡ [] → result ≡ Ok tt }
     {
         self.tree.set_comment(text)
     }

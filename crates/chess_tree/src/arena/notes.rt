@@ -1,4 +1,4 @@
-ghost use Rattle.std.specs.Prelude.{◌≡◌, ℕ, ◌++◌, ◌∷◌, [], OnOk, OnErr};
+ghost use Rattle.std.specs.Prelude.{◌≡◌, ℕ, ◌++◌, ◌∷◌, [], IsOk, OnOk, OnErr};
 ghost use Rattle.chess_tree.specs.steps.Rooted.{no_notes};
 ghost use Rattle.chess_tree.specs.steps.Notes.{noted_in, IsNotedAt};
 
@@ -62,7 +62,7 @@ pub(crate) fn add_nag<'a, A: Allocator>(
     Ok(())
 }
 
-/// Another comment at a number. Where an empty one leaves no notes, the map has no entry.
+/// Another comment at a number. Where an empty one leaves no notes, the map has no entry. An empty one takes no memory.
 pub(crate) fn set_comment<'a, A: Allocator>(
     notes: &mut NoteMap<'a, A>,
     alloc: &'a A,
@@ -71,9 +71,14 @@ pub(crate) fn set_comment<'a, A: Allocator>(
 ) -> Result<(), AllocError>
     ensures ok { OnOk result (IsNotedAt (noted_in notes.old) (noted_in notes.new) number (record { nags = (noted_in notes.old number).nags; comment = comment.entry.items })) }
     ensures err { OnErr result ((j : ℕ) → noted_in notes.new j ≡ noted_in notes.old j) }
+    ensures removed { comment.entry.items ≡ [] → IsOk result }
 {
     if comment.is_empty() && nags(notes, number).is_empty() {
         forget(notes, number);
+        return Ok(());
+    }
+    if let Some(note) = notes.get_mut(&number) {
+        note.comment = comment;
         return Ok(());
     }
     let note = notes.entry(number)?.or_insert(Note::new(alloc));

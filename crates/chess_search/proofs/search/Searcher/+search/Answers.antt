@@ -34,7 +34,7 @@ search-score-answer-requires g t c κs within =
     let i = c.loop-m.invariant in
     let d = c.decreases in
     let looked : c.loop-m.line.looked ≡ c.args.line.now.looked = i.line.looked in
-    let permuted : IsPermutation c.moves-moves.result.items items = rw c.as_slice-m-items.ensures.value c.put_in_order.ensures in
+    let permuted : IsPermutation c.moves-moves.result.items items = rw c.as_slice-m-items.ensures.value c.put_in_order.ensures.permuted in
     let legal = legal_at _ _ _ items c.loop-m.m-index m c.moves-moves.ensures.listed permuted (omega arith) c.m-item.is i.line.line in
     (omega arith, (within, (legal, (omega arith, (omega arith, (omega (arith, ints), (omega (arith, ints, clamps), omega (arith, ints))))))))
 
@@ -46,7 +46,7 @@ search-returns-then-best-beta-clause-answer g t c =
     let line = c.args.line.now.line in
     let i = c.loop-m.invariant in
     let moves = c.moves-moves.result.items in
-    let permuted : IsPermutation moves items = rw c.as_slice-m-items.ensures.value c.put_in_order.ensures in
+    let permuted : IsPermutation moves items = rw c.as_slice-m-items.ensures.value c.put_in_order.ensures.permuted in
     let some : 0 < length items = omega arith in
     let playing = drawn_at claims _ _ _ _ c.moves-moves.ensures.as_before.line c.is_drawn.ensures.value c.if-is_drawn.false in
     let deep : 0 < c.args.depth = omega arith in
@@ -101,7 +101,7 @@ search-returns-clause-answer g t c =
     let line = c.args.line.now.line in
     let best = to_z w32 c.loop-m.best-bits in
     let moves = c.moves-moves.result.items in
-    let permuted : IsPermutation moves items = rw c.as_slice-m-items.ensures.value c.put_in_order.ensures in
+    let permuted : IsPermutation moves items = rw c.as_slice-m-items.ensures.value c.put_in_order.ensures.permuted in
     let same_length = length_permutation moves items permuted in
     let some : 0 < length items = grind (arith, c.is_empty.ensures, c.if-is_empty.false, same_length) in
     let playing = drawn_at claims _ _ _ _ c.moves-moves.ensures.as_before.line c.is_drawn.ensures.value c.if-is_drawn.false in
@@ -117,7 +117,7 @@ pub search-returns-clause-in_range : goal.search-returns-clause-in_range
 search-returns-clause-in_range g t c =
     let items = c.as_slice-m-items.result.now in
     let moves = c.moves-moves.result.items in
-    let permuted : IsPermutation moves items = rw c.as_slice-m-items.ensures.value c.put_in_order.ensures in
+    let permuted : IsPermutation moves items = rw c.as_slice-m-items.ensures.value c.put_in_order.ensures.permuted in
     let same_length = length_permutation moves items permuted in
     let some : 0 < length items = grind (arith, c.is_empty.ensures, c.if-is_empty.false, same_length) in
     record { low = omega (arith, ints, c.loop-m.invariant.answered (omega arith)); high = c.loop-m.invariant.high }
@@ -135,7 +135,7 @@ search-returns-then-best-beta-clause-border g t c =
 pub search-returns-clause-border : goal.search-returns-clause-border
 search-returns-clause-border g t c =
     let items = c.as_slice-m-items.result.now in
-    let permuted : IsPermutation c.moves-moves.result.items items = rw c.as_slice-m-items.ensures.value c.put_in_order.ensures in
+    let permuted : IsPermutation c.moves-moves.result.items items = rw c.as_slice-m-items.ensures.value c.put_in_order.ensures.permuted in
     let same_length = length_permutation c.moves-moves.result.items items permuted in
     let some : 0 < length items = grind (arith, c.is_empty.ensures, c.if-is_empty.false, same_length) in
     c.loop-m.invariant.border (omega (arith, ints, c.loop-m.invariant.answered (omega arith)))
@@ -147,7 +147,7 @@ search-returns-then-best-beta-clause-at_most g t c =
     let claims = c.args.self.now.claims in
     let line = c.args.line.now.line in
     let i = c.loop-m.invariant in
-    let permuted : IsPermutation c.moves-moves.result.items items = rw c.as_slice-m-items.ensures.value c.put_in_order.ensures in
+    let permuted : IsPermutation c.moves-moves.result.items items = rw c.as_slice-m-items.ensures.value c.put_in_order.ensures.permuted in
     let playing = drawn_at claims _ _ _ _ c.moves-moves.ensures.as_before.line c.is_drawn.ensures.value c.if-is_drawn.false in
     let deep : 0 < c.args.depth = omega arith in
     let below = tree_below claims (c.args.depth - 1) line in
@@ -162,7 +162,7 @@ search-returns-clause-at_most g t c =
     let claims = c.args.self.now.claims in
     let line = c.args.line.now.line in
     let i = c.loop-m.invariant in
-    let permuted : IsPermutation c.moves-moves.result.items items = rw c.as_slice-m-items.ensures.value c.put_in_order.ensures in
+    let permuted : IsPermutation c.moves-moves.result.items items = rw c.as_slice-m-items.ensures.value c.put_in_order.ensures.permuted in
     let playing = drawn_at claims _ _ _ _ c.moves-moves.ensures.as_before.line c.is_drawn.ensures.value c.if-is_drawn.false in
     let deep : 0 < c.args.depth = omega arith in
     let at_end : c.loop-m.m-index ≡ length items = omega arith in
