@@ -31,7 +31,7 @@ fn main(rt: HostRuntime) -> ExitCode {
         ),
         Ok(Asked::Pgn) => pgn(
             rt.alloc(),
-            FromRead::new(rt.stdin()),
+            &mut FromRead::new(rt.stdin()),
             &mut ToWrite::new(rt.stdout()),
         ),
         Err(Refused::Help(text)) => {

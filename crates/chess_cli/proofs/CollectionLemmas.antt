@@ -1,15 +1,15 @@
 -- Games that are read and written one after another.
 use Rattle.std.proofs.Common.{◌≡◌, ◌⊎◌, ℕ, ◌+◌, ◌≤◌, Bool, true, false, List, [], ◌∷◌, ◌++◌, length, refl, sym, ap, subst, ◌∙◌, arith, append_assoc, append-nil, length-append, Err, inl, inr}
+use Rattle.std.proofs.lemmas.Bool.{false≢true}
 use Rattle.std.specs.Prelude.{Result, Ok, Option, Some, IfErr, IfOk, IfSome}
 use Rattle.chess_types.specs.bytes.Calls.{Carries, joined}
 use Rattle.chess_types.proofs.CallLemmas.{Calls-append, Carries-none, Carries-append, joined-append}
-use Rattle.chess_items.specs.Coming.{Breaks, Came, unread}
-use Rattle.chess_items.specs.declared.at_hand.AtHand.{AtHand}
+use Rattle.chess_items.specs.Coming.{AtHand, Breaks, Came, unread}
 use Rattle.chess_items.specs.declared.fault.PgnFault.{PgnFault}
-use Rattle.chess_items.proofs.BreakLemmas.{came_append, came_none}
+use Rattle.chess_items.proofs.BreakLemmas.{came_append, came_none, each_append}
 use Rattle.chess_pgn.specs.Games.{Game}
 use Rattle.chess_pgn.specs.Reading.{HasNoGame, IsAtFront, IsWhite}
-use Rattle.chess_pgn.specs.Sources.{HasFault, HasGame, HasNone}
+use Rattle.chess_pgn.specs.Sources.{Fails, Games, HasFault, HasGame, HasNone, NextGame, Starves}
 use Rattle.chess_pgn.specs.Written.{game_text}
 use Rattle.chess_pgn.specs.steps.GameCode.{game_of}
 use Rattle.chess_pgn.specs.declared.game.Game.{Game as Code}
@@ -18,7 +18,7 @@ use Rattle.chess_pgn.specs.declared.games.GamesFault.TheVariants.{Pgn, Read}
 use Rattle.chess_cli.specs.Collections.{AreGames, Collected, EndsAtFault, EndsInPart, EndsUnread, EndsWhole, EndsWritten, games_text}
 use Rattle.chess_loop.specs.RunEnds.{Broken, most_reads}
 use Rattle.chess_loop.specs.steps.Sending.{Sent}
-use Rattle.chess_cli.specs.steps.Collecting.{Reads, SoFar, WritesAll, WritesOne}
+use Rattle.chess_cli.specs.steps.Collecting.{EndsBy, Reads, SoFar, WritesAll, WritesOne}
 use Rattle.chess_cli.specs.declared.ended.Ended.{Ended}
 use Rattle.chess_cli.specs.declared.ended.Ended.TheVariants.{Good, Input, ReadFault, WriteFault, Memory}
 use Rattle.chess_loop.proofs.SendingLemmas.{sent_whole}
@@ -29,19 +29,24 @@ games_text-append (g ∷ games) game = ap (λ (t : List ℕ). game_text g ++ t) 
 
 -- ---- what is read
 
+-- what has not ended afterwards had not before
+not_before : (v w : Bool) → (v ≡ true → w ≡ true) → w ≡ false → v ≡ false
+not_before false w h e = refl
+not_before true w h e = absurd (false≢true (sym e ∙ h refl))
+
 are_more : (input : List ℕ) (games : List Game) (mid text rest : List ℕ) (game : Game) → AreGames input games mid → mid ≡ text ++ rest → IsAtFront mid game (length text) → AreGames input (games ++ game ∷ []) rest
 are_more input [] mid text rest game e parts front =
     (text, rest, e ∙ parts, subst (λ (z : List ℕ). IsAtFront z game (length text)) (sym e) front, refl)
 are_more input (g ∷ games) mid text rest game a parts front = (a.0, a.1, a.2, a.3, are_more a.1 games mid text rest game a.4 parts front)
 
-module _ {R A : Type 0} (gives : R → List ℕ → R → Type 0) (failed : R → Bool) where
-  pub reads_none : (s : AtHand R A) → Reads gives failed s s []
-  reads_none s = record { bytes = []; came = came_none gives failed s s refl refl; are = λ more none. refl }
+module _ {R : Type 0} (gives : R → List ℕ → R → Type 0) (failed : R → Bool) where
+  pub reads_none : (s : AtHand R) → Reads gives failed s s []
+  reads_none s = record { bytes = []; came = came_none gives failed s s refl refl refl; are = λ more none. refl }
 
-  carries : (s n : AtHand R A) (bytes : List ℕ) → Came gives failed s bytes n → Carries gives s.source bytes n.source
+  carries : (s n : AtHand R) (bytes : List ℕ) → Came gives failed s bytes n → Carries gives s.source bytes n.source
   carries s n bytes c = record { pieces = c.pieces; calls = c.calls; whole = c.whole }
 
-  reads_more : (s m n : AtHand R A) (games : List Game) (game : Game) → Reads gives failed s m games → HasGame gives failed m n game → Reads gives failed s n (games ++ game ∷ [])
+  reads_more : (s m n : AtHand R) (games : List Game) (game : Game) → Reads gives failed s m games → HasGame gives failed m n game → Reads gives failed s n (games ++ game ∷ [])
   reads_more s m n games game r h = record {
     bytes = r.bytes ++ h.bytes;
     came = came_append gives failed s m n r.bytes h.bytes r.came h.came;
@@ -54,7 +59,7 @@ module _ {R A : Type 0} (gives : R → List ℕ → R → Type 0) (failed : R �
   }
 
   -- bytes that came behind the games
-  module _ (s m n : AtHand R A) (games : List Game) (nothing : unread s ≡ []) (first : failed s.source ≡ false) (r : Reads gives failed s m games) (bytes : List ℕ) (came : Came gives failed m bytes n) where
+  module _ (s m n : AtHand R) (games : List Game) (nothing : unread s ≡ []) (first : failed s.source ≡ false) (r : Reads gives failed s m games) (bytes : List ℕ) (came : Came gives failed m bytes n) where
     all_bytes : Came gives failed s (r.bytes ++ bytes) n
     all_bytes = came_append gives failed s m n r.bytes bytes r.came came
 
@@ -68,10 +73,9 @@ module _ {R A : Type 0} (gives : R → List ℕ → R → Type 0) (failed : R �
         subst (λ (z : List ℕ). AreGames ((r.bytes ++ bytes) ++ more) games z) (sym (append_assoc (unread m) bytes more)) whole
 
     module _ (ended : R → Type 0) where
-      collected : (all : Bool) → (all ≡ true → ended n.source) → (m.has_ended ≡ true → (bytes ≡ []) × (all ≡ true)) → Collected gives failed ended s.source games
+      collected : (all : Bool) → (all ≡ true → ended n.source) → (m.has_ended ≡ true → (bytes ≡ []) × (all ≡ true)) → Collected gives failed ended s.source n.source games
       collected all told still = record {
         bytes = r.bytes ++ bytes;
-        source = n.source;
         came = carries s n (r.bytes ++ bytes) all_bytes;
         well_read = well_read;
         all = all;
@@ -84,23 +88,23 @@ pub if_ok : {A E : Type 0} (P : Type 0) (result : Result A E) (x : A) → result
 if_ok P result x is h = subst (λ r. IfOk r (λ y. P)) is h
 
 -- what a reader of games answers, where it is a game
-pub read_one : {R A B E : Type 0} (gives : R → List ℕ → R → Type 0) (failed : R → Bool) (old new : AtHand R A) (result : Result (Option (Code B)) E) (game : Code B) → result ≡ Ok (Some game)
-    → IfOk result (λ found. IfSome found (λ x. HasGame gives failed old new (game_of x))) → HasGame gives failed old new (game_of game)
-read_one gives failed old new result game is h = subst (λ r. IfOk r (λ found. IfSome found (λ x. HasGame gives failed old new (game_of x)))) is h
+pub read_one : {R B E : Type 0} (gives : R → List ℕ → R → Type 0) (failed : R → Bool) (old new : Games R) (result : Result (Option (Code B)) E) (game : Code B) → result ≡ Ok (Some game)
+    → IfOk result (λ found. IfSome found (λ x. NextGame gives failed old new (game_of x))) → HasGame gives failed old.text new.text (game_of game)
+read_one gives failed old new result game is h = (subst (λ r. IfOk r (λ found. IfSome found (λ x. NextGame gives failed old new (game_of x)))) is h).took
 
 -- what it answers, where it is a fault
-pub read_fault : {R A X : Type 0} (gives : R → List ℕ → R → Type 0) (failed : R → Bool) (ended : R → Type 0) (old new : AtHand R A) (result : Result X GamesFault) (fault : GamesFault) → result ≡ Err fault
+pub read_fault : {R X : Type 0} (gives : R → List ℕ → R → Type 0) (failed : R → Bool) (ended : R → Type 0) (old new : AtHand R) (result : Result X GamesFault) (fault : GamesFault) → result ≡ Err fault
     → IfErr result (λ found. HasFault gives failed ended old new found) → HasFault gives failed ended old new fault
 read_fault gives failed ended old new result fault is h = subst (λ r. IfErr r (λ found. HasFault gives failed ended old new found)) is h
 
 -- ---- what is written
 
-module _ {R W A : Type 0} (gives : R → List ℕ → R → Type 0) (read_failed : R → Bool) (ended : R → Type 0) (takes : W → List ℕ → W → Type 0) (failed : W → Bool) where
-  pub none_yet : (s : AtHand R A) (w : W) → failed w ≡ false → SoFar gives read_failed ended takes failed 0 s s w w
+module _ {R W : Type 0} (gives : R → List ℕ → R → Type 0) (read_failed : R → Bool) (ended : R → Type 0) (takes : W → List ℕ → W → Type 0) (failed : W → Bool) where
+  pub none_yet : (s : AtHand R) (w : W) → failed w ≡ false → SoFar gives read_failed ended takes failed 0 s s w w
   none_yet s w well = record { games = []; reads = reads_none gives read_failed s; few = omega arith; writes = Carries-none takes w; well_written = well }
 
   -- one game more
-  pub one_more : (count : ℕ) (s m n : AtHand R A) (old mid new : W) (game : Game) → SoFar gives read_failed ended takes failed count s m old mid → HasGame gives read_failed m n game → Sent takes failed mid (game_text game) [] new
+  pub one_more : (count : ℕ) (s m n : AtHand R) (old mid new : W) (game : Game) → SoFar gives read_failed ended takes failed count s m old mid → HasGame gives read_failed m n game → Sent takes failed mid (game_text game) [] new
       → SoFar gives read_failed ended takes failed (count + 1) s n old new
   unfolding reads_more
   one_more count s m n old mid new game so_far read sent = record {
@@ -112,12 +116,11 @@ module _ {R W A : Type 0} (gives : R → List ℕ → R → Type 0) (read_failed
     well_written = sent.well ∙ so_far.well_written;
   }
 
-  module _ (count : ℕ) (s : AtHand R A) (nothing : unread s ≡ []) (first_read : read_failed s.source ≡ false) where
+  module _ (count : ℕ) (s : AtHand R) (nothing : unread s ≡ []) (first_read : read_failed s.source ≡ false) where
     -- the input has no game more
-    pub ends_whole : (m n : AtHand R A) (old new : W) → SoFar gives read_failed ended takes failed count s m old new → HasNone gives read_failed m n → ended n.source → EndsWhole gives read_failed ended takes failed s.source old new
+    pub ends_whole : (m n : AtHand R) (old new : W) → SoFar gives read_failed ended takes failed count s m old new → HasNone gives read_failed m n → ended n.source → EndsWhole gives read_failed ended takes failed s.source n.source old new
     ends_whole m n old new so_far none all = record {
       bytes = so_far.reads.bytes ++ none.bytes;
-      source = n.source;
       came = carries gives read_failed s n (so_far.reads.bytes ++ none.bytes) (came_append gives read_failed s m n so_far.reads.bytes none.bytes so_far.reads.came none.came);
       well_read = well_read gives read_failed s m n so_far.games nothing first_read so_far.reads none.bytes none.came;
       all = all;
@@ -129,62 +132,81 @@ module _ {R W A : Type 0} (gives : R → List ℕ → R → Type 0) (read_failed
       well_written = so_far.well_written;
     }
 
-    -- what stands behind the games is refused, or there was no memory for it
-    pub ends_at_fault : (m n : AtHand R A) (old new : W) (fault : PgnFault) → SoFar gives read_failed ended takes failed count s m old new → HasFault gives read_failed ended m n (Pgn fault) → EndsAtFault gives read_failed ended takes failed fault s.source old new
+    -- what stands behind the games is refused
+    refused_there : (m n : AtHand R) (old new : W) → SoFar gives read_failed ended takes failed count s m old new → Fails gives read_failed ended m n → EndsAtFault gives read_failed ended takes failed s.source n.source old new
     unfolding collected
-    ends_at_fault m n old new fault so_far (inl (memory, starves)) = record {
-      games = so_far.games;
-      reads = collected gives read_failed s m n so_far.games nothing first_read so_far.reads starves.bytes starves.came ended m.has_ended (λ e. (starves.still e).1) (λ e. ((starves.still e).0, e));
-      refused = inl memory;
-      writes = so_far.writes;
-      well_written = so_far.well_written;
-    }
-    ends_at_fault m n old new fault so_far (inr fails) = record {
+    refused_there m n old new so_far fails = record {
       games = so_far.games;
       reads = collected gives read_failed s m n so_far.games nothing first_read so_far.reads fails.bytes fails.came ended n.has_ended fails.told fails.still;
-      refused = inr (λ more none.
+      refused = λ more none.
           let same = sym (append_assoc (unread m) fails.bytes more) in
-          (subst HasNoGame same (fails.none more none), subst (λ (z : List ℕ). IsWhite z → ⊥) same (fails.dark more none)));
+          (subst HasNoGame same (fails.none more none), subst (λ (z : List ℕ). IsWhite z → ⊥) same (fails.dark more none));
       writes = so_far.writes;
       well_written = so_far.well_written;
     }
 
+    -- there was no memory for it
+    starved_there : (m n : AtHand R) (old new : W) → SoFar gives read_failed ended takes failed count s m old new → Starves gives read_failed ended m n → EndsWritten gives read_failed ended takes failed s.source n.source old new
+    starved_there m n old new so_far starves = record {
+      games = so_far.games;
+      reads = collected gives read_failed s m n so_far.games nothing first_read so_far.reads starves.bytes starves.came ended m.has_ended (λ e. (starves.still e).1) (λ e. ((starves.still e).0, e));
+      writes = so_far.writes;
+      well_written = so_far.well_written;
+    }
+
+    written_there : (m n : AtHand R) (old new : W) → SoFar gives read_failed ended takes failed count s m old new → Fails gives read_failed ended m n → EndsWritten gives read_failed ended takes failed s.source n.source old new
+    written_there m n old new so_far fails = record {
+      games = so_far.games;
+      reads = collected gives read_failed s m n so_far.games nothing first_read so_far.reads fails.bytes fails.came ended n.has_ended fails.told fails.still;
+      writes = so_far.writes;
+      well_written = so_far.well_written;
+    }
+
+    -- so the run ends
+    pub ends_at_fault : (m n : AtHand R) (old new : W) (fault : PgnFault) (why : Ended) → SoFar gives read_failed ended takes failed count s m old new → HasFault gives read_failed ended m n (Pgn fault) → EndsBy fault why
+        → WritesAll gives read_failed ended takes failed s.source n.source old new why
+    ends_at_fault m n old new fault why so_far (inl starves) (inl by) = subst (λ (e : Ended). WritesAll gives read_failed ended takes failed s.source n.source old new e) (sym by.1) (starved_there m n old new so_far starves.1)
+    ends_at_fault m n old new fault why so_far (inl starves) (inr by) = absurd (by.0 starves.0)
+    ends_at_fault m n old new fault why so_far (inr fails) (inl by) = subst (λ (e : Ended). WritesAll gives read_failed ended takes failed s.source n.source old new e) (sym by.1) (written_there m n old new so_far fails)
+    ends_at_fault m n old new fault why so_far (inr fails) (inr by) = subst (λ (e : Ended). WritesAll gives read_failed ended takes failed s.source n.source old new e) (sym by.1) (by.0, refused_there m n old new so_far fails)
+
     -- why a read was the last
-    caused : (m b n : AtHand R A) (bytes : List ℕ) (games : List Game) (r : Reads gives read_failed s m games) (came : Came gives read_failed m bytes b) → s.reads ≡ most_reads → Breaks gives read_failed b n
+    caused : (m b n : AtHand R) (bytes : List ℕ) (games : List Game) (r : Reads gives read_failed s m games) (came : Came gives read_failed m bytes b) → s.reads ≡ most_reads → Breaks gives read_failed b n
         → (gives b.source [] n.source × (read_failed n.source ≡ true)) ⊎ ((b.source ≡ n.source) × (length (r.came.pieces ++ came.pieces) ≡ most_reads))
     caused m b n bytes games r came many (inl failed_read) = inl failed_read
     caused m b n bytes games r came many (inr none_left) = inr (sym none_left.0, (let k = length-append r.came.pieces came.pieces in omega (arith, k, r.came.counted, came.counted, many, none_left.1)))
 
     -- the last read failed, or there were 2^40
-    pub ends_unread : (m n : AtHand R A) (old new : W) → s.reads ≡ most_reads → SoFar gives read_failed ended takes failed count s m old new → HasFault gives read_failed ended m n Read → EndsUnread gives read_failed ended takes failed most_reads s.source old new
+    pub ends_unread : (m n : AtHand R) (old new : W) → s.reads ≡ most_reads → SoFar gives read_failed ended takes failed count s m old new → HasFault gives read_failed ended m n Read → EndsUnread gives read_failed ended takes failed most_reads s.source n.source old new
     ends_unread m n old new many so_far fails =
         let r = so_far.reads in
         let whole : joined (r.came.pieces ++ fails.came.pieces) ≡ r.bytes ++ fails.bytes = rw (joined-append r.came.pieces fails.came.pieces, r.came.whole, fails.came.whole) refl in
         record {
           pieces = r.came.pieces ++ fails.came.pieces;
           before = fails.before.source;
-          source = n.source;
           calls = Calls-append gives s.source m.source fails.before.source r.came.pieces fails.came.pieces r.came.calls fails.came.calls;
           well_read = well_read gives read_failed s m fails.before so_far.games nothing first_read r fails.bytes fails.came;
+          each = each_append r.came.pieces fails.came.pieces (r.came.each (not_before m.has_ended fails.before.has_ended fails.came.ended_still fails.not_ended)) (fails.came.each fails.not_ended);
           cause = caused m fails.before n fails.bytes so_far.games r fails.came many fails.breaks;
           games = so_far.games;
           rest = unread m ++ fails.bytes;
           are = λ more. subst (λ (z : List ℕ). AreGames (z ++ more) so_far.games ((unread m ++ fails.bytes) ++ more)) (sym whole)
-              (are_on gives read_failed s m fails.before so_far.games nothing first_read r fails.bytes fails.came more (λ e. absurd (fails.not_ended e)));
+              (are_on gives read_failed s m fails.before so_far.games nothing first_read r fails.bytes fails.came more (λ e. absurd (false≢true (sym fails.not_ended ∙ fails.came.ended_still e))));
+          none = fails.none;
           writes = so_far.writes;
           well_written = so_far.well_written;
         }
 
     -- there are never so many games, since all reads have fewer bytes
-    pub not_so_many : (m : AtHand R A) (old new : W) → s.reads ≡ most_reads → SoFar gives read_failed ended takes failed count s m old new → 144115188075855872 ≤ count → ⊥
+    pub not_so_many : (m : AtHand R) (old new : W) → s.reads ≡ most_reads → SoFar gives read_failed ended takes failed count s m old new → 144115188075855872 ≤ count → ⊥
     not_so_many m old new many so_far so =
         let c = so_far.reads.came in
         let n = ap length nothing in
         omega (arith, n, c.counted, c.small, many, so, so_far.few)
 
     -- a front of one more
-    broken_more : (m n : AtHand R A) (old mid new : W) (game : Game) → (n.has_ended ≡ true → ended n.source) → failed old ≡ false → SoFar gives read_failed ended takes failed count s m old mid → HasGame gives read_failed m n game
-        → Broken takes failed mid (game_text game) new → EndsInPart gives read_failed ended takes failed s.source old new
+    broken_more : (m n : AtHand R) (old mid new : W) (game : Game) → (n.has_ended ≡ true → ended n.source) → failed old ≡ false → SoFar gives read_failed ended takes failed count s m old mid → HasGame gives read_failed m n game
+        → Broken takes failed mid (game_text game) new → EndsInPart gives read_failed ended takes failed s.source n.source old new
     unfolding reads_none
     broken_more m n old mid new game told first so_far read broken = record {
       games = so_far.games ++ game ∷ [];
@@ -204,7 +226,7 @@ module _ {R W A : Type 0} (gives : R → List ℕ → R → Type 0) (read_failed
     }
 
     -- there was no memory for the text of a game
-    ends_written : (m n : AtHand R A) (old new : W) (game : Game) → (n.has_ended ≡ true → ended n.source) → SoFar gives read_failed ended takes failed count s m old new → HasGame gives read_failed m n game → EndsWritten gives read_failed ended takes failed s.source old new
+    ends_written : (m n : AtHand R) (old new : W) (game : Game) → (n.has_ended ≡ true → ended n.source) → SoFar gives read_failed ended takes failed count s m old new → HasGame gives read_failed m n game → EndsWritten gives read_failed ended takes failed s.source n.source old new
     ends_written m n old new game told so_far read = record {
       games = so_far.games;
       reads = collected gives read_failed s m n so_far.games nothing first_read so_far.reads read.bytes read.came ended n.has_ended told read.still;
@@ -213,10 +235,10 @@ module _ {R W A : Type 0} (gives : R → List ℕ → R → Type 0) (read_failed
     }
 
     -- why no more is written
-    pub ends_at : (m n : AtHand R A) (old mid new : W) (game : Game) (why : Ended) → (n.has_ended ≡ true → ended n.source) → failed old ≡ false → SoFar gives read_failed ended takes failed count s m old mid → HasGame gives read_failed m n game
-        → WritesOne takes failed {X = Unit {0}} (game_text game) mid new (Err why) → WritesAll gives read_failed ended takes failed s.source old new why
+    pub ends_at : (m n : AtHand R) (old mid new : W) (game : Game) (why : Ended) → (n.has_ended ≡ true → ended n.source) → failed old ≡ false → SoFar gives read_failed ended takes failed count s m old mid → HasGame gives read_failed m n game
+        → WritesOne takes failed {X = Unit {0}} (game_text game) mid new (Err why) → WritesAll gives read_failed ended takes failed s.source n.source old new why
     ends_at m n old mid new game Good told first so_far read wrote = absurd wrote
     ends_at m n old mid new game (Input fault) told first so_far read wrote = absurd wrote
     ends_at m n old mid new game ReadFault told first so_far read wrote = absurd wrote
     ends_at m n old mid new game WriteFault told first so_far read wrote = broken_more m n old mid new game told first so_far read wrote
-    ends_at m n old mid new game Memory told first so_far read wrote = subst (λ (w : W). EndsWritten gives read_failed ended takes failed s.source old w) (sym wrote) (ends_written m n old mid game told so_far read)
+    ends_at m n old mid new game Memory told first so_far read wrote = subst (λ (w : W). EndsWritten gives read_failed ended takes failed s.source n.source old w) (sym wrote) (ends_written m n old mid game told so_far read)

@@ -12,4 +12,5 @@ pub mod EventLemmas
 pub mod WorkLemmas
 pub mod SittingLemmas
 pub mod CollectionLemmas
+pub mod LentLemmas
 pub mod AgainLemmas

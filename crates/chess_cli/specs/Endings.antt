@@ -4,6 +4,7 @@
 --   CollectionEnds  so are the games that were read
 --   ended_of        an end of the loop over lines, among these
 use Rattle.std.specs.Prelude.{◌≡◌, ◌≢◌, ◌⊎◌, ℕ, Bool, List}
+use Rattle.chess_items.specs.declared.fault.FaultKind.TheVariants as lacks
 use Rattle.chess_items.specs.declared.fault.PgnFault.{PgnFault}
 use Rattle.chess_tree.specs.GameTree.{TreeParts}
 use Rattle.chess_cli.specs.declared.ended.Ended.{Ended}
@@ -45,9 +46,10 @@ module _ {R W : Type 0} (gives : R → List ℕ → R → Type 0) (read_failed :
     pub input : (fault : PgnFault) → result ≢ Input fault
 
 module _ {R W : Type 0} (gives : R → List ℕ → R → Type 0) (read_failed : R → Bool) (takes : W → List ℕ → W → Type 0) (write_failed : W → Bool) (ended : R → Type 0) where
-  pub record CollectionEnds (result : Ended) (r : R) (w w' : W) : Type 0 where
-    pub good : result ≡ Good → EndsWhole gives read_failed ended takes write_failed r w w'
-    pub input : (fault : PgnFault) → result ≡ Input fault → EndsAtFault gives read_failed ended takes write_failed fault r w w'
-    pub read_fault : result ≡ ReadFault → EndsUnread gives read_failed ended takes write_failed most_reads r w w'
-    pub write_fault : result ≡ WriteFault → EndsInPart gives read_failed ended takes write_failed r w w'
-    pub memory : result ≡ Memory → EndsWritten gives read_failed ended takes write_failed r w w'
+  pub record CollectionEnds (result : Ended) (r r' : R) (w w' : W) : Type 0 where
+    pub good : result ≡ Good → EndsWhole gives read_failed ended takes write_failed r r' w w'
+    pub input : (fault : PgnFault) → result ≡ Input fault → (fault.kind ≢ lacks.Memory) × EndsAtFault gives read_failed ended takes write_failed r r' w w'
+    pub read_fault : result ≡ ReadFault → EndsUnread gives read_failed ended takes write_failed most_reads r r' w w'
+    pub write_fault : result ≡ WriteFault → EndsInPart gives read_failed ended takes write_failed r r' w w'
+    -- there was no memory for the next game, or for its text
+    pub memory : result ≡ Memory → EndsWritten gives read_failed ended takes write_failed r r' w w'

@@ -17,7 +17,7 @@ pub enum Ended {
     ReadFault,
     /// A write failed or took no byte.
     WriteFault,
-    /// There was no memory to begin with.
+    /// There was no memory to begin with, or for a game or its text.
     Memory,
 }
 

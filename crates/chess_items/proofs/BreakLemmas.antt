@@ -1,36 +1,59 @@
 -- Reads that went well, one after another, and the one that didn't.
-use Rattle.std.proofs.Common.{◌≡◌, ℕ, ◌+◌, ◌*◌, inl, inr, Bool, true, List, [], ◌∷◌, ◌++◌, length, refl, sym, ap, subst, ◌∙◌, arith, append-nil, length-append, Err}
+use Rattle.std.proofs.Common.{◌≡◌, ◌<◌, ℕ, ◌+◌, ◌*◌, inl, inr, Bool, true, false, List, [], ◌∷◌, ◌++◌, length, refl, sym, ap, subst, ◌∙◌, arith, append-nil, length-append, Ok, Err}
+use Rattle.std.specs.List.{AllByRecursion}
+use Rattle.std.proofs.lemmas.Bool.{false≢true}
+use Rattle.std.specs.Prelude.{Result}
 use Rattle.chess_types.specs.bytes.Calls.{Calls, joined}
 use Rattle.chess_types.proofs.CallLemmas.{Calls-append, joined-append}
-use Rattle.chess_items.specs.Coming.{Breaks, Came, unread}
-use Rattle.chess_items.specs.steps.AtHands.{Reads}
-use Rattle.chess_items.specs.steps.Texts.{BreaksOff}
-use Rattle.chess_items.specs.declared.at_hand.AtHand.{AtHand}
+use Rattle.chess_items.specs.Coming.{AtHand, Breaks, Came, unread}
+use Rattle.chess_items.specs.steps.AtHands.{Reads, Tries}
+use Rattle.chess_items.specs.steps.Deciding.{Decides}
+use Rattle.chess_items.specs.steps.Texts.{BreaksAt, BreaksOff}
+use Rattle.chess_items.specs.declared.place.Place.{Place}
 use Rattle.chess_items.specs.declared.at_hand.Fault.{Fault}
 use Rattle.chess_items.specs.declared.at_hand.Fault.TheVariants.{Memory, Read}
 
-module _ {R A : Type 0} (gives : R → List ℕ → R → Type 0) (failed : R → Bool) where
+-- pieces that gave a byte each, and more of them
+pub each_append : (a b : List (List ℕ)) → AllByRecursion (λ piece. 0 < length piece) a → AllByRecursion (λ piece. 0 < length piece) b → AllByRecursion (λ piece. 0 < length piece) (a ++ b)
+each_append [] b x y = y
+each_append (p ∷ ps) b x y = (x.0, each_append ps b x.1 y)
+
+-- what has not ended afterwards had not before
+not_before : (v w : Bool) → (v ≡ true → w ≡ true) → w ≡ false → v ≡ false
+not_before false w h e = refl
+not_before true w h e = absurd (false≢true (sym e ∙ h refl))
+
+module _ {R : Type 0} (gives : R → List ℕ → R → Type 0) (failed : R → Bool) where
   -- bytes at hand as a text
-  abbrev pub brings : AtHand R A → List ℕ → AtHand R A → Type 0
+  abbrev pub brings : AtHand R → List ℕ → AtHand R → Type 0
   brings s bytes t = Came gives failed s bytes t
 
-  abbrev pub breaking : AtHand R A → AtHand R A → Type 0
+  abbrev pub breaking : AtHand R → AtHand R → Type 0
   breaking s t = Breaks gives failed s t
 
-  abbrev pub has_all : AtHand R A → Type 0
+  abbrev pub has_all : AtHand R → Type 0
   has_all s = s.has_ended ≡ true
 
-  abbrev pub ends_truly : (R → Type 0) → AtHand R A → Type 0
+  abbrev pub ends_truly : (R → Type 0) → AtHand R → Type 0
   ends_truly ended s = s.has_ended ≡ true → ended s.source
 
-  abbrev pub size_at_hand : AtHand R A → ℕ
+  abbrev pub size_at_hand : AtHand R → ℕ
   size_at_hand s = s.reads * 65537 + length (unread s)
 
   -- no read was made
-  pub came_none : (s t : AtHand R A) → t.source ≡ s.source → t.reads ≡ s.reads → Came gives failed s [] t
-  came_none s t source reads = record { pieces = []; calls = sym source; whole = refl; counted = omega (arith, reads); small = omega arith; well = ap failed source }
+  pub came_none : (s t : AtHand R) → t.source ≡ s.source → t.reads ≡ s.reads → t.has_ended ≡ s.has_ended → Came gives failed s [] t
+  came_none s t source reads ended = record {
+    pieces = [];
+    calls = sym source;
+    whole = refl;
+    counted = omega (arith, reads);
+    small = omega arith;
+    well = ap failed source;
+    each = λ e. tt;
+    ended_still = λ e. ended ∙ e;
+  }
 
-  pub came_append : (s m t : AtHand R A) (a b : List ℕ) → Came gives failed s a m → Came gives failed m b t → Came gives failed s (a ++ b) t
+  pub came_append : (s m t : AtHand R) (a b : List ℕ) → Came gives failed s a m → Came gives failed m b t → Came gives failed s (a ++ b) t
   came_append s m t a b first second = record {
     pieces = first.pieces ++ second.pieces;
     calls = Calls-append gives s.source m.source t.source first.pieces second.pieces first.calls second.calls;
@@ -38,35 +61,88 @@ module _ {R A : Type 0} (gives : R → List ℕ → R → Type 0) (failed : R �
     counted = (let n = length-append first.pieces second.pieces in omega (arith, n, first.counted, second.counted));
     small = (let n = length-append first.pieces second.pieces in let k = length-append a b in omega (arith, n, k, first.small, second.small));
     well = second.well ∙ first.well;
+    each = λ e. each_append first.pieces second.pieces (first.each (not_before m.has_ended t.has_ended second.ended_still e)) (second.each e);
+    ended_still = λ e. second.ended_still (first.ended_still e);
   }
 
-  pub all_came : (s t : AtHand R A) (pieces : List (List ℕ)) → Calls (λ x bytes y. Came gives failed x bytes y) s pieces t → Came gives failed s (joined pieces) t
-  all_came s t [] c = came_none s t (ap (λ (x : AtHand R A). x.source) (sym c)) (ap (λ (x : AtHand R A). x.reads) (sym c))
+  pub all_came : (s t : AtHand R) (pieces : List (List ℕ)) → Calls (λ x bytes y. Came gives failed x bytes y) s pieces t → Came gives failed s (joined pieces) t
+  all_came s t [] c = came_none s t (ap (λ (x : AtHand R). x.source) (sym c)) (ap (λ (x : AtHand R). x.reads) (sym c)) (ap (λ (x : AtHand R). x.has_ended) (sym c))
   all_came s t (p ∷ ps) c = came_append s c.0 t p (joined ps) c.1 (all_came c.0 t ps c.2)
 
--- these bytes came, and the source had not ended
-module _ {R A : Type 0} {gives : R → List ℕ → R → Type 0} {failed : R → Bool} {old now : AtHand R A} {bytes : List ℕ} (came : Came gives failed old bytes now) (not_ended : old.has_ended ≡ true → ⊥) where
-  abbrev Off : AtHand R A → Fault → Type 0
+err_is : (a b : Fault) → ◌≡◌ {A = Result (Unit {0}) Fault} (Err a) (Err b) → a ≡ b
+err_is a b e = cc
+
+-- these bytes came, and the source has not ended
+module _ {R : Type 0} {gives : R → List ℕ → R → Type 0} {failed : R → Bool} {old now : AtHand R} {bytes : List ℕ} (came : Came gives failed old bytes now) (goes : now.has_ended ≡ false) where
+  abbrev Off : AtHand R → Fault → Type 0
   Off new fault = BreaksOff (brings gives failed) (breaking gives failed) (has_all gives failed) old new fault
 
+  not_all : now.has_ended ≡ true → ⊥
+  not_all e = false≢true (sym goes ∙ e)
+
+  not_ended : old.has_ended ≡ true → ⊥
+  not_ended e = not_all (came.ended_still e)
+
   -- there may be no more reads
+  many : (new : AtHand R) → new ≡ now → now.reads ≡ 0 → Breaks gives failed now new
+  many new same none = inr (ap (λ (x : AtHand R). x.source) same, none)
+
   pub off_many : now.reads ≡ 0 → Off now Read
-  off_many none = (not_ended, bytes ∷ [], now, (now, came, refl), inr (refl, none))
+  off_many none = (not_ended, bytes ∷ [], now, (now, came, refl), many now refl none, not_all)
 
   -- no buffer could be made
-  pub off_poor : (new : AtHand R A) (e : Fault) → e ≡ Memory → new.source ≡ now.source → new.reads ≡ now.reads → Off new e
-  off_poor new e memory source reads =
-      subst (λ (f : Fault). Off new f) (sym memory) (not_ended, bytes ∷ [] ∷ [], (now, came, (new, came_none gives failed now new source reads, refl)))
+  off_poor : (new : AtHand R) → new ≡ now → Off new Memory
+  off_poor new same = (not_ended, bytes ∷ [], (now, came, sym same))
 
-  pub off_fault : (ended : R → Type 0) (new : AtHand R A) (e : Fault) → Reads gives ended failed now new (Err e) → Off new e
-  off_fault ended new Read r = (not_ended, bytes ∷ [], now, (now, came, refl), inl (subst (λ (p : List ℕ). gives now.source p new.source) r.after.1 r.call, r.after.0))
-  off_fault ended new Memory r = (not_ended, bytes ∷ r.piece ∷ [], (now, came, (new, one, refl)))
+  fails : (ended : R → Type 0) (new : AtHand R) → Reads gives ended failed now new (Err Read) → Breaks gives failed now new
+  fails ended new r = inl (subst (λ (p : List ℕ). gives now.source p new.source) r.after.1 r.call, r.after.0)
+
+  off_read : (ended : R → Type 0) (new : AtHand R) → Reads gives ended failed now new (Err Memory) → Off new Memory
+  off_read ended new r = (not_ended, bytes ∷ r.piece ∷ [], (now, came, (new, one, refl)))
     where
       one : Came gives failed now r.piece new
-      one = record { pieces = r.piece ∷ []; calls = (new.source, r.call, refl); whole = append-nil r.piece; counted = r.counted; small = r.small; well = r.after }
+      one = record { pieces = r.piece ∷ []; calls = (new.source, r.call, refl); whole = append-nil r.piece; counted = r.counted; small = r.small; well = r.after.0; each = λ e. (r.after.1, tt); ended_still = λ e. absurd (not_all e) }
+
+  pub off_fault : (ended : R → Type 0) (new : AtHand R) (e : Fault) → Tries gives ended failed now new (Err e) → Off new e
+  off_fault ended new Read (inl p) = (let wrong : Read ≡ Memory = err_is Read Memory p.0 in cc)
+  off_fault ended new Read (inr r) = (not_ended, bytes ∷ [], now, (now, came, refl), fails ended new r, not_all)
+  off_fault ended new Memory (inl p) = off_poor new p.1
+  off_fault ended new Memory (inr r) = off_read ended new r
+
+  -- the bytes at hand don't decide the item at their front
+  module _ (ended : R → Type 0) (place : Place) (longer : unread now ≡ unread old ++ bytes) (undecided : Decides place (unread now) → ⊥) where
+    abbrev At : AtHand R → Fault → Type 0
+    At new fault = BreaksAt (brings gives failed) unread (breaking gives failed) (has_all gives failed) (ends_truly gives failed ended) place old new fault
+
+    broke : (new : AtHand R) → Breaks gives failed now new → At new Read
+    broke new b = record {
+      pieces = bytes ∷ [];
+      mid = now;
+      came = (now, came, refl);
+      longer = longer ∙ ap (λ (x : List ℕ). unread old ++ x) (sym (append-nil bytes));
+      undecided = undecided;
+      not_yet = not_ended;
+      not_all = not_all;
+      sound_still = λ e. absurd (not_all e);
+      breaks_off = b;
+    }
+
+    pub at_many : now.reads ≡ 0 → At now Read
+    at_many none = broke now (many now refl none)
+
+    pub at_fault : (new : AtHand R) (e : Fault) → Tries gives ended failed now new (Err e) → At new e
+    at_fault new Read (inl p) = (let wrong : Read ≡ Memory = err_is Read Memory p.0 in cc)
+    at_fault new Read (inr r) = broke new (fails ended new r)
+    at_fault new Memory (inl p) = off_poor new p.1
+    at_fault new Memory (inr r) = off_read ended new r
+
+-- a read that went well
+pub has_read : {R : Type 0} (gives : R → List ℕ → R → Type 0) (ended : R → Type 0) (failed : R → Bool) (now new : AtHand R) → Tries gives ended failed now new (Ok tt) → Reads gives ended failed now new (Ok tt)
+has_read gives ended failed now new (inl p) = (let wrong = p.0 in cc)
+has_read gives ended failed now new (inr r) = r
 
 -- what came first, and then no more
 module _ {X : Type 0} (comes : X → List ℕ → X → Type 0) (breaks : X → X → Type 0) (all : X → Type 0) (old now new : X) (pieces : List (List ℕ)) (came : Calls comes old pieces now) (still : all old → all now) where
   pub breaks_later : (fault : Fault) → BreaksOff comes breaks all now new fault → BreaksOff comes breaks all old new fault
   breaks_later Memory b = ((λ e. b.0 (still e)), pieces ++ b.1, Calls-append comes old now new pieces b.1 came b.2)
-  breaks_later Read b = ((λ e. b.0 (still e)), pieces ++ b.1, b.2, Calls-append comes old now b.2 pieces b.1 came b.3, b.4)
+  breaks_later Read b = ((λ e. b.0 (still e)), pieces ++ b.1, b.2, Calls-append comes old now b.2 pieces b.1 came b.3, b.4, b.5)

@@ -1,15 +1,18 @@
 -- An item that ends in front of a byte does not depend on what is behind that byte.
-use Rattle.std.proofs.Common.{◌≡◌, ◌<◌, ◌≤◌, ◌⊎◌, inl, inr, ℕ, suc, ◌+◌, Bool, List, [], ◌∷◌, ◌++◌, length, refl, sym, ap, subst, ◌∙◌, arith, append_assoc, length-append}
+use Rattle.std.proofs.Common.{◌≡◌, ◌<◌, ◌≤◌, ◌⊎◌, inl, inr, ℕ, suc, ◌+◌, Bool, List, [], ◌∷◌, ◌++◌, length, refl, sym, ap, subst, ◌∙◌, arith, append_assoc, append-nil, length-append}
 use Rattle.chess_items.specs.Items.{Item, Mark, Blank, Hidden, Comment, Skipped, Word, Nag, Open, Close, Marker, TagOpen, TagClose, Name, Quote, Stretch, Escaped}
 use Rattle.chess_items.specs.Items.{IsRun, IsToLineEnd, IsSpelled, IsItem, is_digit, is_glyph, is_name_byte, is_plain, is_word_byte}
 use Rattle.chess_items.specs.steps.ItemAt.{Found, item_at}
 use Rattle.chess_items.specs.steps.Deciding.{longer, Decides}
 use Rattle.chess_items.specs.declared.place.Place.{Place}
 use Rattle.chess_items.proofs.ItemLemmas.{item_goes}
-use Rattle.chess_items.proofs.FoundLemmas.{the, item_taken}
+use Rattle.chess_items.proofs.FoundLemmas.{the, item_taken, some_is}
 
 run_local : (p : ℕ → Bool) (text : List ℕ) (c : ℕ) (n1 n2 : List ℕ) → IsRun p text (c ∷ n1) → IsRun p text (c ∷ n2)
 run_local p text c n1 n2 r = record { some = r.some; each = r.each; stops = r.stops }
+
+run_end : (p : ℕ → Bool) (text next : List ℕ) → IsRun p text next → IsRun p text []
+run_end p text next r = record { some = r.some; each = r.each; stops = tt }
 
 line_local : (line : List ℕ) (c : ℕ) (n1 n2 : List ℕ) → IsToLineEnd line (c ∷ n1) → IsToLineEnd line (c ∷ n2)
 line_local line c n1 n2 l = record { each = l.each; stops = l.stops }
@@ -106,3 +109,55 @@ pub item_shorter : (place : Place) (input : List ℕ) (item : Item) (next : List
 item_shorter place input item next e =
     let t = item_taken place input item next e in
     text_shorter place item t.0 input next t.1 t.2
+
+-- An item that ends in front of some bytes ends where there are none.
+spelled_end : (item : Item) (text next : List ℕ) → IsSpelled item text next → IsSpelled item text []
+spelled_end Mark text next p = p
+spelled_end (Blank b) text next p = p
+spelled_end Hidden text next p = (p.0, p.1, record { each = p.2.each; stops = tt })
+spelled_end (Comment t) text next (inl p) = inl p
+spelled_end (Comment t) text next (inr p) = inr (p.0, p.1, record { each = p.2.each; stops = tt }, p.3)
+spelled_end Skipped text next (inl e) = inl e
+spelled_end Skipped text next (inr p) = inr (run_end is_word_byte text next p.0, p.1)
+spelled_end (Word w) text next p = (run_end is_word_byte text next p.0, p.1)
+spelled_end (Nag n) text next (inl p) = inl (p.0, p.1, run_end is_digit p.0 next p.2, p.3, p.4)
+spelled_end (Nag n) text next (inr p) = inr (run_end is_glyph text next p.0, p.1)
+spelled_end Open text next p = p
+spelled_end Close text next p = p
+spelled_end (Marker o) text next (inl e) = inl e
+spelled_end (Marker o) text next (inr p) = inr (run_end is_word_byte text next p.0, p.1)
+spelled_end TagOpen text next p = p
+spelled_end TagClose text next p = p
+spelled_end (Name t) text next p = (run_end is_name_byte text next p.0, p.1)
+spelled_end Quote text next p = p
+spelled_end (Stretch t) text next (e, inl run) = (e, inl (run_end is_plain text next run))
+spelled_end (Stretch t) text next (e, inr p) = (e, inr (p.0, tt))
+spelled_end (Escaped b) text next p = p
+
+item_is : (found : Found) (i j : Item) (r q : List ℕ) → found ≡ the i r → found ≡ the j q → i ≡ j
+item_is found i j r q e h = ap (λ (z : Item × List ℕ). z.0) (some_is {A = Item × List ℕ} (i, r) (j, q) (sym e ∙ h))
+
+-- two texts behind which equally many bytes stand
+same_front : (xs ys p q : List ℕ) → xs ++ p ≡ ys ++ q → length p ≡ length q → (xs ≡ ys) × (p ≡ q)
+same_front [] [] p q e n = (refl, e)
+same_front [] (y ∷ ys) p q e n = absurd (let l = ap length e ∙ length-append (y ∷ ys) q in omega (arith, l, n))
+same_front (x ∷ xs) [] p q e n = absurd (let l = sym (length-append (x ∷ xs) p) ∙ ap length e in omega (arith, l, n))
+same_front (x ∷ xs) (y ∷ ys) p q e n =
+    let t = tail_is x y (xs ++ p) (ys ++ q) e in
+    let s = same_front xs ys p q t.1 n in
+    (rw (t.0, s.0) refl, s.1)
+
+-- An item that takes these bytes and no more, whatever follows, is decided by them.
+pub decided_so_far : (place : Place) (front : List ℕ) (k : Item) → item_at place front ≡ the k [] → ((more : List ℕ) → (j : Item) × (item_at place (front ++ more) ≡ the j more)) → Decides place front
+decided_so_far place front k e f = λ more.
+    let g = f more in
+    let t = item_taken place (front ++ more) g.0 more g.1 in
+    let whole : front ≡ t.0 = (same_front front t.0 more more t.1 refl).0 in
+    let ends : IsItem place g.0 front [] = subst (λ (x : List ℕ). IsItem place g.0 x []) (sym whole) (record { stands = t.2.stands; spelled = spelled_end g.0 t.0 more t.2.spelled }) in
+    let alone : item_at place front ≡ the g.0 [] = subst (λ (x : List ℕ). item_at place x ≡ the g.0 []) (append-nil front) (item_goes place g.0 front [] ends) in
+    let same : g.0 ≡ k = item_is (item_at place front) g.0 k [] [] alone e in
+    g.1 ∙ ap (λ (i : Item). the i more) same ∙ ap (λ (x : Found). longer x more) (sym e)
+
+-- The bytes that follow an item with equally many bytes behind it.
+pub next_is : (front more text next : List ℕ) → front ++ more ≡ text ++ next → length next ≡ length more → next ≡ more
+next_is front more text next e n = sym (same_front front text more next e (sym n)).1

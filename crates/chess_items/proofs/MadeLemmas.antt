@@ -2,10 +2,9 @@
 use Rattle.std.proofs.Common.{◌≡◌, ℕ, ◌+◌, ◌≤◌, inl, inr, Bool, true, false, List, [], ◌∷◌, ◌++◌, length, refl, ap, subst, ◌∙◌, arith, append_assoc, append-nil, length-append, Result, Ok, Err}
 use Rattle.chess_types.specs.bytes.Calls.{joined}
 use Rattle.chess_items.specs.steps.Deciding.{Decides}
-use Rattle.chess_items.specs.Coming.{unread}
+use Rattle.chess_items.specs.Coming.{AtHand, unread}
 use Rattle.chess_items.specs.steps.AtHands.{Needed, HasRead, Readied}
 use Rattle.chess_items.specs.steps.Texts.{Near, AfterCame, MadeReady}
-use Rattle.chess_items.specs.declared.at_hand.AtHand.{AtHand}
 use Rattle.chess_items.specs.declared.at_hand.Fault.{Fault}
 use Rattle.chess_items.specs.declared.place.Place.{Place}
 use Rattle.chess_items.proofs.BreakLemmas.{brings, ends_truly, has_all, size_at_hand}
@@ -28,7 +27,7 @@ held_of most place front (p ∷ pieces) n few =
     let l = length-append front p in
     subst (λ (x : List ℕ). length x ≤ most + 65536) (append_assoc front p (joined pieces)) (held_of most place (front ++ p) pieces n.3 (omega (arith, l, n.1, n.2)))
 
-module _ {R A : Type 0} (gives : R → List ℕ → R → Type 0) (ended : R → Type 0) (failed : R → Bool) (most : ℕ) (place : Place) (old new : AtHand R A) where
+module _ {R : Type 0} (gives : R → List ℕ → R → Type 0) (ended : R → Type 0) (failed : R → Bool) (most : ℕ) (place : Place) (old new : AtHand R) where
   size_falls : (pieces : List (List ℕ)) → Needed most place (unread old) pieces → new.reads + length pieces ≡ old.reads → unread new ≡ unread old ++ joined pieces → size_at_hand gives failed new ≤ size_at_hand gives failed old
   size_falls pieces n counted e =
       let k = joined_small most place (unread old) pieces n in
@@ -58,6 +57,6 @@ module _ {R A : Type 0} (gives : R → List ℕ → R → Type 0) (ended : R →
   made_ready (Err e) r = tt
   made_ready (Ok is_ready) r = record {
     more = joined r.pieces;
-    came = record { pieces = r.pieces; calls = r.calls; whole = refl; counted = r.counted; small = joined_small most place (unread old) r.pieces r.needed; well = r.well };
+    came = record { pieces = r.pieces; calls = r.calls; whole = refl; counted = r.counted; small = joined_small most place (unread old) r.pieces r.needed; well = r.well; each = r.each; ended_still = λ e. (r.at_end e).1 };
     after = came_after is_ready r;
   }

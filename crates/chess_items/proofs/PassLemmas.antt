@@ -1,14 +1,15 @@
 -- White items before the limit, and white space and hidden lines behind it.
-use Rattle.std.proofs.Common.{◌≡◌, ℕ, ◌+◌, inr, Bool, true, false, ◌&&◌, List, [], ◌∷◌, ◌++◌, length, refl, sym, ap, subst, ◌∙◌, arith, append-nil, length-append, Ok}
+use Rattle.std.proofs.Common.{◌≡◌, ℕ, ◌+◌, inl, inr, Bool, true, false, ◌&&◌, List, [], ◌∷◌, ◌++◌, length, refl, sym, ap, subst, ◌∙◌, arith, append-nil, length-append, Ok}
 use Rattle.chess_types.specs.bytes.Calls.{joined}
 use Rattle.chess_types.proofs.CallLemmas.{Calls-append, joined-append}
 use Rattle.chess_items.specs.Items.{Item, Mark, Blank, Hidden}
 use Rattle.chess_items.specs.Items.{is_outside, is_white, place_after}
-use Rattle.chess_items.specs.steps.Passing.{AreWhite, WasWhite, Passed}
+use Rattle.chess_items.specs.steps.Passing.{AreWhite, WasWhite, Passed, PassBreaks}
 use Rattle.chess_items.specs.steps.Skipping.{Skips}
-use Rattle.chess_items.specs.steps.Taking.{TakesOne, SpellsFrom, behind, all_white, AfterRun, Ran}
+use Rattle.chess_items.specs.steps.Taking.{TakesOne, SpellsFrom, behind, all_white, AfterRun, Ran, RunBreaks}
 use Rattle.chess_items.specs.steps.Texts.{BreaksOff}
 use Rattle.chess_items.specs.declared.at_hand.Fault.{Fault}
+use Rattle.chess_items.specs.declared.at_hand.Fault.TheVariants.{Memory, Read}
 use Rattle.chess_items.specs.declared.place.Place.{Place}
 use Rattle.chess_items.specs.declared.place.Place.TheVariants.{GameStart}
 use Rattle.chess_items.specs.declared.taking.Stop.{Stop}
@@ -97,6 +98,11 @@ module _ {X T : Type 0} (comes : X → List ℕ → X → Type 0) (at_hand : X �
     pub passed_other : (new : X) → s.why ≡ stop.TooLarge → s.white ≡ true → Skips comes at_hand all sound s.place mid new (Ok false) → Passed comes at_hand all sound size takes limit old new t u s
     passed_other new why white k = record { mid = mid; ran = r; after = inr (record { over = why; white = white; pieces = k.pieces; came = k.came; other = k.after.0; still = k.after.2 }); more = λ e. absurd (let h : stop.TooLarge ≡ stop.End = sym why ∙ e in cc) }
 
-    pub passed_broken : (breaks : X → X → Type 0) (new : X) (fault : Fault) → BreaksOff comes breaks all mid new fault → BreaksOff comes breaks all old new fault
-    passed_broken breaks new fault b =
-        breaks_later comes breaks all old mid new r.pieces r.came (λ h. (ended_after comes at_hand all sound size takes limit old t mid u r.pieces s.at s.place s.white s.why r.after h).1) fault b
+    pub passed_broken : (breaks : X → X → Type 0) (new : X) (fault : Fault) → s.why ≡ stop.TooLarge → BreaksOff comes breaks all mid new fault → PassBreaks comes at_hand all sound size takes limit breaks old new t fault
+    passed_broken breaks new Memory over b =
+        breaks_later comes breaks all old mid new r.pieces r.came (λ h. (ended_after comes at_hand all sound size takes limit old t mid u r.pieces s.at s.place s.white s.why r.after h).1) Memory b
+    passed_broken breaks new Read over b = inr (record { mid = mid; last = u; stopped = s; ran = r; over = over; broke = b })
+
+  pub run_broken : (breaks : X → X → Type 0) (new : X) (fault : Fault) → RunBreaks comes at_hand all sound size takes limit breaks old new t fault → PassBreaks comes at_hand all sound size takes limit breaks old new t fault
+  run_broken breaks new Memory b = b
+  run_broken breaks new Read b = inl b

@@ -3,9 +3,10 @@ use Rattle.std.proofs.Common.{◌≡◌, ℕ, ◌+◌, ◌-◌, ◌≤◌, arith
 use Rattle.chess_types.specs.bytes.Calls.{Calls, joined}
 use Rattle.chess_types.proofs.CallLemmas.{Calls-append, joined-append}
 use Rattle.chess_items.specs.Items.{Item, Spells, is_white, place_after}
-use Rattle.chess_items.specs.steps.Taking.{TakesOne, SpellsFrom, Takes, behind, all_white, UsesItem, Rests, AfterStop, Steps, Took, AfterRun, Ran}
-use Rattle.chess_items.specs.steps.Texts.{BreaksOff}
+use Rattle.chess_items.specs.steps.Taking.{TakesOne, SpellsFrom, Takes, behind, all_white, UsesItem, Rests, AfterStop, Steps, Took, AfterRun, Ran, RunBreaks}
+use Rattle.chess_items.specs.steps.Texts.{BreaksAt}
 use Rattle.chess_items.specs.declared.at_hand.Fault.{Fault}
+use Rattle.chess_items.specs.declared.at_hand.Fault.TheVariants.{Memory, Read}
 use Rattle.chess_items.specs.declared.place.Place.{Place}
 use Rattle.chess_items.specs.declared.place.Place.TheVariants.{GameStart}
 use Rattle.chess_items.specs.declared.taker.Taken.TheVariants.{GoesOn, Ends}
@@ -195,8 +196,25 @@ module _ {X T : Type 0} (comes : X → List ℕ → X → Type 0) (at_hand : X �
       → Ran comes at_hand all sound size takes limit old new t v (Ok (record { why = stop.Full; at = at + used; place = next; white = white && is }))
   ran_ends at place white now new u v next used is w s = ran_full at place white now u w s.pieces new s.came s.after.0 used s.after.1 v next is s.after.2 s.after.3 s.after.4
 
-  pub ran_broken : (breaks : X → X → Type 0) (at : ℕ) (place : Place) (white : Bool) (now new : X) (u : T) (e : Fault) → Underway at place white now u → BreaksOff comes breaks all now new e → BreaksOff comes breaks all old new e
-  ran_broken breaks at place white now new u e w b = breaks_later comes breaks all old now new w.pieces w.came (λ h. (w.took.at_end h).1) e b
+  pub ran_broken : (breaks : X → X → Type 0) (at : ℕ) (place : Place) (white : Bool) (now new : X) (u : T) (e : Fault) → Underway at place white now u → BreaksAt comes at_hand breaks all sound place now new e
+      → RunBreaks comes at_hand all sound size takes limit breaks old new t e
+  ran_broken breaks at place white now new u Memory w b = breaks_later comes breaks all old now new w.pieces w.came (λ h. (w.took.at_end h).1) Memory b
+  ran_broken breaks at place white now new u Read w b = record {
+    pieces = w.pieces ++ b.pieces;
+    mid = b.mid;
+    came = all_came at place white now u w b.pieces b.mid b.came;
+    items = w.items;
+    at = at;
+    place = place;
+    white = white;
+    took = took_rest at place white now u w b.pieces b.mid b.came (record { longer = b.longer; at_end = λ e. absurd (b.not_yet e); sound_still = b.sound_still });
+    last = u;
+    taken = w.taken;
+    undecided = b.undecided;
+    not_yet = λ e. b.not_yet (w.took.at_end e).1;
+    not_all = b.not_all;
+    breaks_off = b.breaks_off;
+  }
 
   pub goes_on : (at : ℕ) (place : Place) (white : Bool) (now new : X) (u v : T) (next : Place) (used : ℕ) (is : Bool) → Underway at place white now u → Steps comes at_hand all sound size takes at (limit - at) place now new u v (Ok (step.On next used is))
       → Underway (at + used) next (white && is) new v

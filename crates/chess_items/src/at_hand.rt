@@ -7,6 +7,7 @@ use crate::cut::is_undecided;
 use crate::place::Place;
 use chess_types::Source;
 use std::alloc::{AllocError, Allocator};
+use std::marker::Model;
 
 /// Why no more bytes come.
 #[derive(Clone, Copy)]
@@ -17,18 +18,28 @@ pub enum Fault {
     Read,
 }
 
-/// A source, with the bytes that were read and are not used yet.
+/// A source, with the bytes that were read and are not used yet. Contracts see both, whether its end was seen, and how many more reads
+/// there may be.
 #[derive(Drop)]
 pub struct AtHand<'a, R, A: Allocator> {
-    pub source: R,
-    pub bytes: Vec<u8, &'a A>,
-    pub used: usize,
-    pub has_ended: bool,
-    pub reads: u64,
+    source: R,
+    bytes: Vec<u8, &'a A>,
+    used: usize,
+    has_ended: bool,
+    reads: u64,
     /// Empty before the first read.
-    pub buffer: Vec<u8, &'a A>,
-    ghost within: { used ≤ vec_len bytes },
-    ghost few_at_a_time: { vec_len buffer ≤ 65536 },
+    buffer: Vec<u8, &'a A>,
+}
+
+impl<'a, R, A: Allocator> Model for AtHand<'a, R, A> {
+    ghost use Rattle.std.specs.Prelude.{◌≤◌, drop, vec_len};
+    ghost use Rattle.chess_items.specs.Coming as coming;
+
+    ghost Value = { coming.AtHand R };
+
+    ghost view = { λ h. record { source = h.source; bytes = drop h.used h.bytes.items; has_ended = h.has_ended; reads = h.reads } };
+
+    ghost invariant = { λ h. (h.used ≤ vec_len h.bytes) × (vec_len h.buffer ≤ 65536) };
 }
 
 /// The most bytes of a read.
@@ -70,8 +81,8 @@ fn make_buffer<A: Allocator>(alloc: A, buffer: &mut Vec<u8, A>) -> Result<(), Fa
 
 impl<'a, R: Source, A: Allocator> AtHand<'a, R, A> {
     ghost use Rattle.chess_items.specs.Coming.{Breaks, Came, unread};
-    ghost use Rattle.chess_items.specs.steps.AtHands.{Reads, Readied, Refilled};
-    ghost use Rattle.chess_items.specs.steps.Texts.{BreaksOff};
+    ghost use Rattle.chess_items.specs.steps.AtHands.{Readied, Refilled, Tries};
+    ghost use Rattle.chess_items.specs.steps.Texts.{BreaksAt, BreaksOff};
 
     /// The source, nothing of which is at hand.
     pub fn new(alloc: &'a A, source: R) -> AtHand<'a, R, A>
@@ -97,6 +108,35 @@ impl<'a, R: Source, A: Allocator> AtHand<'a, R, A> {
         &self.bytes[self.used..]
     }
 
+    /// The source.
+    pub fn into_source(self) -> R
+        ensures { result ≡ self.entry.source }
+    {
+        let AtHand {
+            source,
+            bytes: _,
+            used: _,
+            has_ended: _,
+            reads: _,
+            buffer: _,
+        } = self;
+        source
+    }
+
+    // Whether the end of the source was seen.
+    fn is_at_end(&self) -> bool
+        ensures { result ≡ self.now.has_ended }
+    {
+        self.has_ended
+    }
+
+    // How many more reads there may be.
+    fn reads_left(&self) -> u64
+        ensures { result ≡ self.now.reads }
+    {
+        self.reads
+    }
+
     /// Uses the first bytes, all but `left`.
     pub fn keep(&mut self, left: usize)
         requires { left ≤ length (unread self.old) }
@@ -109,13 +149,15 @@ impl<'a, R: Source, A: Allocator> AtHand<'a, R, A> {
         self.used = self.bytes.len() - left;
     }
 
-    // Reads once.
+    // Reads once, where there is memory to read into.
     fn read_on(&mut self) -> Result<(), Fault>
-        requires buffer { 0 < vec_len self.old.buffer }
         requires reads { 0 < self.old.reads }
         requires goes_on { self.old.has_ended ≡ false }
-        ensures { Reads R.gives R.ended R.failed self.old self.new result }
+        ensures { Tries R.gives R.ended R.failed self.old self.new result }
     {
+        if let Err(fault) = make_buffer(*self.bytes.allocator(), &mut self.buffer) {
+            return Err(fault);
+        }
         drop_front(&mut self.bytes, self.used);
         self.used = 0;
         self.reads -= 1;
@@ -137,18 +179,15 @@ impl<'a, R: Source, A: Allocator> AtHand<'a, R, A> {
     pub fn read_until_decided(&mut self, place: Place, most: usize) -> Result<bool, Fault>
         requires ended { self.old.has_ended ≡ true → R.ended self.old.source }
         ensures readied { Readied R.gives R.ended R.failed most place self.old self.new result }
-        ensures broken { IfErr result (λ fault. BreaksOff (λ s bytes t. Came R.gives R.failed s bytes t) (λ s t. Breaks R.gives R.failed s t) (λ s. s.has_ended ≡ true) self.old self.new fault) }
+        ensures broken { IfErr result (λ fault. BreaksAt (λ s bytes t. Came R.gives R.failed s bytes t) unread (λ s t. Breaks R.gives R.failed s t) (λ s. s.has_ended ≡ true) (λ s. s.has_ended ≡ true → R.ended s.source) place self.old self.new fault) }
     {
         let mut looked = 0;
-        while !self.has_ended && is_undecided(place, self.unread(), looked) {
+        while !self.is_at_end() && is_undecided(place, self.unread(), looked) {
             if self.unread().len() > most {
                 return Ok(false);
             }
-            if self.reads == 0 {
+            if self.reads_left() == 0 {
                 return Err(Fault::Read);
-            }
-            if let Err(fault) = make_buffer(*self.bytes.allocator(), &mut self.buffer) {
-                return Err(fault);
             }
             looked = self.unread().len();
             if let Err(fault) = self.read_on() {
@@ -165,18 +204,15 @@ impl<'a, R: Source, A: Allocator> AtHand<'a, R, A> {
         ensures broken { IfErr result (λ fault. BreaksOff (λ s bytes t. Came R.gives R.failed s bytes t) (λ s t. Breaks R.gives R.failed s t) (λ s. s.has_ended ≡ true) self.old self.new fault) }
     {
         self.keep(0);
-        if self.has_ended {
+        if self.is_at_end() {
             return Ok(false);
         }
-        if self.reads == 0 {
+        if self.reads_left() == 0 {
             return Err(Fault::Read);
-        }
-        if let Err(fault) = make_buffer(*self.bytes.allocator(), &mut self.buffer) {
-            return Err(fault);
         }
         if let Err(fault) = self.read_on() {
             return Err(fault);
         }
-        Ok(!self.has_ended)
+        Ok(!self.is_at_end())
     }
 }

@@ -65,7 +65,8 @@ impl FaultKind {
 }
 
 /// A fault, and the place of the first byte that it concerns, from the text's beginning.
-#[derive(Clone, Copy, Debug, PartialEq, Eq)]
+#[derive(Clone, Copy, Debug, PartialEq, Eq, Error)]
+#[error("{kind}, at byte {place}")]
 pub struct PgnFault {
     pub place: u64,
     pub kind: FaultKind,

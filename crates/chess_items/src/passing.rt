@@ -1,8 +1,7 @@
 //! Taking the items of a text, and passing over what is white behind the limit.
 
 ghost use Rattle.std.specs.Prelude.{IfErr, IfOk};
-ghost use Rattle.chess_items.specs.steps.Passing.{Passes};
-ghost use Rattle.chess_items.specs.steps.Texts.{BreaksOff};
+ghost use Rattle.chess_items.specs.steps.Passing.{PassBreaks, Passes};
 
 use crate::at_hand::Fault;
 use crate::blanks::skip_white;
@@ -20,7 +19,7 @@ pub fn pass<X: Text, T: Taker>(
     requires { X.sound text.old }
     ensures sound { IfOk result (λ _. X.sound text.new) }
     ensures passes { Passes X.comes X.at_hand X.all X.sound X.size T.takes limit text.old text.new taker.old taker.new result }
-    ensures broken { IfErr result (λ fault. BreaksOff X.comes X.breaks X.all text.old text.new fault) }
+    ensures broken { IfErr result (λ fault. PassBreaks X.comes X.at_hand X.all X.sound X.size T.takes limit X.breaks text.old text.new taker.old fault) }
 {
     let stopped = match run(text, taker, limit) {
         Err(fault) => return Err(fault),

@@ -2,8 +2,8 @@
 
 ghost use Rattle.std.specs.Prelude.{◌<◌, ◌+◌, length, take, IfErr, IfOk, MatchBool};
 ghost use Rattle.chess_items.specs.steps.Deciding.{Decides};
-ghost use Rattle.chess_items.specs.steps.Taking.{Offered, Steps, Ran};
-ghost use Rattle.chess_items.specs.steps.Texts.{BreaksOff};
+ghost use Rattle.chess_items.specs.steps.Taking.{Offered, Steps, Ran, RunBreaks};
+ghost use Rattle.chess_items.specs.steps.Texts.{BreaksAt};
 ghost use Rattle.chess_items.specs.steps.Tokens.{item_of};
 
 use crate::at_hand::Fault;
@@ -106,7 +106,7 @@ fn take_one<X: Text, T: Taker>(
 ) -> Result<Step, Fault>
     requires { X.sound text.old }
     ensures steps { Steps X.comes X.at_hand X.all X.sound X.size T.takes at most place text.old text.new taker.old taker.new result }
-    ensures broken { IfErr result (λ fault. BreaksOff X.comes X.breaks X.all text.old text.new fault) }
+    ensures broken { IfErr result (λ fault. BreaksAt X.comes X.at_hand X.breaks X.all X.sound place text.old text.new fault) }
 {
     match text.ready(place, most) {
         Err(fault) => return Err(fault),
@@ -144,7 +144,7 @@ pub fn run<X: Text, T: Taker>(text: &mut X, taker: &mut T, limit: usize) -> Resu
     requires { X.sound text.old }
     ensures sound { IfOk result (λ _. X.sound text.new) }
     ensures ran { Ran X.comes X.at_hand X.all X.sound X.size T.takes limit text.old text.new taker.old taker.new result }
-    ensures broken { IfErr result (λ fault. BreaksOff X.comes X.breaks X.all text.old text.new fault) }
+    ensures broken { IfErr result (λ fault. RunBreaks X.comes X.at_hand X.all X.sound X.size T.takes limit X.breaks text.old text.new taker.old fault) }
 {
     let mut place = Place::GameStart;
     let mut at = 0usize;

@@ -1,7 +1,7 @@
 //! Texts that are at hand bit by bit, or whole.
 
 ghost use Rattle.std.specs.Prelude.{◌≡◌, ℕ, ◌≤◌, List, length, IfErr};
-ghost use Rattle.chess_items.specs.steps.Texts.{BreaksOff, MadeReady, Keeps, Refills};
+ghost use Rattle.chess_items.specs.steps.Texts.{BreaksAt, BreaksOff, MadeReady, Keeps, Refills};
 
 use crate::at_hand::{AtHand, Fault};
 use crate::place::Place;
@@ -31,7 +31,7 @@ pub trait Text {
     fn ready(&mut self, place: Place, most: usize) -> Result<bool, Fault>
         requires { sound self.old }
         ensures made { MadeReady comes at_hand all sound size most place self.old self.new result }
-        ensures broken { IfErr result (λ fault. BreaksOff comes breaks all self.old self.new fault) };
+        ensures broken { IfErr result (λ fault. BreaksAt comes at_hand breaks all sound place self.old self.new fault) };
 
     /// The bytes at hand.
     fn unread(&self) -> &[u8]

@@ -1,10 +1,9 @@
 -- What is answered of a text with a game at its front, and where a fault is.
-use Rattle.std.proofs.Common.{◌≡◌, ◌⊎◌, ℕ, Bool, List, [], ◌++◌, refl, sym, subst, ap, ◌∙◌, append-nil}
+use Rattle.std.proofs.Common.{◌≡◌, ◌⊎◌, ℕ, Bool, true, false, List, [], ◌++◌, refl, sym, subst, ap, ◌∙◌, append-nil}
 use Rattle.std.specs.Prelude.{Ok, Option, Some, None}
 use mathlib.Core.Logic.{inl, inr}
 use Rattle.chess_types.specs.bytes.Calls.{joined}
-use Rattle.chess_items.specs.Coming.{unread}
-use Rattle.chess_items.specs.declared.at_hand.AtHand.{AtHand}
+use Rattle.chess_items.specs.Coming.{AtHand, unread}
 use Rattle.chess_items.specs.declared.fault.FaultKind.TheVariants.{Memory}
 use Rattle.chess_items.specs.declared.fault.PgnFault.{PgnFault}
 use Rattle.chess_items.proofs.BreakLemmas.{all_came, breaking, brings, ends_truly, has_all}
@@ -64,7 +63,11 @@ module _ {X : Type 0} (breaks : X → X → Type 0) (at_hand : X → List ℕ) (
 
 -- ---- a source
 
-module _ {R A : Type 0} (gives : R → List ℕ → R → Type 0) (failed : R → Bool) (ended : R → Type 0) (old new : AtHand R A) where
+not_true : (v : Bool) → (v ≡ true → ⊥) → v ≡ false
+not_true true h = absurd (h refl)
+not_true false h = refl
+
+module _ {R : Type 0} (gives : R → List ℕ → R → Type 0) (failed : R → Bool) (ended : R → Type 0) (old new : AtHand R) where
   -- wherever the fault is placed
   pub source_fault : (fault placed : GamesFault) → IsFault (brings gives failed) unread (has_all gives failed) (ends_truly gives failed ended) (breaking gives failed) old new fault → HasKind fault placed → HasFault gives failed ended old new placed
   source_fault (Pgn fault) (Pgn placed) (inl k) e =
@@ -73,4 +76,4 @@ module _ {R A : Type 0} (gives : R → List ℕ → R → Type 0) (failed : R �
       inr (record { bytes = joined h.pieces; came = all_came gives failed old new h.pieces h.came; told = h.sound_still; none = h.none; dark = h.dark; still = h.still })
   source_fault (Pgn fault) Read h e = absurd e
   source_fault Read (Pgn placed) h e = absurd e
-  source_fault Read Read h e = record { bytes = joined h.1; before = h.2; came = all_came gives failed old h.2 h.1 h.3; breaks = h.4; not_ended = h.0 }
+  source_fault Read Read h e = record { bytes = joined h.pieces; before = h.mid; came = all_came gives failed old h.mid h.pieces h.came; breaks = h.breaks_off; not_ended = not_true h.mid.has_ended h.not_all; none = h.none }

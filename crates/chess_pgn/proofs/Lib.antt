@@ -27,6 +27,7 @@ pub mod OneGameLemmas
 pub mod RefusedLemmas
 pub mod ExceedLemmas
 pub mod NoGameLemmas
+pub mod UndecidedLemmas
 pub mod AnswerLemmas
 pub mod DarkLemmas
 pub mod StopLemmas

@@ -159,7 +159,7 @@ module _ {A : Type 0} (is : List Item) (t : Reader A) (p : Progress is t) (not_y
 
 -- ---- what comes next is too long
 
-spelled_shorter : (place : Place) (input : List ℕ) (is : List Item) (rest : List ℕ) → Spells place input is rest → length rest ≤ length input
+pub spelled_shorter : (place : Place) (input : List ℕ) (is : List Item) (rest : List ℕ) → Spells place input is rest → length rest ≤ length input
 spelled_shorter place input [] rest s = (let l = ap length s in omega (arith, l))
 spelled_shorter place input (i ∷ is) rest s = (let r = spelled_shorter (place_after place i) s.1 is rest s.4 in let l = ap length s.2 in let m = length-append s.0 s.1 in omega (arith, r, l, m))
 

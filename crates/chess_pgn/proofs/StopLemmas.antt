@@ -1,5 +1,5 @@
 -- Why the reading of a game stops with a fault: no game stands there, whatever follows.
-use Rattle.std.proofs.Common.{◌≡◌, ◌⊎◌, ℕ, ◌+◌, ◌-◌, Bool, false, List, [], ◌∷◌, ◌++◌, length, Option, Some, None, Ok, Err, refl, sym, ap, subst, ◌∙◌, arith, append_assoc, length-append}
+use Rattle.std.proofs.Common.{◌≡◌, ◌⊎◌, ℕ, ◌+◌, ◌-◌, Bool, false, List, [], ◌∷◌, ◌++◌, length, Option, Some, None, Ok, Err, refl, sym, ap, subst, ◌∙◌, arith, append_assoc, append-nil, length-append}
 use Rattle.std.specs.Prelude.{Result}
 use mathlib.Core.Logic.{inl, inr}
 use Rattle.chess_types.specs.bytes.Calls.{Calls, joined}
@@ -7,10 +7,12 @@ use Rattle.chess_types.proofs.CallLemmas.{Calls-append, joined-append}
 use Rattle.chess_items.specs.Items as items
 use Rattle.chess_items.specs.Items.{IsItem, Item, Spells, is_outside, place_after}
 use Rattle.chess_items.specs.steps.ItemAt.{item_at}
-use Rattle.chess_items.specs.steps.Passing.{NotWhite, Passed, Passes}
+use Rattle.chess_items.specs.steps.Deciding.{Decides}
+use Rattle.chess_items.specs.steps.Passing.{NotWhite, PassBreaks, Passed, Passes, WhiteBroke}
 use Rattle.chess_items.specs.steps.Skipping.{column_at, white_after}
-use Rattle.chess_items.specs.steps.Taking.{AfterRun, Ran, RanAground, RanOut, RanOver, RanUpTo, Takes, Took, behind}
+use Rattle.chess_items.specs.steps.Taking.{AfterRun, Ran, RanAground, RanOut, RanOver, RanUpTo, RunBroke, Takes, Took, behind}
 use Rattle.chess_items.specs.steps.Texts.{Oversized}
+use Rattle.chess_items.specs.declared.at_hand.Fault.TheVariants.{Read}
 use Rattle.chess_items.specs.declared.fault.PgnFault.{PgnFault}
 use Rattle.chess_items.specs.declared.fault.FaultKind.{FaultKind}
 use Rattle.chess_items.specs.declared.fault.FaultKind.TheVariants.{Memory}
@@ -24,14 +26,15 @@ use Rattle.chess_items.proofs.FoundLemmas.{the}
 use Rattle.chess_items.proofs.SpellLemmas.{place_behind}
 use Rattle.chess_items.proofs.TakingLemmas.{bare, ended_after, spells_bare}
 use Rattle.chess_pgn.specs.Games.{Game}
-use Rattle.chess_pgn.specs.Reading.{IsAtFront, IsWhite}
-use Rattle.chess_pgn.specs.steps.GameAt.{HasStarved, NotCome}
+use Rattle.chess_pgn.specs.Reading.{HasNoGameYet, IsAtFront, IsWhite}
+use Rattle.chess_pgn.specs.steps.GameAt.{HasBroken, HasStarved, NotCome}
 use Rattle.chess_pgn.specs.steps.ReaderCode.{IsNew, MayNotEnd, TakesItem, Unanswered}
 use Rattle.chess_pgn.specs.declared.reader.Reader.{Reader}
 use Rattle.chess_pgn.proofs.ChainLemmas.{Progress, progress_all, progress_new}
 use Rattle.chess_pgn.proofs.DarkLemmas.{dark_aground, dark_over, dark_refused, dark_taken}
 use Rattle.chess_pgn.proofs.FrontLemmas.{whites_bare}
 use Rattle.chess_pgn.proofs.NoGameLemmas.{none_aground, none_out, none_over, none_refused}
+use Rattle.chess_pgn.proofs.UndecidedLemmas.{undecided_none}
 
 -- ---- why the reading stops
 
@@ -191,3 +194,42 @@ module _ {X A : Type 0} (comes : X → List ℕ → X → Type 0) (at_hand : X �
         | inl same ↦ subst (λ (x : X). NotCome comes at_hand all sound old x) (sym same.0) (here_none s fault k a p.mid p.ran p.more same.1 (subst sound same.0 well))
         | inr w ↦ beyond_none s fault k a p.mid p.ran new w well
       ])
+
+-- ---- a read broke off
+
+module _ {X A : Type 0} (comes : X → List ℕ → X → Type 0) (at_hand : X → List ℕ) (all sound : X → Type 0) (size : X → ℕ) (breaks : X → X → Type 0) (old new : X) (t : Reader A) (new_reader : IsNew t) where
+  abbrev takes_item : Reader A → ℕ → Item → Result Taken PgnFault → Reader A → Type 0
+  takes_item s at item result v = TakesItem s item result v
+
+  front_is : (pieces : List (List ℕ)) (more : List ℕ) → at_hand old ++ (joined pieces ++ more) ≡ (at_hand old ++ joined pieces) ++ more
+  front_is pieces more = sym (append_assoc (at_hand old) (joined pieces) more)
+
+  -- where an item isn't decided
+  run_none_yet : (r : RunBroke comes at_hand all sound size takes_item 1048576 breaks old new t) → HasNoGameYet (at_hand old ++ joined r.pieces)
+  run_none_yet r = λ g n x.
+      let ended : (more : List ℕ) → all r.mid → more ≡ [] = λ more e. absurd (r.not_all e) in
+      undecided_none (bare r.items) r.last (progress_all [] r.items t r.last (progress_new t new_reader) r.taken) (at_hand old ++ joined r.pieces) (at_hand r.mid)
+      (λ more. subst (λ (z : List ℕ). Spells GameStart z (bare r.items) (at_hand r.mid ++ more)) (front_is r.pieces more) (spells_bare 0 GameStart (at_hand old ++ (joined r.pieces ++ more)) r.items (at_hand r.mid ++ more) (r.took.spelled more (ended more))))
+      (subst (λ (p : Place). Decides p (at_hand r.mid) → ⊥) (r.took.stands ∙ behind_bare GameStart r.items) r.undecided) g n x
+
+  -- behind white space beyond the limit
+  white_none_yet : (w : WhiteBroke comes at_hand all sound size takes_item 1048576 breaks old new t) → HasNoGameYet (at_hand old ++ joined (w.ran.pieces ++ w.broke.1))
+  white_none_yet w = λ g n x.
+      let more = joined w.broke.1 in
+      let whole : (at_hand old ++ joined (w.ran.pieces ++ w.broke.1)) ++ [] ≡ at_hand old ++ (joined w.ran.pieces ++ more) =
+      append-nil (at_hand old ++ joined (w.ran.pieces ++ w.broke.1)) ∙ ap (λ (z : List ℕ). at_hand old ++ z) (joined-append w.ran.pieces w.broke.1)
+      in
+      run_over comes at_hand all sound size old t w.last new_reader w.ran.pieces w.mid w.stopped.at w.stopped.place w.stopped.white more (λ e. absurd (w.broke.0 e)) g n (subst (λ (z : List ℕ). IsAtFront z g n) whole (x []))
+      (subst (λ (y : Stop). AfterRun comes at_hand all sound size takes_item 1048576 old w.ran.pieces w.mid t w.last w.stopped.at w.stopped.place w.stopped.white y) w.over w.ran.after)
+
+  pub broken_come : PassBreaks comes at_hand all sound size takes_item 1048576 breaks old new t Read → HasBroken comes at_hand all sound breaks old new
+  broken_come (inl r) = record { pieces = r.pieces; mid = r.mid; came = r.came; breaks_off = r.breaks_off; not_yet = r.not_yet; not_all = r.not_all; none = run_none_yet r }
+  broken_come (inr w) = record {
+    pieces = w.ran.pieces ++ w.broke.1;
+    mid = w.broke.2;
+    came = Calls-append comes old w.mid w.broke.2 w.ran.pieces w.broke.1 w.ran.came w.broke.3;
+    breaks_off = w.broke.4;
+    not_yet = λ e. w.broke.0 (ended_after comes at_hand all sound size takes_item 1048576 old t w.mid w.last w.ran.pieces w.stopped.at w.stopped.place w.stopped.white w.stopped.why w.ran.after e).1;
+    not_all = w.broke.5;
+    none = white_none_yet w;
+  }

@@ -9,6 +9,7 @@
 --   IsWithinLimits a game isn't too large to be read
 --   IsAtFront    the items of a text's first bytes give a game
 --   HasNoGame    no game stands at the front of a text
+--   HasNoGameYet no one game stands at the front of every text that begins so
 --   IsWhite      a text has white space, a mark and hidden lines alone
 --   IsAnswered   a reader answers that game, unless there is no memory
 use Rattle.std.specs.Prelude.{◌≡◌, ◌⊎◌, ℕ, ◌+◌, ◌≤◌, Bool, true, false, List, [], ◌∷◌, ◌++◌, length, Option, Some, None, Result, Ok, Err, ⊤}
@@ -103,6 +104,9 @@ pub record IsAtFront (input : List ℕ) (game : Game) (used : ℕ) : Type 0 wher
 
 abbrev pub HasNoGame : List ℕ → Type 0
 HasNoGame input = (game : Game) (used : ℕ) → IsAtFront input game used → ⊥
+
+abbrev pub HasNoGameYet : List ℕ → Type 0
+HasNoGameYet begun = (game : Game) (used : ℕ) → ((more : List ℕ) → IsAtFront (begun ++ more) game used) → ⊥
 
 pub record IsWhite (input : List ℕ) : Type 0 where
   pub items : List Item

@@ -1,21 +1,34 @@
 -- Games of a source, one after another. The bytes that come are those of `chess_items/specs/Coming.antt`.
+--   Games      the bytes at hand, the fault that came, and how many bytes the games so far took
+--   IsSound    unless there was a fault, the source has ended where its end was seen, and so many bytes can't be too many to count
+--   IsPlaced   a fault of the text is behind the bytes that the games before it took
 --   HasGame    a game stands at the front of the bytes at hand and those that the source gave, whatever it gives next, and is used; at most
 --              65,536 bytes behind it were read; a source that has ended gives no more
+--   NextGame   so it does, and its bytes are counted
 --   HasNone    the source has ended, and those bytes are white
 --   Fails      no game stands at the front of those bytes, which aren't white, whatever the source gives next
 --   Starves    bytes came, and then there was no memory
---   ReadFails  bytes came, and then a read failed, or there may be no more; the source had not ended before
+--   ReadFails  bytes came, and then a read failed, or there may be no more; the source had not ended, and those bytes don't tell of a game
 --   HasFault   a read failed, there was no memory, or no game stands there; but for the first, no read failed
-use Rattle.std.specs.Prelude.{◌≡◌, ◌⊎◌, ◌≤◌, ◌<◌, ℕ, Bool, true, List, [], ◌++◌, length}
-use Rattle.chess_items.specs.Coming.{Breaks, Came, unread}
-use Rattle.chess_items.specs.declared.at_hand.AtHand.{AtHand}
+use Rattle.std.specs.Prelude.{◌≡◌, ◌⊎◌, ◌≤◌, ◌<◌, ℕ, ◌+◌, ◌*◌, Bool, true, false, List, [], ◌++◌, length, Option, None, ⊤}
+use Rattle.chess_items.specs.Coming.{AtHand, Breaks, Came, unread}
 use Rattle.chess_items.specs.declared.fault.FaultKind.TheVariants.{Memory}
 use Rattle.chess_pgn.specs.Games.{Game}
-use Rattle.chess_pgn.specs.Reading.{HasNoGame, IsAtFront, IsWhite}
+use Rattle.chess_pgn.specs.Reading.{HasNoGame, HasNoGameYet, IsAtFront, IsWhite}
 use Rattle.chess_pgn.specs.declared.games.GamesFault.{GamesFault}
 use Rattle.chess_pgn.specs.declared.games.GamesFault.TheVariants.{Pgn, Read}
 
-pub record HasGame {R A : Type 0} (gives : R → List ℕ → R → Type 0) (failed : R → Bool) (old new : AtHand R A) (game : Game) : Type 0 where
+pub record Games (R : Type 0) : Type 0 where
+  pub text : AtHand R
+  pub fault : Option GamesFault
+  pub used : ℕ
+
+-- 2^56: of a new source, 2^40 reads of 65,536 bytes
+pub record IsSound {R : Type 0} (ended : R → Type 0) (games : Games R) : Type 0 where
+  pub ended_so : games.fault ≡ None → games.text.has_ended ≡ true → ended games.text.source
+  pub few : games.fault ≡ None → games.used + length (unread games.text) + 65536 * games.text.reads ≤ 72057594037927936
+
+pub record HasGame {R : Type 0} (gives : R → List ℕ → R → Type 0) (failed : R → Bool) (old new : AtHand R) (game : Game) : Type 0 where
   pub bytes : List ℕ
   pub came : Came gives failed old bytes new
   pub text : List ℕ
@@ -25,7 +38,13 @@ pub record HasGame {R A : Type 0} (gives : R → List ℕ → R → Type 0) (fai
   pub near : length (unread old) ≤ 65536 → length (unread new) ≤ 65536
   pub still : old.has_ended ≡ true → (bytes ≡ []) × (new.has_ended ≡ true)
 
-pub record HasNone {R A : Type 0} (gives : R → List ℕ → R → Type 0) (failed : R → Bool) (old new : AtHand R A) : Type 0 where
+-- and its bytes are counted
+pub record NextGame {R : Type 0} (gives : R → List ℕ → R → Type 0) (failed : R → Bool) (old new : Games R) (game : Game) : Type 0 where
+  pub took : HasGame gives failed old.text new.text game
+  pub used : new.used ≡ old.used + length took.text
+
+-- nothing follows
+pub record HasNone {R : Type 0} (gives : R → List ℕ → R → Type 0) (failed : R → Bool) (old new : AtHand R) : Type 0 where
   pub bytes : List ℕ
   pub came : Came gives failed old bytes new
   pub ended : new.has_ended ≡ true
@@ -34,7 +53,7 @@ pub record HasNone {R A : Type 0} (gives : R → List ℕ → R → Type 0) (fai
   pub still : old.has_ended ≡ true → bytes ≡ []
 
 -- nothing comes next where the end of the source was seen, and there it has ended
-pub record Fails {R A : Type 0} (gives : R → List ℕ → R → Type 0) (failed : R → Bool) (ended : R → Type 0) (old new : AtHand R A) : Type 0 where
+pub record Fails {R : Type 0} (gives : R → List ℕ → R → Type 0) (failed : R → Bool) (ended : R → Type 0) (old new : AtHand R) : Type 0 where
   pub bytes : List ℕ
   pub came : Came gives failed old bytes new
   pub told : new.has_ended ≡ true → ended new.source
@@ -42,18 +61,23 @@ pub record Fails {R A : Type 0} (gives : R → List ℕ → R → Type 0) (faile
   pub dark : (more : List ℕ) → (new.has_ended ≡ true → more ≡ []) → IsWhite (unread old ++ (bytes ++ more)) → ⊥
   pub still : old.has_ended ≡ true → (bytes ≡ []) × (new.has_ended ≡ true)
 
-pub record Starves {R A : Type 0} (gives : R → List ℕ → R → Type 0) (failed : R → Bool) (ended : R → Type 0) (old new : AtHand R A) : Type 0 where
+pub record Starves {R : Type 0} (gives : R → List ℕ → R → Type 0) (failed : R → Bool) (ended : R → Type 0) (old new : AtHand R) : Type 0 where
   pub bytes : List ℕ
   pub came : Came gives failed old bytes new
   pub still : old.has_ended ≡ true → (bytes ≡ []) × ended new.source
 
-pub record ReadFails {R A : Type 0} (gives : R → List ℕ → R → Type 0) (failed : R → Bool) (old new : AtHand R A) : Type 0 where
+pub record ReadFails {R : Type 0} (gives : R → List ℕ → R → Type 0) (failed : R → Bool) (old new : AtHand R) : Type 0 where
   pub bytes : List ℕ
-  pub before : AtHand R A
+  pub before : AtHand R
   pub came : Came gives failed old bytes before
   pub breaks : Breaks gives failed before new
-  pub not_ended : old.has_ended ≡ true → ⊥
+  pub not_ended : before.has_ended ≡ false
+  pub none : HasNoGameYet (unread old ++ bytes)
 
-abbrev pub HasFault : {R A : Type 0} → (R → List ℕ → R → Type 0) → (R → Bool) → (R → Type 0) → AtHand R A → AtHand R A → GamesFault → Type 0
+abbrev pub HasFault : {R : Type 0} → (R → List ℕ → R → Type 0) → (R → Bool) → (R → Type 0) → AtHand R → AtHand R → GamesFault → Type 0
 HasFault gives failed ended old new Read = ReadFails gives failed old new
 HasFault gives failed ended old new (Pgn fault) = ((fault.kind ≡ Memory) × Starves gives failed ended old new) ⊎ Fails gives failed ended old new
+
+abbrev pub IsPlaced : ℕ → GamesFault → Type 0
+IsPlaced used (Pgn fault) = used ≤ fault.place
+IsPlaced used Read = ⊤

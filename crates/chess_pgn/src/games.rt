@@ -1,14 +1,14 @@
 //! Games of a text or of a source, one after another.
 
-ghost use Rattle.std.specs.Prelude.{◌≡◌, ◌⊎◌, ℕ, false, [], true, Some, None, Ok, Err, IfErr, IfOk, IfSome};
+ghost use Rattle.std.specs.Prelude.{◌≡◌, ◌⊎◌, ◌<◌, ◌+◌, ◌^◌, ℕ, false, [], true, Some, None, Ok, Err, IfErr, IfOk, IfSome};
 ghost use Rattle.chess_items.specs.Coming.{Breaks, Came, unread};
 ghost use Rattle.chess_items.specs.declared.fault.FaultKind.TheVariants.{Memory};
 ghost use Rattle.chess_pgn.specs.Games as games;
 ghost use Rattle.chess_pgn.specs.Reading.{HasNoGame, IsAnswered, IsAtFront, IsWhite};
-ghost use Rattle.chess_pgn.specs.Sources.{HasFault, HasGame, HasNone};
+ghost use Rattle.chess_pgn.specs.Sources.{HasFault, HasNone, IsPlaced, IsSound, NextGame};
 ghost use Rattle.chess_pgn.specs.steps.GameAt.{TakesGame};
 ghost use Rattle.chess_pgn.specs.steps.GameCode.{game_of};
-ghost use Rattle.chess_pgn.specs.steps.Next.{HasKind, IsSound};
+ghost use Rattle.chess_pgn.specs.steps.Next.{HasKind};
 ghost use Rattle.chess_pgn.specs.steps.ReaderCode.{Answered, EndsReading, Unanswered};
 
 use crate::game::Game;
@@ -18,7 +18,8 @@ use chess_items::{
 };
 use chess_key::KeyTable;
 use chess_types::Source;
-use std::alloc::{AllocError, Allocator};
+use std::alloc::Allocator;
+use std::marker::Model;
 use thiserror::Error;
 
 /// The most bytes of a game.
@@ -33,19 +34,6 @@ pub enum GamesFault {
     /// A read failed, or there were 2^40 reads.
     #[error("a read failed")]
     Read,
-}
-
-impl From<PgnFault> for GamesFault {
-    fn from(fault: PgnFault) -> Self {
-        GamesFault::Pgn(fault)
-    }
-}
-
-impl From<AllocError> for GamesFault {
-    /// That there is no memory, at place 0.
-    fn from(_: AllocError) -> Self {
-        GamesFault::Pgn(at_place(0, FaultKind::Memory))
-    }
 }
 
 // The fault where no item stands: a comment without its end is cut off by the end of the input.
@@ -146,14 +134,37 @@ pub fn read_game<'a, A: Allocator>(
     }
 }
 
-/// The games of a source, one after another. After a fault it tells that fault again.
+// A fault with its place behind so many bytes.
+fn placed(fault: GamesFault, used: u64) -> GamesFault
+    ensures kind { HasKind fault result }
+    ensures place { IsPlaced used result }
+{
+    match fault {
+        GamesFault::Read => GamesFault::Read,
+        GamesFault::Pgn(PgnFault { place, kind }) => GamesFault::Pgn(PgnFault {
+            place: place.saturating_add(used),
+            kind,
+        }),
+    }
+}
+
+/// The games of a source, one after another. After a fault it tells that fault again. Contracts see the bytes at hand, the fault, and how
+/// many bytes the games so far took.
 #[derive(Drop)]
 pub struct Games<'a, R, A: Allocator> {
-    pub text: AtHand<'a, R, A>,
-    pub fault: Option<GamesFault>,
+    text: AtHand<'a, R, A>,
+    fault: Option<GamesFault>,
     alloc: &'a A,
     table: &'a KeyTable,
     used: u64,
+}
+
+impl<'a, R, A: Allocator> Model for Games<'a, R, A> {
+    ghost use Rattle.chess_pgn.specs.Sources as sources;
+
+    ghost Value = { sources.Games R };
+
+    ghost view = { λ g. record { text = g.text; fault = g.fault; used = g.used } };
 }
 
 impl<'a, R: Source, A: Allocator> Games<'a, R, A> {
@@ -165,6 +176,7 @@ impl<'a, R: Source, A: Allocator> Games<'a, R, A> {
         ensures nothing { unread result.text ≡ [] }
         ensures goes_on { result.text.has_ended ≡ false }
         ensures reads { result.text.reads ≡ 1099511627776 }
+        ensures used { result.used ≡ 0 }
     {
         Games {
             text: AtHand::new(alloc, source),
@@ -175,28 +187,60 @@ impl<'a, R: Source, A: Allocator> Games<'a, R, A> {
         }
     }
 
+    /// The source as it was left.
+    pub fn into_source(self) -> R
+        ensures { result ≡ self.entry.text.source }
+    {
+        let Games {
+            text,
+            fault: _,
+            alloc: _,
+            table: _,
+            used: _,
+        } = self;
+        text.into_source()
+    }
+
+    // The fault that came, if one did.
+    fn told(&self) -> Option<GamesFault>
+        ensures { result ≡ self.now.fault }
+    {
+        self.fault
+    }
+
     // The same with the bytes it took, and a fault's place from the game's beginning.
     fn take(&mut self) -> Result<Option<(Game<'a, A>, usize)>, GamesFault>
         requires sound { IsSound R.ended self.old }
         requires none { self.old.fault ≡ None }
-        ensures sound { IfOk result (λ _. IsSound R.ended self.new) }
+        ensures sound { IfOk result (λ _. self.new.text.has_ended ≡ true → R.ended self.new.text.source) }
         ensures none { self.new.fault ≡ None }
+        ensures used { self.new.used ≡ self.old.used }
         ensures game { TakesGame (λ s bytes t. Came R.gives R.failed s bytes t) unread (λ s. s.has_ended ≡ true) (λ s. s.has_ended ≡ true → R.ended s.source) (λ s t. Breaks R.gives R.failed s t) self.old.text self.new.text result }
     {
         take_game(self.alloc, self.table, &mut self.text)
     }
 
-    // The fault with its place from the input's beginning.
-    fn placed(&self, fault: GamesFault) -> GamesFault
-        ensures { HasKind fault result }
+    // Counts the bytes of a game.
+    fn count(&mut self, bytes: usize)
+        requires { self.old.used + bytes < 2 ^ 64 }
+        ensures text { self.new.text ≡ self.old.text }
+        ensures fault { self.new.fault ≡ self.old.fault }
+        ensures used { self.new.used ≡ self.old.used + bytes }
     {
-        match fault {
-            GamesFault::Read => GamesFault::Read,
-            GamesFault::Pgn(PgnFault { place, kind }) => GamesFault::Pgn(PgnFault {
-                place: place.saturating_add(self.used),
-                kind,
-            }),
-        }
+        self.used += bytes as u64;
+    }
+
+    // Keeps a fault with its place from the input's beginning, and answers it.
+    fn keep(&mut self, fault: GamesFault) -> GamesFault
+        ensures text { self.new.text ≡ self.old.text }
+        ensures fault { self.new.fault ≡ Some result }
+        ensures used { self.new.used ≡ self.old.used }
+        ensures kind { HasKind fault result }
+        ensures place { IsPlaced self.old.used result }
+    {
+        let placed = placed(fault, self.used);
+        self.fault = Some(placed);
+        placed
     }
 
     /// The next game; `None` where there are only white space and hidden lines. It is read before the next: the source is asked for more
@@ -204,7 +248,8 @@ impl<'a, R: Source, A: Allocator> Games<'a, R, A> {
     ///
     /// # Errors
     ///
-    /// The first fault of the game, `Read` where a read failed or 2^40 were made. It is told again by each later call, which reads nothing.
+    /// The first fault of the game, its place counted from the input's beginning; `Read` where a read failed or 2^40 were made. It is told
+    /// again by each later call, which reads nothing.
     pub fn next(&mut self) -> Result<Option<Game<'a, A>>, GamesFault>
         requires { IsSound R.ended self.old }
         ensures sound { IsSound R.ended self.new }
@@ -212,25 +257,22 @@ impl<'a, R: Source, A: Allocator> Games<'a, R, A> {
         ensures untouched { (fault : GamesFault) → self.old.fault ≡ Some fault → self.new ≡ self.old }
         ensures sticky { IfErr result (λ fault. self.new.fault ≡ Some fault) }
         ensures good { IfOk result (λ _. self.new.fault ≡ None) }
-        ensures game { IfOk result (λ found. IfSome found (λ game. HasGame R.gives R.failed self.old.text self.new.text (game_of game))) }
+        ensures game { IfOk result (λ found. IfSome found (λ game. NextGame R.gives R.failed self.old self.new (game_of game))) }
         ensures cursor { IfOk result (λ found. IfSome found (λ game. game.tree.path ≡ [])) }
         ensures none { result ≡ Ok None → HasNone R.gives R.failed self.old.text self.new.text }
         ensures fault { self.old.fault ≡ None → IfErr result (λ fault. HasFault R.gives R.failed R.ended self.old.text self.new.text fault) }
+        ensures place { self.old.fault ≡ None → IfErr result (λ fault. IsPlaced self.old.used fault) }
     {
-        if let Some(fault) = self.fault {
+        if let Some(fault) = self.told() {
             return Err(fault);
         }
         match self.take() {
             Ok(Some((game, used))) => {
-                self.used = self.used.saturating_add(used as u64);
+                self.count(used);
                 Ok(Some(game))
             }
             Ok(None) => Ok(None),
-            Err(fault) => {
-                let placed = self.placed(fault);
-                self.fault = Some(placed);
-                Err(placed)
-            }
+            Err(fault) => Err(self.keep(fault)),
         }
     }
 }

@@ -3,4 +3,5 @@ mod cut;
 mod pieces;
 mod random;
 mod reads;
+mod table;
 mod written;

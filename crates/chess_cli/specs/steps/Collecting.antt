@@ -3,10 +3,12 @@
 --   Reads       games are read, one after another, whatever comes next
 --   SoFar       they are written as well
 --   WritesAll   how the reading and writing ends
-use Rattle.std.specs.Prelude.{◌≡◌, Bool, true, false, List, [], ◌++◌, ℕ, ◌+◌, ◌≤◌, length, Result, Ok, Err}
+--   EndsBy      what a fault of the text ends it with
+use Rattle.std.specs.Prelude.{◌≡◌, ◌≢◌, ◌⊎◌, Bool, true, false, List, [], ◌++◌, ℕ, ◌+◌, ◌≤◌, length, Result, Ok, Err}
 use Rattle.chess_types.specs.bytes.Calls.{Carries}
-use Rattle.chess_items.specs.Coming.{Came, unread}
-use Rattle.chess_items.specs.declared.at_hand.AtHand.{AtHand}
+use Rattle.chess_items.specs.Coming.{AtHand, Came, unread}
+use Rattle.chess_items.specs.declared.fault.FaultKind.TheVariants as lacks
+use Rattle.chess_items.specs.declared.fault.PgnFault.{PgnFault}
 use Rattle.chess_pgn.specs.Games.{Game}
 use Rattle.chess_cli.specs.Collections.{AreGames, EndsAtFault, EndsInPart, EndsUnread, EndsWhole, EndsWritten, games_text}
 use Rattle.chess_loop.specs.RunEnds.{Broken, most_reads}
@@ -23,23 +25,27 @@ module _ {W : Type 0} (takes : W → List ℕ → W → Type 0) (failed : W → 
   WritesOne text old new (Err WriteFault) = Broken takes failed old text new
   WritesOne text old new (Err Memory) = new ≡ old
 
-pub record Reads {R A : Type 0} (gives : R → List ℕ → R → Type 0) (read_failed : R → Bool) (old new : AtHand R A) (games : List Game) : Type 0 where
+pub record Reads {R : Type 0} (gives : R → List ℕ → R → Type 0) (read_failed : R → Bool) (old new : AtHand R) (games : List Game) : Type 0 where
   pub bytes : List ℕ
   pub came : Came gives read_failed old bytes new
   pub are : (more : List ℕ) → (new.has_ended ≡ true → more ≡ []) → AreGames (unread old ++ (bytes ++ more)) games (unread new ++ more)
 
 module _ {R W : Type 0} (gives : R → List ℕ → R → Type 0) (read_failed : R → Bool) (ended : R → Type 0) (takes : W → List ℕ → W → Type 0) (failed : W → Bool) where
   -- each game takes a byte, so there can't be more games than bytes
-  pub record SoFar {A : Type 0} (count : ℕ) (start now : AtHand R A) (old new : W) : Type 0 where
+  pub record SoFar (count : ℕ) (start now : AtHand R) (old new : W) : Type 0 where
     pub games : List Game
     pub reads : Reads gives read_failed start now games
     pub few : count + length (unread now) ≤ length (unread start) + length reads.bytes
     pub writes : Carries takes old (games_text games) new
     pub well_written : failed new ≡ false
 
-  abbrev pub WritesAll : R → W → W → Ended → Type 0
-  WritesAll reader old new Good = EndsWhole gives read_failed ended takes failed reader old new
-  WritesAll reader old new (Input fault) = EndsAtFault gives read_failed ended takes failed fault reader old new
-  WritesAll reader old new ReadFault = EndsUnread gives read_failed ended takes failed most_reads reader old new
-  WritesAll reader old new WriteFault = EndsInPart gives read_failed ended takes failed reader old new
-  WritesAll reader old new Memory = EndsWritten gives read_failed ended takes failed reader old new
+  abbrev pub WritesAll : R → R → W → W → Ended → Type 0
+  WritesAll reader reader' old new Good = EndsWhole gives read_failed ended takes failed reader reader' old new
+  WritesAll reader reader' old new (Input fault) = (fault.kind ≢ lacks.Memory) × EndsAtFault gives read_failed ended takes failed reader reader' old new
+  WritesAll reader reader' old new ReadFault = EndsUnread gives read_failed ended takes failed most_reads reader reader' old new
+  WritesAll reader reader' old new WriteFault = EndsInPart gives read_failed ended takes failed reader reader' old new
+  WritesAll reader reader' old new Memory = EndsWritten gives read_failed ended takes failed reader reader' old new
+
+-- what a fault of the text ends the run with
+abbrev pub EndsBy : PgnFault → Ended → Type 0
+EndsBy fault result = ((fault.kind ≡ lacks.Memory) × (result ≡ Memory)) ⊎ ((fault.kind ≢ lacks.Memory) × (result ≡ Input fault))

@@ -40,7 +40,7 @@ fn writes_what_it_reads(rt: HostRuntime) -> Result<(), Fail> {
     for piece in 1..80usize {
         let mut room = [0; 400];
         let mut writer = ToBytes::new(&mut room, piece);
-        let ended = pgn(rt.alloc(), FromBytes::new(INPUT, piece), &mut writer);
+        let ended = pgn(rt.alloc(), &mut FromBytes::new(INPUT, piece), &mut writer);
         assert_eq!(rt; ended, Ended::Good);
         assert_eq!(rt; writer.taken(), OUTPUT, "in pieces of {piece}");
     }
@@ -52,7 +52,7 @@ fn what_is_written_is_read_as_it_is(rt: HostRuntime) {
     collection_laws();
     let mut room = [0; 400];
     let mut writer = ToBytes::new(&mut room, 400);
-    let ended = pgn(rt.alloc(), FromBytes::new(OUTPUT, 100), &mut writer);
+    let ended = pgn(rt.alloc(), &mut FromBytes::new(OUTPUT, 100), &mut writer);
     assert_eq!(rt; ended, Ended::Good);
     assert_eq!(rt; writer.taken(), OUTPUT);
 }
@@ -63,7 +63,7 @@ fn stops_at_a_fault(rt: HostRuntime) -> Result<(), Fail> {
     let input = b"1.e4 e5 (1...c5 2.Nf3 {x  y} $1) 2.Nf3 *\n1. e4 Ke2";
     let mut room = [0; 400];
     let mut writer = ToBytes::new(&mut room, 400);
-    let ended = pgn(rt.alloc(), FromBytes::new(input, 400), &mut writer);
+    let ended = pgn(rt.alloc(), &mut FromBytes::new(input, 400), &mut writer);
     let fault = PgnFault {
         place: 47,
         kind: FaultKind::Move,
@@ -76,22 +76,129 @@ fn stops_at_a_fault(rt: HostRuntime) -> Result<(), Fail> {
 }
 
 #[test]
-fn stops_at_a_failing_read_or_write(rt: HostRuntime) -> Result<(), Fail> {
-    let mut room = [0; 400];
-    let mut writer = ToBytes::new(&mut room, 400);
-    let reader = FromBytes::failing_after(INPUT, 45, 1);
-    assert_eq!(rt; pgn(rt.alloc(), reader, &mut writer), Ended::ReadFault);
-    assert_eq!(rt; writer.taken(), &OUTPUT[..FIRST]);
+fn stops_at_a_failing_write(rt: HostRuntime) -> Result<(), Fail> {
     for refusal in [Refusal::Fails, Refusal::TakesNothing] {
         for calls in 0..FIRST {
             let mut room = [0; 400];
             let mut writer = ToBytes::refusing_after(&mut room, 1, calls as u64, refusal);
-            let ended = pgn(rt.alloc(), FromBytes::new(INPUT, 400), &mut writer);
+            let ended = pgn(rt.alloc(), &mut FromBytes::new(INPUT, 400), &mut writer);
             assert_eq!(rt; ended, Ended::WriteFault);
             assert_eq!(rt; writer.taken(), &OUTPUT[..calls]);
         }
     }
     Ok(())
+}
+
+/// The next game has a fault, and a text without any has none.
+#[test]
+fn tells_a_fault_behind_a_game(rt: HostRuntime) {
+    let mut room = [0; 400];
+    let mut writer = ToBytes::new(&mut room, 400);
+    let ended = pgn(
+        rt.alloc(),
+        &mut FromBytes::new(b"* (1. e4) *", 400),
+        &mut writer,
+    );
+    assert_eq!(rt; ended.status(), 2);
+    assert_eq!(rt; ended.message().as_str(), "fault 2 4 Variation");
+    assert_eq!(rt; Some(writer.taken()), SEVERAL_WRITTEN.get(..96));
+    let mut room = [0; 400];
+    let mut writer = ToBytes::new(&mut room, 400);
+    let ended = pgn(rt.alloc(), &mut FromBytes::new(b"", 400), &mut writer);
+    assert_eq!(rt; ended, Ended::Good);
+    assert_eq!(rt; writer.taken().len(), 0);
+}
+
+/// Five games, and how many bytes have to be read until each of them is whole, whatever follows.
+const SEVERAL: &[u8] = b"* 1. e4 *\n1-0 {x} e4 e5 [Event \"y\"] d4 0-1\n";
+
+const WHOLE: [u64; 5] = [1, 9, 14, 25, 43];
+
+/// What is written of them, and how many bytes none of them takes, the first, the first two, and so on.
+const SEVERAL_WRITTEN: &[u8] = b"\
+[Event \"?\"]
+[Site \"?\"]
+[Date \"????.??.??\"]
+[Round \"?\"]
+[White \"?\"]
+[Black \"?\"]
+[Result \"*\"]
+
+*
+
+[Event \"?\"]
+[Site \"?\"]
+[Date \"????.??.??\"]
+[Round \"?\"]
+[White \"?\"]
+[Black \"?\"]
+[Result \"*\"]
+
+1. e4 *
+
+[Event \"?\"]
+[Site \"?\"]
+[Date \"????.??.??\"]
+[Round \"?\"]
+[White \"?\"]
+[Black \"?\"]
+[Result \"1-0\"]
+
+1-0
+
+[Event \"?\"]
+[Site \"?\"]
+[Date \"????.??.??\"]
+[Round \"?\"]
+[White \"?\"]
+[Black \"?\"]
+[Result \"*\"]
+
+{x} 1. e4 e5 *
+
+[Event \"y\"]
+[Site \"?\"]
+[Date \"????.??.??\"]
+[Round \"?\"]
+[White \"?\"]
+[Black \"?\"]
+[Result \"0-1\"]
+
+1. d4 0-1
+
+";
+
+const TAKEN: [usize; 6] = [0, 96, 198, 298, 407, 513];
+
+/// How many bytes are written where so many were read.
+fn taken_of(bytes: u64) -> usize {
+    let mut games = 0usize;
+    for whole in WHOLE {
+        if whole <= bytes {
+            games = games.saturating_add(1);
+        }
+    }
+    TAKEN.get(games).copied().unwrap_or(0)
+}
+
+/// Whichever read fails, each game that is whole in what was read is written.
+#[test]
+fn writes_each_game_that_was_read(rt: HostRuntime) {
+    for calls in 0..44u64 {
+        let mut room = [0; 1000];
+        let mut writer = ToBytes::new(&mut room, 1000);
+        let mut reader = FromBytes::failing_after(SEVERAL, 1, calls);
+        assert_eq!(rt; pgn(rt.alloc(), &mut reader, &mut writer), Ended::ReadFault);
+        assert_eq!(rt;
+            Some(writer.taken()),
+            SEVERAL_WRITTEN.get(..taken_of(calls))
+        );
+    }
+    let mut room = [0; 1000];
+    let mut writer = ToBytes::new(&mut room, 1000);
+    let mut reader = FromBytes::failing_after(SEVERAL, 1, 44);
+    assert_eq!(rt; pgn(rt.alloc(), &mut reader, &mut writer), Ended::Good);
+    assert_eq!(rt; writer.taken(), SEVERAL_WRITTEN);
 }
 
 #[test]

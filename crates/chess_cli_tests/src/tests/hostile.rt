@@ -76,10 +76,10 @@ fn any_keys_serve_games(rt: HostRuntime) {
     for word in [0, u64::MAX] {
         let mut room = [0; 400];
         let mut writer = ToBytes::new(&mut room, 400);
-        let reader = FromBytes::new(games::INPUT, 400);
+        let mut reader = FromBytes::new(games::INPUT, 400);
         let table = KeyTable::new([word; 768]);
         assert_eq!(rt;
-            pgn_with(rt.alloc(), reader, &mut writer, &table),
+            pgn_with(rt.alloc(), &mut reader, &mut writer, &table),
             Ended::Good
         );
         assert_eq!(rt; writer.taken(), games::OUTPUT);
@@ -128,7 +128,7 @@ fn games_in_little_memory(rt: HostRuntime) -> Result<(), Fail> {
         let heap = LocalHeap::new(rt.alloc(), 60_000 + step * 64)?;
         let mut room = [0; 1000];
         let mut writer = ToBytes::new(&mut room, 1000);
-        let ended = pgn(&heap, FromBytes::new(games::INPUT, 1000), &mut writer);
+        let ended = pgn(&heap, &mut FromBytes::new(games::INPUT, 1000), &mut writer);
         let front = writer.taken().len();
         assert_eq!(rt; Some(writer.taken()), games::OUTPUT.get(..front));
         if ended == Ended::Good {
@@ -136,7 +136,7 @@ fn games_in_little_memory(rt: HostRuntime) -> Result<(), Fail> {
             good = good.saturating_add(1);
         } else {
             assert!(rt; front == 0 || front == games::FIRST || front == games::OUTPUT.len());
-            assert!(rt; ended == Ended::Memory || ended.message().as_str().ends_with("8 Memory"));
+            assert_eq!(rt; ended, Ended::Memory);
             refused = refused.saturating_add(1);
         }
     }

@@ -162,15 +162,18 @@ fn too_large(place: u64) -> Ended {
 #[test]
 fn games_without_end(rt: HostRuntime) {
     let mut writer = Counted::new();
-    let spaces = Repeated::new(b" \n", 20_000_000);
-    assert_eq!(rt; pgn(rt.alloc(), spaces, &mut writer), Ended::Good);
-    let comment = Repeated::new(b"{a", 20_000_000);
-    assert_eq!(rt; pgn(rt.alloc(), comment, &mut writer), too_large(1_048_576));
-    let moves = Repeated::new(b"Nf3 Nf6 Ng1 Ng8 ", 20_000_000);
-    assert_eq!(rt; pgn(rt.alloc(), moves, &mut writer), too_large(80_000));
+    let mut spaces = Repeated::new(b" \n", 20_000_000);
+    assert_eq!(rt; pgn(rt.alloc(), &mut spaces, &mut writer), Ended::Good);
+    let mut comment = Repeated::new(b"{a", 20_000_000);
+    assert_eq!(rt;
+        pgn(rt.alloc(), &mut comment, &mut writer),
+        too_large(1_048_576)
+    );
+    let mut moves = Repeated::new(b"Nf3 Nf6 Ng1 Ng8 ", 20_000_000);
+    assert_eq!(rt; pgn(rt.alloc(), &mut moves, &mut writer), too_large(80_000));
     assert_eq!(rt; writer.bytes, 0);
-    let games = Repeated::new(b"e4 * ", 500_000);
-    assert_eq!(rt; pgn(rt.alloc(), games, &mut writer), Ended::Good);
+    let mut games = Repeated::new(b"e4 * ", 500_000);
+    assert_eq!(rt; pgn(rt.alloc(), &mut games, &mut writer), Ended::Good);
     assert_eq!(rt; writer.lines, 1_000_000);
 }
 
@@ -226,7 +229,7 @@ fn each_byte_in_a_game(rt: HostRuntime) {
             b'4',
         ];
         let mut writer = Counted::new();
-        let ended = pgn(rt.alloc(), FromBytes::new(&input, 100), &mut writer);
+        let ended = pgn(rt.alloc(), &mut FromBytes::new(&input, 100), &mut writer);
         assert_eq!(rt; ended, ending(byte), "byte {byte}");
     }
 }

@@ -1,12 +1,15 @@
 -- Items that are taken, where white space and hidden lines behind the limit are passed over.
 --   AreWhite  these bytes are white items, one after another
 --   Passes    items are taken, or the text was white
+--   PassBreaks  some are, and then there was no memory, or a read broke off
 use Rattle.std.specs.Prelude.{◌≡◌, ℕ, ◌⊎◌, true, false, List, [], ◌++◌, Option, Some, None, Result, Ok, Err}
 use Rattle.chess_types.specs.bytes.Calls.{Calls, joined}
 use Rattle.chess_items.specs.Items.{Item}
 use Rattle.chess_items.specs.steps.Skipping.{column_at, white_after}
-use Rattle.chess_items.specs.steps.Taking.{TakesOne, SpellsFrom, all_white, Ran}
+use Rattle.chess_items.specs.steps.Taking.{TakesOne, SpellsFrom, all_white, Ran, RunBroke}
+use Rattle.chess_items.specs.steps.Texts.{BreaksOff}
 use Rattle.chess_items.specs.declared.at_hand.Fault.{Fault}
+use Rattle.chess_items.specs.declared.at_hand.Fault.TheVariants as fault
 use Rattle.chess_items.specs.declared.place.Place.{Place}
 use Rattle.chess_items.specs.declared.place.Place.TheVariants.{GameStart}
 use Rattle.chess_items.specs.declared.taking.Stop.TheVariants as stop
@@ -44,3 +47,16 @@ module _ {X T : Type 0} (comes : X → List ℕ → X → Type 0) (at_hand : X �
   Passes limit old new t u (Err e) = Unit {0}
   Passes limit old new t u (Ok None) = WasWhite old new
   Passes limit old new t u (Ok (Some stopped)) = Passed limit old new t u stopped
+
+  -- so it did behind the limit
+  pub record WhiteBroke (limit : ℕ) (breaks : X → X → Type 0) (old new : X) (t : T) : Type 0 where
+    pub mid : X
+    pub last : T
+    pub stopped : Stopped
+    pub ran : Ran comes at_hand all sound size takes limit old mid t last (Ok stopped)
+    pub over : stopped.why ≡ stop.TooLarge
+    pub broke : BreaksOff comes breaks all mid new fault.Read
+
+  abbrev pub PassBreaks : ℕ → (X → X → Type 0) → X → X → T → Fault → Type 0
+  PassBreaks limit breaks old new t fault.Memory = BreaksOff comes breaks all old new fault.Memory
+  PassBreaks limit breaks old new t fault.Read = RunBroke comes at_hand all sound size takes limit breaks old new t ⊎ WhiteBroke limit breaks old new t

@@ -6,14 +6,16 @@
 --   Offered     what becomes of an item that is offered
 --   Steps       one item is taken, or none
 --   Ran         items are taken, and why no more are
+--   RunBreaks   items are taken, and then there was no memory, or a read broke off
 use Rattle.std.specs.Prelude.{◌≡◌, ◌≢◌, ℕ, ◌+◌, ◌-◌, ◌≤◌, ◌<◌, ◌⊎◌, take, Bool, List, [], ◌∷◌, ◌++◌, length, Some, None, Result, Ok, Err}
 use Rattle.std.specs.List.{list_all}
 use Rattle.chess_types.specs.bytes.Calls.{Calls, joined}
 use Rattle.chess_items.specs.Items.{Item, TagOpen, IsItem, is_white, place_after}
 use Rattle.chess_items.specs.steps.ItemAt.{item_at}
 use Rattle.chess_items.specs.steps.Deciding.{Decides}
-use Rattle.chess_items.specs.steps.Texts.{Oversized}
+use Rattle.chess_items.specs.steps.Texts.{BreaksOff, Oversized}
 use Rattle.chess_items.specs.declared.at_hand.Fault.{Fault}
+use Rattle.chess_items.specs.declared.at_hand.Fault.TheVariants as fault
 use Rattle.chess_items.specs.declared.fault.PgnFault.{PgnFault}
 use Rattle.chess_items.specs.declared.place.Place.{Place}
 use Rattle.chess_items.specs.declared.place.Place.TheVariants.{GameStart}
@@ -198,3 +200,24 @@ module _ {X T : Type 0} (comes : X → List ℕ → X → Type 0) (at_hand : X �
   abbrev pub Ran : ℕ → X → X → T → T → Result Stopped Fault → Type 0
   Ran limit old new t u (Ok s) = RanOn limit old new t u s
   Ran limit old new t u (Err e) = Unit {0}
+
+  -- a read broke off; the bytes that had come don't decide the next item
+  pub record RunBroke (limit : ℕ) (breaks : X → X → Type 0) (old new : X) (t : T) : Type 0 where
+    pub pieces : List (List ℕ)
+    pub mid : X
+    pub came : Calls comes old pieces mid
+    pub items : List (ℕ × Item)
+    pub at : ℕ
+    pub place : Place
+    pub white : Bool
+    pub took : Took limit old pieces mid items at place white
+    pub last : T
+    pub taken : Takes takes t items last
+    pub undecided : Decides place (at_hand mid) → ⊥
+    pub not_yet : all old → ⊥
+    pub not_all : all mid → ⊥
+    pub breaks_off : breaks mid new
+
+  abbrev pub RunBreaks : ℕ → (X → X → Type 0) → X → X → T → Fault → Type 0
+  RunBreaks limit breaks old new t fault.Memory = BreaksOff comes breaks all old new fault.Memory
+  RunBreaks limit breaks old new t fault.Read = RunBroke limit breaks old new t

@@ -4,9 +4,11 @@
 --   Keeps       the first bytes are used
 --   Refills     all bytes at hand are used, and more come
 --   BreaksOff   why no more bytes come, though not all have: bytes came, and then there was no memory, or a read broke off
+--   Broke       bytes came, and then a read broke off; those before it don't decide the item at their front
+--   BreaksAt    either
 --   Oversized   no item within so many bytes, and that there is none isn't decided by one byte more
 use Rattle.std.specs.Prelude.{◌≡◌, ℕ, ◌+◌, ◌≤◌, ◌<◌, ◌⊎◌, Bool, true, false, List, [], ◌++◌, length, take, MatchOption, Result, Ok, Err}
-use Rattle.chess_types.specs.bytes.Calls.{Calls}
+use Rattle.chess_types.specs.bytes.Calls.{Calls, joined}
 use Rattle.chess_items.specs.steps.Deciding.{Decides}
 use Rattle.chess_items.specs.steps.ItemAt.{item_at}
 use Rattle.chess_items.specs.declared.at_hand.Fault.{Fault}
@@ -22,7 +24,22 @@ Oversized most place input = (most < length input) × MatchOption (item_at place
 
 abbrev pub BreaksOff : {X : Type 0} → (X → List ℕ → X → Type 0) → (X → X → Type 0) → (X → Type 0) → X → X → Fault → Type 0
 BreaksOff comes breaks all old new Memory = (all old → ⊥) × (pieces : List (List ℕ)) × Calls comes old pieces new
-BreaksOff {X} comes breaks all old new Read = (all old → ⊥) × (pieces : List (List ℕ)) × (mid : X) × Calls comes old pieces mid × breaks mid new
+BreaksOff {X} comes breaks all old new Read = (all old → ⊥) × (pieces : List (List ℕ)) × (mid : X) × Calls comes old pieces mid × breaks mid new × (all mid → ⊥)
+
+pub record Broke {X : Type 0} (comes : X → List ℕ → X → Type 0) (at_hand : X → List ℕ) (breaks : X → X → Type 0) (all sound : X → Type 0) (place : Place) (old new : X) : Type 0 where
+  pub pieces : List (List ℕ)
+  pub mid : X
+  pub came : Calls comes old pieces mid
+  pub longer : at_hand mid ≡ at_hand old ++ joined pieces
+  pub undecided : Decides place (at_hand mid) → ⊥
+  pub not_yet : all old → ⊥
+  pub not_all : all mid → ⊥
+  pub sound_still : sound mid
+  pub breaks_off : breaks mid new
+
+abbrev pub BreaksAt : {X : Type 0} → (X → List ℕ → X → Type 0) → (X → List ℕ) → (X → X → Type 0) → (X → Type 0) → (X → Type 0) → Place → X → X → Fault → Type 0
+BreaksAt comes at_hand breaks all sound place old new Memory = BreaksOff comes breaks all old new Memory
+BreaksAt comes at_hand breaks all sound place old new Read = Broke comes at_hand breaks all sound place old new
 
 module _ {X : Type 0} (comes : X → List ℕ → X → Type 0) (at_hand : X → List ℕ) (all sound : X → Type 0) (size : X → ℕ) where
   pub record IsReady (most : ℕ) (place : Place) (old : X) (more : List ℕ) (new : X) : Type 0 where

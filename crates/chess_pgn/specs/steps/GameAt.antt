@@ -5,14 +5,13 @@
 --   NotCome    bytes came, and no game stands at the front of what was at hand and what came, and more than white, whatever follows; the text
 --              is sound still
 --   HasStarved bytes came, and then there was no memory
+--   HasBroken  bytes came, and then a read broke off; no one game stands at the front of what was at hand and what came, whatever follows
 --   IsFault    a read broke off, or there was no memory, or no game stands there
 --   TakesGame  what becomes of a text of which one game is taken
 use Rattle.std.specs.Prelude.{◌≡◌, ◌⊎◌, ◌≤◌, ℕ, List, [], ◌++◌, length, Option, Some, None, Result, Ok, Err}
 use Rattle.chess_types.specs.bytes.Calls.{Calls, joined}
-use Rattle.chess_items.specs.steps.Texts.{BreaksOff}
-use Rattle.chess_items.specs.declared.at_hand.Fault.TheVariants as fault
 use Rattle.chess_items.specs.declared.fault.FaultKind.TheVariants.{Memory}
-use Rattle.chess_pgn.specs.Reading.{HasNoGame, IsAtFront, IsWhite}
+use Rattle.chess_pgn.specs.Reading.{HasNoGame, HasNoGameYet, IsAtFront, IsWhite}
 use Rattle.chess_pgn.specs.steps.GameCode.{game_of}
 use Rattle.chess_pgn.specs.declared.game.Game.{Game}
 use Rattle.chess_pgn.specs.declared.games.GamesFault.{GamesFault}
@@ -56,8 +55,17 @@ module _ {X : Type 0} (comes : X → List ℕ → X → Type 0) (at_hand : X →
     pub came : Calls comes old pieces new
     pub still : all old → (joined pieces ≡ []) × all new × sound new
 
+  pub record HasBroken (breaks : X → X → Type 0) (old new : X) : Type 0 where
+    pub pieces : List (List ℕ)
+    pub mid : X
+    pub came : Calls comes old pieces mid
+    pub breaks_off : breaks mid new
+    pub not_yet : all old → ⊥
+    pub not_all : all mid → ⊥
+    pub none : HasNoGameYet (at_hand old ++ joined pieces)
+
   abbrev pub IsFault : (X → X → Type 0) → X → X → GamesFault → Type 0
-  IsFault breaks old new Read = BreaksOff comes breaks all old new fault.Read
+  IsFault breaks old new Read = HasBroken breaks old new
   IsFault breaks old new (Pgn told) = ((told.kind ≡ Memory) × HasStarved old new) ⊎ NotCome old new
 
   abbrev pub TakesGame : {A : Type 0} → (X → X → Type 0) → X → X → Result (Option (Game A × ℕ)) GamesFault → Type 0

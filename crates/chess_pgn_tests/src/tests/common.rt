@@ -1,7 +1,11 @@
 //! What the tests of games begin with: the words for keys, a game that is read, and one that is written.
+ghost use Rattle.std.specs.Prelude.{◌<◌};
+ghost use Rattle.chess_pgn.specs.Sources.{IsSound};
+
 use chess_key::KeyTable;
-use chess_pgn::{FaultKind, Game, PgnFault, read_game, write_game};
-use std::alloc::Allocator;
+use chess_pgn::{FaultKind, Game, Games, GamesFault, PgnFault, read_game, write_game};
+use chess_types::{FromBytes, Source};
+use std::alloc::{AllocError, Allocator};
 use std::process::Abort;
 
 /// Words for keys.
@@ -43,4 +47,44 @@ pub fn is_written<'a, A: Allocator>(alloc: &'a A, game: &Game<'a, A>, movetext: 
         Ok(text) => is_unknown(text.as_slice(), movetext),
         Err(_) => false,
     }
+}
+
+/// Writes the export forms of the games that are left behind a text; the fault that ends them.
+fn export<'a, A: Allocator, R: Source>(
+    alloc: &'a A,
+    games: &mut Games<'a, R, A>,
+    text: &mut Vec<u8, &'a A>,
+    most: u32,
+) -> Result<Option<GamesFault>, AllocError>
+    requires sound { IsSound R.ended games.old }
+{
+    if most == 0 {
+        return Ok(None);
+    }
+    match games.next() {
+        Ok(None) => Ok(None),
+        Err(fault) => Ok(Some(fault)),
+        Ok(Some(game)) => {
+            let Ok(written) = write_game(alloc, &game) else {
+                return Err(AllocError);
+            };
+            text.extend_from_slice(written.as_slice())?;
+            export(alloc, games, text, most - 1)
+        }
+    }
+}
+
+/// What a source in pieces of one size gives: the export forms of its games, and the fault behind them.
+pub fn read_all<'a, A: Allocator>(
+    alloc: &'a A,
+    table: &'a KeyTable,
+    input: &[u8],
+    piece: usize,
+) -> Result<(Vec<u8, &'a A>, Option<GamesFault>), AllocError>
+    requires { 0 < piece }
+{
+    let mut games = Games::new(alloc, table, FromBytes::new(input, piece));
+    let mut text = Vec::new(alloc);
+    let fault = export(alloc, &mut games, &mut text, 100)?;
+    Ok((text, fault))
 }

@@ -1,10 +1,11 @@
 //! Sources cut anywhere: long items, games up to the limit, white space behind it, and reads that fail.
 ghost use Rattle.std.specs.Prelude.{◌<◌};
+ghost use Rattle.chess_pgn.specs.Sources.{IsSound};
 
 use super::common::{NO_MEMORY, a_table};
 use chess_key::KeyTable;
 use chess_pgn::{FaultKind, Games, GamesFault, PgnFault, read_game};
-use chess_types::FromBytes;
+use chess_types::{FromBytes, Source};
 use linked_list_allocator::LocalHeap;
 use std::alloc::{AllocError, Allocator};
 use std::process::Abort;
@@ -177,6 +178,13 @@ const BEHIND_SPACES: &[(&[u8], Found)] = &[
     (b"e4       ", TOO_LARGE),
     (b"e4 ", Ok(Some(1_048_574))),
     (b"    *  ", Ok(Some(LIMIT))),
+    (
+        b"   !!!",
+        Err(PgnFault {
+            place: 1_048_574,
+            kind: FaultKind::Token,
+        }),
+    ),
 ];
 
 /// The text with that behind it begins so.
@@ -242,14 +250,26 @@ fn assert_failing<A: Allocator>(rt: &impl Abort, alloc: &A, calls: u64) {
     }
 }
 
-/// A source for which there is no memory.
+/// The fault in place of the next game, if there is one.
+fn next_fault<A: Allocator, R: Source>(games: &mut Games<'_, R, A>) -> Option<GamesFault>
+    requires sound { IsSound R.ended games.old }
+    ensures sound { IsSound R.ended games.new }
+{
+    match games.next() {
+        Ok(_) => None,
+        Err(fault) => Some(fault),
+    }
+}
+
+/// A source for which there is no memory: each call says so.
 fn assert_starved(rt: &impl Abort, heap: &LocalHeap, table: &KeyTable) {
     let mut games = Games::new(heap, table, FromBytes::new(b"*", 1));
     assert!(rt; heap.used() == 0);
-    match games.next() {
-        Ok(_) => panic!(rt; "a game"),
-        Err(fault) => assert!(rt; fault == GamesFault::Pgn(NO_MEMORY)),
-    }
+    let wanted = Some(GamesFault::Pgn(NO_MEMORY));
+    let first = next_fault(&mut games);
+    assert!(rt; first == wanted);
+    let again = next_fault(&mut games);
+    assert!(rt; again == wanted);
 }
 
 /// A read that fails before the game is whole, and a source for which there is no memory.

@@ -1,12 +1,11 @@
 //! Random games, with what may stand between their tokens and with faults, in one piece and in random ones.
 ghost use Rattle.std.specs.Prelude.{◌<◌};
-ghost use Rattle.chess_pgn.specs.steps.Next.{IsSound};
 
-use super::common::a_table;
+use super::common::{a_table, read_all};
 use chess_key::KeyTable;
-use chess_pgn::{Game, Games, GamesFault, Outcome, Tags, write_game};
+use chess_pgn::{Game, GamesFault, Outcome, Tags, write_game};
 use chess_tree::{Analysis, Tree};
-use chess_types::{FromBytes, Position, Source};
+use chess_types::Position;
 use rand_core::utils::NextWord;
 use rand_pcg::Pcg64;
 use std::alloc::{AllocError, Allocator};
@@ -176,46 +175,6 @@ fn collection<'a, A: Allocator>(
         strew(&mut text, written.as_slice(), random, faulty)?;
     }
     Ok(text)
-}
-
-/// Writes the export forms of the games that are left behind a text; the fault that ends them.
-fn export<'a, A: Allocator, R: Source>(
-    alloc: &'a A,
-    games: &mut Games<'a, R, A>,
-    text: &mut Vec<u8, &'a A>,
-    most: u32,
-) -> Result<Option<GamesFault>, AllocError>
-    requires sound { IsSound R.ended games.old }
-{
-    if most == 0 {
-        return Ok(None);
-    }
-    match games.next() {
-        Ok(None) => Ok(None),
-        Err(fault) => Ok(Some(fault)),
-        Ok(Some(game)) => {
-            let Ok(written) = write_game(alloc, &game) else {
-                return Err(AllocError);
-            };
-            text.extend_from_slice(written.as_slice())?;
-            export(alloc, games, text, most - 1)
-        }
-    }
-}
-
-/// What a source in pieces of one size gives: the export forms of its games, and the fault behind them.
-fn read_all<'a, A: Allocator>(
-    alloc: &'a A,
-    table: &'a KeyTable,
-    input: &[u8],
-    piece: usize,
-) -> Result<(Vec<u8, &'a A>, Option<GamesFault>), AllocError>
-    requires { 0 < piece }
-{
-    let mut games = Games::new(alloc, table, FromBytes::new(input, piece));
-    let mut text = Vec::new(alloc);
-    let fault = export(alloc, &mut games, &mut text, 100)?;
-    Ok((text, fault))
 }
 
 /// What a source in pieces of that size gives is that text, and that fault.

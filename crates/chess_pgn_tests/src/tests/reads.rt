@@ -1,5 +1,5 @@
 ghost use Rattle.std.specs.Prelude.{◌<◌};
-ghost use Rattle.chess_pgn.specs.steps.Next.{IsSound};
+ghost use Rattle.chess_pgn.specs.Sources.{IsSound};
 
 use super::common::{a_table, first_game, is_written};
 use chess_key::KeyTable;
@@ -178,6 +178,7 @@ const FAULTS: &[(&str, Option<(u64, u8)>)] = &[
     ("[A", Some((2, 6))),
     ("[A \"x\n\"] *", Some((0, 2))),
     ("", None),
+    ("e4 1-0-1", Some((3, 3))),
 ];
 
 /// The text has that fault.
@@ -216,6 +217,7 @@ fn count_games<A: Allocator, R: Source>(
     most: u32,
 ) -> (u32, Option<GamesFault>)
     requires sound { IsSound R.ended games.old }
+    ensures sound { IsSound R.ended games.new }
 {
     match games.next() {
         Ok(None) => (0, None),
@@ -295,6 +297,37 @@ fn assert_pieces<A: Allocator>(rt: &impl Abort, alloc: &A, piece: usize)
         1,
         refused(14, FaultKind::Move),
     );
+    for (text, count, place, kind) in LATER_FAULTS {
+        assert_games(rt, alloc, text, piece, *count, refused(*place, *kind));
+    }
+}
+
+/// Faults behind some games, how many those are, and the fault.
+const LATER_FAULTS: &[(&[u8], u32, u64, FaultKind)] = &[
+    (b"* (1. e4) *", 1, 2, FaultKind::Variation),
+    (b"* * (1. e4) *", 2, 4, FaultKind::Variation),
+    (b"* 1. e4 * 1. e4 Ke3 *", 2, 16, FaultKind::Move),
+    (b"*\n*\n[A \"x\" e4", 2, 4, FaultKind::Tag),
+    (b"* e4 [A \"\"] e5 * {abc", 2, 12, FaultKind::Move),
+    (b"* 1-0 {abc", 2, 10, FaultKind::Truncated),
+    (b"1-0 0-1 $256", 2, 8, FaultKind::Token),
+];
+
+/// A fault is told again by each later call.
+fn assert_told_again<A: Allocator>(rt: &impl Abort, alloc: &A, table: &KeyTable) {
+    let wanted = refused(2, FaultKind::Variation);
+    let mut games = Games::new(alloc, table, FromBytes::new(b"* (1. e4) *", 1));
+    let (count, fault) = count_games(&mut games, 3);
+    assert!(rt; count == 1 && fault == wanted);
+    let (count, fault) = count_games(&mut games, 3);
+    assert!(rt; count == 0 && fault == wanted);
+}
+
+#[test]
+fn a_fault_is_told_again(rt: HostRuntime) {
+    assert_told_again(&rt, &rt.alloc(), &a_table());
+    let none = all_games(&rt.alloc(), &a_table(), b"", 1);
+    assert!(&rt; none.0 == 0 && none.1.is_none());
 }
 
 /// Games come one after another, however the source cuts them; a fault's place is counted from the source's beginning.

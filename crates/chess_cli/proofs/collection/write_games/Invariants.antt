@@ -1,5 +1,5 @@
 use Rattle.std.specs.Prelude.{◌≡◌, None}
-use Rattle.chess_pgn.specs.steps.Next.{IsSound}
+use Rattle.chess_pgn.specs.Sources.{IsSound}
 use Rattle.chess_cli.specs.steps.Collecting.{SoFar}
 use Rattle.chess_cli.proofs.collection.write_games.Given as goal
 

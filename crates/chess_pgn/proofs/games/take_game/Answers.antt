@@ -1,6 +1,9 @@
+use Rattle.std.proofs.Common.{subst}
+use Rattle.chess_items.specs.declared.at_hand.Fault.{Fault}
+use Rattle.chess_items.specs.steps.Passing.{PassBreaks}
 use Rattle.chess_pgn.specs.steps.ReaderCode.{TakesItem}
 use Rattle.chess_pgn.proofs.FrontLemmas.{game_come, none_come}
-use Rattle.chess_pgn.proofs.StopLemmas.{no_game_come}
+use Rattle.chess_pgn.proofs.StopLemmas.{broken_come, no_game_come}
 use Rattle.chess_pgn.proofs.games.take_game.Goals as goal
 
 pub returns-in-Ok-None-clause-game : goal.returns-in-Ok-None-clause-game
@@ -17,3 +20,9 @@ pub returns-in-Err-clause-game : goal.returns-in-Err-clause-game
 returns-in-Err-clause-game g c =
     no_game_come g.X.Text.comes g.X.Text.at_hand g.X.Text.all g.X.Text.sound g.X.Text.size c.args.text.now c.in-Ok.reader c.pass.new.taker c.in-Ok.ensures c.pass.new.text
     c.in-Ok-Some.field-0 c.in-Ok-Some.stopped c.in-Err.fault c.in-Ok-Some.ensures.passes c.in-Ok-Some.field-0-is c.in-Err.ensures.refused c.in-Ok-Some.ensures.sound
+
+pub returns-in-Err-Read-clause-game : goal.returns-in-Err-Read-clause-game
+returns-in-Err-Read-clause-game g c =
+    broken_come g.X.Text.comes g.X.Text.at_hand g.X.Text.all g.X.Text.sound g.X.Text.size g.X.Text.breaks c.args.text.now c.pass.new.text c.in-Ok.reader c.in-Ok.ensures
+    (subst (λ (f : Fault). PassBreaks {X = g.row.X.Denot} g.X.Text.comes g.X.Text.at_hand g.X.Text.all g.X.Text.sound g.X.Text.size (λ s at item result t. TakesItem s item result t) 1048576 g.X.Text.breaks c.args.text.now c.pass.new.text c.in-Ok.reader f)
+    c.in-Err-Read.field-0-is c.in-Err-Read.ensures.broken)
