@@ -14,8 +14,8 @@ use Rattle.chess_loop.specs.declared.driver.RunEnd.{RunEnd}
 use Rattle.chess_loop.specs.declared.driver.RunEnd.TheVariants as loop
 use Rattle.chess_cli.specs.Answers.{Answers, beginning}
 use Rattle.chess_cli.specs.Collections.{EndsAtFault, EndsInPart, EndsUnread, EndsWhole, EndsWritten}
-use Rattle.chess_loop.specs.Runs.{Runs, Partly}
-use Rattle.chess_loop.specs.RunEnds.{EndsGood, EndsOver, EndsReadFault, EndsWriteFault, most_reads}
+use Rattle.chess_loop.specs.Runs.{AnyRest, Partly, Runs, Whole}
+use Rattle.chess_loop.specs.RunEnds.{EndsGood, EndsOver, EndsReadFault, EndsWriteFault, most_reads, never}
 use Rattle.chess_cli.specs.Sittings.{Answered, AnsweredInPart, beginning_with, has_ended}
 
 abbrev pub ended_of : RunEnd → Ended
@@ -26,9 +26,9 @@ ended_of loop.Memory = Memory
 
 module _ {R W : Type 0} (gives : R → List ℕ → R → Type 0) (read_failed : R → Bool) (takes : W → List ℕ → W → Type 0) (write_failed : W → Bool) (ended : R → Type 0) where
   pub record BoardEnds (most : ℕ) (result : Ended) (r r' : R) (w w' : W) : Type 0 where
-    pub good : result ≡ Good → (state : TreeParts) × EndsGood (Runs Answers) beginning gives read_failed takes write_failed ended state r r' w w'
-    pub read_fault : result ≡ ReadFault → (state : TreeParts) × EndsReadFault (Runs Answers) beginning gives read_failed takes write_failed most state r r' w w'
-    pub write_fault : result ≡ WriteFault → (state : TreeParts) × EndsWriteFault (Runs Answers) beginning gives read_failed takes write_failed ended state r r' w w'
+    pub good : result ≡ Good → (state : TreeParts) × EndsGood (Runs Answers) never beginning gives read_failed takes write_failed ended state r r' w w'
+    pub read_fault : result ≡ ReadFault → (state : TreeParts) × EndsReadFault (Runs Answers) never beginning gives read_failed takes write_failed most state r r' w w'
+    pub write_fault : result ≡ WriteFault → (state : TreeParts) × EndsWriteFault (Runs Answers) never beginning gives read_failed takes write_failed (AnyRest (Runs Answers)) ended state r r' w w'
     -- there was no memory to begin with
     pub memory : result ≡ Memory → (r' ≡ r) × (w' ≡ w)
     pub input : (fault : PgnFault) → result ≢ Input fault
@@ -36,12 +36,13 @@ module _ {R W : Type 0} (gives : R → List ℕ → R → Type 0) (read_failed :
   -- the clock is read by its relation
   pub record SittingEnds (A : Type 0) {C : Type 0} (reads : C → ℕ → C → Type 0) (clock : C) (result : Ended) (r r' : R) (w w' : W) : Type 0 where
     pub good : result ≡ Good → (last : Sitting A C)
-        × (EndsGood (Runs (Answered reads)) (beginning_with clock) gives read_failed takes write_failed ended last r r' w w'
-        ⊎ EndsOver (Runs (Answered reads)) (beginning_with clock) gives read_failed takes write_failed has_ended last r r' w w')
+        × (EndsGood (Runs (Whole (Answered reads))) has_ended (beginning_with clock) gives read_failed takes write_failed ended last r r' w w'
+        ⊎ EndsOver (Runs (Whole (Answered reads))) has_ended (beginning_with clock) gives read_failed takes write_failed last r r' w w')
     pub read_fault : result ≡ ReadFault → (last : Sitting A C)
-        × EndsReadFault (Runs (Answered reads)) (beginning_with clock) gives read_failed takes write_failed most_reads last r r' w w'
+        × EndsReadFault (Runs (Whole (Answered reads))) has_ended (beginning_with clock) gives read_failed takes write_failed most_reads last r r' w w'
     pub write_fault : result ≡ WriteFault → (last : Sitting A C)
-        × EndsWriteFault (Partly (Answered reads) (AnsweredInPart reads)) (beginning_with clock) gives read_failed takes write_failed ended last r r' w w'
+        × EndsWriteFault (Runs (Whole (Answered reads))) has_ended (beginning_with clock) gives read_failed takes write_failed
+        (Partly (Answered reads) (AnsweredInPart reads)) ended last r r' w w'
     pub memory : result ≡ Memory → (r' ≡ r) × (w' ≡ w)
     pub input : (fault : PgnFault) → result ≢ Input fault
 

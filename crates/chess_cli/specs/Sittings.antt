@@ -3,13 +3,16 @@
 --   is_fed           a search runs that is given time before the next line is read
 --   Readings         the clock gives these readings, one after another
 --   events_of        the events that a line makes: a moment, the line, and a slice and a moment for each later reading
+--   parts_of         what these events are replied, in parts: at the first moment and the line, and at each slice with the moment after it. Before a
+--                    slice, all that comes before it is written
 --   AnsweredSoFar    the line has made such events up to now, by the clock's readings, each slice while a search was to be fed
---   Answered         a line of the input may be answered by this text
+--   Answered         a line of the input may be answered by these parts, where `quit` has not come
 --   AnsweredInPart   the same of a line of which answering was broken off, since a call of the sink failed
-use Rattle.std.specs.Prelude.{◌≡◌, ℕ, ◌<◌, nat_le, Bool, true, false, ◌&&◌, ◌||◌, not, ◌⊎◌, ⊤, List, [], ◌∷◌, ◌++◌, length, Option, is_some, codes}
+use Rattle.std.specs.Prelude.{◌≡◌, ℕ, ◌<◌, ◌≤◌, nat_le, Bool, true, false, ◌&&◌, ◌||◌, not, ◌⊎◌, ⊤, List, [], ◌∷◌, ◌++◌, length, Option, is_some, codes}
 use Rattle.chess_uci.specs.declared.reply.Reply.{Reply}
 use Rattle.chess_uci.specs.Replies.{reply_text}
-use Rattle.chess_uci.specs.Machine.{Event, Line, Starved, Slice, Moment, Search, State, beginning, is_infinite, is_waiting, depth_done}
+use Rattle.chess_uci.specs.Commands.{asked}
+use Rattle.chess_uci.specs.Machine.{AsksForMemory, Event, Line, Starved, Slice, Moment, Search, State, beginning, is_infinite, is_waiting, depth_done}
 use Rattle.chess_uci.specs.Laws.{replies, after_events}
 use Rattle.chess_cli.specs.declared.sitting.Sitting.{Sitting}
 use Rattle.chess_loop.specs.InputLines.{line_limit, line_room}
@@ -36,26 +39,33 @@ slices_of (moment ∷ moments) = Slice ∷ Moment moment ∷ slices_of moments
 abbrev pub events_of : ℕ → Event → List ℕ → List Event
 events_of first event later = Moment first ∷ event ∷ slices_of later
 
+abbrev pub slice_parts : State → List ℕ → List (List ℕ)
+slice_parts s [] = []
+slice_parts s (moment ∷ moments) =
+    reply_lines (replies s (Slice ∷ Moment moment ∷ [])) ∷ slice_parts (after_events s (Slice ∷ Moment moment ∷ [])) moments
+
+abbrev pub parts_of : State → ℕ → Event → List ℕ → List (List ℕ)
+parts_of s first event later =
+    reply_lines (replies s (Moment first ∷ event ∷ [])) ∷ slice_parts (after_events s (Moment first ∷ event ∷ [])) later
+
 -- a search was to be fed before each slice
 abbrev pub WasFed : State → List ℕ → Type 0
 WasFed s [] = ⊤
 WasFed s (moment ∷ moments) = (is_fed s ≡ true) × WasFed (after_events s (Slice ∷ Moment moment ∷ [])) moments
 
--- the line, or the line for which a growth of memory is refused
+-- the line, or, where it asks for memory, the line for which a growth is refused
 abbrev pub IsLineEvent : List ℕ → Event → Type 0
-IsLineEvent input event = (event ≡ Line input) ⊎ (event ≡ Starved input)
+IsLineEvent input event = (event ≡ Line input) ⊎ ((event ≡ Starved input) × AsksForMemory (asked input))
 
-pub record AnsweredSoFar {C : Type 0} (reads : C → ℕ → C → Type 0) (s : State) (c : C) (input text : List ℕ) (t : State) (d : C) : Type 0 where
+pub record AnsweredSoFar {C : Type 0} (reads : C → ℕ → C → Type 0) (s : State) (c : C) (input : List ℕ) (parts : List (List ℕ)) (t : State) (d : C) : Type 0 where
   pub first : ℕ
   pub event : Event
   pub later : List ℕ
-  pub told : List Reply
   pub is_line : IsLineEvent input event
   pub clock : Readings reads c (first ∷ later) d
-  pub replied : told ≡ replies s (events_of first event later)
+  pub replied : parts ≡ parts_of s first event later
   pub state : t ≡ after_events s (events_of first event later)
   pub each : WasFed (after_events s (Moment first ∷ event ∷ [])) later
-  pub text_is : text ≡ reply_lines told
 
 -- a line over the limit, and one that found no memory while it was read, are skipped
 abbrev pub too_long_line : List ℕ
@@ -64,17 +74,18 @@ too_long_line = codes "info string line too long\n"
 abbrev pub no_memory_line : List ℕ
 no_memory_line = codes "info string out of memory\n"
 
-abbrev pub AnsweredWithin : {A C : Type 0} → (C → ℕ → C → Type 0) → Bool → Sitting A C → List ℕ → List ℕ → Sitting A C → Type 0
-AnsweredWithin reads true old input text new =
-    (AnsweredSoFar reads old.session old.clock input text new.session new.clock × (is_fed new.session ≡ false))
-    ⊎ ((line_room < length input) × (text ≡ no_memory_line) × (new ≡ old))
-AnsweredWithin reads false old input text new = (text ≡ too_long_line) × (new ≡ old)
+abbrev pub AnsweredWithin : {A C : Type 0} → (C → ℕ → C → Type 0) → Bool → Sitting A C → List ℕ → List (List ℕ) → Sitting A C → Type 0
+AnsweredWithin reads true old input parts new =
+    (AnsweredSoFar reads old.session old.clock input parts new.session new.clock × (is_fed new.session ≡ false))
+    ⊎ ((line_room < length input) × (parts ≡ no_memory_line ∷ []) × (new ≡ old))
+AnsweredWithin reads false old input parts new = (parts ≡ too_long_line ∷ []) × (new ≡ old)
 
-abbrev pub Answered : {A C : Type 0} → (C → ℕ → C → Type 0) → Sitting A C → List ℕ → List ℕ → Sitting A C → Type 0
-Answered reads old input text new = AnsweredWithin reads (nat_le (length input) line_limit) old input text new
+abbrev pub Answered : {A C : Type 0} → (C → ℕ → C → Type 0) → Sitting A C → List ℕ → List (List ℕ) → Sitting A C → Type 0
+Answered reads old input parts new = (old.session.ended ≡ false) × AnsweredWithin reads (nat_le (length input) line_limit) old input parts new
 
-abbrev pub AnsweredInPart : {A C : Type 0} → (C → ℕ → C → Type 0) → Sitting A C → List ℕ → List ℕ → Sitting A C → Type 0
-AnsweredInPart reads old input text new = AnsweredSoFar reads old.session old.clock input text new.session new.clock
+abbrev pub AnsweredInPart : {A C : Type 0} → (C → ℕ → C → Type 0) → Sitting A C → List ℕ → List (List ℕ) → Sitting A C → Type 0
+AnsweredInPart reads old input parts new =
+    (old.session.ended ≡ false) × (length input ≤ line_limit) × AnsweredSoFar reads old.session old.clock input parts new.session new.clock
 
 -- the session as it begins, with its clock
 abbrev pub beginning_with : {A C : Type 0} → C → Sitting A C

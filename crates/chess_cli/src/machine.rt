@@ -379,10 +379,11 @@ impl<'k, A: Allocator> Board<'k, A> {
 
 impl<'k, A: Allocator> Engine for Board<'k, A> {
     ghost use Rattle.std.specs.Prelude.{false};
+    ghost use Rattle.chess_loop.specs.Runs.{InOne};
 
-    ghost step = { Answers };
+    ghost step = { InOne Answers };
 
-    ghost cut = { Answers };
+    ghost cut = { InOne Answers };
 
     ghost over = { λ board. false };
 

@@ -6,11 +6,11 @@ use Rattle.chess_types.specs.declared.bytes.source.Failed.{Failed}
 use Rattle.chess_types.proofs.CallLemmas.{Calls-more, joined-more, Carries-append}
 use Rattle.chess_loop.specs.RunEnds.{IsFront, EndsGood, EndsOver, EndsWriteFault}
 use Rattle.chess_loop.specs.InputLines.{ended_lines, unfinished, last_line}
-use Rattle.chess_loop.specs.Runs.{Runs, Partly}
+use Rattle.chess_loop.specs.Runs.{Runs, Partly, Whole}
 use Rattle.chess_loop.specs.steps.Reads.{Holds, Feeds, Finishes}
 use Rattle.chess_loop.specs.steps.LineSoFar.{LineSoFar}
 use Rattle.chess_loop.proofs.LineLemmas.{ended_lines-append, unfinished-append}
-use Rattle.chess_loop.proofs.RunLemmas.{Runs-append}
+use Rattle.chess_loop.proofs.RunLemmas.{Runs-append, uncounted}
 use Rattle.chess_loop.proofs.SendingLemmas.{sent_whole}
 
 each_more : (pieces : List (List ℕ)) (piece : List ℕ) → AllByRecursion (λ p. 0 < length p) pieces → 0 < length piece → AllByRecursion (λ p. 0 < length p) (pieces ++ piece ∷ [])
@@ -25,30 +25,19 @@ length-joined (p ∷ pieces) each =
     rw (length-append) (omega (arith, each.0))
 
 -- So far each read gave some bytes, the lines that ended in them are answered and the answers written, and no call has failed.
-pub record Underway {S R W : Type 0} (step : S → List ℕ → List ℕ → S → Type 0) (beginning : S) (gives : R → List ℕ → R → Type 0) (read_failed : R → Bool) (takes : W → List ℕ → W → Type 0) (write_failed : W → Bool) (turns : ℕ) (now : S) (line : LineSoFar) (r r' : R) (w w' : W) : Type 0 where
+pub record Underway {S R W : Type 0} (step : S → List ℕ → List (List ℕ) → S → Type 0) (beginning : S) (gives : R → List ℕ → R → Type 0) (read_failed : R → Bool) (takes : W → List ℕ → W → Type 0) (write_failed : W → Bool) (turns : ℕ) (now : S) (line : LineSoFar) (r r' : R) (w w' : W) : Type 0 where
   pub pieces : List (List ℕ)
   pub text : List ℕ
   pub reads : Calls gives r pieces r'
   pub count : length pieces ≡ turns
   pub each : AllByRecursion (λ p. 0 < length p) pieces
-  pub runs : Runs step beginning (ended_lines [] (joined pieces)) text now
+  pub runs : Runs (Whole step) beginning (ended_lines [] (joined pieces)) text now
   pub writes : Carries takes w text w'
   pub reading : read_failed r' ≡ false
   pub writing : write_failed w' ≡ false
   pub holds : Holds line (unfinished [] (joined pieces))
 
-module _ {S R W : Type 0} (step cut : S → List ℕ → List ℕ → S → Type 0) (over : S → Bool) (beginning : S) (gives : R → List ℕ → R → Type 0) (read_failed : R → Bool) (takes : W → List ℕ → W → Type 0) (write_failed : W → Bool) where
-  -- the lines that ended before, and those that end in a piece more
-  lines_front : (pieces : List (List ℕ)) (piece : List ℕ) (lines : List (List ℕ)) → IsFront lines (ended_lines (unfinished [] (joined pieces)) piece)
-      → IsFront (ended_lines [] (joined pieces) ++ lines) (ended_lines [] (joined (pieces ++ piece ∷ [])))
-  lines_front pieces piece lines front = record {
-    others = front.others;
-    whole = append_assoc (ended_lines [] (joined pieces)) lines front.others
-        ∙ ap (λ (ls : List (List ℕ)). ended_lines [] (joined pieces) ++ ls) front.whole
-        ∙ sym (ended_lines-append [] (joined pieces) piece)
-        ∙ ap (ended_lines []) (sym (joined-more gives pieces piece));
-  }
-
+module _ {S R W : Type 0} (step cut : S → List ℕ → List (List ℕ) → S → Type 0) (over : S → Bool) (beginning : S) (gives : R → List ℕ → R → Type 0) (read_failed : R → Bool) (takes : W → List ℕ → W → Type 0) (write_failed : W → Bool) where
   -- while the engine takes lines, all are answered
   kept : (next : S) (line : LineSoFar) (lines all : List (List ℕ)) (rest : List ℕ) → over next ≡ false
       → (over next ≡ true) ⊎ ((over next ≡ false) × (lines ≡ all) × Holds line rest) → (lines ≡ all) × Holds line rest
@@ -73,7 +62,8 @@ module _ {S R W : Type 0} (step cut : S → List ℕ → List ℕ → S → Type
         count = rw (length-append) (omega (arith, u.count));
         each = each_more u.pieces piece u.each some;
         runs = rw (joined-more gives u.pieces piece, ended_lines-append)
-            (Runs-append step beginning now next (ended_lines [] (joined u.pieces)) _ u.text fed.0 u.runs (rw (sym rest.0) fed.1.runs));
+            (Runs-append (Whole step) beginning now next (ended_lines [] (joined u.pieces)) _ u.text fed.0 u.runs
+            (rw (sym rest.0) (uncounted step (now, 0) (next, fed.1.most) fed.1.lines fed.0 fed.1.runs)));
         writes = Carries-append takes w w1 w2 u.text fed.0 u.writes (sent_whole takes write_failed w1 w2 fed.0 fed.2);
         reading = reading ∙ rw u.reading refl;
         writing = fed.2.well ∙ u.writing;
@@ -85,19 +75,25 @@ module _ {S R W : Type 0} (step cut : S → List ℕ → List ℕ → S → Type
       → Underway step beginning gives read_failed takes write_failed turns now line r r1 w w1
       → gives r1 piece r2
       → read_failed r2 ≡ (read_failed r1 || false)
+      → over now ≡ false
       → ((begun : List ℕ) → Holds line begun → Feeds step cut takes write_failed {X = Unit {0}} {E = Failed} over begun piece now next line1 w1 [] w2 (Ok tt))
       → over next ≡ true
-      → EndsOver (Runs step) beginning gives read_failed takes write_failed over next r r2 w w2
-  ends_over turns now next line line1 r r1 r2 w w1 w2 piece u call reading feeds is_over =
+      → EndsOver (Runs (Whole step)) over beginning gives read_failed takes write_failed next r r2 w w2
+  ends_over turns now next line line1 r r1 r2 w w1 w2 piece u call reading awake feeds is_over =
       let fed = feeds (unfinished [] (joined u.pieces)) u.holds in
       record {
-        pieces = u.pieces ++ piece ∷ [];
-        lines = ended_lines [] (joined u.pieces) ++ fed.1.lines;
-        text = u.text ++ fed.0;
+        pieces = u.pieces;
+        piece = piece;
+        text = u.text;
+        middle = now;
+        lines = fed.1.lines;
+        more = fed.0;
         reads = Calls-more gives r r1 r2 u.pieces piece u.reads call;
         well_read = reading ∙ rw u.reading refl;
-        front = lines_front u.pieces piece fed.1.lines fed.1.front;
-        answers = Runs-append step beginning now next (ended_lines [] (joined u.pieces)) fed.1.lines u.text fed.0 u.runs fed.1.runs;
+        answers = u.runs;
+        awake = awake;
+        front = fed.1.front;
+        answers_last = uncounted step (now, 0) (next, fed.1.most) fed.1.lines fed.0 fed.1.runs;
         is_over = is_over;
         writes = Carries-append takes w w1 w2 u.text fed.0 u.writes (sent_whole takes write_failed w1 w2 fed.0 fed.2);
         well_written = fed.2.well ∙ u.writing;
@@ -108,9 +104,10 @@ module _ {S R W : Type 0} (step cut : S → List ℕ → List ℕ → S → Type
       → Underway step beginning gives read_failed takes write_failed turns now line r r1 w w1
       → gives r1 piece r2
       → read_failed r2 ≡ (read_failed r1 || false)
+      → over now ≡ false
       → ((begun : List ℕ) → Holds line begun → Feeds step cut takes write_failed {X = Unit {0}} {E = Failed} over begun piece now next line1 w1 page w2 (Err e))
-      → EndsWriteFault (Partly step cut) beginning gives read_failed takes write_failed ended next r r2 w w2
-  ends_unwritten ended turns now next line line1 r r1 r2 w w1 w2 piece page e u call reading feeds =
+      → EndsWriteFault (Runs (Whole step)) over beginning gives read_failed takes write_failed (Partly step cut) ended next r r2 w w2
+  ends_unwritten ended turns now next line line1 r r1 r2 w w1 w2 piece page e u call reading awake feeds =
       let fed = feeds (unfinished [] (joined u.pieces)) u.holds in
       record {
         pieces = u.pieces;
@@ -118,17 +115,23 @@ module _ {S R W : Type 0} (step cut : S → List ℕ → List ℕ → S → Type
         text = u.text;
         middle = now;
         before = w1;
-        lines = fed.1.lines;
+        lines = fed.2.lines;
         more = fed.0;
         reads = Calls-more gives r r1 r2 u.pieces piece u.reads call;
         well_read = reading ∙ rw u.reading refl;
-        answers = inl u.runs;
+        answers = u.runs;
+        awake = awake;
         writes = u.writes;
         well_written = u.writing;
-        awaited = inl fed.1.front;
-        answers_last = fed.1.runs;
-        broken = fed.2;
+        awaited = inl fed.2.front;
+        broken = fed.1;
+        answers_last = fed.2.runs;
       }
+
+  -- where no line is left, the engine takes more lines as before
+  stays_awake : (now next : S) (bytes text : List ℕ) → over now ≡ false → Runs (Whole step) now (last_line bytes) text next → (over next ≡ false) ⊎ (0 < length bytes)
+  stays_awake now next [] text awake runs = inl (ap over runs.1 ∙ awake)
+  stays_awake now next (b ∷ bytes) text awake runs = inr (omega arith)
 
   -- the input has ended, and the last line is answered
   pub ends_good : (ended : R → Type 0) (turns : ℕ) (now next : S) (line : LineSoFar) (r r1 r2 : R) (w w1 w2 : W)
@@ -136,9 +139,10 @@ module _ {S R W : Type 0} (step cut : S → List ℕ → List ℕ → S → Type
       → gives r1 [] r2
       → read_failed r2 ≡ (read_failed r1 || false)
       → ended r2
+      → over now ≡ false
       → ((bytes : List ℕ) → Holds line bytes → Finishes step cut takes write_failed {X = Unit {0}} {E = Failed} bytes now next w1 w2 (Ok tt))
-      → EndsGood (Runs step) beginning gives read_failed takes write_failed ended next r r2 w w2
-  ends_good ended turns now next line r r1 r2 w w1 w2 u call reading end finishes =
+      → EndsGood (Runs (Whole step)) over beginning gives read_failed takes write_failed ended next r r2 w w2
+  ends_good ended turns now next line r r1 r2 w w1 w2 u call reading end awake finishes =
       let last = finishes (unfinished [] (joined u.pieces)) u.holds in
       record {
         pieces = u.pieces ++ [] ∷ [];
@@ -147,7 +151,8 @@ module _ {S R W : Type 0} (step cut : S → List ℕ → List ℕ → S → Type
         well_read = reading ∙ rw u.reading refl;
         all = end;
         answers = rw (joined-more gives u.pieces [], append-nil (joined u.pieces))
-            (Runs-append step beginning now next (ended_lines [] (joined u.pieces)) _ u.text last.0 u.runs last.1);
+            (Runs-append (Whole step) beginning now next (ended_lines [] (joined u.pieces)) _ u.text last.0 u.runs last.1);
+        awake = rw (joined-more gives u.pieces [], append-nil (joined u.pieces)) (stays_awake now next (unfinished [] (joined u.pieces)) last.0 awake last.1);
         writes = Carries-append takes w w1 w2 u.text last.0 u.writes (sent_whole takes write_failed w1 w2 last.0 last.2);
         well_written = last.2.well ∙ u.writing;
       }
@@ -158,9 +163,10 @@ module _ {S R W : Type 0} (step cut : S → List ℕ → List ℕ → S → Type
       → gives r1 [] r2
       → read_failed r2 ≡ (read_failed r1 || false)
       → ended r2
+      → over now ≡ false
       → ((bytes : List ℕ) → Holds line bytes → Finishes step cut takes write_failed {X = Unit {0}} {E = Failed} bytes now next w1 w2 (Err e))
-      → EndsWriteFault (Partly step cut) beginning gives read_failed takes write_failed ended next r r2 w w2
-  ends_unfinished ended turns now next line r r1 r2 w w1 w2 e u call reading end finishes =
+      → EndsWriteFault (Runs (Whole step)) over beginning gives read_failed takes write_failed (Partly step cut) ended next r r2 w w2
+  ends_unfinished ended turns now next line r r1 r2 w w1 w2 e u call reading end awake finishes =
       let last = finishes (unfinished [] (joined u.pieces)) u.holds in
       record {
         pieces = u.pieces;
@@ -172,10 +178,11 @@ module _ {S R W : Type 0} (step cut : S → List ℕ → List ℕ → S → Type
         more = last.0;
         reads = Calls-more gives r r1 r2 u.pieces [] u.reads call;
         well_read = reading ∙ rw u.reading refl;
-        answers = inl u.runs;
+        answers = u.runs;
+        awake = awake;
         writes = u.writes;
         well_written = u.writing;
         awaited = inr (refl, refl, end);
-        answers_last = last.1;
-        broken = last.2;
+        broken = last.1;
+        answers_last = last.2;
       }

@@ -3,29 +3,60 @@ use Rattle.std.specs.List.{AllByRecursion}
 use Rattle.std.proofs.Common.{◌≡◌, ℕ, ◌<◌, ◌≤◌, ◌⊎◌, Bool, true, false, true≢false, inl, inr, List, [], ◌∷◌, ◌++◌, length, sym, ap, ◌∙◌, append_assoc, append-nil, arith}
 use Rattle.chess_types.specs.bytes.Calls.{Calls, joined}
 use Rattle.chess_types.proofs.CallLemmas.{joined-append, Calls-left}
-use Rattle.chess_loop.specs.RunEnds.{Awaited, IsFront, EndsGood, EndsOver, EndsWriteFault}
+use Rattle.chess_loop.specs.RunEnds.{Awaited, IsFront, EndsGood, EndsOver, EndsReadFault, EndsWriteFault, never}
 use Rattle.chess_loop.specs.InputLines.{ended_lines, last_line, lines_of, unfinished}
 use Rattle.chess_loop.proofs.EndLemmas.{length-joined}
 use Rattle.chess_loop.proofs.LineLemmas.{ended_lines-append}
-use Rattle.chess_loop.specs.Runs.{Runs, Partly}
-use Rattle.chess_loop.proofs.RunLemmas.{Runs-more}
+use Rattle.chess_loop.specs.Runs.{AnyRest, Counted, InOne, Partly, Runs, Whole}
+use Rattle.chess_loop.proofs.RunLemmas.{Runs-more, in_one, uncounted}
 
 module _ {S R W : Type 0} (step : S → List ℕ → List ℕ → S → Type 0) (beginning : S) (gives : R → List ℕ → R → Type 0) (read_failed : R → Bool) (takes : W → List ℕ → W → Type 0) (write_failed : W → Bool) where
   pub never_over : (ended : R → Type 0) (state : S) (r r' : R) (w w' : W)
-      → EndsGood (Runs step) beginning gives read_failed takes write_failed ended state r r' w w'
-      ⊎ EndsOver (Runs step) beginning gives read_failed takes write_failed (λ (s : S). false) state r r' w w'
-      → EndsGood (Runs step) beginning gives read_failed takes write_failed ended state r r' w w'
-  never_over ended state r r' w w' (inl good) = good
+      → EndsGood (Runs (Whole (InOne step))) never beginning gives read_failed takes write_failed ended state r r' w w'
+      ⊎ EndsOver (Runs (Whole (InOne step))) never beginning gives read_failed takes write_failed state r r' w w'
+      → EndsGood (Runs step) never beginning gives read_failed takes write_failed ended state r r' w w'
+  never_over ended state r r' w w' (inl good) = record {
+    pieces = good.pieces;
+    text = good.text;
+    reads = good.reads;
+    well_read = good.well_read;
+    all = good.all;
+    answers = in_one step beginning state (lines_of (joined good.pieces)) good.text good.answers;
+    awake = good.awake;
+    writes = good.writes;
+    well_written = good.well_written;
+  }
   never_over ended state r r' w w' (inr over) = absurd (true≢false (sym over.is_over))
 
-  whole_lines : (old new : S) (lines : List (List ℕ)) (text : List ℕ) → Partly step step old lines text new → Runs step old lines text new
-  whole_lines old new lines text (inl runs) = runs
-  whole_lines old new lines text (inr broken) =
-      rw (broken.lines_are, broken.text_is) (Runs-more step old broken.state new broken.done broken.line broken.answers broken.begun broken.runs broken.last)
+  pub unread_ends : (most : ℕ) (state : S) (r r' : R) (w w' : W)
+      → EndsReadFault (Runs (Whole (InOne step))) never beginning gives read_failed takes write_failed most state r r' w w'
+      → EndsReadFault (Runs step) never beginning gives read_failed takes write_failed most state r r' w w'
+  unread_ends most state r r' w w' end = record {
+    pieces = end.pieces;
+    text = end.text;
+    before = end.before;
+    reads = end.reads;
+    well_read = end.well_read;
+    each = end.each;
+    cause = end.cause;
+    answers = in_one step beginning state (ended_lines [] (joined end.pieces)) end.text end.answers;
+    awake = end.awake;
+    writes = end.writes;
+    well_written = end.well_written;
+  }
+
+  -- lines whose last was broken off are answered whole, too
+  whole_lines : (old new : S) (lines : List (List ℕ)) (text rest : List ℕ) → Partly (InOne step) (InOne step) old lines text rest new → Runs step old lines text new
+  whole_lines old new lines text rest (most, few, inl runs) =
+      in_one step old new lines text (uncounted (InOne step) (old, 0) (new, most) lines text runs)
+  whole_lines old new lines text rest (most, few, inr broken) =
+      let all = Runs-more (Counted (InOne step)) (old, 0) broken.state (new, most) broken.done broken.line broken.answers broken.begun broken.runs broken.last in
+      rw (broken.lines_are, broken.text_is)
+      (in_one step old new (broken.done ++ broken.line ∷ []) (broken.answers ++ broken.begun) (uncounted (InOne step) (old, 0) (new, most) (broken.done ++ broken.line ∷ []) (broken.answers ++ broken.begun) all))
 
   pub whole_ends : (ended : R → Type 0) (state : S) (r r' : R) (w w' : W)
-      → EndsWriteFault (Partly step step) beginning gives read_failed takes write_failed ended state r r' w w'
-      → EndsWriteFault (Runs step) beginning gives read_failed takes write_failed ended state r r' w w'
+      → EndsWriteFault (Runs (Whole (InOne step))) never beginning gives read_failed takes write_failed (Partly (InOne step) (InOne step)) ended state r r' w w'
+      → EndsWriteFault (Runs step) never beginning gives read_failed takes write_failed (AnyRest (Runs step)) ended state r r' w w'
   whole_ends ended state r r' w w' end = record {
     pieces = end.pieces;
     piece = end.piece;
@@ -36,12 +67,13 @@ module _ {S R W : Type 0} (step : S → List ℕ → List ℕ → S → Type 0) 
     more = end.more;
     reads = end.reads;
     well_read = end.well_read;
-    answers = whole_lines beginning end.middle _ end.text end.answers;
+    answers = in_one step beginning end.middle (ended_lines [] (joined end.pieces)) end.text end.answers;
+    awake = end.awake;
     writes = end.writes;
     well_written = end.well_written;
     awaited = end.awaited;
-    answers_last = whole_lines end.middle state end.lines end.more end.answers_last;
     broken = end.broken;
+    answers_last = whole_lines end.middle state end.lines end.more end.broken.rest end.answers_last;
   }
 
 -- the lines that were answered before the last read and since are the first of all

@@ -1,10 +1,34 @@
 -- Texts that go out by way of a page.
-use Rattle.std.proofs.Common.{◌≡◌, ℕ, Bool, List, [], ◌++◌, length-append, take, Result, Ok, Err, refl, sym, ap, subst, ◌∙◌, append_assoc, append-nil, arith}
-use Rattle.chess_types.specs.bytes.Calls.{Carries}
+use Rattle.std.proofs.Common.{◌≡◌, ℕ, ◌+◌, ◌≤◌, Bool, List, [], ◌∷◌, ◌++◌, length, length-append, take, Result, Ok, Err, refl, sym, ap, subst, ◌∙◌, append_assoc, append-nil, arith}
+use Rattle.chess_types.specs.bytes.Calls.{Carries, joined}
 use Rattle.chess_types.specs.declared.bytes.source.Failed.{Failed}
 use Rattle.chess_types.proofs.CallLemmas.{Carries-none, Carries-append, Carries-more}
-use Rattle.chess_loop.specs.steps.Sending.{Sent, SentOr, Flows, Sends}
+use Rattle.chess_loop.specs.Runs.{last_length, unwritten}
+use Rattle.chess_loop.specs.steps.Sending.{Sent, SentOr, Flows, Sends, SendsParts}
 use Rattle.chess_loop.specs.RunEnds.{Broken}
+
+last_length_most : (n m : ℕ) (parts : List (List ℕ)) → n ≤ m → last_length n parts ≤ last_length m parts
+last_length_most n m [] few = few
+last_length_most n m (part ∷ parts) few = omega arith
+
+-- where fewer bytes were unwritten before, fewer may be afterwards
+pub unwritten_most : (n m : ℕ) (parts : List (List ℕ)) → n ≤ m → unwritten n parts ≤ unwritten m parts
+unwritten_most n m [] few = few
+unwritten_most n m (part ∷ parts) few = last_length_most (n + length part) (m + length part) parts (omega arith)
+
+last_length_more : (n : ℕ) (parts : List (List ℕ)) (part : List ℕ) → last_length n (parts ++ part ∷ []) ≡ length part
+last_length_more n [] part = refl
+last_length_more n (p ∷ parts) part = last_length_more (length p) parts part
+
+-- a further part alone may be unwritten
+pub unwritten_more : (n : ℕ) (first : List ℕ) (parts : List (List ℕ)) (part : List ℕ) → unwritten n (first ∷ parts ++ part ∷ []) ≡ length part
+unwritten_more n first parts part = last_length_more (n + length first) parts part
+
+-- what is left of a text is no longer than the text
+pub no_longer : (front rest text : List ℕ) → front ++ rest ≡ text → length rest ≤ length text
+no_longer front rest text whole =
+    let lengths : length front + length rest ≡ length text = sym (length-append front rest) ∙ ap length whole in
+    omega (arith, lengths)
 
 module _ {W : Type 0} (takes : W → List ℕ → W → Type 0) (failed : W → Bool) where
   -- nothing is written, and the text stands on the page
@@ -86,3 +110,38 @@ module _ {W : Type 0} (takes : W → List ℕ → W → Type 0) (failed : W → 
       sent_on start w1 w2 (before ++ text) text [] (sent_more start w1 before [] text (flows start before sent)) wrote
   sends_behind w w1 w2 page text (Err e) flows wrote = λ start before sent.
       broken_on start w1 w2 (before ++ text) text (sent_more start w1 before [] text (flows start before sent)) wrote
+
+  -- a text in one part
+  pub sends_one : (w t : W) (page text page1 : List ℕ) (result : Result (Unit {0}) Failed) → Sends takes failed page w text page1 t result → SendsParts takes failed page w (text ∷ []) page1 t result
+  sends_one w t page text page1 (Ok x) sends =
+      let sent = sends w page (sent_start w page) in (
+        subst (λ (y : List ℕ). Sent takes failed w (page ++ y) page1 t) (sym (append-nil text)) sent,
+        omega (arith, no_longer sent.front page1 (page ++ text) sent.whole, length-append page text),
+      )
+  sends_one w t page text page1 (Err e) sends =
+      let broken = sends w page (sent_start w page) in
+      subst (λ (y : List ℕ). (b : Broken takes failed w (page ++ y) t) × (length b.rest ≤ length page + length text)) (sym (append-nil text)) (
+        broken,
+        omega (arith, no_longer broken.front broken.rest (page ++ text) broken.whole, length-append page text),
+      )
+
+  -- parts after what was sent
+  pub sent_parts : (w m t : W) (text page page1 : List ℕ) (parts : List (List ℕ)) → Sent takes failed w text page m → Sent takes failed m (page ++ joined parts) page1 t
+      → Sent takes failed w (text ++ joined parts) page1 t
+  sent_parts w m t text page page1 parts so_far sent = sent_on w m t (text ++ joined parts) (page ++ joined parts) page1 (sent_more w m text page (joined parts) so_far) sent
+
+  pub broken_parts : (w m t : W) (text page : List ℕ) (parts : List (List ℕ)) → Sent takes failed w text page m → (broken : Broken takes failed m (page ++ joined parts) t)
+      → (now : Broken takes failed w (text ++ joined parts) t) × (now.rest ≡ broken.rest)
+  unfolding broken_on
+  broken_parts w m t text page parts so_far broken = (broken_on w m t (text ++ joined parts) (page ++ joined parts) (sent_more w m text page (joined parts) so_far) broken, refl)
+
+  -- what flows of the page: no more is left on it, or a rest of it is unwritten
+  pub flows_shorter : (w t : W) (page page1 : List ℕ) → Flows takes failed {X = Unit {0}} {E = Failed} page w page1 t (Ok tt) → length page1 ≤ length page
+  flows_shorter w t page page1 flow = let sent = flow w page (sent_start w page) in no_longer sent.front page1 page sent.whole
+
+  pub flows_broken : (start w t : W) (text page page1 : List ℕ) (e : Failed) → Sent takes failed start text page w → Flows takes failed {X = Unit {0}} {E = Failed} page w page1 t (Err e)
+      → (broken : Broken takes failed start text t) × (length broken.rest ≤ length page)
+  unfolding broken_on
+  flows_broken start w t text page page1 e so_far flow =
+      let broken = flow w page (sent_start w page) in
+      (broken_on start w t text page so_far broken, no_longer broken.front broken.rest page broken.whole)

@@ -1,6 +1,7 @@
--- How a run over a source and a sink ends, for any engine: a state to begin with, and a relation that says which lines may be answered by which
--- text, from which state to which.
+-- How a run over a source and a sink ends, for any engine: a state to begin with, a relation that says which lines may be answered by which
+-- text, from which state to which, and the states in which it takes no more lines.
 --   most_reads       the most reads of a run
+--   never            of an engine that takes lines to the end of the input
 --   IsFront          these lines, and others behind them, are those
 --   Awaited          which lines are answered from one read to the next: those that end in the piece, or at the end of the input the last
 --   Broken           a call failed, after a front of the text was written; it was the last
@@ -9,6 +10,7 @@
 --   EndsReadFault    a read failed, and nothing was read after it, or there were as many reads as there may be: the lines that had ended are answered
 --   EndsWriteFault   a write failed or took no byte, and nothing was read or written after it: what was read before the last read is answered, and a
 --                    front of the answers to what came last is written
+-- Nothing is read once the engine takes no more lines.
 use Rattle.std.specs.Prelude.{◌≡◌, ℕ, ◌<◌, Bool, true, false, ◌⊎◌, List, [], ◌∷◌, ◌++◌, length}
 use Rattle.std.specs.List.{AllByRecursion}
 use Rattle.chess_types.specs.bytes.Calls.{Calls, Carries, joined}
@@ -17,6 +19,9 @@ use Rattle.chess_loop.specs.InputLines.{lines_of, ended_lines, last_line, unfini
 -- 2^40
 abbrev pub most_reads : ℕ
 most_reads = 1099511627776
+
+abbrev pub never : {S : Type 0} → S → Bool
+never state = false
 
 pub record IsFront (lines all : List (List ℕ)) : Type 0 where
   pub others : List (List ℕ)
@@ -37,7 +42,7 @@ module _ {W : Type 0} (takes : W → List ℕ → W → Type 0) (failed : W → 
     pub last : takes before [] new
     pub fails : failed new ≡ true
 
-module _ {S R W : Type 0} (runs : S → List (List ℕ) → List ℕ → S → Type 0) (beginning : S) (gives : R → List ℕ → R → Type 0) (read_failed : R → Bool) (takes : W → List ℕ → W → Type 0) (write_failed : W → Bool) where
+module _ {S R W : Type 0} (runs : S → List (List ℕ) → List ℕ → S → Type 0) (over : S → Bool) (beginning : S) (gives : R → List ℕ → R → Type 0) (read_failed : R → Bool) (takes : W → List ℕ → W → Type 0) (write_failed : W → Bool) where
   -- Reads gave pieces up to the end of the input; writes took the answers to its lines, in order, and nothing else.
   pub record EndsGood (ended : R → Type 0) (state : S) (r r' : R) (w w' : W) : Type 0 where
     pub pieces : List (List ℕ)
@@ -46,6 +51,8 @@ module _ {S R W : Type 0} (runs : S → List (List ℕ) → List ℕ → S → T
     pub well_read : read_failed r' ≡ false
     pub all : ended r'
     pub answers : runs beginning (lines_of (joined pieces)) text state
+    -- the engine takes more lines, or the last line, without a line feed, was the one after which it doesn't
+    pub awake : (over state ≡ false) ⊎ (0 < length (unfinished [] (joined pieces)))
     pub writes : Carries takes w text w'
     pub well_written : write_failed w' ≡ false
 
@@ -59,12 +66,13 @@ module _ {S R W : Type 0} (runs : S → List (List ℕ) → List ℕ → S → T
     pub each : AllByRecursion (λ piece. 0 < length piece) pieces
     pub cause : (gives before [] r' × (read_failed r' ≡ true)) ⊎ ((before ≡ r') × (length pieces ≡ most))
     pub answers : runs beginning (ended_lines [] (joined pieces)) text state
+    pub awake : over state ≡ false
     pub writes : Carries takes w text w'
     pub well_written : write_failed w' ≡ false
 
   -- A write failed or took no byte, the last call. Of the answers to the lines that had ended before the last read all is written; of those
-  -- that came with it a front.
-  pub record EndsWriteFault (ended : R → Type 0) (state : S) (r r' : R) (w w' : W) : Type 0 where
+  -- that came with it a front. `partly` says which text may answer these, and which rest of it may be unwritten.
+  pub record EndsWriteFault (partly : S → List (List ℕ) → List ℕ → List ℕ → S → Type 0) (ended : R → Type 0) (state : S) (r r' : R) (w w' : W) : Type 0 where
     pub pieces : List (List ℕ)
     pub piece : List ℕ
     pub text : List ℕ
@@ -75,21 +83,27 @@ module _ {S R W : Type 0} (runs : S → List (List ℕ) → List ℕ → S → T
     pub reads : Calls gives r (pieces ++ piece ∷ []) r'
     pub well_read : read_failed r' ≡ false
     pub answers : runs beginning (ended_lines [] (joined pieces)) text middle
+    pub awake : over middle ≡ false
     pub writes : Carries takes w text before
     pub well_written : write_failed before ≡ false
     pub awaited : Awaited ended (unfinished [] (joined pieces)) piece lines r'
-    pub answers_last : runs middle lines more state
     pub broken : Broken takes write_failed before more w'
+    pub answers_last : partly middle lines more broken.rest state
 
-  -- The engine takes no more lines; writes took the answers to the lines before.
-  pub record EndsOver (over : S → Bool) (state : S) (r r' : R) (w w' : W) : Type 0 where
+  -- The engine takes no more lines after one that ended in the last piece; writes took the answers up to that one.
+  pub record EndsOver (state : S) (r r' : R) (w w' : W) : Type 0 where
     pub pieces : List (List ℕ)
-    pub lines : List (List ℕ)
+    pub piece : List ℕ
     pub text : List ℕ
-    pub reads : Calls gives r pieces r'
+    pub middle : S
+    pub lines : List (List ℕ)
+    pub more : List ℕ
+    pub reads : Calls gives r (pieces ++ piece ∷ []) r'
     pub well_read : read_failed r' ≡ false
-    pub front : IsFront lines (ended_lines [] (joined pieces))
-    pub answers : runs beginning lines text state
+    pub answers : runs beginning (ended_lines [] (joined pieces)) text middle
+    pub awake : over middle ≡ false
+    pub front : IsFront lines (ended_lines (unfinished [] (joined pieces)) piece)
+    pub answers_last : runs middle lines more state
     pub is_over : over state ≡ true
-    pub writes : Carries takes w text w'
+    pub writes : Carries takes w (text ++ more) w'
     pub well_written : write_failed w' ≡ false

@@ -2,7 +2,7 @@
 //!
 //! The answers to the lines of one read are written before the next, with as few calls as fit a page.
 ghost use Rattle.std.specs.Prelude.{◌≡◌, ◌⊎◌, ◌+◌, ◌≤◌, List, ℕ, [], ◌<◌, ◌≢◌, false, length, OnOk};
-ghost use Rattle.chess_loop.specs.Runs.{Runs, Partly};
+ghost use Rattle.chess_loop.specs.Runs.{Runs, Partly, Whole};
 ghost use Rattle.chess_loop.specs.steps.Reads.{AnswersLine, Feeds, Finishes, Holds};
 ghost use Rattle.chess_loop.specs.RunEnds.{EndsGood, EndsOver, EndsReadFault, EndsWriteFault};
 
@@ -137,12 +137,12 @@ fn answer_all<E: Engine, A: Allocator, R: Source, W: Sink>(
     requires buffer { 0 < length buffer.old }
     requires writer { W.failed writer.old ≡ false }
     ensures good { result ≡ RunEnd.Good →
-        EndsGood (Runs E.step) engine.old R.gives R.failed W.takes W.failed R.ended engine.new reader.old reader.new writer.old writer.new
-        ⊎ EndsOver (Runs E.step) engine.old R.gives R.failed W.takes W.failed E.over engine.new reader.old reader.new writer.old writer.new }
+        EndsGood (Runs (Whole E.step)) E.over engine.old R.gives R.failed W.takes W.failed R.ended engine.new reader.old reader.new writer.old writer.new
+        ⊎ EndsOver (Runs (Whole E.step)) E.over engine.old R.gives R.failed W.takes W.failed engine.new reader.old reader.new writer.old writer.new }
     ensures read_fault { result ≡ RunEnd.ReadFault →
-        EndsReadFault (Runs E.step) engine.old R.gives R.failed W.takes W.failed most engine.new reader.old reader.new writer.old writer.new }
+        EndsReadFault (Runs (Whole E.step)) E.over engine.old R.gives R.failed W.takes W.failed most engine.new reader.old reader.new writer.old writer.new }
     ensures write_fault { result ≡ RunEnd.WriteFault →
-        EndsWriteFault (Partly E.step E.cut) engine.old R.gives R.failed W.takes W.failed R.ended engine.new reader.old reader.new writer.old writer.new }
+        EndsWriteFault (Runs (Whole E.step)) E.over engine.old R.gives R.failed W.takes W.failed (Partly E.step E.cut) R.ended engine.new reader.old reader.new writer.old writer.new }
     ensures memory { result ≢ RunEnd.Memory }
 {
     for _turn in 0..most {
@@ -180,12 +180,12 @@ pub fn run<E: Engine, A: Allocator, R: Source, W: Sink>(
     requires reader { R.failed reader.old ≡ false }
     requires writer { W.failed writer.old ≡ false }
     ensures good { result ≡ RunEnd.Good →
-        EndsGood (Runs E.step) engine.old R.gives R.failed W.takes W.failed R.ended engine.new reader.old reader.new writer.old writer.new
-        ⊎ EndsOver (Runs E.step) engine.old R.gives R.failed W.takes W.failed E.over engine.new reader.old reader.new writer.old writer.new }
+        EndsGood (Runs (Whole E.step)) E.over engine.old R.gives R.failed W.takes W.failed R.ended engine.new reader.old reader.new writer.old writer.new
+        ⊎ EndsOver (Runs (Whole E.step)) E.over engine.old R.gives R.failed W.takes W.failed engine.new reader.old reader.new writer.old writer.new }
     ensures read_fault { result ≡ RunEnd.ReadFault →
-        EndsReadFault (Runs E.step) engine.old R.gives R.failed W.takes W.failed most engine.new reader.old reader.new writer.old writer.new }
+        EndsReadFault (Runs (Whole E.step)) E.over engine.old R.gives R.failed W.takes W.failed most engine.new reader.old reader.new writer.old writer.new }
     ensures write_fault { result ≡ RunEnd.WriteFault →
-        EndsWriteFault (Partly E.step E.cut) engine.old R.gives R.failed W.takes W.failed R.ended engine.new reader.old reader.new writer.old writer.new }
+        EndsWriteFault (Runs (Whole E.step)) E.over engine.old R.gives R.failed W.takes W.failed (Partly E.step E.cut) R.ended engine.new reader.old reader.new writer.old writer.new }
     ensures memory { result ≡ RunEnd.Memory → (engine.new ≡ engine.old) × (reader.new ≡ reader.old) × (writer.new ≡ writer.old) }
 {
     let (Ok(mut buffer), Ok(mut line), Ok(mut page)) = (

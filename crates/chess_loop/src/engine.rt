@@ -6,15 +6,16 @@ use super::unfinished::Unfinished;
 use chess_types::{Failed, Sink};
 use std::alloc::Allocator;
 
-/// What answers lines. Contracts know which text may answer a line, and which state follows.
+/// What answers lines. Contracts know which text may answer a line, in which parts it is written, and which state follows.
 pub trait Engine {
     ghost use Rattle.std.specs.Prelude.{ℕ, Bool, List};
 
-    /// A line may be answered by this text, and lead from the first state to the second.
-    ghost step: { Self → List ℕ → List ℕ → Self → Type 0 };
+    /// A line may be answered by these parts, and lead from the first state to the second. Before a further part begins, all that comes
+    /// before it is written.
+    ghost step: { Self → List ℕ → List (List ℕ) → Self → Type 0 };
 
-    /// The same of a line of which answering was broken off, since a call of the sink failed: of the text a front was written.
-    ghost cut: { Self → List ℕ → List ℕ → Self → Type 0 };
+    /// The same of a line of which answering was broken off, since a call of the sink failed: of the last part a prefix was written.
+    ghost cut: { Self → List ℕ → List (List ℕ) → Self → Type 0 };
 
     /// No further line is taken.
     ghost over: { Self → Bool };

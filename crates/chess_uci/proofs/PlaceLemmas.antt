@@ -1,5 +1,5 @@
 -- The legal move that a text names, and the lines that words name.
-use Rattle.std.proofs.Common.{◌≡◌, ℕ, suc, zero, ◌<◌, Bool, true, false, List, [], ◌∷◌, length, get_or, find, ⊎_elim, Option, Some, None, Ok, Err, refl, sym, ap, ◌∙◌, arith}
+use Rattle.std.proofs.Common.{◌≡◌, ℕ, suc, zero, ◌+◌, ◌<◌, Bool, true, false, List, [], ◌∷◌, ◌++◌, length, length-append, get_or, find, ⊎_elim, inl, inr, Option, Some, None, is_some, Ok, Err, refl, sym, ap, ◌∙◌, append_assoc, append-nil, codes, arith}
 use Rattle.std.specs.Prelude.{nat_le}
 use Rattle.std.specs.List.{All, Contains}
 use Rattle.std.specs.Str.{bytes_eq}
@@ -19,7 +19,7 @@ use Rattle.chess_draws.specs.LineParts.{LineParts}
 use Rattle.chess_uci.specs.declared.placing.PlaceFault.{PlaceFault}
 use Rattle.chess_uci.specs.declared.placing.PlaceFault.TheVariants.{Refused, Memory as NoMemory}
 use Rattle.chess_uci.specs.steps.Places.{Places, Begins}
-use Rattle.chess_uci.specs.Placing.{named_move, line_with_move, line_with_word, line_played, begun_by, before_moves, behind_moves, placed}
+use Rattle.chess_uci.specs.Placing.{named_move, line_with_move, line_with_word, line_played, begun_by, before_moves, behind_moves, placed, spaced, names_fen, AddsMove, Grows}
 
 -- each move whose text it is, is what was read of it
 abbrev pub Complete : List ℕ → Option MoveParts → Type 0
@@ -113,13 +113,81 @@ pushed_ok old m answer = ⊎_elim (λ e. sym e) (λ h. h.0) answer
 pub pushed_refused : (old : LineParts) (m : MoveParts) (fault : LineFault) → AnswersPush old m (Err fault) → (fault ≡ Memory → ⊥) → push_answer old.line m ≡ Err fault
 pushed_refused old m fault answer other = ⊎_elim (λ e. sym e) (λ h. let clash = h.1 in absurd (other cc)) answer
 
+no_memory : (line : Line) (m : MoveParts) → Err Memory ≡ push_answer line m → ⊥
+no_memory line m told = cases (is_legal (last line) m) (nat_le 20000 (length line.moves)) refl refl
+  where
+    cases : (b c : Bool) → is_legal (last line) m ≡ b → nat_le 20000 (length line.moves) ≡ c → ⊥
+    cases false c e f = let clash = rw e at told in cc
+    cases true true e f = let clash = rw (e, f) at told in cc
+    cases true false e f = let clash = rw (e, f) at told in cc
+
+-- a push that finds no memory would add a legal move, within the limit
+pub word_grows : (old : LineParts) (word : List ℕ) (m : MoveParts) → Complete word (Some m) → word ≡ move_text m → m.from < 64 → m.to < 64 →
+    AnswersPush old m (Err Memory) → is_some (line_with_word (Some old.line) word) ≡ true
+word_grows old word m complete sound from to answer =
+    let pushed : push_answer old.line m ≡ Ok tt = ⊎_elim (λ e. absurd (no_memory old.line m e)) (λ h. h.0) answer in
+    ap is_some (word_played old.line (extended old.line m) word m complete sound from to pushed refl)
+
+played_append : (begun : Option Line) (done others : List (List ℕ)) → line_played begun (done ++ others) ≡ line_played (line_played begun done) others
+played_append begun [] others = refl
+played_append begun (word ∷ done) others = played_append (line_with_word begun word) done others
+
+-- So far: the words up to the rest are played.
+pub record PlayedTo (start now : Line) (all rest : List (List ℕ)) : Type 0 where
+  pub done : List (List ℕ)
+  pub whole : all ≡ done ++ rest
+  pub played : line_played (Some start) done ≡ Some now
+
+pub played_start : (start : Line) (all : List (List ℕ)) → PlayedTo start start all all
+played_start start all = record { done = []; whole = refl; played = refl }
+
+-- with a word more
+played_with : (start now : Line) (word : List ℕ) (done : List (List ℕ)) → line_played (Some start) done ≡ Some now →
+    line_played (Some start) (done ++ word ∷ []) ≡ line_with_word (Some now) word
+played_with start now word done played = played_append (Some start) done (word ∷ []) ∙ ap (λ l. line_with_word l word) played
+
+pub played_on : (start now next : Line) (word : List ℕ) (all rest others : List (List ℕ)) → PlayedTo start now all rest → rest ≡ word ∷ others → line_with_word (Some now) word ≡ Some next →
+    PlayedTo start next all others
+played_on start now next word all rest others so_far first one = record {
+  done = so_far.done ++ word ∷ [];
+  whole = so_far.whole ∙ ap (λ ws. so_far.done ++ ws) first ∙ sym (append_assoc so_far.done (word ∷ []) others);
+  played = played_with start now word so_far.done so_far.played ∙ one;
+}
+
+pub played_all : (start now : Line) (all rest : List (List ℕ)) → PlayedTo start now all rest → rest ≡ [] → line_played (Some start) all ≡ Some now
+played_all start now all rest so_far none =
+    ap (line_played (Some start)) (so_far.whole ∙ ap (λ ws. so_far.done ++ ws) none ∙ append-nil so_far.done) ∙ so_far.played
+
 -- a word that leads to no line, or finds no memory: so do the words from it on
-pub words_refused : (X Y : Type 0) (start line now later : Line) (word : List ℕ) (words all : List (List ℕ)) (fault : PlaceFault) → Places {X = X} (line_with_word (Some line) word) now (Err fault) →
-    line_played (Some line) (word ∷ words) ≡ line_played (Some start) all → Places {X = Y} (line_played (Some start) all) later (Err fault)
-words_refused X Y start line now later word words all Refused none same = sym same ∙ ap (λ l. line_played l words) none ∙ played_none words
-words_refused X Y start line now later word words all NoMemory none same = tt
+pub words_refused : (X Y : Type 0) (start now later last : Line) (word : List ℕ) (all rest others : List (List ℕ)) (fault : PlaceFault) → PlayedTo start now all rest → rest ≡ word ∷ others →
+    Places {X = X} (is_some (line_with_word (Some now) word) ≡ true) (line_with_word (Some now) word) later (Err fault) → Places {X = Y} (AddsMove (Some start) all) (line_played (Some start) all) last (Err fault)
+words_refused X Y start now later last word all rest others Refused so_far first none =
+    ap (line_played (Some start)) (so_far.whole ∙ ap (λ ws. so_far.done ++ ws) first) ∙ played_append (Some start) so_far.done (word ∷ others)
+    ∙ ap (λ l. line_played l (word ∷ others)) so_far.played ∙ ap (λ l. line_played l others) none ∙ played_none others
+words_refused X Y start now later last word all rest others NoMemory so_far first grows = record {
+  done = so_far.done;
+  word = word;
+  others = others;
+  whole = so_far.whole ∙ ap (λ ws. so_far.done ++ ws) first;
+  legal = ap is_some (played_with start now word so_far.done so_far.played) ∙ grows;
+}
 
 -- and where the line doesn't begin
-pub beginning_refused : (words : List (List ℕ)) (fault : PlaceFault) → Begins (begun_by (before_moves words)) (Err fault) → Begins (placed words) (Err fault)
+pub beginning_refused : (words : List (List ℕ)) (fault : PlaceFault) → Begins (names_fen (before_moves words) ≡ true) (begun_by (before_moves words)) (Err fault) → Begins (Grows words) (placed words) (Err fault)
 beginning_refused words Refused none = ap (λ l. line_played l (behind_moves words)) none ∙ played_none (behind_moves words)
-beginning_refused words NoMemory none = tt
+beginning_refused words NoMemory grows = inl grows
+
+-- and where its moves lead to none
+pub playing_refused : (X : Type 0) (words moves : List (List ℕ)) (line later : Line) (fault : PlaceFault) → begun_by (before_moves words) ≡ Some line → moves ≡ behind_moves words →
+    Places {X = X} (AddsMove (Some line) moves) (line_played (Some line) moves) later (Err fault) → Begins (Grows words) (placed words) (Err fault)
+playing_refused X words moves line later Refused begun is none = ap (λ l. line_played l (behind_moves words)) begun ∙ ap (line_played (Some line)) (sym is) ∙ none
+playing_refused X words moves line later NoMemory begun is adds = inr (rw (begun, ← is) adds)
+
+-- a word of a FEN
+pub fen_grows : (text word : List ℕ) (words others : List (List ℕ)) → text ++ spaced (word ∷ others) ≡ spaced words → names_fen (codes "fen" ∷ words) ≡ true
+fen_grows text word [] others same =
+    let some : length text + (length word + (1 + length (spaced others))) ≡ 0 =
+    sym (length-append text (spaced (word ∷ others)) ∙ ap (λ n. length text + n) (length-append (word ++ codes " ") (spaced others) ∙ ap (λ n. n + length (spaced others)) (length-append word (codes " ")))
+    ∙ omega arith) ∙ ap length same in
+    absurd (omega (arith, some))
+fen_grows text word (x ∷ words) others same = refl

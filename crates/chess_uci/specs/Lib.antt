@@ -4,6 +4,7 @@ pub mod Commands
 pub mod Go
 pub mod Placing
 pub mod Machine
+pub mod Events
 pub mod Replies
 pub mod Laws
 pub mod steps

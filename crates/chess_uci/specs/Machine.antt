@@ -1,5 +1,6 @@
 -- A session as a machine: what each event is replied, and the state that follows.
 --   Event        a line that is read, time for a slice of a search, or a reading of the clock
+--   AsksForMemory   the command asks for memory: a position that needs some
 --   Search       a search that runs
 --   State        the session between two events
 --   beginning    as it begins
@@ -21,7 +22,7 @@ use Rattle.chess_uci.specs.declared.reply.Reply.{Reply}
 use Rattle.chess_uci.specs.declared.reply.Reply.TheVariants.{Name, Author, ClaimsOption, UciOk, ReadyOk, Refused, OutOfMemory, Busy, Info, BestMove}
 use Rattle.chess_uci.specs.Commands.{Command, Idle, Uci, IsReady, NewGame, Position, Unplaced, Go, Stop, Quit, SetOption, asked, without_memory, claims_set}
 use Rattle.chess_uci.specs.Go.{fields, is_named, budget, last_depth}
-use Rattle.chess_uci.specs.Placing.{start_line, placed}
+use Rattle.chess_uci.specs.Placing.{Grows, start_line, placed}
 
 pub data Event : Type 0 where
   Line : List ℕ → Event
@@ -29,6 +30,10 @@ pub data Event : Type 0 where
   Starved : List ℕ → Event
   Slice : Event
   Moment : ℕ → Event
+
+abbrev pub AsksForMemory : Command → Type 0
+AsksForMemory (Position words) = Grows words
+AsksForMemory _ = ⊥
 
 -- A search that runs.
 --   claims     draws that may be claimed count as draws

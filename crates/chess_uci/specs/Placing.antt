@@ -4,7 +4,8 @@
 --   named_move   the legal move that a word names in long algebraic notation
 --   line_played  the line with the moves that the words name, at most 20,000
 --   placed       the line, where there is one
-use Rattle.std.specs.Prelude.{ℕ, Bool, nat_le, if◌then◌else◌, List, [], ◌∷◌, ◌++◌, length, fold, find, Option, Some, None, codes, Result, Ok, Err}
+--   Grows        memory is asked for on the way there: for a FEN, or for a move that is legal and within the limit
+use Rattle.std.specs.Prelude.{◌≡◌, ◌⊎◌, ℕ, Bool, true, false, is_some, nat_le, if◌then◌else◌, List, [], ◌∷◌, ◌++◌, length, fold, find, Option, Some, None, codes, Result, Ok, Err}
 use Rattle.std.specs.List.{flat_map}
 use Rattle.std.specs.Str.{bytes_eq}
 use Rattle.chess_types.specs.board.MoveParts.{MoveParts}
@@ -74,3 +75,19 @@ line_played line words = fold line_with_word line words
 
 abbrev pub placed : List (List ℕ) → Option Line
 placed words = line_played (begun_by (before_moves words)) (behind_moves words)
+
+-- `fen` and a word of a FEN
+abbrev pub names_fen : List (List ℕ) → Bool
+names_fen (word ∷ next ∷ words) = bytes_eq word (codes "fen")
+names_fen _ = false
+
+-- The words up to one of them name legal moves, at most 20,000 of them.
+pub record AddsMove (begun : Option Line) (moves : List (List ℕ)) : Type 0 where
+  pub done : List (List ℕ)
+  pub word : List ℕ
+  pub others : List (List ℕ)
+  pub whole : moves ≡ done ++ word ∷ others
+  pub legal : is_some (line_played begun (done ++ word ∷ [])) ≡ true
+
+abbrev pub Grows : List (List ℕ) → Type 0
+Grows words = (names_fen (before_moves words) ≡ true) ⊎ AddsMove (begun_by (before_moves words)) (behind_moves words)

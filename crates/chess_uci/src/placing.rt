@@ -1,9 +1,9 @@
-ghost use Rattle.std.specs.Prelude.{◌≡◌, ◌++◌, Some, OnOk, IfOk, codes};
+ghost use Rattle.std.specs.Prelude.{◌≡◌, ◌∷◌, ◌++◌, Some, true, is_some, OnErr, OnOk, IfOk, codes};
 ghost use Rattle.chess_types.specs.board.Position.{start};
 ghost use Rattle.chess_types.specs.bytes.Words.{words};
 ghost use Rattle.chess_fen.specs.Reading.{reading};
 ghost use Rattle.chess_uci.specs.Commands.{gaps};
-ghost use Rattle.chess_uci.specs.Placing.{is_moves, before_moves, behind_moves, start_line, spaced, if_read, begun_by, line_with_word, line_played, placed};
+ghost use Rattle.chess_uci.specs.Placing.{is_moves, before_moves, behind_moves, start_line, spaced, if_read, begun_by, line_with_word, line_played, placed, names_fen, AddsMove, Grows};
 ghost use Rattle.chess_uci.specs.steps.Places.{Places, Begins};
 
 use crate::command::GAPS;
@@ -61,7 +61,8 @@ fn add_word<'a, A: Allocator>(text: &mut Vec<u8, &'a A>, word: &[u8]) -> Result<
 
 // The words up to the first `moves`, each with a space behind it.
 fn fen_text<'a, A: Allocator>(alloc: &'a A, text: &[u8]) -> Result<Vec<u8, &'a A>, AllocError>
-    ensures { IfOk result (λ fen. fen.items ≡ spaced (before_moves (words gaps text.now))) }
+    ensures fen { IfOk result (λ fen. fen.items ≡ spaced (before_moves (words gaps text.now))) }
+    ensures grows { OnErr result (names_fen (codes "fen" ∷ before_moves (words gaps text.now)) ≡ true) }
 {
     let mut fen = Vec::new(alloc);
     let mut rest = text;
@@ -81,7 +82,7 @@ fn begin_in<'a, A: Allocator>(
     table: &'a KeyTable,
     text: &[u8],
 ) -> Result<Line<'a, &'a A>, PlaceFault>
-    ensures begun { Begins (if_read (reading (spaced (before_moves (words gaps text.now))))) result }
+    ensures begun { Begins (names_fen (codes "fen" ∷ before_moves (words gaps text.now)) ≡ true) (if_read (reading (spaced (before_moves (words gaps text.now))))) result }
 {
     let Ok(fen) = fen_text(alloc, text) else {
         return Err(PlaceFault::Memory);
@@ -98,7 +99,7 @@ fn begin<'a, A: Allocator>(
     table: &'a KeyTable,
     text: &[u8],
 ) -> Result<Line<'a, &'a A>, PlaceFault>
-    ensures begun { Begins (begun_by (before_moves (words gaps text.now))) result }
+    ensures begun { Begins (names_fen (before_moves (words gaps text.now)) ≡ true) (begun_by (before_moves (words gaps text.now))) result }
 {
     let Some((word, rest)) = split_word(text, GAPS) else {
         return Err(PlaceFault::Refused);
@@ -118,7 +119,7 @@ fn begin<'a, A: Allocator>(
 // The move that the word names in long algebraic notation is made.
 fn play_word<A: Allocator>(line: &mut Line<'_, A>, word: &[u8]) -> Result<(), PlaceFault>
     requires none { line.old.looked ≡ 0 }
-    ensures played { Places (line_with_word (Some line.old.line) word.now) line.new.line result }
+    ensures played { Places (is_some (line_with_word (Some line.old.line) word.now) ≡ true) (line_with_word (Some line.old.line) word.now) line.new.line result }
     ensures looked { line.new.looked ≡ 0 }
 {
     let Some(m) = Move::parse(word) else {
@@ -135,7 +136,7 @@ fn play_word<A: Allocator>(line: &mut Line<'_, A>, word: &[u8]) -> Result<(), Pl
 // The moves that the words name are made.
 fn play<A: Allocator>(line: &mut Line<'_, A>, moves: &[u8]) -> Result<(), PlaceFault>
     requires none { line.old.looked ≡ 0 }
-    ensures played { Places (line_played (Some line.old.line) (words gaps moves.now)) line.new.line result }
+    ensures played { Places (AddsMove (Some line.old.line) (words gaps moves.now)) (line_played (Some line.old.line) (words gaps moves.now)) line.new.line result }
     ensures looked { line.new.looked ≡ 0 }
 {
     let mut rest = moves;
@@ -154,7 +155,7 @@ pub(crate) fn place<'a, A: Allocator>(
     table: &'a KeyTable,
     text: &[u8],
 ) -> Result<Line<'a, &'a A>, PlaceFault>
-    ensures placed { Begins (placed (words gaps text.now)) result }
+    ensures placed { Begins (Grows (words gaps text.now)) (placed (words gaps text.now)) result }
 {
     match begin(alloc, table, text) {
         Ok(mut line) => match play(&mut line, behind_moves(text)) {

@@ -1,10 +1,10 @@
 ghost use Rattle.std.specs.Prelude.{◌≡◌, ◌⊎◌, max, None, true, is_some};
 ghost use Rattle.chess_types.specs.bytes.Words.{words};
 ghost use Rattle.chess_uci.specs.Commands.{gaps, asked as asked_of, claims_set as claims_set_of, without_memory, Unplaced};
-ghost use Rattle.chess_uci.specs.Placing.{placed};
-ghost use Rattle.chess_uci.specs.Machine.{beginning, slice_step, moment_step, line_step, idle_command, placed_at, go, quit, set_claims, introduction, is_infinite, is_waiting, depth_done, so_far, IsAhead};
+ghost use Rattle.chess_uci.specs.Placing.{Grows, placed};
+ghost use Rattle.chess_uci.specs.Machine.{beginning, slice_step, moment_step, line_step, idle_command, placed_at, go, quit, set_claims, introduction, is_infinite, is_waiting, depth_done, so_far, AsksForMemory, IsAhead};
 ghost use Rattle.chess_uci.specs.steps.Commands.{command_of};
-ghost use Rattle.chess_uci.specs.steps.Searches.{Does, Follows};
+ghost use Rattle.chess_uci.specs.Events.{Does, Follows};
 ghost use Rattle.chess_search.specs.Slices.{IsInRange};
 
 use crate::command::{Command, asked, claims_set};
@@ -124,7 +124,7 @@ impl<'a, A: Allocator> Session<'a, A> {
     fn place(&mut self, rest: &[u8]) -> ArrayVec<Reply, 4>
         requires { self.old.search ≡ None }
         ensures { Does (placed_at (placed (words gaps rest.now)) self.old) result.items self.new
-            ⊎ Does (idle_command self.old Unplaced) result.items self.new }
+            ⊎ (Grows (words gaps rest.now) × Does (idle_command self.old Unplaced) result.items self.new) }
     {
         match place(self.alloc, self.table, rest) {
             Ok(line) => {
@@ -179,7 +179,7 @@ impl<'a, A: Allocator> Session<'a, A> {
     fn obey_idle(&mut self, command: Command) -> ArrayVec<Reply, 4>
         requires { self.old.search ≡ None }
         ensures { Does (idle_command self.old (command_of command.entry)) result.items self.new
-            ⊎ Does (idle_command self.old (without_memory (command_of command.entry))) result.items self.new }
+            ⊎ (AsksForMemory (command_of command.entry) × Does (idle_command self.old (without_memory (command_of command.entry))) result.items self.new) }
     {
         match command {
             Command::Idle | Command::Stop => silence(),
@@ -213,7 +213,7 @@ impl<'a, A: Allocator> Session<'a, A> {
     // Obeys a line.
     fn obey(&mut self, line: &[u8]) -> ArrayVec<Reply, 4>
         ensures { Does (line_step self.old self.old.search (asked_of line.now)) result.items self.new
-            ⊎ Does (line_step self.old self.old.search (without_memory (asked_of line.now))) result.items self.new }
+            ⊎ (AsksForMemory (asked_of line.now) × Does (line_step self.old self.old.search (without_memory (asked_of line.now))) result.items self.new) }
     {
         let command = asked(line);
         if self.searching() {
@@ -224,7 +224,7 @@ impl<'a, A: Allocator> Session<'a, A> {
     }
 
     /// What the event is replied, line by line. Nothing is replied after `quit`. A slice searches one root. Memory is taken by a
-    /// `position` line alone, and where it is refused, `OutOfMemory` is replied and nothing changes.
+    /// `position` line alone, for a FEN and for legal moves, and where it is refused, `OutOfMemory` is replied and nothing changes.
     pub fn event(&mut self, event: Event) -> ArrayVec<Reply, 4>
         ensures { Follows self.old event.entry result.items self.new }
     {

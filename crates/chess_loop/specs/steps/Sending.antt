@@ -1,9 +1,11 @@
 -- Texts on their way to a sink: they are gathered on a page, and written when it is full or before more is read.
---   Sent     all of a text is written, but for what stands on the page
---   Flows    whatever was sent before, no more is sent now, or a call failed
---   Sends    whatever was sent before, this text is sent behind it, or a call failed
-use Rattle.std.specs.Prelude.{◌≡◌, ℕ, Bool, List, ◌++◌, Result, Ok, Err}
-use Rattle.chess_types.specs.bytes.Calls.{Carries}
+--   Sent         all of a text is written, but for what stands on the page
+--   Flows        whatever was sent before, no more is sent now, or a call failed
+--   Sends        whatever was sent before, this text is sent behind it, or a call failed
+--   SendsParts   what is on the page and these parts after it are sent, and no more is left on the page than may be unwritten; or a call failed
+use Rattle.std.specs.Prelude.{◌≡◌, ℕ, ◌≤◌, Bool, List, ◌++◌, length, Result, Ok, Err}
+use Rattle.chess_types.specs.bytes.Calls.{Carries, joined}
+use Rattle.chess_loop.specs.Runs.{unwritten}
 use Rattle.chess_loop.specs.RunEnds.{Broken}
 
 module _ {W : Type 0} (takes : W → List ℕ → W → Type 0) (failed : W → Bool) where
@@ -22,3 +24,7 @@ module _ {W : Type 0} (takes : W → List ℕ → W → Type 0) (failed : W → 
 
   abbrev pub Sends : {X E : Type 0} → List ℕ → W → List ℕ → List ℕ → W → Result X E → Type 0
   Sends page old text page1 new result = (start : W) (before : List ℕ) → Sent start before page old → SentOr start (before ++ text) page1 new result
+
+  abbrev pub SendsParts : {X E : Type 0} → List ℕ → W → List (List ℕ) → List ℕ → W → Result X E → Type 0
+  SendsParts page old parts page1 new (Ok x) = Sent old (page ++ joined parts) page1 new × (length page1 ≤ unwritten (length page) parts)
+  SendsParts page old parts page1 new (Err e) = (broken : Broken takes failed old (page ++ joined parts) new) × (length broken.rest ≤ unwritten (length page) parts)

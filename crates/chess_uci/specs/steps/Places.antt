@@ -1,18 +1,18 @@
 -- What the words behind `position` lead to in the code.
---   Places   the line is placed, or there is none; or there is no memory
+--   Places   the line is placed, or there is none; or there is no memory, where `grows` holds
 --   Begins   the same of a line that is handed out, on which no move is looked at
-use Rattle.std.specs.Prelude.{◌≡◌, ⊤, Option, Some, None, Result, Ok, Err}
+use Rattle.std.specs.Prelude.{◌≡◌, Option, Some, None, Result, Ok, Err}
 use Rattle.chess_types.specs.board.Lines.{Line}
 use Rattle.chess_draws.specs.LineParts.{LineParts}
 use Rattle.chess_uci.specs.declared.placing.PlaceFault.{PlaceFault}
 use Rattle.chess_uci.specs.declared.placing.PlaceFault.TheVariants.{Refused, Memory}
 
-abbrev pub Places : {X : Type 0} → Option Line → Line → Result X PlaceFault → Type 0
-Places line now (Ok x) = line ≡ Some now
-Places line now (Err Refused) = line ≡ None
-Places line now (Err Memory) = ⊤
+abbrev pub Places : {X : Type 0} → Type 0 → Option Line → Line → Result X PlaceFault → Type 0
+Places grows line now (Ok x) = line ≡ Some now
+Places grows line now (Err Refused) = line ≡ None
+Places grows line now (Err Memory) = grows
 
-abbrev pub Begins : Option Line → Result LineParts PlaceFault → Type 0
-Begins line (Ok parts) = (line ≡ Some parts.line) × (parts.looked ≡ 0)
-Begins line (Err Refused) = line ≡ None
-Begins line (Err Memory) = ⊤
+abbrev pub Begins : Type 0 → Option Line → Result LineParts PlaceFault → Type 0
+Begins grows line (Ok parts) = (line ≡ Some parts.line) × (parts.looked ≡ 0)
+Begins grows line (Err Refused) = line ≡ None
+Begins grows line (Err Memory) = grows

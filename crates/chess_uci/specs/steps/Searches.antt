@@ -1,29 +1,14 @@
--- The code's events, searches and turns as those of the machine.
---   event_of, starved   an event; the same where memory is refused
+-- The code's searches and turns as those of the machine.
 --   search_of, seen     a search that runs, or none
 --   turn_of             what a turn replies and leaves
 --   GoesOn, IsGoing     the search is one of the line, and where it has no root left it is infinite
 --   HasStarted          it has begun at the moment or before
---   Does, Follows       the replies and the new state are those of a step, or of an event
-use Rattle.std.specs.Prelude.{◌≡◌, ⊤, ℕ, ◌+◌, ◌≤◌, Bool, true, false, ◌⊎◌, List, length, Option, Some, None, option_map}
+use Rattle.std.specs.Prelude.{◌≡◌, ⊤, ℕ, ◌+◌, ◌≤◌, Bool, true, false, length, Option, Some, None, option_map}
 use Rattle.chess_types.specs.board.Lines.{Line as GameLine}
 use Rattle.chess_search.specs.Slices.{GoesWith}
-use Rattle.chess_uci.specs.declared.reply.Reply.{Reply}
 use Rattle.chess_uci.specs.declared.search.Search.{Search as Code}
 use Rattle.chess_uci.specs.declared.search.Turn.{Turn as TurnCode}
-use Rattle.chess_uci.specs.declared.event.Event.{Event as EventCode}
-use Rattle.chess_uci.specs.declared.event.Event.TheVariants.{Line as LineCode, Slice as SliceCode, Moment as MomentCode}
-use Rattle.chess_uci.specs.Machine.{Search, State, Step, Turn, Event, Line, Slice, Moment, Starved, step}
-
-abbrev pub event_of : EventCode → Event
-event_of (LineCode line) = Line line.now
-event_of SliceCode = Slice
-event_of (MomentCode moment) = Moment moment
-
-abbrev pub starved : EventCode → Event
-starved (LineCode line) = Starved line.now
-starved SliceCode = Slice
-starved (MomentCode moment) = Moment moment
+use Rattle.chess_uci.specs.Machine.{Search, Turn}
 
 abbrev pub search_of : Code → Search
 search_of x = record {
@@ -62,10 +47,3 @@ IsGoing line (Some x) = GoesOn line x
 abbrev pub HasStarted : ℕ → Option Code → Type 0
 HasStarted moment None = ⊤
 HasStarted moment (Some x) = x.begin ≤ moment
-
-abbrev pub Does : Step → List Reply → State → Type 0
-Does t replies new = (replies ≡ t.0) × (new ≡ t.1)
-
--- the replies and the new state are those of the event, or of the event for which memory is refused
-abbrev pub Follows : State → EventCode → List Reply → State → Type 0
-Follows old event replies new = Does (step old (event_of event)) replies new ⊎ Does (step old (starved event)) replies new

@@ -9,7 +9,7 @@ returns-in-Err-finish-clause-write_fault g c = λ _.
     c.loop-turn.engine c.finish.new.engine c.loop-turn.line
     c.args.reader.now c.loop-turn.reader c.read.new.self c.args.writer.now c.loop-turn.writer c.finish.new.writer c.in-Err-finish.field-0
     c.loop-turn.invariant.underway (rw c.in-Ok-eq0.field-0-test at c.in-Ok-eq0.ensures.gives) c.in-Ok-eq0.ensures.failed (c.in-Ok-eq0.ensures.ended c.in-Ok-eq0.field-0-test (omega arith))
-    c.in-Err-finish.ensures
+    c.loop-turn.invariant.awake c.in-Err-finish.ensures
 
 pub returns-in-Ok-eq0-clause-good : goal.returns-in-Ok-eq0-clause-good
 returns-in-Ok-eq0-clause-good g c = λ _. inl (
@@ -17,7 +17,7 @@ returns-in-Ok-eq0-clause-good g c = λ _. inl (
     c.loop-turn.engine c.finish.new.engine c.loop-turn.line
     c.args.reader.now c.loop-turn.reader c.read.new.self c.args.writer.now c.loop-turn.writer c.finish.new.writer
     c.loop-turn.invariant.underway (rw c.in-Ok-eq0.field-0-test at c.in-Ok-eq0.ensures.gives) c.in-Ok-eq0.ensures.failed (c.in-Ok-eq0.ensures.ended c.in-Ok-eq0.field-0-test (omega arith))
-    c.in_default.ensures)
+    c.loop-turn.invariant.awake c.in_default.ensures)
 
 pub returns-in-Err-feed-clause-write_fault : goal.returns-in-Err-feed-clause-write_fault
 returns-in-Err-feed-clause-write_fault g c = λ _.
@@ -25,7 +25,7 @@ returns-in-Err-feed-clause-write_fault g c = λ _.
     c.loop-turn.engine c.feed.new.engine c.loop-turn.line c.feed.new.line
     c.args.reader.now c.loop-turn.reader c.read.new.self c.args.writer.now c.loop-turn.writer c.feed.new.writer
     (take c.in-Ok.count c.read.new.buf) [] c.in-Err-feed.field-0
-    c.loop-turn.invariant.underway c.in-Ok.ensures.gives c.in-Ok.ensures.failed c.in-Err-feed.ensures.fed
+    c.loop-turn.invariant.underway c.in-Ok.ensures.gives c.in-Ok.ensures.failed c.loop-turn.invariant.awake c.in-Err-feed.ensures.fed
 
 pub returns-then-is_over-clause-good : goal.returns-then-is_over-clause-good
 returns-then-is_over-clause-good g c = λ _. inr (
@@ -33,7 +33,7 @@ returns-then-is_over-clause-good g c = λ _. inr (
     c.loop-turn.engine c.feed.new.engine c.loop-turn.line c.feed.new.line
     c.args.reader.now c.loop-turn.reader c.read.new.self c.args.writer.now c.loop-turn.writer c.feed.new.writer
     (take c.in-Ok.count c.read.new.buf)
-    c.loop-turn.invariant.underway c.in-Ok.ensures.gives c.in-Ok.ensures.failed c.in_default-feed.ensures.fed (sym c.is_over.ensures ∙ c.if-is_over.true))
+    c.loop-turn.invariant.underway c.in-Ok.ensures.gives c.in-Ok.ensures.failed c.loop-turn.invariant.awake c.in_default-feed.ensures.fed (sym c.is_over.ensures ∙ c.if-is_over.true))
 
 pub loop-turn-preserved : goal.loop-turn-preserved
 loop-turn-preserved g c = record {

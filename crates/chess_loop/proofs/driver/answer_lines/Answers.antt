@@ -1,6 +1,6 @@
 use Rattle.std.proofs.Common.{arith}
 use Rattle.std.proofs.lemmas.Grind.{common_steps}
-use Rattle.chess_loop.proofs.FeedLemmas.{going_start, going_room, going_on, going_over, going_stops, going_ends}
+use Rattle.chess_loop.proofs.FeedLemmas.{going_start, going_room, going_cramped, going_on, going_over, going_stops, going_ends}
 use Rattle.chess_loop.proofs.driver.answer_lines.Goals as goal
 
 pub loop-at-init : goal.loop-at-init
@@ -10,6 +10,13 @@ loop-at-init g c = record {
       c.args.engine.now c.args.line.now c.args.writer.now c.args.page.now c.requires.empty holds;
   awake = c.requires.awake;
 }
+
+pub returns-in-Err : goal.returns-in-Err
+returns-in-Err g c = λ begun holds.
+    going_cramped g.E.Engine.step g.E.Engine.cut g.E.Engine.over g.W.Sink.takes g.W.Sink.failed begun c.args.piece.now
+    c.args.engine.now c.loop-at.engine c.loop-at.line c.add.new.self c.args.writer.now c.loop-at.writer c.make_room.new.writer
+    c.loop-at.page c.make_room.new.self c.make_room.new.self c.loop-at.rest.now c.in-Err.failed
+    (c.loop-at.invariant.going begun holds) c.in-Err.ensures.flows
 
 pub returns-in-Err-answer_line : goal.returns-in-Err-answer_line
 returns-in-Err-answer_line g c = λ begun holds.

@@ -1,8 +1,8 @@
 use Rattle.std.proofs.Common.{Err, subst}
 use Rattle.chess_draws.specs.declared.fault.LineFault.{LineFault}
-use Rattle.chess_draws.specs.declared.fault.LineFault.TheVariants.{Illegal, TooLong}
+use Rattle.chess_draws.specs.declared.fault.LineFault.TheVariants.{Illegal, TooLong, Memory}
 use Rattle.chess_draws.specs.Pushes.{AnswersPush}
-use Rattle.chess_uci.proofs.PlaceLemmas.{word_unread, word_played, word_illegal, word_too_long, pushed_ok, pushed_refused}
+use Rattle.chess_uci.proofs.PlaceLemmas.{word_unread, word_played, word_illegal, word_too_long, word_grows, pushed_ok, pushed_refused}
 use Rattle.chess_uci.proofs.placing.play_word.Goals as goal
 
 pub returns-in_default-clause-played : goal.returns-in_default-clause-played
@@ -23,3 +23,8 @@ returns-in-Err-TooLong-clause-played g c =
     word_too_long c.args.line.now.line c.args.word.now c.in-Some.m c.in-Some.ensures.complete c.in-Some.ensures.sound
     c.in-Some.ensures.on_board.0 c.in-Some.ensures.on_board.1
     (pushed_refused c.args.line.now c.in-Some.m TooLong (subst (λ (fault : LineFault). AnswersPush c.args.line.now c.in-Some.m (Err fault)) c.in-Err-TooLong.field-0-is c.in-Err-TooLong.ensures.answer) (λ e. cc))
+
+pub returns-in-Err-Memory-clause-played : goal.returns-in-Err-Memory-clause-played
+returns-in-Err-Memory-clause-played g c =
+    word_grows c.args.line.now c.args.word.now c.in-Some.m c.in-Some.ensures.complete c.in-Some.ensures.sound c.in-Some.ensures.on_board.0 c.in-Some.ensures.on_board.1
+    (subst (λ (fault : LineFault). AnswersPush c.args.line.now c.in-Some.m (Err fault)) c.in-Err-Memory.field-0-is c.in-Err-Memory.ensures.answer)

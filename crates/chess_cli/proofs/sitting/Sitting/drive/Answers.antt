@@ -26,7 +26,7 @@ loop-page-preserved g c =
     let moment = c.look_at_the_clock-in-loop-page.ensures.happened in
     goes_on g.C.Clock.reads g.W.Sink.takes g.W.Sink.failed c.args.line.now c.args.self.now c.loop-page.self c.happen-in-loop-page.new.self c.look_at_the_clock-in-loop-page.new.self
     c.args.page.now c.loop-page.page c.flush.new.self c.happen-in-loop-page.new.page c.look_at_the_clock-in-loop-page.new.page c.args.writer.now c.loop-page.writer c.flush.new.writer moment.0
-    c.loop-page.invariant (sym c.loop-page-test.ensures.value) c.in_default.ensures.flows c.happen-in-loop-page.ensures.happened c.happen-in-loop-page.ensures.clock moment.1 moment.2
+    c.loop-page.invariant (sym c.loop-page-test.ensures.value) c.in_default.ensures.flows c.in_default.ensures.empty c.happen-in-loop-page.ensures.happened c.happen-in-loop-page.ensures.clock moment.1 moment.2
 
 pub returns : goal.returns
 returns g c =
