@@ -205,7 +205,7 @@ fn ends_at_twenty_thousand_plies(rt: HostRuntime) {
         push_all(&rt, &mut line, &ROUND);
     }
     run(&rt, &mut line, ENDED);
-    assert!(rt; LineFault::TooLong as u8 == 2);
+    assert!(rt; LineFault::TooLong.number() == 2);
 }
 
 /// Looks at the move of a text, which is its text, at how often the position has then come, and at how many plies were compared.

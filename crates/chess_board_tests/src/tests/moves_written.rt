@@ -149,6 +149,6 @@ const FAULTS: &[(SanFault, u8)] = &[
 #[test]
 fn faults_have_numbers(rt: HostRuntime) {
     for (fault, number) in FAULTS {
-        assert!(rt; *fault as u8 == *number, "{fault}");
+        assert!(rt; fault.number() == *number, "{fault}");
     }
 }
