@@ -318,16 +318,19 @@ fn assert_told_again<A: Allocator>(rt: &impl Abort, alloc: &A, table: &KeyTable)
     let wanted = refused(2, FaultKind::Variation);
     let mut games = Games::new(alloc, table, FromBytes::new(b"* (1. e4) *", 1));
     let (count, fault) = count_games(&mut games, 3);
-    assert!(rt; count == 1 && fault == wanted);
+    assert!(rt; count == 1);
+    assert!(rt; fault == wanted);
     let (count, fault) = count_games(&mut games, 3);
-    assert!(rt; count == 0 && fault == wanted);
+    assert!(rt; count == 0);
+    assert!(rt; fault == wanted);
 }
 
 #[test]
 fn a_fault_is_told_again(rt: HostRuntime) {
     assert_told_again(&rt, &rt.alloc(), &a_table());
     let none = all_games(&rt.alloc(), &a_table(), b"", 1);
-    assert!(&rt; none.0 == 0 && none.1.is_none());
+    assert!(&rt; none.0 == 0);
+    assert!(&rt; none.1.is_none());
 }
 
 /// Games come one after another, however the source cuts them; a fault's place is counted from the source's beginning.

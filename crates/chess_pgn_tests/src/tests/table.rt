@@ -383,11 +383,12 @@ fn assert_row<A: Allocator>(
     input: &[u8],
     wanted: &[u8],
 ) -> Result<(), AllocError> {
-    for piece in [1, 4_096, 65_536] {
-        assert_written(rt, alloc, table, input, wanted, piece)?;
-        assert_written(rt, alloc, table, wanted, wanted, piece)?;
-    }
-    Ok(())
+    assert_written(rt, alloc, table, input, wanted, 1)?;
+    assert_written(rt, alloc, table, input, wanted, 4_096)?;
+    assert_written(rt, alloc, table, input, wanted, 65_536)?;
+    assert_written(rt, alloc, table, wanted, wanted, 1)?;
+    assert_written(rt, alloc, table, wanted, wanted, 4_096)?;
+    assert_written(rt, alloc, table, wanted, wanted, 65_536)
 }
 
 /// Each collection of the table, and all of them in one, with white space between that is longer than a read.
