@@ -1,10 +1,10 @@
 -- A run goes on by reads, and ends.
-use Rattle.std.proofs.Common.{◌≡◌, ℕ, ◌+◌, ◌<◌, ◌≤◌, ◌⊎◌, Bool, true, false, ◌||◌, true≢false, inl, inr, List, [], ◌∷◌, ◌++◌, length, length-append, Ok, Err, refl, sym, ap, ◌∙◌, append_assoc, append-nil, arith}
+use Rattle.std.proofs.Common.{◌≡◌, ℕ, ◌+◌, ◌<◌, ◌≤◌, ◌⊎◌, Bool, true, false, ◌||◌, true≢false, inl, inr, List, [], ◌∷◌, ◌++◌, length, length-append, Ok, Err, refl, sym, ap, ◌∙◌, append-nil, arith}
 use Rattle.std.specs.List.{AllByRecursion}
 use Rattle.chess_types.specs.bytes.Calls.{Calls, Carries, joined}
 use Rattle.chess_types.specs.declared.bytes.source.Failed.{Failed}
 use Rattle.chess_types.proofs.CallLemmas.{Calls-more, joined-more, Carries-append}
-use Rattle.chess_loop.specs.RunEnds.{IsFront, EndsGood, EndsOver, EndsWriteFault}
+use Rattle.chess_loop.specs.RunEnds.{EndsGood, EndsOver, EndsWriteFault}
 use Rattle.chess_loop.specs.InputLines.{ended_lines, unfinished, last_line}
 use Rattle.chess_loop.specs.Runs.{Runs, Partly, Whole}
 use Rattle.chess_loop.specs.steps.Reads.{Holds, Feeds, Finishes}

@@ -1,5 +1,5 @@
 -- Runs go on by runs, and are told by other steps.
-use Rattle.std.proofs.Common.{◌≡◌, ℕ, List, [], ◌∷◌, ◌++◌, refl, sym, ap, ◌∙◌, subst, append_assoc, append-nil}
+use Rattle.std.proofs.Common.{ℕ, List, [], ◌∷◌, ◌++◌, refl, sym, ap, ◌∙◌, subst, append_assoc, append-nil}
 use Rattle.chess_types.specs.bytes.Calls.{joined}
 use Rattle.chess_loop.specs.Runs.{Runs, InOne, Whole, Counted}
 

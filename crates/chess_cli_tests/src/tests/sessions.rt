@@ -13,9 +13,9 @@ pub struct Ticking {
 }
 
 impl Clock for Ticking {
-    ghost use Rattle.std.specs.Prelude.{◌≡◌};
+    ghost use Rattle.std.specs.Prelude.{◌≡◌, ◌+◌, ◌%◌, ◌^◌};
 
-    ghost reads = { λ c moment d. c.reading ≡ moment };
+    ghost reads = { λ c moment d. (moment ≡ c.reading) × (d.reading ≡ (c.reading + c.step) % (2 ^ 64)) × (d.step ≡ c.step) };
 
     fn now_ms(&mut self) -> u64 {
         let reading = self.reading;
@@ -175,4 +175,44 @@ fn stops_at_a_failing_write(rt: HostRuntime) -> Result<(), Fail> {
         }
     }
     Ok(())
+}
+
+/// A clock that stands still, and counts how often it is read.
+#[derive(Drop)]
+struct Counting<'c> {
+    readings: &'c mut u64,
+}
+
+impl Clock for Counting<'_> {
+    ghost use Rattle.std.specs.Prelude.{◌≡◌};
+
+    ghost reads = { λ c moment d. moment ≡ 0 };
+
+    fn now_ms(&mut self) -> u64 {
+        *self.readings = self.readings.saturating_add(1);
+        0
+    }
+}
+
+/// How often the clock is read before the first write, which fails.
+fn readings_before_a_write<A: Allocator>(rt: &impl Abort, alloc: A, input: &[u8]) -> u64 {
+    let mut readings = 0;
+    let mut reader = FromBytes::new(input, 100);
+    let mut room = [0; 100];
+    let mut writer = ToBytes::refusing_after(&mut room, 100, 0, Refusal::Fails);
+    let clock = Counting {
+        readings: &mut readings,
+    };
+    let ended = uci(alloc, &mut reader, &mut writer, clock);
+    assert!(rt; ended == Ended::WriteFault);
+    readings
+}
+
+/// What was replied is written before the next slice: `readyok` before the first, and the report of depth 1 before the 21st.
+#[test]
+fn writes_before_it_searches_on(rt: HostRuntime) {
+    let told = readings_before_a_write(&rt, rt.alloc(), b"go depth 3\n");
+    assert!(rt; told == 21);
+    let ready = readings_before_a_write(&rt, rt.alloc(), b"isready\ngo depth 3\n");
+    assert!(rt; ready == 2);
 }

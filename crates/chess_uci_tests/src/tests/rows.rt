@@ -308,7 +308,13 @@ fn is_game_refused<A: Allocator>(session: &mut Session<'_, A>) -> bool {
     session.event(Event::Line(GAME)).as_slice() == [Reply::OutOfMemory].as_slice()
 }
 
-/// The game is set while so many bytes of the heap are free: whether a growth was refused.
+const AGAIN: &[Row] = &[
+    Line(GAME, &[]),
+    Line(b"go depth 1", &[]),
+    Line(b"stop", &[b"bestmove b1a3"]),
+];
+
+/// The game is set while so many bytes of the heap are free: whether a growth was refused. Then it is set as usual, once they are free again.
 fn is_starved_at(
     rt: &impl Abort,
     heap: &LocalHeap,
@@ -316,9 +322,13 @@ fn is_starved_at(
     free: usize,
 ) -> Result<bool, AllocError> {
     let taken = 20_000usize.saturating_sub(heap.used()).saturating_sub(free);
-    let _hog: Vec<u8, _> = Vec::with_capacity(heap, taken)?;
+    let hog: Vec<u8, _> = Vec::with_capacity(heap, taken)?;
     let starved = is_game_refused(session);
     run(rt, session, if starved { BEST } else { GOES });
+    drop(hog);
+    if starved {
+        run(rt, session, AGAIN);
+    }
     Ok(starved)
 }
 
@@ -448,4 +458,37 @@ const FOUR_DEEP: &[Row] = &[
 fn goes_four_plies_deep_or_as_time_allows(rt: HostRuntime) {
     session_laws();
     run_all(&rt, &rt.alloc(), FOUR_DEEP);
+}
+
+/// Appends the text so many times.
+fn put_times<A: Allocator>(
+    out: &mut Vec<u8, A>,
+    text: &[u8],
+    times: u32,
+) -> Result<(), AllocError> {
+    for _ in 0..times {
+        out.extend_from_slice(text)?;
+    }
+    Ok(())
+}
+
+const LONGEST_KEPT: &[Row] = &[
+    Line(b"go depth 1", &[]),
+    Slices(20, &[b"info depth 1 score cp 8 pv a2a4", b"bestmove a2a4"]),
+];
+
+/// A `position` line has 20,000 plies at most; one more is refused, and the line is kept, in which only a pawn's move is no draw.
+#[test]
+fn places_twenty_thousand_plies(rt: HostRuntime) -> Result<(), Fail> {
+    let alloc = rt.alloc();
+    let table = KeyTable::new([1; 768]);
+    let mut session = Session::new(&alloc, &table);
+    let mut text = Vec::new(&alloc);
+    text.extend_from_slice(b"position startpos moves")?;
+    put_times(&mut text, b" g1f3 g8f6 f3g1 f6g8", 5_000)?;
+    assert!(rt; is_told(&mut session, Event::Line(text.as_slice()), &[]));
+    text.extend_from_slice(b" g1f3")?;
+    assert!(rt; is_told(&mut session, Event::Line(text.as_slice()), REFUSED));
+    run(&rt, &mut session, LONGEST_KEPT);
+    Ok(())
 }

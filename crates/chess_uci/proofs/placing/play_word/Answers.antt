@@ -1,6 +1,6 @@
 use Rattle.std.proofs.Common.{Err, subst}
 use Rattle.chess_draws.specs.declared.fault.LineFault.{LineFault}
-use Rattle.chess_draws.specs.declared.fault.LineFault.TheVariants.{Illegal, TooLong, Memory}
+use Rattle.chess_draws.specs.declared.fault.LineFault.TheVariants.{Illegal, TooLong}
 use Rattle.chess_draws.specs.Pushes.{AnswersPush}
 use Rattle.chess_uci.proofs.PlaceLemmas.{word_unread, word_played, word_illegal, word_too_long, word_grows, pushed_ok, pushed_refused}
 use Rattle.chess_uci.proofs.placing.play_word.Goals as goal
