@@ -10,13 +10,15 @@ use std::alloc::Allocator;
 use std::process::Abort;
 use std::test::Fail;
 
-/// Repetitions of the start position, claims, an evaluation and the best move.
+/// Repetitions of a position with a target that nobody can take on, and of the start position, claims, an evaluation and the best move.
 const GAME: &[u8] = b"\
+play e4\nplay Nf6\nplay Nf3\nplay Ng8\nplay Ng1\nfen\ncount\nnew\n\
 play g1f3\nplay g8f6\nplay f3g1\nplay f6g8\ncount\nstatus\nclaims\nplay b1c3\nplay b8c6\nplay c3b1\nplay c6b8\ncount\nclaims\n\
 play g1f3\nplay g8f6\nplay f3g1\nplay f6g8\nplay g1f3\nplay g8f6\nplay f3g1\nplay f6g8\ncount\nstatus\nset 4k3/8/8/8/8/8/8/R3K2R w KQ - 0 1\n\
 eval\nmoves\nbest 2\n";
 
 const ANSWERS: &[u8] = b"\
+ok\nok\nok\nok\nok\nrnbqkbnr/pppppppp/8/8/4P3/8/PPPP1PPP/RNBQKBNR b KQkq - 4 3\n2\nok\n\
 ok\nok\nok\nok\n2\nplay\nnone\nok\nok\nok\nok\n3\nthreefold\nok\nok\nok\nok\nok\nok\nok\nok\n5\nfivefold\nok\n";
 
 /// The board answers the game alike.
