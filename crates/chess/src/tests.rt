@@ -1,4 +1,6 @@
+use crate::clock::MachineClock;
 use crate::words::{Asked, Refused, parse_words};
+use chess_cli::Clock;
 
 fn is_refused(asked: Result<Asked, Refused>) -> bool {
     matches!(asked, Err(Refused::Words(_)))
@@ -36,4 +38,20 @@ fn help_is_asked_for(rt: HostRuntime) {
         return;
     };
     assert!(rt; text.contains("Lines of board:"));
+}
+
+/// The clock counts milliseconds: no reading is less than the one before, and soon one is at least 20.
+#[test]
+fn the_clock_goes_on(rt: HostRuntime) {
+    let mut clock = MachineClock::new(&rt);
+    let mut last = 0;
+    for _ in 0..10_000_000u32 {
+        let now = clock.now_ms();
+        assert!(rt; last <= now);
+        if now >= 20 {
+            return;
+        }
+        last = now;
+    }
+    assert!(rt; false);
 }
