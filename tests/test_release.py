@@ -1,7 +1,7 @@
 """The released program is what the sources give, and ./chess runs it there and nowhere else."""
 import hashlib
 import os
-import re
+import pty
 import shutil
 import subprocess
 import tempfile
@@ -122,6 +122,16 @@ class TheCommand(unittest.TestCase):
 
     def test_a_clone_answers_without_the_kit(self):
         self.assertEqual(self.answers(), (0, "ok\n0\n", ""))
+
+    def test_a_greeting_at_a_terminal(self):
+        ours, terminal = pty.openpty()
+        self.addCleanup(os.close, ours)
+        session = subprocess.Popen([f"{self.top}/chess", "board"], stdin=terminal, stdout=subprocess.PIPE, stderr=subprocess.PIPE, text=True, env=BARE)
+        os.close(terminal)
+        os.write(ours, b"eval\n\x04")
+        output, error = session.communicate(timeout=runs.MOST_SECONDS)
+        self.assertEqual(output, "0\n")
+        self.assertRegex(error, r"\AType `new`.* --help .*Ctrl-D ends\.\n\Z")
 
     def test_by_a_link_from_another_folder(self):
         with tempfile.TemporaryDirectory() as folder:
