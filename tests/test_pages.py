@@ -9,7 +9,7 @@ import runs
 PAGES = ["README.md", "CONTRIBUTING.md", *sorted(glob.glob("docs/*.md", root_dir=runs.TOP))]
 
 # Words that no source has: commands of the machine, letters of men and moves, a move that is not read, and a name that stands for others.
-ELSEWHERE = {"bash", "cc", "git", "parallel", "polyglot", "sed", "stockfish", "valgrind", "xboard", "Z0", "After-f", "NAME"}
+ELSEWHERE = {"bash", "cc", "git", "parallel", "pgn-extract", "polyglot", "sed", "stockfish", "valgrind", "xboard", "Z0", "After-f", "NAME"}
 LETTERS = re.compile(r"[PNBRQK]+|[pnbrqk]+|[PNBRQKpnbrqk]{12}|([a-h][1-8]){2}")
 
 
