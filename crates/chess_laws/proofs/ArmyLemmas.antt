@@ -23,7 +23,8 @@ use Rattle.chess_play.proofs.Promotions.{colour_kept}
 use Rattle.chess_play.proofs.Carried.{carried_census}
 use Rattle.chess_play.proofs.Castled.{ready, rook_census}
 use Rattle.chess_moves.proofs.Candidates.{pseudo_names}
-use Rattle.chess_moves.proofs.LegalLaws.{listed_legal, legal_well_formed}
+use Rattle.chess_moves.proofs.LegalLaws.{listed_legal}
+use Rattle.chess_laws.proofs.ListedLemmas.{stays_well}
 use Rattle.chess_laws.specs.DeadLaws.{AreListed}
 use Rattle.chess_laws.specs.MoveLaws.{how_many, IsArmy}
 
@@ -183,5 +184,4 @@ pub armies_stay : (p : State) (moves : List MoveParts) → IsWellFormed p → Ar
 armies_stay p [] well h c before = before
 armies_stay p (m ∷ moves) well h c before =
     let x = moved p m h.0 in
-    let (on, legal) = listed_legal p m h.0 in
-    armies_stay (after p m) moves (legal_well_formed p m well.setup on.from on.to legal) h.1 c (army p m x.man well.setup x.from x.to x.here x.pseudo c before)
+    armies_stay (after p m) moves (stays_well p m well h.0) h.1 c (army p m x.man well.setup x.from x.to x.here x.pseudo c before)

@@ -18,7 +18,8 @@ use Rattle.chess_types.specs.board.Repetition.{takes_target}
 use Rattle.chess_types.proofs.MoveLemmas.{legal_pseudo, pseudo_man}
 use Rattle.chess_play.proofs.Facts.{never}
 use Rattle.chess_play.proofs.Setups.{untouched}
-use Rattle.chess_moves.proofs.LegalLaws.{listed_legal, legal_well_formed}
+use Rattle.chess_moves.proofs.LegalLaws.{listed_legal}
+use Rattle.chess_laws.proofs.ListedLemmas.{stays_well}
 use Rattle.chess_laws.specs.DeadLaws.{AreListed}
 use Rattle.chess_laws.specs.MoveLaws.{black_moves}
 
@@ -30,9 +31,6 @@ mover p m listed = pseudo_man p m (legal_pseudo p m (listed_legal p m listed).1)
 then_by : (p : State) (m : MoveParts) (man : Man) → look p m.from ≡ Some man → after p m ≡ after_by p (Some man) m
 unfolding after
 then_by p m man here = ap (λ o. after_by p o m) here
-
-stays_well : (p : State) (m : MoveParts) → IsWellFormed p → Contains (legal_moves p) m → IsWellFormed (after p m)
-stays_well p m well listed = let (on, legal) = listed_legal p m listed in legal_well_formed p m well.setup on.from on.to legal
 
 -- a right that is held was held before
 pub rights_are_lost : (p : State) (moves : List MoveParts) → IsWellFormed p → AreListed p moves → (c : Colour) (w : Wing) →

@@ -31,9 +31,10 @@ use Rattle.chess_attack.proofs.KingSteps.{check_there}
 use Rattle.chess_attack.proofs.Lifted.{OnlyKing, only_king, not_attacked, check_from, no_check}
 use Rattle.chess_play.proofs.Facts.{never}
 use Rattle.chess_play.proofs.Setups.{setup_after_move}
-use Rattle.chess_moves.proofs.LegalLaws.{legal_listed, listed_legal, legal_well_formed}
+use Rattle.chess_moves.proofs.LegalLaws.{legal_listed}
 use Rattle.chess_laws.specs.DeadLaws.{AreListed, is_mate}
 use Rattle.chess_laws.proofs.SquareColours.{tone, beside, bishop_tone, knight_tone, escapes, escape}
+use Rattle.chess_laws.proofs.ListedLemmas.{listed_some, stays_well, twice}
 use Rattle.chess_laws.proofs.DeadLemmas.{IsLone, IsBishops, dead_is, lone_dead, dead_stays, now_here, now_gone, now_there}
 
 -- a test that some square meets
@@ -70,10 +71,6 @@ attacker men c s h =
 other_colour : (c : Colour) → same_colour c (opponent c) ≡ false
 other_colour White = refl
 other_colour Black = refl
-
-twice : (c : Colour) → opponent (opponent c) ≡ c
-twice White = refl
-twice Black = refl
 
 -- each colour is the one or the other
 one_or_other : (d c : Colour) → same_colour d c ≡ false → same_colour d (opponent c) ≡ true
@@ -377,11 +374,6 @@ module _ (p : State) (k j e : ℕ) (well : IsWellFormed p) (dead : is_dead p ≡
   has_move : Contains (legal_moves p) go
   has_move = legal_listed p go (record { from = way.own.on_board; to = way.inside }) legal
 
--- a list with a move isn't without one
-listed_some : (moves : List MoveParts) (m : MoveParts) → Contains moves m → is_without moves ≡ false
-listed_some [] m h = absurd (omega (arith, h.1))
-listed_some (x ∷ moves) m h = refl
-
 -- no dead position is mate
 pub dead_no_mate : (p : State) → IsWellFormed p → is_dead p ≡ true → is_mate p ≡ false
 dead_no_mate p well dead =
@@ -396,8 +388,7 @@ dead_no_mate p well dead =
 pub dead_forever : (p : State) (moves : List MoveParts) → IsWellFormed p → is_dead p ≡ true → AreListed p moves → is_mate (play p moves) ≡ false
 dead_forever p [] well dead h = dead_no_mate p well dead
 dead_forever p (m ∷ moves) well dead h =
-    let (on, legal) = listed_legal p m h.0 in
-    dead_forever (after p m) moves (legal_well_formed p m well.setup on.from on.to legal) (dead_stays p m well h.0 dead) h.1
+    dead_forever (after p m) moves (stays_well p m well h.0) (dead_stays p m well h.0 dead) h.1
 
 -- each man is a king or another
 sorts : (there : Option Man) →

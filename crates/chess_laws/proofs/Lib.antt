@@ -1,3 +1,4 @@
+pub mod ListedLemmas
 pub mod SquareColours
 pub mod DeadLemmas
 pub mod EscapeLemmas

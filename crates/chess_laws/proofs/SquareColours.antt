@@ -22,7 +22,7 @@ unfolding squares
 at_two test all a b ha hb = list_all_at (test a) 0 64 b (list_all_at (λ x. list_all (test x) squares) 0 64 a all (omega arith) (omega arith)) (omega arith) (omega arith)
 
 -- where a test implies another
-implied : (x y : Bool) → (not x || y) ≡ true → x ≡ true → y ≡ true
+pub implied : (x y : Bool) → (not x || y) ≡ true → x ≡ true → y ≡ true
 implied true y h e = h
 implied false y h e = absurd (true≢false (sym e))
 

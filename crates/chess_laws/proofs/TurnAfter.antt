@@ -1,5 +1,5 @@
 -- The position after a move seen from the other side, legal moves there, and mate.
-use Rattle.std.proofs.Common.{◌≡◌, ◌≢◌, ℕ, ◌+◌, ◌*◌, ◌/◌, ◌<◌, ◌==◌, Bool, true, false, not, ◌&&◌, ◌||◌, List, [], ◌∷◌, Option, Some, None, is_some, if◌then◌else◌, refl, sym, ap, subst, ◌∙◌, arith, inl, inr}
+use Rattle.std.proofs.Common.{◌≡◌, ◌≢◌, ℕ, ◌+◌, ◌*◌, ◌/◌, ◌<◌, ◌==◌, Bool, true, false, not, ◌&&◌, ◌||◌, Option, Some, None, is_some, if◌then◌else◌, refl, sym, ap, subst, ◌∙◌, arith, inl, inr}
 use Rattle.std.specs.Prelude.{option_map}
 use Rattle.std.specs.FinMap.{insert, remove}
 use Rattle.std.specs.List.{Contains}
@@ -29,7 +29,8 @@ use Rattle.chess_moves.proofs.LegalLaws.{legal_listed, listed_legal}
 use Rattle.chess_eval.specs.Mirror.{across, recoloured, IsMirror}
 use Rattle.chess_laws.specs.DeadLaws.{is_mate}
 use Rattle.chess_laws.specs.MirrorLaws.{turned, IsTurned}
-use Rattle.chess_laws.proofs.SquareColours.{on_all, at_two}
+use Rattle.chess_laws.proofs.ListedLemmas.{first_of, listed_some}
+use Rattle.chess_laws.proofs.SquareColours.{at_two, implied, on_all}
 use Rattle.chess_laws.proofs.AcrossLemmas.{across_inside, across_same, across_twice, bools}
 use Rattle.chess_laws.proofs.TurnLemmas.{check_across, there_across}
 use Rattle.chess_laws.proofs.TurnMoves.{castles_to_across, crossed_across, king_across, king_inside, pseudo_turns, rook_across, target_across, target_inside}
@@ -63,10 +64,6 @@ mirror_clear B C x y hx is mirror s hs =
           clear_there C y s other ∙ mirror s hs ∙ sym (ap recoloured (clear_there B x (across s) away))
     ]
 
-twice : (c : Colour) → opponent (opponent c) ≡ c
-twice White = refl
-twice Black = refl
-
 same_files : (a b : ℕ) → a < 64 → b < 64 → (file_of (across a) == file_of (across b)) ≡ (file_of a == file_of b)
 same_files a b ha hb = grind (arith, nat_tests)
 
@@ -93,10 +90,6 @@ advance_across a b ha hb =
     × ((not (b == a + 16 || a == b + 16) || (across a + across b) / 2 == across ((a + b) / 2)) ≡ true) =
     and_parts _ _ (at_two advance_test advance_table a b ha hb) in
     (bools _ _ x.0, λ h. eqb-true _ _ (implied (b == a + 16 || a == b + 16) _ x.1 h))
-  where
-    implied : (x y : Bool) → (not x || y) ≡ true → x ≡ true → y ≡ true
-    implied true y h e = h
-    implied false y h e = absurd (true≢false (sym e))
 
 keeps_is : (rights : Rights) (c : Colour) (w : Wing) (m : MoveParts) → holds (rights_after rights m) c w ≡ keeps (holds rights c w) c w m
 keeps_is rights White KingSide m = refl
@@ -211,15 +204,6 @@ module _ (p q : State) (setup : IsSetup p) (both : IsTurned p q) (m : MoveParts)
   legal_turns = λ i.
       pseudo_turns p q setup both m from to i
       && not ((ap (in_check (look (after q (turned m)))) both.side ∙ check_across (look (after p m)) (look (after q (turned m))) after_turns.board p.side) i)
-
--- a list that isn't without a move has one
-first_of : (moves : List MoveParts) → is_without moves ≡ false → (m : MoveParts) × Contains moves m
-first_of [] h = absurd (true≢false h)
-first_of (m ∷ moves) h = (m, (0, omega arith, refl))
-
-listed_some : (moves : List MoveParts) (m : MoveParts) → Contains moves m → is_without moves ≡ false
-listed_some [] m h = absurd (omega (arith, h.1))
-listed_some (x ∷ moves) m h = refl
 
 -- a listed move is listed there, turned, and back
 pub listed_turns : (p q : State) → IsSetup p → IsTurned p q → (m : MoveParts) → Contains (legal_moves p) m → Contains (legal_moves q) (turned m)

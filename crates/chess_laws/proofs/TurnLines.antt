@@ -25,10 +25,11 @@ use Rattle.chess_types.specs.board.Repetition.{same_bool, same_man, same_rights,
 use Rattle.chess_types.proofs.Runs.{same_test}
 use Rattle.chess_types.proofs.Sums.{bit, total-agree, sum_by-range}
 use Rattle.chess_moves.proofs.GuardLemmas.{list_all-filter}
-use Rattle.chess_moves.proofs.LegalLaws.{listed_legal, legal_well_formed}
+use Rattle.chess_moves.proofs.LegalLaws.{listed_legal}
 use Rattle.chess_eval.specs.Mirror.{across, recoloured}
 use Rattle.chess_laws.specs.DeadLaws.{AreListed}
 use Rattle.chess_laws.specs.MirrorLaws.{turned, IsTurned}
+use Rattle.chess_laws.proofs.ListedLemmas.{stays_well}
 use Rattle.chess_laws.proofs.AcrossLemmas.{across_inside, across_same}
 use Rattle.chess_laws.proofs.TurnLemmas.{all_across, check_across, colours_recoloured, there_across, total_across}
 use Rattle.chess_laws.proofs.TurnMoves.{target_inside}
@@ -143,9 +144,6 @@ module _ (p q r s : State) (setup : IsSetup p) (setup' : IsSetup r) (both : IsTu
       ∙ same_targets (counting_target p) (counting_target r) (counting_inside p setup) (counting_inside r setup')) i
 
 -- each move of a line leads from turned positions to turned positions
-stays_well : (p : State) (m : MoveParts) → IsWellFormed p → Contains (legal_moves p) m → IsWellFormed (after p m)
-stays_well p m well listed = let (on, legal) = listed_legal p m listed in legal_well_formed p m well.setup on.from on.to legal
-
 next_turns : (p q : State) (m : MoveParts) → IsWellFormed p → IsTurned p q → Contains (legal_moves p) m → IsTurned (after p m) (after q (turned m))
 next_turns p q m well both listed = let on = (listed_legal p m listed).0 in after_turns p q well.setup both m on.from on.to
 

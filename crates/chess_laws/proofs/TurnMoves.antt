@@ -22,7 +22,7 @@ use Rattle.chess_types.specs.board.Repetition.{same_bool}
 use Rattle.chess_play.proofs.CastlingSquares.{crossed_inside, rook_inside}
 use Rattle.chess_eval.specs.Mirror.{across, recoloured}
 use Rattle.chess_laws.specs.MirrorLaws.{turned, IsTurned}
-use Rattle.chess_laws.proofs.SquareColours.{on_all, at_two}
+use Rattle.chess_laws.proofs.SquareColours.{at_two, implied, on_all}
 use Rattle.chess_laws.proofs.AcrossLemmas.{across_same, bools, leaps_across}
 use Rattle.chess_laws.proofs.TurnLemmas.{attacked_across, attacks_across, clear_across, colours_recoloured, none_across, there_across}
 
@@ -64,10 +64,6 @@ two_across c a b ha hb =
     let x : (same_bool (advances (opponent c) (across a) (across b)) (advances c a b) ≡ true)
     × ((not (advances c a b) || (across a + across b) / 2 == across ((a + b) / 2)) ≡ true) = and_parts _ _ (at_two (two_test c) (two_table c) a b ha hb) in
     (bools _ _ x.0, λ h. eqb-true _ _ (implied (advances c a b) _ x.1 h))
-  where
-    implied : (x y : Bool) → (not x || y) ≡ true → x ≡ true → y ≡ true
-    implied true y h e = h
-    implied false y h e = absurd (true≢false (sym e))
 
 last_across : (c : Colour) (a : ℕ) → a < 64 → (rank_of (across a) == last_rank (opponent c)) ≡ (rank_of a == last_rank c)
 last_across White a h = grind (arith, nat_tests)
