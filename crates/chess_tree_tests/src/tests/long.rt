@@ -2,7 +2,7 @@ use super::calls::Call::{Add, Back, Delete, End, First, Goto, Start, Step};
 use super::calls::Look::{ChildCount, Depth, Path};
 use super::calls::Row::{Does, Fails, Shows};
 use super::calls::{Row, run};
-use super::trees::{SHUFFLE, a_table, add_on, begin, position_here};
+use super::trees::{SHUFFLE, a_table, add_by, add_on, begin, position_here};
 use chess_tree::{Tree, TreeFault};
 use std::alloc::Allocator;
 use std::process::Abort;
@@ -87,4 +87,41 @@ const FULL: &[Row] = &[
 #[test]
 fn a_full_tree(rt: HostRuntime) {
     play_long(&rt, &rt.alloc(), 50, FULL);
+}
+
+/// Adds so many moves below the cursor, side by side.
+fn widen<A: Allocator>(
+    rt: &impl Abort,
+    tree: &mut Tree<'_, A>,
+    moves: u32,
+) -> Result<(), TreeFault> {
+    let table = a_table();
+    for _ in 0..moves {
+        add_by(rt, tree, &table, "e2e4")?;
+        tree.back()?;
+    }
+    Ok(())
+}
+
+/// Goes by a table at a root with so many children.
+fn play_wide<A: Allocator>(rt: &impl Abort, alloc: &A, moves: u32, rows: &[Row]) {
+    let mut tree = begin(alloc).expect(rt, "a tree");
+    widen(rt, &mut tree, moves).expect(rt, "a wide tree");
+    run(rt, &mut tree, rows);
+}
+
+const WIDE: &[Row] = &[
+    Fails(TreeFault::Full, Add("e2e4")),
+    Shows(ChildCount(1_000_000)),
+    Does(Step(0)),
+    Does(Delete),
+    Shows(ChildCount(999_999)),
+    Does(Add("d2d4")),
+    Shows(Path(&[999_999])),
+];
+
+/// One node has a million children.
+#[test]
+fn a_wide_tree(rt: HostRuntime) {
+    play_wide(&rt, &rt.alloc(), 1_000_000, WIDE);
 }
