@@ -6,9 +6,13 @@ pub mod ArmyLemmas
 pub mod CountLemmas
 pub mod OutcomeLemmas
 pub mod TextLemmas
-pub mod AcrossLemmas
-pub mod TurnLemmas
-pub mod TurnMoves
-pub mod TurnAfter
+pub mod Symmetry
+pub mod SymmetryTables
+pub mod SeenAttacks
+pub mod SeenMoves
+pub mod SeenAfter
+pub mod SeenLegal
+pub mod RankTurns
+pub mod FileTurns
 pub mod TurnLines
 pub mod CastledLemmas

@@ -12,7 +12,7 @@ use Rattle.chess_types.specs.declared.board.man.Man.{Man}
 use Rattle.chess_types.specs.declared.board.position.Wing.TheVariants.{KingSide, QueenSide}
 use Rattle.chess_types.specs.declared.board.outcome.Status.TheVariants.{Mate, Stalemate, Dead, Fivefold, Seventyfive, Play}
 use Rattle.chess_types.specs.board.Squares.{squares}
-use Rattle.chess_types.specs.board.Men.{same_colour, same_kind}
+use Rattle.chess_types.specs.board.Men.{opponent, same_colour, same_kind}
 use Rattle.chess_types.specs.board.MoveParts.{MoveParts}
 use Rattle.chess_types.specs.board.Attack.{in_check}
 use Rattle.chess_types.specs.board.Position.{State, IsSetup, IsWellFormed, look}
@@ -26,20 +26,22 @@ use Rattle.chess_types.proofs.Runs.{same_test}
 use Rattle.chess_types.proofs.Sums.{bit, total-agree, sum_by-range}
 use Rattle.chess_moves.proofs.GuardLemmas.{list_all-filter}
 use Rattle.chess_moves.proofs.LegalLaws.{listed_legal}
-use Rattle.chess_eval.specs.Mirror.{across, recoloured}
+use Rattle.chess_eval.specs.Mirror.{across}
 use Rattle.chess_laws.specs.DeadLaws.{AreListed}
 use Rattle.chess_laws.specs.MirrorLaws.{turned, IsTurned}
+use Rattle.chess_laws.proofs.RankTurns.{after_turns, legal_turns, over_ranks, seen}
+use Rattle.chess_laws.proofs.SeenAttacks.{all_across, check_across, there_across}
+use Rattle.chess_laws.proofs.SeenMoves.{squares_same, target_inside}
+use Rattle.chess_laws.proofs.SeenAfter.{seen_passing}
+use Rattle.chess_laws.proofs.SeenLegal.{listed_back, listed_seen, none_seen, seen_twice}
+use Rattle.chess_laws.proofs.Symmetry.{recolour}
 use Rattle.chess_laws.proofs.ListedLemmas.{stays_well}
-use Rattle.chess_laws.proofs.AcrossLemmas.{across_inside, across_same}
-use Rattle.chess_laws.proofs.TurnLemmas.{all_across, check_across, colours_recoloured, there_across, total_across}
-use Rattle.chess_laws.proofs.TurnMoves.{target_inside}
-use Rattle.chess_laws.proofs.TurnAfter.{after_turns, listed_back, listed_turns, none_turns, passing, turned_twice}
 
-same_man_recoloured : (a b : Option Man) → same_man (recoloured a) (recoloured b) ≡ same_man a b
+same_man_recoloured : (a b : Option Man) → same_man (recolour opponent a) (recolour opponent b) ≡ same_man a b
 same_man_recoloured None None = refl
 same_man_recoloured None (Some n) = refl
 same_man_recoloured (Some m) None = refl
-same_man_recoloured (Some m) (Some n) = λ i. colours_recoloured m.colour n.colour i && same_kind m.kind n.kind
+same_man_recoloured (Some m) (Some n) = λ i. over_ranks.colours m.colour n.colour i && same_kind m.kind n.kind
 
 swapped : (a b c d : Bool) → (c && d && a && b) ≡ (a && b && c && d)
 swapped true true true true = refl
@@ -76,11 +78,11 @@ meets f (n ∷ moves) m (suc k, inside, at_k) e =
 takes_turns : (p q : State) → IsSetup p → IsTurned p q → (m : MoveParts) → m.from < 64 → m.to < 64 →
     takes_target q (look q (across m.from)) (turned m) ≡ takes_target p (look p m.from) m
 takes_turns p q setup both m from to =
-    ap (λ there. takes_target q there (turned m)) (there_across (look p) (look q) both.board m.from from) ∙ by_man (look p m.from)
+    ap (λ there. takes_target q there (turned m)) (there_across across opponent over_ranks (look p) (look q) (seen both).board m.from from) ∙ by_man (look p m.from)
   where
-    by_man : (there : Option Man) → takes_target q (recoloured there) (turned m) ≡ takes_target p there m
+    by_man : (there : Option Man) → takes_target q (recolour opponent there) (turned m) ≡ takes_target p there m
     by_man None = refl
-    by_man (Some man) = passing p q setup both m from to man
+    by_man (Some man) = seen_passing across opponent over_ranks p q setup (seen both) m from to man
 
 counts_turn : (p q : State) → IsSetup p → IsTurned p q → target_counts q ≡ target_counts p
 unfolding target_counts
@@ -91,12 +93,12 @@ counts_turn p q setup both =
     (λ h.
     let (n, listed, e) : (n : MoveParts) × Contains (legal_moves q) n × (g n ≡ true) = met g (legal_moves q) h in
     let on = (listed_legal q n listed).0 in
-    let same : g (turned (turned n)) ≡ f (turned n) = takes_turns p q setup both (turned n) (across_inside n.from on.from) (across_inside n.to on.to) in
-    meets f (legal_moves p) (turned n) (listed_back p q setup both n listed) (sym same ∙ ap g (turned_twice n on.from on.to) ∙ e))
+    let same : g (turned (turned n)) ≡ f (turned n) = takes_turns p q setup both (turned n) (over_ranks.inside n.from on.from) (over_ranks.inside n.to on.to) in
+    meets f (legal_moves p) (turned n) (listed_back across opponent over_ranks p q (legal_turns p q setup both) n listed) (sym same ∙ ap g (seen_twice across opponent over_ranks n on.from on.to) ∙ e))
     (λ h.
     let (m, listed, e) : (m : MoveParts) × Contains (legal_moves p) m × (f m ≡ true) = met f (legal_moves p) h in
     let on = (listed_legal p m listed).0 in
-    meets g (legal_moves q) (turned m) (listed_turns p q setup both m listed) (takes_turns p q setup both m on.from on.to ∙ e))
+    meets g (legal_moves q) (turned m) (listed_seen across opponent over_ranks p q (legal_turns p q setup both) m listed) (takes_turns p q setup both m on.from on.to ∙ e))
 
 counting_turns : (p q : State) → IsSetup p → IsTurned p q → counting_target q ≡ option_map across (counting_target p)
 unfolding counting_target
@@ -120,7 +122,7 @@ same_targets : (a b : Option ℕ) → ((t : ℕ) → a ≡ Some t → t < 64) �
 same_targets None None f g = refl
 same_targets None (Some t) f g = refl
 same_targets (Some s) None f g = refl
-same_targets (Some s) (Some t) f g = across_same s t (f s refl) (g t refl)
+same_targets (Some s) (Some t) f g = squares_same across opponent over_ranks s t (f s refl) (g t refl)
 
 -- two positions that are turned are the same where the two are
 module _ (p q r s : State) (setup : IsSetup p) (setup' : IsSetup r) (both : IsTurned p q) (both' : IsTurned r s) where
@@ -135,9 +137,9 @@ module _ (p q r s : State) (setup : IsSetup p) (setup' : IsSetup r) (both : IsTu
   same_turns : is_same q s ≡ is_same p r
   unfolding is_same
   same_turns = λ i.
-      ((λ j. same_colour (both.side j) (both'.side j)) ∙ colours_recoloured p.side r.side) i
-      && all_across (λ t. same_man (look p t) (look r t)) (λ t. same_man (look q t) (look s t))
-      (λ t h. (λ j. same_man (there_across (look p) (look q) both.board t h j) (there_across (look r) (look s) both'.board t h j))
+      ((λ j. same_colour (both.side j) (both'.side j)) ∙ over_ranks.colours p.side r.side) i
+      && all_across across opponent over_ranks (λ t. same_man (look p t) (look r t)) (λ t. same_man (look q t) (look s t))
+      (λ t h. (λ j. same_man (there_across across opponent over_ranks (look p) (look q) (seen both).board t h j) (there_across across opponent over_ranks (look r) (look s) (seen both').board t h j))
       ∙ same_man_recoloured (look p t) (look r t)) i
       && rights_turn i
       && ((λ j. same_target (counting_turns p q setup both j) (counting_turns r s setup' both' j))
@@ -166,15 +168,15 @@ count_turns l k setup last_both p q (m ∷ moves) well both h =
     ∙ sym (sum_by-cons (λ x. bit (is_same l x)) p (positions_from (after p m) moves))
 
 -- dead men are dead from either side
-bishop_recoloured : (there : Option Man) → holds_bishop (recoloured there) ≡ holds_bishop there
+bishop_recoloured : (there : Option Man) → holds_bishop (recolour opponent there) ≡ holds_bishop there
 bishop_recoloured None = refl
 bishop_recoloured (Some man) = refl
 
-minor_recoloured : (there : Option Man) → holds_minor (recoloured there) ≡ holds_minor there
+minor_recoloured : (there : Option Man) → holds_minor (recolour opponent there) ≡ holds_minor there
 minor_recoloured None = refl
 minor_recoloured (Some man) = refl
 
-other_recoloured : (there : Option Man) → is_other (recoloured there) ≡ is_other there
+other_recoloured : (there : Option Man) → is_other (recolour opponent there) ≡ is_other there
 other_recoloured None = refl
 other_recoloured (Some man) = refl
 
@@ -187,13 +189,13 @@ either_order true false = refl
 either_order false y = or-false y
 
 module _ (p q : State) (both : IsTurned p q) where
-  there : (s : ℕ) → s < 64 → look q (across s) ≡ recoloured (look p s)
-  there s h = there_across (look p) (look q) both.board s h
+  there : (s : ℕ) → s < 64 → look q (across s) ≡ recolour opponent (look p s)
+  there s h = there_across across opponent over_ranks (look p) (look q) (seen both).board s h
 
   others_turn : (f g : ℕ → Bool) → ((s : ℕ) → s < 64 → g (across s) ≡ f s) → list_all g (others (look q)) ≡ list_all f (others (look p))
   others_turn f g same =
       list_all-filter g (λ s. is_other (look q s)) squares
-      ∙ all_across (λ s. not (is_other (look p s)) || f s) (λ s. not (is_other (look q s)) || g s)
+      ∙ all_across across opponent over_ranks (λ s. not (is_other (look p s)) || f s) (λ s. not (is_other (look q s)) || g s)
       (λ s h i. not ((ap is_other (there s h) ∙ other_recoloured (look p s)) i) || same s h i)
       ∙ sym (list_all-filter f (λ s. is_other (look p s)) squares)
 
@@ -201,7 +203,7 @@ module _ (p q : State) (both : IsTurned p q) where
   unfolding squares
   as_many =
       length-filter (λ s. is_other (look q s)) squares ∙ sum_by-range (λ s. bit (is_other (look q s))) 0 64
-      ∙ sym (total_across (λ s. bit (is_other (look q s))))
+      ∙ sym (over_ranks.sums (λ s. bit (is_other (look q s))))
       ∙ total-agree (λ s. bit (is_other (look q (across s)))) (λ s. bit (is_other (look p s))) 0 64 (λ s low high.
       ap bit (ap is_other (there s (omega arith)) ∙ other_recoloured (look p s)))
       ∙ sym (length-filter (λ s. is_other (look p s)) squares ∙ sum_by-range (λ s. bit (is_other (look p s))) 0 64)
@@ -239,8 +241,8 @@ module _ (line other : Line) (well : IsWellFormed line.start) (both : IsTurned l
   pub status_turns : status other ≡ status line
   unfolding status status_at
   status_turns = λ i.
-      if none_turns (last line) (last other) ends_well.setup ends i
-      then (if (ap (in_check (look (last other))) ends.side ∙ check_across (look (last line)) (look (last other)) ends.board (last line).side) i then Mate else Stalemate)
+      if none_seen across opponent over_ranks (last line) (last other) (legal_turns (last line) (last other) ends_well.setup ends) i
+      then (if (ap (in_check (look (last other))) ends.side ∙ check_across across opponent over_ranks (look (last line)) (look (last other)) (seen ends).board (last line).side) i then Mate else Stalemate)
       else (if dead_turns (last line) (last other) ends i then Dead
       else (if nat_le 5 (repetitions_turn i) then Fivefold else (if nat_le 150 (ends.clock i) then Seventyfive else Play)))
 

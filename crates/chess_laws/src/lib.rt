@@ -5,12 +5,14 @@
 #![tactic(auto)]
 
 mod dead;
+mod flip;
 mod mirror;
 mod moves;
 mod outcomes;
 mod texts;
 
 pub use dead::dead_laws;
+pub use flip::flip_laws;
 pub use mirror::mirror_laws;
 pub use moves::move_laws;
 pub use outcomes::outcome_laws;

@@ -1,13 +1,15 @@
 use Rattle.chess_types.specs.board.Position.{look}
-use Rattle.chess_laws.proofs.TurnLemmas.{check_across, count_across}
-use Rattle.chess_laws.proofs.TurnAfter.{after_turns, legal_turns, mate_turns}
+use Rattle.chess_types.specs.board.Men.{opponent}
+use Rattle.chess_eval.specs.Mirror.{across}
+use Rattle.chess_laws.proofs.SeenAttacks.{check_across, count_across}
+use Rattle.chess_laws.proofs.RankTurns.{after_turns, legal_turns, mate_turns, over_ranks, seen}
 use Rattle.chess_laws.proofs.TurnLines.{claims_turn, repetitions_turn, status_turns}
 use Rattle.chess_laws.proofs.mirror.mirror_laws.Goals as goal
 
 pub returns : goal.returns
 returns c = record {
-  counts = λ p q both. count_across (look p) (look q) both.board;
-  checks = λ p q both. check_across (look p) (look q) both.board;
+  counts = λ p q both. count_across across opponent over_ranks (look p) (look q) (seen both).board;
+  checks = λ p q both. check_across across opponent over_ranks (look p) (look q) (seen both).board;
   legal = legal_turns;
   after = after_turns;
   mate = mate_turns;

@@ -1,0 +1,79 @@
+-- A map of squares and colours is a symmetry where tables of all pairs of squares say so.
+use Rattle.std.proofs.Common.{◌≡◌, ℕ, ◌+◌, ◌*◌, ◌/◌, ◌<◌, ◌==◌, Bool, true, false, not, ◌&&◌, ◌||◌, refl, sym}
+use Rattle.std.proofs.lemmas.Bool.{and_parts, eqb-true, true≢false}
+use Rattle.chess_types.specs.declared.board.man.Colour.{Colour}
+use Rattle.chess_types.specs.declared.board.man.Kind.{Kind}
+use Rattle.chess_types.specs.board.Squares.{file_of, rank_of, is_between}
+use Rattle.chess_types.specs.board.Men.{opponent, same_colour}
+use Rattle.chess_types.specs.board.Attack.{leaps, slides_to}
+use Rattle.chess_types.specs.board.Pseudo.{is_ahead, last_rank}
+use Rattle.chess_types.specs.board.Repetition.{same_bool}
+use Rattle.chess_types.proofs.Sums.{total}
+use Rattle.chess_laws.proofs.SquareColours.{at_two, implied, on_all}
+use Rattle.chess_laws.proofs.Symmetry.{Symmetry, advances, two_apart}
+
+bools : (x y : Bool) → same_bool x y ≡ true → x ≡ y
+bools true true h = refl
+bools false false h = refl
+bools true false h = absurd (true≢false (sym h))
+bools false true h = absurd (true≢false (sym h))
+
+module _ (σ : ℕ → ℕ) (κ : Colour → Colour) where
+  abbrev pub leap_test : Colour → Kind → ℕ → ℕ → Bool
+  leap_test c k a b = same_bool (leaps (κ c) k (σ a) (σ b)) (leaps c k a b)
+
+  abbrev pub ahead_test : Colour → ℕ → ℕ → Bool
+  ahead_test c a b = same_bool (is_ahead (κ c) (σ a) (σ b)) (is_ahead c a b)
+
+  abbrev pub two_test : Colour → ℕ → ℕ → Bool
+  two_test c a b = same_bool (advances (κ c) (σ a) (σ b)) (advances c a b) && (not (advances c a b) || (σ a + σ b) / 2 == σ ((a + b) / 2))
+
+module _ (σ : ℕ → ℕ) where
+  abbrev pub slide_test : Kind → ℕ → ℕ → Bool
+  slide_test k a b = same_bool (slides_to k (σ a) (σ b)) (slides_to k a b)
+
+  abbrev pub advance_test : ℕ → ℕ → Bool
+  advance_test a b = same_bool (two_apart (σ a) (σ b)) (two_apart a b) && (not (two_apart a b) || (σ a + σ b) / 2 == σ ((a + b) / 2))
+
+-- what has to be shown of the map
+pub record Tables (σ : ℕ → ℕ) (κ : Colour → Colour) : Type 0 where
+  pub inside : (s : ℕ) → s < 64 → σ s < 64
+  pub twice : (s : ℕ) → s < 64 → σ (σ s) ≡ s
+  pub sums : (f : ℕ → ℕ) → total (λ t. f (σ t)) 0 64 ≡ total f 0 64
+  pub colours : (c d : Colour) → same_colour (κ c) (κ d) ≡ same_colour c d
+  pub others : (c : Colour) → opponent (κ c) ≡ κ (opponent c)
+  pub leap : (c : Colour) (k : Kind) → on_all (leap_test σ κ c k) ≡ true
+  pub slide : (k : Kind) → on_all (slide_test σ k) ≡ true
+  pub between : (a b t : ℕ) → a < 64 → b < 64 → t < 64 → is_between (σ a) (σ b) (σ t) ≡ is_between a b t
+  pub ahead : (c : Colour) → on_all (ahead_test σ κ c) ≡ true
+  pub two : (c : Colour) → on_all (two_test σ κ c) ≡ true
+  pub last : (c : Colour) (a : ℕ) → a < 64 → (rank_of (σ a) == last_rank (κ c)) ≡ (rank_of a == last_rank c)
+  pub advance : on_all (advance_test σ) ≡ true
+  pub files : (a b : ℕ) → a < 64 → b < 64 → (file_of (σ a) == file_of (σ b)) ≡ (file_of a == file_of b)
+  pub corner : (a b : ℕ) → a < 64 → b < 64 → 8 * rank_of (σ a) + file_of (σ b) ≡ σ (8 * rank_of a + file_of b)
+
+-- a test that another equals, and what follows where it holds
+both : (x y z : Bool) → (same_bool x y && (not y || z)) ≡ true → (x ≡ y) × (y ≡ true → z ≡ true)
+both x y z h = let a = and_parts _ _ h in (bools x y a.0, implied y z a.1)
+
+pub symmetry : (σ : ℕ → ℕ) (κ : Colour → Colour) → Tables σ κ → Symmetry σ κ
+symmetry σ κ t = record {
+  inside = t.inside;
+  twice = t.twice;
+  sums = t.sums;
+  colours = t.colours;
+  others = t.others;
+  leap = λ c k a b ha hb. bools _ _ (at_two (leap_test σ κ c k) (t.leap c k) a b ha hb);
+  slide = λ k a b ha hb. bools _ _ (at_two (slide_test σ k) (t.slide k) a b ha hb);
+  between = t.between;
+  ahead = λ c a b ha hb. bools _ _ (at_two (ahead_test σ κ c) (t.ahead c) a b ha hb);
+  two = λ c a b ha hb.
+      let x = both (advances (κ c) (σ a) (σ b)) (advances c a b) ((σ a + σ b) / 2 == σ ((a + b) / 2)) (at_two (two_test σ κ c) (t.two c) a b ha hb) in
+      (x.0, λ h. eqb-true _ _ (x.1 h));
+  last = t.last;
+  advance = λ a b ha hb.
+      let x = both (two_apart (σ a) (σ b)) (two_apart a b) ((σ a + σ b) / 2 == σ ((a + b) / 2)) (at_two (advance_test σ) t.advance a b ha hb) in
+      (x.0, λ h. eqb-true _ _ (x.1 h));
+  files = t.files;
+  corner = t.corner;
+}
