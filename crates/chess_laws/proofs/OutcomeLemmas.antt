@@ -1,5 +1,6 @@
 -- The status of a line, the claims, and the texts of moves.
-use Rattle.std.proofs.Common.{◌≡◌, ◌&&◌, not, nat_le, Bool, true, false, Some, if◌then◌else◌, refl}
+use Rattle.std.proofs.Common.{◌≡◌, ◌&&◌, not, nat_le, Bool, true, false, Some, if◌then◌else◌, refl, ◌≤◌, arith}
+use Rattle.std.proofs.lemmas.Bool.{leb-true}
 use Rattle.chess_types.specs.declared.board.outcome.Status.TheVariants.{Mate, Stalemate, Dead, Fivefold, Seventyfive, Play}
 use Rattle.chess_types.specs.board.MoveParts.{MoveParts}
 use Rattle.chess_types.specs.board.Attack.{in_check}
@@ -10,7 +11,8 @@ use Rattle.chess_types.specs.board.Outcome.{is_without, is_play, status_at, stat
 use Rattle.chess_types.specs.board.Repetition.{repetitions}
 use Rattle.chess_types.specs.board.Dead.{is_dead}
 use Rattle.chess_laws.specs.DeadLaws.{is_mate}
-use Rattle.chess_laws.specs.OutcomeLaws.{shows_mate, shows_stalemate}
+use Rattle.chess_play.proofs.Facts.{never}
+use Rattle.chess_laws.specs.OutcomeLaws.{shows_fivefold, shows_mate, shows_seventyfive, shows_stalemate}
 
 -- the draws by count and clock are neither
 neither_draw : (dead five most : Bool) → shows_mate (if dead then Dead else (if five then Fivefold else (if most then Seventyfive else Play))) ≡ false
@@ -56,3 +58,43 @@ pub claims_agree : (line : Line) (m : MoveParts) → is_legal (last line) m ≡ 
     claims_with line m ≡ Some (claims (extended line m))
 unfolding claims claims_with
 claims_agree line m legal before after = rw (legal, before, after) refl
+
+pub draws_were_claimable : (line : Line) →
+    (shows_fivefold (status line) ≡ true → 3 ≤ repetitions line) × (shows_seventyfive (status line) ≡ true → 100 ≤ (last line).clock)
+unfolding status status_at
+draws_were_claimable line = (
+  λ h. omega (
+    arith,
+    leb-true 5 (repetitions line) (five (is_without (legal_moves (last line))) (in_check (look (last line)) (last line).side) (is_dead (last line))
+        (nat_le 5 (repetitions line)) (nat_le 150 (last line).clock) h),
+  ),
+  λ h. omega (
+    arith,
+    leb-true 150 (last line).clock (most (is_without (legal_moves (last line))) (in_check (look (last line)) (last line).side) (is_dead (last line))
+        (nat_le 5 (repetitions line)) (nat_le 150 (last line).clock) h),
+  ),
+)
+  where
+    five : (none check dead fifth late : Bool) →
+        shows_fivefold (if none then (if check then Mate else Stalemate) else (if dead then Dead else (if fifth then Fivefold else (if late then Seventyfive else Play)))) ≡ true →
+        fifth ≡ true
+    five true true dead fifth late h = never h
+    five true false dead fifth late h = never h
+    five false check true fifth late h = never h
+    five false check false true late h = refl
+    five false check false false true h = never h
+    five false check false false false h = never h
+
+    most : (none check dead fifth late : Bool) →
+        shows_seventyfive (if none then (if check then Mate else Stalemate) else (if dead then Dead else (if fifth then Fivefold else (if late then Seventyfive else Play)))) ≡ true →
+        late ≡ true
+    most true true dead fifth late h = never h
+    most true false dead fifth late h = never h
+    most false check true fifth late h = never h
+    most false check false true late h = never h
+    most false check false false true h = refl
+    most false check false false false h = never h
+
+pub claims_end : (line : Line) → is_play (status line) ≡ false → claims line ≡ record { threefold = false; fifty = false }
+unfolding claims
+claims_end line over = rw over refl

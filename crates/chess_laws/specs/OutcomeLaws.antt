@@ -1,16 +1,19 @@
 -- What the status and the claims of a line have to do with its last position and the next (FIDE Laws, articles 5.1.1, 5.2.1, 9.2 and 9.3).
 --   MateIsMate       the status is mate exactly where the last position is a mate
 --   StalemateIsNone  and stalemate exactly where it has no legal move and no check
+--   DrawsWereClaimable  a draw by the fifth repetition or by 75 moves could have been claimed by the third, or by 50
+--   ClaimsEnd        nothing may be claimed once the game is over
 --   ClaimsAgree      what may be claimed with a legal move may be claimed after it, and nothing else, while the game goes on
-use Rattle.std.specs.Prelude.{◌≡◌, ◌&&◌, not, Bool, true, false, Some}
+use Rattle.std.specs.Prelude.{◌≡◌, ◌&&◌, not, Bool, true, false, Some, ◌≤◌}
 use Rattle.chess_types.specs.declared.board.outcome.Status.{Status}
-use Rattle.chess_types.specs.declared.board.outcome.Status.TheVariants.{Mate, Stalemate}
+use Rattle.chess_types.specs.declared.board.outcome.Status.TheVariants.{Mate, Stalemate, Fivefold, Seventyfive}
 use Rattle.chess_types.specs.board.MoveParts.{MoveParts}
 use Rattle.chess_types.specs.board.Attack.{in_check}
 use Rattle.chess_types.specs.board.Position.{look}
 use Rattle.chess_types.specs.board.Legal.{is_legal, legal_moves}
 use Rattle.chess_types.specs.board.Lines.{Line, last, extended}
 use Rattle.chess_types.specs.board.Outcome.{is_without, is_play, status, claims, claims_with}
+use Rattle.chess_types.specs.board.Repetition.{repetitions}
 use Rattle.chess_laws.specs.DeadLaws.{is_mate}
 
 abbrev pub shows_mate : Status → Bool
@@ -29,6 +32,24 @@ MateIsMate = (line : Line) → shows_mate (status line) ≡ is_mate (last line)
 abbrev pub StalemateIsNone : Type 0
 StalemateIsNone =
     (line : Line) → shows_stalemate (status line) ≡ (is_without (legal_moves (last line)) && not (in_check (look (last line)) (last line).side))
+
+abbrev pub shows_fivefold : Status → Bool
+shows_fivefold Fivefold = true
+shows_fivefold _ = false
+
+abbrev pub shows_seventyfive : Status → Bool
+shows_seventyfive Seventyfive = true
+shows_seventyfive _ = false
+
+-- what ends the game by itself was to be claimed before (9.2, 9.3, 9.6)
+abbrev pub DrawsWereClaimable : Type 0
+DrawsWereClaimable =
+    (line : Line) →
+    (shows_fivefold (status line) ≡ true → 3 ≤ repetitions line) × (shows_seventyfive (status line) ≡ true → 100 ≤ (last line).clock)
+
+-- neither draw may be claimed after the end (9.6, 5.1, 5.2)
+abbrev pub ClaimsEnd : Type 0
+ClaimsEnd = (line : Line) → is_play (status line) ≡ false → claims line ≡ record { threefold = false; fifty = false }
 
 -- a claim with a move is the claim that could be made after it (9.2.1, 9.2.2, 9.3.1, 9.3.2)
 abbrev pub ClaimsAgree : Type 0
