@@ -7,8 +7,6 @@ use Rattle.chess_types.specs.declared.board.axis.Axis.{Axis}
 use Rattle.chess_types.specs.declared.board.axis.Axis.TheVariants.{Rank, File, Rising, Falling}
 use Rattle.chess_types.specs.declared.board.man.Colour.{Colour}
 use Rattle.chess_types.specs.declared.board.man.Colour.TheVariants.{White, Black}
-use Rattle.chess_types.specs.declared.board.man.Kind.{Kind}
-use Rattle.chess_types.specs.declared.board.man.Kind.TheVariants.{Pawn, Knight, Bishop, Rook, Queen, King}
 use Rattle.chess_types.specs.declared.board.man.Man.{Man}
 use Rattle.chess_types.specs.declared.board.position.Wing.{Wing}
 use Rattle.chess_types.specs.declared.board.position.Wing.TheVariants.{KingSide, QueenSide}
@@ -30,7 +28,7 @@ use Rattle.chess_laws.specs.DeadLaws.{is_mate}
 use Rattle.chess_laws.specs.FlipLaws.{flip, flipped, IsFlipped}
 use Rattle.chess_laws.proofs.SquareColours.{on_all}
 use Rattle.chess_laws.proofs.Symmetry.{Symmetry, IsSeen, recolour}
-use Rattle.chess_laws.proofs.SymmetryTables.{symmetry, leap_test, slide_test, ahead_test, two_test, advance_test}
+use Rattle.chess_laws.proofs.SymmetryTables.{symmetry, leap_test, slide_test, ahead_test, two_test, advance_test, each_colour, each_kind}
 use Rattle.chess_laws.proofs.SeenAttacks.{check_across, there_across}
 use Rattle.chess_laws.proofs.SeenMoves.{and_if, pseudo_seen}
 use Rattle.chess_laws.proofs.SeenAfter.{AreSeen, moved, seen_by}
@@ -50,39 +48,21 @@ total_flips : (f : ℕ → ℕ) → total (λ t. f (flip t)) 0 64 ≡ total f 0 
 unfolding total
 total_flips f = omega arith
 
-leap_table : (c : Colour) (k : Kind) → on_all (leap_test flip own c k) ≡ true
+leap_table : each_colour (λ c. each_kind (λ k. on_all (leap_test flip own c k))) ≡ true
 unfolding squares leaps
-leap_table White Pawn = refl
-leap_table Black Pawn = refl
-leap_table White Knight = refl
-leap_table Black Knight = refl
-leap_table White King = refl
-leap_table Black King = refl
-leap_table White Bishop = refl
-leap_table White Rook = refl
-leap_table White Queen = refl
-leap_table Black Bishop = refl
-leap_table Black Rook = refl
-leap_table Black Queen = refl
+leap_table = refl
 
-slide_table : (k : Kind) → on_all (slide_test flip k) ≡ true
+slide_table : each_kind (λ k. on_all (slide_test flip k)) ≡ true
 unfolding squares slides_to slides
-slide_table Bishop = refl
-slide_table Rook = refl
-slide_table Queen = refl
-slide_table Pawn = refl
-slide_table Knight = refl
-slide_table King = refl
+slide_table = refl
 
-ahead_table : (c : Colour) → on_all (ahead_test flip own c) ≡ true
+ahead_table : each_colour (λ c. on_all (ahead_test flip own c)) ≡ true
 unfolding squares
-ahead_table White = refl
-ahead_table Black = refl
+ahead_table = refl
 
-two_table : (c : Colour) → on_all (two_test flip own c) ≡ true
+two_table : each_colour (λ c. on_all (two_test flip own c)) ≡ true
 unfolding squares
-two_table White = refl
-two_table Black = refl
+two_table = refl
 
 last_flip : (c : Colour) (a : ℕ) → a < 64 → (rank_of (flip a) == last_rank c) ≡ (rank_of a == last_rank c)
 last_flip White a h = grind (arith, nat_tests)

@@ -7,8 +7,6 @@ use Rattle.chess_types.specs.declared.board.axis.Axis.{Axis}
 use Rattle.chess_types.specs.declared.board.axis.Axis.TheVariants.{Rank, File, Rising, Falling}
 use Rattle.chess_types.specs.declared.board.man.Colour.{Colour}
 use Rattle.chess_types.specs.declared.board.man.Colour.TheVariants.{White, Black}
-use Rattle.chess_types.specs.declared.board.man.Kind.{Kind}
-use Rattle.chess_types.specs.declared.board.man.Kind.TheVariants.{Pawn, Knight, Bishop, Rook, Queen, King}
 use Rattle.chess_types.specs.declared.board.man.Man.{Man}
 use Rattle.chess_types.specs.declared.board.position.Rights.{Rights}
 use Rattle.chess_types.specs.declared.board.position.Wing.{Wing}
@@ -29,7 +27,7 @@ use Rattle.chess_laws.specs.DeadLaws.{is_mate}
 use Rattle.chess_laws.specs.MirrorLaws.{turned, IsTurned}
 use Rattle.chess_laws.proofs.SquareColours.{on_all}
 use Rattle.chess_laws.proofs.Symmetry.{Symmetry, IsSeen, recolour}
-use Rattle.chess_laws.proofs.SymmetryTables.{symmetry, leap_test, slide_test, ahead_test, two_test, advance_test}
+use Rattle.chess_laws.proofs.SymmetryTables.{symmetry, leap_test, slide_test, ahead_test, two_test, advance_test, each_colour, each_kind}
 use Rattle.chess_laws.proofs.SeenAttacks as attacks
 use Rattle.chess_laws.proofs.SeenMoves.{pseudo_seen, squares_same}
 use Rattle.chess_laws.proofs.SeenLegal.{none_seen}
@@ -51,39 +49,21 @@ colours_turn White Black = refl
 colours_turn Black White = refl
 colours_turn Black Black = refl
 
-leap_table : (c : Colour) (k : Kind) → on_all (leap_test across opponent c k) ≡ true
+leap_table : each_colour (λ c. each_kind (λ k. on_all (leap_test across opponent c k))) ≡ true
 unfolding squares leaps
-leap_table White Pawn = refl
-leap_table Black Pawn = refl
-leap_table White Knight = refl
-leap_table Black Knight = refl
-leap_table White King = refl
-leap_table Black King = refl
-leap_table White Bishop = refl
-leap_table White Rook = refl
-leap_table White Queen = refl
-leap_table Black Bishop = refl
-leap_table Black Rook = refl
-leap_table Black Queen = refl
+leap_table = refl
 
-slide_table : (k : Kind) → on_all (slide_test across k) ≡ true
+slide_table : each_kind (λ k. on_all (slide_test across k)) ≡ true
 unfolding squares slides_to slides
-slide_table Bishop = refl
-slide_table Rook = refl
-slide_table Queen = refl
-slide_table Pawn = refl
-slide_table Knight = refl
-slide_table King = refl
+slide_table = refl
 
-ahead_table : (c : Colour) → on_all (ahead_test across opponent c) ≡ true
+ahead_table : each_colour (λ c. on_all (ahead_test across opponent c)) ≡ true
 unfolding squares
-ahead_table White = refl
-ahead_table Black = refl
+ahead_table = refl
 
-two_table : (c : Colour) → on_all (two_test across opponent c) ≡ true
+two_table : each_colour (λ c. on_all (two_test across opponent c)) ≡ true
 unfolding squares
-two_table White = refl
-two_table Black = refl
+two_table = refl
 
 last_across : (c : Colour) (a : ℕ) → a < 64 → (rank_of (across a) == last_rank (opponent c)) ≡ (rank_of a == last_rank c)
 last_across White a h = grind (arith, nat_tests)

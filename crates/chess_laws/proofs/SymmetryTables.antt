@@ -2,7 +2,9 @@
 use Rattle.std.proofs.Common.{◌≡◌, ℕ, ◌+◌, ◌*◌, ◌/◌, ◌<◌, ◌==◌, Bool, true, false, not, ◌&&◌, ◌||◌, refl, sym}
 use Rattle.std.proofs.lemmas.Bool.{and_parts, eqb-true, true≢false}
 use Rattle.chess_types.specs.declared.board.man.Colour.{Colour}
+use Rattle.chess_types.specs.declared.board.man.Colour.TheVariants.{White, Black}
 use Rattle.chess_types.specs.declared.board.man.Kind.{Kind}
+use Rattle.chess_types.specs.declared.board.man.Kind.TheVariants.{Pawn, Knight, Bishop, Rook, Queen, King}
 use Rattle.chess_types.specs.board.Squares.{file_of, rank_of, is_between}
 use Rattle.chess_types.specs.board.Men.{opponent, same_colour}
 use Rattle.chess_types.specs.board.Attack.{leaps, slides_to}
@@ -35,6 +37,34 @@ module _ (σ : ℕ → ℕ) where
   abbrev pub advance_test : ℕ → ℕ → Bool
   advance_test a b = same_bool (two_apart (σ a) (σ b)) (two_apart a b) && (not (two_apart a b) || (σ a + σ b) / 2 == σ ((a + b) / 2))
 
+-- a test of each colour, and of each kind
+abbrev pub each_colour : (Colour → Bool) → Bool
+each_colour test = test White && test Black
+
+abbrev pub each_kind : (Kind → Bool) → Bool
+each_kind test = test Pawn && test Knight && test Bishop && test Rook && test Queen && test King
+
+of_colour : (test : Colour → Bool) → each_colour test ≡ true → (c : Colour) → test c ≡ true
+of_colour test h White = (and_parts _ _ h).0
+of_colour test h Black = (and_parts _ _ h).1
+
+of_kind : (test : Kind → Bool) → each_kind test ≡ true → (k : Kind) → test k ≡ true
+of_kind test h k =
+    let queen = and_parts _ _ h in
+    let rook = and_parts _ _ queen.0 in
+    let bishop = and_parts _ _ rook.0 in
+    let knight = and_parts _ _ bishop.0 in
+    let pawn = and_parts _ _ knight.0 in
+    one pawn.0 pawn.1 knight.1 bishop.1 rook.1 queen.1 k
+  where
+    one : test Pawn ≡ true → test Knight ≡ true → test Bishop ≡ true → test Rook ≡ true → test Queen ≡ true → test King ≡ true → (k : Kind) → test k ≡ true
+    one a b c d e f Pawn = a
+    one a b c d e f Knight = b
+    one a b c d e f Bishop = c
+    one a b c d e f Rook = d
+    one a b c d e f Queen = e
+    one a b c d e f King = f
+
 -- what has to be shown of the map
 pub record Tables (σ : ℕ → ℕ) (κ : Colour → Colour) : Type 0 where
   pub inside : (s : ℕ) → s < 64 → σ s < 64
@@ -42,11 +72,11 @@ pub record Tables (σ : ℕ → ℕ) (κ : Colour → Colour) : Type 0 where
   pub sums : (f : ℕ → ℕ) → total (λ t. f (σ t)) 0 64 ≡ total f 0 64
   pub colours : (c d : Colour) → same_colour (κ c) (κ d) ≡ same_colour c d
   pub others : (c : Colour) → opponent (κ c) ≡ κ (opponent c)
-  pub leap : (c : Colour) (k : Kind) → on_all (leap_test σ κ c k) ≡ true
-  pub slide : (k : Kind) → on_all (slide_test σ k) ≡ true
+  pub leap : each_colour (λ c. each_kind (λ k. on_all (leap_test σ κ c k))) ≡ true
+  pub slide : each_kind (λ k. on_all (slide_test σ k)) ≡ true
   pub between : (a b t : ℕ) → a < 64 → b < 64 → t < 64 → is_between (σ a) (σ b) (σ t) ≡ is_between a b t
-  pub ahead : (c : Colour) → on_all (ahead_test σ κ c) ≡ true
-  pub two : (c : Colour) → on_all (two_test σ κ c) ≡ true
+  pub ahead : each_colour (λ c. on_all (ahead_test σ κ c)) ≡ true
+  pub two : each_colour (λ c. on_all (two_test σ κ c)) ≡ true
   pub last : (c : Colour) (a : ℕ) → a < 64 → (rank_of (σ a) == last_rank (κ c)) ≡ (rank_of a == last_rank c)
   pub advance : on_all (advance_test σ) ≡ true
   pub files : (a b : ℕ) → a < 64 → b < 64 → (file_of (σ a) == file_of (σ b)) ≡ (file_of a == file_of b)
@@ -63,12 +93,12 @@ symmetry σ κ t = record {
   sums = t.sums;
   colours = t.colours;
   others = t.others;
-  leap = λ c k a b ha hb. bools _ _ (at_two (leap_test σ κ c k) (t.leap c k) a b ha hb);
-  slide = λ k a b ha hb. bools _ _ (at_two (slide_test σ k) (t.slide k) a b ha hb);
+  leap = λ c k a b ha hb. bools _ _ (at_two (leap_test σ κ c k) (of_kind (λ x. on_all (leap_test σ κ c x)) (of_colour (λ d. each_kind (λ x. on_all (leap_test σ κ d x))) t.leap c) k) a b ha hb);
+  slide = λ k a b ha hb. bools _ _ (at_two (slide_test σ k) (of_kind (λ x. on_all (slide_test σ x)) t.slide k) a b ha hb);
   between = t.between;
-  ahead = λ c a b ha hb. bools _ _ (at_two (ahead_test σ κ c) (t.ahead c) a b ha hb);
+  ahead = λ c a b ha hb. bools _ _ (at_two (ahead_test σ κ c) (of_colour (λ d. on_all (ahead_test σ κ d)) t.ahead c) a b ha hb);
   two = λ c a b ha hb.
-      let x = both (advances (κ c) (σ a) (σ b)) (advances c a b) ((σ a + σ b) / 2 == σ ((a + b) / 2)) (at_two (two_test σ κ c) (t.two c) a b ha hb) in
+      let x = both (advances (κ c) (σ a) (σ b)) (advances c a b) ((σ a + σ b) / 2 == σ ((a + b) / 2)) (at_two (two_test σ κ c) (of_colour (λ d. on_all (two_test σ κ d)) t.two c) a b ha hb) in
       (x.0, λ h. eqb-true _ _ (x.1 h));
   last = t.last;
   advance = λ a b ha hb.
