@@ -11,7 +11,7 @@ use chess_types::{Move, Position};
 use std::alloc::Allocator;
 use std::process::ExitCode;
 
-/// Plays a move on the line and in the tree, and tells whether it could. That the move is legal is asked once, of the line; the prover
+/// Plays a move on the line and in the tree, and returns whether it could. That the move is legal is asked once, of the line; the prover
 /// carries it over to the tree, since both have the same moves.
 fn play<A: Allocator, B: Allocator>(tree: &mut Tree<A>, line: &mut Line<B>, m: Move) -> bool
     requires together { line.old.line ≡ line_to tree.old }

@@ -170,7 +170,7 @@ attacking (Some man) c f a s h = let x = and_parts _ _ h in (man, refl, same_is 
 bishop_kind : (man : Man) → holds_bishop (Some man) ≡ true → man.kind ≡ Bishop
 bishop_kind man h = kind_is man.kind Bishop h
 
--- The other men leave a square alone: none stands there, and none attacks it, whatever stands elsewhere.
+-- The other men leave a square alone: none is on it, and none attacks it, whatever is on the other squares.
 record Leave (men : Look) (e : ℕ) : Type 0 where
   away : (a : ℕ) → a < 64 → is_other (men a) ≡ true → a ≢ e
   harmless : (a : ℕ) → a < 64 → (man : Man) → men a ≡ Some man → is_other (Some man) ≡ true → (f : Look) → attacks_as man f a e ≡ false

@@ -1,6 +1,7 @@
 -- The status of a line, the claims, and the texts of moves.
 use Rattle.std.proofs.Common.{◌≡◌, ◌&&◌, not, nat_le, Bool, true, false, Some, if◌then◌else◌, refl, ◌≤◌, arith}
 use Rattle.std.proofs.lemmas.Bool.{leb-true}
+use Rattle.chess_types.specs.declared.board.outcome.Status.{Status}
 use Rattle.chess_types.specs.declared.board.outcome.Status.TheVariants.{Mate, Stalemate, Dead, Fivefold, Seventyfive, Play}
 use Rattle.chess_types.specs.board.MoveParts.{MoveParts}
 use Rattle.chess_types.specs.board.Attack.{in_check}
@@ -14,18 +15,13 @@ use Rattle.chess_laws.specs.DeadLaws.{is_mate}
 use Rattle.chess_play.proofs.Facts.{never}
 use Rattle.chess_laws.specs.OutcomeLaws.{shows_fivefold, shows_mate, shows_seventyfive, shows_stalemate}
 
--- the draws by count and clock are neither
-neither_draw : (dead five most : Bool) → shows_mate (if dead then Dead else (if five then Fivefold else (if most then Seventyfive else Play))) ≡ false
-neither_draw true five most = refl
-neither_draw false true most = refl
-neither_draw false false true = refl
-neither_draw false false false = refl
-
-nor_stalemate : (dead five most : Bool) → shows_stalemate (if dead then Dead else (if five then Fivefold else (if most then Seventyfive else Play))) ≡ false
-nor_stalemate true five most = refl
-nor_stalemate false true most = refl
-nor_stalemate false false true = refl
-nor_stalemate false false false = refl
+-- a test of a status that fails for each draw and for play fails where a move is left
+with_a_move : (test : Status → Bool) → test Dead ≡ false → test Fivefold ≡ false → test Seventyfive ≡ false → test Play ≡ false → (dead five most : Bool) →
+    test (if dead then Dead else (if five then Fivefold else (if most then Seventyfive else Play))) ≡ false
+with_a_move test a b c d true five most = a
+with_a_move test a b c d false true most = b
+with_a_move test a b c d false false true = c
+with_a_move test a b c d false false false = d
 
 pub mate_is_mate : (line : Line) → shows_mate (status line) ≡ is_mate (last line)
 unfolding status status_at
@@ -38,7 +34,7 @@ mate_is_mate line =
         ≡ (none && check)
     by_tests true true dead five most = refl
     by_tests true false dead five most = refl
-    by_tests false check dead five most = neither_draw dead five most
+    by_tests false check dead five most = with_a_move shows_mate refl refl refl refl dead five most
 
 pub stalemate_is_none : (line : Line) →
     shows_stalemate (status line) ≡ (is_without (legal_moves (last line)) && not (in_check (look (last line)) (last line).side))
@@ -52,7 +48,7 @@ stalemate_is_none line =
         ≡ (none && not check)
     by_tests true true dead five most = refl
     by_tests true false dead five most = refl
-    by_tests false check dead five most = nor_stalemate dead five most
+    by_tests false check dead five most = with_a_move shows_stalemate refl refl refl refl dead five most
 
 pub claims_agree : (line : Line) (m : MoveParts) → is_legal (last line) m ≡ true → is_play (status line) ≡ true → is_play (status (extended line m)) ≡ true →
     claims_with line m ≡ Some (claims (extended line m))

@@ -8,7 +8,7 @@ use Rattle.chess_types.specs.board.Position.{State}
 use Rattle.chess_types.specs.board.Legal.{legal_moves}
 use Rattle.chess_san.specs.Writing.{san}
 
--- the text of a move tells it from all others
+-- no other legal move has the text of a move
 abbrev pub OneTextOneMove : Type 0
 OneTextOneMove = (p : State) (m n : MoveParts) → Contains (legal_moves p) m → Contains (legal_moves p) n → san p m ≡ san p n → m ≡ n
 

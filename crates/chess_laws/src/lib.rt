@@ -1,7 +1,7 @@
 //! Laws of the Laws: what the definitions of `chess_types/specs/board` say of one another. That those definitions are the Laws of Chess has to be
 //! believed; a law that is proved of them is a part of that belief less.
 //!
-//! Each law is the clause of a function that does nothing, and stands in `specs/`.
+//! Each law is the clause of a function that does nothing; its statement is in `specs/`.
 #![tactic(auto)]
 
 mod dead;

@@ -1,7 +1,7 @@
 ghost use Rattle.chess_laws.specs.OutcomeLaws.{ClaimsAgree, ClaimsEnd, DrawsWereClaimable, MateIsMate, StalemateIsNone};
 
 /// What the status of a line and its claims have to do with its last position and the next (FIDE Laws, articles 5.1.1, 5.2.1, 9.2 and 9.3): mate is
-/// told exactly where the side to move is in check and has no legal move, stalemate where it has none and isn't; a draw that ends the game by
+/// reported exactly where the side to move is in check and has no legal move, stalemate where it has none and isn't; a draw that ends the game by
 /// itself could have been claimed before, and after the end none may be; what may be claimed with a
 /// move that is only named is what may be claimed once it is made.
 pub fn outcome_laws()
