@@ -1,6 +1,5 @@
 -- What is answered of a line, by what is found out of its last position.
-use Rattle.std.proofs.Common.{◌≡◌, ℕ, ◌<◌, ◌≤◌, Bool, ◌&&◌, ◌||◌, true, false, Some, None, Ok, Err, length, refl, ap, ◌∙◌}
-use Rattle.std.proofs.lemmas.Bool.{le-leb, lt-leb}
+use Rattle.std.proofs.Common.{◌≡◌, ℕ, Bool, ◌&&◌, ◌||◌, true, false, Some, None, Result, Ok, Err, OnOk, refl, ap, ◌∙◌}
 use Rattle.chess_types.specs.declared.board.outcome.Status.{Status}
 use Rattle.chess_types.specs.board.MoveParts.{MoveParts}
 use Rattle.chess_types.specs.board.Position.{State}
@@ -8,7 +7,7 @@ use Rattle.chess_types.specs.board.Legal.{is_legal}
 use Rattle.chess_types.specs.board.Lines.{Line, last, extended}
 use Rattle.chess_types.specs.board.Repetition.{repetitions}
 use Rattle.chess_types.specs.board.Outcome.{status_at, status, is_play, claims_at, claims, claims_with}
-use Rattle.chess_draws.specs.declared.fault.LineFault.TheVariants.{Illegal, TooLong}
+use Rattle.chess_draws.specs.declared.fault.LineFault.TheVariants.{Illegal}
 use Rattle.chess_draws.specs.Draws.{is_drawn_at, is_claimable_at, is_drawn, is_claimable}
 use Rattle.chess_draws.specs.Pushes.{push_answer}
 
@@ -47,12 +46,11 @@ pub drawn_is : (line : Line) (p : State) (count : ℕ) (claims : Bool) → p ≡
 unfolding is_drawn is_claimable
 drawn_is line p count claims position is = λ i. is_drawn_at (position i) (is i) || (claims && is_claimable_at (position i) (is i))
 
--- the answers to a move
+-- the answer to a move that isn't legal
 pub answer_illegal : (line : Line) (m : MoveParts) → is_legal (last line) m ≡ false → push_answer line m ≡ Err Illegal
 answer_illegal line m illegal = rw illegal refl
 
-pub answer_long : (line : Line) (m : MoveParts) → is_legal (last line) m ≡ true → 20000 ≤ length line.moves → push_answer line m ≡ Err TooLong
-answer_long line m legal long = rw (legal, le-leb 20000 (length line.moves) long) refl
-
-pub answer_made : (line : Line) (m : MoveParts) → is_legal (last line) m ≡ true → length line.moves < 20000 → push_answer line m ≡ Ok tt
-answer_made line m legal few = rw (legal, lt-leb 20000 (length line.moves) few) refl
+-- what holds anyway holds where it went well
+pub when_ok : {A E P : Type 0} (r : Result A E) → P → OnOk r P
+when_ok (Ok x) p = p
+when_ok (Err e) p = tt

@@ -1,6 +1,7 @@
 -- What `push` and `pop` do.
 --   push_answer   the answer where there is memory: the first fault that applies, or the move is added
 --   AnswersPush       want of memory is answered only where nothing else is wrong and the line has no room left
+--   room_answer, AnswersRoom      the same, where the move is known to be legal
 --   line_after    the line afterwards
 use Rattle.std.specs.Prelude.{◌≡◌, ◌≤◌, ◌⊎◌, nat_le, not, if◌then◌else◌, length, Result, Ok, Err}
 use Rattle.chess_types.specs.board.MoveParts.{MoveParts}
@@ -17,6 +18,12 @@ push_answer line m = if not (is_legal (last line) m) then Err Illegal else (if n
 abbrev pub AnswersPush : LineParts → MoveParts → Result (Unit {0}) LineFault → Type 0
 AnswersPush old m result =
     (result ≡ push_answer old.line m) ⊎ ((push_answer old.line m ≡ Ok tt) × (result ≡ Err Memory) × (old.room ≤ length old.line.moves))
+
+abbrev pub room_answer : Line → Result (Unit {0}) LineFault
+room_answer line = if nat_le 20000 (length line.moves) then Err TooLong else Ok tt
+
+abbrev pub AnswersRoom : LineParts → Result (Unit {0}) LineFault → Type 0
+AnswersRoom old result = (result ≡ room_answer old.line) ⊎ ((room_answer old.line ≡ Ok tt) × (result ≡ Err Memory) × (old.room ≤ length old.line.moves))
 
 abbrev pub line_after : Line → MoveParts → Result (Unit {0}) LineFault → Line
 line_after line m (Ok _) = extended line m

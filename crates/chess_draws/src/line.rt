@@ -13,7 +13,7 @@ ghost use Rattle.chess_san.specs.Writing.{mark_text, san};
 ghost use Rattle.chess_draws.specs.declared.fault.LineFault.TheVariants.{Memory};
 ghost use Rattle.chess_draws.specs.Draws.{is_drawn, is_claimable};
 ghost use Rattle.chess_draws.specs.LineParts.{IsAsBefore, comparisons};
-ghost use Rattle.chess_draws.specs.Pushes.{AnswersPush, line_after};
+ghost use Rattle.chess_draws.specs.Pushes.{AnswersPush, AnswersRoom, line_after};
 
 use crate::fault::LineFault;
 use crate::look_back::look_back;
@@ -130,11 +130,32 @@ impl<'k, A: Allocator> Line<'k, A> {
         ensures room { self.old.room ≤ self.new.room }
         ensures compared { self.new.compared ≡ self.old.compared }
     {
-        let made = self.plies();
         if !is_legal(&mut self.live, m) {
             return Err(LineFault::Illegal);
         }
-        if made >= LIMIT {
+        self.make_room()
+    }
+
+    /// All of a `push` of a legal move but the move itself: whether the line takes one more, and room for it. The line is as before.
+    ///
+    /// # Errors
+    ///
+    /// `TooLong` where the line has 20,000 plies, else `Memory` where it can't grow.
+    #[inline(always)]
+    pub fn make_room(&mut self) -> Result<(), LineFault>
+        requires none { self.old.looked ≡ 0 }
+        ensures answer { AnswersRoom self.old result }
+        // It is what a push of a legal move answers, whichever.
+        ensures push { (m : MoveParts) → is_legal_in (last self.old.line) m ≡ true → AnswersPush self.old m result }
+        ensures few { OnOk result (length self.old.line.moves < 20000) }
+        ensures ready { OnOk result (length self.old.line.moves < self.new.room) }
+        ensures line { self.new.line ≡ self.old.line }
+        ensures looked { self.new.looked ≡ 0 }
+        ensures words { self.new.words ≡ self.old.words }
+        ensures room { self.old.room ≤ self.new.room }
+        ensures compared { self.new.compared ≡ self.old.compared }
+    {
+        if self.plies() >= LIMIT {
             return Err(LineFault::TooLong);
         }
         if self.plies.reserve(1).is_err() {
@@ -143,8 +164,30 @@ impl<'k, A: Allocator> Line<'k, A> {
         Ok(())
     }
 
-    /// Adds a legal move to a line of fewer than 20,000 plies that has room for it, as after a `prepare` of the move, or after a
-    /// `reserve`. Takes no memory.
+    /// Adds a move that is known to be legal, as `read_move` answers it: a `push` that doesn't ask again.
+    ///
+    /// # Errors
+    ///
+    /// Those of `make_room`. The line is then as before.
+    pub fn push_legal(&mut self, m: Move) -> Result<(), LineFault>
+        requires none { self.old.looked ≡ 0 }
+        requires legal { IsTrue (is_legal_in (last self.old.line) m) }
+        ensures answer { AnswersPush self.old m result }
+        ensures line { self.new.line ≡ line_after self.old.line m result }
+        ensures looked { self.new.looked ≡ 0 }
+        ensures words { self.new.words ≡ self.old.words }
+        ensures room { self.old.room ≤ self.new.room }
+        ensures compared { self.new.compared ≡ self.old.compared }
+        ensures at_most { OnOk result (self.new.ticks ≤ 216) }
+        ensures at_least { OnOk result (changed_of (look (last self.old.line)) (look (last self.new.line)) ≤ self.new.ticks) }
+    {
+        self.make_room()?;
+        self.push_prepared(m);
+        Ok(())
+    }
+
+    /// Adds a legal move to a line of fewer than 20,000 plies that has room for it, as after a `prepare` of the move, after a
+    /// `make_room`, or after a `reserve`. Takes no memory.
     pub fn push_prepared(&mut self, m: Move)
         requires none { self.old.looked ≡ 0 }
         requires legal { IsTrue (is_legal_in (last self.old.line) m) }
