@@ -8,6 +8,7 @@
 mod check;
 mod counting;
 mod guard;
+mod in_line;
 mod legal;
 mod listing;
 mod own;

@@ -1,7 +1,9 @@
 -- What decides which moves leave the mover's king unattacked: where he stands, the squares that stop a check, those behind him on
--- the lines of the men that check, and which men are pinned.
-use Rattle.std.specs.Prelude.{ℕ, ◌≡◌, ◌<◌, Bool, true, not, ◌&&◌}
+-- the lines of the men that check, and which men are pinned. A man who isn't in line with him is not.
+use Rattle.std.specs.Prelude.{ℕ, ◌≡◌, ◌<◌, Bool, true, not, ◌&&◌, ◌||◌}
 use Rattle.std.specs.FinSet.{contains}
+use Rattle.chess_types.specs.declared.board.axis.Axis.TheVariants.{Rank, File, Rising, Falling}
+use Rattle.chess_types.specs.board.Squares.{on_axis}
 use Rattle.chess_types.specs.board.Men.{is_king_of, opponent}
 use Rattle.chess_types.specs.board.Attack.{is_attacked}
 use Rattle.chess_types.specs.board.Position.{State, look}
@@ -19,3 +21,7 @@ pub record IsGuard (guard : Guard) (p : State) : Type 0 where
 -- the king isn't attacked on the square to which he steps from his own: the other side doesn't attack it now, and it has no shade
 abbrev pub is_safe_step : State → ℕ → ℕ → Bool
 is_safe_step p king to = not (is_attacked (look p) (opponent p.side) to) && not (round (shaded_on (look p) p.side king to))
+
+-- both squares are on one rank, one file or one diagonal
+unfoldable pub in_line : ℕ → ℕ → Bool
+in_line a b = on_axis Rank a b || on_axis File a b || on_axis Rising a b || on_axis Falling a b
