@@ -74,12 +74,7 @@ move_put front page page1 page2 (n ∷ ms) more m some first gap next all =
     ∙ append_assoc front (parted_by (codes " ") (map move_text (n ∷ ms))) (32 ∷ move_text m)
     ∙ ap (λ (t : List ℕ). front ++ t) (moves-more (n ∷ ms) m))
 
--- the first move
-pub move_first : (front page : List ℕ) (moves others : List MoveParts) (m : MoveParts) → moves ≡ m ∷ others → page ≡ front ++ move_text m
-    → page ≡ front ++ parted_by (codes " ") (map move_text (take 1 moves ++ []))
-move_first front page moves others m parts put = rw parts (put ∙ ap (λ (t : List ℕ). front ++ t) (sym (append-nil (move_text m))))
-
--- the next
+-- the next move
 pub move_next : (front page page1 page2 : List ℕ) (moves others : List MoveParts) (n : ℕ) (first m d : MoveParts) → moves ≡ first ∷ others
     → page ≡ front ++ parted_by (codes " ") (map move_text (take 1 moves ++ take n others)) → n < length others
     → page1 ≡ page ++ codes " " → page2 ≡ page1 ++ move_text m → m ≡ get_or others n d

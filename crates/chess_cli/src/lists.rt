@@ -1,4 +1,4 @@
-ghost use Rattle.std.specs.Prelude.{◌≡◌, ◌+◌, ◌≤◌, ◌++◌, filter, length, map};
+ghost use Rattle.std.specs.Prelude.{◌≡◌, ◌+◌, ◌≤◌, ◌∷◌, ◌++◌, filter, length, map};
 ghost use Rattle.std.specs.FinSet.{contains};
 ghost use Rattle.arrayvec.specs.ArrayString.{array_string_len};
 ghost use Rattle.chess_types.specs.board.Squares.{squares};
@@ -8,7 +8,7 @@ ghost use Rattle.chess_cli.specs.steps.Lists.{behind};
 
 use arrayvec::ArrayString;
 use chess_loop::Page;
-use chess_types::{Move, SquareSet};
+use chess_types::{Move, Square, SquareSet};
 use std::alloc::Allocator;
 
 // Another text, behind a space where it isn't the first.
@@ -25,6 +25,46 @@ fn push_behind<const N: usize>(text: &mut ArrayString<N>, next: &str)
     }
 }
 
+// The name of a square.
+#[inline(always)]
+fn push_square(text: &mut ArrayString<128>, square: Square)
+    requires { array_string_len text.old + 2 ≤ 128 }
+    ensures bytes { text.new.bytes ≡ text.old.bytes ++ square_text square }
+    ensures len { array_string_len text.new ≡ array_string_len text.old + 2 }
+{
+    text.push(char::from(b'a' + square.file()));
+    text.push(char::from(b'1' + square.rank()));
+}
+
+// The text of a move.
+#[inline(always)]
+fn push_move(text: &mut ArrayString<128>, m: Move)
+    requires { array_string_len text.old + 5 ≤ 128 }
+    ensures bytes { text.new.bytes ≡ text.old.bytes ++ move_text m }
+    ensures len { array_string_len text.new ≤ array_string_len text.old + 5 }
+{
+    push_square(text, m.from);
+    push_square(text, m.to);
+    if let Some(kind) = m.promo {
+        text.push(kind.letter());
+    }
+}
+
+// Another move, behind a space. What was gathered goes on the page first where there is no room for it.
+#[inline(always)]
+fn gather<A: Allocator>(page: &mut Page<A>, text: &mut ArrayString<128>, m: Move)
+    requires { length page.old + array_string_len text.old + 6 ≤ 65536 }
+    ensures bytes { page.new ++ text.new.bytes ≡ (page.old ++ text.old.bytes) ++ 32 ∷ move_text m }
+    ensures len { length page.new + array_string_len text.new ≤ length page.old + array_string_len text.old + 6 }
+{
+    if text.len() > 120 {
+        page.put(text.as_str().as_bytes());
+        text.clear();
+    }
+    text.push(' ');
+    push_move(text, m);
+}
+
 /// The texts of at most 432 moves, parted by one space, behind what stands on the page; `none` where there is none.
 pub fn put_moves<A: Allocator>(page: &mut Page<A>, moves: &[Move])
     requires few { length moves.now ≤ 432 }
@@ -36,11 +76,12 @@ pub fn put_moves<A: Allocator>(page: &mut Page<A>, moves: &[Move])
         page.put(b"none");
         return;
     };
-    page.put(first.text().as_str().as_bytes());
+    let mut text = ArrayString::new();
+    push_move(&mut text, *first);
     for m in others {
-        page.put(b" ");
-        page.put(m.text().as_str().as_bytes());
+        gather(page, &mut text, *m);
     }
+    page.put(text.as_str().as_bytes());
 }
 
 /// The names of the squares in order, parted by one space; `none` where there is none.

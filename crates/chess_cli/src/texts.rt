@@ -28,12 +28,18 @@ pub trait Kept {
         ensures { result ≡ evaluation self.now };
 }
 
+// Most are a digit alone.
+#[inline(always)]
 fn push_number(text: &mut ArrayString<320>, number: u8)
     requires { array_string_len text.old + 3 ≤ 320 }
     ensures bytes { text.new.bytes ≡ text.old.bytes ++ decimal number }
     ensures len { array_string_len text.new ≤ array_string_len text.old + 3 }
 {
-    text.push_str(Buffer::new().format(number));
+    if number < 10 {
+        text.push(char::from(b'0' + number));
+    } else {
+        text.push_str(Buffer::new().format(number));
+    }
 }
 
 // The numbers of files a to h on a rank.

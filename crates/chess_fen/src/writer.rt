@@ -47,6 +47,10 @@ fn push_rank(text: &mut ArrayString<71>, cells: &[Option<Man>])
     ensures bytes { text.new.bytes ≡ text.old.bytes ++ cells_text 0 cells.now }
     ensures len { array_string_len text.new ≤ array_string_len text.old + 8 }
 {
+    if let [None, None, None, None, None, None, None, None] = cells {
+        text.push('8');
+        return;
+    }
     let mut run = 0;
     for cell in cells {
         run = push_cell(text, run, *cell);
