@@ -1,6 +1,6 @@
-ghost use Rattle.std.specs.Prelude.{◌≡◌, ◌<◌, ◌≤◌, ◌&&◌, ◌==◌, ℕ, true, count_by, filter, length, nat_lt};
+ghost use Rattle.std.specs.Prelude.{◌≡◌, ◌<◌, ◌≤◌, ◌&&◌, ◌==◌, ℕ, true, filter, length, nat_lt};
 ghost use Rattle.std.specs.FinSet.{contains};
-ghost use Rattle.chess_types.specs.board.Squares.{rank_of, squares};
+ghost use Rattle.chess_types.specs.board.Squares.{rank_of};
 ghost use Rattle.chess_types.specs.board.Men.{is_of};
 ghost use Rattle.chess_types.specs.board.Position.{look};
 ghost use Rattle.chess_types.specs.board.Pseudo.{last_rank};
@@ -24,18 +24,6 @@ fn last_squares(side: Colour) -> SquareSet
     }
 }
 
-/// How many squares the set holds: the bits of a word are counted only where there are some.
-#[inline(always)]
-fn size(set: SquareSet) -> usize
-    ensures counted { result ≡ count_by (contains set) squares }
-    ensures at_most { result ≤ 64 }
-{
-    match set.lowest() {
-        None => 0,
-        Some(_) => set.len(),
-    }
-}
-
 /// How many legal moves start on a square on which a man of the side to move stands.
 #[inline(always)]
 fn count_from(live: &mut Live, guard: &Guard, from: Square) -> usize
@@ -52,9 +40,9 @@ fn count_from(live: &mut Live, guard: &Guard, from: Square) -> usize
     let squares = targets(live, guard, kind, from);
     if kind.is_pawn() {
         let last = squares.intersection(last_squares(side));
-        size(squares) + 3 * size(last)
+        squares.len() + 3 * last.len()
     } else {
-        size(squares)
+        squares.len()
     }
 }
 

@@ -16,9 +16,9 @@ returns-then-is_pawn-clause-count c =
     let king : OnlyKing (look p) p.side c.args.guard.now.king =
     only_king p.placement p.side c.args.guard.now.king (setup.kings p.side) c.requires.guard.on_board c.requires.guard.king in
     pawn_count p setup c.own_kind-kind.result c.args.from c.args.guard.now.king (omega arith) c.own_kind-kind.ensures king c.targets-squares.result c.targets-squares.ensures.is_legal_target
-    c.size.result c.size-then-is_pawn.result c.last_squares.result c.intersection-last.result (sym c.is_pawn.ensures ∙ c.if-is_pawn.true)
+    c.len.result c.len-then-is_pawn.result c.last_squares.result c.intersection-last.result (sym c.is_pawn.ensures ∙ c.if-is_pawn.true)
     (subst (λ (q : State). (s : ℕ) → contains c.last_squares.result s ≡ (nat_lt s 64 && rank_of s == last_rank q.side)) same c.last_squares.ensures)
-    c.intersection-last.ensures c.size.ensures.counted c.size-then-is_pawn.ensures.counted
+    c.intersection-last.ensures c.len.ensures.counted c.len-then-is_pawn.ensures.counted
 
 pub returns-else-is_pawn-clause-count : goal.returns-else-is_pawn-clause-count
 returns-else-is_pawn-clause-count c =
@@ -27,4 +27,4 @@ returns-else-is_pawn-clause-count c =
     let king : OnlyKing (look p) p.side c.args.guard.now.king =
     only_king p.placement p.side c.args.guard.now.king (setup.kings p.side) c.requires.guard.on_board c.requires.guard.king in
     plain_count p setup c.own_kind-kind.result c.args.from c.args.guard.now.king (omega arith) c.own_kind-kind.ensures king c.targets-squares.result c.targets-squares.ensures.is_legal_target
-    c.size-else-is_pawn.result (sym c.is_pawn.ensures ∙ c.if-is_pawn.false) c.size-else-is_pawn.ensures.counted
+    c.len-else-is_pawn.result (sym c.is_pawn.ensures ∙ c.if-is_pawn.false) c.len-else-is_pawn.ensures.counted
