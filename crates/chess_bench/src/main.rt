@@ -4,12 +4,18 @@
 //!
 //! Men are taken from the boards of a fixed list and put on others of their squares, chosen by a fixed seed. What is counted
 //! goes to standard output and is the same at each run; the rate goes to standard error.
+//!
+//! With a word, the name of one call, that call alone is made, a thousand times for each position of the list, or for each of its legal
+//! moves: `is_legal`, `make` (and taken back), `write_move`, `read_move`, `moves`, `count_legal`, `write_fen`, `read_fen`; `nothing`
+//! makes none. A counter of instructions beside the program tells what the call costs (docs/SPEED.md).
 #![tactic(auto)]
 
+mod calls;
 mod exercise;
 mod searches;
 mod texts;
 
+use calls::{Call, Calls};
 use chess_draws::Line;
 use chess_fen::read;
 use chess_key::KeyTable;
@@ -17,8 +23,8 @@ use chess_play::Live;
 use chess_search::{Nodes, score_text};
 use exercise::{Exercise, Ticks};
 use searches::best_of_all;
-use std::io;
 use std::time::Instant;
+use std::{env, io};
 use texts::Texts;
 
 const POSITIONS: [&str; 5] = [
@@ -88,8 +94,38 @@ fn search(rt: &HostRuntime, fen: &str) -> io::Result<()> {
     eprintln!(rt; "{rate} a second")
 }
 
+/// The call of that name, so many times.
+fn measure(rt: &HostRuntime, word: &str) -> io::Result<()> {
+    let Some(call) = Call::named(word) else {
+        return println!(rt; "no call: {word}");
+    };
+    let table = KeyTable::new([0; 768]);
+    let mut calls = Calls::default();
+    for fen in POSITIONS {
+        let Ok(position) = read(fen.as_bytes()) else {
+            return println!(rt; "no position: {fen}");
+        };
+        calls.with_fen(&position, fen, call, ROUNDS);
+        let mut live = Live::new(position, &table);
+        calls.with_moves(&mut live, call, ROUNDS);
+        calls.with_position(&mut live, call, ROUNDS);
+    }
+    let (made, sum) = (calls.made, calls.sum);
+    println!(rt; "{word}: {made} calls, {sum} in all")
+}
+
 fn main(rt: HostRuntime) -> io::Result<()> {
-    let begun = Instant::now(&rt)?;
+    let args = env::args(&rt)?;
+    let words = args.collect::<Vec<String>>(rt.alloc())?;
+    match words.get(1) {
+        Some(word) => measure(&rt, word.as_str()),
+        None => measure_all(&rt),
+    }
+}
+
+/// Puts and clears, texts of moves, and searches.
+fn measure_all(rt: &HostRuntime) -> io::Result<()> {
+    let begun = Instant::now(rt)?;
     let mut all = Ticks::default();
     for fen in POSITIONS {
         let Ok(position) = read(fen.as_bytes()) else {
@@ -103,16 +139,16 @@ fn main(rt: HostRuntime) -> io::Result<()> {
         let white = exercise.white();
         println!(rt; "evaluation at the end: {white}")?;
     }
-    let elapsed = begun.elapsed(&rt)?;
+    let elapsed = begun.elapsed(rt)?;
     let (changes, sum, most) = (all.changes, all.sum, all.most);
     let hundredths = sum.saturating_mul(100).checked_div(changes).unwrap_or(0);
     let (whole, part) = (hundredths / 100, hundredths % 100);
     println!(rt; "{changes} puts and clears; ticks: {whole}.{part:02} on average, {most} at most")?;
     let rate = rate(changes, elapsed.as_micros());
     eprintln!(rt; "{rate} a second")?;
-    exchange(&rt)?;
+    exchange(rt)?;
     for fen in &POSITIONS[..SEARCHED] {
-        search(&rt, fen)?;
+        search(rt, fen)?;
     }
     Ok(())
 }
