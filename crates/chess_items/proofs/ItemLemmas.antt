@@ -1,6 +1,6 @@
 -- The code finds exactly the items of the definition: what spells an item is found.
-use Rattle.std.proofs.Common.{◌≡◌, ◌≢◌, ◌<◌, ◌≤◌, ◌⊎◌, inl, inr, ℕ, Bool, true, false, eqb, List, [], ◌∷◌, ◌++◌, Option, Some, None, refl, sym, ap, ◌∙◌, arith, append_assoc, ◌||◌}
-use Rattle.std.proofs.lemmas.Bool.{eqb-true, lt-ltb}
+use Rattle.std.proofs.Common.{◌≡◌, ◌≢◌, ◌<◌, ◌≤◌, ◌⊎◌, inl, inr, ℕ, Bool, true, false, eqb, List, [], ◌∷◌, ◌++◌, Option, Some, None, refl, sym, subst, ap, ◌∙◌, arith, append_assoc, ◌||◌}
+use Rattle.std.proofs.lemmas.Bool.{eqb-true, false≢true, lt-ltb}
 use Rattle.std.proofs.lemmas.Bool.Decides.{nat_tests}
 use Rattle.chess_items.specs.Items.{Item, Mark, Blank, Hidden, Comment, Skipped, Word, Nag, Open, Close, Marker, TagOpen, TagClose, Name, Quote, Stretch, Escaped}
 use Rattle.chess_items.specs.Items.{Each, EndsRun, IsRun, IsSpelled, IsItem, digits_value, glyph_value, in_braces, in_line, is_blank, is_digit, is_escapable, is_glyph, is_name_byte, is_plain, is_word_byte, word_item, may_stand}
@@ -220,3 +220,15 @@ item_goes InLine item text next p = outside_goes false item text next (sym (in_l
 item_goes TagLineStart item text next p = tag_goes true item text next (sym (at_tag_line item) ∙ p.stands) p.spelled
 item_goes InTag item text next p = tag_goes false item text next (sym (in_tag_line item) ∙ p.stands) p.spelled
 item_goes InValue item text next p = value_goes item text next (sym (in_a_value item) ∙ p.stands) p.spelled
+
+-- no number and no marker begins with another byte than a digit
+pub letter_word : (text rest : List ℕ) (b : ℕ) → text ≡ b ∷ rest → is_digit b ≡ false → Word text ≡ word_item text
+unfolding word_item is_digit
+letter_word text rest b e h =
+    subst (λ (x : List ℕ). Word x ≡ word_item x) (sym e) (rw (h, no_eqb b 49 (λ k. one k), no_eqb b 48 (λ k. nought k)) refl)
+  where
+    one : b ≡ 49 → ⊥
+    one k = false≢true (sym h ∙ ap is_digit k)
+
+    nought : b ≡ 48 → ⊥
+    nought k = false≢true (sym h ∙ ap is_digit k)

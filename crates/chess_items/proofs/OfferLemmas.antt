@@ -2,20 +2,24 @@
 use Rattle.std.proofs.Common.{◌<◌, take, drop, ◌+◌, ◌-◌, ◌≡◌, ◌≢◌, ℕ, length-append, ◌≤◌, ◌⊎◌, inl, inr, Bool, true, false, List, [], ◌∷◌, ◌++◌, length, Some, None, refl, sym, ap, subst, ◌∙◌, arith, append_assoc, append-nil, Ok}
 use Rattle.std.proofs.lemmas.List.{take-append-drop, take-append-le}
 use Rattle.std.specs.Str.{byte}
-use Rattle.chess_types.specs.bytes.Calls.{joined}
+use Rattle.chess_types.specs.bytes.Calls.{Calls, joined}
+use Rattle.chess_types.proofs.CallLemmas.{Calls-more, joined-more}
 use Rattle.chess_items.specs.Items.{Item, TagOpen, is_white, may_stand, place_after}
 use Rattle.chess_items.specs.steps.ItemAt.{Found, item_at}
-use Rattle.chess_items.specs.steps.Deciding.{longer, Decides}
-use Rattle.chess_items.specs.steps.Texts.{Oversized, Near, MadeReady, Keeps}
-use Rattle.chess_items.specs.steps.Taking.{TakesOne, Brackets, Offered, UsesItem, Next, AfterStop, Steps}
+use Rattle.chess_items.specs.steps.Deciding.{longer, Decides, is_open}
+use Rattle.chess_items.specs.steps.Texts.{Oversized, Near, MadeReady, IsReady, Keeps}
+use Rattle.chess_items.specs.steps.Taking.{TakesOne, Brackets, Offered, UsesItem, Next, AfterStop, Settles, Steps, settled}
 use Rattle.chess_items.specs.declared.place.Place.{Place}
+use Rattle.chess_items.specs.declared.taking.Answer.{Answer}
 use Rattle.chess_items.specs.declared.taking.Answer.TheVariants as answer
 use Rattle.chess_items.specs.declared.taking.Stop.{Stop}
 use Rattle.chess_items.specs.declared.taking.Stop.TheVariants as stop
+use Rattle.chess_items.specs.declared.taking.Step.{Step}
 use Rattle.chess_items.specs.declared.taking.Step.TheVariants as step
 use Rattle.chess_items.proofs.FoundLemmas.{the, item_taken, some_is}
 use Rattle.chess_items.proofs.ItemLemmas.{item_goes}
-use Rattle.chess_items.proofs.OpenLemmas.{nothing_undecided}
+use Rattle.chess_items.proofs.ClosedLemmas.{closed_decides}
+use Rattle.chess_items.proofs.OpenLemmas.{nothing_undecided, open_undecided}
 use Rattle.chess_items.proofs.LocalLemmas.{undecided_taken, item_shorter}
 
 decided_item : (place : Place) (hand more : List ℕ) (found : Found) (A : Type 0) → Decides place hand ⊎ A → (A → more ≡ []) → item_at place hand ≡ found → item_at place (hand ++ more) ≡ longer found more
@@ -102,153 +106,201 @@ over_oversized most place hand more over undecided =
     none_sized most place (hand ++ more) (item_at place (hand ++ more)) refl (omega (arith, l)) (λ h. undecided_front most place hand more over shorter)
     (λ i rest h. let s = undecided_taken place hand more i rest undecided h in omega (arith, l, s))
 
-module _ {X : Type 0} {comes : X → List ℕ → X → Type 0} {at_hand : X → List ℕ} {all sound : X → Type 0} {size : X → ℕ} {most : ℕ} {place : Place} {old mid : X} {is_ready : Bool}
-    (made : MadeReady comes at_hand all sound size most place old mid (Ok is_ready)) where
-  made_as : (b : Bool) → is_ready ≡ b → MadeReady comes at_hand all sound size most place old mid (Ok b)
-  made_as b e = subst (λ (b : Bool). MadeReady comes at_hand all sound size most place old mid (Ok b)) e made
+-- where a byte follows the item, the bytes decide it
+found_decides : (place : Place) (hand : List ℕ) (item : Item) (rest : List ℕ) → item_at place hand ≡ the item rest → 0 < length rest → Decides place hand
+found_decides place hand item rest found some = go (is_open place hand) refl
+  where
+    go : (v : Bool) → is_open place hand ≡ v → Decides place hand
+    go false e = closed_decides place hand e
+    go true e =
+        (let h = undecided_taken place hand [] item rest (open_undecided place hand e) (ap (item_at place) (append-nil hand) ∙ found) in absurd (omega (arith, h, some)))
 
-  -- too many bytes don't decide the item
-  pub step_undecided : {T : Type 0} {takes : TakesOne T} {at : ℕ} {t : T} → is_ready ≡ false → Steps comes at_hand all sound size takes at most place old mid t t (Ok (step.Stops stop.TooLarge))
-  step_undecided not =
-      let r = made_as false not in
-      let a = r.after in
-      record {
-        pieces = r.more ∷ [];
-        came = (mid, r.came, refl);
-        after = (
-          record { longer = a.longer ∙ ap (λ (x : List ℕ). at_hand old ++ x) (sym (append-nil r.more)); at_end = (λ h. (append-nil r.more ∙ (a.at_end h).0, (a.at_end h).1)); sound_still = a.sound_still },
-          record {
-            over = λ further none. over_oversized most place (at_hand mid) further a.over a.undecided;
-            bracket = λ further none rest found. absurd (undecided_bracket place (at_hand mid) further rest (omega (arith, a.over)) a.undecided found);
-          },
-        );
-      }
+-- what follows the item that is found is a part of the bytes
+pub found_within : (place : Place) {hand bytes again : List ℕ} {item : Item} {rest : List ℕ} → bytes ≡ hand → the item rest ≡ item_at place bytes → again ≡ hand → length rest ≤ length again
+found_within place {hand} {bytes} {again} {item} {rest} same look once_more =
+    let s = item_shorter place bytes item rest (sym look) in
+    let n = ap length once_more in
+    let m = ap length same in
+    omega (arith, s, n, m)
 
-  module _ (yes : is_ready ≡ true) where
-    r : MadeReady comes at_hand all sound size most place old mid (Ok true)
-    r = made_as true yes
+-- bytes came, and those at hand decide the item at their front, or all have come
+pub record Seen {X : Type 0} (comes : X → List ℕ → X → Type 0) (at_hand : X → List ℕ) (all sound : X → Type 0) (size : X → ℕ) (most : ℕ) (place : Place) (old mid : X) : Type 0 where
+  pub pieces : List (List ℕ)
+  pub came : Calls comes old pieces mid
+  pub after : IsReady comes at_hand all sound size most place old (joined pieces) mid
 
-    pub sound_still : sound mid
-    sound_still = r.after.sound_still
+module _ {X : Type 0} {comes : X → List ℕ → X → Type 0} {at_hand : X → List ℕ} {all sound : X → Type 0} {size : X → ℕ} {most : ℕ} {place : Place} where
+  module _ {old mid : X} {is_ready : Bool} (made : MadeReady comes at_hand all sound size most place old mid (Ok is_ready)) where
+    made_as : (b : Bool) → is_ready ≡ b → MadeReady comes at_hand all sound size most place old mid (Ok b)
+    made_as b e = subst (λ (b : Bool). MadeReady comes at_hand all sound size most place old mid (Ok b)) e made
 
-    -- nothing is used
-    stops : {T : Type 0} {takes : TakesOne T} {at : ℕ} {t : T} (why : Stop) (u : T) → AfterStop comes at_hand all sound size takes at most place old mid t u why → Steps comes at_hand all sound size takes at most place old mid t u (Ok (step.Stops why))
-    stops why u after = record {
-      pieces = r.more ∷ [];
-      came = (mid, r.came, refl);
-      after = (
+    -- too many bytes don't decide the item
+    pub step_undecided : {T : Type 0} {takes : TakesOne T} {at : ℕ} {t : T} → is_ready ≡ false → Steps comes at_hand all sound size takes at most place old mid t t (Ok (step.Stops stop.TooLarge))
+    step_undecided not =
+        let r = made_as false not in
+        let a = r.after in
         record {
-          longer = r.after.longer ∙ ap (λ (x : List ℕ). at_hand old ++ x) (sym (append-nil r.more));
-          at_end = λ h. (append-nil r.more ∙ (r.after.at_end h).0, (r.after.at_end h).1);
-          sound_still = sound_still;
-        },
-        after,
-      );
-    }
-
-    all_came : (hand : List ℕ) → hand ≡ [] → Decides place hand ⊎ all mid → all mid
-    all_came hand e (inl d) = absurd (nothing_undecided place (subst (λ (x : List ℕ). Decides place x) e d))
-    all_came hand e (inr h) = h
-
-    pub step_end : {T : Type 0} {takes : TakesOne T} {at : ℕ} {t : T} → at_hand mid ≡ [] → Steps comes at_hand all sound size takes at most place old mid t t (Ok (step.Stops stop.End))
-    step_end {t = t} e = stops stop.End t (all_came (at_hand mid) e r.after.decided, e, refl)
-
-    -- what is found at the front is found whatever follows
-    module _ {bytes : List ℕ} (same : bytes ≡ at_hand mid) where
-      finds : (found : Found) → found ≡ item_at place bytes → (more : List ℕ) → (all mid → more ≡ []) → item_at place (at_hand mid ++ more) ≡ longer found more
-      finds found look more none = decided_item place (at_hand mid) more found (all mid) r.after.decided none (ap (item_at place) (sym same) ∙ sym look)
-
-      -- no item
-      module _ (look : None ≡ item_at place bytes) {seen : List ℕ} (as_seen : seen ≡ at_hand mid) {T : Type 0} {takes : TakesOne T} {at : ℕ} {t : T} where
-        -- and too many bytes for its fault
-        pub step_exceeds : (most < length seen) × (Decides place (take (most + 1) seen) → ⊥) → Steps comes at_hand all sound size takes at most place old mid t t (Ok (step.Stops stop.TooLarge))
-        step_exceeds exceeds =
-            let both = subst (λ (x : List ℕ). (most < length x) × (Decides place (take (most + 1) x) → ⊥)) as_seen exceeds in
-            stops stop.TooLarge t (record {
-              over = λ more none. none_oversized most place (at_hand mid) more both.0 both.1 (finds None look more none);
-              bracket = λ more none rest found. absurd (none_is_some rest (sym (finds None look more none) ∙ found));
-            })
-
-        pub step_none : at_hand mid ≢ [] → (most < length seen → Decides place (take (most + 1) seen)) → Steps comes at_hand all sound size takes at most place old mid t t (Ok (step.Stops stop.NoItem))
-        step_none some within =
-            stops stop.NoItem t
-            (record { none = finds None look; decided = r.after.decided; within = subst (λ (x : List ℕ). most < length x → Decides place (take (most + 1) x)) as_seen within; some = some }, refl)
-
-      module _ {item : Item} {rest : List ℕ} (look : the item rest ≡ item_at place bytes) {again : List ℕ} (once_more : again ≡ at_hand mid) where
-        found : item_at place (at_hand mid) ≡ the item rest
-        found = ap (item_at place) (sym same) ∙ sym look
-
-        found_on : (more : List ℕ) → (all mid → more ≡ []) → item_at place (at_hand mid ++ more) ≡ the item (rest ++ more)
-        found_on = finds (the item rest) look
-
-        pub rest_within : length rest ≤ length again
-        rest_within = (let s = item_shorter place (at_hand mid) item rest found in let n = ap length once_more in omega (arith, s, n))
-
-        abbrev used : ℕ
-        used = length again - length rest
-
-        counts : used + length rest ≡ length (at_hand mid)
-        counts = (let w = rest_within in let n = ap length once_more in omega (arith, w, n))
-
-        next_item : {T : Type 0} {takes : TakesOne T} → Next comes at_hand all sound size takes place old mid item
-        next_item = record {
-          rest = rest;
-          found = found_on;
-          near = (λ small. near_item place (at_hand old) (at_hand mid) rest item r.after.near found small);
-          bracket = (λ e small. near_bracket place (at_hand old) (at_hand mid) rest r.after.near (subst (λ (i : Item). item_at place (at_hand mid) ≡ the i rest) e found) small);
+          pieces = r.more ∷ [];
+          came = (mid, r.came, refl);
+          after = (
+            record { longer = a.longer ∙ ap (λ (x : List ℕ). at_hand old ++ x) (sym (append-nil r.more)); at_end = (λ h. (append-nil r.more ∙ (a.at_end h).0, (a.at_end h).1)); sound_still = a.sound_still },
+            record {
+              over = λ further none. over_oversized most place (at_hand mid) further a.over a.undecided;
+              bracket = λ further none rest found. absurd (undecided_bracket place (at_hand mid) further rest (omega (arith, a.over)) a.undecided found);
+            },
+          );
         }
 
-        module _ {T : Type 0} {takes : TakesOne T} {at : ℕ} {t : T} where
-          -- the item is too long
-          step_over : most < used → (u : T) → (item ≡ TagOpen → Brackets takes at t u) → Steps comes at_hand all sound size takes at most place old mid t u (Ok (step.Stops stop.TooLarge))
-          step_over long u bracket =
-              stops stop.TooLarge u (record {
-                over = λ more none. long_oversized most place (at_hand mid) more item rest (omega (arith, counts, long)) (found_on more none);
-                bracket = λ more none other is. bracket (same_item item TagOpen (rest ++ more) other (sym (found_on more none) ∙ is));
-              })
+    pub seen_read : is_ready ≡ true → Seen comes at_hand all sound size most place old mid
+    seen_read ok =
+        let r = made_as true ok in
+        record {
+          pieces = r.more ∷ [];
+          came = (mid, r.came, refl);
+          after = subst (λ (x : List ℕ). IsReady comes at_hand all sound size most place old x mid) (sym (append-nil r.more)) r.after;
+        }
 
-          -- it isn't used
-          pub step_stops : (why : Stop) (u : T) → Offered takes at item used most t u (answer.Stops why) → Steps comes at_hand all sound size takes at most place old mid t u (Ok (step.Stops why))
-          step_stops stop.Left u o = stops stop.Left u (item, next_item, o)
-          step_stops (stop.Refused fault) u o = stops (stop.Refused fault) u (item, next_item, o)
-          step_stops stop.TooLarge u o = step_over o.0 u o.1
-          step_stops stop.Full u o = absurd o
-          step_stops stop.End u o = absurd o
-          step_stops stop.NoItem u o = absurd o
+  -- nothing came
+  pub seen_at_once : {old : X} {bytes : List ℕ} {item : Item} {rest : List ℕ} → sound old → bytes ≡ at_hand old → the item rest ≡ item_at place bytes → 0 < length rest → Seen comes at_hand all sound size most place old old
+  seen_at_once {old = old} {item = item} {rest = rest} sure same look some = record {
+    pieces = [];
+    came = refl;
+    after = record {
+      longer = sym (append-nil (at_hand old));
+      decided = inl (found_decides place (at_hand old) item rest (ap (item_at place) (sym same) ∙ sym look) some);
+      near = inl refl;
+      at_end = λ h. (refl, h);
+      sound_still = sure;
+      no_larger = omega arith;
+      held = λ h. h;
+    };
+  }
 
-        module _ {new : X} (k : Keeps comes at_hand all sound size (length rest) mid new) where
-          left : at_hand new ≡ rest
-          left = (let t = item_taken place (at_hand mid) item rest found in k.kept t.0 rest t.1 refl)
+module _ {X : Type 0} {comes : X → List ℕ → X → Type 0} {at_hand : X → List ℕ} {all sound : X → Type 0} {size : X → ℕ} {most : ℕ} {place : Place} {old mid : X}
+    (ready : Seen comes at_hand all sound size most place old mid) where
+  sound_still : sound mid
+  sound_still = ready.after.sound_still
 
-          finds_left : (more : List ℕ) → (all new → more ≡ []) → item_at place (at_hand old ++ (joined (r.more ∷ [] ∷ []) ++ more)) ≡ Some (item, at_hand new ++ more)
-          finds_left more none =
-              let hand = at_hand mid in
-              let e : hand ++ more ≡ at_hand old ++ ((r.more ++ []) ++ more) =
-              ap (λ (x : List ℕ). x ++ more) r.after.longer ∙ append_assoc (at_hand old) r.more more ∙ ap (λ (x : List ℕ). at_hand old ++ (x ++ more)) (sym (append-nil r.more)) in
-              ap (item_at place) (sym e) ∙ found_on more (λ h. none (k.at_end h)) ∙ ap (λ (x : List ℕ). the item (x ++ more)) (sym left)
+  -- nothing is used
+  stops : {T : Type 0} {takes : TakesOne T} {at : ℕ} {t : T} (why : Stop) (u : T) → AfterStop comes at_hand all sound size takes at most place old mid t u why → Steps comes at_hand all sound size takes at most place old mid t u (Ok (step.Stops why))
+  stops why u after =
+      record { pieces = ready.pieces; came = ready.came; after = (record { longer = ready.after.longer; at_end = ready.after.at_end; sound_still = sound_still }, after) }
 
-          counted : length (at_hand old) + length (joined (r.more ∷ [] ∷ [])) ≡ length (at_hand new) + used
-          counted =
-              let e = ap length r.after.longer in
-              let l = length-append (at_hand old) r.more in
-              let j = ap length (append-nil r.more) in
-              let n = ap length left in
-              omega (arith, e, l, j, n, counts)
+  all_came : (hand : List ℕ) → hand ≡ [] → Decides place hand ⊎ all mid → all mid
+  all_came hand e (inl d) = absurd (nothing_undecided place (subst (λ (x : List ℕ). Decides place x) e d))
+  all_came hand e (inr h) = h
 
-          uses : {T : Type 0} {takes : TakesOne T} → used ≤ most → UsesItem comes at_hand all sound size takes most place old (r.more ∷ [] ∷ []) new item used
-          uses few = record {
-            found = finds_left;
-            near = (λ small. rw left (near_item place (at_hand old) (at_hand mid) rest item r.after.near found small));
-            at_end = (λ h. (append-nil r.more ∙ (r.after.at_end h).0, k.at_end (r.after.at_end h).1));
-            sound_still = k.sound_still;
-            smaller = (let s = item_shorter place (at_hand mid) item rest found in omega (arith, s, k.smaller, r.after.no_larger));
-            counted = counted;
-            few = few;
-          }
+  pub step_end : {T : Type 0} {takes : TakesOne T} {at : ℕ} {t : T} → at_hand mid ≡ [] → Steps comes at_hand all sound size takes at most place old mid t t (Ok (step.Stops stop.End))
+  step_end {t = t} e = stops stop.End t (all_came (at_hand mid) e ready.after.decided, e, refl)
 
-          module _ {T : Type 0} {takes : TakesOne T} {at : ℕ} {t u : T} {next : Place} {white : Bool} (e : next ≡ place_after place item) (h : white ≡ is_white item) where
-            pub step_on : Offered takes at item used most t u answer.GoesOn → Steps comes at_hand all sound size takes at most place old new t u (Ok (step.On next used white))
-            step_on o = record { pieces = r.more ∷ [] ∷ []; came = (mid, r.came, (new, k.came, refl)); after = (item, uses o.1, o.0, e, h) }
+  -- what is found at the front is found whatever follows
+  module _ {bytes : List ℕ} (same : bytes ≡ at_hand mid) where
+    finds : (found : Found) → found ≡ item_at place bytes → (more : List ℕ) → (all mid → more ≡ []) → item_at place (at_hand mid ++ more) ≡ longer found more
+    finds found look more none = decided_item place (at_hand mid) more found (all mid) ready.after.decided none (ap (item_at place) (sym same) ∙ sym look)
 
-            pub step_full : Offered takes at item used most t u answer.Ends → Steps comes at_hand all sound size takes at most place old new t u (Ok (step.Full next used white))
-            step_full o = record { pieces = r.more ∷ [] ∷ []; came = (mid, r.came, (new, k.came, refl)); after = (item, uses o.1, o.0, e, h) }
+    -- no item
+    module _ (look : None ≡ item_at place bytes) {seen : List ℕ} (as_seen : seen ≡ at_hand mid) {T : Type 0} {takes : TakesOne T} {at : ℕ} {t : T} where
+      -- and too many bytes for its fault
+      pub step_exceeds : (most < length seen) × (Decides place (take (most + 1) seen) → ⊥) → Steps comes at_hand all sound size takes at most place old mid t t (Ok (step.Stops stop.TooLarge))
+      step_exceeds exceeds =
+          let both = subst (λ (x : List ℕ). (most < length x) × (Decides place (take (most + 1) x) → ⊥)) as_seen exceeds in
+          stops stop.TooLarge t (record {
+            over = λ more none. none_oversized most place (at_hand mid) more both.0 both.1 (finds None look more none);
+            bracket = λ more none rest found. absurd (none_is_some rest (sym (finds None look more none) ∙ found));
+          })
+
+      pub step_none : at_hand mid ≢ [] → (most < length seen → Decides place (take (most + 1) seen)) → Steps comes at_hand all sound size takes at most place old mid t t (Ok (step.Stops stop.NoItem))
+      step_none some within =
+          stops stop.NoItem t
+          (record { none = finds None look; decided = ready.after.decided; within = subst (λ (x : List ℕ). most < length x → Decides place (take (most + 1) x)) as_seen within; some = some }, refl)
+
+    module _ {item : Item} {rest : List ℕ} (look : the item rest ≡ item_at place bytes) {again : List ℕ} (once_more : again ≡ at_hand mid) where
+      found : item_at place (at_hand mid) ≡ the item rest
+      found = ap (item_at place) (sym same) ∙ sym look
+
+      found_on : (more : List ℕ) → (all mid → more ≡ []) → item_at place (at_hand mid ++ more) ≡ the item (rest ++ more)
+      found_on = finds (the item rest) look
+
+      rest_within : length rest ≤ length again
+      rest_within = found_within place same look once_more
+
+      abbrev used : ℕ
+      used = length again - length rest
+
+      counts : used + length rest ≡ length (at_hand mid)
+      counts = (let w = rest_within in let n = ap length once_more in omega (arith, w, n))
+
+      next_item : {T : Type 0} {takes : TakesOne T} → Next comes at_hand all sound size takes place old mid item
+      next_item = record {
+        rest = rest;
+        found = found_on;
+        near = (λ small. near_item place (at_hand old) (at_hand mid) rest item ready.after.near found small);
+        bracket = (λ e small. near_bracket place (at_hand old) (at_hand mid) rest ready.after.near (subst (λ (i : Item). item_at place (at_hand mid) ≡ the i rest) e found) small);
+      }
+
+      module _ {T : Type 0} {takes : TakesOne T} {at : ℕ} {t : T} where
+        -- the item is too long
+        step_over : most < used → (u : T) → (item ≡ TagOpen → Brackets takes at t u) → Steps comes at_hand all sound size takes at most place old mid t u (Ok (step.Stops stop.TooLarge))
+        step_over long u bracket =
+            stops stop.TooLarge u (record {
+              over = λ more none. long_oversized most place (at_hand mid) more item rest (omega (arith, counts, long)) (found_on more none);
+              bracket = λ more none other is. bracket (same_item item TagOpen (rest ++ more) other (sym (found_on more none) ∙ is));
+            })
+
+        -- it isn't used
+        step_stops : (why : Stop) (u : T) → Offered takes at item used most t u (answer.Stops why) → Steps comes at_hand all sound size takes at most place old mid t u (Ok (step.Stops why))
+        step_stops stop.Left u o = stops stop.Left u (item, next_item, o)
+        step_stops (stop.Refused fault) u o = stops (stop.Refused fault) u (item, next_item, o)
+        step_stops stop.TooLarge u o = step_over o.0 u o.1
+        step_stops stop.Full u o = absurd o
+        step_stops stop.End u o = absurd o
+        step_stops stop.NoItem u o = absurd o
+
+      module _ {new : X} (k : Keeps comes at_hand all sound size (length rest) mid new) where
+        left : at_hand new ≡ rest
+        left = (let t = item_taken place (at_hand mid) item rest found in k.kept t.0 rest t.1 refl)
+
+        abbrev pieces : List (List ℕ)
+        pieces = ready.pieces ++ [] ∷ []
+
+        no_more : joined pieces ≡ joined ready.pieces
+        no_more = joined-more comes ready.pieces [] ∙ append-nil (joined ready.pieces)
+
+        finds_left : (more : List ℕ) → (all new → more ≡ []) → item_at place (at_hand old ++ (joined pieces ++ more)) ≡ Some (item, at_hand new ++ more)
+        finds_left more none =
+            let e : at_hand mid ++ more ≡ at_hand old ++ (joined pieces ++ more) =
+            ap (λ (x : List ℕ). x ++ more) ready.after.longer ∙ append_assoc (at_hand old) (joined ready.pieces) more ∙ ap (λ (x : List ℕ). at_hand old ++ (x ++ more)) (sym no_more) in
+            ap (item_at place) (sym e) ∙ found_on more (λ h. none (k.at_end h)) ∙ ap (λ (x : List ℕ). the item (x ++ more)) (sym left)
+
+        counted : length (at_hand old) + length (joined pieces) ≡ length (at_hand new) + used
+        counted =
+            let e = ap length ready.after.longer in
+            let l = length-append (at_hand old) (joined ready.pieces) in
+            let j = ap length no_more in
+            let n = ap length left in
+            omega (arith, e, l, j, n, counts)
+
+        uses : {T : Type 0} {takes : TakesOne T} → used ≤ most → UsesItem comes at_hand all sound size takes most place old pieces new item used
+        uses few = record {
+          found = finds_left;
+          near = (λ small. rw left (near_item place (at_hand old) (at_hand mid) rest item ready.after.near found small));
+          at_end = (λ h. (no_more ∙ (ready.after.at_end h).0, k.at_end (ready.after.at_end h).1));
+          sound_still = k.sound_still;
+          smaller = (let s = item_shorter place (at_hand mid) item rest found in omega (arith, s, k.smaller, ready.after.no_larger));
+          counted = counted;
+          few = few;
+        }
+
+        all_calls : Calls comes old pieces new
+        all_calls = Calls-more comes old mid new ready.pieces [] ready.came k.came
+
+      module _ {T : Type 0} {takes : TakesOne T} {at : ℕ} {t u : T} {next : Place} {white : Bool} (e : next ≡ place_after place item) (h : white ≡ is_white item) where
+        settles : {new : X} (a : Answer) → Offered takes at item used most t u a → Settles comes at_hand all sound size (length rest) a mid new
+            → Steps comes at_hand all sound size takes at most place old new t u (Ok (settled a next used white))
+        settles {new} answer.GoesOn o k = record { pieces = pieces k; came = all_calls k; after = (item, uses k o.1, o.0, e, h) }
+        settles {new} answer.Ends o k = record { pieces = pieces k; came = all_calls k; after = (item, uses k o.1, o.0, e, h) }
+        settles {new} (answer.Stops why) o k = subst (λ (x : X). Steps comes at_hand all sound size takes at most place old x t u (Ok (step.Stops why))) (sym k) (step_stops why u o)
+
+        pub step_settled : {new : X} {one : Step} (a : Answer) → Offered takes at item used most t u a → one ≡ settled a next used white → Settles comes at_hand all sound size (length rest) a mid new
+            → Steps comes at_hand all sound size takes at most place old new t u (Ok one)
+        step_settled {new} {one} a o is k = subst (λ (x : Step). Steps comes at_hand all sound size takes at most place old new t u (Ok x)) (sym is) (settles a o k)

@@ -102,6 +102,7 @@ impl<'a, R: Source, A: Allocator> AtHand<'a, R, A> {
     }
 
     /// The bytes that are not used yet.
+    #[inline(always)]
     pub fn unread(&self) -> &[u8]
         ensures { result.now ≡ unread self.now }
     {
@@ -138,6 +139,7 @@ impl<'a, R: Source, A: Allocator> AtHand<'a, R, A> {
     }
 
     /// Uses the first bytes, all but `left`.
+    #[inline(always)]
     pub fn keep(&mut self, left: usize)
         requires { left ≤ length (unread self.old) }
         ensures kept { (text rest : List ℕ) → unread self.old ≡ text ++ rest → length rest ≡ left → unread self.new ≡ rest }

@@ -46,6 +46,7 @@ static CLASSES: [u8; 256] = [
 
 /// White space: from the horizontal tab to the carriage return, and the space.
 #[tactic(auto, unfolding(crate::specs::Items::is_blank))]
+#[inline(always)]
 pub fn is_blank(b: u8) -> bool
     ensures { result ≡ is_blank b }
 {
@@ -87,6 +88,7 @@ impl Class {
     }
 
     /// The length of the longest run at the front.
+    #[inline(always)]
     pub fn run_len(self, bytes: &[u8]) -> usize
         ensures run { result ≡ prefix_len (has_byte self) bytes.now }
         ensures within { result ≤ length bytes.now }

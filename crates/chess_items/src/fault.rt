@@ -30,7 +30,7 @@ pub enum FaultKind {
     /// There is no memory.
     #[error("there is no memory")]
     Memory = 8,
-    /// A game of more than 1,048,576 bytes, or of more than 20,000 plies in a line or 1,000,000 moves.
+    /// A game of more than 1,048,576 bytes, or of more than 20,000 plies in a line.
     #[error("a game that is too large")]
     TooLarge = 9,
 }

@@ -28,6 +28,13 @@ pub fn is(text: &[u8], other: &[u8]) -> bool
 fn word_token(text: &[u8]) -> Token<'_>
     ensures { item_of result ≡ word_item text.now }
 {
+    let Some((&first, _)) = text.split_first() else {
+        return Token::Skipped;
+    };
+    // No number and no marker begins so: a move's text is told by its first byte.
+    if !Class::Digit.has(first) {
+        return Token::Word(text);
+    }
     if is_number(text) {
         Token::Skipped
     } else if is(text, b"1-0") {
@@ -88,6 +95,7 @@ fn hidden(start: bool, bytes: &[u8]) -> Option<(Token<'_>, &[u8])>
 
 // What begins with another byte than those of words, white space, ! and ?.
 #[tactic(auto, unfolding(crate::specs::steps::ItemAt::sign_at, crate::specs::steps::ItemAt::run_at))]
+#[inline(always)]
 fn sign(start: bool, b: u8, rest: &[u8]) -> Option<(Token<'_>, &[u8])>
     ensures { found result ≡ sign_at start b rest.now }
 {
@@ -120,6 +128,7 @@ fn sign(start: bool, b: u8, rest: &[u8]) -> Option<(Token<'_>, &[u8])>
 
 // Outside of tags, in the first column or not.
 #[tactic(auto, unfolding(crate::specs::steps::ItemAt::outside_at, crate::specs::steps::ItemAt::run_at))]
+#[inline(always)]
 fn outside(start: bool, bytes: &[u8]) -> Option<(Token<'_>, &[u8])>
     ensures { found result ≡ outside_at start bytes.now }
 {
@@ -211,6 +220,7 @@ fn at_start(bytes: &[u8]) -> Option<(Token<'_>, &[u8])>
 
 /// The item at the front of a text, and what follows it; `None` where there is none, or its end is missing.
 #[tactic(auto, unfolding(crate::specs::steps::ItemAt::item_at))]
+#[inline(always)]
 pub fn item(place: Place, bytes: &[u8]) -> Option<(Token<'_>, &[u8])>
     ensures { found result ≡ item_at place bytes.now }
 {

@@ -1,8 +1,8 @@
 //! Taking the items of a text, one after another.
 
-ghost use Rattle.std.specs.Prelude.{◌<◌, ◌+◌, length, take, IfErr, IfOk, MatchBool};
+ghost use Rattle.std.specs.Prelude.{◌≡◌, ◌<◌, ◌≤◌, ◌+◌, length, take, IfErr, IfOk, MatchBool};
 ghost use Rattle.chess_items.specs.steps.Deciding.{Decides};
-ghost use Rattle.chess_items.specs.steps.Taking.{Offered, Steps, Ran, RunBreaks};
+ghost use Rattle.chess_items.specs.steps.Taking.{Offered, Settles, Steps, Ran, RunBreaks, settled};
 ghost use Rattle.chess_items.specs.steps.Texts.{BreaksAt};
 ghost use Rattle.chess_items.specs.steps.Tokens.{item_of};
 
@@ -72,6 +72,7 @@ fn exceeds(place: Place, bytes: &[u8], most: usize) -> bool
 }
 
 // Offers an item of so many bytes, which may be at most `most`. A bracket is offered even behind the limit, since it may be left.
+#[inline(always)]
 fn offer<T: Taker>(taker: &mut T, at: usize, token: Token<'_>, used: usize, most: usize) -> Answer
     ensures { Offered T.takes at (item_of token.entry) used most taker.old taker.new result }
 {
@@ -96,8 +97,36 @@ fn offer<T: Taker>(taker: &mut T, at: usize, token: Token<'_>, used: usize, most
     }
 }
 
-// Takes one item, of at most `most` bytes.
-fn take_one<X: Text, T: Taker>(
+// What an offer comes to: the item is used, all but `left` of the bytes at hand with it, or nothing is.
+#[inline(always)]
+fn settle<X: Text>(
+    text: &mut X,
+    answer: Answer,
+    next: Place,
+    used: usize,
+    white: bool,
+    left: usize,
+) -> Step
+    requires within { left ≤ length (X.at_hand text.old) }
+    requires sound { X.sound text.old }
+    ensures step { result ≡ settled answer next used white }
+    ensures text { Settles X.comes X.at_hand X.all X.sound X.size left answer text.old text.new }
+{
+    match answer {
+        Answer::Stops(why) => Step::Stops(why),
+        Answer::GoesOn => {
+            text.keep(left);
+            Step::On(next, used, white)
+        }
+        Answer::Ends => {
+            text.keep(left);
+            Step::Full(next, used, white)
+        }
+    }
+}
+
+// Takes one item, of at most `most` bytes, once those at hand decide it or no more come.
+fn take_read<X: Text, T: Taker>(
     text: &mut X,
     taker: &mut T,
     place: Place,
@@ -126,17 +155,36 @@ fn take_one<X: Text, T: Taker>(
     let used = text.unread().len() - left;
     let next = place.after(token);
     let white = token.is_white();
-    match offer(taker, at, token, used, most) {
-        Answer::Stops(why) => Ok(Step::Stops(why)),
-        Answer::GoesOn => {
-            text.keep(left);
-            Ok(Step::On(next, used, white))
-        }
-        Answer::Ends => {
-            text.keep(left);
-            Ok(Step::Full(next, used, white))
-        }
+    let answer = offer(taker, at, token, used, most);
+    Ok(settle(text, answer, next, used, white, left))
+}
+
+// Takes one item, of at most `most` bytes. Where a byte is at hand behind the item at the front, no read can change it, and it is taken at
+// once: so the bytes of nearly all items are looked at once.
+#[inline(always)]
+fn take_one<X: Text, T: Taker>(
+    text: &mut X,
+    taker: &mut T,
+    place: Place,
+    at: usize,
+    most: usize,
+) -> Result<Step, Fault>
+    requires { X.sound text.old }
+    ensures steps { Steps X.comes X.at_hand X.all X.sound X.size T.takes at most place text.old text.new taker.old taker.new result }
+    ensures broken { IfErr result (λ fault. BreaksAt X.comes X.at_hand X.breaks X.all X.sound place text.old text.new fault) }
+{
+    let Some((token, rest)) = item(place, text.unread()) else {
+        return take_read(text, taker, place, at, most);
+    };
+    if rest.is_empty() {
+        return take_read(text, taker, place, at, most);
     }
+    let left = rest.len();
+    let used = text.unread().len() - left;
+    let next = place.after(token);
+    let white = token.is_white();
+    let answer = offer(taker, at, token, used, most);
+    Ok(settle(text, answer, next, used, white, left))
 }
 
 /// Takes items while the taker wants more, of at most `limit` bytes together.

@@ -75,10 +75,12 @@ impl<'a> Text for Whole<'a> {
         Ok(true)
     }
 
+    #[inline(always)]
     fn unread(&self) -> &[u8] {
         self.left
     }
 
+    #[inline(always)]
     fn keep(&mut self, left: usize) {
         self.left = &self.left[self.left.len() - left..];
     }
@@ -109,10 +111,12 @@ impl<'a, R: Source, A: Allocator> Text for AtHand<'a, R, A> {
         self.read_until_decided(place, most)
     }
 
+    #[inline(always)]
     fn unread(&self) -> &[u8] {
         AtHand::unread(self)
     }
 
+    #[inline(always)]
     fn keep(&mut self, left: usize) {
         AtHand::keep(self, left)
     }

@@ -44,6 +44,7 @@ impl Token<'_> {
     ghost use Rattle.chess_items.specs.steps.Tokens.{item_of};
 
     /// Whether it is white space, a mark or a hidden line.
+    #[inline(always)]
     pub fn is_white(self) -> bool
         ensures { result ≡ is_white (item_of self.entry) }
     {
@@ -53,6 +54,7 @@ impl Token<'_> {
 
 impl Place {
     /// The place behind a token that stands here.
+    #[inline(always)]
     pub fn after(self, token: Token<'_>) -> Place
         ensures { result ≡ place_after self (item_of token.entry) }
     {

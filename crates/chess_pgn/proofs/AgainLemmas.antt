@@ -21,6 +21,7 @@ use Rattle.chess_pgn.specs.Laws.{IsValue, NewIsGame, ReadIsGame, IsGame, Written
 use Rattle.chess_pgn.specs.Layout.{in_lines}
 use Rattle.chess_pgn.specs.Reading.{IsAtFront, remarks}
 use Rattle.chess_pgn.specs.Written.{comment_text, game_text, moves_text, movetext, outcome_text, tags_text}
+use Rattle.chess_pgn.proofs.CountLemmas.{few_moves}
 use Rattle.chess_pgn.proofs.FenTextLemmas.{fen_value}
 use Rattle.chess_pgn.proofs.ForestLemmas.{AreWritable, comment_piece, forest_piece}
 use Rattle.chess_pgn.proofs.GameLemmas.{movetext_words}
@@ -133,7 +134,7 @@ module _ (game : Game) (is : IsGame game) (few : nesting false game.tree.below �
               subst (λ (c : List ℕ). Derives (elements moves.moves) game.tree.start c game.tree.comment game.tree.below) (sym (head.said ∙ moves.said))
               (movetext_derives game.tree moves.moves is.moves is.noted moves.counted);
         };
-        within = record { deep = is.deep; many = is.many };
+        within = record { deep = is.deep };
       }
 
 -- the law
@@ -190,7 +191,7 @@ read_is_game input game used front =
         moves = derived.sound;
         noted = derived.noted;
         deep = front.within.deep;
-        many = front.within.many;
+        many = omega (arith, few_moves input game used front);
       },
       derived.few,
     )

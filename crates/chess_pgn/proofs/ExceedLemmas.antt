@@ -80,7 +80,7 @@ module _ (P : Forest → Type 0) (kept : (p : List ℕ) (r : Part) (f : Forest) 
 
 -- ---- how many moves a tree has
 
-held_append : (f g : Forest) → moves_held (append f g) ≡ moves_held f + moves_held g
+pub held_append : (f g : Forest) → moves_held (append f g) ≡ moves_held f + moves_held g
 held_append Bare g = omega arith
 held_append (Node m n c b next) g = omega (arith, held_append next g)
 

@@ -24,6 +24,7 @@ pub mod RefuseLemmas
 pub mod SameTagsLemmas
 pub mod SplitLemmas
 pub mod OneGameLemmas
+pub mod CountLemmas
 pub mod RefusedLemmas
 pub mod ExceedLemmas
 pub mod NoGameLemmas

@@ -20,6 +20,7 @@ use Rattle.chess_pgn.specs.Reading.{Ends, Gives, HasBegun, IsAtFront, is_heading
 use Rattle.chess_pgn.specs.steps.ReaderCode.{Ended, MayNotEnd, Read, TakesItem, takes_when}
 use Rattle.chess_pgn.specs.declared.reader.Reader.{Reader}
 use Rattle.chess_pgn.proofs.ChainLemmas.{InHead, Moving, Progress}
+use Rattle.chess_pgn.proofs.CountLemmas.{fits}
 use Rattle.chess_pgn.proofs.OneGameLemmas.{InParts, either, ends_outside, given_parts, no_more, same_parts}
 use Rattle.chess_pgn.proofs.RefusedLemmas.{refused_bracket, refused_more, unended}
 use Rattle.chess_pgn.proofs.SplitLemmas.{all_of, begun_halts, bracket_found, none_some, nothing_found}
@@ -127,7 +128,7 @@ module _ {A : Type 0} (is : List Item) (item : Item) (fault : PgnFault) (t u : R
           refused_bracket is item fault t u p taken kind (item_is (item_at (place_behind GameStart is) rest) item items.TagOpen next more found (bracket_at (place_behind GameStart is) rest more out e)) rest more e g gives
   refused_by (inr (k, ks, s, gives)) =
       let e = item_is (item_at (place_behind GameStart is) rest) k item s.1 next (first_found (place_behind GameStart is) rest k ks x.rest s) found in
-      refused_more is item fault t u p taken kind ks x.rest g x.within (subst (λ (i : Item). Gives (is ++ i ∷ ks) x.rest g) e gives)
+      refused_more is item fault t u p taken kind ks x.rest g (fits input g n x) (subst (λ (i : Item). Gives (is ++ i ∷ ks) x.rest g) e gives)
 
   pub none_refused : ⊥
   none_refused = refused_by (game_there is input rest g n (progress_parts is t p) spelled x)

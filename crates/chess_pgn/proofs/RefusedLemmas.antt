@@ -12,7 +12,7 @@ use Rattle.chess_items.specs.declared.fault.PgnFault.{PgnFault}
 use Rattle.chess_items.proofs.FoundLemmas.{some_is}
 use Rattle.chess_pgn.specs.Games.{Game}
 use Rattle.chess_pgn.specs.Grammar.{Element, element, elements, few_are_open}
-use Rattle.chess_pgn.specs.Reading.{Ends, Gives, IsWithinLimits, is_heading, is_movetext, remarks}
+use Rattle.chess_pgn.specs.Reading.{Ends, Gives, is_heading, is_movetext, remarks}
 use Rattle.chess_pgn.specs.Tags.{AreTags, start_in}
 use Rattle.chess_pgn.specs.steps.HeaderCode.{HasTaken, heading, heads_on, is_begun, Heading}
 use Rattle.chess_pgn.specs.steps.HeaderCode as header_code
@@ -25,6 +25,7 @@ use Rattle.chess_pgn.specs.declared.reader.header.Part.{Part}
 use Rattle.chess_pgn.specs.declared.reader.header.Part.TheVariants.{Nothing}
 use Rattle.chess_pgn.specs.declared.reader.moves.Interrupted.{Interrupted}
 use Rattle.chess_pgn.proofs.ChainLemmas.{InHead, InMovetext, Moving, Progress, movetext_first}
+use Rattle.chess_pgn.proofs.CountLemmas.{Fits}
 use Rattle.chess_pgn.proofs.DerivedLemmas.{read_again}
 use Rattle.chess_pgn.proofs.GivenLemmas.{none_go_on, none_on, tags_once, tags_read}
 use Rattle.chess_pgn.proofs.RefuseLemmas.{end_fails}
@@ -135,7 +136,7 @@ module _ {A : Type 0} (head0 m0 is : List Item) (r : Reader A) (h : InMovetext h
         | inr many ↦ apart go.1 many
       ]
 
-  none_large : IsWithinLimits game → (item : Item) (more : List Item) → g.movetext ≡ m0 ++ item ∷ more → Exceeds (element item) r.moves → ⊥
+  none_large : Fits game → (item : Item) (more : List Item) → g.movetext ≡ m0 ++ item ∷ more → Exceeds (element item) r.moves → ⊥
   none_large within item more e exceeds =
       let es : List Element = element item ++ elements more in
       let go = goes_to es (ap elements e ∙ elements_both m0 (item ∷ more)) in
@@ -169,7 +170,7 @@ module _ {A : Type 0} (head0 m0 is : List Item) (r : Reader A) (h : InMovetext h
       by (inl m) = wrong item more (sym m ∙ e) bad
       by (inr m) = (let k : [] ≡ item ∷ more = sym m.0 ∙ e in cc)
 
-  refused_there : (item : Item) (more : List Item) (kind : FaultKind) → m0 ++ item ∷ more ≡ g.movetext ++ g.ending → IsWithinLimits game → (kind ≡ Memory → ⊥) → RefusesItem item kind r.moves → ⊥
+  refused_there : (item : Item) (more : List Item) (kind : FaultKind) → m0 ++ item ∷ more ≡ g.movetext ++ g.ending → Fits game → (kind ≡ Memory → ⊥) → RefusesItem item kind r.moves → ⊥
   refused_there item more kind e within not = by kind not
     where
       moved : is_movetext item ≡ true → ((after : List Item) → g.movetext ≡ m0 ++ item ∷ after → ⊥) → ⊥
@@ -284,7 +285,7 @@ module _ {A : Type 0} (taken : List Item) (t : Reader A) (h : InHead taken t) (i
     | inr p ↦ not_first item more p.1 (tagged_stands item x.1).0
   ]
 
-  first_none : (item : Item) (more : List Item) (kind : FaultKind) → is ≡ taken ++ item ∷ more → is_heading item ≡ false → IsWithinLimits game → (kind ≡ Memory → ⊥) → RefusesFirst item kind t → ⊥
+  first_none : (item : Item) (more : List Item) (kind : FaultKind) → is ≡ taken ++ item ∷ more → is_heading item ≡ false → Fits game → (kind ≡ Memory → ⊥) → RefusesFirst item kind t → ⊥
   first_none item more kind e heads within not refuses = elim (head_parts item more e) [
     | inl p ↦ apart (all_first is_heading taken item p.0 (subst (All is_heading) p.1 (head_heads is rest game g))) heads
     | inr p ↦ at p.0 p.1 refuses
@@ -298,7 +299,7 @@ module _ {A : Type 0} (taken : List Item) (t : Reader A) (h : InHead taken t) (i
 
 -- a game doesn't go on with what was refused
 pub refused_more : {A : Type 0} (is : List Item) (item : Item) (fault : PgnFault) (t u : Reader A) → Progress is t → TakesItem t item (Err fault) u → (fault.kind ≡ Memory → ⊥) → (more : List Item) (rest : List ℕ) (game : Game)
-    → IsWithinLimits game → Gives (is ++ item ∷ more) rest game → ⊥
+    → Fits game → Gives (is ++ item ∷ more) rest game → ⊥
 refused_more is item fault t u (inl h) takes not more rest game within g = by (subst (λ (b : Bool). takes_when b item (Err fault) t u) h.moving takes)
   where
     by : (fault.kind ≡ Memory) ⊎ (Strays item fault t.header ⊎ ((is_heading item ≡ false) × RefusesFirst item fault.kind t)) → ⊥

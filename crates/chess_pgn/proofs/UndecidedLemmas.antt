@@ -1,8 +1,7 @@
 -- Where bytes don't decide the next item, no one game stands at their start, whatever follows.
-use Rattle.std.proofs.Common.{◌≡◌, ◌⊎◌, ◌≤◌, ◌<◌, ℕ, ◌+◌, true, List, [], ◌∷◌, ◌++◌, length, Some, None, refl, sym, ap, subst, ◌∙◌, arith, append-nil, length-append}
+use Rattle.std.proofs.Common.{◌≡◌, ◌⊎◌, ◌<◌, ℕ, ◌+◌, true, List, [], ◌∷◌, ◌++◌, length, refl, sym, ap, subst, ◌∙◌, arith, append-nil, length-append}
 use Rattle.std.specs.Str.{byte}
 use mathlib.Core.Logic.{inl, inr}
-use Rattle.chess_items.specs.Items as items
 use Rattle.chess_items.specs.Items.{Item, Spells, is_outside, place_after}
 use Rattle.chess_items.specs.steps.Deciding.{Decides, longer}
 use Rattle.chess_items.specs.steps.ItemAt.{Found, item_at}
@@ -17,7 +16,7 @@ use Rattle.chess_pgn.specs.declared.reader.Reader.{Reader}
 use Rattle.chess_pgn.proofs.ChainLemmas.{Progress}
 use Rattle.chess_pgn.proofs.NoGameLemmas.{closes, progress_parts, spelled_shorter}
 use Rattle.chess_pgn.proofs.OneGameLemmas.{InParts, either, no_more}
-use Rattle.chess_pgn.proofs.SplitLemmas.{bracket_found, none_some, nothing_found}
+use Rattle.chess_pgn.proofs.SplitLemmas.{bracket_found}
 
 -- a game ends behind these items, or goes on there
 abbrev Ahead : List Item → List ℕ → Game → List ℕ → Type 0

@@ -23,7 +23,7 @@ use Rattle.chess_items.specs.declared.outcome.Outcome.{Outcome}
 use Rattle.chess_items.specs.declared.outcome.Outcome.TheVariants.{Unfinished}
 use Rattle.chess_items.specs.declared.place.Place.TheVariants.{GameStart}
 use Rattle.chess_tree.specs.Comments.{normalised}
-use Rattle.chess_tree.specs.Forest.{height, moves_held}
+use Rattle.chess_tree.specs.Forest.{height}
 use Rattle.chess_pgn.specs.Games.{Game}
 use Rattle.chess_pgn.specs.Grammar.{Derives, elements, few_are_open, comments_joined}
 use Rattle.chess_pgn.specs.Tags.{AreTags, HasTags, start_in}
@@ -86,10 +86,9 @@ pub record Gives (is : List Item) (rest : List ℕ) (game : Game) : Type 0 where
   pub few : few_are_open 0 (elements movetext) ≡ true
   pub derives : Derives (elements movetext) game.tree.start (remarks [] head) game.tree.comment game.tree.below
 
--- at most 20,000 plies in a line, and 1,000,000 moves in all
+-- at most 20,000 plies in a line; so many bytes never have more moves than a tree holds
 pub record IsWithinLimits (game : Game) : Type 0 where
   pub deep : height game.tree.below ≤ 20000
-  pub many : moves_held game.tree.below ≤ 1000000
 
 -- the first bytes, so many, at most 1,048,576, and not white alone; what follows them cuts no item short
 pub record IsAtFront (input : List ℕ) (game : Game) (used : ℕ) : Type 0 where

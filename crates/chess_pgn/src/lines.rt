@@ -79,6 +79,7 @@ impl<'a, A: Allocator> Lines<'a, A> {
     }
 
     // A byte more.
+    #[inline(always)]
     fn put(&mut self, b: u8) -> Result<(), AllocError>
         ensures { OnOk result (Adds self.old self.new (b ∷ [])) }
     {
@@ -91,6 +92,7 @@ impl<'a, A: Allocator> Lines<'a, A> {
     }
 
     /// More of the text.
+    #[inline(always)]
     pub fn push(&mut self, part: &[u8]) -> Result<(), AllocError>
         ensures { OnOk result (Adds self.old self.new part.now) }
     {

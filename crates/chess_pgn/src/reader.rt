@@ -75,6 +75,7 @@ impl<'a, A: Allocator> Reader<'a, A> {
     }
 
     // An item of the movetext.
+    #[inline(always)]
     fn movetext(&mut self, at: usize, token: Token<'_>) -> Result<Taken, PgnFault>
         ensures { Moved (item_of token.entry) result self.old self.new }
     {
@@ -181,6 +182,7 @@ impl<'a, A: Allocator> Taker for Reader<'a, A> {
 
     ghost takes = { λ old at item result new. TakesItem old item result new };
 
+    #[inline(always)]
     fn take(&mut self, at: usize, token: Token<'_>) -> Result<Taken, PgnFault> {
         if self.moving {
             return self.movetext(at, token);

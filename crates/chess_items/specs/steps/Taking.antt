@@ -4,6 +4,7 @@
 --   Whatever    whatever comes after a state, if anything may come
 --   Brackets    the taker took the bracket of a tag
 --   Offered     what becomes of an item that is offered
+--   settled, Settles  what an offer comes to: the step, and what is used
 --   Steps       one item is taken, or none
 --   Ran         items are taken, and why no more are
 --   RunBreaks   items are taken, and then there was no memory, or a read broke off
@@ -13,7 +14,7 @@ use Rattle.chess_types.specs.bytes.Calls.{Calls, joined}
 use Rattle.chess_items.specs.Items.{Item, TagOpen, IsItem, is_white, place_after}
 use Rattle.chess_items.specs.steps.ItemAt.{item_at}
 use Rattle.chess_items.specs.steps.Deciding.{Decides}
-use Rattle.chess_items.specs.steps.Texts.{BreaksOff, Oversized}
+use Rattle.chess_items.specs.steps.Texts.{BreaksOff, Keeps, Oversized}
 use Rattle.chess_items.specs.declared.at_hand.Fault.{Fault}
 use Rattle.chess_items.specs.declared.at_hand.Fault.TheVariants as fault
 use Rattle.chess_items.specs.declared.fault.PgnFault.{PgnFault}
@@ -64,6 +65,18 @@ Offered takes at item used most t u (answer.Stops stop.TooLarge) = (most < used)
 Offered takes at item used most t u (answer.Stops stop.Full) = ⊥
 Offered takes at item used most t u (answer.Stops stop.End) = ⊥
 Offered takes at item used most t u (answer.Stops stop.NoItem) = ⊥
+
+abbrev pub settled : Answer → Place → ℕ → Bool → Step
+settled answer.GoesOn next used white = step.On next used white
+settled answer.Ends next used white = step.Full next used white
+settled (answer.Stops why) next used white = step.Stops why
+
+module _ {X : Type 0} (comes : X → List ℕ → X → Type 0) (at_hand : X → List ℕ) (all sound : X → Type 0) (size : X → ℕ) where
+  -- so many bytes are left, or nothing is used
+  abbrev pub Settles : ℕ → Answer → X → X → Type 0
+  Settles left answer.GoesOn old new = Keeps comes at_hand all sound size left old new
+  Settles left answer.Ends old new = Keeps comes at_hand all sound size left old new
+  Settles left (answer.Stops why) old new = new ≡ old
 
 module _ {X T : Type 0} (comes : X → List ℕ → X → Type 0) (at_hand : X → List ℕ) (all sound : X → Type 0) (size : X → ℕ) (takes : TakesOne T) where
   abbrev pub Whatever : X → (List ℕ → Type 0) → Type 0
