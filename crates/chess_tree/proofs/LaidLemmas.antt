@@ -1,56 +1,87 @@
--- How the nodes lie in the vector after one was taken into hand or put out of it.
-use Rattle.std.proofs.Common.{◌≡◌, ◌≢◌, ℕ, ◌+◌, ◌<◌, ◌≤◌, refl, sym, ap, ◌∙◌, subst, List, [], ◌∷◌, length, arith}
-use Rattle.std.proofs.Common.{inl, inr}
+-- How the nodes lie after an edit at a path, and after one was taken into hand or let go.
+use Rattle.std.proofs.Common.{◌≡◌, ◌≢◌, ℕ, zero, suc, ◌+◌, ◌<◌, ◌≤◌, refl, sym, ap, ◌∙◌, subst, List, [], ◌∷◌, ◌++◌, length, get_or, set, drop, take, remove, inl, inr, arith, add-one, length-set}
 use Rattle.std.proofs.lemmas.Bool.{cases_lt}
 use Rattle.chess_types.specs.board.MoveParts.{MoveParts}
-use Rattle.chess_tree.specs.declared.arena.slot.Slot.{Slot}
-use Rattle.chess_tree.specs.steps.Grove.{Grove, no_move, Empty, Tree, tally, times, size, wide, first_of, last_of, join, node_number, under, those_before, those_after, under_at, change_at, number_at, Ways}
-use Rattle.chess_tree.specs.steps.Linked.{IsLinked, Linked, Owns}
-use Rattle.chess_tree.specs.steps.Laid.{Laid, look, Same, Any}
-use Rattle.chess_tree.proofs.TimesLemmas.{tally_same, times_at, times_under, times_join, size_join, times_change, size_change, times_tail, tail_join, head_join}
-use Rattle.chess_tree.proofs.LinkLemmas.{NextIs, StaysBut, linked_frame, linked_join, linked_parts, linked_on, linked_one, next_linked, relinked}
+use Rattle.chess_tree.specs.steps.Entries.{Entry, look, moved_first, with_children, with_parent}
+use Rattle.chess_tree.specs.steps.Grove.{Grove, Empty, Tree, tally, times, size, wide, first_of, numbers, join, node_number, grove_move, under, those_before, those_after, under_at, change_at, number_at, Ways}
+use Rattle.chess_tree.specs.steps.Linked.{Any, Chained, IsLinked, IsOwned, Linked, Unplaced}
+use Rattle.chess_tree.specs.steps.Laid.{Laid, Same, uses}
+use Rattle.chess_tree.specs.steps.Writes.{detached, lifted, placed}
+use Rattle.chess_tree.proofs.TimesLemmas.{among_numbers, at_le, numbers_join, number_get, parted, size_change, size_join, tally_other, tally_same, times_at, times_change, times_join, times_under, wide_before}
+use Rattle.chess_tree.proofs.LinkLemmas.{StaysBut, linked_frame, linked_join, linked_one, linked_parts, relinked, unplaced, unplaced_frame}
+use Rattle.chess_tree.proofs.PlacedLemmas.{apart, look_set, look_set_other, placed_length, placed_linked, placed_other}
 use Rattle.chess_tree.proofs.SeenLemmas.{once_at_most}
 
--- at a path: the node's links to those below it, and how these are linked
-pub linked_at : (find : ℕ → Slot) (path : List ℕ) (i : ℕ) (g : Grove) → Ways path g → Owns (find i) g → Linked Same find i 0 g
-    → Owns (find (number_at path i g)) (under_at path g) × Linked Same find (number_at path i g) 0 (under_at path g)
+-- the nodes side by side but for one
+abbrev pub others : ℕ → Grove → Grove
+others k g = join (those_before k g) (those_after k g)
+
+-- that one before the others
+abbrev pub fronted : ℕ → Grove → Grove
+fronted k g = Tree (node_number 0 k g) (grove_move k g) (under k g) (others k g)
+
+-- a number that is used elsewhere is another one
+pub elsewhere : (j i : ℕ) (g : Grove) → tally j i + times j g ≤ 1 → 0 < times j g → j ≢ i
+elsewhere j i g w h = apart j i (omega (arith, w, h))
+
+-- a number in use is one of the list's
+pub in_range : (nodes : List Entry) (free : ℕ) (game freed spare : Grove) → Laid nodes free game freed spare → (j : ℕ) → 0 < uses j game freed spare → j < length nodes
+in_range nodes free game freed spare k j h = elim (cases_lt j (length nodes)) [ inl w ↦ w | inr w ↦ (let no : uses j game freed spare ≡ 0 = k.none j w in absurd (omega (arith, no, h))) ]
+
+-- at a path: the node's children, and what they say
+pub linked_at : (find : ℕ → Entry) (path : List ℕ) (i : ℕ) (g : Grove) → Ways path g → (find i).children ≡ numbers g → Linked Same find i 0 g
+    → ((find (number_at path i g)).children ≡ numbers (under_at path g)) × Linked Same find (number_at path i g) 0 (under_at path g)
 linked_at find [] i g ways o w = (o, w)
 linked_at find (k ∷ path) i g ways o w =
     let one = linked_one Same find i 0 i k g ways.0 w in
-    linked_at find path (node_number i k g) (under k g) ways.1 (record { first_is = one.0.first_is; last_is = one.0.last_is }) one.1
+    linked_at find path (node_number i k g) (under k g) ways.1 one.0.owned.children_is one.1
 
-pub any_linked : (find : ℕ → Slot) (p q e : ℕ) (g : Grove) → Linked Same find p e g → Linked Any find q e g
-any_linked find p q e Empty w = tt
-any_linked find p q e (Tree i m below next) w = (
-  record { move_is = w.0.move_is; parent_is = tt; first_is = w.0.first_is; last_is = w.0.last_is; next_is = w.0.next_is },
-  any_linked find i i 0 below w.1,
-  any_linked find p q e next w.2,
+any_linked : (find : ℕ → Entry) (p q k l : ℕ) (g : Grove) → Linked Same find p k g → Linked Any find q l g
+any_linked find p q k l Empty w = tt
+any_linked find p q k l (Tree i m below next) w = (
+  record { owned = record { move_is = w.0.owned.move_is; parent_is = tt; children_is = w.0.owned.children_is }; place_is = tt },
+  any_linked find i i 0 0 below w.1,
+  any_linked find p q (suc k) (suc l) next w.2,
 )
 
-pub other_parent : (find : ℕ → Slot) (p q e : ℕ) (g : Grove) → Linked Any find p e g → Linked Any find q e g
-other_parent find p q e Empty w = tt
-other_parent find p q e (Tree i m below next) w =
-    (record { move_is = w.0.move_is; parent_is = tt; first_is = w.0.first_is; last_is = w.0.last_is; next_is = w.0.next_is }, w.1, other_parent find p q e next w.2)
+-- what is asked of freed nodes' parents and places holds of any
+pub elsewhere_linked : (find : ℕ → Entry) (p q k l : ℕ) (g : Grove) → Linked Any find p k g → Linked Any find q l g
+elsewhere_linked find p q k l Empty w = tt
+elsewhere_linked find p q k l (Tree i m below next) w = (
+  record { owned = record { move_is = w.0.owned.move_is; parent_is = tt; children_is = w.0.owned.children_is }; place_is = tt },
+  w.1,
+  elsewhere_linked find p q (suc k) (suc l) next w.2,
+)
+
+pub chained_frame : (look new : ℕ → Entry) (g : Grove) → ((j : ℕ) → 0 < times j g → new j ≡ look j) → Chained look g → Chained new g
+chained_frame look new Empty same h = tt
+chained_frame look new (Tree i m below next) same h =
+    let here = same i (omega (arith, tally_same i)) in (
+      ap (λ (s : Entry). s.parent) here ∙ h.0,
+      ap (λ (s : Entry). s.children) here ∙ h.1,
+      linked_frame Any look new i 0 below (λ j w. same j (omega (arith, w))) h.2,
+      chained_frame look new next (λ j w. same j (omega (arith, w))) h.3,
+    )
 
 -- AN EDIT: the nodes below the one at a path are others, with those in hand
-pub edit_laid : (slots new : List Slot) (free : ℕ) (game freed spare rest : Grove) (c : Grove → Grove) (path : List ℕ)
-    → length new ≡ length slots → Laid slots free game freed spare → Ways path game
-    → ((j : ℕ) → j ≢ number_at path 0 game → times j (under_at path game) ≡ 0 → times j spare ≡ 0 → look new j ≡ look slots j)
-    → StaysBut (look slots (number_at path 0 game)) (look new (number_at path 0 game))
-    → Owns (look new (number_at path 0 game)) (c (under_at path game))
+pub edit_laid : (nodes new : List Entry) (free : ℕ) (game freed spare rest : Grove) (c : Grove → Grove) (path : List ℕ)
+    → length new ≡ length nodes → Laid nodes free game freed spare → Ways path game
+    → ((j : ℕ) → j ≢ number_at path 0 game → times j (under_at path game) ≡ 0 → times j spare ≡ 0 → look new j ≡ look nodes j)
+    → StaysBut (look nodes (number_at path 0 game)) (look new (number_at path 0 game))
+    → (look new (number_at path 0 game)).children ≡ numbers (c (under_at path game))
     → Linked Same (look new) (number_at path 0 game) 0 (c (under_at path game))
     → ((j : ℕ) → times j (c (under_at path game)) + times j rest ≡ times j (under_at path game) + times j spare)
     → size (c (under_at path game)) + size rest ≡ size (under_at path game) + size spare
     → Laid new free (change_at c path game) freed rest
-edit_laid slots new free game freed spare rest c path same_length k ways same stays owns fresh number sizes =
-    let most = once_at_most slots free game freed spare k in
-    let on = relinked Same (look slots) (look new) c path 0 game ways (λ j. omega (arith, most j))
+edit_laid nodes new free game freed spare rest c path same_length k ways same stays owns fresh number sizes =
+    let most = once_at_most nodes free game freed spare k in
+    let on = relinked Same (look nodes) (look new) c path 0 game ways (λ j. omega (arith, most j))
     (λ j w ne no. same j ne no (omega (arith, most j, w))) stays owns fresh k.root k.linked in
     record {
       root = on.1;
       linked = on.2;
       loose =
-          linked_frame Any (look slots) (look new) 0 0 freed
+          chained_frame (look nodes) (look new) freed
           (λ j w. same j
           (λ q. let two : 0 < times (number_at path 0 game) freed = subst (λ (y : ℕ). 0 < times y freed) q w in
           omega (arith, most (number_at path 0 game), times_at path 0 game ways, two))
@@ -61,179 +92,203 @@ edit_laid slots new free game freed spare rest c path same_length k ways same st
       all = omega (arith, k.all, size_change c path game ways, sizes, same_length);
     }
 
--- TAKE a freed number: those below the first freed node stand before the others
-pub take_laid : (slots new : List Slot) (n : ℕ) (m : MoveParts) (game below next : Grove)
-    → length new ≡ length slots → Laid slots n game (Tree n m below next) Empty
-    → ((j : ℕ) → (0 < wide below → j ≢ last_of 0 below) → look new j ≡ look slots j)
-    → (0 < wide below → NextIs (look slots (last_of 0 below)) (look new (last_of 0 below)) (first_of 0 next))
-    → Laid new (first_of (first_of 0 next) below) game (join below next) (Tree n no_move Empty Empty)
-take_laid slots new n m game below next same_length k same last =
-    let most = once_at_most slots n game (Tree n m below next) Empty k in
-    let apart = λ (j : ℕ) (g : Grove) (w : times j g + times j below ≤ 1) (h : 0 < times j g). λ (some : 0 < wide below) (q : j ≡ last_of 0 below).
-    let two : 0 < times j below = subst (λ (y : ℕ). 0 < times y below) (sym q) (times_tail below 0 some) in
-    let none : ⊥ = omega (arith, w, h, two) in none in
+-- LET GO of a branch: it is before the other freed nodes
+pub let_go_laid : (nodes : List Entry) (free n : ℕ) (m : MoveParts) (game freed below : Grove)
+    → Laid nodes free game freed (Tree n m below Empty) → (look nodes n).children ≡ numbers below → Linked Same (look nodes) n 0 below
+    → Laid (with_parent n free nodes) n game (Tree n m below freed) Empty
+let_go_laid nodes free n m game freed below k owns links =
+    let new = with_parent n free nodes in
+    let most = once_at_most nodes free game freed (Tree n m below Empty) k in
+    let short : n < length nodes = in_range nodes free game freed (Tree n m below Empty) k n (omega (arith, tally_same n)) in
+    let l : length new ≡ length nodes = length-set nodes n (record (look nodes n) { parent = free }) in
+    let here : look new n ≡ record (look nodes n) { parent = free } = look_set nodes n (record (look nodes n) { parent = free }) short in
+    let off : (j : ℕ) → tally j n ≡ 0 → look new j ≡ look nodes j = λ j h. look_set_other nodes n j (record (look nodes n) { parent = free }) (apart j n h) in
     record {
-      root =
-          subst (λ (s : Slot). Owns s game)
-          (sym (same 0 (λ some q. let two : 0 < times 0 below = subst (λ (y : ℕ). 0 < times y below) (sym q) (times_tail below 0 some) in omega (arith, most 0, tally_same 0, two)))) k.root;
-      linked = linked_frame Same (look slots) (look new) 0 0 game (λ j w. same j (apart j game (omega (arith, most j)) w)) k.linked;
-      loose =
-          linked_join Any (look new) 0 0 below next
-          (linked_on Any (look slots) (look new) 0 0 (first_of 0 next) 0 below (λ j. omega (arith, most j)) (λ j w ne. same j (λ some. ne)) last
-          (other_parent (look slots) n 0 0 below k.loose.1))
-          (linked_frame Any (look slots) (look new) 0 0 next (λ j w. same j (apart j next (omega (arith, most j)) w)) k.loose.2);
-      free_is = sym (head_join 0 below next);
-      once = λ j h. omega (arith, k.once j (omega arith), times_join j below next);
-      none = λ j h. omega (arith, k.none j (omega arith), times_join j below next);
-      all = omega (arith, k.all, size_join below next, same_length);
-    }
-
--- LET GO of a branch: it stands before the other freed nodes
-pub let_go_laid : (slots new : List Slot) (free n : ℕ) (m : MoveParts) (p x : ℕ) (game freed below : Grove)
-    → length new ≡ length slots → Laid slots free game freed (Tree n m below Empty) → Linked Same (look slots) p x (Tree n m below Empty)
-    → ((j : ℕ) → j ≢ n → look new j ≡ look slots j) → NextIs (look slots n) (look new n) free
-    → Laid new n game (Tree n m below freed) Empty
-let_go_laid slots new free n m p x game freed below same_length k branch same next =
-    let most = once_at_most slots free game freed (Tree n m below Empty) k in
-    let apart = λ (j : ℕ) (g : Grove) (w : times j g + tally j n ≤ 1) (h : 0 < times j g) (q : j ≡ n).
-    let one : tally j n ≡ 1 = subst (λ (y : ℕ). tally j y ≡ 1) q (tally_same j) in
-    let none : ⊥ = omega (arith, w, h, one) in none in
-    record {
-      root = subst (λ (s : Slot). Owns s game) (sym (same 0 (λ q. let one : tally 0 n ≡ 1 = subst (λ (y : ℕ). tally 0 y ≡ 1) q (tally_same 0) in omega (arith, most 0, tally_same 0, one)))) k.root;
-      linked = linked_frame Same (look slots) (look new) 0 0 game (λ j w. same j (apart j game (omega (arith, most j)) w)) k.linked;
+      root = ap (λ (s : Entry). s.children) (off 0 (omega (arith, most 0, tally_same 0))) ∙ k.root;
+      linked = linked_frame Same (look nodes) (look new) 0 0 game (λ j w. off j (omega (arith, most j, w))) k.linked;
       loose = (
-        record { move_is = next.played ∙ branch.0.move_is; parent_is = tt; first_is = next.first ∙ branch.0.first_is; last_is = next.last ∙ branch.0.last_is; next_is = next.next ∙ k.free_is },
-        linked_frame Any (look slots) (look new) n 0 below (λ j w. same j (apart j below (omega (arith, most j)) w)) (any_linked (look slots) n n 0 below branch.1),
-        linked_frame Any (look slots) (look new) 0 0 freed (λ j w. same j (apart j freed (omega (arith, most j)) w)) k.loose,
+        ap (λ (s : Entry). s.parent) here ∙ k.free_is,
+        ap (λ (s : Entry). s.children) here ∙ owns,
+        linked_frame Any (look nodes) (look new) n 0 below (λ j w. off j (omega (arith, most j, w))) (any_linked (look nodes) n n 0 0 below links),
+        chained_frame (look nodes) (look new) freed (λ j w. off j (omega (arith, most j, w))) k.loose,
       );
       free_is = refl;
-      once = λ j h. omega (arith, k.once j (omega arith));
-      none = λ j h. omega (arith, k.none j (omega arith));
-      all = omega (arith, k.all, same_length);
+      once = λ j h. omega (arith, k.once j (omega (arith, h, l)));
+      none = λ j h. omega (arith, k.none j (omega (arith, h, l)));
+      all = omega (arith, k.all, l);
     }
 
--- ---- siblings
+-- ---- the numbers side by side without one, and with it first
 
-zero_tail : (g : Grove) → times 0 g ≡ 0 → 0 < wide g → 0 < last_of 0 g
-zero_tail g none some =
-    let there = times_tail g 0 some in
-    elim (cases_lt 0 (last_of 0 g)) [ inl h ↦ h | inr h ↦ (let is : last_of 0 g ≡ 0 = omega (arith, h) in let two : 0 < times 0 g = subst (λ (y : ℕ). 0 < times y g) is there in absurd (omega (arith, two, none))) ]
+remove_numbers : (k : ℕ) (g : Grove) → remove (numbers g) k ≡ numbers (others k g)
+remove_numbers zero Empty = refl
+remove_numbers (suc k) Empty = refl
+remove_numbers zero (Tree i m below next) = refl
+remove_numbers (suc k) (Tree i m below next) = ap (λ (is : List ℕ). i ∷ is) (remove_numbers k next)
 
-zero_head : (i : ℕ) (m : MoveParts) (below next : Grove) → times 0 (Tree i m below next) ≡ 0 → 0 < i
-zero_head i m below next none =
-    elim (cases_lt 0 i) [ inl h ↦ h | inr h ↦ (let is : i ≡ 0 = omega (arith, h) in let one : tally 0 i ≡ 1 = subst (λ (y : ℕ). tally 0 y ≡ 1) (sym is) (tally_same 0) in absurd (omega (arith, one, none))) ]
+drop_others : (k : ℕ) (g : Grove) → k < wide g → drop k (numbers (others k g)) ≡ numbers (those_after k g)
+drop_others k Empty h = absurd (omega arith)
+drop_others zero (Tree i m below next) h = refl
+drop_others (suc k) (Tree i m below next) h = drop_others k next (omega arith)
 
--- the links of a node whose children are those before one, and those after it
-pub owns_first : (t : Slot) (f r b : Grove) (h : ℕ) (m : MoveParts) (below : Grove) → b ≡ join f (Tree h m below r) → times 0 f ≡ 0
-    → (last_of 0 f ≡ 0 → t.first ≡ first_of 0 r) → (0 < last_of 0 f → t.first ≡ first_of 0 b) → t.first ≡ first_of 0 (join f r)
-owns_first t Empty r b h m below e none first same = first refl
-owns_first t (Tree i n u w) r b h m below e none first same =
-    same (zero_tail (Tree i n u w) none (omega arith)) ∙ ap (λ (g : Grove). first_of 0 g) e
+take_others : (k : ℕ) (g : Grove) → k < wide g → take k (numbers (others k g)) ≡ numbers (those_before k g)
+take_others k Empty h = absurd (omega arith)
+take_others zero (Tree i m below next) h = refl
+take_others (suc k) (Tree i m below next) h = ap (λ (is : List ℕ). i ∷ is) (take_others k next (omega arith))
 
-pub owns_last : (t : Slot) (f r b : Grove) (h : ℕ) (m : MoveParts) (below : Grove) → b ≡ join f (Tree h m below r) → times 0 r ≡ 0
-    → (first_of 0 r ≡ 0 → t.last ≡ last_of 0 f) → (0 < first_of 0 r → t.last ≡ last_of 0 b) → t.last ≡ last_of 0 (join f r)
-owns_last t f Empty b h m below e none last same = last refl ∙ sym (tail_join 0 f Empty)
-owns_last t f (Tree i n u w) b h m below e none last same =
-    same (zero_head i n u w none) ∙ ap (λ (g : Grove). last_of 0 g) e ∙ tail_join 0 f (Tree h m below (Tree i n u w)) ∙ sym (tail_join 0 f (Tree i n u w))
+pub detached_is : (nodes : List Entry) (p k : ℕ) (b : Grove) → (look nodes p).children ≡ numbers b → k < wide b
+    → detached p k nodes ≡ placed k (numbers (those_after k b)) (with_children p (numbers (others k b)) nodes)
+detached_is nodes p k b own h =
+    let cs : remove (look nodes p).children k ≡ numbers (others k b) = ap (λ (x : List ℕ). remove x k) own ∙ remove_numbers k b in
+    (λ j. placed k (drop k (cs j)) (with_children p (cs j) nodes)) ∙ ap (λ (x : List ℕ). placed k x (with_children p (numbers (others k b)) nodes)) (drop_others k b h)
 
--- the siblings of one child
-abbrev pub others : ℕ → Grove → Grove
-others k g = join (those_before k g) (those_after k g)
+pub lifted_is : (nodes : List Entry) (p k : ℕ) (b : Grove) → (look nodes p).children ≡ numbers b → k < wide b
+    → lifted p k nodes ≡ placed 0 (node_number 0 k b ∷ numbers (those_before k b)) (with_children p (numbers (fronted k b)) nodes)
+lifted_is nodes p k b own h =
+    let cs : moved_first k (look nodes p).children ≡ numbers (fronted k b) =
+    ap (moved_first k) own ∙ (λ j. number_get 0 k b j ∷ remove_numbers k b j) in
+    (λ j. placed 0 (take (add-one k j) (cs j)) (with_children p (cs j) nodes))
+    ∙ ap (λ (x : List ℕ). placed 0 (node_number 0 k b ∷ x) (with_children p (numbers (fronted k b)) nodes)) (take_others k b h)
 
--- a number is not another's
-apart : (j i : ℕ) (g : Grove) → tally j i + times j g ≤ 1 → 0 < times j g → j ≢ i
-apart j i g w h q = let one : tally j i ≡ 1 = subst (λ (y : ℕ). tally j y ≡ 1) q (tally_same j) in omega (arith, w, h, one)
+-- ---- the children of a node, one of them apart
 
-apart_two : (j i : ℕ) (f g : Grove) → ((x : ℕ) → times x f + times x g ≤ 1) → 0 < times j f → 0 < times i g → j ≢ i
-apart_two j i f g w h k q = let two : 0 < times j g = subst (λ (y : ℕ). 0 < times y g) (sym q) k in omega (arith, w j, h, two)
+module _ (nodes : List Entry) (free k : ℕ) (game freed : Grove) (path : List ℕ) (laid : Laid nodes free game freed Empty) (ways : Ways path game) (one : k < wide (under_at path game)) where
+  abbrev pub p : ℕ
+  p = number_at path 0 game
 
--- what is linked to nothing else has its place
-tail_there : (f : Grove) → 0 < last_of 0 f → 0 < wide f
-tail_there Empty h = h
-tail_there (Tree i m below next) h = omega arith
+  abbrev pub b : Grove
+  b = under_at path game
 
--- a child is taken out of its siblings
-pub unlink_chain : (find new : ℕ → Slot) (p h : ℕ) (m : MoveParts) (f u r : Grove)
-    → ((j : ℕ) → tally j p + times j (join f (Tree h m u r)) ≤ 1) → times 0 (join f (Tree h m u r)) ≡ 0
-    → Owns (find p) (join f (Tree h m u r)) → Linked Same find p 0 (join f (Tree h m u r))
-    → ((j : ℕ) → j ≢ p → (0 < last_of 0 f → j ≢ last_of 0 f) → new j ≡ find j)
-    → (0 < last_of 0 f → NextIs (find (last_of 0 f)) (new (last_of 0 f)) (first_of 0 r))
-    → (last_of 0 f ≡ 0 → (new p).first ≡ first_of 0 r) → (0 < last_of 0 f → (new p).first ≡ (find p).first)
-    → (first_of 0 r ≡ 0 → (new p).last ≡ last_of 0 f) → (0 < first_of 0 r → (new p).last ≡ (find p).last)
-    → Owns (new p) (join f r) × Linked Same new p 0 (join f r) × Linked Same new p (first_of 0 r) (Tree h m u Empty)
-unlink_chain find new p h m f u r once zero_out own links same prior first0 first1 last0 last1 =
-    let b = join f (Tree h m u r) in
-    let sum : (j : ℕ) → times j b ≡ times j f + (tally j h + times j u + times j r) = λ j. times_join j f (Tree h m u r) in
-    let parts = linked_parts Same find p 0 f (Tree h m u r) links in
-    let tail_in : 0 < last_of 0 f → 0 < times (last_of 0 f) f = λ w. times_tail f 0 (tail_there f w) in
-    let still_h : new h ≡ find h =
-    same h (apart h p b (once h) (omega (arith, sum h, tally_same h)))
-    (λ w q. let one : tally (last_of 0 f) h ≡ 1 = subst (λ (y : ℕ). tally y h ≡ 1) q (tally_same h) in omega (arith, once (last_of 0 f), sum (last_of 0 f), tail_in w, one)) in
-    let still_u : (j : ℕ) → 0 < times j u → new j ≡ find j =
-    λ j w. same j (apart j p b (once j) (omega (arith, sum j, w))) (λ v. apart_two j (last_of 0 f) u f (λ x. omega (arith, once x, sum x)) w (tail_in v)) in
-    let still_r : (j : ℕ) → 0 < times j r → new j ≡ find j =
-    λ j w. same j (apart j p b (once j) (omega (arith, sum j, w))) (λ v. apart_two j (last_of 0 f) r f (λ x. omega (arith, once x, sum x)) w (tail_in v)) in (
-      record {
-        first_is = owns_first (new p) f r b h m u refl (omega (arith, zero_out, sum 0)) first0 (λ w. first1 w ∙ own.first_is);
-        last_is = owns_last (new p) f r b h m u refl (omega (arith, zero_out, sum 0)) last0 (λ w. last1 w ∙ own.last_is);
-      },
-      linked_join Same new p 0 f r
-          (linked_on Same find new p h (first_of 0 r) 0 f (λ j. omega (arith, once j, sum j))
-          (λ j w ne. same j (apart j p b (once j) (omega (arith, sum j, w))) (λ _. ne))
-          (λ w. prior (zero_tail f (omega (arith, zero_out, sum 0)) w)) parts.0)
-          (linked_frame Same find new p 0 r still_r parts.1.2),
-      (
-        subst (λ (s : Slot). IsLinked Same s p m (first_of 0 u) (last_of 0 u) (first_of 0 r)) (sym still_h) parts.1.0,
-        linked_frame Same find new h 0 u still_u parts.1.1,
-        tt,
-      ),
-    )
+  abbrev pub f : Grove
+  f = those_before k b
 
-join_first : (t : Slot) (b : Grove) (n : ℕ) (m : MoveParts) (u next : Grove) → times 0 b ≡ 0 → (last_of 0 b ≡ 0 → t.first ≡ n) → (0 < last_of 0 b → t.first ≡ first_of 0 b)
-    → t.first ≡ first_of 0 (join b (Tree n m u next))
-join_first t Empty n m u next none first same = first refl
-join_first t (Tree i k v w) n m u next none first same = same (zero_tail (Tree i k v w) none (omega arith))
+  abbrev pub r : Grove
+  r = those_after k b
 
-front_last : (t : Slot) (b : Grove) (n : ℕ) → times 0 b ≡ 0 → (last_of 0 b ≡ 0 → t.last ≡ n) → (0 < last_of 0 b → t.last ≡ last_of 0 b) → t.last ≡ last_of n b
-front_last t Empty n none last same = last refl
-front_last t (Tree i k v w) n none last same = same (zero_tail (Tree i k v w) none (omega arith))
+  abbrev pub h : ℕ
+  h = node_number 0 k b
 
--- a branch is hung behind the siblings
-pub hang_last_chain : (find new : ℕ → Slot) (p n : ℕ) (m : MoveParts) (b u : Grove)
-    → ((j : ℕ) → tally j p + times j b + tally j n + times j u ≤ 1) → times 0 b ≡ 0
-    → Owns (find p) b → Linked Same find p 0 b → Linked Same find p 0 (Tree n m u Empty)
-    → ((j : ℕ) → j ≢ p → (0 < last_of 0 b → j ≢ last_of 0 b) → new j ≡ find j)
-    → (0 < last_of 0 b → NextIs (find (last_of 0 b)) (new (last_of 0 b)) n)
-    → (last_of 0 b ≡ 0 → (new p).first ≡ n) → (0 < last_of 0 b → (new p).first ≡ (find p).first) → (new p).last ≡ n
-    → Owns (new p) (join b (Tree n m u Empty)) × Linked Same new p 0 (join b (Tree n m u Empty))
-hang_last_chain find new p n m b u once zero_out own links branch same prior first0 first1 last =
-    let tail_in : 0 < last_of 0 b → 0 < times (last_of 0 b) b = λ w. times_tail b 0 (tail_there b w) in
-    let still : (j : ℕ) → 0 < times j (Tree n m u Empty) → new j ≡ find j =
-    λ j w. same j (apart j p (Tree n m u Empty) (omega (arith, once j)) w) (λ v. apart_two j (last_of 0 b) (Tree n m u Empty) b (λ x. omega (arith, once x)) w (tail_in v)) in (
-      record {
-        first_is = join_first (new p) b n m u Empty zero_out first0 (λ w. first1 w ∙ own.first_is);
-        last_is = last ∙ sym (tail_join 0 b (Tree n m u Empty));
-      },
-      linked_join Same new p 0 b (Tree n m u Empty)
-          (linked_on Same find new p 0 n 0 b (λ j. omega (arith, once j))
-          (λ j w ne. same j (apart j p b (omega (arith, once j)) w) (λ _. ne))
-          (λ w. prior (zero_tail b zero_out w)) links)
-          (linked_frame Same find new p 0 (Tree n m u Empty) still branch),
-    )
+  abbrev pub m : MoveParts
+  m = grove_move k b
 
--- a branch is hung before the siblings
-pub hang_first_chain : (find new : ℕ → Slot) (p n : ℕ) (m : MoveParts) (x : ℕ) (b u : Grove)
-    → ((j : ℕ) → tally j p + times j b + tally j n + times j u ≤ 1) → times 0 b ≡ 0
-    → Owns (find p) b → Linked Same find p 0 b → Linked Same find p x (Tree n m u Empty)
-    → ((j : ℕ) → j ≢ p → j ≢ n → new j ≡ find j)
-    → NextIs (find n) (new n) (first_of 0 b)
-    → (new p).first ≡ n → (last_of 0 b ≡ 0 → (new p).last ≡ n) → (0 < last_of 0 b → (new p).last ≡ (find p).last)
-    → Owns (new p) (Tree n m u b) × Linked Same new p 0 (Tree n m u b)
-hang_first_chain find new p n m x b u once zero_out own links branch same next first last0 last1 = (
-  record { first_is = first; last_is = front_last (new p) b n zero_out last0 (λ w. last1 w ∙ own.last_is) },
-  (
-    next_linked Same (find n) (new n) p m (first_of 0 u) (last_of 0 u) x (first_of 0 b) branch.0 next,
-    linked_frame Same find new n 0 u (λ j w. same j (apart j p u (omega (arith, once j)) w) (apart j n u (omega (arith, once j)) w)) branch.1,
-    linked_frame Same find new p 0 b (λ j w. same j (apart j p b (omega (arith, once j)) w) (apart j n b (omega (arith, once j)) w)) links,
-  ),
-)
+  abbrev pub u : Grove
+  u = under k b
+
+  most : (j : ℕ) → uses j game freed Empty ≤ 1
+  most j = once_at_most nodes free game freed Empty laid j
+
+  split : b ≡ join f (Tree h m u r)
+  split = parted k b 0 one
+
+  sum : (j : ℕ) → times j b ≡ times j f + (tally j h + times j u + times j r)
+  sum j = ap (times j) split ∙ times_join j f (Tree h m u r)
+
+  once : (j : ℕ) → tally j p + times j b ≤ 1
+  once j = omega (arith, most j, at_le j path 0 game ways)
+
+  range : (j : ℕ) → 0 < times j b → j < length nodes
+  range j w = in_range nodes free game freed Empty laid j (omega (arith, w, times_under j path game))
+
+  range_p : p < length nodes
+  range_p = in_range nodes free game freed Empty laid p (omega (arith, times_at path 0 game ways))
+
+  own : ((look nodes p).children ≡ numbers b) × Linked Same (look nodes) p 0 b
+  own = linked_at (look nodes) path 0 game ways laid.root laid.linked
+
+  parts : Linked Same (look nodes) p 0 f × Linked Same (look nodes) p (0 + wide f) (Tree h m u r)
+  parts = linked_parts Same (look nodes) p 0 f (Tree h m u r) (subst (λ (g : Grove). Linked Same (look nodes) p 0 g) split own.1)
+
+  abbrev mid : List ℕ → List Entry
+  mid cs = with_children p cs nodes
+
+  mid_length : (cs : List ℕ) → length (mid cs) ≡ length nodes
+  mid_length cs = length-set nodes p (record (look nodes p) { children = cs })
+
+  mid_at : (cs : List ℕ) → look (mid cs) p ≡ record (look nodes p) { children = cs }
+  mid_at cs = look_set nodes p (record (look nodes p) { children = cs }) range_p
+
+  mid_off : (cs : List ℕ) (j : ℕ) → tally j p ≡ 0 → look (mid cs) j ≡ look nodes j
+  mid_off cs j w = look_set_other nodes p j (record (look nodes p) { children = cs }) (apart j p w)
+
+  -- DETACHED
+  pub detached_laid : Laid (detached p k nodes) free (change_at (others k) path game) freed (Tree h m u Empty)
+      × ((look (detached p k nodes) h).children ≡ numbers u) × Linked Same (look (detached p k nodes)) h 0 u
+  detached_laid =
+      let cs = numbers (others k b) in
+      let new = placed k (numbers r) (mid cs) in
+      let l : length new ≡ length nodes = placed_length k (numbers r) (mid cs) ∙ mid_length cs in
+      let off : (j : ℕ) → times j r ≡ 0 → look new j ≡ look (mid cs) j = λ j w. placed_other k (numbers r) (mid cs) j (omega (arith, w, among_numbers j r)) in
+      let both : (j : ℕ) → times j r ≡ 0 → tally j p ≡ 0 → look new j ≡ look nodes j = λ j w v. off j w ∙ mid_off cs j v in
+      let here : look new p ≡ record (look nodes p) { children = cs } = off p (omega (arith, once p, tally_same p, sum p)) ∙ mid_at cs in
+      let after = placed_linked (mid cs) p k r (λ j. omega (arith, once j, sum j)) (λ j w. omega (arith, mid_length cs, range j (omega (arith, w, sum j))))
+      (unplaced_frame Same (look nodes) (look (mid cs)) p r (λ j w. mid_off cs j (omega (arith, once j, sum j, w))) (unplaced Same (look nodes) p (suc (0 + wide f)) r parts.1.2)) in
+      let before = linked_frame Same (look nodes) (look new) p 0 f (λ j w. both j (omega (arith, once j, sum j, w)) (omega (arith, once j, sum j, w))) parts.0 in
+      let row = linked_join Same (look new) p 0 f r before (subst (λ (x : ℕ). Linked Same (look new) p x r) (omega (arith, wide_before k b one)) after) in
+      let laid2 = edit_laid nodes new free game freed Empty (Tree h m u Empty) (others k) path l laid ways
+      (λ j ne no _. both j (omega (arith, no, sum j)) (tally_other j p ne))
+      (subst (λ (s : Entry). StaysBut (look nodes p) s) (sym here) (record { played = refl; parent = refl; place = refl }))
+      (ap (λ (s : Entry). s.children) here) row
+      (λ j. omega (arith, sum j, times_join j f r))
+      (omega (arith, ap size split, size_join f (Tree h m u r), size_join f r)) in
+      let branch : look new h ≡ look nodes h = both h (omega (arith, once h, sum h, tally_same h)) (omega (arith, once h, sum h, tally_same h)) in
+      subst (λ (x : List Entry). Laid x free (change_at (others k) path game) freed (Tree h m u Empty) × ((look x h).children ≡ numbers u) × Linked Same (look x) h 0 u)
+      (sym (detached_is nodes p k b own.0 one)) (
+        laid2,
+        ap (λ (s : Entry). s.children) branch ∙ parts.1.0.owned.children_is,
+        linked_frame Same (look nodes) (look new) h 0 u (λ j w. both j (omega (arith, once j, sum j, w)) (omega (arith, once j, sum j, w))) parts.1.1,
+      )
+
+  -- LIFTED
+  pub lifted_laid : Laid (lifted p k nodes) free (change_at (fronted k) path game) freed Empty
+  lifted_laid =
+      let cs = numbers (fronted k b) in
+      let first = Tree h m u f in
+      let new = placed 0 (numbers first) (mid cs) in
+      let l : length new ≡ length nodes = placed_length 0 (numbers first) (mid cs) ∙ mid_length cs in
+      let off : (j : ℕ) → times j first ≡ 0 → look new j ≡ look (mid cs) j = λ j w. placed_other 0 (numbers first) (mid cs) j (omega (arith, w, among_numbers j first)) in
+      let both : (j : ℕ) → times j first ≡ 0 → tally j p ≡ 0 → look new j ≡ look nodes j = λ j w v. off j w ∙ mid_off cs j v in
+      let here : look new p ≡ record (look nodes p) { children = cs } = off p (omega (arith, once p, tally_same p, sum p)) ∙ mid_at cs in
+      let loose : Unplaced Same (look nodes) p first = (parts.1.0.owned, parts.1.1, unplaced Same (look nodes) p 0 f parts.0) in
+      let before = placed_linked (mid cs) p 0 first (λ j. omega (arith, once j, sum j)) (λ j w. omega (arith, mid_length cs, range j (omega (arith, w, sum j))))
+      (unplaced_frame Same (look nodes) (look (mid cs)) p first (λ j w. mid_off cs j (omega (arith, once j, sum j, w))) loose) in
+      let after = linked_frame Same (look nodes) (look new) p (suc (0 + wide f)) r (λ j w. both j (omega (arith, once j, sum j, w)) (omega (arith, once j, sum j, w))) parts.1.2 in
+      let row = linked_join Same (look new) p 0 first r before (subst (λ (x : ℕ). Linked Same (look new) p x r) (omega arith) after) in
+      subst (λ (x : List Entry). Laid x free (change_at (fronted k) path game) freed Empty)
+      (sym (lifted_is nodes p k b own.0 one))
+      (edit_laid nodes new free game freed Empty Empty (fronted k) path l laid ways
+      (λ j ne no _. both j (omega (arith, no, sum j)) (tally_other j p ne))
+      (subst (λ (s : Entry). StaysBut (look nodes p) s) (sym here) (record { played = refl; parent = refl; place = refl }))
+      (ap (λ (s : Entry). s.children) here) row
+      (λ j. omega (arith, sum j, times_join j f r))
+      (omega (arith, ap size split, size_join f (Tree h m u r), size_join f r)))
+
+-- ADDED: a node in hand is after the children of another
+pub added_laid : (nodes : List Entry) (free n : ℕ) (m : MoveParts) (game freed : Grove) (path : List ℕ) → Laid nodes free game freed (Tree n m Empty Empty) → Ways path game
+    → IsLinked Same (look nodes n) (number_at path 0 game) (wide (under_at path game)) m []
+    → Laid (with_children (number_at path 0 game) ((look nodes (number_at path 0 game)).children ++ n ∷ []) nodes) free (change_at (λ g. join g (Tree n m Empty Empty)) path game) freed Empty
+added_laid nodes free n m game freed path laid ways leaf =
+    let p = number_at path 0 game in
+    let b = under_at path game in
+    let cs = numbers b ++ n ∷ [] in
+    let new = with_children p cs nodes in
+    let most = once_at_most nodes free game freed (Tree n m Empty Empty) laid in
+    let in_game : (j : ℕ) → times j b ≤ times j game = λ j. times_under j path game in
+    let once : (j : ℕ) → tally j p + times j b + tally j n ≤ 1 = λ j. omega (arith, most j, at_le j path 0 game ways) in
+    let own = linked_at (look nodes) path 0 game ways laid.root laid.linked in
+    let range = in_range nodes free game freed (Tree n m Empty Empty) laid p (omega (arith, times_at path 0 game ways)) in
+    let here : look new p ≡ record (look nodes p) { children = cs } = look_set nodes p (record (look nodes p) { children = cs }) range in
+    let off : (j : ℕ) → j ≢ p → look new j ≡ look nodes j = λ j ne. look_set_other nodes p j (record (look nodes p) { children = cs }) ne in
+    let row = linked_join Same (look new) p 0 b (Tree n m Empty Empty)
+    (linked_frame Same (look nodes) (look new) p 0 b (λ j w. off j (apart j p (omega (arith, once j, w)))) own.1) (
+      subst (λ (s : Entry). IsLinked Same s p (0 + wide b) m []) (sym (off n (apart n p (omega (arith, once n, tally_same n)))))
+          (subst (λ (x : ℕ). IsLinked Same (look nodes n) p x m []) (omega arith) leaf),
+      tt,
+      tt,
+    ) in
+    subst (λ (x : List ℕ). Laid (with_children p (x ++ n ∷ []) nodes) free (change_at (λ g. join g (Tree n m Empty Empty)) path game) freed Empty) (sym own.0)
+    (edit_laid nodes new free game freed (Tree n m Empty Empty) Empty (λ g. join g (Tree n m Empty Empty)) path (length-set nodes p (record (look nodes p) { children = cs })) laid ways
+    (λ j ne no _. off j ne)
+    (subst (λ (s : Entry). StaysBut (look nodes p) s) (sym here) (record { played = refl; parent = refl; place = refl }))
+    (ap (λ (s : Entry). s.children) here ∙ sym (numbers_join b (Tree n m Empty Empty))) row
+    (λ j. omega (arith, times_join j b (Tree n m Empty Empty)))
+    (omega (arith, size_join b (Tree n m Empty Empty))))

@@ -11,12 +11,13 @@ pub mod FindLemmas
 pub mod CommentLemmas
 pub mod TimesLemmas
 pub mod LinkLemmas
-pub mod WriteLemmas
+pub mod PlacedLemmas
+pub mod SlotLemmas
 pub mod GroveLemmas
 pub mod SeenLemmas
 pub mod LaidLemmas
+pub mod FreedLemmas
 pub mod SiblingLemmas
-pub mod ArenaLemmas
 pub mod ArenaEdits
 pub mod ArenaCalls
 pub mod ViewLemmas

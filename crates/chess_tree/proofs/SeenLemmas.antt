@@ -1,11 +1,11 @@
--- What is read off the vector is what it stands for.
+-- What is read off the list is what it stands for.
 use Rattle.std.proofs.Common.{◌≡◌, ◌≢◌, ℕ, zero, suc, ◌+◌, ◌<◌, ◌≤◌, ◌==◌, Bool, true, false, refl, sym, ap, ◌∙◌, subst, List, [], ◌∷◌, length, inl, inr, arith}
 use Rattle.std.proofs.lemmas.Bool.{cases_lt}
 use Rattle.std.specs.Prelude.{if◌then◌else◌, nat_lt}
-use Rattle.chess_tree.specs.declared.arena.slot.Slot.{Slot}
-use Rattle.chess_tree.specs.steps.Grove.{Grove, Empty, Tree, tally, times, size, first_of, number_at, Ways}
+use Rattle.chess_tree.specs.steps.Entries.{Entry, look}
+use Rattle.chess_tree.specs.steps.Grove.{Grove, Empty, Tree, tally, times, size, numbers, number_at, Ways}
 use Rattle.chess_tree.specs.steps.Linked.{Linked}
-use Rattle.chess_tree.specs.steps.Laid.{Laid, IsArena, all_of, bump, grove_from, look, path_to, seen, standing, uses, Same}
+use Rattle.chess_tree.specs.steps.Laid.{Laid, IsArena, all_of, bump, grove_from, path_to, seen, standing, uses, Same}
 use Rattle.chess_tree.specs.steps.Rooted.{Noted}
 use Rattle.chess_tree.proofs.TimesLemmas.{tally_same, times_deep}
 
@@ -15,19 +15,16 @@ if_true b x y h = rw h
 if_false : {T : Type 0} (b : Bool) (x y : T) → b ≡ false → (if b then x else y) ≡ y
 if_false b x y h = rw h
 
-pub from_none : (n : ℕ) (find : ℕ → Slot) → grove_from n find 0 ≡ Empty
+pub from_none : (n : ℕ) (find : ℕ → Entry) → grove_from n find [] ≡ Empty
 from_none zero find = refl
 from_none (suc n) find = refl
 
-pub grove_is : (P : ℕ → ℕ → Type 0) (find : ℕ → Slot) (p n : ℕ) (g : Grove) → times 0 g ≡ 0 → size g ≤ n → Linked P find p 0 g → grove_from n find (first_of 0 g) ≡ g
-grove_is P find p n Empty zero_out h w = from_none n find
-grove_is P find p zero (Tree i m below next) zero_out h w = absurd (omega arith)
-grove_is P find p (suc n) (Tree i m below next) zero_out h w =
-    let some : i ≢ 0 = λ q. let one : tally 0 i ≡ 1 = subst (λ (y : ℕ). tally 0 y ≡ 1) (sym q) (tally_same 0) in omega (arith, one, zero_out) in
-    let test : (i == 0) ≡ false = grind arith in
-    if_false (i == 0) Empty (Tree i (find i).played (grove_from n find (find i).first) (grove_from n find (find i).next)) test
-    ∙ (λ j. Tree i (w.0.move_is j) (grove_from n find (w.0.first_is j)) (grove_from n find (w.0.next_is j)))
-    ∙ (λ j. Tree i m (grove_is P find i n below (omega (arith, zero_out)) (omega arith) w.1 j) (grove_is P find p n next (omega (arith, zero_out)) (omega arith) w.2 j))
+pub grove_is : (P : ℕ → ℕ → Type 0) (find : ℕ → Entry) (p k n : ℕ) (g : Grove) → size g ≤ n → Linked P find p k g → grove_from n find (numbers g) ≡ g
+grove_is P find p k n Empty h w = from_none n find
+grove_is P find p k zero (Tree i m below next) h w = absurd (omega arith)
+grove_is P find p k (suc n) (Tree i m below next) h w =
+    (λ j. Tree i (w.0.owned.move_is j) (grove_from n find (w.0.owned.children_is j)) (grove_from n find (numbers next)))
+    ∙ (λ j. Tree i m (grove_is P find i 0 n below (omega arith) w.1 j) (grove_is P find p (suc k) n next (omega arith) w.2 j))
 
 pub path_none : (i : ℕ) (g : Grove) → times i g ≡ 0 → path_to i g ≡ []
 path_none i Empty h = refl
@@ -72,19 +69,18 @@ path_here [] g ways once = path_none 0 g (omega (arith, once 0, tally_same 0))
 path_here (k ∷ path) g ways once = path_is k path 0 g ways (λ j. omega (arith, once j))
 
 -- a number is used at most once
-pub once_at_most : (slots : List Slot) (free : ℕ) (game freed spare : Grove) → Laid slots free game freed spare → (j : ℕ) → uses j game freed spare ≤ 1
-once_at_most slots free game freed spare k j =
-    elim (cases_lt j (length slots)) [ inl h ↦ omega (arith, k.once j h) | inr h ↦ omega (arith, k.none j h) ]
+pub once_at_most : (nodes : List Entry) (free : ℕ) (game freed spare : Grove) → Laid nodes free game freed spare → (j : ℕ) → uses j game freed spare ≤ 1
+once_at_most nodes free game freed spare k j =
+    elim (cases_lt j (length nodes)) [ inl h ↦ omega (arith, k.once j h) | inr h ↦ omega (arith, k.none j h) ]
 
-pub all_is : (slots : List Slot) (free : ℕ) (game freed spare : Grove) → Laid slots free game freed spare → all_of slots ≡ game
-all_is slots free game freed spare k =
-    ap (λ (i : ℕ). grove_from (length slots) (look slots) i) k.root.first_is
-    ∙ grove_is Same (look slots) 0 (length slots) game (omega (arith, once_at_most slots free game freed spare k 0, tally_same 0)) (omega (arith, k.all)) k.linked
+pub all_is : (nodes : List Entry) (free : ℕ) (game freed spare : Grove) → Laid nodes free game freed spare → all_of nodes ≡ game
+all_is nodes free game freed spare k =
+    ap (λ (is : List ℕ). grove_from (length nodes) (look nodes) is) k.root ∙ grove_is Same (look nodes) 0 0 (length nodes) game (omega (arith, k.all)) k.linked
 
-pub seen_is : (slots : List Slot) (noted : ℕ → Noted) (free here : ℕ) (trail : List ℕ) (room : ℕ) (a : IsArena slots noted free here trail room) → seen slots noted here ≡ standing noted a.game a.path
-seen_is slots noted free here trail room a =
-    let game = all_is slots free a.game a.freed Empty a.laid in
-    let path : path_to here (all_of slots) ≡ a.path =
+pub seen_is : (nodes : List Entry) (noted : ℕ → Noted) (free here : ℕ) (trail : List ℕ) (room : ℕ) (a : IsArena nodes noted free here trail room) → seen nodes noted here ≡ standing noted a.game a.path
+seen_is nodes noted free here trail room a =
+    let game = all_is nodes free a.game a.freed Empty a.laid in
+    let path : path_to here (all_of nodes) ≡ a.path =
     ap (path_to here) game ∙ ap (λ (i : ℕ). path_to i a.game) a.here_is
-    ∙ path_here a.path a.game a.ways (λ j. omega (arith, once_at_most slots free a.game a.freed Empty a.laid j)) in
+    ∙ path_here a.path a.game a.ways (λ j. omega (arith, once_at_most nodes free a.game a.freed Empty a.laid j)) in
     λ j. standing noted (game j) (path j)

@@ -1,6 +1,6 @@
 -- How often a number is used.
-use Rattle.std.proofs.Common.{◌≡◌, ◌≢◌, ℕ, zero, suc, ◌+◌, ◌<◌, ◌≤◌, refl, ap, List, [], ◌∷◌, arith}
-use Rattle.chess_tree.specs.steps.Grove.{Grove, Empty, Tree, tally, times, size, wide, first_of, last_of, join, node_number, grove_move, under, those_before, those_after, within, under_at, change_at, number_at, Ways}
+use Rattle.std.proofs.Common.{◌≡◌, ◌≢◌, ℕ, zero, suc, ◌+◌, ◌<◌, ◌≤◌, refl, ap, List, [], ◌∷◌, ◌++◌, get_or, length, arith}
+use Rattle.chess_tree.specs.steps.Grove.{Grove, Empty, Tree, tally, times, size, wide, numbers, join, node_number, grove_move, under, those_before, those_after, within, under_at, change_at, number_at, Ways}
 
 pub tally_same : (j : ℕ) → tally j j ≡ 1
 unfolding tally
@@ -22,20 +22,50 @@ pub size_join : (f g : Grove) → size (join f g) ≡ size f + size g
 size_join Empty g = omega arith
 size_join (Tree i m below next) g = omega (arith, size_join next g)
 
--- the first and the last are among them
-pub times_head : (g : Grove) (e : ℕ) → 0 < wide g → 0 < times (first_of e g) g
-times_head Empty e h = absurd (omega arith)
-times_head (Tree i m below next) e h = omega (arith, tally_same i)
+pub wide_join : (f g : Grove) → wide (join f g) ≡ wide f + wide g
+wide_join Empty g = omega arith
+wide_join (Tree i m below next) g = omega (arith, wide_join next g)
 
-pub times_tail : (g : Grove) (d : ℕ) → 0 < wide g → 0 < times (last_of d g) g
-times_tail Empty d h = absurd (omega arith)
-times_tail (Tree i m below Empty) d h = omega (arith, tally_same i)
-times_tail (Tree i m below (Tree j n b next)) d h = omega (arith, times_tail (Tree j n b next) i (omega arith))
+pub wide_le : (g : Grove) → wide g ≤ size g
+wide_le Empty = omega arith
+wide_le (Tree i m below next) = omega (arith, wide_le next)
 
--- a bound of each of them, and of 0, is one of the last
-pub last_below : (n : ℕ) (g : Grove) → 0 < n → ((j : ℕ) → 0 < times j g → j < n) → last_of 0 g < n
-last_below n Empty some h = some
-last_below n (Tree i m below next) some h = h (last_of 0 (Tree i m below next)) (times_tail (Tree i m below next) 0 (omega arith))
+-- the numbers side by side
+pub numbers_join : (f g : Grove) → numbers (join f g) ≡ numbers f ++ numbers g
+numbers_join Empty g = refl
+numbers_join (Tree i m below next) g = ap (λ (is : List ℕ). i ∷ is) (numbers_join next g)
+
+pub length_numbers : (g : Grove) → length (numbers g) ≡ wide g
+length_numbers Empty = refl
+length_numbers (Tree i m below next) = ap suc (length_numbers next)
+
+pub number_get : (d k : ℕ) (g : Grove) → get_or (numbers g) k d ≡ node_number d k g
+number_get d k Empty = refl
+number_get d zero (Tree i m below next) = refl
+number_get d (suc k) (Tree i m below next) = number_get d k next
+
+pub numbers_within : (k : ℕ) (c : Grove → Grove) (g : Grove) → numbers (within k c g) ≡ numbers g
+numbers_within k c Empty = refl
+numbers_within zero c (Tree i m below next) = refl
+numbers_within (suc k) c (Tree i m below next) = ap (λ (is : List ℕ). i ∷ is) (numbers_within k c next)
+
+pub no_numbers : (g : Grove) → numbers g ≡ [] → g ≡ Empty
+no_numbers Empty e = refl
+no_numbers (Tree i m below next) e = absurd cc
+
+-- how often a number is among some
+abbrev pub among : ℕ → List ℕ → ℕ
+among j [] = 0
+among j (i ∷ is) = tally j i + among j is
+
+pub among_numbers : (j : ℕ) (g : Grove) → among j (numbers g) ≤ times j g
+among_numbers j Empty = omega arith
+among_numbers j (Tree i m below next) = omega (arith, among_numbers j next)
+
+pub wide_before : (k : ℕ) (g : Grove) → k < wide g → wide (those_before k g) ≡ k
+wide_before k Empty h = absurd (omega arith)
+wide_before zero (Tree i m below next) h = refl
+wide_before (suc k) (Tree i m below next) h = ap suc (wide_before k next (omega arith))
 
 -- one of them, those before it and those after it
 pub parted : (k : ℕ) (g : Grove) (d : ℕ) → k < wide g → g ≡ join (those_before k g) (Tree (node_number d k g) (grove_move k g) (under k g) (those_after k g))
@@ -54,24 +84,6 @@ pub size_within : (k : ℕ) (c : Grove → Grove) (g : Grove) → k < wide g
 size_within k c Empty h = absurd (omega arith)
 size_within zero c (Tree i m below next) h = omega arith
 size_within (suc k) c (Tree i m below next) h = omega (arith, size_within k c next (omega arith))
-
-pub head_within : (e k : ℕ) (c : Grove → Grove) (g : Grove) → first_of e (within k c g) ≡ first_of e g
-head_within e k c Empty = refl
-head_within e zero c (Tree i m below next) = refl
-head_within e (suc k) c (Tree i m below next) = refl
-
-pub tail_within : (d k : ℕ) (c : Grove → Grove) (g : Grove) → last_of d (within k c g) ≡ last_of d g
-tail_within d k c Empty = refl
-tail_within d zero c (Tree i m below next) = refl
-tail_within d (suc k) c (Tree i m below next) = tail_within i k c next
-
-pub head_join : (e : ℕ) (f g : Grove) → first_of e (join f g) ≡ first_of (first_of e g) f
-head_join e Empty g = refl
-head_join e (Tree i m below next) g = refl
-
-pub tail_join : (d : ℕ) (f g : Grove) → last_of d (join f g) ≡ last_of (last_of d f) g
-tail_join d Empty g = refl
-tail_join d (Tree i m below next) g = tail_join i next g
 
 pub times_number : (d k : ℕ) (g : Grove) (j : ℕ) → k < wide g → tally j (node_number d k g) + times j (under k g) ≤ times j g
 times_number d k Empty j h = absurd (omega arith)

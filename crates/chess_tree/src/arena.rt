@@ -5,16 +5,19 @@ ghost use Rattle.chess_tree.specs.GameTree.{find, node_of};
 ghost use Rattle.chess_tree.specs.steps.Rooted.{added_root, annotated_root, commented_root, deleted_root, leaf, path_root, promoted_root, root_shown};
 ghost use Rattle.chess_tree.specs.steps.Grove.{no_move};
 
-pub(crate) mod links;
+mod free;
+pub(crate) mod node_id;
+pub(crate) mod nodes;
 pub(crate) mod notes;
-pub(crate) mod siblings;
+mod siblings;
 pub(crate) mod slot;
 
 use crate::node::NodeRef;
 use chess_types::Move;
-use links::{hang_first, hang_last, put, set_next, slot};
+use free::{let_go, put};
+use node_id::NodeId;
+use nodes::Nodes;
 use notes::NoteMap;
-use slot::Slot;
 use std::alloc::{AllocError, Allocator};
 use std::collections::BTreeMap;
 use std::marker::Model;
@@ -22,21 +25,19 @@ use std::marker::Model;
 /// The most nodes: a million, and the root.
 const MOST_NODES: usize = 1_000_001;
 
-/// A tree with a cursor, in one vector of nodes, each named by its number. The root's is 0.
+/// A tree with a cursor: nodes that name one another by their numbers. The root's is 0.
 ///
-/// The nodes deleted stand in the same links, as a forest of their own: `add` takes the first of them, and those below it come in
-/// its stead.
+/// Deleted nodes are freed with all below them: the first of them names the next as its parent, and `add` takes their numbers.
 #[derive(Drop)]
 pub(crate) struct Arena<'a, A: Allocator> {
-    alloc: &'a A,
-    slots: Vec<Slot, &'a A>,
+    nodes: Nodes<'a, A>,
     notes: NoteMap<'a, A>,
-    /// The first freed number; 0 where there is none.
-    free: u32,
-    /// The number of the node at the cursor.
-    here: u32,
-    /// The numbers of the nodes on the way to it, itself the last. There is room for those on the way to each node, so that no step takes memory.
-    trail: Vec<u32, &'a A>,
+    /// The first freed node; the root where there is none.
+    free: NodeId,
+    /// The node at the cursor.
+    here: NodeId,
+    /// The nodes on the way to it, itself the last. There is room for those on the way to each node, so that no step takes memory.
+    trail: Vec<NodeId, &'a A>,
 }
 
 impl<'a, A: Allocator> Model for Arena<'a, A> {
@@ -50,9 +51,9 @@ impl<'a, A: Allocator> Model for Arena<'a, A> {
 
     ghost use Rattle.chess_tree.specs.steps.Laid.{seen, IsArena};
 
-    ghost view = { λ a. seen a.slots.items (noted_in a.notes) a.here };
+    ghost view = { λ a. seen a.nodes (noted_in a.notes) a.here };
 
-    ghost invariant = { λ a. IsArena a.slots.items (noted_in a.notes) a.free a.here a.trail.items (vec_capacity a.trail) };
+    ghost invariant = { λ a. IsArena a.nodes (noted_in a.notes) a.free a.here a.trail.items (vec_capacity a.trail) };
 }
 
 impl<'a, A: Allocator> Arena<'a, A> {
@@ -60,21 +61,18 @@ impl<'a, A: Allocator> Arena<'a, A> {
     pub(crate) fn new(alloc: &'a A) -> Result<Arena<'a, A>, AllocError>
         ensures { IfOk result (λ a. a ≡ record { root = leaf no_move; path = [] }) }
     {
-        let mut slots = Vec::new(alloc);
-        slots.push(Slot::leaf(Move::default(), 0))?;
         Ok(Arena {
-            alloc,
-            slots,
+            nodes: Nodes::new(alloc)?,
             notes: BTreeMap::new(alloc),
-            free: 0,
-            here: 0,
+            free: NodeId::root(),
+            here: NodeId::root(),
             trail: Vec::new(alloc),
         })
     }
 
     /// The allocator.
     pub(crate) fn alloc(&self) -> &'a A {
-        self.alloc
+        self.nodes.alloc()
     }
 
     /// Whether it holds 1,000,000 nodes beside the root.
@@ -82,35 +80,35 @@ impl<'a, A: Allocator> Arena<'a, A> {
         ensures full { result ≡ nat_le 1000000 (moves_held self.now.root.below) }
         ensures few { moves_held self.now.root.below ≤ 1000000 }
     {
-        self.free == 0 && self.slots.len() == MOST_NODES
+        self.free == NodeId::root() && self.nodes.len() == MOST_NODES
     }
 
     /// The root.
     pub(crate) fn root(&self) -> NodeRef<'_, 'a, A>
         ensures { result ≡ root_shown self.now.root }
     {
-        NodeRef::new(self.slots.as_slice(), &self.notes, 0)
+        NodeRef::new(&self.nodes, &self.notes, NodeId::root())
     }
 
     /// The node at the cursor.
     pub(crate) fn node_here(&self) -> NodeRef<'_, 'a, A>
         ensures { result ≡ node_of self.now.path (root_shown self.now.root) }
     {
-        NodeRef::new(self.slots.as_slice(), &self.notes, self.here)
+        NodeRef::new(&self.nodes, &self.notes, self.here)
     }
 
     /// How many children the node at the cursor has.
     pub(crate) fn child_count(&self) -> u32
         ensures { result ≡ count (below_at self.now.path self.now.root.below) }
     {
-        siblings::count(self.slots.as_slice(), self.here)
+        self.nodes.child_count(self.here)
     }
 
     /// The place of the first child of the node at the cursor that has that move.
     pub(crate) fn find(&self, played: Move) -> Option<u32>
         ensures { result ≡ find played (below_at self.now.path self.now.root.below) }
     {
-        siblings::find(self.slots.as_slice(), self.here, played)
+        siblings::find(&self.nodes, self.here, played)
     }
 
     /// How deep the cursor stands.
@@ -125,15 +123,14 @@ impl<'a, A: Allocator> Arena<'a, A> {
         requires { depth < length self.now.path }
         ensures { result ≡ slice_index self.now.path depth }
     {
-        let at = siblings::above(self.trail.as_slice(), depth);
-        siblings::place_of(self.slots.as_slice(), at, self.trail[depth])
+        self.nodes.place(self.trail[depth])
     }
 
     /// The places on the path.
     pub(crate) fn places(&self) -> Result<Vec<u32, &'a A>, AllocError>
         ensures { IfOk result (λ places. places.items ≡ self.now.path) }
     {
-        let mut places = Vec::with_capacity(self.alloc, self.trail.len())?;
+        let mut places = Vec::with_capacity(self.alloc(), self.trail.len())?;
         for depth in 0..self.trail.len() {
             places.push(self.place(depth))?;
         }
@@ -146,10 +143,9 @@ impl<'a, A: Allocator> Arena<'a, A> {
         ensures path { result ≡ true → self.new ≡ path_root (self.old.path ++ place ∷ []) self.old }
         ensures stays { result ≡ false → self.new ≡ self.old }
     {
-        let child = siblings::child_at(self.slots.as_slice(), self.here, place);
-        if child == 0 {
+        let Some(child) = self.nodes.child(self.here, place) else {
             return false;
-        }
+        };
         let Ok(()) = self.trail.push(child) else {
             unreachable!()
         };
@@ -165,7 +161,7 @@ impl<'a, A: Allocator> Arena<'a, A> {
         let Some(_gone) = self.trail.pop() else {
             unreachable!()
         };
-        self.here = slot(self.slots.as_slice(), self.here).parent;
+        self.here = self.nodes.parent(self.here);
     }
 
     /// Appends a child with that move at the cursor, and steps into it.
@@ -176,9 +172,13 @@ impl<'a, A: Allocator> Arena<'a, A> {
     {
         let here = self.here;
         self.trail.reserve(1)?;
-        let number = put(&mut self.slots, &mut self.free, Slot::leaf(played, here))?;
+        let place = self.nodes.child_count(here);
+        let number = put(&mut self.nodes, &mut self.free, played, here, place)?;
+        if let Err(fault) = self.nodes.push_child(here, number) {
+            let_go(&mut self.nodes, &mut self.free, number);
+            return Err(fault);
+        }
         notes::forget(&mut self.notes, number);
-        hang_last(&mut self.slots, here, number);
         let Ok(()) = self.trail.push(number) else {
             unreachable!()
         };
@@ -186,30 +186,31 @@ impl<'a, A: Allocator> Arena<'a, A> {
         Ok(())
     }
 
-    /// Takes out the node at the cursor and all below it, and steps up. No memory is taken, and the time doesn't depend on how
-    /// many they are: they are freed as the first of them is. Their notes are given back as their numbers are taken again.
+    /// Takes out the node at the cursor and all below it, and steps up. No memory is taken, and the time depends on the siblings
+    /// after it alone: those below are freed as it is. Their notes are given back as their numbers are taken again.
     pub(crate) fn remove(&mut self)
         requires { 0 < length self.old.path }
         ensures { self.new ≡ deleted_root self.old }
     {
         let child = self.here;
-        let at = siblings::detach(&mut self.slots, child);
-        set_next(&mut self.slots, child, self.free);
-        self.free = child;
+        let at = self.nodes.parent(child);
+        let place = self.nodes.place(child);
+        siblings::detach(&mut self.nodes, at, place);
+        let_go(&mut self.nodes, &mut self.free, child);
         let Some(_gone) = self.trail.pop() else {
             unreachable!()
         };
         self.here = at;
     }
 
-    /// Moves the node at the cursor in front of its siblings.
+    /// Moves the node at the cursor before its siblings.
     pub(crate) fn promote(&mut self)
         requires { 0 < length self.old.path }
         ensures { self.new ≡ promoted_root self.old }
     {
-        let child = self.here;
-        let at = siblings::detach(&mut self.slots, child);
-        hang_first(&mut self.slots, at, child);
+        let at = self.nodes.parent(self.here);
+        let place = self.nodes.place(self.here);
+        siblings::lift(&mut self.nodes, at, place);
     }
 
     /// Appends an annotation number at the cursor.
@@ -218,7 +219,7 @@ impl<'a, A: Allocator> Arena<'a, A> {
         ensures ok { OnOk result (self.new ≡ annotated_root nag self.old) }
         ensures err { OnErr result (self.new ≡ self.old) }
     {
-        notes::add_nag(&mut self.notes, self.alloc, self.here, nag)?;
+        notes::add_nag(&mut self.notes, self.nodes.alloc(), self.here, nag)?;
         Ok(())
     }
 
@@ -228,7 +229,7 @@ impl<'a, A: Allocator> Arena<'a, A> {
         ensures err { OnErr result (self.new ≡ self.old) }
         ensures removed { comment.entry.items ≡ [] → IsOk result }
     {
-        notes::set_comment(&mut self.notes, self.alloc, self.here, comment)?;
+        notes::set_comment(&mut self.notes, self.nodes.alloc(), self.here, comment)?;
         Ok(())
     }
 }

@@ -4,10 +4,9 @@ ghost use Rattle.chess_tree.specs.Edits.{without_node};
 ghost use Rattle.chess_tree.specs.steps.Notes.{noted_in};
 ghost use Rattle.chess_tree.specs.steps.Viewed.{node_seen, IsViewed};
 
-use crate::arena::links::slot;
+use crate::arena::node_id::NodeId;
+use crate::arena::nodes::Nodes;
 use crate::arena::notes::{self, NoteMap};
-use crate::arena::siblings::{child_at, count};
-use crate::arena::slot::Slot;
 use chess_types::Move;
 use std::alloc::Allocator;
 use std::marker::Model;
@@ -23,9 +22,9 @@ pub struct Notes<'t> {
 /// A node of a tree, to be looked at. Contracts see its move, its notes and what is below it.
 #[derive(Drop)]
 pub struct NodeRef<'t, 'a, A: Allocator> {
-    slots: &'t [Slot],
+    nodes: &'t Nodes<'a, A>,
     notes: &'t NoteMap<'a, A>,
-    number: u32,
+    number: NodeId,
 }
 
 impl<'t, 'a, A: Allocator> Model for NodeRef<'t, 'a, A> {
@@ -39,23 +38,23 @@ impl<'t, 'a, A: Allocator> Model for NodeRef<'t, 'a, A> {
     ghost use Rattle.chess_tree.specs.steps.Notes.{noted_in};
     ghost use Rattle.chess_tree.specs.steps.Viewed.{node_seen, IsViewed};
 
-    ghost view = { λ r. node_seen r.slots.now (noted_in r.notes.now) r.number };
+    ghost view = { λ r. node_seen r.nodes.now (noted_in r.notes.now) r.number };
 
-    ghost invariant = { λ r. IsViewed r.slots.now r.number };
+    ghost invariant = { λ r. IsViewed r.nodes.now r.number };
 }
 
 impl<'t, 'a, A: Allocator> NodeRef<'t, 'a, A> {
     // The node with that number.
     pub(crate) fn new(
-        slots: &'t [Slot],
+        nodes: &'t Nodes<'a, A>,
         notes: &'t NoteMap<'a, A>,
-        number: u32,
+        number: NodeId,
     ) -> NodeRef<'t, 'a, A>
-        requires { IsViewed slots.now number }
-        ensures { result ≡ node_seen slots.now (noted_in notes.now) number }
+        requires { IsViewed nodes.now number }
+        ensures { result ≡ node_seen nodes.now (noted_in notes.now) number }
     {
         NodeRef {
-            slots,
+            nodes,
             notes,
             number,
         }
@@ -65,17 +64,17 @@ impl<'t, 'a, A: Allocator> NodeRef<'t, 'a, A> {
     pub fn again(&self) -> NodeRef<'t, 'a, A>
         ensures { result ≡ self.now }
     {
-        NodeRef::new(self.slots, self.notes, self.number)
+        NodeRef::new(self.nodes, self.notes, self.number)
     }
 
     /// The move that leads to the node; `None` at the root.
     pub fn move_at(&self) -> Option<Move>
         ensures { result ≡ self.now.move }
     {
-        if self.number == 0 {
+        if self.number == NodeId::root() {
             return None;
         }
-        Some(slot(self.slots, self.number).played)
+        Some(self.nodes.played(self.number))
     }
 
     /// Its notes; the root has no annotation numbers.
@@ -84,7 +83,7 @@ impl<'t, 'a, A: Allocator> NodeRef<'t, 'a, A> {
         ensures comment { result.comment.now ≡ self.now.comment }
     {
         let comment = notes::comment(self.notes, self.number);
-        if self.number == 0 {
+        if self.number == NodeId::root() {
             return Notes { nags: &[], comment };
         }
         Notes {
@@ -93,22 +92,21 @@ impl<'t, 'a, A: Allocator> NodeRef<'t, 'a, A> {
         }
     }
 
-    /// How many children it has, at most 1,000,000. It takes a step for each.
+    /// How many children it has, at most 1,000,000.
     pub fn children(&self) -> u32
         ensures { result ≡ count self.now.below }
     {
-        count(self.slots, self.number)
+        self.nodes.child_count(self.number)
     }
 
-    /// The child at that place, from 0. It takes a step for each child before it: `below` goes over them all.
+    /// The child at that place, from 0.
     pub fn child(&self, place: u32) -> Option<NodeRef<'t, 'a, A>>
         ensures { result ≡ child place self.now.below }
     {
-        let number = child_at(self.slots, self.number, place);
-        if number == 0 {
+        let Some(number) = self.nodes.child(self.number, place) else {
             return None;
-        }
-        Some(NodeRef::new(self.slots, self.notes, number))
+        };
+        Some(NodeRef::new(self.nodes, self.notes, number))
     }
 
     /// Its children, the main continuation first, one a step.
@@ -116,9 +114,10 @@ impl<'t, 'a, A: Allocator> NodeRef<'t, 'a, A> {
         ensures { result ≡ self.now.below }
     {
         Children {
-            slots: self.slots,
+            nodes: self.nodes,
             notes: self.notes,
-            next: slot(self.slots, self.number).first,
+            parent: self.number,
+            place: 0,
         }
     }
 }
@@ -126,10 +125,11 @@ impl<'t, 'a, A: Allocator> NodeRef<'t, 'a, A> {
 /// The children of a node that are still to be gone over. Contracts see them, with all that is below them.
 #[derive(Drop)]
 pub struct Children<'t, 'a, A: Allocator> {
-    slots: &'t [Slot],
+    nodes: &'t Nodes<'a, A>,
     notes: &'t NoteMap<'a, A>,
-    /// The number of the next one; 0 where there is none.
-    next: u32,
+    parent: NodeId,
+    /// The place of the next one.
+    place: u32,
 }
 
 impl<'t, 'a, A: Allocator> Model for Children<'t, 'a, A> {
@@ -141,11 +141,11 @@ impl<'t, 'a, A: Allocator> Model for Children<'t, 'a, A> {
     ghost coded = { coded_forest };
 
     ghost use Rattle.chess_tree.specs.steps.Notes.{noted_in};
-    ghost use Rattle.chess_tree.specs.steps.Viewed.{side_seen, IsSide};
+    ghost use Rattle.chess_tree.specs.steps.Viewed.{side_seen, IsViewed};
 
-    ghost view = { λ c. side_seen c.slots.now (noted_in c.notes.now) c.next };
+    ghost view = { λ c. side_seen c.nodes.now (noted_in c.notes.now) c.parent c.place };
 
-    ghost invariant = { λ c. IsSide c.slots.now c.next };
+    ghost invariant = { λ c. IsViewed c.nodes.now c.parent };
 }
 
 impl<'t, 'a, A: Allocator> Children<'t, 'a, A> {
@@ -153,9 +153,9 @@ impl<'t, 'a, A: Allocator> Children<'t, 'a, A> {
     pub fn is_empty(&self) -> bool
         ensures { result ≡ is_none (child 0 self.now) }
     {
-        if self.next == 0 {
+        let Some(_next) = self.nodes.child(self.parent, self.place) else {
             return true;
-        }
+        };
         false
     }
 
@@ -164,13 +164,10 @@ impl<'t, 'a, A: Allocator> Children<'t, 'a, A> {
         ensures first { result ≡ child 0 self.old }
         ensures rest { self.new ≡ without_node 0 self.old }
     {
-        let slots = self.slots;
-        let notes = self.notes;
-        let number = self.next;
-        if number == 0 {
+        let Some(number) = self.nodes.child(self.parent, self.place) else {
             return None;
-        }
-        self.next = slot(slots, number).next;
-        Some(NodeRef::new(slots, notes, number))
+        };
+        self.place += 1;
+        Some(NodeRef::new(self.nodes, self.notes, number))
     }
 }

@@ -3,7 +3,7 @@
 --   plain      the forest without the numbers, with what is noted at each
 --   times      how often a number is used
 --   size, wide      how many nodes; how many side by side
---   first_of, last_of      the first and the last number side by side, or another where there is none
+--   first_of, numbers      the first of those side by side, or 0; the numbers of them all
 --   join       those of two groves, side by side
 --   node_number, grove_move, under  one of those side by side: its number, its move and what is below it
 --   those_before, those_after      the others
@@ -43,17 +43,17 @@ abbrev pub wide : Grove → ℕ
 wide Empty = 0
 wide (Tree i m below next) = suc (wide next)
 
--- the first number side by side
-abbrev pub first_of : ℕ → Grove → ℕ
-first_of e Empty = e
-first_of e (Tree i m below next) = i
+-- the first number side by side, or 0
+abbrev pub first_of : Grove → ℕ
+first_of Empty = 0
+first_of (Tree i m below next) = i
 
--- the last number side by side
-abbrev pub last_of : ℕ → Grove → ℕ
-last_of d Empty = d
-last_of d (Tree i m below next) = last_of i next
+-- the numbers side by side
+abbrev pub numbers : Grove → List ℕ
+numbers Empty = []
+numbers (Tree i m below next) = i ∷ numbers next
 
--- the nodes of one, and behind them those of the other
+-- the nodes of one, and after them those of the other
 abbrev pub join : Grove → Grove → Grove
 join Empty g = g
 join (Tree i m below next) g = Tree i m below (join next g)

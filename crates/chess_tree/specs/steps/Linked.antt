@@ -1,28 +1,40 @@
--- What the nodes of the vector say of one another.
---   IsLinked   a node's links
---   Linked     nodes side by side, with all below them, are linked as the grove says; the last one's next is `e`
---   Owns       a node's links to those below it
-use Rattle.std.specs.Prelude.{◌≡◌, ℕ, ⊤}
+-- What the nodes say of one another.
+--   IsLinked   a node's move, parent, place and children
+--   Linked     nodes side by side, the first at a place of their parent's children, and all below them say what the grove says
+--   Unplaced   the same, but for the places of the nodes side by side
+--   Chained    freed nodes: each one's parent is the next of them, or 0
+use Rattle.std.specs.Prelude.{◌≡◌, ℕ, suc, List, ⊤}
 use Rattle.chess_types.specs.board.MoveParts.{MoveParts}
-use Rattle.chess_tree.specs.declared.arena.slot.Slot.{Slot}
-use Rattle.chess_tree.specs.steps.Grove.{Grove, Empty, Tree, first_of, last_of}
+use Rattle.chess_tree.specs.steps.Entries.{Entry}
+use Rattle.chess_tree.specs.steps.Grove.{Grove, Empty, Tree, first_of, numbers}
+
+-- a node's move, parent and children
+pub record IsOwned (P : ℕ → ℕ → Type 0) (n : Entry) (parent : ℕ) (move : MoveParts) (children : List ℕ) : Type 0 where
+  pub move_is : n.played ≡ move
+  pub parent_is : P parent n.parent
+  pub children_is : n.children ≡ children
 
 module _ (P : ℕ → ℕ → Type 0) where
-  -- P: what is asked of the link to the parent
-  pub record IsLinked (s : Slot) (parent : ℕ) (move : MoveParts) (first last next : ℕ) : Type 0 where
-    pub move_is : s.played ≡ move
-    pub parent_is : P parent s.parent
-    pub first_is : s.first ≡ first
-    pub last_is : s.last ≡ last
-    pub next_is : s.next ≡ next
+  -- P: what is asked of the parent and of the place
+  pub record IsLinked (n : Entry) (parent place : ℕ) (move : MoveParts) (children : List ℕ) : Type 0 where
+    pub owned : IsOwned P n parent move children
+    pub place_is : P place n.place
 
   -- each node's links, and those below it and after it
-  abbrev pub Linked : (ℕ → Slot) → ℕ → ℕ → Grove → Type 0
-  Linked look p e Empty = ⊤
-  Linked look p e (Tree i m below next) =
-      IsLinked (look i) p m (first_of 0 below) (last_of 0 below) (first_of e next) × Linked look i 0 below × Linked look p e next
+  abbrev pub Linked : (ℕ → Entry) → ℕ → ℕ → Grove → Type 0
+  Linked look p k Empty = ⊤
+  Linked look p k (Tree i m below next) = IsLinked (look i) p k m (numbers below) × Linked look i 0 below × Linked look p (suc k) next
 
--- the node with the grove below it
-pub record Owns (s : Slot) (below : Grove) : Type 0 where
-  pub first_is : s.first ≡ first_of 0 below
-  pub last_is : s.last ≡ last_of 0 below
+  -- whatever their places are
+  abbrev pub Unplaced : (ℕ → Entry) → ℕ → Grove → Type 0
+  Unplaced look p Empty = ⊤
+  Unplaced look p (Tree i m below next) = IsOwned P (look i) p m (numbers below) × Linked look i 0 below × Unplaced look p next
+
+-- of freed nodes nothing is asked
+abbrev pub Any : ℕ → ℕ → Type 0
+Any p q = ⊤
+
+-- one after the other, with what is below them
+abbrev pub Chained : (ℕ → Entry) → Grove → Type 0
+Chained look Empty = ⊤
+Chained look (Tree i m below next) = ((look i).parent ≡ first_of next) × ((look i).children ≡ numbers below) × Linked Any look i 0 below × Chained look next

@@ -1,43 +1,35 @@
--- A node of the vector, to be looked at.
+-- A node of the list, to be looked at.
 --   node_seen   its move and annotation numbers, unless it is the root; its comment, and the nodes below it
 --   IsViewed    it is the root or one of the game
---   side_seen   the nodes from one on, side by side
---   IsSide      they are some of the game, or none
-use Rattle.std.specs.Prelude.{◌≡◌, ℕ, ◌≤◌, ◌==◌, if◌then◌else◌, List, [], length, Some, None}
-use Rattle.chess_tree.specs.declared.arena.slot.Slot.{Slot}
+--   side_seen   its children from a place on, side by side
+use Rattle.std.specs.Prelude.{◌≡◌, ℕ, ◌≤◌, ◌==◌, if◌then◌else◌, List, [], length, Some, None, drop}
 use Rattle.chess_tree.specs.Forest.{Forest, NodeParts}
 use Rattle.chess_tree.specs.steps.Rooted.{Noted}
-use Rattle.chess_tree.specs.steps.Grove.{Grove, Empty, number_at, node_number, plain, under_at, Ways}
-use Rattle.chess_tree.specs.steps.Laid.{grove_from, look, Laid}
+use Rattle.chess_tree.specs.steps.Entries.{Entry, look}
+use Rattle.chess_tree.specs.steps.Grove.{Grove, Empty, number_at, plain, Ways}
+use Rattle.chess_tree.specs.steps.Laid.{grove_from, Laid}
 
 -- a node by itself
-abbrev pub node_seen : List Slot → (ℕ → Noted) → ℕ → NodeParts
-node_seen slots noted i =
+abbrev pub node_seen : List Entry → (ℕ → Noted) → ℕ → NodeParts
+node_seen nodes noted i =
     record {
-      move = if i == 0 then None else Some (look slots i).played;
+      move = if i == 0 then None else Some (look nodes i).played;
       nags = if i == 0 then [] else (noted i).nags;
       comment = (noted i).comment;
-      below = plain noted (grove_from (length slots) (look slots) (look slots i).first);
+      below = plain noted (grove_from (length nodes) (look nodes) (look nodes i).children);
     }
 
 -- the root or one of the game
-pub record IsViewed (slots : List Slot) (i : ℕ) : Type 0 where
+pub record IsViewed (nodes : List Entry) (i : ℕ) : Type 0 where
   pub free : ℕ
   pub game : Grove
   pub freed : Grove
   pub path : List ℕ
-  pub laid : Laid slots free game freed Empty
+  pub laid : Laid nodes free game freed Empty
   pub ways : Ways path game
   pub is : i ≡ number_at path 0 game
-  pub few : length slots ≤ 1000001
+  pub few : length nodes ≤ 1000001
 
--- the nodes from one on
-abbrev pub side_seen : List Slot → (ℕ → Noted) → ℕ → Forest
-side_seen slots noted i = plain noted (grove_from (length slots) (look slots) i)
-
--- those of a node of the game from a place on
-pub record IsSide (slots : List Slot) (i : ℕ) : Type 0 where
-  pub parent : ℕ
-  pub viewed : IsViewed slots parent
-  pub place : ℕ
-  pub is : i ≡ node_number 0 place (under_at viewed.path viewed.game)
+-- the children from a place on
+abbrev pub side_seen : List Entry → (ℕ → Noted) → ℕ → ℕ → Forest
+side_seen nodes noted i place = plain noted (grove_from (length nodes) (look nodes) (drop place (look nodes i).children))

@@ -2,6 +2,7 @@ ghost use Rattle.std.specs.Prelude.{◌≡◌, ℕ, ◌++◌, ◌∷◌, [], IsO
 ghost use Rattle.chess_tree.specs.steps.Rooted.{no_notes};
 ghost use Rattle.chess_tree.specs.steps.Notes.{noted_in, IsNotedAt};
 
+use super::node_id::NodeId;
 use smallvec::SmallVec;
 use std::alloc::{AllocError, Allocator};
 use std::collections::BTreeMap;
@@ -51,13 +52,13 @@ impl<'a, A: Allocator> Note<'a, A> {
 pub(crate) fn add_nag<'a, A: Allocator>(
     notes: &mut NoteMap<'a, A>,
     alloc: &'a A,
-    number: u32,
+    number: NodeId,
     nag: u8,
 ) -> Result<(), AllocError>
     ensures ok { OnOk result (IsNotedAt (noted_in notes.old) (noted_in notes.new) number (record { nags = (noted_in notes.old number).nags ++ nag ∷ []; comment = (noted_in notes.old number).comment })) }
     ensures err { OnErr result ((j : ℕ) → noted_in notes.new j ≡ noted_in notes.old j) }
 {
-    let note = notes.entry(number)?.or_insert(Note::new(alloc));
+    let note = notes.entry(number.number())?.or_insert(Note::new(alloc));
     note.push_nag(nag)?;
     Ok(())
 }
@@ -66,7 +67,7 @@ pub(crate) fn add_nag<'a, A: Allocator>(
 pub(crate) fn set_comment<'a, A: Allocator>(
     notes: &mut NoteMap<'a, A>,
     alloc: &'a A,
-    number: u32,
+    number: NodeId,
     comment: Vec<u8, &'a A>,
 ) -> Result<(), AllocError>
     ensures ok { OnOk result (IsNotedAt (noted_in notes.old) (noted_in notes.new) number (record { nags = (noted_in notes.old number).nags; comment = comment.entry.items })) }
@@ -77,37 +78,37 @@ pub(crate) fn set_comment<'a, A: Allocator>(
         forget(notes, number);
         return Ok(());
     }
-    if let Some(note) = notes.get_mut(&number) {
+    if let Some(note) = notes.get_mut(&number.number()) {
         note.comment = comment;
         return Ok(());
     }
-    let note = notes.entry(number)?.or_insert(Note::new(alloc));
+    let note = notes.entry(number.number())?.or_insert(Note::new(alloc));
     note.comment = comment;
     Ok(())
 }
 
 /// No notes at a number.
-pub(crate) fn forget<'a, A: Allocator>(notes: &mut NoteMap<'a, A>, number: u32)
+pub(crate) fn forget<'a, A: Allocator>(notes: &mut NoteMap<'a, A>, number: NodeId)
     ensures { IsNotedAt (noted_in notes.old) (noted_in notes.new) number no_notes }
 {
-    let _gone = notes.remove(&number);
+    let _gone = notes.remove(&number.number());
 }
 
 /// The nags at a number.
-pub(crate) fn nags<'t, 'a, A: Allocator>(notes: &'t NoteMap<'a, A>, number: u32) -> &'t [u8]
+pub(crate) fn nags<'t, 'a, A: Allocator>(notes: &'t NoteMap<'a, A>, number: NodeId) -> &'t [u8]
     ensures { result.now ≡ (noted_in notes.now number).nags }
 {
-    match notes.get(&number) {
+    match notes.get(&number.number()) {
         Some(note) => note.nags.as_slice(),
         None => &[],
     }
 }
 
 /// The comment at a number.
-pub(crate) fn comment<'t, 'a, A: Allocator>(notes: &'t NoteMap<'a, A>, number: u32) -> &'t [u8]
+pub(crate) fn comment<'t, 'a, A: Allocator>(notes: &'t NoteMap<'a, A>, number: NodeId) -> &'t [u8]
     ensures { result.now ≡ (noted_in notes.now number).comment }
 {
-    match notes.get(&number) {
+    match notes.get(&number.number()) {
         Some(note) => note.comment.as_slice(),
         None => &[],
     }

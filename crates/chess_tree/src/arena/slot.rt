@@ -1,30 +1,39 @@
 ghost use Rattle.std.specs.Prelude.{◌≡◌};
-ghost use Rattle.chess_tree.specs.steps.Laid.{leaf_slot};
+ghost use Rattle.chess_tree.specs.steps.Slots.{leaf_slot};
 
+use super::node_id::NodeId;
 use chess_types::Move;
 
-/// A node in the vector: its move, and the numbers of its parent, of its first and last child and of the sibling after it.
-/// The root's number, 0, stands for none.
+/// Where the numbers of a node's children are kept. Nearly every node has one child or none.
+#[derive(Clone, Copy)]
+pub(crate) enum Below {
+    /// It has none.
+    Nothing,
+    /// It has this one.
+    One(NodeId),
+    /// They are the list of that number, which no other node has.
+    Listed(u32),
+}
+
+/// A node as it is kept: its move, its parent, its place among the parent's children, and where its own children are.
 #[derive(Clone, Copy)]
 pub(crate) struct Slot {
     pub(crate) played: Move,
-    pub(crate) parent: u32,
-    pub(crate) first: u32,
-    pub(crate) last: u32,
-    pub(crate) next: u32,
+    pub(crate) parent: NodeId,
+    pub(crate) place: u32,
+    pub(crate) below: Below,
 }
 
 impl Slot {
-    /// A node with nothing below it and none after it.
-    pub(crate) fn leaf(played: Move, parent: u32) -> Slot
-        ensures { result ≡ leaf_slot played parent }
+    /// A node without children.
+    pub(crate) fn leaf(played: Move, parent: NodeId, place: u32) -> Slot
+        ensures { result ≡ leaf_slot played parent place }
     {
         Slot {
             played,
             parent,
-            first: 0,
-            last: 0,
-            next: 0,
+            place,
+            below: Below::Nothing,
         }
     }
 }

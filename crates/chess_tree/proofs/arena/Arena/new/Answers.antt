@@ -1,7 +1,12 @@
-use Rattle.std.proofs.Common.{ap, ◌∙◌, ◌++◌, ◌∷◌, [], List}
-use Rattle.chess_tree.specs.declared.arena.slot.Slot.{Slot}
+use Rattle.std.proofs.Common.{ℕ, sym, subst}
+use Rattle.std.specs.Prelude.{vec_capacity}
+use Rattle.chess_tree.specs.steps.Laid.{IsArena}
+use Rattle.chess_tree.specs.steps.Notes.{noted_in}
 use Rattle.chess_tree.proofs.ArenaCalls.{new_arena}
 use Rattle.chess_tree.proofs.arena.Arena.new.Goals as goal
 
 pub invariant_of-result : goal.invariant_of-result
-invariant_of-result g c = new_arena _ _ _ _ _ (c.in_ok-push.ensures.items ∙ ap (λ (x : List Slot). x ++ c.leaf.result ∷ []) c.new-slots.ensures.items) (ap (λ (s : Slot). s.first) c.leaf.ensures) (ap (λ (s : Slot). s.last) c.leaf.ensures) c.new-2.ensures.items
+invariant_of-result g c =
+    subst (λ (x : ℕ). IsArena c.in_ok-new.field-0 (noted_in c.new-2.result) x c.root-2.result c.new-3.result.items (vec_capacity c.new-3.result)) (sym c.root.ensures)
+    (subst (λ (x : ℕ). IsArena c.in_ok-new.field-0 (noted_in c.new-2.result) 0 x c.new-3.result.items (vec_capacity c.new-3.result)) (sym c.root-2.ensures)
+    (new_arena c.in_ok-new.field-0 (noted_in c.new-2.result) c.new-3.result.items (vec_capacity c.new-3.result) c.in_ok-new.ensures c.new-3.ensures.items))

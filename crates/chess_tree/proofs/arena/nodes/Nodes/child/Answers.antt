@@ -1,0 +1,14 @@
+use Rattle.std.proofs.Common.{rules, ◌≡◌, ◌<◌, ◌≤◌, ◌-◌, ◌++◌, ◌∷◌, [], length, remove, slice_get, slice_index, take, IfOk, OnOk, OnErr, set, ℕ, ◌+◌, ◌*◌, ◌/◌, ◌%◌, Bool, true, false, nat_eq, nat_lt, List, slice_index_or, bit_and, bit_or, Fits, w8, w32, w64, Bor, MutBor}
+use Rattle.chess_tree.specs.steps.Entries.{leaf_entry, look, moved_first, with_children, with_parent, with_place}
+use Rattle.chess_tree.proofs.arena.nodes.Nodes.child.Goals as goal
+use Rattle.std.proofs.Common.{refl, sym, ap, ◌∙◌, arith}
+use Rattle.chess_tree.specs.declared.arena.slot.Below.TheVariants.{Nothing, One, Listed}
+use Rattle.chess_tree.proofs.SlotLemmas.{list_there, list_read}
+
+pub index-requires-in-Listed : goal.index-requires-in-Listed
+index-requires-in-Listed g c = omega (arith, list_there c.args.at c.self.invariant c.self.view_is c.requires c.index.result c.in-Listed.list c.index-2.result.now (c.index-2.ensures, c.index.ensures) c.in-Listed.is, c.self.inside.lists.ok.0)
+
+pub returns-in-Listed : goal.returns-in-Listed
+returns-in-Listed g c =
+    c.at_place.ensures ∙ ap (λ (x : List ℕ). slice_get x c.args.place)
+    (list_read c.args.at c.self.invariant c.self.view_is c.requires c.index.result c.in-Listed.list c.index-2.result.now c.index-in-Listed.result.now (c.index-2.ensures, c.index.ensures) c.in-Listed.is c.index-in-Listed.ensures)
