@@ -123,6 +123,7 @@ impl<'a, A: Allocator> Nodes<'a, A> {
         ensures ok { OnOk result (self.new ≡ self.old ++ leaf_entry played parent place ∷ []) }
         ensures err { OnErr result (self.new ≡ self.old) }
     {
+        make_room(&mut self.slots)?;
         self.slots.push(Slot::leaf(played, parent, place))?;
         Ok(())
     }
@@ -173,6 +174,7 @@ impl<'a, A: Allocator> Nodes<'a, A> {
                 let mut children = SmallVec::new(self.alloc);
                 children.push(first)?;
                 children.push(child)?;
+                make_room(&mut self.lists)?;
                 self.lists.push(children)?;
                 self.slots[at.index()].below = Below::Listed(list);
             }
@@ -235,6 +237,16 @@ impl<'a, A: Allocator> Nodes<'a, A> {
 
 /// Room for so few children is kept in the list itself.
 const FEW: usize = 2;
+
+// Room for one more; where there is none, for a quarter of those that there are, so that little memory lies idle.
+fn make_room<T, A: Allocator>(items: &mut Vec<T, A>) -> Result<(), AllocError>
+    ensures items { items.new.items ≡ items.old.items }
+{
+    if items.len() == items.capacity() {
+        items.reserve_exact(items.len() / 4 + 1)?;
+    }
+    Ok(())
+}
 
 // The item at a place.
 fn at_place<A: Allocator>(children: &SmallVec<NodeId, 2, &A>, place: u32) -> Option<NodeId>

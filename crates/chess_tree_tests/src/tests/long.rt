@@ -1,5 +1,5 @@
-use super::calls::Call::{Add, Back, Delete, End, First, Goto, Start, Step};
-use super::calls::Look::{ChildCount, Depth, Path};
+use super::calls::Call::{Add, Back, Delete, End, First, Goto, Promote, Start, Step};
+use super::calls::Look::{ChildCount, Depth, Path, Played};
 use super::calls::Row::{Does, Fails, Shows};
 use super::calls::{Row, run};
 use super::trees::{SHUFFLE, a_table, add_by, add_on, begin, position_here};
@@ -118,10 +118,67 @@ const WIDE: &[Row] = &[
     Shows(ChildCount(999_999)),
     Does(Add("d2d4")),
     Shows(Path(&[999_999])),
+    Does(Delete),
+    Shows(ChildCount(999_999)),
+    Does(Add("e2e4")),
+    Does(Start),
+    Does(Step(999_999)),
+    Shows(Path(&[999_999])),
+    Fails(TreeFault::NoSuch, Goto(&[1_000_000])),
 ];
 
 /// One node has a million children.
 #[test]
 fn a_wide_tree(rt: HostRuntime) {
     play_wide(&rt, &rt.alloc(), 1_000_000, WIDE);
+}
+
+const LIFTED: &[Row] = &[
+    Does(Add("d2d4")),
+    Does(Promote),
+    Shows(Path(&[0])),
+    Does(Start),
+    Does(Step(1)),
+    Shows(Played(Some("e2e4"))),
+    Does(Goto(&[100_000])),
+    Shows(Played(Some("e2e4"))),
+    Does(Goto(&[0])),
+    Shows(Played(Some("d2d4"))),
+];
+
+/// The last of 100,001 children is moved before the others.
+#[test]
+fn the_last_of_many_is_promoted(rt: HostRuntime) {
+    play_wide(&rt, &rt.alloc(), 100_000, LIFTED);
+}
+
+const TAKEN_AGAIN: &[Row] = &[
+    Does(Add("d2d4")),
+    Does(Add("d7d5")),
+    Does(Back),
+    Does(Add("e7e5")),
+    Does(Add("g1f3")),
+    Does(Goto(&[1_000])),
+    Does(Delete),
+    Shows(ChildCount(1_000)),
+    Does(Step(999)),
+    Does(Add("e7e5")),
+    Does(Add("g1f3")),
+    Does(Add("g8f6")),
+    Does(Back),
+    Does(Add("b8c6")),
+    Shows(Path(&[999, 0, 0, 1])),
+    Does(Start),
+    Does(Add("d2d4")),
+    Shows(Path(&[1_000])),
+    Shows(ChildCount(0)),
+    Fails(TreeFault::NoSuch, Goto(&[1_000, 0])),
+    Does(Goto(&[999, 0, 0, 0])),
+    Shows(Played(Some("g8f6"))),
+];
+
+/// The numbers of a branch with variations are taken again, one after the other, and nothing of it is left.
+#[test]
+fn a_deleted_branch_is_taken_again(rt: HostRuntime) {
+    play_wide(&rt, &rt.alloc(), 1_000, TAKEN_AGAIN);
 }
