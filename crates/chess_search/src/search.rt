@@ -1,4 +1,4 @@
-ghost use Rattle.std.specs.Prelude.{◌≡◌, ◌+◌, ◌-◌, ◌≤◌, ◌<◌, Bool, [], IsTrue, Some, pos, neg_ℤ, ◌<ℤ◌, ◌≤ℤ◌, ◌^◌, min};
+ghost use Rattle.std.specs.Prelude.{◌≡◌, ◌+◌, ◌-◌, ◌≤◌, ◌<◌, Bool, [], IfSome, IsTrue, Some, pos, neg_ℤ, ◌<ℤ◌, ◌≤ℤ◌, ◌^◌, min};
 ghost use Rattle.chess_types.specs.board.Legal.{is_legal, legal_moves};
 ghost use Rattle.chess_types.specs.board.Lines.{last};
 ghost use Rattle.chess_draws.specs.LineParts.{IsAsBefore};
@@ -6,7 +6,7 @@ ghost use Rattle.chess_search.specs.Scores.{IsValue, IsApart};
 ghost use Rattle.chess_search.specs.Value.{ended, evaluation_for, value, worth};
 ghost use Rattle.chess_search.specs.Slices.{IsInRange, HasBorder};
 ghost use Rattle.chess_search.specs.Asked.{tree_below, tree_size};
-ghost use Rattle.chess_search.specs.steps.Windows.{FitsWindow, better};
+ghost use Rattle.chess_search.specs.steps.Windows.{FitsWindow, IsDecided, better};
 
 use crate::nodes::Nodes;
 use crate::order::{Experience, put_in_order};
@@ -75,6 +75,50 @@ fn leaf_value<A: Allocator>(line: &mut Line<'_, A>, distance: u8, claims: bool) 
     }
 }
 
+// An answer in the window from alpha to beta, where both draws and that evaluation lie on one side of it.
+#[inline(always)]
+fn decided(evaluation: i32, alpha: i32, beta: i32) -> Option<i32>
+    requires in_range { IsValue evaluation }
+    requires border { IsApart evaluation }
+    requires window { alpha <ℤ beta }
+    ensures { IfSome result (IsDecided alpha beta evaluation) }
+{
+    let least = evaluation.min(DRAW);
+    if least >= beta {
+        return Some(least);
+    }
+    let most = evaluation.max(DRAW);
+    if most <= alpha {
+        return Some(most);
+    }
+    None
+}
+
+// An answer, in the window from alpha to beta, for the value of a line that is looked at no deeper. Where its side to move isn't in check it is
+// worth nothing or its evaluation, and nothing more is asked of it where the window decides both alike.
+fn leaf_answer<A: Allocator>(
+    line: &mut Line<'_, A>,
+    distance: u8,
+    claims: bool,
+    alpha: i32,
+    beta: i32,
+) -> i32
+    requires distance { distance ≤ 16 }
+    requires window { alpha <ℤ beta }
+    ensures answer { FitsWindow alpha beta (value claims 0 line.old.line distance) result }
+    ensures in_range { IsValue result }
+    ensures border { IsApart result }
+    ensures line { IsAsBefore line.old line.new }
+{
+    let checked = line.in_check();
+    if !checked {
+        if let Some(answer) = decided(evaluation_for(line.live()), alpha, beta) {
+            return answer;
+        }
+    }
+    leaf_value(line, distance, claims)
+}
+
 impl Searcher {
     /// A search that begins: its root is asked for.
     pub(crate) fn new(claims: bool) -> Searcher
@@ -124,7 +168,7 @@ impl Searcher {
     {
         self.nodes.tick();
         if depth == 0 {
-            return leaf_value(line, distance, self.claims);
+            return leaf_answer(line, distance, self.claims, alpha, beta);
         }
         let mut moves = line.moves();
         if moves.is_empty() {
