@@ -190,7 +190,7 @@ impl Searcher {
         if line.is_drawn(self.claims) {
             return DRAW;
         }
-        put_in_order(line.live(), &self.experience, distance, &mut moves);
+        put_in_order(line.live(), &self.experience, distance, depth, &mut moves);
         let frontier = frontier_of(line.live(), depth);
         let mut best: i32 = -30001;
         for m in moves.as_slice() {
