@@ -9,15 +9,15 @@ use Rattle.chess_types.specs.declared.board.man.Colour.TheVariants.{White, Black
 use Rattle.chess_types.specs.declared.board.man.Man.{Man}
 use Rattle.chess_types.specs.declared.board.position.Wing.{Wing}
 use Rattle.chess_types.specs.declared.board.position.Wing.TheVariants.{KingSide, QueenSide}
-use Rattle.chess_types.specs.board.Board.{Board, Look, man_at}
+use Rattle.chess_types.specs.board.Board.{Board, man_at}
 use Rattle.chess_types.specs.board.MoveParts.{MoveParts}
 use Rattle.chess_types.specs.board.Men.{opponent, is_king, is_king_of, kings_of}
-use Rattle.chess_types.specs.board.Attack.{attacks_as, in_check}
+use Rattle.chess_types.specs.board.Attack.{in_check}
 use Rattle.chess_types.specs.board.Position.{State, IsSetup, IsQuiet, look}
 use Rattle.chess_types.specs.board.Pseudo.{castles_to}
-use Rattle.chess_types.specs.board.After.{is_en_passant, captured_at, arriving, transferred, is_castling, after_by, after}
-use Rattle.chess_eval.specs.Evaluation.{for_white, evaluation, HasArmies, IsWithin}
-use Rattle.chess_attack.proofs.Lifted.{Shifts, OnlyKing, only_king}
+use Rattle.chess_types.specs.board.After.{captured_at, arriving, transferred, is_castling, after_by, after}
+use Rattle.chess_eval.specs.Evaluation.{for_white, evaluation, HasArmies}
+use Rattle.chess_attack.proofs.Lifted.{OnlyKing, only_king}
 use Rattle.chess_attack.proofs.Pinning.{other_colour}
 use Rattle.chess_play.proofs.CastlingSquares.{castles_where}
 use Rattle.chess_play.proofs.Facts.{Facts}
@@ -92,9 +92,6 @@ module _ (p : State) (m : MoveParts) (k : ℕ) (man : Man) (setup : IsSetup p) (
       turned Black e = refl
 
   module _ (on_board : k < 64) (king : is_king_of (opponent p.side) (look p k) ≡ true) (quiet : IsQuiet p) where
-    d : Colour
-    d = opponent p.side
-
     not_captured : k ≢ captured_at p.target man m
     not_captured e = true≢false (sym king ∙ ap (λ s. is_king_of (opponent p.side) (look p s)) e ∙ (cap p man m from to facts).king (opponent p.side))
 

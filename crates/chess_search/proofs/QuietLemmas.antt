@@ -1,15 +1,14 @@
 -- A move that surely gives no check: its man bars no line to the other side's king, and doesn't attack him from its new square.
-use Rattle.std.proofs.Common.{◌≡◌, ◌≢◌, ℕ, ◌<◌, Bool, true, false, ◌&&◌, ◌||◌, Option, Some, None, is_some, refl, sym, ap, subst, ◌∙◌, arith, inl, inr, ◌⊎◌}
+use Rattle.std.proofs.Common.{◌≡◌, ◌≢◌, ℕ, ◌<◌, Bool, true, false, ◌||◌, Option, Some, None, is_some, refl, sym, ap, subst, ◌∙◌, arith, inl, inr, ◌⊎◌}
 use Rattle.std.proofs.lemmas.Bool.{and_parts, and_from, cases_Bool, cases_eq, true≢false, eq-eqb, ne_eqb}
 use Rattle.std.proofs.lemmas.Bool.Decides.{nat_tests}
 use Rattle.chess_types.specs.declared.board.axis.Axis.{Axis}
-use Rattle.chess_types.specs.declared.board.axis.Axis.TheVariants.{Rank, File, Rising, Falling}
 use Rattle.chess_types.specs.declared.board.man.Colour.{Colour}
 use Rattle.chess_types.specs.declared.board.man.Kind.TheVariants.{Queen}
 use Rattle.chess_types.specs.declared.board.man.Man.{Man}
 use Rattle.chess_types.specs.board.Board.{Look}
 use Rattle.chess_types.specs.board.Men.{opponent, same_colour}
-use Rattle.chess_types.specs.board.Squares.{line_of, on_axis, is_between}
+use Rattle.chess_types.specs.board.Squares.{line_of, is_between}
 use Rattle.chess_types.specs.board.Attack.{is_clear, leaps, slides, slides_to, attacks_as, attacks_for, in_check}
 use Rattle.chess_attack.specs.Pins.{without}
 use Rattle.chess_attack.proofs.Axes.{axes_meet, BetweenOn, between_parts, between_from}

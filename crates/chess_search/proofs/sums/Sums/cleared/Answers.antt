@@ -1,4 +1,4 @@
-use Rattle.std.proofs.Common.{◌≡◌, Some, None, ap, sym, subst, ◌∙◌, arith}
+use Rattle.std.proofs.Common.{ap, sym, subst, ◌∙◌, arith}
 use Rattle.std.specs.FinMap.{remove}
 use Rattle.chess_types.specs.board.Board.{Board, man_at}
 use Rattle.chess_types.proofs.BoardLaws.{clear-none}

@@ -1,6 +1,5 @@
 use Rattle.std.proofs.Common.{◌≡◌, sym, ap, subst, ◌∙◌, arith, to_z, of_z, w32}
 use Rattle.std.proofs.lemmas.Int.{ints}
-use Rattle.chess_types.specs.board.Board.{man_at}
 use Rattle.chess_eval.specs.Evaluation.{Sums, tapered, evaluation, IsWithin}
 use Rattle.chess_eval.specs.steps.Changes.{AreInRange}
 use Rattle.chess_eval.proofs.Evaluations.{same_sums}
