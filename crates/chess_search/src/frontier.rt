@@ -1,4 +1,4 @@
-ghost use Rattle.std.specs.Prelude.{◌≡◌, ◌==◌, ◌+◌, ◌||◌, IfSome, IsTrue, ◌<ℤ◌, ◌≤ℤ◌};
+ghost use Rattle.std.specs.Prelude.{◌≡◌, ◌==◌, ◌+◌, ◌||◌, IfSome, IsTrue, ◌<ℤ◌};
 ghost use Rattle.chess_types.specs.board.Legal.{is_legal};
 ghost use Rattle.chess_types.specs.board.Position.{IsWellFormed};
 ghost use Rattle.chess_search.specs.steps.Frontiers.{AfterQuiet, IsFrontier, IsQuietMove};
@@ -54,35 +54,6 @@ pub(crate) fn answer_by(
 {
     match frontier {
         Some(frontier) => frontier.answer(live.position(), m, alpha, beta),
-        None => None,
-    }
-}
-
-// The number, where it is no less than the other.
-fn at_least(answer: i32, beta: i32) -> Option<i32>
-    ensures same { IfSome result (λ x. x ≡ answer) }
-    ensures cuts { IfSome result (λ x. beta ≤ℤ x) }
-{
-    if answer >= beta { Some(answer) } else { None }
-}
-
-/// Such an answer, where it is no less than beta: the search of the position ends with it.
-pub(crate) fn cut_by(
-    frontier: &Option<Frontier>,
-    live: &Live,
-    m: Move,
-    alpha: i32,
-    beta: i32,
-) -> Option<i32>
-    requires frontier { IfSome frontier.now (λ f. IsFrontier f live.now.position) }
-    requires well_formed { IsWellFormed live.now.position }
-    requires legal { IsTrue (is_legal live.now.position m) }
-    requires window { alpha <ℤ beta }
-    ensures told { IfSome result (AfterQuiet live.now.position m alpha beta) }
-    ensures cuts { IfSome result (λ answer. beta ≤ℤ answer) }
-{
-    match answer_by(frontier, live, m, alpha, beta) {
-        Some(answer) => at_least(answer, beta),
         None => None,
     }
 }

@@ -10,7 +10,7 @@ ghost use Rattle.chess_search.specs.Asked.{tree_below, tree_size};
 ghost use Rattle.chess_search.specs.steps.Frontiers.{IsFrontier};
 ghost use Rattle.chess_search.specs.steps.Windows.{FitsWindow, IsDecided, better};
 
-use crate::frontier::{Frontier, answer_by, cut_by, frontier_of};
+use crate::frontier::{Frontier, answer_by, frontier_of};
 use crate::nodes::Nodes;
 use crate::order::{Experience, put_in_order};
 use chess_draws::Line;
@@ -190,16 +190,8 @@ impl Searcher {
         if line.is_drawn(self.claims) {
             return DRAW;
         }
-        let frontier = frontier_of(line.live(), depth);
-        if depth == 1 {
-            // Where most moves are good enough, one is, and they needn't be put in order.
-            let first = moves.as_slice()[0];
-            if let Some(answer) = cut_by(&frontier, line.live(), first, alpha, beta) {
-                self.nodes.tick();
-                return answer;
-            }
-        }
         put_in_order(line.live(), &self.experience, distance, depth, &mut moves);
+        let frontier = frontier_of(line.live(), depth);
         let mut best: i32 = -30001;
         for m in moves.as_slice() {
             let floor = best.max(alpha);

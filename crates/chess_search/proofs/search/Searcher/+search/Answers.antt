@@ -1,4 +1,4 @@
-use Rattle.std.proofs.Common.{◌≡◌, ◌+◌, ◌<◌, ◌≤◌, length, take, map, pos, neg_ℤ, ◌≤ℤ◌, ◌-◌, arith, ap, sym, refl, ◌∙◌, w32, to_z, of_z}
+use Rattle.std.proofs.Common.{◌≡◌, ◌+◌, ◌<◌, ◌≤◌, length, take, map, pos, neg_ℤ, ◌≤ℤ◌, ◌-◌, arith, ap, sym, ◌∙◌, w32, to_z, of_z}
 use Rattle.std.proofs.lemmas.Int.{ints, clamps}
 use Rattle.std.proofs.lemmas.List.{length-map}
 use Rattle.std.proofs.lemmas.List.Sorted.{length_permutation}
@@ -11,10 +11,9 @@ use Rattle.chess_types.specs.board.Lines.{last}
 use Rattle.chess_search.specs.Value.{worth, greatest}
 use Rattle.chess_search.specs.Asked.{tree_below}
 use Rattle.chess_search.specs.steps.Windows.{FitsWindow}
-use Rattle.chess_search.proofs.WindowLemmas.{value-any_order, value-play, value-ended, ended-drawn, drawn_at, FitsWindow-refl, answered_all, FitsWindow-negated, best_more, upper_more, lower_more, cut_off, within_greatest, legal_at}
+use Rattle.chess_search.proofs.WindowLemmas.{value-any_order, value-ended, ended-drawn, drawn_at, FitsWindow-refl, answered_all, FitsWindow-negated, best_more, upper_more, lower_more, cut_off, within_greatest, legal_at}
 use Rattle.chess_search.proofs.AskedLemmas.{tree_any_order}
 use Rattle.chess_search.proofs.FrontierLemmas.{frontier_at, judged}
-use Rattle.chess_search.proofs.RootLemmas.{root_legal, roots_legal}
 use Rattle.chess_search.proofs.BorderLemmas.{apart_negated, apart_next}
 use Rattle.chess_search.proofs.search.Searcher.+search.Goals as goal
 
@@ -38,7 +37,7 @@ search-judge-answer-requires g t c κs within =
     let looked : c.loop-m.line.looked ≡ c.args.line.now.looked = i.line.looked in
     let permuted : IsPermutation c.moves-moves.result.items items = rw c.as_slice-m-items.ensures.value c.put_in_order.ensures.permuted in
     let legal = legal_at _ _ _ items c.loop-m.m-index m c.moves-moves.ensures.listed permuted (omega arith) c.m-item.is i.line.line in
-    let frontier = frontier_at _ _ _ (c.live.ensures.position ∙ ap last (c.is_drawn.ensures.as_before.line ∙ c.moves-moves.ensures.as_before.line ∙ sym i.line.line)) c.frontier_of-frontier.ensures in
+    let frontier = frontier_at _ _ _ (c.live-2.ensures.position ∙ ap last (c.is_drawn.ensures.as_before.line ∙ c.moves-moves.ensures.as_before.line ∙ sym i.line.line)) c.frontier_of-frontier.ensures in
     (omega arith, (within, (legal, (frontier, (omega arith, (omega arith, (omega (arith, ints), (omega (arith, ints, clamps), omega (arith, ints)))))))))
 
 pub search-returns-then-best-beta-clause-answer : goal.search-returns-then-best-beta-clause-answer
@@ -180,36 +179,3 @@ judge-returns-in-Some-clause-answer g t c =
     let at_end : c.args.depth ≡ 0 = omega (arith, c.if-depth-eq0.true) in
     let told = rw c.live.ensures.position at c.in-Some.ensures in
     rw at_end (judged claims line c.args.distance c.args.m c.args.alpha c.args.beta (to_z w32 (of_z w32 c.in-Some.answer)) _ _ c.in-Some.answer (omega (arith, ints)) (omega (arith, ints)) (omega (arith, ints)) told)
-
-pub search-cut_by-requires-clause-legal : goal.search-cut_by-requires-clause-legal
-search-cut_by-requires-clause-legal g t c =
-    let line = c.args.line.now.line in
-    let moves = c.moves-moves.result.items in
-    let some : 0 < length moves = grind (arith, c.is_empty.ensures, c.if-is_empty.false) in
-    let is = rw c.as_slice.ensures.value at c.index-as_slice-0.is in
-    let here = c.live-then-depth-eq1.ensures.position ∙ ap last (c.is_drawn.ensures.as_before.line ∙ c.moves-moves.ensures.as_before.line) in
-    rw here (root_legal line line moves 0 c.index-as_slice-0.result (roots_legal line line moves c.moves-moves.ensures.listed refl) some is refl)
-
-pub search-returns-in-Some-clause-answer : goal.search-returns-in-Some-clause-answer
-search-returns-in-Some-clause-answer g t c =
-    let line = c.args.line.now.line in
-    let claims = c.args.self.now.claims in
-    let moves = c.moves-moves.result.items in
-    let m = c.index-as_slice-0.result in
-    let some : 0 < length moves = grind (arith, c.is_empty.ensures, c.if-is_empty.false) in
-    let also : 0 < length (legal_moves (last line)) = rw (← c.moves-moves.ensures.listed) some in
-    let is = rw c.as_slice.ensures.value at c.index-as_slice-0.is in
-    let here = c.live-then-depth-eq1.ensures.position ∙ ap last (c.is_drawn.ensures.as_before.line ∙ c.moves-moves.ensures.as_before.line) in
-    let told = rw here at c.in-Some.ensures.told in
-    let one : c.args.depth ≡ 1 = omega (arith, c.if-depth-eq1.true) in
-    let playing = drawn_at claims _ _ _ _ c.moves-moves.ensures.as_before.line c.is_drawn.ensures.value c.if-is_drawn.false in
-    let answer = to_z w32 (of_z w32 c.in-Some.answer) in
-    let a : FitsWindow c.args.alpha c.args.beta (worth claims 0 line c.args.distance m) answer =
-    judged claims line c.args.distance m c.args.alpha c.args.beta answer _ _ c.in-Some.answer (omega (arith, ints)) (omega (arith, ints)) (omega (arith, ints)) told in
-    let within : worth claims 0 line c.args.distance m ≤ℤ greatest (map (worth claims 0 line c.args.distance) moves) = within_greatest (worth claims 0 line c.args.distance) moves 0 m some is in
-    let all : greatest (map (worth claims 0 line c.args.distance) (legal_moves (last line))) ≡ greatest (map (worth claims 0 line c.args.distance) moves) =
-    ap (λ ms. greatest (map (worth claims 0 line c.args.distance) ms)) (sym c.moves-moves.ensures.listed) in
-    rw (one, value-play claims 1 line c.args.distance also playing (omega arith), all) (record {
-      upper = λ under. omega (arith, ints, c.in-Some.ensures.cuts);
-      lower = λ over. omega (arith, ints, a.lower over, within);
-    })
