@@ -6,3 +6,5 @@ pub mod AskedLemmas
 pub mod BorderLemmas
 pub mod OrderLemmas
 pub mod SliceLemmas
+pub mod QuietLemmas
+pub mod FrontierLemmas

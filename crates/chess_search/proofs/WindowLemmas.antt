@@ -1,5 +1,5 @@
 -- Facts on the greatest of a list, and on answers in a window.
-use Rattle.std.proofs.Common.{◌≡◌, ℕ, zero, suc, ◌+◌, ◌-◌, ◌<◌, Bool, true, false, List, [], ◌∷◌, length, map, take, get_or, refl, sym, ap, ◌∙◌, subst, arith, ℤ, pos, neg_ℤ, ◌<ℤ◌, ◌≤ℤ◌, fold, Some, None, ◌-ℤ◌, nat_lt}
+use Rattle.std.proofs.Common.{◌≡◌, ℕ, zero, suc, ◌+◌, ◌-◌, ◌<◌, Bool, true, false, List, [], ◌∷◌, length, map, take, get_or, refl, sym, ap, ◌∙◌, subst, arith, ℤ, pos, neg_ℤ, ◌<ℤ◌, ◌≤ℤ◌, fold, Some, None, ◌-ℤ◌, nat_lt, ◌⊎◌, inl, inr}
 use Rattle.std.proofs.lemmas.Int.{ints, clamps, by_lt_z, fold-int_max_bounds}
 use Rattle.std.proofs.lemmas.List.{take_more, map-append, length-map}
 use Rattle.std.proofs.Math.ListN.{get_or-map}
@@ -17,7 +17,7 @@ use Rattle.chess_types.specs.board.Legal.{is_legal, legal_moves}
 use Rattle.chess_types.specs.board.Outcome.{is_without}
 use Rattle.chess_moves.proofs.LegalLaws.{moves_legal}
 use Rattle.chess_search.specs.Value.{evaluation_for, counts_drawn, ended, greatest, value, worth}
-use Rattle.chess_search.specs.steps.Windows.{FitsWindow}
+use Rattle.chess_search.specs.steps.Windows.{FitsWindow, IsDecided}
 
 pub int_max_assoc : (a b c : ℤ) → int_max (int_max a b) c ≡ int_max a (int_max b c)
 int_max_assoc a b c = omega (arith, ints, clamps)
@@ -79,6 +79,19 @@ answered_all alpha beta best vs some low upper lower =
 -- the value itself is an answer in each window
 pub FitsWindow-refl : (alpha beta v : ℤ) → FitsWindow alpha beta v v
 FitsWindow-refl alpha beta v = record { upper = λ h. omega (arith, ints); lower = λ h. omega (arith, ints) }
+
+-- the same answer, by other names of the numbers
+same_window : (alpha beta v answer a b w x : ℤ) → a ≡ alpha → b ≡ beta → w ≡ v → x ≡ answer → FitsWindow a b w x → FitsWindow alpha beta v answer
+same_window alpha beta v answer a b w x e f h i fits = record {
+  upper = λ under. omega (arith, ints, e, f, h, i, fits.upper (omega (arith, ints, e, f, h, i)));
+  lower = λ over. omega (arith, ints, e, f, h, i, fits.lower (omega (arith, ints, e, f, h, i)));
+}
+
+-- an answer for a draw and for an evaluation alike is one for a value that is either
+pub decided : (alpha beta evaluation answer a b e x : ℤ) → a ≡ alpha → b ≡ beta → e ≡ evaluation → x ≡ answer → IsDecided a b e x →
+    (v : ℤ) → (v ≡ pos 0) ⊎ (v ≡ evaluation) → FitsWindow alpha beta v answer
+decided alpha beta evaluation answer a b e x f h i j both v (inl drawn) = same_window alpha beta v answer a b (pos 0) x f h (sym drawn) j both.draw
+decided alpha beta evaluation answer a b e x f h i j both v (inr evaluated) = same_window alpha beta v answer a b e x f h (i ∙ sym evaluated) j both.evaluated
 
 -- one more move, worth v, was answered by score, and nothing is cut off
 pub upper_more : (beta best score next so_far v : ℤ) → so_far ≤ℤ best → (score <ℤ beta → v ≤ℤ score) → next ≡ int_max best score → next <ℤ beta → int_max so_far v ≤ℤ next
@@ -166,6 +179,18 @@ pub ended-drawn : (claims : Bool) (line : Line) (distance : ℕ) → 0 < length 
     ended claims line distance ≡ Some (pos 0)
 unfolding ended
 ended-drawn claims line distance some drawn = rw (some_move (legal_moves (last line)) some, drawn) refl
+
+-- a line whose side to move isn't in check, looked at no deeper, is worth nothing or its evaluation
+unchecked : (claims : Bool) (line : Line) (distance : ℕ) (moves : List MoveParts) (drawn : Bool) → legal_moves (last line) ≡ moves → counts_drawn claims line ≡ drawn →
+    in_check (look (last line)) (last line).side ≡ false → (value claims 0 line distance ≡ pos 0) ⊎ (value claims 0 line distance ≡ evaluation_for (last line))
+unfolding ended
+unchecked claims line distance [] drawn listed is quiet = inl (rw (listed, quiet) refl)
+unchecked claims line distance (m ∷ ms) true listed is quiet = inl (rw (listed, is) refl)
+unchecked claims line distance (m ∷ ms) false listed is quiet = inr (rw (listed, is) refl)
+
+pub value-unchecked : (claims : Bool) (line : Line) (distance : ℕ) → in_check (look (last line)) (last line).side ≡ false →
+    (value claims 0 line distance ≡ pos 0) ⊎ (value claims 0 line distance ≡ evaluation_for (last line))
+value-unchecked claims line distance quiet = unchecked claims line distance (legal_moves (last line)) (counts_drawn claims line) refl refl quiet
 
 -- what was answered of the line as it was
 pub drawn_at : (claims answer is : Bool) (old new : Line) → new ≡ old → answer ≡ counts_drawn claims new → answer ≡ is → counts_drawn claims old ≡ is

@@ -1,3 +1,4 @@
--- The words of the code's steps: what a search in a window may answer, and the order in which moves are tried.
+-- The words of the code's steps: what a search in a window may answer, the order in which moves are tried, and what is known before the last of them.
 pub mod Windows
 pub mod Order
+pub mod Frontiers

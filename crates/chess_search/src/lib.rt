@@ -4,12 +4,14 @@
 //! (`specs/Value.antt`); the code cuts off what can't change the answer (alpha-beta) and tries good moves first.
 #![tactic(auto)]
 
+mod frontier;
 mod nodes;
 mod order;
 mod roots;
 mod score;
 mod search;
 mod slices;
+mod sums;
 
 pub use nodes::Nodes;
 pub use roots::{best, best_counted};

@@ -1,13 +1,16 @@
-ghost use Rattle.std.specs.Prelude.{◌≡◌, ◌+◌, ◌-◌, ◌≤◌, ◌<◌, Bool, [], IsTrue, Some, pos, neg_ℤ, ◌<ℤ◌, ◌≤ℤ◌, ◌^◌, min};
+ghost use Rattle.std.specs.Prelude.{◌≡◌, ◌+◌, ◌-◌, ◌≤◌, ◌<◌, Bool, [], IfSome, IsTrue, Some, pos, neg_ℤ, ◌<ℤ◌, ◌≤ℤ◌, ◌^◌, min};
 ghost use Rattle.chess_types.specs.board.Legal.{is_legal, legal_moves};
 ghost use Rattle.chess_types.specs.board.Lines.{last};
+ghost use Rattle.chess_eval.specs.Evaluation.{IsWithin, for_white};
 ghost use Rattle.chess_draws.specs.LineParts.{IsAsBefore};
 ghost use Rattle.chess_search.specs.Scores.{IsValue, IsApart};
 ghost use Rattle.chess_search.specs.Value.{ended, evaluation_for, value, worth};
 ghost use Rattle.chess_search.specs.Slices.{IsInRange, HasBorder};
 ghost use Rattle.chess_search.specs.Asked.{tree_below, tree_size};
-ghost use Rattle.chess_search.specs.steps.Windows.{FitsWindow, better};
+ghost use Rattle.chess_search.specs.steps.Frontiers.{IsFrontier};
+ghost use Rattle.chess_search.specs.steps.Windows.{FitsWindow, IsDecided, better};
 
+use crate::frontier::{Frontier, answer_by, frontier_of};
 use crate::nodes::Nodes;
 use crate::order::{Experience, put_in_order};
 use chess_draws::Line;
@@ -30,17 +33,27 @@ const STALEMATE: i32 = 0;
 // What a draw is worth while there are moves.
 const DRAW: i32 = 0;
 
+/// White's centipawns as the side counts them.
+#[inline(always)]
+pub(crate) fn for_side(side: Colour, white: i32) -> i32
+    requires { IsWithin 13605 white }
+    ensures value { result ≡ for_white side white }
+    ensures in_range { IsValue result }
+    ensures border { IsApart result }
+{
+    match side {
+        Colour::White => white,
+        Colour::Black => -white,
+    }
+}
+
 // The evaluation for the side to move.
 pub(crate) fn evaluation_for(live: &Live) -> i32
     ensures value { result ≡ evaluation_for live.now.position }
     ensures in_range { IsValue result }
     ensures border { IsApart result }
 {
-    let white = live.white();
-    match live.position().side {
-        Colour::White => white,
-        Colour::Black => -white,
-    }
+    for_side(live.position().side, live.white())
 }
 
 // The value of a line whose last position has no legal move, so far from the root: mated or stalemate.
@@ -73,6 +86,50 @@ fn leaf_value<A: Allocator>(line: &mut Line<'_, A>, distance: u8, claims: bool) 
     } else {
         evaluation_for(line.live())
     }
+}
+
+// An answer in the window from alpha to beta, where both draws and that evaluation lie on one side of it.
+#[inline(always)]
+pub(crate) fn decided(evaluation: i32, alpha: i32, beta: i32) -> Option<i32>
+    requires in_range { IsValue evaluation }
+    requires border { IsApart evaluation }
+    requires window { alpha <ℤ beta }
+    ensures { IfSome result (IsDecided alpha beta evaluation) }
+{
+    let least = evaluation.min(DRAW);
+    if least >= beta {
+        return Some(least);
+    }
+    let most = evaluation.max(DRAW);
+    if most <= alpha {
+        return Some(most);
+    }
+    None
+}
+
+// An answer, in the window from alpha to beta, for the value of a line that is looked at no deeper. Where its side to move isn't in check it is
+// worth nothing or its evaluation, and nothing more is asked of it where the window decides both alike.
+fn leaf_answer<A: Allocator>(
+    line: &mut Line<'_, A>,
+    distance: u8,
+    claims: bool,
+    alpha: i32,
+    beta: i32,
+) -> i32
+    requires distance { distance ≤ 16 }
+    requires window { alpha <ℤ beta }
+    ensures answer { FitsWindow alpha beta (value claims 0 line.old.line distance) result }
+    ensures in_range { IsValue result }
+    ensures border { IsApart result }
+    ensures line { IsAsBefore line.old line.new }
+{
+    let checked = line.in_check();
+    if !checked {
+        if let Some(answer) = decided(evaluation_for(line.live()), alpha, beta) {
+            return answer;
+        }
+    }
+    leaf_value(line, distance, claims)
 }
 
 impl Searcher {
@@ -124,7 +181,7 @@ impl Searcher {
     {
         self.nodes.tick();
         if depth == 0 {
-            return leaf_value(line, distance, self.claims);
+            return leaf_answer(line, distance, self.claims, alpha, beta);
         }
         let mut moves = line.moves();
         if moves.is_empty() {
@@ -133,11 +190,12 @@ impl Searcher {
         if line.is_drawn(self.claims) {
             return DRAW;
         }
-        put_in_order(line.live(), &self.experience, distance, &mut moves);
+        put_in_order(line.live(), &self.experience, distance, depth, &mut moves);
+        let frontier = frontier_of(line.live(), depth);
         let mut best: i32 = -30001;
         for m in moves.as_slice() {
             let floor = best.max(alpha);
-            let answer = self.score(line, *m, depth - 1, distance, floor, beta);
+            let answer = self.judge(line, &frontier, *m, depth - 1, distance, floor, beta);
             best = best.max(answer);
             if best >= beta {
                 self.experience.learn(line.live(), distance, depth, *m);
@@ -145,6 +203,42 @@ impl Searcher {
             }
         }
         best
+    }
+
+    /// The same as `score`; where the move is the last one that is looked at and the frontier tells enough, it isn't made.
+    #[cycle(search)]
+    fn judge<A: Allocator>(
+        &mut self,
+        line: &mut Line<'_, A>,
+        frontier: &Option<Frontier>,
+        m: Move,
+        depth: u8,
+        distance: u8,
+        alpha: i32,
+        beta: i32,
+    ) -> i32
+        requires legal { IsTrue (is_legal (last line.old.line) m) }
+        requires frontier { IfSome frontier.now (λ f. IsFrontier f (last line.old.line)) }
+        requires room { line.old.looked + depth < 16 }
+        requires distance { distance + depth < 16 }
+        requires alpha { neg_ℤ (pos 30001) ≤ℤ alpha }
+        requires window { alpha <ℤ beta }
+        requires beta { beta ≤ℤ pos 30001 }
+        ensures answer { FitsWindow alpha beta (worth self.old.claims depth line.old.line distance m) result }
+        ensures in_range { IsValue result }
+        ensures border { IsApart result }
+        ensures at_least { min (self.old.nodes + 1) (2 ^ 64 - 1) ≤ self.new.nodes }
+        ensures at_most { self.new.nodes ≤ self.old.nodes + tree_below self.old.claims depth line.old.line m }
+        ensures claims { self.new.claims ≡ self.old.claims }
+        ensures line { IsAsBefore line.old line.new }
+    {
+        if depth == 0 {
+            if let Some(answer) = answer_by(frontier, line.live(), m, alpha, beta) {
+                self.nodes.tick();
+                return answer;
+            }
+        }
+        self.score(line, m, depth, distance, alpha, beta)
     }
 
     /// An answer, in the window from alpha to beta, for what a legal move is worth to the side that makes it.

@@ -1,4 +1,4 @@
-use Rattle.std.proofs.Common.{◌≡◌, ◌+◌, ◌<◌, ◌≤◌, length, take, map, pos, neg_ℤ, ◌≤ℤ◌, ◌-◌, arith, ap, sym, ◌∙◌, w32, to_z}
+use Rattle.std.proofs.Common.{◌≡◌, ◌+◌, ◌<◌, ◌≤◌, length, take, map, pos, neg_ℤ, ◌≤ℤ◌, ◌-◌, arith, ap, sym, ◌∙◌, w32, to_z, of_z}
 use Rattle.std.proofs.lemmas.Int.{ints, clamps}
 use Rattle.std.proofs.lemmas.List.{length-map}
 use Rattle.std.proofs.lemmas.List.Sorted.{length_permutation}
@@ -13,6 +13,7 @@ use Rattle.chess_search.specs.Asked.{tree_below}
 use Rattle.chess_search.specs.steps.Windows.{FitsWindow}
 use Rattle.chess_search.proofs.WindowLemmas.{value-any_order, value-ended, ended-drawn, drawn_at, FitsWindow-refl, answered_all, FitsWindow-negated, best_more, upper_more, lower_more, cut_off, within_greatest, legal_at}
 use Rattle.chess_search.proofs.AskedLemmas.{tree_any_order}
+use Rattle.chess_search.proofs.FrontierLemmas.{frontier_at, judged}
 use Rattle.chess_search.proofs.BorderLemmas.{apart_negated, apart_next}
 use Rattle.chess_search.proofs.search.Searcher.+search.Goals as goal
 
@@ -27,8 +28,8 @@ search-returns-then-is_drawn-clause-answer g t c =
     let drawn = drawn_at c.args.self.now.claims _ _ _ _ c.moves-moves.ensures.as_before.line c.is_drawn.ensures.value c.if-is_drawn.true in
     rw (value-ended c.args.self.now.claims c.args.depth line c.args.distance (pos 0) (ended-drawn c.args.self.now.claims line c.args.distance some drawn)) (FitsWindow-refl c.args.alpha c.args.beta (pos 0))
 
-pub search-score-answer-requires : goal.search-score-answer-requires
-search-score-answer-requires g t c κs within =
+pub search-judge-answer-requires : goal.search-judge-answer-requires
+search-judge-answer-requires g t c κs within =
     let items = c.as_slice-m-items.result.now in
     let m = c.m-item.result in
     let i = c.loop-m.invariant in
@@ -36,7 +37,8 @@ search-score-answer-requires g t c κs within =
     let looked : c.loop-m.line.looked ≡ c.args.line.now.looked = i.line.looked in
     let permuted : IsPermutation c.moves-moves.result.items items = rw c.as_slice-m-items.ensures.value c.put_in_order.ensures.permuted in
     let legal = legal_at _ _ _ items c.loop-m.m-index m c.moves-moves.ensures.listed permuted (omega arith) c.m-item.is i.line.line in
-    (omega arith, (within, (legal, (omega arith, (omega arith, (omega (arith, ints), (omega (arith, ints, clamps), omega (arith, ints))))))))
+    let frontier = frontier_at _ _ _ (c.live-2.ensures.position ∙ ap last (c.is_drawn.ensures.as_before.line ∙ c.moves-moves.ensures.as_before.line ∙ sym i.line.line)) c.frontier_of-frontier.ensures in
+    (omega arith, (within, (legal, (frontier, (omega arith, (omega arith, (omega (arith, ints), (omega (arith, ints, clamps), omega (arith, ints)))))))))
 
 pub search-returns-then-best-beta-clause-answer : goal.search-returns-then-best-beta-clause-answer
 search-returns-then-best-beta-clause-answer g t c =
@@ -52,16 +54,16 @@ search-returns-then-best-beta-clause-answer g t c =
     let deep : 0 < c.args.depth = omega arith in
     let worths = worth claims (c.args.depth - 1) line c.args.distance in
     let v = worths m in
-    let a = rw (i.line.line, i.claims) at c.score-answer.ensures.answer in
+    let a = rw (i.line.line, i.claims) at c.judge-answer.ensures.answer in
     let within : v ≤ℤ greatest (map worths items) = within_greatest worths items c.loop-m.m-index m (omega arith) c.m-item.is in
     rw (value-any_order claims c.args.depth line c.args.distance items some playing deep (rw c.moves-moves.ensures.listed at permuted))
-    (cut_off c.args.alpha c.args.beta (to_z w32 c.loop-m.best-bits) c.score-answer.result _ v _ (omega (arith, ints))
+    (cut_off c.args.alpha c.args.beta (to_z w32 c.loop-m.best-bits) c.judge-answer.result _ v _ (omega (arith, ints))
     (λ h. a.lower (omega (arith, ints, clamps))) (omega (arith, ints, clamps)) (omega (arith, ints)) within (omega (arith, ints)))
 
 pub search-returns-then-best-beta-clause-in_range : goal.search-returns-then-best-beta-clause-in_range
 search-returns-then-best-beta-clause-in_range g t c =
     let i = c.loop-m.invariant in
-    let a = c.score-answer.ensures.in_range in
+    let a = c.judge-answer.ensures.in_range in
     record { low = omega (arith, ints, clamps, a.low, i.low); high = omega (arith, ints, clamps, a.high, i.high) }
 
 pub search-loop-m-preserved : goal.search-loop-m-preserved
@@ -73,25 +75,25 @@ search-loop-m-preserved g t c =
     let line = c.args.line.now.line in
     let worths = worth claims (c.args.depth - 1) line c.args.distance in
     let best = to_z w32 c.loop-m.best-bits in
-    let r = c.score-answer.ensures.in_range in
-    let l = c.score-answer.ensures.line in
-    let a = rw (i.line.line, i.claims) at c.score-answer.ensures.answer in
+    let r = c.judge-answer.ensures.in_range in
+    let l = c.judge-answer.ensures.line in
+    let a = rw (i.line.line, i.claims) at c.judge-answer.ensures.answer in
     let below = tree_below claims (c.args.depth - 1) line in
     let trees : sum_by below (take (c.loop-m.m-index + 1) items) ≡ sum_by below (take c.loop-m.m-index items) + below m =
     sum_by_more below items c.loop-m.m-index m (omega arith) ∙ ap (λ x. sum_by below (take c.loop-m.m-index items) + below x) (sym c.m-item.is) in
     let more = best_more worths (neg_ℤ (pos 30001)) items c.loop-m.m-index m (omega arith) c.m-item.is in
     record {
       line = record { line = l.line ∙ i.line.line; looked = l.looked ∙ i.line.looked; words = l.words ∙ i.line.words; room = l.room ∙ i.line.room };
-      claims = c.score-answer.ensures.claims ∙ i.claims;
+      claims = c.judge-answer.ensures.claims ∙ i.claims;
       below = omega (arith, ints);
       low = omega (arith, ints, r.low);
-      border = λ h. apart_next best c.score-answer.result _ i.border r.low c.score-answer.ensures.border (omega (arith, ints, clamps));
-      at_least = omega (arith, i.at_least, c.score-answer.ensures.at_least);
-      at_most = omega (arith, i.at_most, rw (i.line.line, i.claims) at c.score-answer.ensures.at_most, trees);
+      border = λ h. apart_next best c.judge-answer.result _ i.border r.low c.judge-answer.ensures.border (omega (arith, ints, clamps));
+      at_least = omega (arith, i.at_least, c.judge-answer.ensures.at_least);
+      at_most = omega (arith, i.at_most, rw (i.line.line, i.claims) at c.judge-answer.ensures.at_most, trees);
       answered = λ h. omega (arith, ints, r.low);
       high = omega (arith, ints, clamps, r.high);
-      upper = rw more (upper_more c.args.beta best c.score-answer.result _ _ _ i.upper (λ h. a.upper (omega (arith, ints))) (omega (arith, ints, clamps)) (omega (arith, ints)));
-      lower = rw more (λ h. lower_more c.args.alpha best c.score-answer.result _ _ _ (λ k. i.lower (omega (arith, ints))) (λ k. a.lower (omega (arith, ints, clamps))) (omega (arith, ints, clamps)) (omega (arith, ints)));
+      upper = rw more (upper_more c.args.beta best c.judge-answer.result _ _ _ i.upper (λ h. a.upper (omega (arith, ints))) (omega (arith, ints, clamps)) (omega (arith, ints)));
+      lower = rw more (λ h. lower_more c.args.alpha best c.judge-answer.result _ _ _ (λ k. i.lower (omega (arith, ints))) (λ k. a.lower (omega (arith, ints, clamps))) (omega (arith, ints, clamps)) (omega (arith, ints)));
     }
 
 pub search-returns-clause-answer : goal.search-returns-clause-answer
@@ -130,7 +132,7 @@ score-returns-clause-at_most g t c = rw c.look.ensures.line at c.search-answer.e
 
 pub search-returns-then-best-beta-clause-border : goal.search-returns-then-best-beta-clause-border
 search-returns-then-best-beta-clause-border g t c =
-    apart_next (to_z w32 c.loop-m.best-bits) c.score-answer.result _ c.loop-m.invariant.border c.score-answer.ensures.in_range.low c.score-answer.ensures.border (omega (arith, ints, clamps))
+    apart_next (to_z w32 c.loop-m.best-bits) c.judge-answer.result _ c.loop-m.invariant.border c.judge-answer.ensures.in_range.low c.judge-answer.ensures.border (omega (arith, ints, clamps))
 
 pub search-returns-clause-border : goal.search-returns-clause-border
 search-returns-clause-border g t c =
@@ -154,7 +156,7 @@ search-returns-then-best-beta-clause-at_most g t c =
     let part : sum_by below (take c.loop-m.m-index items) + below m ≤ sum_by below items =
     omega (arith, ap below c.m-item.is, sum_by_more_le below items c.loop-m.m-index m (omega arith)) in
     let whole = tree_any_order claims c.args.depth line items playing deep (rw c.moves-moves.ensures.listed at permuted) in
-    omega (arith, i.at_most, rw (i.line.line, i.claims) at c.score-answer.ensures.at_most, part, whole)
+    omega (arith, i.at_most, rw (i.line.line, i.claims) at c.judge-answer.ensures.at_most, part, whole)
 
 pub search-returns-clause-at_most : goal.search-returns-clause-at_most
 search-returns-clause-at_most g t c =
@@ -169,3 +171,11 @@ search-returns-clause-at_most g t c =
     let all : take c.loop-m.m-index items ≡ items = rw at_end (take-length items) in
     let whole = tree_any_order claims c.args.depth line items playing deep (rw c.moves-moves.ensures.listed at permuted) in
     omega (arith, rw all at i.at_most, whole)
+
+pub judge-returns-in-Some-clause-answer : goal.judge-returns-in-Some-clause-answer
+judge-returns-in-Some-clause-answer g t c =
+    let line = c.args.line.now.line in
+    let claims = c.args.self.now.claims in
+    let at_end : c.args.depth ≡ 0 = omega (arith, c.if-depth-eq0.true) in
+    let told = rw c.live.ensures.position at c.in-Some.ensures in
+    rw at_end (judged claims line c.args.distance c.args.m c.args.alpha c.args.beta (to_z w32 (of_z w32 c.in-Some.answer)) _ _ c.in-Some.answer (omega (arith, ints)) (omega (arith, ints)) (omega (arith, ints)) told)

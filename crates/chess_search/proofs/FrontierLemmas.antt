@@ -1,0 +1,143 @@
+-- A quiet move: the position after it, whose side to move isn't in check, and its evaluation.
+use Rattle.std.proofs.Common.{◌≡◌, ◌≢◌, ◌<◌, ◌+◌, ◌==◌, ℕ, Bool, true, false, ◌&&◌, ◌||◌, Option, Some, None, refl, sym, ap, subst, ◌∙◌, arith, inl, inr, ℤ, neg_ℤ}
+use Rattle.std.specs.Prelude.{IfSome}
+use Rattle.std.proofs.lemmas.Bool.{cases_Bool, true≢false}
+use Rattle.std.proofs.lemmas.Int.{ints}
+use Rattle.std.specs.FinMap.{insert, remove}
+use Rattle.chess_types.specs.declared.board.man.Colour.{Colour}
+use Rattle.chess_types.specs.declared.board.man.Colour.TheVariants.{White, Black}
+use Rattle.chess_types.specs.declared.board.man.Man.{Man}
+use Rattle.chess_types.specs.declared.board.position.Wing.{Wing}
+use Rattle.chess_types.specs.declared.board.position.Wing.TheVariants.{KingSide, QueenSide}
+use Rattle.chess_types.specs.board.Board.{Board, man_at}
+use Rattle.chess_types.specs.board.MoveParts.{MoveParts}
+use Rattle.chess_types.specs.board.Men.{opponent, is_king, is_king_of, kings_of}
+use Rattle.chess_types.specs.board.Attack.{in_check}
+use Rattle.chess_types.specs.board.Position.{State, IsSetup, IsQuiet, look}
+use Rattle.chess_types.specs.board.Pseudo.{castles_to}
+use Rattle.chess_types.specs.board.After.{captured_at, arriving, transferred, is_castling, after_by, after}
+use Rattle.chess_eval.specs.Evaluation.{for_white, evaluation, HasArmies}
+use Rattle.chess_attack.proofs.Lifted.{OnlyKing, only_king}
+use Rattle.chess_attack.proofs.Pinning.{other_colour}
+use Rattle.chess_play.proofs.CastlingSquares.{castles_where}
+use Rattle.chess_play.proofs.Facts.{Facts}
+use Rattle.chess_play.proofs.Carried.{cap, carried_here, carried_there}
+use Rattle.chess_play.proofs.Castled.{placement_plain}
+use Rattle.chess_play.proofs.Setups.{setup_by_facts}
+use Rattle.chess_moves.proofs.PinLaws.{shifts}
+use Rattle.chess_types.specs.board.Lines.{Line, last, extended}
+use Rattle.chess_types.proofs.PlayLaws.{last_extended}
+use Rattle.chess_search.specs.declared.frontier.Frontier.{Frontier}
+use Rattle.chess_search.specs.Value.{evaluation_for, value, worth}
+use Rattle.chess_search.specs.steps.Frontiers.{IsFrontier, IsQuietMove, AfterQuiet}
+use Rattle.chess_search.specs.steps.Windows.{FitsWindow, IsDecided}
+use Rattle.chess_search.proofs.WindowLemmas.{decided, value-unchecked}
+use Rattle.chess_search.proofs.QuietLemmas.{gives_none}
+
+-- who doesn't go two squares doesn't castle
+no_castling : (c : Colour) (w : Wing) (m : MoveParts) (king : Bool) → (king && (m.to == m.from + 2 || m.from == m.to + 2)) ≡ false → (king && castles_to c w m) ≡ false
+no_castling c w m false h = refl
+no_castling c w m true h =
+    elim (cases_Bool (castles_to c w m)) [
+      | inr none ↦ none
+      | inl there ↦ absurd (two c w m (castles_where c w m there) h)
+    ]
+  where
+    two : (c : Colour) (w : Wing) (m : MoveParts) → (m.from ≡ Rattle.chess_types.specs.board.Position.king_home c) × (m.to ≡ Rattle.chess_types.specs.board.Pseudo.reached c w) → (m.to == m.from + 2 || m.from == m.to + 2) ≡ false → ⊥
+    two White KingSide m at h = true≢false (rw (at.0, at.1) at h)
+    two White QueenSide m at h = true≢false (rw (at.0, at.1) at h)
+    two Black KingSide m at h = true≢false (rw (at.0, at.1) at h)
+    two Black QueenSide m at h = true≢false (rw (at.0, at.1) at h)
+
+module _ (p : State) (m : MoveParts) (k : ℕ) (man : Man) (setup : IsSetup p) (from : m.from < 64) (to : m.to < 64) (facts : Facts p man m) (move : IsQuietMove k p man m) where
+  there : captured_at p.target man m ≡ m.to
+  there = rw move.passes_none refl
+
+  same : arriving man m.promo ≡ man
+  same = ap (arriving man) move.plain
+
+  castles_none : (w : Wing) → is_castling man w m ≡ false
+  castles_none w = no_castling man.colour w m (is_king man.kind) move.steps
+
+  after_is : after p m ≡ after_by p (Some man) m
+  unfolding after
+  after_is = ap (λ o. after_by p o m) move.here
+
+  -- its board
+  pub board_after : (after p m).placement ≡ transferred p man m
+  board_after = ap (λ (q : State). q.placement) after_is ∙ placement_plain p man m (castles_none KingSide) (castles_none QueenSide)
+
+  pub board_is : insert (remove (remove p.placement m.to) m.from) m.to man ≡ transferred p man m
+  board_is = λ i. insert (remove (remove p.placement (sym there i)) m.from) m.to (sym same i)
+
+  side_after : (after p m).side ≡ opponent p.side
+  side_after = ap (λ (q : State). q.side) after_is
+
+  pub armies : HasArmies (insert (remove (remove p.placement m.to) m.from) m.to man)
+  armies =
+      let sound : IsSetup (after_by p (Some man) m) = setup_by_facts p man m setup from to facts in
+      let is : (after_by p (Some man) m).placement ≡ insert (remove (remove p.placement m.to) m.from) m.to man =
+      placement_plain p man m (castles_none KingSide) (castles_none QueenSide) ∙ sym board_is in
+      subst HasArmies is (record { few = sound.few; kings = sound.kings })
+
+  -- what the evaluation is then
+  pub evaluated : (white : ℤ) → white ≡ evaluation (man_at (insert (remove (remove p.placement m.to) m.from) m.to man)) → neg_ℤ (evaluation_for (after p m)) ≡ for_white p.side white
+  evaluated white is =
+      (λ i. neg_ℤ (for_white (side_after i) (evaluation (man_at (board_after i)))))
+      ∙ ap (λ e. neg_ℤ (for_white (opponent p.side) e)) (ap (λ (b : Board). evaluation (man_at b)) (sym board_is) ∙ sym is)
+      ∙ turned p.side white
+    where
+      turned : (c : Colour) (e : ℤ) → neg_ℤ (for_white (opponent c) e) ≡ for_white c e
+      turned White e = omega (arith, ints)
+      turned Black e = refl
+
+  module _ (on_board : k < 64) (king : is_king_of (opponent p.side) (look p k) ≡ true) (quiet : IsQuiet p) where
+    not_captured : k ≢ captured_at p.target man m
+    not_captured e = true≢false (sym king ∙ ap (λ s. is_king_of (opponent p.side) (look p s)) e ∙ (cap p man m from to facts).king (opponent p.side))
+
+    not_mover : k ≢ m.from
+    not_mover e =
+        let mine : is_king_of (opponent p.side) (look p m.from) ≡ false = rw (move.here, facts.mine, other_colour p.side) refl in
+        true≢false (sym king ∙ ap (λ s. is_king_of (opponent p.side) (look p s)) e ∙ mine)
+
+    king_before : OnlyKing (look p) (opponent p.side) k
+    king_before = only_king p.placement (opponent p.side) k (setup.kings (opponent p.side)) on_board king
+
+    king_then : OnlyKing (man_at (transferred p man m)) (opponent p.side) k
+    king_then =
+        let sound : IsSetup (after_by p (Some man) m) = setup_by_facts p man m setup from to facts in
+        let one : kings_of (transferred p man m) (opponent p.side) ≡ 1 =
+        ap (λ b. kings_of b (opponent p.side)) (sym (placement_plain p man m (castles_none KingSide) (castles_none QueenSide))) ∙ sound.kings (opponent p.side) in
+        let here : is_king_of (opponent p.side) (man_at (transferred p man m) k) ≡ true =
+        ap (is_king_of (opponent p.side)) (carried_there p man m from to facts k not_mover (λ e. not_captured (e ∙ sym there)) not_captured) ∙ king in
+        only_king (transferred p man m) (opponent p.side) k one on_board here
+
+    -- nobody is in check then
+    pub unchecked_after : in_check (look (after p m)) (after p m).side ≡ false
+    unchecked_after =
+        (λ i. in_check (man_at (board_after i)) (side_after i))
+        ∙ gives_none (look p) (man_at (transferred p man m)) m.from m.to p.side (shifts p man m setup from to facts move.passes_none) k (opponent p.side) man king_before king_then
+        (carried_here p man m from to facts ∙ ap (λ x. Some x) same) move.off_line move.away quiet
+
+-- the same, by other names of the numbers
+pub same_decided : (alpha beta e x a b w : ℤ) → a ≡ alpha → b ≡ beta → w ≡ e → IsDecided a b w x → IsDecided alpha beta e x
+same_decided alpha beta e x a b w f g h both = subst (λ y. IsDecided y beta e x) f (subst (λ y. IsDecided a y e x) g (subst (λ y. IsDecided a b y x) h both))
+
+pub mapped : {A : Type 0} {P Q : A → Type 0} (o : Option A) → ((x : A) → P x → Q x) → IfSome o P → IfSome o Q
+mapped None f h = h
+mapped (Some x) f h = f x h
+
+-- the value of the line after a quiet move is a draw's or the evaluation's
+pub judged : (claims : Bool) (line : Line) (distance : ℕ) (m : MoveParts) (alpha beta answer a b x : ℤ) → a ≡ alpha → b ≡ beta → x ≡ answer → AfterQuiet (last line) m a b x →
+    FitsWindow alpha beta (worth claims 0 line distance m) answer
+judged claims line distance m alpha beta answer a b x f g h told =
+    let then = last_extended line m in
+    let quiet : in_check (look (last (extended line m))) (last (extended line m)).side ≡ false = ap (λ (q : State). in_check (look q) q.side) then ∙ told.quiet in
+    let v = value claims 0 (extended line m) (distance + 1) in
+    let e : evaluation_for (last (extended line m)) ≡ evaluation_for (after (last line) m) = ap evaluation_for then in
+    decided alpha beta (neg_ℤ (evaluation_for (after (last line) m))) answer a b _ x f g refl h told.decided (neg_ℤ v)
+    (elim (value-unchecked claims (extended line m) (distance + 1) quiet) [ inl drawn ↦ inl (omega (arith, ints, drawn)) | inr evaluated ↦ inr (ap neg_ℤ (evaluated ∙ e)) ])
+
+-- what is known of a position is known of it by another name
+pub frontier_at : (p q : State) (frontier : Option Frontier) → p ≡ q → IfSome frontier (λ f. IsFrontier f p) → IfSome frontier (λ f. IsFrontier f q)
+frontier_at p q frontier same h = subst (λ x. IfSome frontier (λ f. IsFrontier f x)) same h

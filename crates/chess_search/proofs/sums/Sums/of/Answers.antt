@@ -1,0 +1,34 @@
+use Rattle.std.proofs.Common.{◌≡◌, ◌+◌, Some, refl, ap, sym, subst, ◌∙◌, arith}
+use Rattle.chess_types.specs.board.Board.{Look, man_at}
+use Rattle.chess_eval.specs.steps.Changes.{with_man, AreInRange}
+use Rattle.chess_eval.proofs.Evaluations.{sums_below, below_all, below_none, below_man, below_empty, below_in_range}
+use Rattle.chess_search.proofs.sums.Sums.of.Goals as goal
+use Rattle.chess_search.proofs.sums.Sums.of.Goals.{in-Some, in_default}
+
+pub loop-number-init : goal.loop-number-init
+loop-number-init c = c.none-sums.ensures ∙ sym (below_none (man_at c.args.placement.now))
+
+pub with_man-sums-requires : goal.with_man-sums-requires
+with_man-sums-requires c =
+    let look : Look = man_at c.args.placement.now in
+    let here : look c.loop-number.number ≡ Some c.in-Some.man = ap look (sym c.from_index-square.ensures) ∙ sym c.get.ensures ∙ c.in-Some.is in
+    let next = below_man look c.loop-number.number c.in-Some.man here in
+    rw (c.loop-number.invariant, c.from_index-square.ensures) (subst AreInRange next (below_in_range look (c.loop-number.number + 1) (omega arith)))
+
+pub loop-number-preserved : goal.loop-number-preserved
+loop-number-preserved c =
+    let look : Look = man_at c.args.placement.now in
+    let there : look c.loop-number.number ≡ c.get.result = ap look (sym c.from_index-square.ensures) ∙ sym c.get.ensures in
+    elim c.match-get.branch [
+      | in-Some w ↦
+          let with : with_man c.loop-number.sums w.in-Some.man c.from_index-square.result ≡ with_man (sums_below look c.loop-number.number) w.in-Some.man c.loop-number.number =
+          rw (c.loop-number.invariant, c.from_index-square.ensures) refl in
+          w.sums-is ∙ w.with_man-sums.ensures ∙ with ∙ sym (below_man look c.loop-number.number w.in-Some.man (there ∙ w.in-Some.is))
+      | in_default w ↦ w.sums-is ∙ c.loop-number.invariant ∙ sym (below_empty look c.loop-number.number (there ∙ w.in_default.is))
+    ]
+
+pub returns : goal.returns
+returns c =
+    let look : Look = man_at c.args.placement.now in
+    let all : sums_below look c.loop-number.number ≡ sums_below look 64 = ap (sums_below look) (omega arith) in
+    c.loop-number.invariant ∙ all ∙ below_all look
