@@ -1,4 +1,4 @@
-use Rattle.std.proofs.Common.{rules, sym}
+use Rattle.std.proofs.Common.{rules}
 use Rattle.chess_items.proofs.ItemLemmas.{letter_word}
 use Rattle.chess_items.proofs.lexer.word_token.Goals as goal
 
