@@ -11,7 +11,7 @@ use Rattle.chess_tree.specs.WellFormed.{Leads}
 use Rattle.chess_tree.specs.steps.Rooted.{Held, Noted, Rooted, added_root, annotated_root, commented_at, commented_root, deleted_root, no_notes, path_root, promoted_root, with_below}
 use Rattle.chess_tree.specs.steps.Entries.{Entry, leaf_entry, look, with_children, with_parent}
 use Rattle.chess_tree.specs.steps.Grove.{Grove, no_move, Empty, Tree, tally, times, size, wide, first_of, node_number, under, under_at, number_at, trail_at, plain, Ways}
-use Rattle.chess_tree.specs.steps.Laid.{Laid, IsArena, seen, standing, uses, Same}
+use Rattle.chess_tree.specs.steps.Laid.{IsArena, seen, standing, uses, Same}
 use Rattle.chess_tree.specs.steps.Freed.{IsPool, IsPut}
 use Rattle.chess_tree.specs.steps.Notes.{IsNotedAt}
 use Rattle.chess_tree.specs.steps.Writes.{detached, lifted}
@@ -19,7 +19,6 @@ use Rattle.chess_tree.specs.steps.Siblings.{AreThere, IsFind, IsOwner, Owner}
 use Rattle.chess_tree.proofs.EditLemmas.{deeper, height_annotated, height_commented, height_node, path_le_height}
 use Rattle.chess_tree.proofs.TimesLemmas.{tally_same, tally_is, times_deep}
 use Rattle.chess_tree.proofs.LinkLemmas.{linked_one}
-use Rattle.chess_tree.proofs.PlacedLemmas.{detached_length}
 use Rattle.chess_tree.proofs.SeenLemmas.{once_at_most, seen_is}
 use Rattle.chess_tree.proofs.GroveLemmas.{annotated_is, commented_is, node_last, number_on, parent_last, plain_noted, plain_same, plain_under, plain_under_at, trail_length, trail_on, ways_back, ways_on, wide_plain}
 use Rattle.chess_tree.proofs.LaidLemmas.{in_range, let_go_laid}

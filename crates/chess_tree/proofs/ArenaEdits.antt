@@ -1,5 +1,5 @@
 -- The nodes, the freed numbers and the cursor after each edit, and what is seen of them.
-use Rattle.std.proofs.Common.{◌≡◌, ◌≢◌, ℕ, zero, suc, ◌+◌, ◌<◌, ◌≤◌, refl, sym, ap, ◌∙◌, subst, List, [], ◌∷◌, ◌++◌, length, arith}
+use Rattle.std.proofs.Common.{◌≡◌, ◌≢◌, ℕ, ◌+◌, ◌<◌, ◌≤◌, refl, sym, ap, ◌∙◌, subst, List, [], ◌∷◌, ◌++◌, length, arith}
 use Rattle.std.proofs.Common.{length-set}
 use Rattle.chess_types.specs.board.MoveParts.{MoveParts}
 use Rattle.chess_tree.specs.Forest.{Forest, Bare, Node, append, below_at, count, height}

@@ -1,5 +1,5 @@
 -- How freed numbers are taken, one at a time.
-use Rattle.std.proofs.Common.{◌≡◌, ◌≢◌, ℕ, zero, suc, ◌+◌, ◌-◌, ◌<◌, ◌≤◌, refl, sym, ap, ◌∙◌, subst, List, [], ◌∷◌, ◌++◌, length, get_or, set, take, slice_get, Option, None, Some, inl, inr, arith, length-append, length-set}
+use Rattle.std.proofs.Common.{◌≡◌, ◌≢◌, ℕ, zero, suc, ◌+◌, ◌-◌, ◌<◌, ◌≤◌, refl, sym, ap, ◌∙◌, subst, List, [], ◌∷◌, ◌++◌, length, set, take, slice_get, Option, None, Some, inl, inr, arith, length-append, length-set}
 use Rattle.std.proofs.Math.ListN.{get_or-append}
 use Rattle.std.proofs.Math.Seq.{get_or-append_seam}
 use Rattle.std.proofs.lemmas.Bool.{cases_lt}
@@ -7,11 +7,11 @@ use Rattle.std.proofs.lemmas.List.{set-get_or}
 use Rattle.std.proofs.lemmas.Option.{none-some, slice_get-get_or}
 use Rattle.chess_types.specs.board.MoveParts.{MoveParts}
 use Rattle.chess_tree.specs.steps.Entries.{Entry, look, no_entry, with_children, with_parent}
-use Rattle.chess_tree.specs.steps.Grove.{Grove, Empty, Tree, tally, times, size, wide, first_of, numbers, join, node_number, grove_move, under, those_before, those_after}
-use Rattle.chess_tree.specs.steps.Linked.{Any, Chained, Linked}
-use Rattle.chess_tree.specs.steps.Laid.{Laid, Same, uses}
+use Rattle.chess_tree.specs.steps.Grove.{Grove, Empty, Tree, tally, times, size, wide, numbers, join, node_number, grove_move, under, those_before, those_after}
+use Rattle.chess_tree.specs.steps.Linked.{Any, Linked}
+use Rattle.chess_tree.specs.steps.Laid.{Laid, Same}
 use Rattle.chess_tree.specs.steps.Freed.{IsPool, Loosened, Put}
-use Rattle.chess_tree.proofs.TimesLemmas.{length_numbers, no_numbers, number_get, parted, size_join, tally_same, tally_other, times_join, wide_le}
+use Rattle.chess_tree.proofs.TimesLemmas.{length_numbers, no_numbers, number_get, parted, size_join, tally_same, tally_other, times_join}
 use Rattle.chess_tree.proofs.LinkLemmas.{linked_frame, linked_parts}
 use Rattle.chess_tree.proofs.PlacedLemmas.{apart, look_set, look_set_other}
 use Rattle.chess_tree.proofs.LaidLemmas.{chained_frame, in_range}

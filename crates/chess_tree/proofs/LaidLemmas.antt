@@ -1,10 +1,10 @@
 -- How the nodes lie after an edit at a path, and after one was taken into hand or let go.
-use Rattle.std.proofs.Common.{◌≡◌, ◌≢◌, ℕ, zero, suc, ◌+◌, ◌<◌, ◌≤◌, refl, sym, ap, ◌∙◌, subst, List, [], ◌∷◌, ◌++◌, length, get_or, set, drop, take, remove, inl, inr, arith, add-one, length-set}
+use Rattle.std.proofs.Common.{◌≡◌, ◌≢◌, ℕ, zero, suc, ◌+◌, ◌<◌, ◌≤◌, refl, sym, ap, ◌∙◌, subst, List, [], ◌∷◌, ◌++◌, length, drop, take, remove, inl, inr, arith, add-one, length-set}
 use Rattle.std.proofs.lemmas.Bool.{cases_lt}
 use Rattle.chess_types.specs.board.MoveParts.{MoveParts}
 use Rattle.chess_tree.specs.steps.Entries.{Entry, look, moved_first, with_children, with_parent}
-use Rattle.chess_tree.specs.steps.Grove.{Grove, Empty, Tree, tally, times, size, wide, first_of, numbers, join, node_number, grove_move, under, those_before, those_after, under_at, change_at, number_at, Ways}
-use Rattle.chess_tree.specs.steps.Linked.{Any, Chained, IsLinked, IsOwned, Linked, Unplaced}
+use Rattle.chess_tree.specs.steps.Grove.{Grove, Empty, Tree, tally, times, size, wide, numbers, join, node_number, grove_move, under, those_before, those_after, under_at, change_at, number_at, Ways}
+use Rattle.chess_tree.specs.steps.Linked.{Any, Chained, IsLinked, Linked, Unplaced}
 use Rattle.chess_tree.specs.steps.Laid.{Laid, Same, uses}
 use Rattle.chess_tree.specs.steps.Writes.{detached, lifted, placed}
 use Rattle.chess_tree.proofs.TimesLemmas.{among_numbers, at_le, numbers_join, number_get, parted, size_change, size_join, tally_other, tally_same, times_at, times_change, times_join, times_under, wide_before}

@@ -5,10 +5,10 @@ use Rattle.std.proofs.lemmas.Option.{none-some, slice_get-get_or}
 use Rattle.chess_tree.specs.steps.Siblings.{AreThere}
 use Rattle.chess_tree.specs.steps.Entries.{Entry, look, moved_first, no_entry, with_children, with_place}
 use Rattle.chess_tree.specs.steps.Grove.{Grove, Empty, Tree, tally, times, numbers}
-use Rattle.chess_tree.specs.steps.Linked.{IsLinked, IsOwned, Linked, Unplaced}
+use Rattle.chess_tree.specs.steps.Linked.{IsLinked, Linked, Unplaced}
 use Rattle.chess_tree.specs.steps.Laid.{Same}
 use Rattle.chess_tree.specs.steps.Writes.{detached, lifted, placed}
-use Rattle.chess_tree.proofs.TimesLemmas.{among, among_numbers, tally_same, tally_other}
+use Rattle.chess_tree.proofs.TimesLemmas.{among, among_numbers, tally_same}
 use Rattle.chess_tree.proofs.LinkLemmas.{linked_frame, unplaced_frame}
 
 pub look_set : (nodes : List Entry) (at : ℕ) (n : Entry) → at < length nodes → look (set nodes at n) at ≡ n

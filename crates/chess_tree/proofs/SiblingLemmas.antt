@@ -1,5 +1,5 @@
 -- The children of a node, looked at by their places.
-use Rattle.std.proofs.Common.{◌≡◌, Bool, true, false, None, Some, Option, ℕ, zero, suc, ◌+◌, get_or, slice_get, ◌<◌, ◌≤◌, refl, sym, ap, ◌∙◌, subst, List, [], ◌∷◌, length, inl, inr, arith}
+use Rattle.std.proofs.Common.{◌≡◌, Bool, true, false, None, Some, ℕ, zero, suc, ◌+◌, get_or, slice_get, ◌<◌, ◌≤◌, refl, sym, ap, ◌∙◌, subst, List, [], ◌∷◌, length, inl, inr, arith}
 use Rattle.std.specs.Prelude.{option_map}
 use Rattle.std.proofs.lemmas.Bool.{cases_lt}
 use Rattle.std.proofs.lemmas.Option.{none-some, slice_get-get_or, slice_get_past}
@@ -8,7 +8,7 @@ use Rattle.chess_tree.specs.Forest.{child}
 use Rattle.chess_tree.specs.GameTree.{find, is_move}
 use Rattle.chess_tree.specs.steps.Rooted.{Held, Noted, shown}
 use Rattle.chess_tree.specs.steps.Entries.{Entry, look}
-use Rattle.chess_tree.specs.steps.Grove.{Grove, Empty, Tree, tally, times, size, wide, numbers, node_number, under, grove_move, plain, under_at, number_at, Ways}
+use Rattle.chess_tree.specs.steps.Grove.{Grove, Empty, Tree, tally, times, size, wide, node_number, under, grove_move, plain, under_at, number_at, Ways}
 use Rattle.chess_tree.specs.steps.Laid.{Laid, Same}
 use Rattle.chess_tree.specs.steps.Siblings.{AreThere, Owner}
 use Rattle.chess_tree.proofs.FindLemmas.{find_here, find_none, find_on, from}

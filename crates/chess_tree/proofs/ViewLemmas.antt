@@ -1,7 +1,6 @@
 -- Nodes looked at, one by one and side by side.
 use Rattle.std.proofs.Common.{◌≡◌, ◌==◌, true, false, ℕ, zero, suc, ◌+◌, ◌<◌, ◌≤◌, refl, sym, ap, ◌∙◌, subst, List, [], ◌∷◌, ◌++◌, drop, slice_get, length, arith, add-one, Option, Some, None}
 use Rattle.std.specs.Prelude.{if◌then◌else◌, unwrap_or}
-use Rattle.std.proofs.lemmas.Bool.{cases_lt}
 use Rattle.chess_types.specs.board.MoveParts.{MoveParts}
 use Rattle.chess_tree.specs.Forest.{Forest, NodeParts, child, count}
 use Rattle.chess_tree.specs.Edits.{without_node}
@@ -15,7 +14,7 @@ use Rattle.chess_tree.specs.steps.Viewed.{IsViewed, node_seen, side_seen}
 use Rattle.chess_tree.specs.steps.Siblings.{IsOwner, Owner}
 use Rattle.chess_tree.proofs.TimesLemmas.{tally_same, times_below}
 use Rattle.chess_tree.proofs.LinkLemmas.{linked_one}
-use Rattle.chess_tree.proofs.SeenLemmas.{from_none, grove_is, once_at_most, seen_is}
+use Rattle.chess_tree.proofs.SeenLemmas.{grove_is, once_at_most, seen_is}
 use Rattle.chess_tree.proofs.GroveLemmas.{number_on, under_on, ways_on, wide_plain}
 use Rattle.chess_tree.proofs.ArenaCalls.{number_any}
 use Rattle.chess_tree.proofs.SiblingLemmas.{child_in, child_move, child_none, child_number, child_past, child_plain, child_some, count_is, few_children, number_some, owner_at}

@@ -1,4 +1,4 @@
-use Rattle.std.proofs.Common.{◌≡◌, ◌+◌, ◌-◌, ℕ, List, [], length, length-set, take, refl, sym, ap, subst, ◌∙◌, arith}
+use Rattle.std.proofs.Common.{◌≡◌, ◌+◌, ◌-◌, List, length, length-set, take, refl, sym, ap, subst, ◌∙◌, arith}
 use Rattle.chess_tree.specs.steps.Entries.{Entry, look, with_children, with_parent}
 use Rattle.chess_tree.specs.steps.Freed.{IsLoosened}
 use Rattle.chess_tree.proofs.FreedLemmas.{Loosening, loosened, loosened_far, loosening_child, loosening_on, loosening_range, loosening_start, no_last, none_taken}

@@ -2,7 +2,7 @@ use Rattle.std.proofs.Common.{◌≡◌, ℕ, List, [], ◌∷◌, ◌++◌, len
 use Rattle.std.proofs.lemmas.Bool.Decides.{nat_tests}
 use Rattle.chess_tree.specs.steps.Grove.{Empty}
 use Rattle.chess_tree.specs.steps.Laid.{Laid}
-use Rattle.chess_tree.specs.steps.Entries.{Entry, leaf_entry, look}
+use Rattle.chess_tree.specs.steps.Entries.{Entry, leaf_entry}
 use Rattle.chess_tree.specs.steps.Freed.{Put}
 use Rattle.chess_tree.proofs.FreedLemmas.{put_grown, put_taken}
 use Rattle.chess_tree.proofs.arena.free.put.Goals as goal

@@ -1,4 +1,4 @@
-use Rattle.std.proofs.Common.{◌≡◌, ◌+◌, ◌-◌, ◌<◌, length, ℕ, List, drop, take, get_or, sym, ap, subst, ◌∙◌, arith}
+use Rattle.std.proofs.Common.{◌≡◌, ◌+◌, ◌-◌, ◌<◌, length, ℕ, List, drop, take, sym, ap, subst, ◌∙◌, arith}
 use Rattle.chess_tree.specs.steps.Entries.{Entry, look}
 use Rattle.chess_tree.specs.steps.Writes.{placed}
 use Rattle.chess_tree.proofs.PlacedLemmas.{Renumbering, renumbering_child, renumbering_length, renumbering_on, renumbering_some, renumbering_start}

@@ -1,4 +1,4 @@
-use Rattle.std.proofs.Common.{Option, Some, ap, sym, ◌∙◌}
+use Rattle.std.proofs.Common.{Some, ap, sym, ◌∙◌}
 use Rattle.chess_tree.specs.Forest.{NodeParts}
 use Rattle.chess_tree.proofs.ViewLemmas.{child_viewed, no_child, viewed_range}
 use Rattle.chess_tree.proofs.node.NodeRef.child.Goals as goal

@@ -1,4 +1,4 @@
-use Rattle.std.proofs.Common.{ℕ, ◌<◌, arith}
+use Rattle.std.proofs.Common.{◌<◌, arith}
 use Rattle.std.proofs.lemmas.Bool.Decides.{nat_tests}
 use Rattle.chess_tree.proofs.ViewLemmas.{nags_seen}
 use Rattle.chess_tree.proofs.node.NodeRef.notes.Goals as goal

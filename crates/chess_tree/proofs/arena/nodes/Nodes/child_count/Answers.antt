@@ -1,8 +1,6 @@
-use Rattle.std.proofs.Common.{rules, ◌≡◌, ◌<◌, ◌≤◌, ◌-◌, ◌++◌, ◌∷◌, [], length, remove, slice_get, slice_index, take, IfOk, OnOk, OnErr, set, ℕ, ◌+◌, ◌*◌, ◌/◌, ◌%◌, Bool, true, false, nat_eq, nat_lt, List, slice_index_or, bit_and, bit_or, Fits, w8, w32, w64, Bor, MutBor}
-use Rattle.chess_tree.specs.steps.Entries.{leaf_entry, look, moved_first, with_children, with_parent, with_place}
+use Rattle.std.proofs.Common.{◌≡◌, length, ℕ, List}
 use Rattle.chess_tree.proofs.arena.nodes.Nodes.child_count.Goals as goal
-use Rattle.std.proofs.Common.{refl, sym, ap, ◌∙◌, arith}
-use Rattle.chess_tree.specs.declared.arena.slot.Below.TheVariants.{Nothing, One, Listed}
+use Rattle.std.proofs.Common.{ap, ◌∙◌, arith}
 use Rattle.chess_tree.proofs.SlotLemmas.{list_there, list_read}
 
 pub index-requires-in-Listed : goal.index-requires-in-Listed

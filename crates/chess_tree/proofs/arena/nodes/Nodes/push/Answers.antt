@@ -1,4 +1,4 @@
-use Rattle.std.proofs.Common.{rules, ◌≡◌, List, [], ◌∷◌, ◌++◌, ◌≤◌, length, arith, refl, sym, subst, ap}
+use Rattle.std.proofs.Common.{rules, ◌≡◌, List, [], ◌∷◌, ◌++◌, ◌≤◌, length, arith, sym, subst, ap}
 use Rattle.chess_tree.specs.declared.arena.slot.Slot.{Slot}
 use Rattle.chess_tree.specs.steps.Slots.{IsKept}
 use Rattle.chess_tree.proofs.SlotLemmas.{kept_push, length_is}

@@ -1,5 +1,5 @@
-use Rattle.std.proofs.Common.{rules, ◌≡◌, ◌<◌, ◌≤◌, ◌-◌, ◌++◌, ◌∷◌, [], length, remove, slice_get, slice_index, take, IfOk, OnOk, OnErr, set, ℕ, ◌+◌, ◌*◌, ◌/◌, ◌%◌, Bool, true, false, nat_eq, nat_lt, List, slice_index_or, bit_and, bit_or, Fits, w8, w32, w64, Bor, MutBor}
-use Rattle.chess_tree.specs.steps.Entries.{leaf_entry, look, moved_first, with_children, with_parent, with_place}
+use Rattle.std.proofs.Common.{rules, ◌≡◌, ◌++◌, ◌∷◌, [], set, ℕ, List}
+use Rattle.chess_tree.specs.steps.Entries.{with_children}
 use Rattle.chess_tree.proofs.arena.nodes.Nodes.push_child.Goals as goal
 use Rattle.std.proofs.Common.{refl, sym, ap, ◌∙◌, arith}
 use Rattle.chess_tree.specs.declared.arena.slot.Below.TheVariants.{Nothing, One, Listed}

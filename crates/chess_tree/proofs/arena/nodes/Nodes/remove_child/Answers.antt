@@ -1,10 +1,10 @@
-use Rattle.std.proofs.Common.{rules, ◌≡◌, ◌<◌, ◌≤◌, ◌-◌, ◌++◌, ◌∷◌, [], length, remove, slice_get, slice_index, take, IfOk, OnOk, OnErr, set, ℕ, ◌+◌, ◌*◌, ◌/◌, ◌%◌, Bool, true, false, nat_eq, nat_lt, List, slice_index_or, bit_and, bit_or, Fits, w8, w32, w64, Bor, MutBor}
-use Rattle.chess_tree.specs.steps.Entries.{leaf_entry, look, moved_first, with_children, with_parent, with_place}
+use Rattle.std.proofs.Common.{◌≡◌, ◌∷◌, [], length, remove, ℕ, List}
+use Rattle.chess_tree.specs.steps.Entries.{with_children}
 use Rattle.chess_tree.proofs.arena.nodes.Nodes.remove_child.Goals as goal
 use Rattle.std.proofs.Common.{refl, sym, ap, ◌∙◌, arith}
-use Rattle.chess_tree.specs.declared.arena.slot.Below.TheVariants.{Nothing, One, Listed}
+use Rattle.chess_tree.specs.declared.arena.slot.Below.TheVariants.{Nothing, One}
 use Rattle.chess_tree.specs.steps.Slots.{has_list}
-use Rattle.chess_tree.proofs.SlotLemmas.{children_are, children_now, kept_bare, list_now, list_read, list_there}
+use Rattle.chess_tree.proofs.SlotLemmas.{children_are, children_now, kept_bare, list_now, list_read}
 
 pub invariant_of-self : goal.invariant_of-self
 invariant_of-self g c = kept_bare c.args.at c.self.invariant c.self.view_is c.requires.there c.index.result c.index-in-One.result c.index-2.result.now _ (c.index-2.ensures, c.index.ensures) c.index-in-One.ensures (ap has_list c.in-One.is) refl
