@@ -3,6 +3,7 @@
 The answers are those of the FIDE Laws, of the PGN standard and of the UCI protocol, as docs/FORMATS.md has them.
 """
 import dataclasses
+import functools
 import os
 import subprocess
 
@@ -152,3 +153,11 @@ RUNS = [
     Run("uci: no room for the replies", ["uci"], "isready\n", writes_to_full=True, error="write fault\n", status=3),
     Run("pgn: no room for the games", ["pgn"], "*\n", writes_to_full=True, error="write fault\n", status=3),
 ]
+
+
+@functools.cache
+def make_libraries():
+    """Makes the libraries for C and Python, once."""
+    made = subprocess.run([f"{TOP}/tools/libraries"], stdin=subprocess.DEVNULL, capture_output=True, text=True)
+    if made.returncode:
+        raise AssertionError(f"tools/libraries: {made.stdout[-2000:]}{made.stderr[-2000:]}")

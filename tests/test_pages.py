@@ -6,7 +6,7 @@ import unittest
 
 import runs
 
-PAGES = ["README.md", "CONTRIBUTING.md", *sorted(glob.glob("docs/*.md", root_dir=runs.TOP))]
+PAGES = ["README.md", "CONTRIBUTING.md", "CHANGELOG.md", "suite/README.md", *sorted(glob.glob("docs/*.md", root_dir=runs.TOP))]
 
 # Words that no source has: commands of the machine, letters of men and moves, a move that is not read, and a name that stands for others.
 ELSEWHERE = {"bash", "cc", "git", "parallel", "pgn-extract", "polyglot", "sed", "stockfish", "valgrind", "xboard", "Z0", "After-f", "NAME"}
@@ -41,7 +41,9 @@ class Pages(unittest.TestCase):
             if path.endswith((".rt", ".antt", ".edit", "stdin", "parts.txt")):
                 cls.words.update(re.findall(r"[\w-]+|\w+", text_of(path)))
                 cls.words.update(re.findall(r"\w+", text_of(path)))
-        for path in ("chess", "build", "test", "tools/growths", "tools/parts", "tools/release", "tools/sources", "crates.txt"):
+        python = glob.glob("python/jatshegi/*.py", root_dir=runs.TOP)
+        tools = [f"tools/{name}" for name in os.listdir(f"{runs.TOP}/tools")]
+        for path in ("chess", "build", "test", *tools, "suite/run_class.py", "suite/run_uci.py", "crates.txt", "include/jatshegi.h", *python):
             cls.words.update(re.findall(r"[\w-]+", text_of(path)))
 
     def test_each_link_leads_somewhere(self):
@@ -54,11 +56,20 @@ class Pages(unittest.TestCase):
     def test_each_file_that_is_named_exists(self):
         for page in PAGES:
             for text in marked(page):
-                for path in re.findall(r"[\w./*-]+\.(?:rt|antt|edit|md|txt|py)\b|(?:crates|docs|tools|tests|release)/[\w./*-]+", text):
+                for path in re.findall(r"[\w./*-]+\.(?:rt|antt|edit|md|txt|py)\b|(?:crates|docs|suite|tools|tests|release)/[\w./*-]+", text):
                     with self.subTest(page=page, path=path):
                         shape = re.escape(path.rstrip("/.")).replace(r"\*", "[^/]*")
                         there = os.path.exists(f"{runs.TOP}/{path}") or any(re.search(f"(^|/){shape}($|/)", file) for file in self.files)
                         self.assertTrue(there or glob.glob(f"{runs.TOP}/{path}") or "NAME" in path)
+
+    def test_each_function_that_is_shown_is_a_source(self):
+        guide = {text_of(path) for path in ("crates/chess_guide/src/main.rt", "crates/chess_guide/src/tasks.rt")}
+        shown = [block for page in PAGES for block in re.findall(r"^((?:    .*\n|\n)+)", text_of(page), flags=re.M) if re.search(r"^    (pub )?fn .*\{$|^    \{$", block, flags=re.M)]
+        self.assertGreater(len(shown), 5)
+        for block in shown:
+            code = re.sub(r"^    ", "", block.strip("\n"), flags=re.M)
+            with self.subTest(code=code.splitlines()[0]):
+                self.assertTrue("    .." in code or any(code in text for text in guide))
 
     def test_each_name_that_is_named_exists(self):
         for page in PAGES:
@@ -84,4 +95,4 @@ class Pages(unittest.TestCase):
         self.assertGreater(len(told), 15)
         for name in known:
             with self.subTest(crate=name):
-                self.assertIn(f"`{name}`", text_of("docs/ARCHITECTURE.md"))
+                self.assertTrue(f"`{name}`" in text_of("docs/ARCHITECTURE.md"), name)

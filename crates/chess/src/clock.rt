@@ -9,7 +9,7 @@ pub struct MachineClock<'r> {
 }
 
 impl<'r> MachineClock<'r> {
-    /// The clock from now on. Where the machine tells no time it reads 0.
+    /// The clock from now on. Where the machine gives no time it reads 0.
     pub fn new(rt: &'r HostRuntime) -> MachineClock<'r> {
         let begun = Instant::now(rt).ok();
         MachineClock { rt, begun }

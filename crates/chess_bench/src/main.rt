@@ -7,7 +7,7 @@
 //!
 //! With a word, the name of one call, that call alone is made, a thousand times for each position of the list, or for each of its legal
 //! moves: `is_legal`, `make` (and taken back), `write_move`, `read_move`, `moves`, `count_legal`, `write_fen`, `read_fen`; `nothing`
-//! makes none. A counter of instructions beside the program tells what the call costs (docs/SPEED.md).
+//! makes none. A counter of instructions beside the program shows what the call costs (docs/SPEED.md).
 #![tactic(auto)]
 
 mod calls;

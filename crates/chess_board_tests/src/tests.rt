@@ -1,6 +1,8 @@
+mod asked;
 mod attacking;
 mod boards;
 mod counts;
+mod drafts;
 mod evaluation;
 mod following;
 mod ground;
@@ -9,4 +11,6 @@ mod lines;
 mod listing;
 mod moves_written;
 mod notation;
+mod sets;
+mod shown;
 mod streams;

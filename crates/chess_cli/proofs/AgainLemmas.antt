@@ -1,4 +1,4 @@
--- Games that are written one behind the other are read one after another.
+-- Games that are written one after the other are read one after another.
 use Rattle.std.proofs.Common.{◌≡◌, ℕ, ◌+◌, ◌≤◌, List, [], ◌∷◌, ◌++◌, length, length-append, refl, sym, ap, ◌∙◌, append_assoc, append-nil, arith}
 use Rattle.std.specs.List.{AllByRecursion}
 use Rattle.chess_items.specs.Items.{Blank, Each, is_blank}
@@ -10,7 +10,7 @@ use Rattle.chess_pgn.specs.Written.{game_text, movetext, tags_text}
 use Rattle.chess_cli.specs.Collections.{AreGames, games_text}
 use Rattle.chess_cli.specs.Laws.{CanBeRead, ReadAreGames, WrittenAreRead}
 
--- what is left behind games with that in front
+-- what is left after games with that before them
 abbrev left_behind : List ℕ → List Game → List ℕ
 left_behind before [] = before
 left_behind before (game ∷ games) = left_behind (10 ∷ 10 ∷ []) games

@@ -1,7 +1,7 @@
 -- Games that are read and written one after another.
 use Rattle.std.proofs.Common.{◌≡◌, ◌⊎◌, ℕ, ◌+◌, ◌≤◌, Bool, true, false, List, [], ◌∷◌, ◌++◌, length, refl, sym, ap, subst, ◌∙◌, arith, append_assoc, append-nil, length-append, Err, inl, inr}
 use Rattle.std.proofs.lemmas.Bool.{false≢true}
-use Rattle.std.specs.Prelude.{Result, Ok, Option, Some, IfErr, IfOk, IfSome}
+use Rattle.std.specs.Prelude.{Result, Ok, Option, Some, None, IfErr, IfOk, IfSome}
 use Rattle.chess_types.specs.bytes.Calls.{Carries, joined}
 use Rattle.chess_types.proofs.CallLemmas.{Calls-append, Carries-none, Carries-append, joined-append}
 use Rattle.chess_items.specs.Coming.{AtHand, Breaks, Came, unread}
@@ -9,7 +9,7 @@ use Rattle.chess_items.specs.declared.fault.PgnFault.{PgnFault}
 use Rattle.chess_items.proofs.BreakLemmas.{came_append, came_none, each_append}
 use Rattle.chess_pgn.specs.Games.{Game}
 use Rattle.chess_pgn.specs.Reading.{HasNoGame, IsAtFront, IsWhite}
-use Rattle.chess_pgn.specs.Sources.{Fails, Games, HasFault, HasGame, HasNone, NextGame, Starves}
+use Rattle.chess_pgn.specs.Sources.{Fails, Games, GoesOn, HasFault, HasGame, HasNone, NextGame, Starves}
 use Rattle.chess_pgn.specs.Written.{game_text}
 use Rattle.chess_pgn.specs.steps.GameCode.{game_of}
 use Rattle.chess_pgn.specs.declared.game.Game.{Game as Code}
@@ -41,7 +41,7 @@ are_more input (g ∷ games) mid text rest game a parts front = (a.0, a.1, a.2, 
 
 module _ {R : Type 0} (gives : R → List ℕ → R → Type 0) (failed : R → Bool) where
   pub reads_none : (s : AtHand R) → Reads gives failed s s []
-  reads_none s = record { bytes = []; came = came_none gives failed s s refl refl refl; are = λ more none. refl }
+  reads_none s = record { bytes = []; came = came_none gives failed s s refl refl refl refl; are = λ more none. refl }
 
   carries : (s n : AtHand R) (bytes : List ℕ) → Came gives failed s bytes n → Carries gives s.source bytes n.source
   carries s n bytes c = record { pieces = c.pieces; calls = c.calls; whole = c.whole }
@@ -58,7 +58,7 @@ module _ {R : Type 0} (gives : R → List ℕ → R → Type 0) (failed : R → 
         (are_more (unread s ++ (r.bytes ++ (h.bytes ++ more))) games (unread m ++ (h.bytes ++ more)) h.text (unread n ++ more) game before parts (h.reads more none));
   }
 
-  -- bytes that came behind the games
+  -- bytes that came after the games
   module _ (s m n : AtHand R) (games : List Game) (nothing : unread s ≡ []) (first : failed s.source ≡ false) (r : Reads gives failed s m games) (bytes : List ℕ) (came : Came gives failed m bytes n) where
     all_bytes : Came gives failed s (r.bytes ++ bytes) n
     all_bytes = came_append gives failed s m n r.bytes bytes r.came came
@@ -83,6 +83,10 @@ module _ {R : Type 0} (gives : R → List ℕ → R → Type 0) (failed : R → 
         rest = unread m ++ bytes;
         are = λ more none. are_on more (λ e. (let b = still e in ap (λ (z : List ℕ). z ++ more) b.0 ∙ none b.1));
       }
+
+-- where no fault came, reading goes on
+pub still_on : (fault : Option GamesFault) → fault ≡ None → GoesOn fault
+still_on fault e = subst (λ (f : Option GamesFault). GoesOn f) (sym e) tt
 
 pub if_ok : {A E : Type 0} (P : Type 0) (result : Result A E) (x : A) → result ≡ Ok x → IfOk result (λ y. P) → P
 if_ok P result x is h = subst (λ r. IfOk r (λ y. P)) is h
@@ -132,7 +136,7 @@ module _ {R W : Type 0} (gives : R → List ℕ → R → Type 0) (read_failed :
       well_written = so_far.well_written;
     }
 
-    -- what stands behind the games is refused
+    -- what comes after the games is refused
     refused_there : (m n : AtHand R) (old new : W) → SoFar gives read_failed ended takes failed count s m old new → Fails gives read_failed ended m n → EndsAtFault gives read_failed ended takes failed s.source n.source old new
     unfolding collected
     refused_there m n old new so_far fails = record {
@@ -204,7 +208,7 @@ module _ {R W : Type 0} (gives : R → List ℕ → R → Type 0) (read_failed :
         let n = ap length nothing in
         omega (arith, n, c.counted, c.small, many, so, so_far.few)
 
-    -- a front of one more
+    -- a prefix of one more
     broken_more : (m n : AtHand R) (old mid new : W) (game : Game) → (n.has_ended ≡ true → ended n.source) → failed old ≡ false → SoFar gives read_failed ended takes failed count s m old mid → HasGame gives read_failed m n game
         → Broken takes failed mid (game_text game) new → EndsInPart gives read_failed ended takes failed s.source n.source old new
     unfolding reads_none

@@ -6,7 +6,7 @@ use Rattle.chess_items.specs.declared.fault.PgnFault.{PgnFault}
 use Rattle.chess_cli.specs.declared.ended.Ended.TheVariants.{Input}
 use Rattle.chess_cli.specs.Endings.{ended_of}
 
--- two ends that are told alike are one
+-- two ends that are reported alike are one
 pub same_end : (end other : RunEnd) → ended_of end ≡ ended_of other → end ≡ other
 same_end Good Good e = refl
 same_end ReadFault ReadFault e = refl

@@ -64,7 +64,7 @@ pub squares_few : (test : ℕ → Bool) → length (filter test squares) ≤ 64
 unfolding squares
 squares_few test = filter-few test (range_with_len 0 64)
 
--- one move more behind what stood there
+-- one move more after what was there
 pub move_put : (front page page1 page2 : List ℕ) (ms more : List MoveParts) (m : MoveParts) → 0 < length ms → page ≡ front ++ parted_by (codes " ") (map move_text ms)
     → page1 ≡ page ++ codes " " → page2 ≡ page1 ++ move_text m → more ≡ ms ++ m ∷ [] → page2 ≡ front ++ parted_by (codes " ") (map move_text more)
 move_put front page page1 page2 [] more m some first gap next all = absurd (omega (arith, some))

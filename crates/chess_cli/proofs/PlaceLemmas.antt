@@ -31,7 +31,7 @@ places-more (p ∷ places) n place is =
     ∙ ap (λ (t : List ℕ). gapped (codes ".") (map decimal places) ++ 46 ∷ t) (append-nil (decimal place)))
     ∙ sym (append_assoc (decimal p) (gapped (codes ".") (map decimal places)) (46 ∷ decimal place)))
 
--- the text of the first places is a front of all
+-- the text of the first places is a prefix of all
 places-front : (xs ys : List ℕ) → (more : List ℕ) × (places_text (xs ++ ys) ≡ places_text xs ++ more)
 places-front [] ys = (places_text ys, refl)
 places-front (x ∷ xs) ys = (
@@ -53,7 +53,7 @@ path_text-places [] some = absurd (omega (arith, some))
 path_text-places (place ∷ path) some = refl
 
 module _ {W : Type 0} (takes : W → List ℕ → W → Type 0) (failed : W → Bool) where
-  -- So far: whatever was sent before, the text of the first places is sent behind it.
+  -- So far: whatever was sent before, the text of the first places is sent after it.
   abbrev pub PlacesSent : List ℕ → W → List ℕ → ℕ → List ℕ → W → Type 0
   PlacesSent page w path ply page1 w1 = (start : W) (before : List ℕ) → Sent takes failed start before page w → Sent takes failed start (before ++ places_text (take ply path)) page1 w1
 

@@ -1,9 +1,9 @@
--- Texts that are parted by a gap, as far as they are written.
+-- Texts that are separated by a gap, as far as they are written.
 use Rattle.std.proofs.Common.{◌≡◌, ℕ, zero, suc, ◌+◌, ◌-◌, ◌≤◌, List, ◌++◌, map, sym, ap, ◌∙◌, append_assoc, append-nil, arith}
 use Rattle.std.specs.List.{range_with_len}
 use Rattle.chess_cli.specs.Gaps.{gapped, parted_by}
 
--- the texts of the numbers from a on, n of them, each behind a gap
+-- the texts of the numbers from a on, n of them, each after a gap
 abbrev pub run : List ℕ → (ℕ → List ℕ) → ℕ → ℕ → List ℕ
 run gap text a n = gapped gap (map text (range_with_len a n))
 

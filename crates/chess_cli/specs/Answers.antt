@@ -50,15 +50,15 @@ abbrev pub or_none : List ℕ → List ℕ
 or_none [] = codes "none"
 or_none (byte ∷ bytes) = byte ∷ bytes
 
--- the texts, parted by one space, and `none` where there are none
+-- the texts, separated by one space, and `none` where there are none
 abbrev pub list_text : List (List ℕ) → List ℕ
 list_text texts = or_none (parted_by (codes " ") texts)
 
--- the numbers of files a to h on a rank, parted by one space
+-- the numbers of files a to h on a rank, separated by one space
 unfoldable pub rank_numbers : (ℕ → ℕ) → ℕ → List ℕ
 rank_numbers number rank = parted_by (codes " ") (map (λ file. decimal (number (8 * rank + file))) (range_with_len 0 8))
 
--- a number for each square: ranks 1 to 8, parted by ` / `
+-- a number for each square: ranks 1 to 8, separated by ` / `
 unfoldable pub counts_text : (ℕ → ℕ) → List ℕ
 counts_text number = parted_by (codes " / ") (map (rank_numbers number) (range_with_len 0 8))
 
@@ -136,7 +136,7 @@ counts_of p colour = counts_text (count (look p) colour)
 abbrev pub checks_of : State → List ℕ
 checks_of p = list_text (map square_text (filter (checks_from (look p) p.side) squares))
 
--- a move and its score, parted by one space
+-- a move and its score, separated by one space
 abbrev pub best_text : Option (MoveParts × ℤ) → List ℕ
 best_text None = codes "none"
 best_text (Some (m, value)) = move_text m ++ codes " " ++ score_text value

@@ -16,7 +16,7 @@ status_of Memory = 3
 abbrev pub fault_text : PgnFault → List ℕ
 fault_text fault = codes "fault " ++ decimal fault.place ++ codes " " ++ decimal (number_of fault.kind) ++ codes " " ++ name_of fault.kind
 
--- without a line feed; empty where there is nothing to tell
+-- without a line feed; empty where there is nothing to report
 abbrev pub message_of : Ended → List ℕ
 message_of Good = codes ""
 message_of (Input fault) = fault_text fault

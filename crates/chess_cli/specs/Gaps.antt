@@ -1,12 +1,12 @@
 -- Texts with a gap between two.
 use Rattle.std.specs.Prelude.{ℕ, List, [], ◌∷◌, ◌++◌}
 
--- each text behind a gap
+-- each text after a gap
 abbrev pub gapped : List ℕ → List (List ℕ) → List ℕ
 gapped gap [] = []
 gapped gap (text ∷ texts) = gap ++ text ++ gapped gap texts
 
--- the texts, parted by a gap
+-- the texts, separated by a gap
 abbrev pub parted_by : List ℕ → List (List ℕ) → List ℕ
 parted_by gap [] = []
 parted_by gap (text ∷ texts) = text ++ gapped gap texts

@@ -1,8 +1,8 @@
--- What holds of paths, and of games that are written one behind the other.
+-- What holds of paths, and of games that are written one after the other.
 --   PathsAreReadBack  a path that is written is read as that path
 --   CanBeRead         a game whose text isn't too long to be read, nor its variations too deep
 --   WrittenAreRead    such games are read again, in their order, and only white space is left
---   ReadAreGames      what is read one behind the other are games, and their variations not too deep
+--   ReadAreGames      what is read one after the other are games, and their variations not too deep
 use Rattle.std.specs.Prelude.{◌≡◌, ℕ, ◌<◌, ◌≤◌, false, List, length, Some}
 use Rattle.std.specs.List.{AllByRecursion}
 use Rattle.chess_pgn.specs.Games.{Game}

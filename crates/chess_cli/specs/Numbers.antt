@@ -31,16 +31,16 @@ abbrev pub numbers_in : List (List ℕ) → Option (List ℕ)
 numbers_in [] = Some []
 numbers_in (word ∷ words) = option_and_then (λ n. option_map (λ ns. n ∷ ns) (numbers_in words)) (number_in word)
 
--- `-` is the root's; else child numbers from 0, parted by periods
+-- `-` is the root's; else child numbers from 0, separated by periods
 unfoldable pub path_in : List ℕ → Option (List ℕ)
 path_in word = if bytes_eq word (codes "-") then Some [] else numbers_in (slice_split (λ b. b == byte ".") word)
 
--- the numbers in decimal, parted by periods, and `-` where there is none
+-- the numbers in decimal, separated by periods, and `-` where there is none
 abbrev pub path_text : List ℕ → List ℕ
 path_text [] = codes "-"
 path_text (place ∷ path) = parted_by (codes ".") (map decimal (place ∷ path))
 
--- How a word is read as a path, to the front of these places.
+-- How a word is read as a path, to go before these places.
 abbrev pub ReadsPath : List ℕ → List ℕ → PathWord → Type 0
 ReadsPath word places (Read count) = (count ≤ 20000) × (path_in word ≡ Some (take count places))
 ReadsPath word places TooLong = (longer : List ℕ) × (path_in word ≡ Some longer) × (20000 < length longer)

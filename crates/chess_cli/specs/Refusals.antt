@@ -32,7 +32,7 @@ number_of refusal = (told refusal).0
 abbrev pub name_of : Refusal → List ℕ
 name_of refusal = (told refusal).1
 
--- a fault of a tree, as the board tells it
+-- a fault of a tree, as the board reports it
 abbrev pub tree_refusal : TreeFault → Refusal
 tree_refusal tree.NoSuch = NoSuch
 tree_refusal tree.AtRoot = AtRoot
@@ -40,14 +40,14 @@ tree_refusal tree.Full = Full
 tree_refusal tree.BadComment = BadComment
 tree_refusal tree.Memory = Memory
 
--- why a move isn't played, as the board tells it
+-- why a move isn't played, as the board reports it
 abbrev pub play_refusal : PlayFault → Refusal
 play_refusal play.Illegal = Illegal
 play_refusal play.TooLong = TooLong
 play_refusal play.Full = Full
 play_refusal play.Memory = Memory
 
--- a text that names no one move, as the board tells it
+-- a text that names no one move, as the board reports it
 abbrev pub san_refusal : SanFault → Refusal
 san_refusal san.Form = Form
 san_refusal san.Illegal = Illegal

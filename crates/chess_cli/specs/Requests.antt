@@ -1,4 +1,4 @@
--- What a line of the board asks for. Words are parted by spaces and tabs; one carriage return at the line's end is dropped.
+-- What a line of the board asks for. Words are separated by spaces and tabs; one carriage return at the line's end is dropped.
 use Rattle.std.specs.Prelude.{ℕ, ◌-◌, ◌==◌, nat_le, if◌then◌else◌, List, [], ◌∷◌, length, take, slice_index, Option, Some, None, option_and_then, codes}
 use Rattle.std.specs.Str.{bytes_eq}
 use Rattle.chess_types.specs.declared.board.man.Colour.{Colour}
@@ -58,7 +58,7 @@ pub data Request : Type 0 where
   Pgn : Request
   -- another first word
   Unknown : Request
-  -- a command with the wrong words behind it
+  -- a command with the wrong words after it
   Malformed : Request
 
 -- space and tab
@@ -69,7 +69,7 @@ gaps = codes " \t"
 abbrev pub without_return : List ℕ → List ℕ
 without_return line = if slice_index line (length line - 1) == 13 then take (length line - 1) line else line
 
--- what stands behind the first word
+-- what comes after the first word
 abbrev pub rest_of : List ℕ → List ℕ
 rest_of line = after_word gaps (skip_gaps gaps line)
 
@@ -85,7 +85,7 @@ with_colour request (word ∷ []) =
     if bytes_eq word (codes "w") then request White else if bytes_eq word (codes "b") then request Black else Malformed
 with_colour request (word ∷ more ∷ words) = Malformed
 
--- the word behind a command, where there is one alone
+-- the word after a command, where there is one alone
 abbrev pub only_word : List (List ℕ) → Option (List ℕ)
 only_word [] = None
 only_word (word ∷ []) = Some word
@@ -126,7 +126,7 @@ alone_named word =
     else if bytes_eq word (codes "pgn") then Some Pgn
     else None
 
--- another command, by its word and what stands behind it
+-- another command, by its word and what comes after it
 abbrev pub with_rest : List ℕ → List ℕ → Request
 with_rest word rest =
     if bytes_eq word (codes "set") then Set (trimmed gaps rest)

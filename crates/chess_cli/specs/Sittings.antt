@@ -1,4 +1,4 @@
--- What the lines of the input make of a session whose clock tells the time.
+-- What the lines of the input make of a session that asks a clock for the time.
 --   reply_lines      replies, each on a line of its own
 --   is_fed           a search runs that is given time before the next line is read
 --   Readings         the clock gives these readings, one after another

@@ -1,4 +1,4 @@
-/// What tells the time. Contracts know which readings a call may give: of a clock that is asked for the machine's time, any.
+/// A clock. Contracts know which readings a call may give: of a clock that is asked for the machine's time, any.
 pub trait Clock {
     ghost use Rattle.std.specs.Prelude.{ℕ};
 

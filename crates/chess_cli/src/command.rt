@@ -63,7 +63,7 @@ pub enum Command<'a> {
     Pgn,
     /// Another first word.
     Unknown,
-    /// Wrong words behind a command.
+    /// Wrong words after a command.
     Malformed,
 }
 
@@ -77,7 +77,7 @@ fn without_return(line: &[u8]) -> &[u8]
     }
 }
 
-// The command, where nothing stands behind it.
+// The command, where nothing comes after it.
 fn alone<'a>(command: Command<'a>, rest: &[u8]) -> Command<'a>
     ensures { request_of result ≡ alone (request_of command.entry) (words gaps rest.now) }
 {
@@ -87,7 +87,7 @@ fn alone<'a>(command: Command<'a>, rest: &[u8]) -> Command<'a>
     }
 }
 
-// The counts of the colour that stands behind the command.
+// The counts of the colour that comes after the command.
 fn counts<'a>(rest: &'a [u8]) -> Command<'a>
     ensures { request_of result ≡ with_colour CountsOf (words gaps rest.now) }
 {
@@ -104,7 +104,7 @@ fn counts<'a>(rest: &'a [u8]) -> Command<'a>
     }
 }
 
-// The word behind the command, where there is one alone.
+// The word after the command, where there is one alone.
 fn only_word(rest: &[u8]) -> Option<&[u8]>
     ensures some { IfSome result (λ word. only_word_of (words gaps rest.now) ≡ Some word.now) }
     ensures none { IfNone result (only_word_of (words gaps rest.now) ≡ None) }
@@ -116,7 +116,7 @@ fn only_word(rest: &[u8]) -> Option<&[u8]>
     }
 }
 
-// The move of the word behind `play`.
+// The move of the word after `play`.
 fn play(rest: &[u8]) -> Command<'_>
     ensures { request_of result ≡ with_word PlayOf (words gaps rest.now) }
 {
@@ -126,7 +126,7 @@ fn play(rest: &[u8]) -> Command<'_>
     }
 }
 
-// The move of the word behind `claim`.
+// The move of the word after `claim`.
 fn claim(rest: &[u8]) -> Command<'_>
     ensures { request_of result ≡ with_word ClaimOf (words gaps rest.now) }
 {
@@ -136,7 +136,7 @@ fn claim(rest: &[u8]) -> Command<'_>
     }
 }
 
-// The path of the word behind `goto`.
+// The path of the word after `goto`.
 fn goto(rest: &[u8]) -> Command<'_>
     ensures { request_of result ≡ with_value path_in GotoOf (words gaps rest.now) }
 {
@@ -146,7 +146,7 @@ fn goto(rest: &[u8]) -> Command<'_>
     }
 }
 
-// The place that the word behind `step` writes.
+// The place that the word after `step` writes.
 fn step(rest: &[u8]) -> Command<'_>
     ensures { request_of result ≡ with_value number_in_of StepOf (words gaps rest.now) }
 {
@@ -159,7 +159,7 @@ fn step(rest: &[u8]) -> Command<'_>
     }
 }
 
-// The annotation number that the word behind `nag` writes.
+// The annotation number that the word after `nag` writes.
 fn nag(rest: &[u8]) -> Command<'_>
     ensures { request_of result ≡ with_value nag_in NagOf (words gaps rest.now) }
 {
@@ -172,7 +172,7 @@ fn nag(rest: &[u8]) -> Command<'_>
     }
 }
 
-// The depth of the word behind `best`.
+// The depth of the word after `best`.
 fn best(rest: &[u8]) -> Command<'_>
     ensures { request_of result ≡ with_value depth_in BestOf (words gaps rest.now) }
 {
@@ -221,7 +221,7 @@ fn standing_alone<'a>(word: &[u8]) -> Option<Command<'a>>
     }
 }
 
-// Another command, by its word and what stands behind it.
+// Another command, by its word and what comes after it.
 fn with_rest<'a>(word: &[u8], rest: &'a [u8]) -> Command<'a>
     ensures { request_of result ≡ with_rest word.now rest.now }
 {

@@ -11,7 +11,7 @@ use chess_loop::Page;
 use chess_types::{Move, Square, SquareSet};
 use std::alloc::Allocator;
 
-// Another text, behind a space where it isn't the first.
+// Another text, after a space where it isn't the first.
 fn push_behind<const N: usize>(text: &mut ArrayString<N>, next: &str)
     requires { array_string_len text.old + 1 + length next.now ≤ N }
     ensures bytes { text.new.bytes ≡ behind text.old.bytes next.now }
@@ -50,7 +50,7 @@ fn push_move(text: &mut ArrayString<128>, m: Move)
     }
 }
 
-// Another move, behind a space. What was gathered goes on the page first where there is no room for it.
+// Another move, after a space. What was gathered goes on the page first where there is no room for it.
 #[inline(always)]
 fn gather<A: Allocator>(page: &mut Page<A>, text: &mut ArrayString<128>, m: Move)
     requires { length page.old + array_string_len text.old + 6 ≤ 65536 }
@@ -65,7 +65,7 @@ fn gather<A: Allocator>(page: &mut Page<A>, text: &mut ArrayString<128>, m: Move
     push_move(text, m);
 }
 
-/// The texts of at most 432 moves, parted by one space, behind what stands on the page; `none` where there is none.
+/// The texts of at most 432 moves, separated by one space, after what is on the page; `none` where there is none.
 pub fn put_moves<A: Allocator>(page: &mut Page<A>, moves: &[Move])
     requires few { length moves.now ≤ 432 }
     requires room { length page.old + 2600 ≤ 65536 }
@@ -84,7 +84,7 @@ pub fn put_moves<A: Allocator>(page: &mut Page<A>, moves: &[Move])
     page.put(text.as_str().as_bytes());
 }
 
-/// The names of the squares in order, parted by one space; `none` where there is none.
+/// The names of the squares in order, separated by one space; `none` where there is none.
 pub fn squares_text(set: &SquareSet) -> ArrayString<192>
     ensures { result.bytes ≡ list_text (map square_text (filter (contains set.now) squares)) }
 {

@@ -56,7 +56,7 @@ pub enum PathWord {
     Malformed,
 }
 
-/// Reads the path that the word writes: `-` for the root's, else child numbers from 0, parted by periods. It is put to the front of the
+/// Reads the path that the word writes: `-` for the root's, else child numbers from 0, separated by periods. It is put before the
 /// places, of which there are 20,000.
 pub fn read_path(word: &[u8], places: &mut [u32]) -> PathWord
     requires { length places.old ≡ 20000 }

@@ -35,7 +35,7 @@ pub fn claims_text(claims: Claims) -> &'static str
     }
 }
 
-/// The move and its score, parted by one space; `none` where there is no move.
+/// The move and its score, separated by one space; `none` where there is no move.
 pub fn best_text(best: Option<(Move, i32)>) -> ArrayString<32>
     requires { IsInRange best }
     ensures { result.bytes ≡ best_text best }

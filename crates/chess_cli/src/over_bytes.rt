@@ -12,7 +12,7 @@ use chess_types::{FromBytes, ToBytes};
 use std::alloc::Allocator;
 
 /// `board` over bytes that are lent. At `Good` the bytes taken are the answers to the lines of the bytes that were left; at
-/// `ReadFault` the answers to the lines that had ended in the bytes given; at `WriteFault` a front of the answers to the first lines of the
+/// `ReadFault` the answers to the lines that had ended in the bytes given; at `WriteFault` a prefix of the answers to the first lines of the
 /// bytes given.
 pub fn board_over_bytes<A: Allocator>(
     alloc: A,

@@ -2,7 +2,7 @@ use chess_fen::FenFault;
 use chess_san::SanFault;
 use chess_tree::{PlayFault, TreeFault};
 
-/// Why a line of the board is refused. Number and name together tell which.
+/// Why a line of the board is refused. Number and name together say which.
 #[derive(Clone, Copy)]
 pub enum Refusal {
     /// The text is no FEN.
@@ -27,7 +27,7 @@ pub enum Refusal {
     Memory,
     /// Another first word.
     Command,
-    /// Wrong words behind a command.
+    /// Wrong words after a command.
     Argument,
     /// The line has more than 1,048,576 bytes.
     LongLine,

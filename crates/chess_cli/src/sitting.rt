@@ -11,7 +11,7 @@ use chess_types::{Failed, Sink};
 use chess_uci::{Event, Reply, Session};
 use std::alloc::Allocator;
 
-/// A session with the clock that tells it the time.
+/// A session with the clock that it asks for the time.
 #[derive(Drop)]
 pub struct Sitting<'k, S: Allocator, C> {
     pub session: Session<'k, S>,

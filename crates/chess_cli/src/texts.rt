@@ -59,7 +59,7 @@ fn push_rank<K: Kept>(text: &mut ArrayString<320>, kept: &K, colour: Colour, ran
     }
 }
 
-/// The attack counts of a colour: ranks 1 to 8 parted by ` / `, in each the counts of files a to h parted by one space.
+/// The attack counts of a colour: ranks 1 to 8 separated by ` / `, in each the counts of files a to h separated by one space.
 pub fn counts_text<K: Kept>(kept: &K, colour: Colour) -> ArrayString<320>
     ensures { result.bytes ≡ counts_text (K.counts kept.now colour) }
 {

@@ -1,12 +1,14 @@
 -- What is answered of a line, by what is found out of its last position.
-use Rattle.std.proofs.Common.{◌≡◌, ℕ, Bool, ◌&&◌, ◌||◌, true, false, Some, None, Result, Ok, Err, OnOk, refl, ap, ◌∙◌}
+use Rattle.std.proofs.Common.{◌≡◌, ℕ, Bool, ◌&&◌, ◌||◌, true, false, List, [], ◌∷◌, length, nat_lt, Some, None, Result, Ok, Err, OnOk, refl, sym, ap, ◌∙◌, arith}
 use Rattle.chess_types.specs.declared.board.outcome.Status.{Status}
 use Rattle.chess_types.specs.board.MoveParts.{MoveParts}
-use Rattle.chess_types.specs.board.Position.{State}
-use Rattle.chess_types.specs.board.Legal.{is_legal}
+use Rattle.chess_types.specs.board.Attack.{in_check}
+use Rattle.chess_types.specs.board.Men.{opponent}
+use Rattle.chess_types.specs.board.Position.{State, look}
+use Rattle.chess_types.specs.board.Legal.{is_legal, legal_moves}
 use Rattle.chess_types.specs.board.Lines.{Line, last, extended}
 use Rattle.chess_types.specs.board.Repetition.{repetitions}
-use Rattle.chess_types.specs.board.Outcome.{status_at, status, is_play, claims_at, claims, claims_with}
+use Rattle.chess_types.specs.board.Outcome.{status_at, status, is_play, claims_at, claims, claims_with, is_without, winner}
 use Rattle.chess_draws.specs.declared.fault.LineFault.TheVariants.{Illegal}
 use Rattle.chess_draws.specs.Draws.{is_drawn_at, is_claimable_at, is_drawn, is_claimable}
 use Rattle.chess_draws.specs.Pushes.{push_answer}
@@ -54,3 +56,13 @@ answer_illegal line m illegal = rw illegal refl
 pub when_ok : {A E P : Type 0} (r : Result A E) → P → OnOk r P
 when_ok (Ok x) p = p
 when_ok (Err e) p = tt
+
+-- ---- who has mated
+
+without_any : (moves : List MoveParts) → nat_lt 0 (length moves) ≡ false → is_without moves ≡ true
+without_any [] none = refl
+without_any (m ∷ moves) none = absurd (grind (arith, none))
+
+pub winner_is : (p : State) (has checked : Bool) → has ≡ nat_lt 0 (length (legal_moves p)) → checked ≡ in_check (look p) p.side → has ≡ false → checked ≡ true →
+    winner p ≡ Some (opponent p.side)
+winner_is p has checked has_is checked_is none check = rw (without_any (legal_moves p) (sym has_is ∙ none), sym checked_is ∙ check) refl

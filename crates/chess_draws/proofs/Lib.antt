@@ -1,4 +1,4 @@
--- Lemmas on lines: which positions are the same, which targets count, what the plies tell, what holds of a line, and what is answered
+-- Lemmas on lines: which positions are the same, which targets count, what the plies say, what holds of a line, and what is answered
 -- of it.
 pub mod StandLemmas
 pub mod SetLemmas

@@ -114,7 +114,7 @@ can_step held is m legal =
     let can = can_name held is m legal in
     record { legal = can.legal; clock = can.clock; number = can.number; here = held.line.here_is }
 
--- every second ply, as far back as the clock tells: those that begin in the same position as the last, and one, are its repetitions
+-- every second ply, as far back as the clock says: those that begin in the same position as the last, and one, are its repetitions
 pub came_often : {start : State} {plies : List Ply} {live : LiveParts} {here : Stand} → IsLine start plies live here →
     (clock half : ℕ) → clock ≡ live.position.clock → 2 * half ≤ length plies → ((n : ℕ) → n ≤ clock → n ≤ length plies → n ≤ 2 * half + 1) →
     came_back here plies half + 1 ≡ repetitions (line_of start plies)
@@ -203,7 +203,7 @@ all_made {plies = plies} {looked = looked} held is none =
     let one : length (plies ++ looked) ≡ length plies = ap (λ xs. length (plies ++ xs)) (none_looked held is none) ∙ ap length (append-nil plies) in
     sym one ∙ plies_moves held.line is
 
--- a ply more behind the others, or behind those that are only looked at
+-- a ply more after the others, or after those that are only looked at
 behind_others : (plies looked items : List Ply) (ply : Ply) → looked ≡ [] → items ≡ plies ++ ply ∷ [] → items ++ looked ≡ (plies ++ looked) ++ ply ∷ []
 behind_others plies looked items ply none is =
     ap (λ xs. items ++ xs) none ∙ append-nil items ∙ is ∙ ap (λ xs. xs ++ ply ∷ []) (sym (append-nil plies))

@@ -1,4 +1,4 @@
--- How often a line has come to its last position, seen from its end: every second ply, as far back as the halfmove clock tells.
+-- How often a line has come to its last position, seen from its end: every second ply, as far back as the halfmove clock says.
 use Rattle.std.proofs.Common.{◌≡◌, ℕ, zero, suc, ◌+◌, ◌-◌, ◌*◌, ◌<◌, ◌≤◌, true, false, List, [], ◌∷◌, ◌++◌, length, get_or, map, take, drop, refl, sym, ap, ◌∙◌, arith}
 use Rattle.std.specs.List.{count_by}
 use Rattle.std.proofs.lemmas.Bool.{false_from_ne_true, true≢false}
@@ -105,7 +105,7 @@ module _ (start : State) (ms : List MoveParts) (setup : IsSetup start) (legal : 
       ap (λ (q : State). is_same q (play start (take k ms))) (sym (rest_plays start ms k))
       ∙ odd_differs (play start (take k ms)) (drop k ms) half rest.legal (rest.many ∙ odd)
 
-  -- a place where the position is the same is no further back than the clock tells
+  -- a place where the position is the same is no further back than the clock says
   pub within_clock : (k : ℕ) → k ≤ length ms → is_same (play start ms) (play start (take k ms)) ≡ true → length ms - k ≤ (play start ms).clock
   within_clock k within same =
       let rest = rest_of start ms k setup legal on within in
@@ -138,7 +138,7 @@ module _ (start : State) (ms : List MoveParts) (setup : IsSetup start) (legal : 
         one_back (play start ms) start ms k (omega arith),
       )
 
-  -- so it's enough to look back as far as the clock tells
+  -- so it's enough to look back as far as the clock says
   far_enough : (half clock : ℕ) → clock ≡ (play start ms).clock → 2 * half ≤ length ms → ((n : ℕ) → n ≤ clock → n ≤ length ms → n ≤ 2 * half + 1) →
       from_place (play start ms) start ms 0 ≡ from_place (play start ms) start ms (length ms - 2 * half)
   far_enough half clock is within reaches =
@@ -148,7 +148,7 @@ module _ (start : State) (ms : List MoveParts) (setup : IsSetup start) (legal : 
       let near = reaches (length ms - j) far (omega arith) in
       true≢false (sym same ∙ odd_place j half (omega arith) (omega (arith, near, low)))))
 
--- what is kept of the ply there tells whether the position there is the same
+-- what is kept of the ply there shows whether the position there is the same
 first_is : (q start : State) (stand : Stand) (plies : List Ply) (k : ℕ) → IsStandOf stand q → ArePlies start plies → k < length plies →
     first_same stand (drop k plies) ≡ is_same q (play start (take k (map move_of plies)))
 first_is q start stand [] k is are h = absurd (omega arith)

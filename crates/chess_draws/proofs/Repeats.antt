@@ -1,4 +1,4 @@
--- A position that is the same as the one that some moves lead to lies at most so many moves back as the halfmove clock then tells, since
+-- A position that is the same as the one that some moves lead to lies at most so many moves back as the halfmove clock then says, since
 -- a pawn never goes back and a captured man never returns (FIDE Laws, articles 9.2 and 9.3).
 use Rattle.std.proofs.Common.{◌≡◌, ◌+◌, ◌<◌, ◌≤◌, true, ◌&&◌, ◌||◌, List, [], ◌∷◌, length, Some, is_some, refl, arith, ◌⊎◌, inl, inr}
 use Rattle.std.specs.Prelude.{⊤}
@@ -83,7 +83,7 @@ same_weight p q h =
     let c = and_parts (same_colour p.side q.side) (list_all (λ s. same_man (look p s) (look q s)) squares) b.0 in
     weight_same (look p) (look q) (λ s inside. man_is (look p s) (look q s) (every_square (λ x. same_man (look p x) (look q x)) c.1 s inside))
 
--- the law: a position that is the same as the last lies no further back than the clock tells
+-- the law: a position that is the same as the last lies no further back than the clock says
 pub as_far_as_clock : (p : State) (moves : List MoveParts) → IsSetup p → AreLegal p moves → AreOnBoard moves → is_same (play p moves) p ≡ true →
     length moves ≤ (play p moves).clock
 as_far_as_clock p moves setup legal on same =

@@ -1,4 +1,4 @@
--- What is kept of a position tells it from others.
+-- What is kept of a position distinguishes it from others.
 use Rattle.std.proofs.Common.{◌≡◌, ℕ, ◌<◌, Bool, true, false, not, ◌&&◌, ◌||◌, Option, Some, None, refl, sym, ap, ◌∙◌}
 use Rattle.std.specs.List.{list_all}
 use Rattle.std.specs.Ordering.{nat_cmp}
@@ -40,7 +40,7 @@ pub man_self : (there : Option Man) → same_man there there ≡ true
 man_self None = refl
 man_self (Some man) = rw (same_self man.colour, kind_self man.kind) refl
 
--- the kind and the man that five tests tell
+-- the kind and the man that five tests find
 abbrev kind_by : Bool → Bool → Bool → Kind
 kind_by true true short = Queen
 kind_by true false true = King
@@ -137,7 +137,7 @@ by_sets : (a b : FinSet nat_cmp) (test : Option Man → Bool) (x y : Look) → (
     ((s : ℕ) → contains b s ≡ test (y s)) → same_set a b ≡ true → (s : ℕ) → s < 64 → test (x s) ≡ test (y s)
 by_sets a b test x y ga gb same s low = sym (ga s) ∙ same_set_at a b same s low ∙ gb s
 
--- all five tell whether the men are the same
+-- all five show whether the men are the same
 men_there : (m n : Men) (x y : Look) → IsMenOf m x → IsMenOf n y → same_men m n ≡ true → (s : ℕ) → s < 64 → x s ≡ y s
 unfolding same_men
 men_there m n x y is_m is_n h s low =

@@ -26,7 +26,7 @@ coded_parts =
     (λ p. record { line = p.0.0; looked = p.0.1; words = p.1.0; ticks = p.1.1.0; room = p.1.1.1.0; compared = p.1.1.1.1 })
     (λ _. refl)
 
--- every second one before it, as far back as the halfmove clock tells
+-- every second one before it, as far back as the halfmove clock says
 abbrev pub comparisons : Line → ℕ
 comparisons line = min (length line.moves) (last line).clock / 2
 

@@ -1,10 +1,10 @@
-ghost use Rattle.std.specs.Prelude.{◌≡◌, ◌<◌, ℕ, filter, not};
+ghost use Rattle.std.specs.Prelude.{◌≡◌, filter};
 ghost use Rattle.std.specs.List.{list_all};
 ghost use Rattle.std.specs.FinSet.{contains};
 ghost use Rattle.chess_types.specs.steps.KeptSets.{Gathers};
 ghost use Rattle.chess_types.specs.board.Squares.{squares};
 ghost use Rattle.chess_types.specs.board.Board.{man_at};
-ghost use Rattle.chess_types.specs.board.Dead.{holds_bishop, holds_minor, is_light, others, is_lone_minor, is_one_coloured, is_dead};
+ghost use Rattle.chess_types.specs.board.Dead.{holds_bishop, holds_minor, others, is_lone_minor, is_one_coloured, is_dead};
 
 use chess_types::{Colour, Kind, Man, Placement, Setup, SquareSet};
 
@@ -31,20 +31,6 @@ fn holds_minor(there: Option<Man>) -> bool
         None => false,
         Some(man) => man.kind == Kind::Bishop || man.kind == Kind::Knight,
     }
-}
-
-// The light squares, h1 among them.
-fn light() -> SquareSet
-    ensures { (s : ℕ) → s < 64 → contains result s ≡ is_light s }
-{
-    SquareSet::from_bits(0x55aa55aa55aa55aa)
-}
-
-// The dark squares, a1 among them.
-fn dark() -> SquareSet
-    ensures { (s : ℕ) → s < 64 → contains result s ≡ not (is_light s) }
-{
-    SquareSet::from_bits(0xaa55aa55aa55aa55)
 }
 
 // Whether the other set holds each square of the set.
@@ -77,8 +63,8 @@ fn is_one_coloured(men: &Placement) -> bool
 {
     let others = others(men);
     let are_bishops = is_within(others, bishops(men));
-    let are_light = is_within(others, light());
-    let are_dark = is_within(others, dark());
+    let are_light = is_within(others, SquareSet::light());
+    let are_dark = is_within(others, SquareSet::dark());
     are_bishops & (are_light | are_dark)
 }
 

@@ -1,4 +1,4 @@
-//! Lines of moves, and what only the whole line can tell: repetition, status and claims (FIDE Laws, articles 5 and 9).
+//! Lines of moves, and what only the whole line shows: repetition, status and claims (FIDE Laws, articles 5 and 9).
 //!
 //! A `Line` keeps a starting position and the legal moves made from it. Contracts see just these (`Line` of the definitions in
 //! `chess_types/specs/board/Lines.antt`), how many of its last moves are only looked at, the words of the key table, the ticks

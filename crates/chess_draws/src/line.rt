@@ -1,4 +1,5 @@
 ghost use Rattle.std.specs.Prelude.{◌≡◌, ◌+◌, ◌++◌, ◌<◌, ◌≤◌, ◌&&◌, ◌||◌, [], true, IsOk, IsTrue, OnOk, IfErr, IfOk, IfSome, MatchOption, List, length, nat_lt};
+ghost use Rattle.std.specs.List.{slice_get};
 ghost use Rattle.chess_types.specs.board.MoveParts.{MoveParts};
 ghost use Rattle.chess_types.specs.board.Position.{IsWellFormed, look};
 ghost use Rattle.chess_types.specs.board.Attack.{in_check as in_check_of};
@@ -6,7 +7,7 @@ ghost use Rattle.chess_types.specs.board.Legal.{is_legal as is_legal_in, legal_m
 ghost use Rattle.chess_types.specs.board.After.{after};
 ghost use Rattle.chess_types.specs.board.Lines.{AreLegal, Line as LineOf, last, play, extended};
 ghost use Rattle.chess_types.specs.board.Repetition.{is_same, repetitions};
-ghost use Rattle.chess_types.specs.board.Outcome.{status, claims, claims_with};
+ghost use Rattle.chess_types.specs.board.Outcome.{status, claims, claims_with, winner};
 ghost use Rattle.chess_attack.specs.KeptCounts.{changed_of};
 ghost use Rattle.chess_san.specs.Naming.{reading};
 ghost use Rattle.chess_san.specs.Writing.{mark_text, san};
@@ -27,7 +28,7 @@ use chess_key::KeyTable;
 use chess_moves::{has_legal, in_check, is_legal, moves};
 use chess_play::Live;
 use chess_san::SanFault;
-use chess_types::{Claims, Move, Position, Status};
+use chess_types::{Claims, Colour, Move, Position, Status};
 use std::alloc::Allocator;
 use std::marker::Model;
 
@@ -39,7 +40,7 @@ const LIMIT: u32 = 20_000;
 pub struct Line<'k, A: Allocator> {
     root: Position,
     plies: Vec<Ply, A>,
-    // The plies behind them that are only looked at.
+    // The plies after them that are only looked at.
     looked: ArrayVec<Ply, 16>,
     // What is kept of the last position.
     here: Stand,
@@ -287,6 +288,15 @@ impl<'k, A: Allocator> Line<'k, A> {
         self.plies.len() as u32
     }
 
+    /// The move that was made after so many plies, from 0; `None` from the end of the line on.
+    pub fn played(&self, ply: u32) -> Option<Move>
+        requires none { self.now.looked ≡ 0 }
+        ensures value { result ≡ slice_get self.now.line.moves ply }
+    {
+        let made = self.plies.get(ply as usize)?;
+        Some(made.past.played())
+    }
+
     /// The position in which the line begins. Each move is legal where it is made.
     pub fn root(&self) -> &Position
         ensures value { result.now ≡ self.now.line.start }
@@ -345,6 +355,15 @@ impl<'k, A: Allocator> Line<'k, A> {
         in_check(&self.live)
     }
 
+    /// Whether the move is legal in the last position (FIDE Laws 3.1 to 3.10).
+    pub fn is_legal(&mut self, m: Move) -> bool
+        ensures value { result ≡ is_legal_in (last self.old.line) m }
+        ensures as_before { IsAsBefore self.old self.new }
+        ensures compared { self.new.compared ≡ self.old.compared }
+    {
+        is_legal(&mut self.live, m)
+    }
+
     /// The legal move of the last position that a text in standard algebraic notation names (PGN 8.2.3).
     ///
     /// # Errors
@@ -379,7 +398,7 @@ impl<'k, A: Allocator> Line<'k, A> {
         chess_san::write_unmarked(&mut self.live, m)
     }
 
-    /// The mark behind the text of the move that led to the last position: `+` where its king is in check, `#` where it is mated.
+    /// The mark after the text of the move that led to the last position: `+` where its king is in check, `#` where it is mated.
     pub fn write_mark(&mut self) -> &'static str
         ensures value { result.now ≡ mark_text (last self.old.line) }
         ensures as_before { IsAsBefore self.old self.new }
@@ -389,7 +408,7 @@ impl<'k, A: Allocator> Line<'k, A> {
     }
 
     /// How many of the line's positions are the same as the last, the last included (FIDE Laws 9.2.2, 9.2.3). It looks back over the
-    /// plies since the last pawn move or capture and no further, as the halfmove clock tells.
+    /// plies since the last pawn move or capture and no further, as the halfmove clock says.
     pub fn count(&mut self) -> u32
         ensures value { result ≡ repetitions self.old.line }
         ensures as_before { IsAsBefore self.old self.new }
@@ -411,7 +430,7 @@ impl<'k, A: Allocator> Line<'k, A> {
     }
 
     /// How many plies the last count of repetitions compared with the last position, by itself or for `status`, `claims`,
-    /// `claims_with` or `is_drawn`: every second one, as far back as the halfmove clock tells; 0 before any. No other call changes it.
+    /// `claims_with` or `is_drawn`: every second one, as far back as the halfmove clock says; 0 before any. No other call changes it.
     pub fn compared(&self) -> u32
         ensures { result ≡ self.now.compared }
     {
@@ -426,6 +445,18 @@ impl<'k, A: Allocator> Line<'k, A> {
     {
         let count = self.count();
         status_at(&mut self.live, count)
+    }
+
+    /// The side that has mated the other (FIDE Laws 1.4.1, 5.1.1); `None` where the last position is no mate.
+    pub fn winner(&mut self) -> Option<Colour>
+        ensures value { result ≡ winner (last self.old.line) }
+        ensures as_before { IsAsBefore self.old self.new }
+        ensures compared { self.new.compared ≡ self.old.compared }
+    {
+        if !self.in_check() || self.has_legal() {
+            return None;
+        }
+        Some(self.live.position().side.opponent())
     }
 
     /// Whether a position in which there is a legal move is a draw all the same (FIDE Laws 5.2.2, 9.6); with `claims`, also where a

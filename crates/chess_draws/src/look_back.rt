@@ -4,7 +4,7 @@ ghost use Rattle.chess_draws.specs.steps.LookBack.{first_same, came_back};
 use crate::ply::Ply;
 use crate::stand::Stand;
 
-// Whether the ply at that place begins in the position. Those that are only looked at lie behind the others.
+// Whether the ply at that place begins in the position. Those that are only looked at are after the others.
 #[inline(always)]
 fn begins_same(plies: &[Ply], looked: &[Ply], at: usize, here: &Stand) -> bool
     requires { at < length plies.now + length looked.now }
@@ -17,8 +17,8 @@ fn begins_same(plies: &[Ply], looked: &[Ply], at: usize, here: &Stand) -> bool
     }
 }
 
-/// How many of the plies begin in the position behind the last of them, and how many were compared: those with the same side to
-/// move, as far back as the halfmove clock tells, since each pawn move and each capture leaves other men than any position before.
+/// How many of the plies begin in the position after the last of them, and how many were compared: those with the same side to
+/// move, as far back as the halfmove clock says, since each pawn move and each capture leaves other men than any position before.
 pub(crate) fn look_back(plies: &[Ply], looked: &[Ply], here: &Stand, clock: u32) -> (u32, u32)
     requires few { length plies.now ≤ 20000 }
     requires ahead { length looked.now ≤ 16 }

@@ -6,7 +6,7 @@ ghost use Rattle.chess_draws.specs.steps.Stands.{IsMenOf, Settles, holds_pawn_or
 
 use chess_types::{Colour, Placement, Square, SquareSet, holds_pawn};
 
-/// The men of a position as five sets of squares, which tell what stands on each square.
+/// The men of a position as five sets of squares, which say what is on each square.
 #[derive(Clone, Copy)]
 pub(crate) struct Men {
     pub(crate) white: SquareSet,

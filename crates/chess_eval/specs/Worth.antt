@@ -1,4 +1,4 @@
--- What a man is worth on a square, in centipawns, in the middlegame and in the endgame; and what it weighs when it is told how far a game
+-- What a man is worth on a square, in centipawns, in the middlegame and in the endgame; and what it weighs when one asks how far a game
 -- is between the two.
 --   from_edge                     how far a file or a rank lies from the nearer edge, 0 to 3
 --   own_rank                      the rank as the man's own side counts it, 0 to 7

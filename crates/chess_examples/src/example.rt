@@ -16,7 +16,7 @@ pub struct Example<'t> {
     wanted: Vec<u8>,
 }
 
-/// Puts a line behind the others.
+/// Puts a line after the others.
 fn add_line(lines: &mut Vec<u8>, line: &str) -> Result<(), AllocError>
     ensures { OnOk result (lines.new.items ≡ (lines.old.items ++ line.now) ++ 10 ∷ []) }
 {
@@ -25,7 +25,7 @@ fn add_line(lines: &mut Vec<u8>, line: &str) -> Result<(), AllocError>
     Ok(())
 }
 
-/// Prints the lines behind a mark.
+/// Prints the lines after a mark.
 fn print_lines(rt: &HostRuntime, mark: &str, lines: &[u8]) -> io::Result<()> {
     for line in String::from_utf8_lossy(rt.alloc(), lines)?.lines() {
         println!(rt; "{mark} {line}")?;

@@ -1,4 +1,3 @@
-pub mod CountLemmas
 pub mod RankLemmas
 pub mod BoardLemmas
 pub mod SetupLemmas

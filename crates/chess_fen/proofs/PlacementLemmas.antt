@@ -35,7 +35,7 @@ letter man = letters man.colour man.kind
 run_text-some : (n : ℕ) → run_text (suc n) ≡ (48 + suc n) ∷ []
 run_text-some n = let some : (suc n == 0) ≡ false = grind (arith, nat_tests) in rw some refl
 
--- no digit stands behind a run
+-- no digit comes after a run
 run_text-apart : (run : ℕ) (rest : List ℕ) → starts_with_digit rest ≡ false → has_adjacent_digits rest ≡ false → has_adjacent_digits (run_text run ++ rest) ≡ false
 run_text-apart zero rest starts others = others
 run_text-apart (suc n) rest starts others =
@@ -54,7 +54,7 @@ digit_cells n few =
     let count : 48 + suc n - 48 ≡ suc n = omega arith in
     rw (digit, count) refl
 
--- a run and the cells behind it
+-- a run and the cells after it
 run_text-cells : (run : ℕ) (rest : List ℕ) (cells : List (Option Man)) → run ≤ 8 → cells_of rest ≡ Some cells → cells_of (run_text run ++ rest) ≡ Some (replicate run none ++ cells)
 unfolding cells_of
 run_text-cells zero rest cells few is = is

@@ -1,8 +1,7 @@
 -- What is read without a fault makes a setup of a position.
-use Rattle.std.proofs.Common.{◌≡◌, ℕ, ◌<◌, ◌≤◌, ◌==◌, nat_le, Bool, true, false, not, ◌&&◌, List, Option, Some, None, Ok, refl, sym, ap, subst, ◌∙◌, arith}
+use Rattle.std.proofs.Common.{◌≡◌, ℕ, ◌≤◌, Bool, true, false, not, List, Option, Some, None, Ok, refl, sym, ap, subst, ◌∙◌}
 use Rattle.std.specs.Prelude.{ok_or}
-use Rattle.std.proofs.lemmas.Bool.{and_parts, eqb-true, leb-true, true≢false, false_from_ne_true}
-use Rattle.std.proofs.lemmas.Bool.Decides.{nat_tests}
+use Rattle.std.proofs.lemmas.Bool.{and_parts}
 use Rattle.std.proofs.lemmas.Option.{cond_some}
 use Rattle.chess_types.specs.declared.board.man.Colour.{Colour}
 use Rattle.chess_types.specs.declared.board.man.Colour.TheVariants.{White, Black}
@@ -11,22 +10,48 @@ use Rattle.chess_types.specs.declared.board.man.Man.{Man}
 use Rattle.chess_types.specs.declared.board.position.Rights.{Rights}
 use Rattle.chess_types.specs.declared.board.position.Wing.{Wing}
 use Rattle.chess_types.specs.declared.board.position.Wing.TheVariants.{KingSide, QueenSide}
-use Rattle.chess_types.specs.board.Squares.{rank_of, squares}
 use Rattle.chess_types.specs.board.Board.{Board, Look, man_at}
 use Rattle.chess_types.specs.board.Cells.{board_of}
-use Rattle.chess_types.specs.board.Men.{holds_pawn, men_of, kings_of}
 use Rattle.chess_types.specs.board.Position.{IsSetup, is_explained, holds}
 use Rattle.chess_fen.specs.declared.fault.FenFault.TheVariants.{Placement, Kings, PawnRank, TooManyMen}
+use Rattle.chess_types.specs.declared.board.faults.PositionFault.{PositionFault}
+use Rattle.chess_types.specs.declared.board.faults.PositionFault.TheVariants as Position
+use Rattle.chess_types.specs.board.Faults.{men_fault}
+use Rattle.chess_fen.specs.declared.fault.FenFault.{FenFault}
+use Rattle.chess_fen.specs.Faults.{fault_of}
+use Rattle.std.proofs.Common.{cond, Result, Err}
 use Rattle.chess_fen.specs.Ranks.{board_cells}
-use Rattle.chess_fen.specs.Reading.{◌>>=◌, demand, has_one_king_each, is_edge, has_pawn_on_edge, has_at_most_16_each, board_in, is_home, kept_rights, kept_target}
-use Rattle.chess_types.proofs.Runs.{list_any_from}
+use Rattle.chess_fen.specs.Reading.{◌>>=◌, demand, has_one_king_each, has_pawn_on_edge, has_at_most_16_each, board_in, is_home, kept_rights, kept_target}
 use Rattle.chess_types.proofs.SameLemmas.{is_man_is}
+use Rattle.chess_types.proofs.FaultLemmas.{one_king_each, few_each, inner_pawns}
+pub use Rattle.chess_types.proofs.FaultLemmas.{HasGoodMen}
 
--- what the demands on the men leave
-pub record HasGoodMen (board : Board) : Type 0 where
-  pub kings : has_one_king_each board ≡ true
-  pub pawns : has_pawn_on_edge (man_at board) ≡ false
-  pub few : has_at_most_16_each board ≡ true
+-- the board, or the fault of a FEN that its men have
+abbrev pub refused_by : Option PositionFault → Board → Result Board FenFault
+refused_by None board = Ok board
+refused_by (Some fault) board = Err (fault_of fault)
+
+tests_are_demands : (kings pawns few : Bool) (board : Board) →
+    refused_by (cond (not kings) (Some Position.Kings) (cond pawns (Some Position.PawnRank) (cond (not few) (Some Position.TooManyMen) None))) board
+    ≡ (do
+      _ ← demand kings Kings
+      _ ← demand (not pawns) PawnRank
+      _ ← demand few TooManyMen
+      Ok board)
+tests_are_demands true true few board = refl
+tests_are_demands true false true board = refl
+tests_are_demands true false false board = refl
+tests_are_demands false pawns few board = refl
+
+there : (cells : Option (List (Option Man))) (found : List (Option Man)) → Ok found ≡ ok_or cells Placement → cells ≡ Some found
+there None found h = absurd (cc)
+there (Some cells) found h = cc
+
+-- what is read of a field that stands for 64 squares
+pub men_read : (field : List ℕ) (cells : List (Option Man)) → Ok cells ≡ ok_or (board_cells field) Placement → board_in field ≡ refused_by (men_fault (board_of cells)) (board_of cells)
+unfolding board_in men_fault
+men_read field cells h =
+    rw (there (board_cells field) cells h) (sym (tests_are_demands (has_one_king_each (board_of cells)) (has_pawn_on_edge (man_at (board_of cells))) (has_at_most_16_each (board_of cells)) (board_of cells)))
 
 demands_met : (kings pawns few : Bool) (was board : Board) → Ok board ≡ (do
   _ ← demand kings Kings
@@ -52,21 +77,6 @@ good_men_if_read (Some cells) board h =
 pub good_men : (field : List ℕ) (board : Board) → Ok board ≡ board_in field → HasGoodMen board
 unfolding board_in
 good_men field board h = good_men_if_read (board_cells field) board h
-
-one_king_each : (board : Board) → HasGoodMen board → (c : Colour) → kings_of board c ≡ 1
-one_king_each board good White = let both : (kings_of board White == 1) ≡ true × (kings_of board Black == 1) ≡ true = and_parts _ _ good.kings in eqb-true _ _ both.0
-one_king_each board good Black = let both : (kings_of board White == 1) ≡ true × (kings_of board Black == 1) ≡ true = and_parts _ _ good.kings in eqb-true _ _ both.1
-
-few_each : (board : Board) → HasGoodMen board → (c : Colour) → men_of board c ≤ 16
-few_each board good White = let both : (nat_le (men_of board White) 16 ≡ true) × (nat_le (men_of board Black) 16 ≡ true) = and_parts _ _ good.few in leb-true _ _ both.0
-few_each board good Black = let both : (nat_le (men_of board White) 16 ≡ true) × (nat_le (men_of board Black) 16 ≡ true) = and_parts _ _ good.few in leb-true _ _ both.1
-
-inner_pawns : (look : Look) → has_pawn_on_edge look ≡ false → (s : ℕ) → s < 64 → holds_pawn (look s) ≡ true → (0 < rank_of s) × (rank_of s < 7)
-unfolding squares
-inner_pawns look none s inside pawn =
-    let here : (is_edge s && holds_pawn (look s)) ≡ false =
-    false_from_ne_true _ (λ e. true≢false (sym (list_any_from (λ x. is_edge x && holds_pawn (look x)) 0 64 s (omega arith) (omega arith) e) ∙ none)) in
-    (grind (arith, nat_tests), grind (arith, nat_tests))
 
 kept_home : (look : Look) (rights : Rights) (c : Colour) (w : Wing) → holds (kept_rights look rights) c w ≡ true → is_home look c w ≡ true
 unfolding kept_rights

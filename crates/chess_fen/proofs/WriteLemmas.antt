@@ -9,7 +9,7 @@ use Rattle.chess_types.specs.board.Cells.{board_of}
 use Rattle.chess_types.proofs.CellLemmas.{get-board_of}
 use Rattle.chess_fen.specs.Writing.{cells_text, rank_text, placement_text}
 
--- the ranks below, each behind a slash
+-- the ranks below, each after a slash
 abbrev pub below : (ℕ → List ℕ) → ℕ → List ℕ
 below text zero = []
 below text (suc rank) = 47 ∷ text rank ++ below text rank
@@ -50,7 +50,7 @@ module _ (cells : List (Option Man)) (len : length cells ≡ 64) where
       rw (here, is, slash, eight, first, ← rank_text-cells rank (omega arith))
       (simp append_assoc so_far)
 
--- the fields behind one another
+-- the fields one after another
 pub six_fields : (t0 t1 t2 t3 t4 t5 t6 t7 t8 t9 t10 t11 a b c d e f : List ℕ) → t0 ≡ [] → t1 ≡ t0 ++ a → t2 ≡ t1 ++ 32 ∷ [] → t3 ≡ t2 ++ b → t4 ≡ t3 ++ 32 ∷ [] → t5 ≡ t4 ++ c → t6 ≡ t5 ++ 32 ∷ []
     → t7 ≡ t6 ++ d → t8 ≡ t7 ++ 32 ∷ [] → t9 ≡ t8 ++ e → t10 ≡ t9 ++ 32 ∷ [] → t11 ≡ t10 ++ f
     → t11 ≡ join_with_byte 32 (a ∷ b ∷ c ∷ d ∷ e ∷ f ∷ [])

@@ -1,5 +1,7 @@
--- The numbers and the names of the faults.
+-- The numbers and the names of the faults, and which fault of a FEN a fault of a position is.
 use Rattle.std.specs.Prelude.{ℕ, List, codes}
+use Rattle.chess_types.specs.declared.board.faults.PositionFault.{PositionFault}
+use Rattle.chess_types.specs.declared.board.faults.PositionFault.TheVariants as Position
 use Rattle.chess_fen.specs.declared.fault.FenFault.{FenFault}
 use Rattle.chess_fen.specs.declared.fault.FenFault.TheVariants.{Fields, Placement, Kings, PawnRank, TooManyMen, Side, Castling, Target, Counter, InCheck}
 
@@ -21,3 +23,13 @@ number_of fault = (told fault).0
 
 abbrev pub name_of : FenFault → List ℕ
 name_of fault = (told fault).1
+
+-- of the field that spells what is wrong
+abbrev pub fault_of : PositionFault → FenFault
+fault_of Position.Kings = Kings
+fault_of Position.PawnRank = PawnRank
+fault_of Position.TooManyMen = TooManyMen
+fault_of Position.Rights = Castling
+fault_of Position.Target = Target
+fault_of Position.Counters = Counter
+fault_of Position.InCheck = InCheck

@@ -1,6 +1,6 @@
 -- The squares that the first field of a FEN describes (PGN 16.1.3.1).
 --   cells_of_byte         the squares that a byte stands for
---   cells_of              the squares that some bytes stand for, one behind the other
+--   cells_of              the squares that some bytes stand for, one after the other
 --   has_adjacent_digits   a digit follows a digit
 --   rank_cells            the eight squares that a rank's text stands for, from file a
 --   ranks                 the texts of the ranks, the eighth first

@@ -9,23 +9,22 @@
 --   kept_target    that target, where a pawn's advance just made explains it
 --   counter_in     the halfmove clock or the fullmove number (PGN 16.1.3.5 and 16.1.3.6), at most 99,999
 --   reading        the position, in which the side not to move isn't in check, or the fault
-use Rattle.std.specs.Prelude.{ℕ, ◌==◌, nat_le, max, Bool, true, false, not, ◌&&◌, ◌||◌, if◌then◌else◌, List, [], ◌∷◌, length, count_by, Option, Some, None, option_map, Result, Ok, Err, ok_or, codes, bytes_eq}
+use Rattle.std.specs.Prelude.{ℕ, ◌==◌, nat_le, max, Bool, true, false, not, ◌&&◌, if◌then◌else◌, List, [], ◌∷◌, length, count_by, Option, Some, None, option_map, Result, Ok, Err, ok_or, codes, bytes_eq}
 use Rattle.std.specs.List.{list_any, list_all, find}
 use Rattle.std.specs.Char.{is_ascii_digit}
 use Rattle.std.specs.Str.Parse.{digits_value}
 use Rattle.std.specs.Str.{byte}
 use Rattle.chess_types.specs.declared.board.man.Colour.{Colour}
 use Rattle.chess_types.specs.declared.board.man.Colour.TheVariants.{White, Black}
-use Rattle.chess_types.specs.declared.board.man.Kind.TheVariants.{Rook, King}
 use Rattle.chess_types.specs.declared.board.position.Rights.{Rights}
-use Rattle.chess_types.specs.declared.board.position.Wing.{Wing}
 use Rattle.chess_types.specs.declared.board.position.Wing.TheVariants.{KingSide, QueenSide}
-use Rattle.chess_types.specs.board.Squares.{rank_of, squares}
+use Rattle.chess_types.specs.board.Squares.{squares}
 use Rattle.chess_types.specs.board.Board.{Board, Look, man_at}
 use Rattle.chess_types.specs.board.Cells.{board_of}
-use Rattle.chess_types.specs.board.Men.{is_man, opponent, holds_pawn, men_of, kings_of}
+use Rattle.chess_types.specs.board.Men.{opponent}
 use Rattle.chess_types.specs.board.Attack.{in_check}
-use Rattle.chess_types.specs.board.Position.{State, is_explained, king_home, rook_home}
+use Rattle.chess_types.specs.board.Position.{State, is_explained}
+pub use Rattle.chess_types.specs.board.Faults.{has_one_king_each, is_edge, has_pawn_on_edge, has_at_most_16_each, is_home}
 use Rattle.chess_types.specs.board.Texts.{square_text}
 use Rattle.chess_types.specs.bytes.Words.{words}
 use Rattle.chess_fen.specs.declared.fault.FenFault.{FenFault}
@@ -57,7 +56,7 @@ counters_in [] = Ok (codes "0", codes "1")
 counters_in (clock ∷ number ∷ []) = Ok (clock, number)
 counters_in _ = Err Fields
 
--- four words, behind which the counters may stand
+-- four words, after which the counters may stand
 abbrev pub fields_of : List (List ℕ) → Result FieldTexts FenFault
 fields_of (placement ∷ side ∷ castling ∷ target ∷ counters) = do
   texts ← counters_in counters
@@ -67,19 +66,6 @@ fields_of _ = Err Fields
 -- the words that spaces part
 unfoldable pub fields_in : List ℕ → Result FieldTexts FenFault
 fields_in text = fields_of (words (codes " ") text)
-
-abbrev pub has_one_king_each : Board → Bool
-has_one_king_each board = kings_of board White == 1 && kings_of board Black == 1
-
--- rank 1 or rank 8
-abbrev pub is_edge : ℕ → Bool
-is_edge square = rank_of square == 0 || rank_of square == 7
-
-abbrev pub has_pawn_on_edge : Look → Bool
-has_pawn_on_edge look = list_any (λ square. is_edge square && holds_pawn (look square)) squares
-
-abbrev pub has_at_most_16_each : Board → Bool
-has_at_most_16_each board = nat_le (men_of board White) 16 && nat_le (men_of board Black) 16
 
 unfoldable pub board_in : List ℕ → Result Board FenFault
 board_in field = do
@@ -119,10 +105,6 @@ rights_of field = record {
 unfoldable pub castling_in : List ℕ → Result Rights FenFault
 castling_in field =
     if bytes_eq field (codes "-") then Ok no_rights else (if is_castling_field field then Ok (rights_of field) else Err Castling)
-
--- the king and the rook to castle with stand where a game begins
-abbrev pub is_home : Look → Colour → Wing → Bool
-is_home look colour wing = is_man (look (king_home colour)) colour King && is_man (look (rook_home colour wing)) colour Rook
 
 unfoldable pub kept_rights : Look → Rights → Rights
 kept_rights look rights = record {

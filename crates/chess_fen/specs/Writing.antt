@@ -1,4 +1,4 @@
--- The one text of a position, its FEN (PGN 16.1.3): six fields parted by one space.
+-- The one text of a position, its FEN (PGN 16.1.3): six fields separated by one space.
 --   placement_text   the men (PGN 16.1.3.1): rank 8 first, in each rank file a first
 --   side_text        the side to move (PGN 16.1.3.2)
 --   rights_text      the castling rights held (PGN 16.1.3.3)
@@ -19,7 +19,7 @@ use Rattle.chess_types.specs.board.Texts.{man_letter, square_text}
 abbrev pub run_text : ℕ → List ℕ
 run_text run = if run == 0 then [] else (byte "0" + run) ∷ []
 
--- what stands on some squares, one behind the other, before the first of which stand so many empty ones
+-- what stands on some squares, one after the other, before the first of which stand so many empty ones
 abbrev pub cells_text : ℕ → List (Option Man) → List ℕ
 cells_text run [] = run_text run
 cells_text run (None ∷ cells) = cells_text (run + 1) cells
@@ -32,7 +32,7 @@ rank_squares rank = range_with_len (8 * rank) 8
 unfoldable pub rank_text : Look → ℕ → List ℕ
 rank_text look rank = cells_text 0 (map look (rank_squares rank))
 
--- the ranks, parted by slashes
+-- the ranks, separated by slashes
 unfoldable pub placement_text : Look → List ℕ
 placement_text look = join_with_byte (byte "/") (map (rank_text look) (7 ∷ 6 ∷ 5 ∷ 4 ∷ 3 ∷ 2 ∷ 1 ∷ 0 ∷ []))
 

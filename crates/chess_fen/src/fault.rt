@@ -1,3 +1,7 @@
+ghost use Rattle.std.specs.Prelude.{◌≡◌};
+ghost use Rattle.chess_fen.specs.Faults.{fault_of};
+
+use chess_types::PositionFault;
 use thiserror::Error;
 
 /// Why a text is no FEN. Where several apply, the first in this order is reported.
@@ -33,6 +37,23 @@ pub enum FenFault {
     /// The side not to move is in check (FIDE Laws 3.9).
     #[error("the side not to move is in check")]
     InCheck = 10,
+}
+
+impl From<PositionFault> for FenFault {
+    ghost from_gives = { λ fault found. found ≡ fault_of fault };
+
+    /// The fault of the field that spells what is wrong.
+    fn from(fault: PositionFault) -> FenFault {
+        match fault {
+            PositionFault::Kings => FenFault::Kings,
+            PositionFault::PawnRank => FenFault::PawnRank,
+            PositionFault::TooManyMen => FenFault::TooManyMen,
+            PositionFault::Rights => FenFault::Castling,
+            PositionFault::Target => FenFault::Target,
+            PositionFault::Counters => FenFault::Counter,
+            PositionFault::InCheck => FenFault::InCheck,
+        }
+    }
 }
 
 impl FenFault {

@@ -18,7 +18,7 @@ pub struct Fields<'a> {
 
 const SPACE: &[u8] = b" ";
 
-// The next word, and what stands behind it.
+// The next word, and what comes after it.
 fn next_field(text: &[u8]) -> Result<(&[u8], &[u8]), FenFault>
     ensures word { IfOk result (λ r. words (32 ∷ []) text.now ≡ r.0.now ∷ words (32 ∷ []) r.1.now) }
     ensures none { OnErr result (words (32 ∷ []) text.now ≡ []) }
@@ -27,7 +27,7 @@ fn next_field(text: &[u8]) -> Result<(&[u8], &[u8]), FenFault>
     split_word(text, SPACE).ok_or(FenFault::Fields)
 }
 
-// The texts of the two counters, behind the other fields: both words, or none, for which 0 and 1 stand.
+// The texts of the two counters, after the other fields: both words, or none, for which 0 and 1 stand.
 fn split_counters(text: &[u8]) -> Result<(&[u8], &[u8]), FenFault>
     ensures counters { IfOk result (λ r. counters_in (words (32 ∷ []) text.now) ≡ Ok (r.0.now, r.1.now)) }
     ensures fault { IfErr result (λ fault. counters_in (words (32 ∷ []) text.now) ≡ Err fault) }

@@ -32,7 +32,7 @@ fn has_adjacent_digits(text: &[u8]) -> bool
     false
 }
 
-// Puts the squares that a byte stands for behind those that are there; `None` where there is no room, or none are meant.
+// Puts the squares that a byte stands for after those that are there; `None` where there is no room, or none are meant.
 fn push_cells(cells: &mut ArrayVec<Option<Man>, 8>, byte: u8) -> Option<()>
     ensures { option_map (λ _. cells.new.items) result
         ≡ at_most 8 (both_cells (Some cells.old.items) (cells_of_byte byte)) }

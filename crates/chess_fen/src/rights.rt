@@ -1,11 +1,10 @@
 ghost use Rattle.std.specs.Prelude.{◌≡◌, count_by, ◌==◌};
 ghost use Rattle.std.specs.List.{list_all};
 ghost use Rattle.chess_types.specs.board.Board.{man_at};
-ghost use Rattle.chess_fen.specs.Reading.{has_letter, is_castling_letter, rights_of, castling_in, is_home, kept_rights};
+ghost use Rattle.chess_fen.specs.Reading.{has_letter, is_castling_letter, rights_of, castling_in, kept_rights};
 
 use super::fault::FenFault;
-use super::men::is_man;
-use chess_types::{Colour, Kind, Placement, Rights, Wing};
+use chess_types::{Colour, Placement, Rights, Wing, is_home};
 
 fn has_letter(letters: &[u8], letter: u8) -> bool
     ensures { result ≡ has_letter letters.now letter }
@@ -62,13 +61,6 @@ pub fn read_castling(field: &[u8]) -> Result<Rights, FenFault>
     } else {
         Err(FenFault::Castling)
     }
-}
-
-fn is_home(placement: &Placement, colour: Colour, wing: Wing) -> bool
-    ensures { result ≡ is_home (man_at placement.now) colour wing }
-{
-    is_man(placement.get(colour.king_home()), colour, Kind::King)
-        && is_man(placement.get(wing.rook_home(colour)), colour, Kind::Rook)
 }
 
 /// The rights whose king and rook stand at home.

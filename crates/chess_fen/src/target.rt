@@ -1,11 +1,9 @@
 ghost use Rattle.std.specs.Prelude.{◌≡◌};
 ghost use Rattle.chess_types.specs.board.Board.{man_at};
-ghost use Rattle.chess_types.specs.board.Position.{is_explained};
 ghost use Rattle.chess_fen.specs.Reading.{target_in, kept_target};
 
 use super::fault::FenFault;
-use super::men::is_man;
-use chess_types::{Colour, Kind, Placement, Square};
+use chess_types::{Colour, Placement, Square, is_explained};
 
 /// The en passant target that is written.
 #[tactic(auto, unfolding(crate::specs::Reading::target_in))]
@@ -18,38 +16,6 @@ pub fn read_target(field: &[u8]) -> Result<Option<Square>, FenFault>
     match Square::parse(field) {
         Some(square) => Ok(Some(square)),
         None => Err(FenFault::Target),
-    }
-}
-
-// A pawn of the side not to move may have passed over the square with the last move.
-fn is_explained(side: Colour, placement: &Placement, target: Square) -> bool
-    ensures { result ≡ is_explained side (man_at placement.now) target }
-{
-    match side {
-        Colour::White => {
-            target.rank() == 5
-                && placement.get(target).is_none()
-                && placement
-                    .get(Square::from_index(target.index() as u8 + 8))
-                    .is_none()
-                && is_man(
-                    placement.get(Square::from_index(target.index() as u8 - 8)),
-                    Colour::Black,
-                    Kind::Pawn,
-                )
-        }
-        Colour::Black => {
-            target.rank() == 2
-                && placement.get(target).is_none()
-                && placement
-                    .get(Square::from_index(target.index() as u8 - 8))
-                    .is_none()
-                && is_man(
-                    placement.get(Square::from_index(target.index() as u8 + 8)),
-                    Colour::White,
-                    Kind::Pawn,
-                )
-        }
     }
 }
 

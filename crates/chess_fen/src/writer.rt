@@ -22,7 +22,7 @@ fn push_run(text: &mut ArrayString<71>, run: u8)
     }
 }
 
-// What stands on the next square, behind a run of empty squares that isn't written yet; how long the run is then.
+// What stands on the next square, after a run of empty squares that isn't written yet; how long the run is then.
 fn push_cell(text: &mut ArrayString<71>, run: u8, cell: Option<Man>) -> u8
     requires few { run < 8 }
     requires room { array_string_len text.old + run + 1 ≤ 71 }
@@ -121,7 +121,7 @@ fn target_text(target: Option<Square>) -> ArrayString<2>
     }
 }
 
-/// The FEN of a position (PGN 16.1.3), 128 bytes at most: six fields parted by one space. The rights that are held stand in
+/// The FEN of a position (PGN 16.1.3), 128 bytes at most: six fields separated by one space. The rights that are held stand in
 /// the order `KQkq`, and a target is written whenever the position has one. `read` reads the position back from it where both
 /// counters are at most 99,999.
 #[tactic(auto, unfolding(crate::specs::Writing::written))]

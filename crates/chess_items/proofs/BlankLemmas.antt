@@ -21,6 +21,8 @@ module _ {X : Type 0} (comes : X → List ℕ → X → Type 0) (at_hand : X →
     pub white : white_after (Some (column_at place)) (at_hand old ++ joined pieces) ≡ white_after (Some column) (at_hand now)
     pub sound_still : sound now
     pub at_end : all old → (joined pieces ≡ []) × all now
+    pub text : List ℕ
+    pub parts : at_hand old ++ joined pieces ≡ text ++ at_hand now
 
   pub skipping_start : (column : Column) → column ≡ column_at place → sound old → Skipping column old
   skipping_start column e so = record {
@@ -29,13 +31,15 @@ module _ {X : Type 0} (comes : X → List ℕ → X → Type 0) (at_hand : X →
     white = ap (white_after (Some (column_at place))) (append-nil (at_hand old)) ∙ ap (λ (c : Column). white_after (Some c) (at_hand old)) (sym e);
     sound_still = so;
     at_end = (λ e. (refl, e));
+    text = [];
+    parts = append-nil (at_hand old);
   }
 
   pub skipping_other : (column : Column) (now : X) (hand : List ℕ) → Skipping column now → hand ≡ at_hand now → None ≡ white_after (Some column) hand → Skips comes at_hand all sound place old now (Ok false)
   skipping_other column now hand s e none = record {
     pieces = s.pieces;
     came = s.came;
-    after = (s.white ∙ ap (white_after (Some column)) (sym e) ∙ sym none, s.sound_still, s.at_end);
+    after = (s.white ∙ ap (white_after (Some column)) (sym e) ∙ sym none, s.sound_still, s.at_end, s.text, s.parts);
   }
 
   pub skipping_broken : (breaks : X → X → Type 0) (column : Column) (now new : X) (fault : Fault) → Skipping column now → BreaksOff comes breaks all now new fault → BreaksOff comes breaks all old new fault
@@ -67,6 +71,8 @@ module _ {X : Type 0} (comes : X → List ℕ → X → Type 0) (at_hand : X →
       white = white_more r.more ∙ ap (white_after (Some next)) (sym r.after.0);
       sound_still = r.after.1;
       at_end = (λ e. absurd (r.after.3 (s.at_end e).1));
+      text = at_hand old ++ joined s.pieces;
+      parts = ap (λ (x : List ℕ). at_hand old ++ x) (joined-more comes s.pieces r.more) ∙ sym (append_assoc (at_hand old) (joined s.pieces) r.more) ∙ ap (λ (x : List ℕ). (at_hand old ++ joined s.pieces) ++ x) (sym r.after.0);
     }
 
     pub skipping_falls : Refills comes at_hand all sound size now new (Ok true) → size new + 1 ≤ size now

@@ -41,13 +41,14 @@ module _ {R : Type 0} (gives : R → List ℕ → R → Type 0) (failed : R → 
   size_at_hand s = s.reads * 65537 + length (unread s)
 
   -- no read was made
-  pub came_none : (s t : AtHand R) → t.source ≡ s.source → t.reads ≡ s.reads → t.has_ended ≡ s.has_ended → Came gives failed s [] t
-  came_none s t source reads ended = record {
+  pub came_none : (s t : AtHand R) → t.source ≡ s.source → t.reads ≡ s.reads → t.has_ended ≡ s.has_ended → t.used + length (unread t) ≡ s.used + length (unread s) → Came gives failed s [] t
+  came_none s t source reads ended placed = record {
     pieces = [];
     calls = sym source;
     whole = refl;
     counted = omega (arith, reads);
     small = omega arith;
+    placed = omega (arith, placed);
     well = ap failed source;
     each = λ e. tt;
     ended_still = λ e. ended ∙ e;
@@ -60,16 +61,17 @@ module _ {R : Type 0} (gives : R → List ℕ → R → Type 0) (failed : R → 
     whole = rw (joined-append first.pieces second.pieces, first.whole, second.whole) refl;
     counted = (let n = length-append first.pieces second.pieces in omega (arith, n, first.counted, second.counted));
     small = (let n = length-append first.pieces second.pieces in let k = length-append a b in omega (arith, n, k, first.small, second.small));
+    placed = (let k = length-append a b in omega (arith, k, first.placed, second.placed));
     well = second.well ∙ first.well;
     each = λ e. each_append first.pieces second.pieces (first.each (not_before m.has_ended t.has_ended second.ended_still e)) (second.each e);
     ended_still = λ e. second.ended_still (first.ended_still e);
   }
 
   pub all_came : (s t : AtHand R) (pieces : List (List ℕ)) → Calls (λ x bytes y. Came gives failed x bytes y) s pieces t → Came gives failed s (joined pieces) t
-  all_came s t [] c = came_none s t (ap (λ (x : AtHand R). x.source) (sym c)) (ap (λ (x : AtHand R). x.reads) (sym c)) (ap (λ (x : AtHand R). x.has_ended) (sym c))
+  all_came s t [] c = came_none s t (ap (λ (x : AtHand R). x.source) (sym c)) (ap (λ (x : AtHand R). x.reads) (sym c)) (ap (λ (x : AtHand R). x.has_ended) (sym c)) (ap (λ (x : AtHand R). x.used + length (unread x)) (sym c))
   all_came s t (p ∷ ps) c = came_append s c.0 t p (joined ps) c.1 (all_came c.0 t ps c.2)
 
-err_is : (a b : Fault) → ◌≡◌ {A = Result (Unit {0}) Fault} (Err a) (Err b) → a ≡ b
+pub err_is : (a b : Fault) → ◌≡◌ {A = Result (Unit {0}) Fault} (Err a) (Err b) → a ≡ b
 err_is a b e = cc
 
 -- these bytes came, and the source has not ended
@@ -101,7 +103,7 @@ module _ {R : Type 0} {gives : R → List ℕ → R → Type 0} {failed : R → 
   off_read ended new r = (not_ended, bytes ∷ r.piece ∷ [], (now, came, (new, one, refl)))
     where
       one : Came gives failed now r.piece new
-      one = record { pieces = r.piece ∷ []; calls = (new.source, r.call, refl); whole = append-nil r.piece; counted = r.counted; small = r.small; well = r.after.0; each = λ e. (r.after.1, tt); ended_still = λ e. absurd (not_all e) }
+      one = record { pieces = r.piece ∷ []; calls = (new.source, r.call, refl); whole = append-nil r.piece; counted = r.counted; small = r.small; placed = r.placed; well = r.after.0; each = λ e. (r.after.1, tt); ended_still = λ e. absurd (not_all e) }
 
   pub off_fault : (ended : R → Type 0) (new : AtHand R) (e : Fault) → Tries gives ended failed now new (Err e) → Off new e
   off_fault ended new Read (inl p) = (let wrong : Read ≡ Memory = err_is Read Memory p.0 in cc)
@@ -109,7 +111,7 @@ module _ {R : Type 0} {gives : R → List ℕ → R → Type 0} {failed : R → 
   off_fault ended new Memory (inl p) = off_poor new p.1
   off_fault ended new Memory (inr r) = off_read ended new r
 
-  -- the bytes at hand don't decide the item at their front
+  -- the bytes at hand don't decide the item that they begin with
   module _ (ended : R → Type 0) (place : Place) (longer : unread now ≡ unread old ++ bytes) (undecided : Decides place (unread now) → ⊥) where
     abbrev At : AtHand R → Fault → Type 0
     At new fault = BreaksAt (brings gives failed) unread (breaking gives failed) (has_all gives failed) (ends_truly gives failed ended) place old new fault

@@ -24,7 +24,7 @@ parted : (p : ℕ → Bool) (bytes : List ℕ) → list_all p bytes ≡ false �
 parted p [] h = absurd cc
 parted p (b ∷ bytes) h = part_step p b bytes (p b) refl h (parted p bytes)
 
--- what f makes of a run and what follows does not depend on what is further behind
+-- what f makes of a run and what follows does not depend on what comes later
 abbrev Natural : (List ℕ → List ℕ → Found) → Type 0
 Natural f = (text : List ℕ) (c : ℕ) (next more : List ℕ) → f text ((c ∷ next) ++ more) ≡ longer (f text (c ∷ next)) more
 
@@ -103,7 +103,7 @@ pub digits-append : (n : ℕ) (ds es : List ℕ) → digits_value n (ds ++ es) �
 digits-append n [] es = refl
 digits-append n (d ∷ ds) es = digits-append (10 * n + (d - 48)) ds es
 
--- a run in front of anything
+-- a run before anything
 pub each-append : (p : ℕ → Bool) (xs ys : List ℕ) → Each p xs → Each p ys → Each p (xs ++ ys)
 each-append p [] ys h k = k
 each-append p (x ∷ xs) ys h k = (h.0, each-append p xs ys h.1 k)

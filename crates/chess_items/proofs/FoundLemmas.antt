@@ -14,7 +14,7 @@ use Rattle.chess_items.specs.declared.place.Place.TheVariants.{GameStart, LineSt
 use Rattle.chess_items.proofs.RunLemmas.{prefix_each, prefix_stops}
 use Rattle.chess_items.proofs.ItemLemmas.{at_line_start, at_tag_line, in_a_value, in_line_outside, in_tag_line, plain_byte, stands_outside, stands_in_tag, stands_in_value}
 
--- the front of the input, and its item, which may stand there
+-- the beginning of the input, and its item, which may stand there
 abbrev pub Parted : (Item → Bool) → List ℕ → Item → List ℕ → Type 0
 Parted stands input item next = (text : List ℕ) × (input ≡ text ++ next) × (stands item ≡ true) × IsSpelled item text next
 
@@ -64,7 +64,7 @@ taken_run stands p g b bytes item next is e found =
     let k = is text rest (run_of p b bytes e) in
     at_pair stands (b ∷ bytes) text (g text) item rest next (run_is p (λ text rest. Some (g text, rest)) (b ∷ bytes) _ found) (sym (take-append-drop n (b ∷ bytes))) k.0 k.1
 
--- a byte and the longest run behind it, whatever is found there
+-- a byte and the longest run after it, whatever is found there
 run_behind : (stands : Item → Bool) (b : ℕ) (p : ℕ → Bool) (f : List ℕ → List ℕ → Found)
     → ((text rest : List ℕ) (item : Item) (next : List ℕ) → Each p text → EndsRun p rest → f text rest ≡ Some (item, next) → Parted stands (b ∷ text ++ rest) item next)
     → (bytes : List ℕ) (item : Item) (next : List ℕ) → run_at p f bytes ≡ Some (item, next) → Parted stands (b ∷ bytes) item next
@@ -208,7 +208,7 @@ at_start : (item : Item) → stands_outside true item ≡ true → may_stand Gam
 at_start Mark s = absurd cc
 at_start _ s = s
 
--- the front of the input is the text of the item
+-- the beginning of the input is the text of the item
 abbrev pub Taken : Place → List ℕ → Item → List ℕ → Type 0
 Taken place input item next = (text : List ℕ) × (input ≡ text ++ next) × IsItem place item text next
 

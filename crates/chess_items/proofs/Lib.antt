@@ -18,3 +18,5 @@ pub mod BlankLemmas
 pub mod WhiteLemmas
 pub mod PassLemmas
 pub mod ClassLemmas
+pub mod SectionLemmas
+pub mod SeekLemmas

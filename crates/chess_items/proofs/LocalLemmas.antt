@@ -1,4 +1,4 @@
--- An item that ends in front of a byte does not depend on what is behind that byte.
+-- An item that ends before a byte does not depend on what is after that byte.
 use Rattle.std.proofs.Common.{◌≡◌, ◌<◌, ◌≤◌, ◌⊎◌, inl, inr, ℕ, suc, ◌+◌, Bool, List, [], ◌∷◌, ◌++◌, length, refl, sym, ap, subst, ◌∙◌, arith, append_assoc, append-nil, length-append}
 use Rattle.chess_items.specs.Items.{Item, Mark, Blank, Hidden, Comment, Skipped, Word, Nag, Open, Close, Marker, TagOpen, TagClose, Name, Quote, Stretch, Escaped}
 use Rattle.chess_items.specs.Items.{IsRun, IsToLineEnd, IsSpelled, IsItem, is_digit, is_glyph, is_name_byte, is_plain, is_word_byte}
@@ -43,7 +43,7 @@ spelled_local (Escaped b) text c n1 n2 p = p
 item_local : (place : Place) (item : Item) (text : List ℕ) (c : ℕ) (n1 n2 : List ℕ) → IsItem place item text (c ∷ n1) → IsItem place item text (c ∷ n2)
 item_local place item text c n1 n2 p = record { stands = p.stands; spelled = spelled_local item text c n1 n2 p.spelled }
 
--- text in front of a byte decides its item
+-- text before a byte decides its item
 text_decides : (place : Place) (item : Item) (text : List ℕ) (c : ℕ) (n1 n2 : List ℕ) → IsItem place item text (c ∷ n1) → Decides place (text ++ c ∷ n2)
 text_decides place item text c n1 n2 is = λ more.
     let longer_one : item_at place ((text ++ c ∷ n2) ++ more) ≡ the item (c ∷ (n2 ++ more)) =
@@ -51,7 +51,7 @@ text_decides place item text c n1 n2 is = λ more.
     let short_one : item_at place (text ++ c ∷ n2) ≡ the item (c ∷ n2) = item_goes place item text (c ∷ n2) (item_local place item text c n1 n2 is) in
     longer_one ∙ ap (λ (x : Found). longer x more) (sym short_one)
 
--- either the item's text ends in the front, or it reaches its end
+-- either the item's text ends in the prefix, or it reaches its end
 abbrev Ends : List ℕ → List ℕ → List ℕ → List ℕ → Type 0
 Ends front p text next = ((c : ℕ) × (s : List ℕ) × (front ≡ text ++ c ∷ s) × (next ≡ c ∷ (s ++ p))) ⊎ (length next ≤ length p)
 
@@ -68,7 +68,7 @@ where_ends (b ∷ front) p (c ∷ text) next e =
       | inr h ↦ inr h
     ]
 
--- Where the front does not decide the item, the item takes the whole front.
+-- Where the prefix does not decide the item, the item takes the whole prefix.
 pub undecided_taken : (place : Place) (front p : List ℕ) (item : Item) (next : List ℕ) → (Decides place front → ⊥) → item_at place (front ++ p) ≡ the item next → length next ≤ length p
 undecided_taken place front p item next undecided e =
     let t = item_taken place (front ++ p) item next e in
@@ -110,7 +110,7 @@ item_shorter place input item next e =
     let t = item_taken place input item next e in
     text_shorter place item t.0 input next t.1 t.2
 
--- An item that ends in front of some bytes ends where there are none.
+-- An item that ends before some bytes ends where there are none.
 spelled_end : (item : Item) (text next : List ℕ) → IsSpelled item text next → IsSpelled item text []
 spelled_end Mark text next p = p
 spelled_end (Blank b) text next p = p
@@ -137,7 +137,7 @@ spelled_end (Escaped b) text next p = p
 item_is : (found : Found) (i j : Item) (r q : List ℕ) → found ≡ the i r → found ≡ the j q → i ≡ j
 item_is found i j r q e h = ap (λ (z : Item × List ℕ). z.0) (some_is {A = Item × List ℕ} (i, r) (j, q) (sym e ∙ h))
 
--- two texts behind which equally many bytes stand
+-- two texts after which equally many bytes stand
 same_front : (xs ys p q : List ℕ) → xs ++ p ≡ ys ++ q → length p ≡ length q → (xs ≡ ys) × (p ≡ q)
 same_front [] [] p q e n = (refl, e)
 same_front [] (y ∷ ys) p q e n = absurd (let l = ap length e ∙ length-append (y ∷ ys) q in omega (arith, l, n))
@@ -158,6 +158,6 @@ decided_so_far place front k e f = λ more.
     let same : g.0 ≡ k = item_is (item_at place front) g.0 k [] [] alone e in
     g.1 ∙ ap (λ (i : Item). the i more) same ∙ ap (λ (x : Found). longer x more) (sym e)
 
--- The bytes that follow an item with equally many bytes behind it.
+-- The bytes that follow an item with equally many bytes after it.
 pub next_is : (front more text next : List ℕ) → front ++ more ≡ text ++ next → length next ≡ length more → next ≡ more
 next_is front more text next e n = sym (same_front front text more next e (sym n)).1

@@ -57,6 +57,6 @@ module _ {R : Type 0} (gives : R → List ℕ → R → Type 0) (ended : R → T
   made_ready (Err e) r = tt
   made_ready (Ok is_ready) r = record {
     more = joined r.pieces;
-    came = record { pieces = r.pieces; calls = r.calls; whole = refl; counted = r.counted; small = joined_small most place (unread old) r.pieces r.needed; well = r.well; each = r.each; ended_still = λ e. (r.at_end e).1 };
+    came = record { pieces = r.pieces; calls = r.calls; whole = refl; counted = r.counted; small = joined_small most place (unread old) r.pieces r.needed; placed = r.placed; well = r.well; each = r.each; ended_still = λ e. (r.at_end e).1 };
     after = came_after is_ready r;
   }

@@ -51,7 +51,7 @@ bracket_decided place front e = λ more.
     item_goes place TagOpen (byte "[" ∷ []) (front ++ more) (record { stands = e; spelled = refl })
     ∙ ap (λ (x : Found). longer x more) (sym (item_goes place TagOpen (byte "[" ∷ []) front (record { stands = e; spelled = refl })))
 
--- so bytes that don't decide the item at their front are no bracket's
+-- so bytes that don't decide the item that they begin with are no bracket's
 undecided_bracket : (place : Place) (hand more rest : List ℕ) → 0 < length hand → (Decides place hand → ⊥) → item_at place (hand ++ more) ≡ the TagOpen rest → ⊥
 undecided_bracket place [] more rest some undecided found = omega (arith, some)
 undecided_bracket place (b ∷ hand) more rest some undecided found =
@@ -69,7 +69,7 @@ near_bracket place old hand rest (inr h) found small = (let t = item_taken place
     by (b ∷ front) piece e few undecided stands is =
         (let k : b ≡ byte "[" = first b (byte "[") (front ++ piece) rest (sym e ∙ is) in absurd (undecided (subst (λ (x : ℕ). Decides place (x ∷ front)) (sym k) (bracket_decided place front stands))))
 
--- a longer front decides too
+-- a longer prefix decides too
 decides_longer : (place : Place) (front more : List ℕ) → Decides place front → Decides place (front ++ more)
 decides_longer place front more d = λ further.
     ap (item_at place) (append_assoc front more further) ∙ d (more ++ further) ∙ longer_twice (item_at place front) more further ∙ ap (λ (x : Found). longer x further) (sym (d more))
@@ -123,7 +123,7 @@ found_within place {hand} {bytes} {again} {item} {rest} same look once_more =
     let m = ap length same in
     omega (arith, s, n, m)
 
--- bytes came, and those at hand decide the item at their front, or all have come
+-- bytes came, and those at hand decide the item that they begin with, or all have come
 pub record Seen {X : Type 0} (comes : X → List ℕ → X → Type 0) (at_hand : X → List ℕ) (all sound : X → Type 0) (size : X → ℕ) (most : ℕ) (place : Place) (old mid : X) : Type 0 where
   pub pieces : List (List ℕ)
   pub came : Calls comes old pieces mid
@@ -193,7 +193,7 @@ module _ {X : Type 0} {comes : X → List ℕ → X → Type 0} {at_hand : X →
   pub step_end : {T : Type 0} {takes : TakesOne T} {at : ℕ} {t : T} → at_hand mid ≡ [] → Steps comes at_hand all sound size takes at most place old mid t t (Ok (step.Stops stop.End))
   step_end {t = t} e = stops stop.End t (all_came (at_hand mid) e ready.after.decided, e, refl)
 
-  -- what is found at the front is found whatever follows
+  -- what is found at the beginning is found whatever follows
   module _ {bytes : List ℕ} (same : bytes ≡ at_hand mid) where
     finds : (found : Found) → found ≡ item_at place bytes → (more : List ℕ) → (all mid → more ≡ []) → item_at place (at_hand mid ++ more) ≡ longer found more
     finds found look more none = decided_item place (at_hand mid) more found (all mid) ready.after.decided none (ap (item_at place) (sym same) ∙ sym look)

@@ -14,11 +14,11 @@ use Rattle.chess_items.proofs.ItemLemmas.{glyph_is, no_eqb, plain_byte}
 use Rattle.chess_items.proofs.FoundLemmas.{the, some_is}
 use Rattle.chess_items.proofs.ClosedLemmas.{all_each, each-append, closed_decides}
 
--- two findings are not one, the second behind these bytes
+-- two findings are not one, the second after these bytes
 abbrev Differs : Found → Found → List ℕ → Type 0
 Differs x y more = x ≡ longer y more → ⊥
 
--- some byte behind the front makes a difference
+-- some byte after the prefix makes a difference
 abbrev Grows : (List ℕ → Found) → List ℕ → Type 0
 Grows at front = (c : ℕ) × Differs (at (front ++ c ∷ [])) (at front) (c ∷ [])
 
@@ -32,7 +32,7 @@ run_longer p f bytes c e h =
     subst (λ (x : List ℕ). run_at p f x ≡ f (bytes ++ c ∷ []) []) (append-nil (bytes ++ c ∷ []))
     (run_found p f (bytes ++ c ∷ []) [] (each-append p bytes (c ∷ []) (all_each p bytes h) (e, tt)) tt)
 
--- what is found with nothing behind it is not what is found with a byte behind it
+-- what is found with nothing after it is not what is found with a byte after it
 ends : (i j : Item) (c : ℕ) → Some (i, []) ≡ longer (Some (j, [])) (c ∷ []) → ⊥
 ends i j c e =
     let p = some_is {A = Item × List ℕ} (i, []) (j, c ∷ []) e in
@@ -169,7 +169,7 @@ value_grows (b ∷ bytes) e =
     choose (eqb b 10) _ _ _ _ _ _ e (λ w h. absurd cc) (λ w3 h.
     let p = plain_byte b w1 w2 w3 in (b, run_grows is_plain stretch_found Stretch (b ∷ bytes) b (λ w. refl) p (rw (p, h) refl)))))
 
--- the bytes behind a front that begins as a mark does
+-- the bytes after a prefix that begins as a mark does
 mark_grows : (bytes : List ℕ) → mark_open bytes ≡ true → (more : List ℕ) × Differs (mark_at (bytes ++ more)) (mark_at bytes) more
 mark_grows [] e = (187 ∷ 191 ∷ [], apart Mark [])
 mark_grows (b ∷ []) e = (191 ∷ [], λ d. apart Mark [] (rw e at d))

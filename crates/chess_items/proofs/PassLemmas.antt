@@ -1,4 +1,4 @@
--- White items before the limit, and white space and hidden lines behind it.
+-- White items before the limit, and white space and hidden lines after it.
 use Rattle.std.proofs.Common.{◌≡◌, ℕ, ◌+◌, inl, inr, Bool, true, false, ◌&&◌, List, [], ◌∷◌, ◌++◌, length, refl, sym, ap, subst, ◌∙◌, arith, append-nil, length-append, Ok}
 use Rattle.chess_types.specs.bytes.Calls.{joined}
 use Rattle.chess_types.proofs.CallLemmas.{Calls-append, joined-append}
@@ -19,7 +19,7 @@ use Rattle.chess_items.proofs.BreakLemmas.{breaks_later}
 use Rattle.chess_items.proofs.TakingLemmas.{ended_after}
 use Rattle.chess_items.proofs.WhiteLemmas.{are_white, stays_outside}
 
--- items, and more behind them
+-- items, and more after them
 spells_join : (at : ℕ) (place : Place) (input : List ℕ) (items more : List (ℕ × Item)) (mid rest : List ℕ) (here : ℕ) → here + length mid ≡ at + length input → SpellsFrom at place input items mid
     → SpellsFrom here (behind place items) mid more rest → SpellsFrom at place input (items ++ more) rest
 spells_join at place input [] more mid rest here n s t =
@@ -68,7 +68,7 @@ module _ {X T : Type 0} (comes : X → List ℕ → X → Type 0) (at_hand : X �
           still = λ h. (a.took.at_end h).0;
         }
 
-    -- what is behind the limit is white as well
+    -- what is after the limit is white as well
     pub passed_white : (new : X) → s.why ≡ stop.TooLarge → s.white ≡ true → Skips comes at_hand all sound s.place mid new (Ok true) → WasWhite comes at_hand all sound size takes old new
     passed_white new why white k =
         let a = subst (λ (w : Stop). AfterRun comes at_hand all sound size takes limit old r.pieces mid t u s.at s.place s.white w) why r.after in
@@ -94,9 +94,9 @@ module _ {X T : Type 0} (comes : X → List ℕ → X → Type 0) (at_hand : X �
           still = λ h. (let first_end = a.took.at_end h in joined-append r.pieces k.pieces ∙ ap (λ (x : List ℕ). x ++ joined k.pieces) first_end.0 ∙ k.after.4 first_end.1);
         }
 
-    -- something else comes behind the limit
+    -- something else comes after the limit
     pub passed_other : (new : X) → s.why ≡ stop.TooLarge → s.white ≡ true → Skips comes at_hand all sound s.place mid new (Ok false) → Passed comes at_hand all sound size takes limit old new t u s
-    passed_other new why white k = record { mid = mid; ran = r; after = inr (record { over = why; white = white; pieces = k.pieces; came = k.came; other = k.after.0; still = k.after.2 }); more = λ e. absurd (let h : stop.TooLarge ≡ stop.End = sym why ∙ e in cc) }
+    passed_other new why white k = record { mid = mid; ran = r; after = inr (record { over = why; white = white; pieces = k.pieces; came = k.came; other = k.after.0; still = k.after.2; text = k.after.3; parts = k.after.4 }); more = λ e. absurd (let h : stop.TooLarge ≡ stop.End = sym why ∙ e in cc) }
 
     pub passed_broken : (breaks : X → X → Type 0) (new : X) (fault : Fault) → s.why ≡ stop.TooLarge → BreaksOff comes breaks all mid new fault → PassBreaks comes at_hand all sound size takes limit breaks old new t fault
     passed_broken breaks new Memory over b =

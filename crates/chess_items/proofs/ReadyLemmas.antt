@@ -19,6 +19,7 @@ pub record Going {R : Type 0} (gives : R → List ℕ → R → Type 0) (ended :
   pub needed : Needed most place (unread old) pieces
   pub counted : now.reads + length pieces ≡ old.reads
   pub well : failed now.source ≡ failed old.source
+  pub placed : now.used + length (unread now) ≡ old.used + length (unread old) + length (joined pieces)
   pub at_end : old.has_ended ≡ true → (now.has_ended ≡ true) × (pieces ≡ [])
   pub each : now.has_ended ≡ false → AllByRecursion (λ piece. 0 < length piece) pieces
   pub whole : unread now ≡ unread old ++ joined pieces
@@ -34,6 +35,7 @@ module _ {R : Type 0} (gives : R → List ℕ → R → Type 0) (ended : R → T
     needed = tt;
     counted = omega arith;
     well = refl;
+    placed = omega arith;
     at_end = λ e. (e, refl);
     each = λ e. tt;
     whole = sym (append-nil (unread old));
@@ -53,6 +55,7 @@ module _ {R : Type 0} (gives : R → List ℕ → R → Type 0) (ended : R → T
         needed = needed_more most place (unread old) g.pieces r.piece g.needed (subst (λ (x : List ℕ). Decides place x → ⊥) g.whole undecided) (subst (λ (x : List ℕ). length x ≤ most) g.whole few) r.small;
         counted = (let n = length-append g.pieces (r.piece ∷ []) in omega (arith, n, r.counted, g.counted));
         well = r.after.3 ∙ g.well;
+        placed = (let j = ap length (joined-more gives g.pieces r.piece) in let n = length-append (joined g.pieces) r.piece in omega (arith, j, n, r.placed, g.placed));
         at_end = λ e. absurd (false≢true (sym goes ∙ (g.at_end e).0));
         each = λ e. each_append g.pieces (r.piece ∷ []) (g.each goes) (r.after.4 e, tt);
         whole = first ∙ ap (λ (x : List ℕ). x ++ r.piece) g.whole ∙ append_assoc (unread old) (joined g.pieces) r.piece ∙ ap (λ (x : List ℕ). unread old ++ x) (sym (joined-more gives g.pieces r.piece));
@@ -63,4 +66,4 @@ module _ {R : Type 0} (gives : R → List ℕ → R → Type 0) (ended : R → T
 
 module _ {R : Type 0} {gives : R → List ℕ → R → Type 0} {ended : R → Type 0} {failed : R → Bool} {most : ℕ} {place : Place} {looked : ℕ} {old now : AtHand R} (g : Going gives ended failed most place looked old now) where
   pub so_far : Came gives failed old (joined g.pieces) now
-  so_far = record { pieces = g.pieces; calls = g.calls; whole = refl; counted = g.counted; small = joined_small most place (unread old) g.pieces g.needed; well = g.well; each = g.each; ended_still = λ e. (g.at_end e).0 }
+  so_far = record { pieces = g.pieces; calls = g.calls; whole = refl; counted = g.counted; small = joined_small most place (unread old) g.pieces g.needed; placed = g.placed; well = g.well; each = g.each; ended_still = λ e. (g.at_end e).0 }

@@ -1,5 +1,5 @@
 -- All bytes at hand are used, and one read brings more.
-use Rattle.std.proofs.Common.{◌≡◌, ℕ, ◌≤◌, Bool, true, false, not, List, [], ◌∷◌, ◌++◌, length, refl, sym, ap, subst, ◌∙◌, arith, append-nil, Result, Ok, Err}
+use Rattle.std.proofs.Common.{◌≡◌, ℕ, ◌+◌, ◌≤◌, Bool, true, false, not, List, [], ◌∷◌, ◌++◌, length, refl, sym, ap, subst, ◌∙◌, arith, append-nil, Result, Ok, Err}
 use Rattle.std.proofs.lemmas.Bool.{false≢true}
 use Rattle.chess_types.specs.bytes.Calls.{joined}
 use Rattle.chess_items.specs.Coming.{AtHand, unread}
@@ -13,7 +13,12 @@ use Rattle.chess_items.proofs.ReadLemmas.{empty_is}
 pub not_ended : {a b : Bool} → b ≡ a → b ≡ false → a ≡ true → ⊥
 not_ended same goes e = false≢true (sym goes ∙ same ∙ e)
 
-module _ {R : Type 0} (gives : R → List ℕ → R → Type 0) (ended : R → Type 0) (failed : R → Bool) (old mid new : AtHand R) (goes : mid.has_ended ≡ false) (source : mid.source ≡ old.source) (reads : mid.reads ≡ old.reads) (has_ended : mid.has_ended ≡ old.has_ended) where
+-- so many bytes are left
+pub placed_now : (used left len before : ℕ) → len ≡ left → used + left ≡ before → used + len ≡ before
+placed_now used left len before e h = omega (arith, e, h)
+
+module _ {R : Type 0} (gives : R → List ℕ → R → Type 0) (ended : R → Type 0) (failed : R → Bool) (old mid new : AtHand R) (goes : mid.has_ended ≡ false) (source : mid.source ≡ old.source) (reads : mid.reads ≡ old.reads) (has_ended : mid.has_ended ≡ old.has_ended)
+    (placed : mid.used + length (unread mid) ≡ old.used + length (unread old)) where
   refill_after : (v : Bool) → new.has_ended ≡ v → (r : Reads gives ended failed mid new (Ok tt)) → length (unread mid) ≡ 0 → AfterReading ended (r.piece ∷ []) new (not v)
   refill_after false e r none =
       let whole : unread new ≡ r.piece ++ [] = r.after.0 ∙ ap (λ (x : List ℕ). x ++ r.piece) (empty_is (unread mid) none) ∙ sym (append-nil r.piece) in
@@ -28,6 +33,7 @@ module _ {R : Type 0} (gives : R → List ℕ → R → Type 0) (ended : R → T
     calls = (new.source, subst (λ x. gives x r.piece new.source) source r.call, refl);
     counted = omega (arith, r.counted, reads);
     small = (let n = ap length (append-nil r.piece) in omega (arith, n, r.small));
+    placed = (let n = ap length (append-nil r.piece) in omega (arith, n, r.placed, placed));
     well = r.after.3 ∙ ap failed source;
     at_end = λ e. absurd (not_ended has_ended goes e);
     each = λ e. (r.after.4 e, tt);
@@ -51,18 +57,20 @@ module _ {R : Type 0} (gives : R → List ℕ → R → Type 0) (ended : R → T
   refills (Err e) r = tt
   refills (Ok has_more) r = record {
     more = joined r.pieces;
-    came = record { pieces = r.pieces; calls = r.calls; whole = refl; counted = r.counted; small = r.small; well = r.well; each = r.each; ended_still = λ e. (r.at_end e).1 };
+    came = record { pieces = r.pieces; calls = r.calls; whole = refl; counted = r.counted; small = r.small; placed = r.placed; well = r.well; each = r.each; ended_still = λ e. (r.at_end e).1 };
     after = refills_after has_more r;
   }
 
 -- the source has ended
-module _ {R : Type 0} (gives : R → List ℕ → R → Type 0) (ended : R → Type 0) (failed : R → Bool) (old new : AtHand R) (source : new.source ≡ old.source) (reads : new.reads ≡ old.reads) (same : new.has_ended ≡ old.has_ended) where
+module _ {R : Type 0} (gives : R → List ℕ → R → Type 0) (ended : R → Type 0) (failed : R → Bool) (old new : AtHand R) (source : new.source ≡ old.source) (reads : new.reads ≡ old.reads) (same : new.has_ended ≡ old.has_ended)
+    (placed : new.used + length (unread new) ≡ old.used + length (unread old)) where
   pub none_refilled : new.has_ended ≡ true → (old.has_ended ≡ true → ended old.source) → length (unread new) ≡ 0 → Refilled gives ended failed old new (Ok false)
   none_refilled e so none = record {
     pieces = [];
     calls = sym source;
     counted = omega (arith, reads);
     small = omega arith;
+    placed = omega (arith, placed);
     well = ap failed source;
     at_end = λ h. (refl, e);
     each = λ h. tt;
@@ -74,7 +82,7 @@ module _ {R : Type 0} (gives : R → List ℕ → R → Type 0) (ended : R → T
       → texts.Keeps (brings gives failed) unread (has_all gives failed) (ends_truly gives failed ended) (size_at_hand gives failed) left old new
   keeps left kept so len = record {
     kept = kept;
-    came = came_none gives failed old new source reads same;
+    came = came_none gives failed old new source reads same placed;
     at_end = λ e. same ∙ e;
     not_yet = λ e. sym same ∙ e;
     sound_still = λ e. subst ended (sym source) (so (sym same ∙ e));

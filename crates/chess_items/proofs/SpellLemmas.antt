@@ -6,12 +6,12 @@ use Rattle.chess_items.specs.steps.ItemAt.{item_at}
 use Rattle.chess_items.proofs.ItemLemmas.{item_goes}
 use Rattle.chess_items.proofs.FoundLemmas.{the, some_is}
 
--- the place behind items
+-- the place after items
 abbrev pub place_behind : Place → List Item → Place
 place_behind place [] = place
 place_behind place (item ∷ items) = place_behind (place_after place item) items
 
--- the first item is found at the front
+-- the first item is found at the beginning
 pub first_found : (place : Place) (input : List ℕ) (item : Item) (items : List Item) (rest : List ℕ) → (s : Spells place input (item ∷ items) rest) → item_at place input ≡ the item s.1
 first_found place input item items rest s = ap (item_at place) s.2 ∙ item_goes place item s.0 s.1 s.3
 
@@ -30,7 +30,7 @@ one_spelling place input (i ∷ is) (j ∷ js) r q s t le =
     let c = one_spelling (place_after place i) s.1 is js r q s.4 t2 (omega arith) in
     (c.0, conses i j js (is ++ c.0) ei c.1, c.2)
 
--- items, and more behind them
+-- items, and more after them
 pub spells_on : (place : Place) (input : List ℕ) (is js : List Item) (mid rest : List ℕ) → Spells place input is mid → Spells (place_behind place is) mid js rest → Spells place input (is ++ js) rest
 spells_on place input [] js mid rest s t = subst (λ (z : List ℕ). Spells place z js rest) (sym s) t
 spells_on place input (i ∷ is) js mid rest s t = (s.0, s.1, s.2, s.3, spells_on (place_after place i) s.1 is js mid rest s.4 t)

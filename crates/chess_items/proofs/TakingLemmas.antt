@@ -32,7 +32,7 @@ pub white-more : (items : List (ℕ × Item)) (x : ℕ × Item) → all_white (i
 white-more [] x = white_one (is_white x.1)
 white-more (y ∷ items) x = ap (λ (b : Bool). is_white y.1 && b) (white-more items x) ∙ white_more (is_white y.1) (all_white items) (is_white x.1)
 
--- one item more, behind as many bytes as were before it
+-- one item more, after as many bytes as were before it
 pub spells_more : (at : ℕ) (place : Place) (input : List ℕ) (items : List (ℕ × Item)) (mid : List ℕ) (item : Item) (next : List ℕ) (here : ℕ) → here + length mid ≡ at + length input → SpellsFrom at place input items mid
     → Taken (behind place items) mid item next → SpellsFrom at place input (items ++ (here, item) ∷ []) next
 spells_more at place input [] mid item next here n s t = (t.0, next, s ∙ t.1, (let l = ap length s in omega (arith, n, l)), t.2, refl)

@@ -47,7 +47,7 @@ feed_blank b e = rw (eqb-true b 10 e) refl
 blank_item : (place : Place) (b : ℕ) (bytes : List ℕ) → is_outside place ≡ true → is_blank b ≡ true → IsItem place (Blank b) (b ∷ []) bytes
 blank_item place b bytes out e = record { stands = rw out refl; spelled = (e, refl) }
 
--- a byte of white space in front
+-- a byte of white space first
 blank_white : (at : ℕ) (place : Place) (b : ℕ) (bytes : List ℕ) (v : Bool) → is_outside place ≡ true → is_blank b ≡ true → eqb b 10 ≡ v → AreWhite (at + 1) (cond v LineStart InLine) bytes → AreWhite at place (b ∷ bytes)
 blank_white at place b bytes v out blank e w =
     let there : behind_blank (is_in_tag place) (eqb b 10) ≡ cond v LineStart InLine = ap (behind_blank (is_in_tag place)) e ∙ after_blank place v out in (
@@ -65,7 +65,7 @@ space_white at place b bytes out e blank seen = blank_white at place b bytes fal
 hidden_stands : (place : Place) (line next : List ℕ) → starts_line place ≡ true → IsToLineEnd line next → IsItem place Hidden (37 ∷ line) next
 hidden_stands place line next starts l = record { stands = starts; spelled = (line, refl, l) }
 
--- a hidden line in front
+-- a hidden line first
 hidden_white : (at : ℕ) (place : Place) (b : ℕ) (bytes : List ℕ) → is_outside place ≡ true → starts_line place ≡ true → eqb b 37 ≡ true → Rest bytes → AreWhite at place (b ∷ bytes)
 hidden_white at place b bytes out starts e r =
     let text = 37 ∷ r.line in

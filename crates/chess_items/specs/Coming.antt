@@ -1,5 +1,6 @@
 -- Bytes that come from a source and are at hand.
---   AtHand  a source, its bytes that were read and not used, whether its end was seen, and how many more reads there may be
+--   AtHand  a source, its bytes that were read and not used, whether its end was seen, how many more reads there may be, and how many of
+--           its bytes were used
 --   Came    reads of at most 65,536 bytes each gave these bytes, and none of them failed; before the end each gave a byte
 --   Breaks  the next read failed, or there may be no more: of a new source, 2^40 were made
 use Rattle.std.specs.Prelude.{◌≡◌, ◌⊎◌, ◌<◌, ◌≤◌, ℕ, ◌+◌, ◌*◌, Bool, true, false, List, [], length}
@@ -11,17 +12,19 @@ pub record AtHand (R : Type 0) : Type 0 where
   pub bytes : List ℕ
   pub has_ended : Bool
   pub reads : ℕ
+  pub used : ℕ
 
 abbrev pub unread : {R : Type 0} → AtHand R → List ℕ
 unread h = h.bytes
 
--- there may be as many reads fewer
+-- there may be as many reads fewer, and each byte that came is used or at hand
 pub record Came {R : Type 0} (gives : R → List ℕ → R → Type 0) (failed : R → Bool) (old : AtHand R) (bytes : List ℕ) (new : AtHand R) : Type 0 where
   pub pieces : List (List ℕ)
   pub calls : Calls gives old.source pieces new.source
   pub whole : joined pieces ≡ bytes
   pub counted : new.reads + length pieces ≡ old.reads
   pub small : length bytes ≤ 65536 * length pieces
+  pub placed : new.used + length (unread new) ≡ old.used + length (unread old) + length bytes
   pub well : failed new.source ≡ failed old.source
   pub each : new.has_ended ≡ false → AllByRecursion (λ piece. 0 < length piece) pieces
   pub ended_still : old.has_ended ≡ true → new.has_ended ≡ true

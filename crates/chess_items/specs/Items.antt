@@ -1,10 +1,10 @@
 -- What a text in portable game notation is made of (PGN 7).
 --   Item         a token, or what stands between tokens
 --   may_stand    the items that may stand at a place: outside of tags, between the parts of a tag, or in its value
---   place_after  the place behind an item
+--   place_after  the place after an item
 --   is_white     the items that make no game
 --   IsItem       the item that a text spells, at a place and before what follows
---   Spells       the items that the front of a text spells, one after another, and the rest
+--   Spells       the items that the beginning of a text spells, one after another, and the rest
 -- A word, a line, a stretch of a value and the like are longest runs: that no item is cut short is said of the bytes that follow it.
 use Rattle.std.specs.Prelude.{◌≡◌, ◌≢◌, ◌⊎◌, ◌<◌, ℕ, ◌+◌, ◌*◌, ◌-◌, ◌==◌, nat_le, ◌&&◌, ◌||◌, not, if◌then◌else◌, Bool, true, false, List, [], ◌∷◌, ◌++◌, map, Option, Some, None, codes, bytes_eq, ⊤}
 use Rattle.std.specs.List.{AllByRecursion, list_all}
@@ -21,7 +21,7 @@ pub data Item : Type 0 where
   Blank : ℕ → Item
   -- a % in the first column, and the line that it hides (PGN 6)
   Hidden : Item
-  -- a comment's text, behind a ; or between braces (PGN 5)
+  -- a comment's text, after a ; or between braces (PGN 5)
   Comment : List ℕ → Item
   -- a move number, or a period (PGN 8.2.2)
   Skipped : Item
@@ -39,7 +39,7 @@ pub data Item : Type 0 where
   TagClose : Item
   Name : List ℕ → Item
   Quote : Item
-  -- a stretch of its value as it stands, and a quotation mark or a backslash behind a backslash
+  -- a stretch of its value as it stands, and a quotation mark or a backslash after a backslash
   Stretch : List ℕ → Item
   Escaped : ℕ → Item
 
@@ -83,7 +83,7 @@ is_plain b = not (b == byte "\"" || b == byte "\\" || b == 10)
 
 -- ---- texts
 
--- the number that digits spell, behind digits that spell the first number
+-- the number that digits spell, after digits that spell the first number
 abbrev pub digits_value : ℕ → List ℕ → ℕ
 digits_value n [] = n
 digits_value n (d ∷ ds) = digits_value (10 * n + (d - byte "0")) ds
@@ -100,7 +100,7 @@ word_item text =
     if list_all is_digit text then Skipped
     else (if bytes_eq text (codes "1-0") then Marker WhiteWins else (if bytes_eq text (codes "0-1") then Marker BlackWins else (if bytes_eq text (codes "1/2-1/2") then Marker Draw else Word text)))
 
--- a byte of a comment behind a ;, which might stand between braces
+-- a byte of a comment after a ;, which might stand between braces
 abbrev pub without_brace : ℕ → ℕ
 without_brace b = if b == byte "}" then byte ")" else b
 
@@ -150,7 +150,7 @@ may_stand place Quote = is_in_tag place || is_in_value place
 may_stand place (Stretch text) = is_in_value place
 may_stand place (Escaped b) = is_in_value place
 
--- behind a byte of white space, outside of tags and between the parts of one
+-- after a byte of white space, outside of tags and between the parts of one
 abbrev pub behind_blank : Bool → Bool → Place
 behind_blank false true = LineStart
 behind_blank false false = InLine

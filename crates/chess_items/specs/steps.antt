@@ -8,3 +8,4 @@ pub mod Texts
 pub mod Taking
 pub mod Skipping
 pub mod Passing
+pub mod Seeking

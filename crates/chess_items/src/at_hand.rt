@@ -1,10 +1,11 @@
 //! Bytes of a source that are at hand.
 
-ghost use Rattle.std.specs.Prelude.{◌≡◌, ◌<◌, ◌≤◌, ℕ, List, [], ◌++◌, true, false, length, drop, vec_len, IfOk, IfErr};
+ghost use Rattle.std.specs.Prelude.{◌≡◌, ◌<◌, ◌≤◌, ◌+◌, ℕ, List, [], ◌++◌, true, false, length, drop, vec_len, IfOk, IfErr};
 ghost use Rattle.chess_items.specs.declared.at_hand.Fault.TheVariants.{Memory};
 
 use crate::cut::is_undecided;
 use crate::place::Place;
+use crate::sections::{Feeds, find_section};
 use chess_types::Source;
 use std::alloc::{AllocError, Allocator};
 use std::marker::Model;
@@ -18,13 +19,15 @@ pub enum Fault {
     Read,
 }
 
-/// A source, with the bytes that were read and are not used yet. Contracts see both, whether its end was seen, and how many more reads
-/// there may be.
+/// A source, with the bytes that were read and are not used yet. Contracts see both, whether its end was seen, how many more reads there
+/// may be, and how many of its bytes were used.
 #[derive(Drop)]
 pub struct AtHand<'a, R, A: Allocator> {
     source: R,
     bytes: Vec<u8, &'a A>,
     used: usize,
+    /// How many bytes came before those.
+    dropped: u64,
     has_ended: bool,
     reads: u64,
     /// Empty before the first read.
@@ -32,14 +35,15 @@ pub struct AtHand<'a, R, A: Allocator> {
 }
 
 impl<'a, R, A: Allocator> Model for AtHand<'a, R, A> {
-    ghost use Rattle.std.specs.Prelude.{◌≤◌, drop, vec_len};
+    ghost use Rattle.std.specs.Prelude.{◌+◌, ◌*◌, ◌≤◌, drop, vec_len};
     ghost use Rattle.chess_items.specs.Coming as coming;
 
     ghost Value = { coming.AtHand R };
 
-    ghost view = { λ h. record { source = h.source; bytes = drop h.used h.bytes.items; has_ended = h.has_ended; reads = h.reads } };
+    ghost view = { λ h. record { source = h.source; bytes = drop h.used h.bytes.items; has_ended = h.has_ended; reads = h.reads; used = h.dropped + h.used } };
 
-    ghost invariant = { λ h. (h.used ≤ vec_len h.bytes) × (vec_len h.buffer ≤ 65536) };
+    // 2^56: of a new source, 2^40 reads of 65,536 bytes
+    ghost invariant = { λ h. (h.used ≤ vec_len h.bytes) × (vec_len h.buffer ≤ 65536) × (h.dropped + vec_len h.bytes + 65536 * h.reads ≤ 72057594037927936) };
 }
 
 /// The most bytes of a read.
@@ -81,6 +85,8 @@ fn make_buffer<A: Allocator>(alloc: A, buffer: &mut Vec<u8, A>) -> Result<(), Fa
 
 impl<'a, R: Source, A: Allocator> AtHand<'a, R, A> {
     ghost use Rattle.chess_items.specs.Coming.{Breaks, Came, unread};
+    ghost use Rattle.chess_items.specs.Sections.{PassesOver};
+    ghost use Rattle.chess_items.specs.steps.Seeking.{Prolonged, ReadBreaks, SeekBreaks};
     ghost use Rattle.chess_items.specs.steps.AtHands.{Readied, Refilled, Tries};
     ghost use Rattle.chess_items.specs.steps.Texts.{BreaksAt, BreaksOff};
 
@@ -90,11 +96,13 @@ impl<'a, R: Source, A: Allocator> AtHand<'a, R, A> {
         ensures goes_on { result.has_ended ≡ false }
         ensures source { result.source ≡ source }
         ensures reads { result.reads ≡ 1099511627776 }
+        ensures used { result.used ≡ 0 }
     {
         AtHand {
             source,
             bytes: Vec::new(alloc),
             used: 0,
+            dropped: 0,
             has_ended: false,
             reads: 1 << 40,
             buffer: Vec::new(alloc),
@@ -117,6 +125,7 @@ impl<'a, R: Source, A: Allocator> AtHand<'a, R, A> {
             source,
             bytes: _,
             used: _,
+            dropped: _,
             has_ended: _,
             reads: _,
             buffer: _,
@@ -138,6 +147,13 @@ impl<'a, R: Source, A: Allocator> AtHand<'a, R, A> {
         self.reads
     }
 
+    /// How many bytes were used.
+    pub fn used(&self) -> u64
+        ensures { result ≡ self.now.used }
+    {
+        self.dropped + self.used as u64
+    }
+
     /// Uses the first bytes, all but `left`.
     #[inline(always)]
     pub fn keep(&mut self, left: usize)
@@ -147,6 +163,7 @@ impl<'a, R: Source, A: Allocator> AtHand<'a, R, A> {
         ensures ended { self.new.has_ended ≡ self.old.has_ended }
         ensures reads { self.new.reads ≡ self.old.reads }
         ensures len { length (unread self.new) ≡ left }
+        ensures used { self.new.used + left ≡ self.old.used + length (unread self.old) }
     {
         self.used = self.bytes.len() - left;
     }
@@ -161,6 +178,7 @@ impl<'a, R: Source, A: Allocator> AtHand<'a, R, A> {
             return Err(fault);
         }
         drop_front(&mut self.bytes, self.used);
+        self.dropped += self.used as u64;
         self.used = 0;
         self.reads -= 1;
         match self.source.read(self.buffer.as_mut_slice()) {
@@ -170,13 +188,16 @@ impl<'a, R: Source, A: Allocator> AtHand<'a, R, A> {
             }
             Ok(count) => match self.bytes.extend_from_slice(&self.buffer[..count]) {
                 Ok(()) => Ok(()),
-                Err(_) => Err(Fault::Memory),
+                Err(_) => {
+                    self.dropped += count as u64;
+                    Err(Fault::Memory)
+                }
             },
             Err(_) => Err(Fault::Read),
         }
     }
 
-    /// Reads until the bytes at hand decide the item at their front, or the source has ended. False where more than `most` bytes are at
+    /// Reads until the bytes at hand decide the item that they begin with, or the source has ended. False where more than `most` bytes are at
     /// hand and don't decide it.
     pub fn read_until_decided(&mut self, place: Place, most: usize) -> Result<bool, Fault>
         requires ended { self.old.has_ended ≡ true → R.ended self.old.source }
@@ -216,5 +237,52 @@ impl<'a, R: Source, A: Allocator> AtHand<'a, R, A> {
             return Err(fault);
         }
         Ok(!self.is_at_end())
+    }
+
+    // Reads once, and keeps what is at hand. False where the source has ended.
+    fn read_more(&mut self) -> Result<bool, Fault>
+        requires ended { self.old.has_ended ≡ true → R.ended self.old.source }
+        ensures prolonged { Prolonged R.gives R.ended R.failed self.old self.new result }
+        ensures broken { IfErr result (λ fault. ReadBreaks R.gives R.failed self.old self.new fault) }
+    {
+        if self.is_at_end() {
+            return Ok(false);
+        }
+        if self.reads_left() == 0 {
+            return Err(Fault::Read);
+        }
+        if let Err(fault) = self.read_on() {
+            return Err(fault);
+        }
+        Ok(!self.is_at_end())
+    }
+
+    /// Uses all bytes before the first section of tags, or all that come where there is none, and returns how many they are. Reads where
+    /// none begins among the bytes at hand, and keeps no more than one piece and one byte.
+    pub fn pass_to_section(&mut self) -> Result<u64, Fault>
+        requires ended { self.old.has_ended ≡ true → R.ended self.old.source }
+        ensures passes { IfOk result (λ count. PassesOver R.gives R.failed self.old self.new count) }
+        ensures used { IfOk result (λ count. self.new.used ≡ self.old.used + count) }
+        ensures ended { IfOk result (λ _. self.new.has_ended ≡ true → R.ended self.new.source) }
+        ensures broken { IfErr result (λ fault. SeekBreaks R.gives R.failed self.old self.new fault) }
+    {
+        let from = self.used();
+        let mut feeds = Feeds::More;
+        loop {
+            let search = find_section(self.unread(), feeds);
+            self.keep(search.left);
+            if search.left > 1 {
+                return Ok(self.used() - from);
+            }
+            feeds = search.feeds;
+            match self.read_more() {
+                Err(fault) => return Err(fault),
+                Ok(true) => {}
+                Ok(false) => {
+                    self.keep(0);
+                    return Ok(self.used() - from);
+                }
+            }
+        }
     }
 }

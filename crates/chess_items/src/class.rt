@@ -87,7 +87,7 @@ impl Class {
         CLASSES[usize::from(b)] & self.bit() != 0
     }
 
-    /// The length of the longest run at the front.
+    /// The length of the longest run at the beginning.
     #[inline(always)]
     pub fn run_len(self, bytes: &[u8]) -> usize
         ensures run { result ≡ prefix_len (has_byte self) bytes.now }

@@ -1,4 +1,4 @@
-//! Whether bytes at hand decide the item at their front.
+//! Whether bytes at hand decide the item that they begin with.
 
 ghost use Rattle.std.specs.Prelude.{◌≡◌, ◌≤◌, ◌<◌, true, take, length, nat_lt, MatchBool};
 ghost use Rattle.std.specs.List.{list_all};
@@ -99,7 +99,7 @@ fn is_value_open(bytes: &[u8], looked: usize) -> bool
     }
 }
 
-// Behind the first byte of a mark.
+// After the first byte of a mark.
 fn is_mark_open(rest: &[u8]) -> bool
     ensures { result ≡ mark_open rest.now }
 {
@@ -126,7 +126,7 @@ fn is_start_open(bytes: &[u8], looked: usize) -> bool
     is_outside_open(true, bytes, looked)
 }
 
-// Whether the item at the front reaches the end of the bytes and may go on, where it does in the first `looked`.
+// Whether the first item reaches the end of the bytes and may go on, where it does in the first `looked`.
 #[tactic(auto, unfolding(crate::specs::steps::Deciding::is_open))]
 fn reaches_end(place: Place, bytes: &[u8], looked: usize) -> bool
     requires within { looked ≤ length bytes.now }
@@ -143,7 +143,7 @@ fn reaches_end(place: Place, bytes: &[u8], looked: usize) -> bool
     }
 }
 
-/// Whether more bytes may change the item at the front, where they may for the first `looked`.
+/// Whether more bytes may change the first item, where they may for the first `looked`.
 pub fn is_undecided(place: Place, bytes: &[u8], looked: usize) -> bool
     requires within { looked ≤ length bytes.now }
     requires looked { Decides place (take looked bytes.now) → ⊥ }

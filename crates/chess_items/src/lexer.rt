@@ -31,7 +31,7 @@ fn word_token(text: &[u8]) -> Token<'_>
     let Some((&first, _)) = text.split_first() else {
         return Token::Skipped;
     };
-    // No number and no marker begins so: a move's text is told by its first byte.
+    // No number and no marker begins so: a move's text is known by its first byte.
     if !Class::Digit.has(first) {
         return Token::Word(text);
     }
@@ -81,7 +81,7 @@ pub fn digits_value(digits: &[u8]) -> Option<u8>
     u8::try_from(n).ok()
 }
 
-// A line that % hides, behind the %.
+// A line that % hides, after the %.
 #[tactic(auto, unfolding(crate::specs::steps::ItemAt::run_at))]
 fn hidden(start: bool, bytes: &[u8]) -> Option<(Token<'_>, &[u8])>
     ensures { found result ≡ hidden_at start bytes.now }
@@ -168,7 +168,7 @@ fn in_tag(start: bool, bytes: &[u8]) -> Option<(Token<'_>, &[u8])>
     }
 }
 
-// In a tag's value, behind a backslash.
+// In a tag's value, after a backslash.
 fn escaped(rest: &[u8]) -> (Token<'_>, &[u8])
     ensures { found (Some result) ≡ escaped_at rest.now }
 {
@@ -195,7 +195,7 @@ fn in_value(bytes: &[u8]) -> Option<(Token<'_>, &[u8])>
     }
 }
 
-// A mark, behind its first byte.
+// A mark, after its first byte.
 fn mark(rest: &[u8]) -> Option<(Token<'_>, &[u8])>
     ensures { found result ≡ mark_at rest.now }
 {
@@ -218,7 +218,7 @@ fn at_start(bytes: &[u8]) -> Option<(Token<'_>, &[u8])>
     }
 }
 
-/// The item at the front of a text, and what follows it; `None` where there is none, or its end is missing.
+/// The first item of a text, and what follows it; `None` where there is none, or its end is missing.
 #[tactic(auto, unfolding(crate::specs::steps::ItemAt::item_at))]
 #[inline(always)]
 pub fn item(place: Place, bytes: &[u8]) -> Option<(Token<'_>, &[u8])>

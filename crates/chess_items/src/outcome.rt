@@ -1,4 +1,4 @@
-/// How a game ended, as far as its text tells (PGN 8.2.6).
+/// How a game ended, as far as its text says (PGN 8.2.6).
 #[derive(Clone, Copy, Debug, PartialEq, Eq)]
 pub enum Outcome {
     /// `1-0`

@@ -1,4 +1,4 @@
-//! Taking the items of a text, and passing over what is white behind the limit.
+//! Taking the items of a text, and passing over what is white after the limit.
 
 ghost use Rattle.std.specs.Prelude.{IfErr, IfOk};
 ghost use Rattle.chess_items.specs.steps.Passing.{PassBreaks, Passes};
@@ -9,7 +9,7 @@ use crate::taker::Taker;
 use crate::taking::{Stop, Stopped, run};
 use crate::text::Text;
 
-/// Takes items as `run` does; white space and hidden lines behind the limit are passed over where nothing else has come. `None` where
+/// Takes items as `run` does; white space and hidden lines after the limit are passed over where nothing else has come. `None` where
 /// nothing else comes at all.
 pub fn pass<X: Text, T: Taker>(
     text: &mut X,

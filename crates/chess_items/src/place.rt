@@ -3,11 +3,11 @@
 pub enum Place {
     /// Where the reading of a game begins.
     GameStart,
-    /// Right behind a line feed.
+    /// Right after a line feed.
     LineStart,
     /// Elsewhere outside of tags.
     InLine,
-    /// Right behind a line feed between the parts of a tag.
+    /// Right after a line feed between the parts of a tag.
     TagLineStart,
     /// Elsewhere between the parts of a tag.
     InTag,

@@ -12,7 +12,7 @@ pub enum Taken {
     GoesOn,
     /// It is used, and is the last one.
     Ends,
-    /// It isn't used: all ended in front of it.
+    /// It isn't used: all ended before it.
     Leaves,
 }
 

@@ -20,7 +20,7 @@ use crate::token::Token;
 pub enum Stop {
     /// The last item is used.
     Full,
-    /// The next item isn't used: all ended in front of it.
+    /// The next item isn't used: all ended before it.
     Left,
     /// The next item is refused, with this fault.
     Refused(PgnFault),
@@ -43,7 +43,7 @@ pub struct Stopped {
     pub white: bool,
 }
 
-/// What becomes of one item: it is used, with its place behind it, its length and whether it is white, or it is where all stops.
+/// What becomes of one item: it is used, with its place after it, its length and whether it is white, or it is where all stops.
 #[derive(Clone, Copy)]
 enum Step {
     On(Place, usize, bool),
@@ -71,7 +71,7 @@ fn exceeds(place: Place, bytes: &[u8], most: usize) -> bool
     is_undecided(place, &bytes[..most + 1], 0)
 }
 
-// Offers an item of so many bytes, which may be at most `most`. A bracket is offered even behind the limit, since it may be left.
+// Offers an item of so many bytes, which may be at most `most`. A bracket is offered even after the limit, since it may be left.
 #[inline(always)]
 fn offer<T: Taker>(taker: &mut T, at: usize, token: Token<'_>, used: usize, most: usize) -> Answer
     ensures { Offered T.takes at (item_of token.entry) used most taker.old taker.new result }
@@ -159,7 +159,7 @@ fn take_read<X: Text, T: Taker>(
     Ok(settle(text, answer, next, used, white, left))
 }
 
-// Takes one item, of at most `most` bytes. Where a byte is at hand behind the item at the front, no read can change it, and it is taken at
+// Takes one item, of at most `most` bytes. Where a byte is at hand after the first item, no read can change it, and it is taken at
 // once: so the bytes of nearly all items are looked at once.
 #[inline(always)]
 fn take_one<X: Text, T: Taker>(

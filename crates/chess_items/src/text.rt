@@ -26,7 +26,7 @@ pub trait Text {
     /// Falls with each byte used, and doesn't grow with the bytes that come.
     ghost size: { Self → ℕ };
 
-    /// Lets bytes come until those at hand decide the item at their front, or all have come. False where more than `most` are at hand
+    /// Lets bytes come until those at hand decide the item that they begin with, or all have come. False where more than `most` are at hand
     /// and don't decide it.
     fn ready(&mut self, place: Place, most: usize) -> Result<bool, Fault>
         requires { sound self.old }

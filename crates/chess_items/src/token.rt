@@ -34,7 +34,7 @@ pub enum Token<'t> {
     Quote,
     /// A stretch of a tag's value.
     Stretch(&'t [u8]),
-    /// The same, a quotation mark or backslash that was behind a backslash.
+    /// The same, a quotation mark or backslash that was after a backslash.
     Escaped(u8),
 }
 
@@ -53,7 +53,7 @@ impl Token<'_> {
 }
 
 impl Place {
-    /// The place behind a token that stands here.
+    /// The place after a token that stands here.
     #[inline(always)]
     pub fn after(self, token: Token<'_>) -> Place
         ensures { result ≡ place_after self (item_of token.entry) }

@@ -1,4 +1,4 @@
--- What the texts of moves tell (PGN 8.2.3).
+-- What the texts of moves say (PGN 8.2.3).
 --   OneTextOneMove   two legal moves of a position with the same text are one move
 --   TextsAreShort    no text has more than seven letters, the mark of check or mate among them
 use Rattle.std.specs.Prelude.{◌≡◌, ◌≤◌, length}

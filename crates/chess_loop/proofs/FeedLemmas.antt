@@ -76,7 +76,7 @@ module _ {S W : Type 0} (step cut : S → List ℕ → List (List ℕ) → S →
         },
       )
 
-  -- the line that ends next, and those behind it
+  -- the line that ends next, and those after it
   line_next : (old now : S) (line : LineSoFar) (w0 w1 : W) (page rest front : List ℕ) (at : ℕ)
       → (going : Going step over takes failed begun piece old now line w0 page w1 rest)
       → IsFirstByte (is_byte 10) rest (Some at)
@@ -223,7 +223,7 @@ module _ {S W : Type 0} (step cut : S → List ℕ → List (List ℕ) → S →
       )
 
 module _ {S W : Type 0} (step cut : S → List ℕ → List (List ℕ) → S → Type 0) (takes : W → List ℕ → W → Type 0) (failed : W → Bool) where
-  -- what stands behind the last line feed is a line, unless it is nothing
+  -- what comes after the last line feed is a line, unless it is nothing
   one_last : (bytes : List ℕ) → (length bytes == 0) ≡ false → last_line bytes ≡ bytes ∷ []
   one_last [] some = absurd (true≢false some)
   one_last (b ∷ bytes) some = refl

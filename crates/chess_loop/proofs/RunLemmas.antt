@@ -1,4 +1,4 @@
--- Runs go on by runs, and are told by other steps.
+-- Runs go on by runs, and are given by other steps.
 use Rattle.std.proofs.Common.{ℕ, List, [], ◌∷◌, ◌++◌, refl, sym, ap, ◌∙◌, subst, append_assoc, append-nil}
 use Rattle.chess_types.specs.bytes.Calls.{joined}
 use Rattle.chess_loop.specs.Runs.{Runs, InOne, Whole, Counted}

@@ -2,14 +2,14 @@
 -- text, from which state to which, and the states in which it takes no more lines.
 --   most_reads       the most reads of a run
 --   never            of an engine that takes lines to the end of the input
---   IsFront          these lines, and others behind them, are those
+--   IsFront          these lines, and others after them, are those
 --   Awaited          which lines are answered from one read to the next: those that end in the piece, or at the end of the input the last
---   Broken           a call failed, after a front of the text was written; it was the last
+--   Broken           a call failed, after a prefix of the text was written; it was the last
 --   EndsGood         the whole input was read, and the answers to its lines are written; no call failed
 --   EndsOver         the engine takes no more lines: those up to then are answered, no call failed, and nothing was read after them
 --   EndsReadFault    a read failed, and nothing was read after it, or there were as many reads as there may be: the lines that had ended are answered
 --   EndsWriteFault   a write failed or took no byte, and nothing was read or written after it: what was read before the last read is answered, and a
---                    front of the answers to what came last is written
+--                    prefix of the answers to what came last is written
 -- Nothing is read once the engine takes no more lines.
 use Rattle.std.specs.Prelude.{◌≡◌, ℕ, ◌<◌, Bool, true, false, ◌⊎◌, List, [], ◌∷◌, ◌++◌, length}
 use Rattle.std.specs.List.{AllByRecursion}
@@ -71,7 +71,7 @@ module _ {S R W : Type 0} (runs : S → List (List ℕ) → List ℕ → S → T
     pub well_written : write_failed w' ≡ false
 
   -- A write failed or took no byte, the last call. Of the answers to the lines that had ended before the last read all is written; of those
-  -- that came with it a front. `partly` says which text may answer these, and which rest of it may be unwritten.
+  -- that came with it a prefix. `partly` says which text may answer these, and which rest of it may be unwritten.
   pub record EndsWriteFault (partly : S → List (List ℕ) → List ℕ → List ℕ → S → Type 0) (ended : R → Type 0) (state : S) (r r' : R) (w w' : W) : Type 0 where
     pub pieces : List (List ℕ)
     pub piece : List ℕ

@@ -99,7 +99,7 @@ fn feed<E: Engine, A: Allocator, W: Sink>(
     page.flush(writer)
 }
 
-// Answers what stands behind the last line feed, and writes the answer.
+// Answers what comes after the last line feed, and writes the answer.
 fn finish<E: Engine, A: Allocator, W: Sink>(
     engine: &mut E,
     line: &mut Unfinished<A>,

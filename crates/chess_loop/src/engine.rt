@@ -20,7 +20,7 @@ pub trait Engine {
     /// No further line is taken.
     ghost over: { Self → Bool };
 
-    /// Answers the line behind what stands on the page, where there is room for 2,600 bytes. A longer text is written on the way.
+    /// Answers the line after what is on the page, where there is room for 2,600 bytes. A longer text is written on the way.
     fn answer<A: Allocator, W: Sink>(
         &mut self,
         line: &Unfinished<A>,

@@ -1,6 +1,6 @@
 //! Lines in, answers out: the loop over a reader and a writer, for any engine that answers lines.
 //!
-//! An `Engine` tells which text may answer a line, and which state follows; `run` cuts what the reader gives into lines, lets the engine answer them and
+//! An `Engine` says which text may answer a line, and which state follows; `run` cuts what the reader gives into lines, lets the engine answer them, and
 //! writes the answers, those to the lines of one read before the next. Its contract says how a run ends, from bytes to bytes (`specs/RunEnds.antt`).
 #![tactic(auto)]
 

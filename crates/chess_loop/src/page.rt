@@ -38,7 +38,7 @@ impl<A: Allocator> Page<A> {
         Ok(Page { bytes })
     }
 
-    /// Puts the text behind what stands there.
+    /// Puts the text after what stands there.
     pub fn put(&mut self, text: &[u8])
         requires { length self.old + length text.now ≤ 65536 }
         ensures { self.new ≡ self.old ++ text.now }

@@ -19,8 +19,8 @@ fn last_squares(side: Colour) -> SquareSet
     ensures { (s : ℕ) → contains result s ≡ (nat_lt s 64 && rank_of s == last_rank side) }
 {
     match side {
-        Colour::White => SquareSet::from_bits(0xff00000000000000),
-        Colour::Black => SquareSet::from_bits(0xff),
+        Colour::White => SquareSet::rank(7),
+        Colour::Black => SquareSet::rank(0),
     }
 }
 

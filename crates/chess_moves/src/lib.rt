@@ -14,7 +14,7 @@ mod listing;
 mod own;
 mod targets;
 
-pub use check::in_check;
+pub use check::{gives_check, in_check};
 pub use counting::{count_legal, has_legal};
 pub use legal::is_legal;
 pub use listing::{moves, moves_into};

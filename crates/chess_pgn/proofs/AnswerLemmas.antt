@@ -73,7 +73,7 @@ module _ {R : Type 0} (gives : R → List ℕ → R → Type 0) (failed : R → 
   source_fault (Pgn fault) (Pgn placed) (inl k) e =
       inl (e ∙ k.0, record { bytes = joined k.1.pieces; came = all_came gives failed old new k.1.pieces k.1.came; still = λ h. let s = k.1.still h in (s.0, s.2 s.1) })
   source_fault (Pgn fault) (Pgn placed) (inr h) e =
-      inr (record { bytes = joined h.pieces; came = all_came gives failed old new h.pieces h.came; told = h.sound_still; none = h.none; dark = h.dark; still = h.still })
+      inr (record { bytes = joined h.pieces; came = all_came gives failed old new h.pieces h.came; text = h.text; parts = h.parts; told = h.sound_still; none = h.none; dark = h.dark; still = h.still })
   source_fault (Pgn fault) Read h e = absurd e
   source_fault Read (Pgn placed) h e = absurd e
   source_fault Read Read h e = record { bytes = joined h.pieces; before = h.mid; came = all_came gives failed old h.mid h.pieces h.came; breaks = h.breaks_off; not_ended = not_true h.mid.has_ended h.not_all; none = h.none }

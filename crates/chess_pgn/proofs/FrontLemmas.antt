@@ -150,7 +150,7 @@ module _ {A : Type 0} (is : List Item) (game : Game A) (old : Reader A) (f : Fin
 -- ---- the text
 
 -- the bytes of the items, and the rest
-spelled_front : (at : ℕ) (place : Place) (input : List ℕ) (is : List (ℕ × Item)) (rest : List ℕ) → SpellsFrom at place input is rest → (text : List ℕ) × (input ≡ text ++ rest)
+pub spelled_front : (at : ℕ) (place : Place) (input : List ℕ) (is : List (ℕ × Item)) (rest : List ℕ) → SpellsFrom at place input is rest → (text : List ℕ) × (input ≡ text ++ rest)
 spelled_front at place input [] rest s = ([], s)
 spelled_front at place input (x ∷ is) rest s =
     let f = spelled_front (at + length s.0) (place_after place x.1) s.1 is rest s.5 in

@@ -47,3 +47,4 @@ pub mod StartReadLemmas
 pub mod SoundItemLemmas
 pub mod SoundMoveLemmas
 pub mod AgainLemmas
+pub mod UsualLemmas

@@ -1,6 +1,7 @@
 -- Games of a whole text, and of a source.
-use Rattle.std.proofs.Common.{◌≡◌, ℕ, ◌+◌, ◌*◌, ◌≤◌, ◌<◌, Bool, true, false, List, [], ◌∷◌, ◌++◌, length, refl, sym, subst, ap, ◌∙◌, arith, append-nil, length-append}
+use Rattle.std.proofs.Common.{◌≡◌, ℕ, ◌≤◌, ◌<◌, Bool, true, false, List, [], ◌∷◌, ◌++◌, length, refl, sym, subst, ap, ◌∙◌, arith, append-nil, length-append}
 use Rattle.std.specs.List.{list_all}
+use mathlib.Core.Logic.{inl, inr}
 use Rattle.std.specs.Prelude.{Result, Ok, Option, Some, None, IfSome}
 use Rattle.chess_types.specs.bytes.Calls.{Calls, joined}
 use Rattle.chess_items.specs.Items.{Item, Spells, is_white, place_after}
@@ -11,10 +12,12 @@ use Rattle.chess_items.proofs.BreakLemmas.{all_came, brings, has_all}
 use Rattle.chess_items.proofs.LocalLemmas.{text_shorter}
 use Rattle.chess_pgn.specs.Games as games
 use Rattle.chess_pgn.specs.Reading.{IsAtFront, IsWhite}
-use Rattle.chess_pgn.specs.Sources.{Games, HasGame, HasNone, IsSound, NextGame}
+use Rattle.chess_pgn.specs.Sources.{Games, GoesOn, HasFault, HasGame, HasNone, IsSound, NextGame, NotPassed}
 use Rattle.chess_pgn.specs.steps.GameAt.{FoundGame, HasCome, NoneCame}
 use Rattle.chess_pgn.specs.steps.GameCode.{game_of}
 use Rattle.chess_pgn.specs.declared.game.Game.{Game}
+use Rattle.chess_pgn.specs.declared.games.GamesFault.{GamesFault}
+use Rattle.chess_pgn.specs.declared.games.GamesFault.TheVariants.{Pgn, Read}
 
 -- ---- a whole text
 
@@ -84,58 +87,39 @@ module _ {R : Type 0} (gives : R → List ℕ → R → Type 0) (failed : R → 
   taken : {B : Type 0} (old new : AtHand R) (found : Option (Game B × ℕ)) (game : Game B) (used : ℕ) → FoundGame (brings gives failed) unread (has_all gives failed) old new found → found ≡ Some (game, used) → HasCome (brings gives failed) unread (has_all gives failed) old new game used
   taken old new found game used h e = subst (λ o. FoundGame (brings gives failed) unread (has_all gives failed) old new o) e h
 
-  -- what is at hand, and may come, is no more than it was
-  pub bytes_left : (old new : AtHand R) (game : games.Game) (h : HasGame gives failed old new game) → length h.text + length (unread new) + 65536 * new.reads ≤ length (unread old) + 65536 * old.reads
-  bytes_left old new game h =
-      let a = length-append (unread old) h.bytes in
-      let b = length-append h.text (unread new) in
-      let c = ap length h.parts in
-      omega (arith, a, b, c, h.came.small, h.came.counted)
-
   module _ {B : Type 0} (old new : AtHand R) (found : Option (Game B × ℕ)) (game : Game B) (used : ℕ) (h : FoundGame (brings gives failed) unread (has_all gives failed) old new found) (e : found ≡ Some (game, used)) where
     pub source_game : HasGame gives failed old new (game_of game)
     source_game = one_game old new game used (taken old new found game used h e)
 
-    pub source_used : length source_game.text ≡ used
-    unfolding source_game taken one_game
-    source_used = (taken old new found game used h e).counted
-
-    pub used_few : (before : ℕ) → before + length (unread old) + 65536 * old.reads ≤ 72057594037927936 → before + used + length (unread new) + 65536 * new.reads ≤ 72057594037927936
-    used_few before few = (let k = bytes_left old new (game_of game) source_game in omega (arith, k, few, source_used))
-
   pub source_none : {B : Type 0} (old new : AtHand R) (found : Option (Game B × ℕ)) → FoundGame (brings gives failed) unread (has_all gives failed) old new found → found ≡ None → HasNone gives failed old new
   source_none old new found h e = no_game old new (subst (λ o. FoundGame (brings gives failed) unread (has_all gives failed) old new o) e h)
-
-  pub none_few : (old new : AtHand R) → HasNone gives failed old new → (used : ℕ) → used + length (unread old) + 65536 * old.reads ≤ 72057594037927936 → used + length (unread new) + 65536 * new.reads ≤ 72057594037927936
-  none_few old new h used few = (let a = ap length h.used in omega (arith, a, few, h.came.counted))
 
 -- ---- games, one after another
 
 module _ {R : Type 0} (gives : R → List ℕ → R → Type 0) (failed : R → Bool) where
-  module _ {B : Type 0} (old mid new : Games R) (found : Option (Game B × ℕ)) (game : Game B) (used : ℕ) (h : FoundGame (brings gives failed) unread (has_all gives failed) old.text mid.text found) (e : found ≡ Some (game, used))
-      (counted : mid.used ≡ old.used) (text : new.text ≡ mid.text) (more : new.used ≡ mid.used + used) where
-    found_now : FoundGame (brings gives failed) unread (has_all gives failed) old.text new.text found
-    found_now = subst (λ (t : AtHand R). FoundGame (brings gives failed) unread (has_all gives failed) old.text t found) (sym text) h
+  -- its bytes are used
+  pub next_game : {B : Type 0} (old new : Games R) (found : Option (Game B × ℕ)) (game : Game B) (used : ℕ) → FoundGame (brings gives failed) unread (has_all gives failed) old.text new.text found → found ≡ Some (game, used) → NextGame gives failed old new (game_of game)
+  next_game old new found game used h e =
+      let took = source_game gives failed old.text new.text found game used h e in
+      record {
+        took = took;
+        used = (let a = length-append (unread old.text) took.bytes in let b = length-append took.text (unread new.text) in let c = ap length took.parts in omega (arith, a, b, c, took.came.placed));
+      }
 
-    pub next_game : NextGame gives failed old new (game_of game)
-    next_game = record {
-      took = source_game gives failed old.text new.text found game used found_now e;
-      used = (let n = source_used gives failed old.text new.text found game used found_now e in omega (arith, n, counted, more));
-    }
+-- where reading may go on after a fault, the source has ended where its end was seen
+module _ {R : Type 0} (gives : R → List ℕ → R → Type 0) (failed : R → Bool) (ended : R → Type 0) where
+  pub fault_sound : (old : AtHand R) (new : Games R) (fault : GamesFault) → new.fault ≡ Some fault → HasFault gives failed ended old new.text fault → IsSound ended new
+  fault_sound old new fault e h = record { ended_so = λ on. by fault (subst (λ (f : Option GamesFault). GoesOn f) e on) h }
+    where
+      by : (fault : GamesFault) → GoesOn (Some fault) → HasFault gives failed ended old new.text fault → new.text.has_ended ≡ true → ended new.text.source
+      by Read on h = absurd on
+      by (Pgn f) on (inl k) = absurd (on k.0)
+      by (Pgn f) on (inr k) = k.told
 
-    pub next_sound : (ended : R → Type 0) → IsSound ended old → old.fault ≡ None → (mid.text.has_ended ≡ true → ended mid.text.source) → IsSound ended new
-    next_sound ended sound none so = record {
-      ended_so = λ still. subst (λ (t : AtHand R). t.has_ended ≡ true → ended t.source) (sym text) so;
-      few = λ still. (let k = used_few gives failed old.text new.text found game used found_now e old.used (sound.few none) in omega (arith, k, counted, more));
-    }
-
-  -- so many bytes can be counted
-  pub count_fits : {B : Type 0} (ended : R → Type 0) (old mid : Games R) (found : Option (Game B × ℕ)) (game : Game B) (used : ℕ) → FoundGame (brings gives failed) unread (has_all gives failed) old.text mid.text found → found ≡ Some (game, used) → mid.used ≡ old.used
-      → IsSound ended old → old.fault ≡ None → mid.used + used < 18446744073709551616
-  count_fits ended old mid found game used h e counted sound none = (let k = used_few gives failed old.text mid.text found game used h e old.used (sound.few none) in omega (arith, k, counted))
-
-  pub none_sound : (ended : R → Type 0) (old new : Games R) → HasNone gives failed old.text new.text → new.used ≡ old.used → IsSound ended old → old.fault ≡ None → (new.text.has_ended ≡ true → ended new.text.source) → IsSound ended new
-  none_sound ended old new h counted sound none so = record {
-    ended_so = λ still. so;
-    few = λ still. (let k = none_few gives failed old.text new.text h old.used (sound.few none) in omega (arith, k, counted));
-  }
+  -- and such a fault stays where bytes can't be passed over
+  pub not_passed_sound : (old : AtHand R) (new : Games R) (fault : GamesFault) → new.fault ≡ Some fault → NotPassed gives failed old new.text fault → IsSound ended new
+  not_passed_sound old new fault e h = record { ended_so = λ on. by fault (subst (λ (f : Option GamesFault). GoesOn f) e on) h }
+    where
+      by : (fault : GamesFault) → GoesOn (Some fault) → NotPassed gives failed old new.text fault → new.text.has_ended ≡ true → ended new.text.source
+      by Read on h = absurd on
+      by (Pgn f) on h = absurd (on h.0)

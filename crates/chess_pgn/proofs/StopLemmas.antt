@@ -32,7 +32,7 @@ use Rattle.chess_pgn.specs.steps.ReaderCode.{IsNew, MayNotEnd, TakesItem, Unansw
 use Rattle.chess_pgn.specs.declared.reader.Reader.{Reader}
 use Rattle.chess_pgn.proofs.ChainLemmas.{Progress, progress_all, progress_new}
 use Rattle.chess_pgn.proofs.DarkLemmas.{dark_aground, dark_over, dark_refused, dark_taken}
-use Rattle.chess_pgn.proofs.FrontLemmas.{whites_bare}
+use Rattle.chess_pgn.proofs.FrontLemmas.{spelled_front, whites_bare}
 use Rattle.chess_pgn.proofs.NoGameLemmas.{none_aground, none_out, none_over, none_refused}
 use Rattle.chess_pgn.proofs.UndecidedLemmas.{undecided_none}
 
@@ -72,12 +72,24 @@ module _ {X A : Type 0} (comes : X → List ℕ → X → Type 0) (at_hand : X �
       there : place ≡ place_behind GameStart (bare is)
       there = took.stands ∙ behind_bare GameStart is
 
+      front : (text : List ℕ) × (whole ≡ text ++ rest)
+      front = spelled_front 0 GameStart whole is rest (took.spelled more none)
+
       counted : at + length rest ≡ length whole
       counted =
           let a = length-append (at_hand new) more in
           let b = length-append (at_hand old) (joined pieces ++ more) in
           let c = length-append (joined pieces) more in
           omega (arith, a, b, c, took.counted)
+
+    -- the bytes of the items
+    run_front : (why : Stop) → AfterRun comes at_hand all sound size takes limit old pieces new t u at place white why → (text : List ℕ) × (whole ≡ text ++ rest)
+    run_front stop.Full r = front (r.items ++ r.last ∷ []) r.took
+    run_front stop.Left r = front r.items r.took
+    run_front (stop.Refused fault) r = front r.items r.took
+    run_front stop.End r = front r.items r.took
+    run_front stop.NoItem r = front r.items r.took
+    run_front stop.TooLarge r = front r.items r.took
 
     taken_so : (is : List (ℕ × Item)) (r : Reader A) → Takes takes t is r → Progress (bare is) r
     taken_so is r k = progress_all [] is t r (progress_new t new_reader) k
@@ -136,10 +148,18 @@ module _ {X A : Type 0} (comes : X → List ℕ → X → Type 0) (at_hand : X �
     still_there : all old → (joined r.pieces ≡ []) × all mid
     still_there = ended_after comes at_hand all sound size takes limit old t mid u r.pieces s.at s.place s.white s.why r.after
 
+    -- the bytes that are used
+    used_here : (text : List ℕ) × (at_hand old ++ joined r.pieces ≡ text ++ at_hand mid)
+    used_here =
+        let f = run_front r.pieces mid s.at s.place s.white [] (λ e. refl) s.why r.after in
+        (f.0, ap (λ (z : List ℕ). at_hand old ++ z) (sym (append-nil (joined r.pieces))) ∙ f.1 ∙ ap (λ (z : List ℕ). f.0 ++ z) (append-nil (at_hand mid)))
+
     here_none : (s.why ≡ stop.End → s.white ≡ false) → (s.why ≡ stop.TooLarge → s.white ≡ false) → sound mid → NotCome comes at_hand all sound old mid
     here_none end over well = record {
       pieces = r.pieces;
       came = r.came;
+      text = used_here.0;
+      parts = used_here.1;
       sound_still = well;
       none = λ more none g n x. run_none r.pieces mid s.at s.place s.white more none g n x s.why fault kind r.after a;
       dark = λ more none w. run_dark r.pieces mid s.at s.place s.white more none w s.why fault kind r.after a end over;
@@ -157,6 +177,9 @@ module _ {X A : Type 0} (comes : X → List ℕ → X → Type 0) (at_hand : X �
         record {
           pieces = pieces;
           came = Calls-append comes old mid new r.pieces w.pieces r.came w.came;
+          text = used_here.0 ++ w.text;
+          parts = ap (λ (z : List ℕ). at_hand old ++ z) (joined-append r.pieces w.pieces) ∙ sym (append_assoc (at_hand old) (joined r.pieces) (joined w.pieces)) ∙ ap (λ (z : List ℕ). z ++ joined w.pieces) used_here.1
+              ∙ append_assoc used_here.0 (at_hand mid) (joined w.pieces) ∙ ap (λ (z : List ℕ). used_here.0 ++ z) w.parts ∙ sym (append_assoc used_here.0 w.text (at_hand new));
           sound_still = well;
           none = λ more none g n x.
               run_none r.pieces mid s.at s.place s.white (joined w.pieces ++ more) (none_before more none) g n (subst (λ (z : List ℕ). IsAtFront z g n) (regroup more) x) s.why fault kind r.after a;

@@ -1,17 +1,20 @@
 -- Games of a source, one after another. The bytes that come are those of `chess_items/specs/Coming.antt`.
---   Games      the bytes at hand, the fault that came, and how many bytes the games so far took
---   IsSound    unless there was a fault, the source has ended where its end was seen, and so many bytes can't be too many to count
---   IsPlaced   a fault of the text is behind the bytes that the games before it took
+--   Games      the bytes at hand, how many were used before them, and the fault that came
+--   GoesOn     reading may go on: no fault came, or one of a game's text, from which bytes may be passed over
+--   IsSound    where reading may go on, the source has ended where its end was seen
+--   IsPlaced   a fault of the text is behind the bytes that were used before its game; want of memory has its place there
 --   HasGame    a game stands at the front of the bytes at hand and those that the source gave, whatever it gives next, and is used; at most
 --              65,536 bytes behind it were read; a source that has ended gives no more
 --   NextGame   so it does, and its bytes are counted
 --   HasNone    the source has ended, and those bytes are white
---   Fails      no game stands at the front of those bytes, which aren't white, whatever the source gives next
+--   Fails      no game stands at the front of those bytes, which aren't white, whatever the source gives next; the first of them are used
 --   Starves    bytes came, and then there was no memory
 --   ReadFails  bytes came, and then a read failed, or there may be no more; the source had not ended, and those bytes don't tell of a game
 --   HasFault   a read failed, there was no memory, or no game stands there; but for the first, no read failed
-use Rattle.std.specs.Prelude.{◌≡◌, ◌⊎◌, ◌≤◌, ◌<◌, ℕ, ◌+◌, ◌*◌, Bool, true, false, List, [], ◌++◌, length, Option, None, ⊤}
+--   NotPassed  bytes can't be passed over: no section of tags begins among them and a read failed, or there was no memory
+use Rattle.std.specs.Prelude.{◌≡◌, ◌≢◌, ◌⊎◌, ◌≤◌, ◌<◌, ℕ, ◌+◌, Bool, true, false, List, [], ◌++◌, length, Option, Some, None, ⊤}
 use Rattle.chess_items.specs.Coming.{AtHand, Breaks, Came, unread}
+use Rattle.chess_items.specs.Sections.{StopsAt}
 use Rattle.chess_items.specs.declared.fault.FaultKind.TheVariants.{Memory}
 use Rattle.chess_pgn.specs.Games.{Game}
 use Rattle.chess_pgn.specs.Reading.{HasNoGame, HasNoGameYet, IsAtFront, IsWhite}
@@ -21,12 +24,15 @@ use Rattle.chess_pgn.specs.declared.games.GamesFault.TheVariants.{Pgn, Read}
 pub record Games (R : Type 0) : Type 0 where
   pub text : AtHand R
   pub fault : Option GamesFault
-  pub used : ℕ
 
--- 2^56: of a new source, 2^40 reads of 65,536 bytes
+-- a fault of a read, and want of memory, stay
+abbrev pub GoesOn : Option GamesFault → Type 0
+GoesOn None = ⊤
+GoesOn (Some Read) = ⊥
+GoesOn (Some (Pgn fault)) = fault.kind ≢ Memory
+
 pub record IsSound {R : Type 0} (ended : R → Type 0) (games : Games R) : Type 0 where
-  pub ended_so : games.fault ≡ None → games.text.has_ended ≡ true → ended games.text.source
-  pub few : games.fault ≡ None → games.used + length (unread games.text) + 65536 * games.text.reads ≤ 72057594037927936
+  pub ended_so : GoesOn games.fault → games.text.has_ended ≡ true → ended games.text.source
 
 pub record HasGame {R : Type 0} (gives : R → List ℕ → R → Type 0) (failed : R → Bool) (old new : AtHand R) (game : Game) : Type 0 where
   pub bytes : List ℕ
@@ -41,7 +47,7 @@ pub record HasGame {R : Type 0} (gives : R → List ℕ → R → Type 0) (faile
 -- and its bytes are counted
 pub record NextGame {R : Type 0} (gives : R → List ℕ → R → Type 0) (failed : R → Bool) (old new : Games R) (game : Game) : Type 0 where
   pub took : HasGame gives failed old.text new.text game
-  pub used : new.used ≡ old.used + length took.text
+  pub used : new.text.used ≡ old.text.used + length took.text
 
 -- nothing follows
 pub record HasNone {R : Type 0} (gives : R → List ℕ → R → Type 0) (failed : R → Bool) (old new : AtHand R) : Type 0 where
@@ -56,6 +62,8 @@ pub record HasNone {R : Type 0} (gives : R → List ℕ → R → Type 0) (faile
 pub record Fails {R : Type 0} (gives : R → List ℕ → R → Type 0) (failed : R → Bool) (ended : R → Type 0) (old new : AtHand R) : Type 0 where
   pub bytes : List ℕ
   pub came : Came gives failed old bytes new
+  pub text : List ℕ
+  pub parts : unread old ++ bytes ≡ text ++ unread new
   pub told : new.has_ended ≡ true → ended new.source
   pub none : (more : List ℕ) → (new.has_ended ≡ true → more ≡ []) → HasNoGame (unread old ++ (bytes ++ more))
   pub dark : (more : List ℕ) → (new.has_ended ≡ true → more ≡ []) → IsWhite (unread old ++ (bytes ++ more)) → ⊥
@@ -79,5 +87,9 @@ HasFault gives failed ended old new Read = ReadFails gives failed old new
 HasFault gives failed ended old new (Pgn fault) = ((fault.kind ≡ Memory) × Starves gives failed ended old new) ⊎ Fails gives failed ended old new
 
 abbrev pub IsPlaced : ℕ → GamesFault → Type 0
-IsPlaced used (Pgn fault) = used ≤ fault.place
+IsPlaced used (Pgn fault) = (used ≤ fault.place) × (fault.kind ≡ Memory → fault.place ≡ used)
 IsPlaced used Read = ⊤
+
+abbrev pub NotPassed : {R : Type 0} → (R → List ℕ → R → Type 0) → (R → Bool) → AtHand R → AtHand R → GamesFault → Type 0
+NotPassed gives failed old new Read = StopsAt gives failed old new
+NotPassed gives failed old new (Pgn fault) = (fault.kind ≡ Memory) × (bytes : List ℕ) × Came gives failed old bytes new

@@ -2,13 +2,14 @@
 
 ghost use Rattle.std.specs.Prelude.{◌≡◌, ◌⊎◌, ◌<◌, ◌+◌, ◌^◌, ℕ, false, [], true, Some, None, Ok, Err, IfErr, IfOk, IfSome};
 ghost use Rattle.chess_items.specs.Coming.{Breaks, Came, unread};
+ghost use Rattle.chess_items.specs.Sections.{PassesOver};
 ghost use Rattle.chess_items.specs.declared.fault.FaultKind.TheVariants.{Memory};
 ghost use Rattle.chess_pgn.specs.Games as games;
 ghost use Rattle.chess_pgn.specs.Reading.{HasNoGame, IsAnswered, IsAtFront, IsWhite};
-ghost use Rattle.chess_pgn.specs.Sources.{HasFault, HasNone, IsPlaced, IsSound, NextGame};
+ghost use Rattle.chess_pgn.specs.Sources.{GoesOn, HasFault, HasNone, IsPlaced, IsSound, NextGame, NotPassed};
 ghost use Rattle.chess_pgn.specs.steps.GameAt.{TakesGame};
 ghost use Rattle.chess_pgn.specs.steps.GameCode.{game_of};
-ghost use Rattle.chess_pgn.specs.steps.Next.{HasKind};
+ghost use Rattle.chess_pgn.specs.steps.Next.{HasKind, staying};
 ghost use Rattle.chess_pgn.specs.steps.ReaderCode.{Answered, EndsReading, Unanswered};
 
 use crate::game::Game;
@@ -141,6 +142,15 @@ fn placed(fault: GamesFault, used: u64) -> GamesFault
 {
     match fault {
         GamesFault::Read => GamesFault::Read,
+        GamesFault::Pgn(
+            PgnFault {
+                place: _,
+                kind: FaultKind::Memory,
+            },
+        ) => GamesFault::Pgn(PgnFault {
+            place: used,
+            kind: FaultKind::Memory,
+        }),
         GamesFault::Pgn(PgnFault { place, kind }) => GamesFault::Pgn(PgnFault {
             place: place.saturating_add(used),
             kind,
@@ -148,15 +158,14 @@ fn placed(fault: GamesFault, used: u64) -> GamesFault
     }
 }
 
-/// The games of a source, one after another. After a fault it tells that fault again. Contracts see the bytes at hand, the fault, and how
-/// many bytes the games so far took.
+/// The games of a source, one after another. After a fault `next` returns that fault again, until `pass_over` goes on to the next section of
+/// tags. Contracts see the bytes at hand, how many were used before them, and the fault.
 #[derive(Drop)]
 pub struct Games<'a, R, A: Allocator> {
     text: AtHand<'a, R, A>,
     fault: Option<GamesFault>,
     alloc: &'a A,
     table: &'a KeyTable,
-    used: u64,
 }
 
 impl<'a, R, A: Allocator> Model for Games<'a, R, A> {
@@ -164,7 +173,7 @@ impl<'a, R, A: Allocator> Model for Games<'a, R, A> {
 
     ghost Value = { sources.Games R };
 
-    ghost view = { λ g. record { text = g.text; fault = g.fault; used = g.used } };
+    ghost view = { λ g. record { text = g.text; fault = g.fault } };
 }
 
 impl<'a, R: Source, A: Allocator> Games<'a, R, A> {
@@ -176,14 +185,13 @@ impl<'a, R: Source, A: Allocator> Games<'a, R, A> {
         ensures nothing { unread result.text ≡ [] }
         ensures goes_on { result.text.has_ended ≡ false }
         ensures reads { result.text.reads ≡ 1099511627776 }
-        ensures used { result.used ≡ 0 }
+        ensures used { result.text.used ≡ 0 }
     {
         Games {
             text: AtHand::new(alloc, source),
             fault: None,
             alloc,
             table,
-            used: 0,
         }
     }
 
@@ -196,9 +204,16 @@ impl<'a, R: Source, A: Allocator> Games<'a, R, A> {
             fault: _,
             alloc: _,
             table: _,
-            used: _,
         } = self;
         text.into_source()
+    }
+
+    /// How many bytes of the source were used: those of the games so far, those that were passed over, and after a fault those of its game
+    /// that were read before it.
+    pub fn used(&self) -> u64
+        ensures { result ≡ self.now.text.used }
+    {
+        self.text.used()
     }
 
     // The fault that came, if one did.
@@ -208,37 +223,59 @@ impl<'a, R: Source, A: Allocator> Games<'a, R, A> {
         self.fault
     }
 
+    // The fault that came, if it stays.
+    fn staying(&self) -> Option<GamesFault>
+        ensures { result ≡ staying self.now.fault }
+    {
+        match self.fault {
+            None => None,
+            Some(GamesFault::Read) => self.fault,
+            Some(GamesFault::Pgn(PgnFault { place: _, kind })) => match kind {
+                FaultKind::Memory => self.fault,
+                _ => None,
+            },
+        }
+    }
+
     // The same with the bytes it took, and a fault's place from the game's beginning.
     fn take(&mut self) -> Result<Option<(Game<'a, A>, usize)>, GamesFault>
         requires sound { IsSound R.ended self.old }
         requires none { self.old.fault ≡ None }
         ensures sound { IfOk result (λ _. self.new.text.has_ended ≡ true → R.ended self.new.text.source) }
         ensures none { self.new.fault ≡ None }
-        ensures used { self.new.used ≡ self.old.used }
         ensures game { TakesGame (λ s bytes t. Came R.gives R.failed s bytes t) unread (λ s. s.has_ended ≡ true) (λ s. s.has_ended ≡ true → R.ended s.source) (λ s t. Breaks R.gives R.failed s t) self.old.text self.new.text result }
     {
         take_game(self.alloc, self.table, &mut self.text)
     }
 
-    // Counts the bytes of a game.
-    fn count(&mut self, bytes: usize)
-        requires { self.old.used + bytes < 2 ^ 64 }
-        ensures text { self.new.text ≡ self.old.text }
-        ensures fault { self.new.fault ≡ self.old.fault }
-        ensures used { self.new.used ≡ self.old.used + bytes }
+    // Passes over bytes, and forgets the fault where that goes well.
+    fn pass(&mut self) -> Result<u64, GamesFault>
+        requires sound { IsSound R.ended self.old }
+        requires goes_on { GoesOn self.old.fault }
+        ensures good { IfOk result (λ _. self.new.fault ≡ None) }
+        ensures sound { IfOk result (λ _. self.new.text.has_ended ≡ true → R.ended self.new.text.source) }
+        ensures passes { IfOk result (λ count. PassesOver R.gives R.failed self.old.text self.new.text count) }
+        ensures used { IfOk result (λ count. self.new.text.used ≡ self.old.text.used + count) }
+        ensures fault { IfErr result (λ fault. NotPassed R.gives R.failed self.old.text self.new.text fault) }
     {
-        self.used += bytes as u64;
+        match self.text.pass_to_section() {
+            Ok(count) => {
+                self.fault = None;
+                Ok(count)
+            }
+            Err(Fault::Memory) => Err(GamesFault::Pgn(at_place(0, FaultKind::Memory))),
+            Err(Fault::Read) => Err(GamesFault::Read),
+        }
     }
 
-    // Keeps a fault with its place from the input's beginning, and answers it.
-    fn keep(&mut self, fault: GamesFault) -> GamesFault
+    // Keeps a fault with its place from the input's beginning, after so many bytes, and returns it.
+    fn keep(&mut self, fault: GamesFault, used: u64) -> GamesFault
         ensures text { self.new.text ≡ self.old.text }
         ensures fault { self.new.fault ≡ Some result }
-        ensures used { self.new.used ≡ self.old.used }
         ensures kind { HasKind fault result }
-        ensures place { IsPlaced self.old.used result }
+        ensures place { IsPlaced used result }
     {
-        let placed = placed(fault, self.used);
+        let placed = placed(fault, used);
         self.fault = Some(placed);
         placed
     }
@@ -248,8 +285,9 @@ impl<'a, R: Source, A: Allocator> Games<'a, R, A> {
     ///
     /// # Errors
     ///
-    /// The first fault of the game, its place counted from the input's beginning; `Read` where a read failed or 2^40 were made. It is told
-    /// again by each later call, which reads nothing.
+    /// The first fault of the game, its place in bytes from the input's beginning; for want of memory, how many bytes were used before the
+    /// game. `Read` where a read failed or 2^40 were made. Each later call returns the same fault and reads nothing, until `pass_over` is
+    /// called.
     pub fn next(&mut self) -> Result<Option<Game<'a, A>>, GamesFault>
         requires { IsSound R.ended self.old }
         ensures sound { IsSound R.ended self.new }
@@ -261,18 +299,50 @@ impl<'a, R: Source, A: Allocator> Games<'a, R, A> {
         ensures cursor { IfOk result (λ found. IfSome found (λ game. game.tree.path ≡ [])) }
         ensures none { result ≡ Ok None → HasNone R.gives R.failed self.old.text self.new.text }
         ensures fault { self.old.fault ≡ None → IfErr result (λ fault. HasFault R.gives R.failed R.ended self.old.text self.new.text fault) }
-        ensures place { self.old.fault ≡ None → IfErr result (λ fault. IsPlaced self.old.used fault) }
+        ensures place { self.old.fault ≡ None → IfErr result (λ fault. IsPlaced self.old.text.used fault) }
     {
         if let Some(fault) = self.told() {
             return Err(fault);
         }
+        let used = self.used();
         match self.take() {
-            Ok(Some((game, used))) => {
-                self.count(used);
-                Ok(Some(game))
-            }
+            Ok(Some((game, _))) => Ok(Some(game)),
             Ok(None) => Ok(None),
-            Err(fault) => Err(self.keep(fault)),
+            Err(fault) => Err(self.keep(fault, used)),
+        }
+    }
+
+    /// Passes over bytes, from where reading stopped to the next section of tags, and returns how many: `next` goes on there, as if the input
+    /// began there. A section begins with `[` and the first byte of a tag's name (a letter, a digit or `_`), after white space with at
+    /// least two line feeds, or after white space alone since reading stopped. Where none begins, all bytes are passed over, and `next`
+    /// returns `None`.
+    ///
+    /// After a fault, reading stopped somewhere in the game that has it. The text of such a game can't be trusted, so a bracket in a
+    /// comment counts as any other. Without a fault, reading stopped after the last game.
+    ///
+    /// # Errors
+    ///
+    /// `Read` where a read failed or 2^40 were made, and `8 Memory`: these stay, also where they came before. Each later call returns the
+    /// same fault and reads nothing.
+    pub fn pass_over(&mut self) -> Result<u64, GamesFault>
+        requires { IsSound R.ended self.old }
+        ensures sound { IsSound R.ended self.new }
+        ensures again { (fault : GamesFault) → self.old.fault ≡ Some fault → (GoesOn (Some fault) → ⊥) → result ≡ Err fault }
+        ensures untouched { (fault : GamesFault) → self.old.fault ≡ Some fault → (GoesOn (Some fault) → ⊥) → self.new ≡ self.old }
+        ensures sticky { IfErr result (λ fault. self.new.fault ≡ Some fault) }
+        ensures good { IfOk result (λ _. self.new.fault ≡ None) }
+        ensures passes { IfOk result (λ count. PassesOver R.gives R.failed self.old.text self.new.text count) }
+        ensures used { IfOk result (λ count. self.new.text.used ≡ self.old.text.used + count) }
+        ensures fault { GoesOn self.old.fault → IfErr result (λ fault. NotPassed R.gives R.failed self.old.text self.new.text fault) }
+        ensures place { GoesOn self.old.fault → IfErr result (λ fault. IsPlaced self.old.text.used fault) }
+    {
+        if let Some(fault) = self.staying() {
+            return Err(fault);
+        }
+        let used = self.used();
+        match self.pass() {
+            Ok(count) => Ok(count),
+            Err(fault) => Err(self.keep(fault, used)),
         }
     }
 }

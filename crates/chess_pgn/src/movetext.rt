@@ -291,15 +291,15 @@ pub fn outcome_text(outcome: Outcome) -> &'static str
     }
 }
 
-// The moves of a tree.
+// The moves of a tree, which are made on a line.
 fn push_moves<'a, A: Allocator>(
     lines: Lines<'a, A>,
     alloc: &'a A,
     tree: &Tree<'a, A>,
-    table: &KeyTable,
 ) -> Result<Lines<'a, A>, AllocError>
     ensures { IfOk result (λ after. Adds lines.entry after (moves_text false true tree.now.tree.start tree.now.tree.below)) }
 {
+    let table = KeyTable::new([0; 768]);
     let Ok(start) = tree.position().clone() else {
         unreachable!();
     };
@@ -307,12 +307,26 @@ fn push_moves<'a, A: Allocator>(
     tasks.push(Task::Moves(tree.root().below(), true))?;
     let mut writer = Writer {
         lines,
-        line: Line::start(alloc, start, table),
+        line: Line::start(alloc, start, &table),
         tasks,
     };
     writer.finish()?;
     let Writer { lines, .. } = writer;
     Ok(lines)
+}
+
+// The moves of a tree, if it has any.
+fn push_any_moves<'a, A: Allocator>(
+    lines: Lines<'a, A>,
+    alloc: &'a A,
+    tree: &Tree<'a, A>,
+) -> Result<Lines<'a, A>, AllocError>
+    ensures { IfOk result (λ after. Adds lines.entry after (moves_text false true tree.now.tree.start tree.now.tree.below)) }
+{
+    if tree.root().children() == 0 {
+        return Ok(lines);
+    }
+    push_moves(lines, alloc, tree)
 }
 
 /// Writes the movetext of a game.
@@ -321,13 +335,12 @@ pub fn push_movetext<'a, A: Allocator>(
     alloc: &'a A,
     tree: &Tree<'a, A>,
     outcome: Outcome,
-    table: &KeyTable,
 ) -> Result<Lines<'a, A>, AllocError>
     ensures { IfOk result (λ after. Adds lines.entry after (movetext tree.now.tree outcome)) }
 {
     let mut lines = lines;
     push_comment(&mut lines, tree.root().notes().comment)?;
-    let mut lines = push_moves(lines, alloc, tree, table)?;
+    let mut lines = push_any_moves(lines, alloc, tree)?;
     lines.push(b" ")?;
     lines.push(outcome_text(outcome).as_bytes())?;
     Ok(lines)

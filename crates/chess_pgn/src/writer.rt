@@ -1,6 +1,7 @@
-ghost use Rattle.std.specs.Prelude.{◌≡◌, ◌++◌, ◌∷◌, [], if◌then◌else◌, option_map, IfOk, IfErr, OnOk};
+ghost use Rattle.std.specs.Prelude.{◌≡◌, ◌++◌, ◌∷◌, [], if◌then◌else◌, bytes_eq, option_map, IfOk, IfErr, OnOk};
 ghost use Rattle.chess_items.specs.declared.fault.FaultKind.TheVariants.{Memory};
 ghost use Rattle.chess_fen.specs.Writing.{written};
+ghost use Rattle.chess_types.specs.board.Position.{start};
 ghost use Rattle.chess_pgn.specs.Games.{untold};
 ghost use Rattle.chess_pgn.specs.Written.{behind_text, escaped, game_text, is_before, is_within, others_text, tag_text, tags_text};
 ghost use Rattle.chess_pgn.specs.steps.GameCode.{game_of, tags_of};
@@ -11,7 +12,6 @@ use crate::movetext::{outcome_text, push_movetext};
 use crate::others::OtherTags;
 use crate::tags::Tags;
 use chess_items::{Outcome, PgnFault, is, is_escapable};
-use chess_key::KeyTable;
 use chess_tree::Tree;
 use chess_types::Position;
 use std::alloc::{AllocError, Allocator};
@@ -105,6 +105,16 @@ fn push_others<'a, A: Allocator>(
     Ok(())
 }
 
+// Whether that is the FEN of the position in which a game begins where no tag says otherwise.
+fn is_usual(fen: &[u8]) -> bool
+    ensures { result ≡ bytes_eq fen.now (written start) }
+{
+    is(
+        fen,
+        b"rnbqkbnr/pppppppp/8/8/8/8/PPPPPPPP/RNBQKBNR w KQkq - 0 1",
+    )
+}
+
 // The other tags, and among them the position in which a game begins, unless it is the usual one.
 fn push_behind<'a, A: Allocator>(
     text: &mut Vec<u8, &'a A>,
@@ -114,8 +124,7 @@ fn push_behind<'a, A: Allocator>(
     ensures { OnOk result (text.new.items ≡ text.old.items ++ behind_text others.now (written start.now)) }
 {
     let fen = chess_fen::write(start);
-    let usual = chess_fen::write(&Position::start());
-    if is(fen.as_bytes(), usual.as_bytes()) {
+    if is_usual(fen.as_bytes()) {
         return push_others(text, b"", None, others);
     }
     push_others(text, b"", Some(b"FEN"), others)?;
@@ -154,10 +163,9 @@ fn write_parts<'a, A: Allocator>(
     ensures ok { IfOk result (λ text. text.items ≡ game_text (record { tags = tags_of tags.now; outcome = outcome; tree = tree.now.tree })) }
     ensures memory { IfErr result (λ fault. fault ≡ record { place = 0; kind = Memory }) }
 {
-    let table = KeyTable::new([0; 768]);
     let mut text = Vec::new(alloc);
     push_tags(&mut text, tags, outcome, tree.position())?;
-    let lines = push_movetext(Lines::new(text)?, alloc, tree, outcome, &table)?;
+    let lines = push_movetext(Lines::new(text)?, alloc, tree, outcome)?;
     Ok(lines.finish()?)
 }
 

@@ -1,5 +1,6 @@
 mod common;
 mod cut;
+mod passing;
 mod pieces;
 mod random;
 mod reads;

@@ -22,7 +22,7 @@ use Rattle.chess_play.proofs.Castled.{placement_castled, placement_plain}
 use Rattle.chess_play.proofs.MakeSteps.{Steps, steps_by_facts}
 
 -- What each step finds and leaves:
---   mover        the mover is told from the promotion and what stands on the last square
+--   mover        the mover is known by the promotion and what stands on the last square
 --   mine         its colour was to move
 --   there        what stands on the last square after the move
 --   castled, plain   the board after a move that castles, and after one that does not

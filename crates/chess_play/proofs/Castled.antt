@@ -66,7 +66,7 @@ module _ (p : State) (man : Man) (m : MoveParts) where
       let y : bit (test (man_at (remove (transferred p man m) (rook_home p.side w)) (crossed p.side w))) ≡ bit (test None) = ap (λ o. bit (test o)) r.free in
       omega arith
 
--- the square that the king reaches tells the wing
+-- the square that the king reaches gives the wing
 pub one_wing : (man : Man) (m : MoveParts) (w v : Wing) → is_castling man w m ≡ true → is_castling man v m ≡ true → w ≡ v
 one_wing man m w v h k =
     let a = and_parts _ _ h in

@@ -126,7 +126,7 @@ elsewhere Black White w v ne =
     let high = high_home w in
     record { king_rook = λ e. omega arith; king_crossed = λ e. omega arith; rook_rook = λ e. omega arith; rook_crossed = λ e. omega arith }
 
--- the square reached tells the wing
+-- the square reached gives the wing
 pub same_wing : (c : Colour) (w v : Wing) → reached c w ≡ reached c v → w ≡ v
 same_wing c KingSide KingSide e = refl
 same_wing c QueenSide QueenSide e = refl

@@ -48,7 +48,7 @@ attacks_apart man men a b h = λ e. true≢false (sym h ∙ ap (attacks_as man m
 --   plain      and is made by a pawn that stays one
 --   onward     a pawn goes further on
 --   same       another man stays what it is
---   mover      the mover is told from what arrives and the promotion
+--   mover      the mover is known by what arrives and the promotion
 --   castling   a king that goes where castling takes it castles
 pub record Facts (p : State) (man : Man) (m : MoveParts) : Type 0 where
   pub here : look p m.from ≡ Some man

@@ -26,7 +26,7 @@ colour_kept man (Some other) = refl
 pub stays : (man : Man) (promo : Option Kind) → is_none promo ≡ true → arriving man promo ≡ man
 stays man promo h = rw (none_is promo h) refl
 
--- a pawn is told from what stands on its last square and the promotion
+-- a pawn is known by what is on its last square and the promotion
 pub mover_pawn : (c : Colour) (promo : Option Kind) → mover promo (arriving (record { colour = c; kind = Pawn }) promo) ≡ record { colour = c; kind = Pawn }
 mover_pawn c None = refl
 mover_pawn c (Some other) = refl

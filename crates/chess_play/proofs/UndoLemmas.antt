@@ -1,4 +1,4 @@
--- A record that fits: what the man on the move's last square and the record tell of the position before.
+-- A record that fits: what the man on the move's last square and the record say of the position before.
 use Rattle.std.proofs.Common.{◌≡◌, ◌≤◌, ◌<◌, ℕ, Option, Some, None, refl, sym, ap, subst, ◌∙◌, arith}
 use Rattle.chess_types.specs.declared.board.man.Colour.{Colour}
 use Rattle.chess_types.specs.declared.board.man.Colour.TheVariants.{White, Black}
@@ -23,7 +23,7 @@ same_man : (a b : Man) → Some a ≡ Some b → a ≡ b
 same_man a b e = ap (man_or a) e
 
 -- What is known when the man who moved is found:
---   man_is   he is told from the man who stands on the last square
+--   man_is   he is known by the man on the last square
 --   mine     his colour was to move
 --   board, taken, target   what the position and the record hold
 pub record Found (now p : State) (kept : RecordParts) (man : Man) : Type 0 where

@@ -1,5 +1,5 @@
 -- What is kept of a move made, to take it back.
---   RecordParts   the move, and what the position after it no longer tells
+--   RecordParts   the move, and what the position after it no longer shows
 --   record_of     the record of a move in a position
 --   IsBefore      a position is the one before the move of a record
 --   Fits          there is such a position

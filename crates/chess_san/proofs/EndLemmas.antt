@@ -1,4 +1,4 @@
--- The marks of check and mate behind a text are dropped, and no other byte.
+-- The marks of check and mate after a text are dropped, and no other byte.
 use Rattle.std.proofs.Common.{◌≡◌, ℕ, Bool, true, false, cond, List, [], ◌∷◌, ◌++◌, reverse, refl, sym, ap, ◌∙◌}
 use Rattle.std.specs.Prelude.{codes}
 use Rattle.std.proofs.lemmas.List.{reverse-append, reverse-reverse}

@@ -1,4 +1,4 @@
--- What is written is read: files, ranks, squares, and what stands behind a man's letter.
+-- What is written is read: files, ranks, squares, and what comes after a man's letter.
 use Rattle.std.proofs.Common.{◌≡◌, ◌≢◌, ℕ, ◌+◌, ◌<◌, Bool, true, false, List, [], ◌∷◌, ◌++◌, Option, Some, None, refl, sym, ap, arith}
 use Rattle.std.specs.Option.{IfSome}
 use Rattle.std.proofs.lemmas.Bool.{le-leb, lt-leb, ne_eqb, true≢false}
@@ -62,7 +62,7 @@ module _ (to : ℕ) (on : to < 64) (promo : Option Kind) (names : names_promotio
   arrival_read origin true = target_read origin
   arrival_read origin false = rw (ne_eqb (97 + file_of to) 120 (omega arith)) (target_read origin)
 
-  -- what stands behind a rank is no target together with it
+  -- what comes after a rank is no target together with it
   rank_first : (origin : Origin) (r : ℕ) (taken : Bool) → r < 8 → arrival_in origin ((49 + r) ∷ arrival_text taken) ≡ None
   unfolding arrival_in arrival_square_in
   rank_first origin r true low = rw (ne_eqb (49 + r) 120 (omega arith), no_file (49 + r) (omega arith)) refl
@@ -74,7 +74,7 @@ module _ (to : ℕ) (on : to < 64) (promo : Option Kind) (names : names_promotio
   ranked_read file (Some r) taken low =
       rw (rank_first (record { file = file; rank = None }) r taken low, rank_read r low) (arrival_read (record { file = file; rank = Some r }) taken)
 
-  -- nor is what stands behind a file
+  -- nor is what comes after a file
   file_first : (origin : Origin) (f : ℕ) (rank : Option ℕ) (taken : Bool) → f < 8 → IfSome rank (λ r. r < 8) → arrival_in origin ((97 + f) ∷ (rank_digit rank ++ arrival_text taken)) ≡ None
   unfolding arrival_in arrival_square_in
   file_first origin f None true low h = rw (ne_eqb (97 + f) 120 (omega arith), file_read f low, no_rank 120 (omega arith)) refl

@@ -1,6 +1,6 @@
 -- What a text in standard algebraic notation says of a move (PGN 8.2.3).
 --   form_in     the form of a text: castling, a man by its letter, or a move without a letter
---   course_in   what stands behind the letter: where the man comes from, its target, and what a pawn becomes
+--   course_in   what comes after the letter: where the man comes from, its target, and what a pawn becomes
 -- Any number of + and # at the end is dropped; an x may stand before the target.
 use Rattle.std.specs.Prelude.{ℕ, ◌+◌, ◌*◌, ◌-◌, ◌==◌, nat_le, ◌&&◌, ◌||◌, if◌then◌else◌, List, [], ◌∷◌, Option, Some, None, codes, bytes_eq}
 use Rattle.std.specs.Str.{byte}
@@ -48,7 +48,7 @@ abbrev pub named_promotion : Option Kind → Option (Option Kind)
 named_promotion None = None
 named_promotion (Some kind) = Some (Some kind)
 
--- behind the target: nothing, or the letter of what a pawn becomes, with an = or nothing before it
+-- after the target: nothing, or the letter of what a pawn becomes, with an = or nothing before it
 unfoldable pub ending_in : List ℕ → Option (Option Kind)
 ending_in [] = Some None
 ending_in (b ∷ []) = named_promotion (promotion_in b)
@@ -60,7 +60,7 @@ course_to origin None ending = None
 course_to origin (Some to) None = None
 course_to origin (Some to) (Some promo) = Some (record { origin = origin; to = to; promo = promo })
 
--- the target, and what stands behind it
+-- the target, and what comes after it
 unfoldable pub arrival_square_in : Origin → List ℕ → Option Course
 arrival_square_in origin [] = None
 arrival_square_in origin (file ∷ []) = None
@@ -80,12 +80,12 @@ abbrev pub from_rank : Option ℕ → Option ℕ → List ℕ → Option Course
 from_rank file None rest = None
 from_rank file (Some rank) rest = arrival_in (record { file = file; rank = Some rank }) rest
 
--- a rank, and what stands behind it
+-- a rank, and what comes after it
 unfoldable pub ranked_in : Option ℕ → List ℕ → Option Course
 ranked_in file [] = None
 ranked_in file (b ∷ rest) = from_rank file (rank_in b) rest
 
--- a rank or nothing, and what stands behind it
+-- a rank or nothing, and what comes after it
 unfoldable pub rank_or_not : Option ℕ → List ℕ → Option Course
 rank_or_not file text = or_else (arrival_in (record { file = file; rank = None }) text) (ranked_in file text)
 
@@ -93,7 +93,7 @@ abbrev pub from_file : Option ℕ → List ℕ → Option Course
 from_file None rest = None
 from_file (Some file) rest = rank_or_not (Some file) rest
 
--- a file, and what stands behind it
+-- a file, and what comes after it
 unfoldable pub filed_in : List ℕ → Option Course
 filed_in [] = None
 filed_in (b ∷ rest) = from_file (file_in b) rest

@@ -1,6 +1,6 @@
 -- The one text of a legal move in standard algebraic notation (PGN 8.2.3).
 --   rivals      the legal moves of other men of like kind to the target
---   origin_of   what tells the man from them: nothing, its file, its rank, or both (PGN 8.2.3.4)
+--   origin_of   what distinguishes the man from them: nothing, its file, its rank, or both (PGN 8.2.3.4)
 --   mark_text   # for mate, + for check (PGN 8.2.3.5)
 --   san         the text
 use Rattle.std.specs.Prelude.{ℕ, ◌+◌, ◌==◌, Bool, not, ◌&&◌, ◌||◌, if◌then◌else◌, List, [], ◌∷◌, ◌++◌, filter, Option, Some, None, is_some, codes}
@@ -56,7 +56,7 @@ origin_by none file rank from =
     else (if not rank then record { file = None; rank = Some (rank_of from) }
     else record { file = Some (file_of from); rank = Some (rank_of from) }))
 
--- what tells a man from others
+-- what distinguishes a man from others
 unfoldable pub origin_among : List MoveParts → ℕ → Origin
 origin_among others from = origin_by (is_without others) (share_file others from) (share_rank others from) from
 
@@ -78,7 +78,7 @@ becoming_text (Some kind) = byte "=" ∷ piece_letter kind ∷ []
 unfoldable pub pawn_text : Bool → MoveParts → List ℕ
 pawn_text taken m = file_letter (if taken then Some (file_of m.from) else None) ++ (capture_text taken ++ (square_text m.to ++ becoming_text m.promo))
 
--- another man: its letter, what tells it from others, x where it captures, the target
+-- another man: its letter, what distinguishes it from others, x where it captures, the target
 unfoldable pub piece_text : Kind → Origin → Bool → ℕ → List ℕ
 piece_text kind origin taken to = piece_letter kind ∷ (file_letter origin.file ++ (rank_digit origin.rank ++ (capture_text taken ++ square_text to)))
 

@@ -59,7 +59,7 @@ fn promotion_in(letter: u8) -> Option<Kind>
     }
 }
 
-// What a pawn becomes, by what stands behind the target.
+// What a pawn becomes, by what comes after the target.
 #[tactic(auto, unfolding(crate::specs::Forms::ending_in))]
 fn ending_in(text: &[u8]) -> Option<Option<Kind>>
     ensures { result ≡ ending_in text.now }

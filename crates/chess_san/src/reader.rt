@@ -20,11 +20,11 @@ use chess_types::{Kind, Move, Setup, Square, SquareSet};
 fn square_on(file: u8, rank: u8) -> SquareSet
     ensures { (s : ℕ) → s < 64 → file_of s ≡ file → rank_of s ≡ rank → contains result s ≡ true }
 {
-    let mut alone = SquareSet::empty();
     if file < 8 && rank < 8 {
-        alone.insert(Square::from_index(8 * rank + file));
+        SquareSet::single(Square::at(file, rank))
+    } else {
+        SquareSet::empty()
     }
-    alone
 }
 
 /// The squares from which a move without a letter may come: the one that is given, or a pawn's.
@@ -110,7 +110,7 @@ fn only_from(from: SquareSet, to: Square, promo: Option<Kind>) -> Result<Move, S
     }
 }
 
-/// The only legal move of the form to the target: it tells where its moves go and what they become.
+/// The only legal move of the form to the target: the form says where its moves go and what they become.
 fn only_named(
     live: &mut Live,
     form: &Form,

@@ -101,7 +101,7 @@ fn share_rank(others: SquareSet, from: Square) -> bool
     false
 }
 
-/// What tells a man from others: whether there are none, and whether one of them shares its file, or its rank (PGN 8.2.3.4).
+/// What distinguishes a man from others: whether there are none, and whether one of them shares its file, or its rank (PGN 8.2.3.4).
 fn origin_by(none: bool, file: bool, rank: bool, from: Square) -> Origin
     ensures value { result ≡ origin_by none file rank from }
     ensures file { IfSome result.file (λ f. f < 8) }
@@ -130,7 +130,7 @@ fn origin_by(none: bool, file: bool, rank: bool, from: Square) -> Origin
     }
 }
 
-/// What tells the man that moves from its rivals.
+/// What distinguishes the man that moves from its rivals.
 fn origin_of(live: &mut Live, kind: Kind, from: Square, to: Square) -> Origin
     requires plain { is_pawn kind ≡ false }
     requires clock { live.old.position.clock ≤ 1000000 }
@@ -274,7 +274,7 @@ fn bare_text(live: &mut Live, man: Man, m: Move) -> ArrayString<8>
     }
 }
 
-/// The mark that stands behind the text of the move that led to a position: `+` where its king is in check, `#` where it is mated,
+/// The mark after the text of the move that led to a position: `+` where its king is in check, `#` where it is mated,
 /// nothing else (PGN 8.2.3.5). Both counters are at most 1,000,000. All is as before but for the ticks.
 #[tactic(auto, unfolding(crate::specs::Writing::mark_text))]
 pub fn write_mark(live: &mut Live) -> &'static str
@@ -300,7 +300,7 @@ fn man_at(setup: &Setup, square: Square) -> Option<Man>
     setup.placement.get(square)
 }
 
-/// The text of a legal move in standard algebraic notation (PGN 8.2.3) without its mark, at most 6 bytes: `write_mark`, asked behind the
+/// The text of a legal move in standard algebraic notation (PGN 8.2.3) without its mark, at most 6 bytes: `write_mark`, asked after the
 /// move, gives the rest. The halfmove clock and the fullmove number are below 1,000,000. All is as before but for the ticks.
 #[tactic(auto, unfolding(crate::specs::Writing::san))]
 pub fn write_unmarked(live: &mut Live, m: Move) -> ArrayString<8>

@@ -8,3 +8,4 @@ pub mod OrderLemmas
 pub mod SliceLemmas
 pub mod QuietLemmas
 pub mod FrontierLemmas
+pub mod MateLemmas

@@ -36,7 +36,7 @@ some_move : (moves : List MoveParts) → 0 < length moves → is_without moves �
 some_move [] some = absurd (omega arith)
 some_move (m ∷ moves) some = refl
 
--- the number of moves tells whether there are any
+-- the number of moves shows whether there are any
 no_moves : (moves : List MoveParts) → nat_lt 0 (length moves) ≡ false → moves ≡ []
 no_moves [] none = refl
 no_moves (m ∷ moves) none = absurd (grind (arith, none))
@@ -54,7 +54,7 @@ going claims line distance some playing = unfold ended in rw (some_move (legal_m
 pub value-leaf : (claims : Bool) (line : Line) (distance : ℕ) → 0 < length (legal_moves (last line)) → counts_drawn claims line ≡ false → value claims 0 line distance ≡ evaluation_for (last line)
 value-leaf claims line distance some playing = rw (going claims line distance some playing) refl
 
-value-suc : (claims : Bool) (depth : ℕ) (line : Line) (distance : ℕ) → 0 < length (legal_moves (last line)) → counts_drawn claims line ≡ false → value claims (suc depth) line distance ≡ greatest (map (worth claims depth line distance) (legal_moves (last line)))
+pub value-suc : (claims : Bool) (depth : ℕ) (line : Line) (distance : ℕ) → 0 < length (legal_moves (last line)) → counts_drawn claims line ≡ false → value claims (suc depth) line distance ≡ greatest (map (worth claims depth line distance) (legal_moves (last line)))
 value-suc claims depth line distance some playing = rw (going claims line distance some playing) refl
 
 pub value-play : (claims : Bool) (depth : ℕ) (line : Line) (distance : ℕ) → 0 < length (legal_moves (last line)) → counts_drawn claims line ≡ false → 0 < depth → value claims depth line distance ≡ greatest (map (worth claims (depth - 1) line distance) (legal_moves (last line)))

@@ -3,5 +3,6 @@ pub mod Value
 pub mod Best
 pub mod Asked
 pub mod Scores
+pub mod Mates
 pub mod Slices
 pub mod steps

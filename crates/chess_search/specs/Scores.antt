@@ -1,4 +1,4 @@
--- What a search tells a line is worth, and its text as UCI writes scores.
+-- What a line is worth by a search, and its text as UCI writes scores.
 --   IsValue      a number that a line may be worth to the side to move
 --   IsApart      it's the value of a mate, or far from any
 --   score_text   centipawns, or the moves to a mate

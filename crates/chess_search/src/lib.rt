@@ -5,6 +5,7 @@
 #![tactic(auto)]
 
 mod frontier;
+mod laws;
 mod nodes;
 mod order;
 mod roots;
@@ -13,6 +14,7 @@ mod search;
 mod slices;
 mod sums;
 
+pub use laws::mate_laws;
 pub use nodes::Nodes;
 pub use roots::{best, best_counted};
 pub use score::score_text;

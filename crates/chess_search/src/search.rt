@@ -205,7 +205,7 @@ impl Searcher {
         best
     }
 
-    /// The same as `score`; where the move is the last one that is looked at and the frontier tells enough, it isn't made.
+    /// The same as `score`; where the move is the last one that is looked at and the frontier knows enough, it isn't made.
     #[cycle(search)]
     fn judge<A: Allocator>(
         &mut self,

@@ -58,7 +58,7 @@ legal_long false long e = absurd (omega (arith, e))
 legal_long true true e = (refl, refl)
 legal_long true false e = absurd (omega (arith, e))
 
--- whatever is answered but want of memory is told by the line and the move
+-- whatever is answered but want of memory is decided by the line and the move
 as_told : (r a : Result (Unit {0}) LineFault) (P : Type 0) → (r ≡ a) ⊎ ((a ≡ Ok tt) × (r ≡ Err line.Memory) × P) → answer_number r < 3 → answer_number a ≡ answer_number r
 as_told r a P (inl e) h = ap answer_number (sym e)
 as_told r a P (inr e) h = absurd (omega (arith, h, ap answer_number e.1))
@@ -83,6 +83,22 @@ module _ (l : Line) (m : MoveParts) (r : Result (Unit {0}) LineFault) (P : Type 
   pushed_no_room e =
       let below = below_three (is_legal (last l) m) (nat_le 20000 (length l.moves)) in
       legal_short (is_legal (last l) m) (nat_le 20000 (length l.moves)) (else_done r (push_answer l m) P told e below)
+
+-- a legal move isn't refused as illegal
+legal_known : (legal long : Bool) → legal ≡ true → answer_number (answered legal long) ≡ 1 → ⊥
+legal_known true true known e = omega (arith, e)
+legal_known true false known e = omega (arith, e)
+legal_known false long known e = false≢true known
+
+pub not_illegal : (l : Line) (m : MoveParts) (r : Result (Unit {0}) LineFault) (P : Type 0) → (r ≡ push_answer l m) ⊎ ((push_answer l m ≡ Ok tt) × (r ≡ Err line.Memory) × P) →
+    is_legal (last l) m ≡ true → answer_number r ≡ 1 → ⊥
+not_illegal l m r P told legal e =
+    let h : answer_number r < 3 = omega (arith, e) in
+    legal_known (is_legal (last l) m) (nat_le 20000 (length l.moves)) legal (as_told r (push_answer l m) P told h ∙ e)
+
+-- what is legal at the cursor is legal at the end of the line
+pub still_legal : (t now : TreeParts) (l : LineParts) → IsAnalysed t l → t ≡ now → (m : MoveParts) → is_legal (last (line_to now)) m ≡ true → is_legal (last l.line) m ≡ true
+still_legal t now l is same m legal = ap (λ (x : Line). is_legal (last x) m) (is.follows ∙ ap line_to same) ∙ legal
 
 -- ---- a comment that is set
 

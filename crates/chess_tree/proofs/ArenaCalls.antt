@@ -125,7 +125,7 @@ height_comment : (text path : List ℕ) (n : Held) → height (commented_at text
 height_comment text [] n = omega arith
 height_comment text (k ∷ path) n = height_node (commented text) (k ∷ path) n.below (height_commented text)
 
--- the front of a list that ends in one more
+-- the prefix of a list that ends in one more
 pub front_is : (xs ys init : List ℕ) (a k : ℕ) → xs ≡ ys ++ a ∷ [] → xs ≡ init ++ k ∷ [] → ys ≡ init
 front_is xs ys init a k e w = sym (parent_last ys a) ∙ ap parent (sym e ∙ w) ∙ parent_last init k
 

@@ -115,7 +115,7 @@ is_comment text e = record {
 
 -- ---- word by word
 
--- words behind what is there, each behind a space unless it is the first
+-- words after what is there, each after a space unless it is the first
 abbrev pub behind : List ℕ → List (List ℕ) → List ℕ
 behind [] ws = join_with_byte 32 ws
 behind (b ∷ done) [] = b ∷ done

@@ -185,7 +185,7 @@ pub below_changed : (change : Forest → Forest) (path : List ℕ) (f : Forest) 
 below_changed change [] f h = refl
 below_changed change (k ∷ path) f h = ap (below_at path) (below_inside k (change_below change path) f h.0) ∙ below_changed change path (below_child k f) h.1
 
--- the new child stands behind those that were there
+-- the new child comes after those that were there
 pub place_added : (m : MoveParts) (path : List ℕ) (f : Forest) → Leads path f
     → count (below_at path f) < count (below_at path (change_below (with_move m) path f))
 place_added m path f h =

@@ -1,4 +1,4 @@
--- The frame law, and nodes side by side that are parted, joined and changed.
+-- The frame law, and nodes side by side that are split, joined and changed.
 use Rattle.std.proofs.Common.{◌≡◌, ◌≢◌, ℕ, zero, suc, ◌+◌, ◌<◌, ◌≤◌, sym, ap, ◌∙◌, subst, List, [], ◌∷◌, arith}
 use Rattle.chess_types.specs.board.MoveParts.{MoveParts}
 use Rattle.chess_tree.specs.steps.Entries.{Entry}

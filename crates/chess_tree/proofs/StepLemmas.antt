@@ -52,7 +52,7 @@ goes_up t game some =
     (leads_lowest t.path t.tree.below game.cursor some) in
     subst (λ (path : List ℕ). GoesOn above (at_path path t)) (sym (parent_on t.path some)) down
 
--- told of a place by the line to it alone
+-- known of a place by the line to it alone
 by_line : (a b t : TreeParts) → line_to b ≡ line_to a → GoesOn b t → GoesOn a t
 by_line a b t same on = record {
   move = on.move;

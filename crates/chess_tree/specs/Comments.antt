@@ -1,7 +1,7 @@
 -- The text of a comment (PGN 8.2.5).
 --   blanks       the bytes of white space
 --   normalised   the words, one space between two
---   with_next_word    a word more behind a text, behind a space unless it is the first
+--   with_next_word    a word more after a text, after a space unless it is the first
 --   has_brace    a right brace stands in it, which would end the comment
 --   IsComment    the text of a comment: normalised, and without a right brace
 use Rattle.std.specs.Prelude.{◌≡◌, ℕ, Bool, false, ◌==◌, List, [], ◌∷◌, ◌++◌}

@@ -2,8 +2,8 @@
 --   change_below  a change of the nodes below the one at the path; at the empty path, of the nodes below the root
 --   change_node   a change of the node at the path, or of its place among its siblings
 --   without_node       the nodes, but for one
---   promoted      one of them in front of the others
---   commented     a comment for one of them, in place of its own
+--   promoted      one of them before the others
+--   commented     a comment for one of them, instead of its own
 --   annotated     an annotation number more for one of them
 --   parent        the path one node less deep
 use Rattle.std.specs.Prelude.{ℕ, zero, suc, List, [], ◌∷◌, ◌++◌}
@@ -27,7 +27,7 @@ change_node change [] f = f
 change_node change (k ∷ []) f = change k f
 change_node change (k ∷ j ∷ path) f = inside k (change_node change (j ∷ path)) f
 
--- a node more behind the others, with no notes and nothing below it
+-- a node more after the others, with no notes and nothing below it
 abbrev pub with_move : MoveParts → Forest → Forest
 with_move m f = append f (Node m [] [] Bare Bare)
 
@@ -37,7 +37,7 @@ without_node k Bare = Bare
 without_node zero (Node m nags comment below next) = next
 without_node (suc k) (Node m nags comment below next) = Node m nags comment below (without_node k next)
 
--- that node in front of these
+-- that node before these
 abbrev pub in_front : ℕ → Forest → Forest → Forest
 in_front k Bare others = others
 in_front zero (Node m nags comment below next) others = Node m nags comment below others
@@ -53,7 +53,7 @@ commented text k Bare = Bare
 commented text zero (Node m nags comment below next) = Node m nags text below next
 commented text (suc k) (Node m nags comment below next) = Node m nags comment below (commented text k next)
 
--- the node at that place has that annotation number behind its others
+-- the node at that place has that annotation number after its others
 abbrev pub annotated : ℕ → ℕ → Forest → Forest
 annotated n k Bare = Bare
 annotated n zero (Node m nags comment below next) = Node m (nags ++ n ∷ []) comment below next

@@ -21,7 +21,7 @@ pub record NodeParts : Type 0 where
   pub comment : List ℕ
   pub below : Forest
 
--- the nodes of one, and behind them those of the other
+-- the nodes of one, and after them those of the other
 abbrev pub append : Forest → Forest → Forest
 append Bare f = f
 append (Node m nags comment below next) f = Node m nags comment below (append next f)

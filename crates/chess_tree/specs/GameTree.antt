@@ -81,7 +81,7 @@ at_path path t = record { tree = t.tree; path = path }
 abbrev pub changed : (Forest → Forest) → GameTree → GameTree
 changed change tree = record { start = tree.start; comment = tree.comment; below = change tree.below }
 
--- a child with that move behind the others, and the cursor on it
+-- a child with that move after the others, and the cursor on it
 abbrev pub added : MoveParts → TreeParts → TreeParts
 added m t = record { tree = changed (change_below (with_move m) t.path) t.tree; path = t.path ++ count (below_at t.path t.tree.below) ∷ [] }
 
@@ -89,20 +89,20 @@ added m t = record { tree = changed (change_below (with_move m) t.path) t.tree; 
 abbrev pub deleted : TreeParts → TreeParts
 deleted t = record { tree = changed (change_node without_node t.path) t.tree; path = parent t.path }
 
--- the node in front of its siblings, and the cursor still on it
+-- the node before its siblings, and the cursor still on it
 abbrev pub promoted_here : TreeParts → TreeParts
 promoted_here t = record { tree = changed (change_node promoted t.path) t.tree; path = parent t.path ++ 0 ∷ [] }
 
--- that annotation number behind those of the node
+-- that annotation number after those of the node
 abbrev pub annotated_here : ℕ → TreeParts → TreeParts
 annotated_here nag t = record { tree = changed (change_node (annotated nag) t.path) t.tree; path = t.path }
 
--- that text in place of the comment of the node at a path, or of the root
+-- that text instead of the comment of the node at a path, or of the root
 abbrev pub commented_tree : List ℕ → List ℕ → GameTree → GameTree
 commented_tree text [] tree = record { start = tree.start; comment = text; below = tree.below }
 commented_tree text (k ∷ path) tree = changed (change_node (commented text) (k ∷ path)) tree
 
--- that text in place of the comment at the cursor
+-- that text instead of the comment at the cursor
 abbrev pub commented_here : List ℕ → TreeParts → TreeParts
 commented_here text t = record { tree = commented_tree text t.path t.tree; path = t.path }
 

@@ -1,4 +1,4 @@
-ghost use Rattle.std.specs.Prelude.{◌≡◌, ℕ, ◌<◌, ◌≤◌, [], length, true, Some, Err, IfErr, IfOk, Ok, OnErr, OnOk, nat_le, if◌then◌else◌};
+ghost use Rattle.std.specs.Prelude.{◌≡◌, ℕ, ◌<◌, ◌≤◌, [], length, true, Some, Err, IfErr, IfOk, IsTrue, Ok, OnErr, OnOk, nat_le, if◌then◌else◌};
 ghost use Rattle.chess_types.specs.board.Legal.{is_legal};
 ghost use Rattle.chess_types.specs.board.Lines.{extended, last};
 ghost use Rattle.chess_tree.specs.declared.fault.TreeFault.TheVariants.{Memory};
@@ -26,12 +26,12 @@ use std::marker::Model;
 ///
 /// The line has room for the way down to each node, so that a step takes no memory.
 #[derive(Drop)]
-pub struct Analysis<'a, A: Allocator> {
+pub struct Analysis<'a, 'k, A: Allocator> {
     tree: Tree<'a, A>,
-    line: Line<'a, &'a A>,
+    line: Line<'k, &'a A>,
 }
 
-impl<'a, A: Allocator> Model for Analysis<'a, A> {
+impl<'a, 'k, A: Allocator> Model for Analysis<'a, 'k, A> {
     ghost use Rattle.chess_tree.specs.GameTree.{TreeParts};
     ghost use Rattle.chess_tree.specs.steps.TreeCode.{coded_tree};
 
@@ -74,14 +74,14 @@ fn grow<A: Allocator>(tree: &mut Tree<'_, A>, m: Move) -> Result<(), PlayFault>
     }
 }
 
-impl<'a, A: Allocator> Analysis<'a, A> {
+impl<'a, 'k, A: Allocator> Analysis<'a, 'k, A> {
     /// An analysis with no move, from that position, whose counters are at most 99,999; keys are kept by the words of the
     /// table. `Memory` where there is none.
     pub fn new(
         alloc: &'a A,
         start: Position,
-        table: &'a KeyTable,
-    ) -> Result<Analysis<'a, A>, TreeFault>
+        table: &'k KeyTable,
+    ) -> Result<Analysis<'a, 'k, A>, TreeFault>
         requires clock { start.clock ≤ 99999 }
         requires number { start.number ≤ 99999 }
         ensures ok { IfOk result (λ a. a ≡ record { tree = record { start = start; comment = []; below = Bare }; path = [] }) }
@@ -113,7 +113,7 @@ impl<'a, A: Allocator> Analysis<'a, A> {
     }
 
     /// The line from the root to the cursor, to look at.
-    pub fn line(&self) -> &Line<'a, &'a A>
+    pub fn line(&self) -> &Line<'k, &'a A>
         ensures line { result.now.line ≡ line_to self.now }
         ensures still { result.now.looked ≡ 0 }
     {
@@ -121,7 +121,7 @@ impl<'a, A: Allocator> Analysis<'a, A> {
     }
 
     /// The position at the cursor with the numbers kept for it. The move that led to it, made or taken back, changed at most 216 counts.
-    pub fn live(&self) -> &Live<'a>
+    pub fn live(&self) -> &Live<'k>
         ensures position { result.now.position ≡ last (line_to self.now) }
         ensures at_most { result.now.ticks ≤ 216 }
     {
@@ -158,7 +158,31 @@ impl<'a, A: Allocator> Analysis<'a, A> {
         Ok(())
     }
 
-    /// Adds a move as a child of its own, behind the others, whether or not one of them has it, and steps into it.
+    /// The same with a move that is known to be legal, as `read_move` answers it: it isn't asked again.
+    ///
+    /// # Errors
+    ///
+    /// Those of `add_legal`; none where a child has the move. All is then as before.
+    #[tactic(auto, using(crate::proofs::AnalysisLemmas::found_line))]
+    pub fn play_legal(&mut self, m: Move) -> Result<(), PlayFault>
+        requires legal { IsTrue (is_legal (last (line_to self.old)) m) }
+        ensures answer { IsAnswer (play_answer self.old m) result }
+        // A step takes no memory.
+        ensures found { (place : ℕ) → find m (nodes_here self.old) ≡ Some place → result ≡ Ok tt }
+        ensures ok { OnOk result (self.new ≡ played m self.old) }
+        ensures line { OnOk result (line_to self.new ≡ extended (line_to self.old) m) }
+        ensures err { OnErr result (self.new ≡ self.old) }
+    {
+        let Some(place) = self.tree.find(m) else {
+            return self.add_legal(m);
+        };
+        if self.step(place).is_err() {
+            unreachable!();
+        }
+        Ok(())
+    }
+
+    /// Adds a move as a child of its own, after the others, whether or not one of them has it, and steps into it.
     ///
     /// # Errors
     ///
@@ -170,11 +194,29 @@ impl<'a, A: Allocator> Analysis<'a, A> {
         ensures line { OnOk result (line_to self.new ≡ extended (line_to self.old) m) }
         ensures err { OnErr result (self.new ≡ self.old) }
     {
-        match self.line.prepare(m) {
+        if !self.line.is_legal(m) {
+            return Err(PlayFault::Illegal);
+        }
+        self.add_legal(m)
+    }
+
+    /// The same with a move that is known to be legal, as `read_move` answers it: it isn't asked again.
+    ///
+    /// # Errors
+    ///
+    /// Those of `add` but `Illegal`. All is then as before.
+    pub fn add_legal(&mut self, m: Move) -> Result<(), PlayFault>
+        requires legal { IsTrue (is_legal (last (line_to self.old)) m) }
+        ensures answer { IsAnswer (add_answer self.old m) result }
+        ensures ok { OnOk result (self.new ≡ added m self.old) }
+        ensures line { OnOk result (line_to self.new ≡ extended (line_to self.old) m) }
+        ensures err { OnErr result (self.new ≡ self.old) }
+    {
+        match self.line.make_room() {
             Ok(()) => {}
-            Err(LineFault::Illegal) => return Err(PlayFault::Illegal),
             Err(LineFault::TooLong) => return Err(PlayFault::TooLong),
             Err(LineFault::Memory) => return Err(without_room(&self.tree)),
+            Err(LineFault::Illegal) => unreachable!(),
         }
         if let Err(fault) = grow(&mut self.tree, m) {
             return Err(fault);

@@ -34,7 +34,7 @@ module _ {S : Type 0} (call : S → List ℕ → S → Type 0) where
     whole = rw (joined-more first.pieces p, first.whole) refl;
   }
 
--- Each call takes its piece off the front of what is left, and so do all.
+-- Each call takes its piece off the beginning of what is left, and so do all.
 pub Calls-left : {S : Type 0} (call : S → List ℕ → S → Type 0) (left : S → List ℕ) → ((s t : S) (p : List ℕ) → call s p t → left s ≡ p ++ left t) → (s t : S) (ps : List (List ℕ)) → Calls call s ps t → left s ≡ joined ps ++ left t
 Calls-left call left one s t [] calls = ap left calls
 Calls-left call left one s t (p ∷ ps) calls =

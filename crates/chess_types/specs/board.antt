@@ -7,6 +7,7 @@ pub mod Attack
 pub mod Bits
 pub mod MoveParts
 pub mod Texts
+pub mod Parsed
 pub mod Position
 pub mod Pseudo
 pub mod After
@@ -14,5 +15,9 @@ pub mod Legal
 pub mod Lines
 pub mod Repetition
 pub mod Dead
+pub mod Faults
+pub mod Equality
+pub mod Diagram
 pub mod Outcome
 pub mod SetEnds
+pub mod Sets

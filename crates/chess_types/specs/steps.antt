@@ -4,4 +4,6 @@ pub mod ManCode
 pub mod StateCode
 pub mod LineCode
 pub mod SetWords
+pub mod SetLaws
+pub mod SameLaws
 pub mod KeptSets

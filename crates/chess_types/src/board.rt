@@ -2,6 +2,9 @@
 
 mod axis;
 mod cell;
+mod diagram;
+mod draft;
+mod faults;
 mod kept;
 mod man;
 mod moves;
@@ -12,11 +15,14 @@ mod square;
 mod square_set;
 
 pub use axis::Axis;
-pub use cell::{holds_pawn, is_king_of, is_of, men_in};
+pub use cell::{holds_pawn, is_king_of, is_man, is_of, men_in};
+pub use diagram::Diagram;
+pub use draft::Draft;
+pub use faults::{PositionFault, is_explained, is_home, men_fault};
 pub use man::{Colour, Kind, Man};
-pub use moves::Move;
+pub use moves::{Move, NotAMove};
 pub use outcome::{Claims, Status};
 pub use placement::Placement;
 pub use position::{Position, Rights, Setup, Wing};
-pub use square::Square;
+pub use square::{NotASquare, Square};
 pub use square_set::{SquareSet, SquareSetIter};

@@ -1,4 +1,4 @@
--- What a search keeps and tells is the best.
+-- What a search keeps and reports is the best.
 use Rattle.std.proofs.Common.{◌≡◌, ℕ, zero, suc, ◌+◌, ◌==◌, ◌<◌, max, Bool, true, false, List, [], ◌∷◌, length, Option, Some, None, refl, sym, ap, ◌∙◌, subst, arith, ℤ}
 use Rattle.std.specs.Prelude.{nat_lt, ⊤}
 use Rattle.chess_types.specs.board.MoveParts.{MoveParts}
@@ -16,7 +16,7 @@ abbrev IsKept : GameLine → Option Search → Type 0
 IsKept l None = ⊤
 IsKept l (Some x) = (x.completed ≡ best_done l x x.done) × (0 < x.depth)
 
--- a step keeps what a search keeps, and tells the best
+-- a step keeps what a search keeps, and reports the best
 abbrev Good : GameLine → Option Search → Event → Step → Type 0
 Good l x event t = IsKept t.1.line t.1.search × Each (TellsBest l x event) t.0
 

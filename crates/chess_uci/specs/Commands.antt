@@ -1,9 +1,9 @@
 -- What a line of a session asks for (the UCI protocol's text).
 --   gaps         the bytes that part words
 --   Command      what may be asked for
---   named        the command that a word names, with the words behind it
+--   named        the command that a word names, with the words after it
 --   asked        what a line asks for
---   claims_set   what the words behind `setoption` set the option Claims to
+--   claims_set   what the words after `setoption` set the option Claims to
 use Rattle.std.specs.Prelude.{ℕ, Bool, true, false, ◌||◌, ◌&&◌, if◌then◌else◌, List, [], ◌∷◌, map, Option, Some, None, unwrap_or, codes}
 use Rattle.std.specs.Char.{to_ascii_lowercase}
 use Rattle.std.specs.Str.{bytes_eq}
@@ -19,15 +19,15 @@ pub data Command : Type 0 where
   Uci : Command
   IsReady : Command
   NewGame : Command
-  -- a position, by the words behind `position`
+  -- a position, by the words after `position`
   Position : List (List ℕ) → Command
   -- a position for which there is no memory
   Unplaced : Command
-  -- a search, by the words behind `go`
+  -- a search, by the words after `go`
   Go : List (List ℕ) → Command
   Stop : Command
   Quit : Command
-  -- an option, by the words behind `setoption`
+  -- an option, by the words after `setoption`
   SetOption : List (List ℕ) → Command
 
 abbrev pub is_idle : List ℕ → Bool

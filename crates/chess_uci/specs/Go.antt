@@ -1,8 +1,8 @@
--- What the words behind `go` ask for.
+-- What the words after `go` ask for.
 --   name_of      the field that the word names and gives the next word to
 --   number       the number that a word writes
 --   fields       the fields that the words set
---   is_named     the words behind the last `searchmoves` name the move
+--   is_named     the words after the last `searchmoves` name the move
 --   budget       the milliseconds that the search may take, if it is timed
 --   last_depth   how deep it goes
 use Rattle.std.specs.Prelude.{ℕ, ◌+◌, ◌-◌, ◌*◌, ◌/◌, ◌==◌, min, max, Bool, true, false, ◌||◌, if◌then◌else◌, List, [], ◌∷◌, fold, Option, Some, None, option_map, unwrap_or, is_some, codes}
@@ -36,7 +36,7 @@ is_infinite word = bytes_eq word (codes "infinite")
 abbrev pub is_searchmoves : List ℕ → Bool
 is_searchmoves word = bytes_eq word (codes "searchmoves")
 
--- any word that has a meaning behind `go`
+-- any word that has a meaning after `go`
 abbrev pub is_name : List ℕ → Bool
 is_name word = is_some (name_of word) || is_infinite word || bytes_eq word (codes "ponder") || is_searchmoves word
 
@@ -91,7 +91,7 @@ read_word r word = read_as r.fields word (given r.wanted word)
 abbrev pub fields : List (List ℕ) → Fields
 fields words = (fold read_word (record { fields = no_fields; wanted = None }) words).fields
 
--- the words behind the last `searchmoves`
+-- the words after the last `searchmoves`
 abbrev pub behind : List (List ℕ) → List (List ℕ) → List (List ℕ)
 behind found [] = found
 behind found (word ∷ words) = if is_searchmoves word then behind words words else behind found words

@@ -1,14 +1,14 @@
 -- Laws of the machine, over every list of events.
 --   after_events, replies  the state after some events, and what they are replied
---   best_moves         how many of some replies tell a best move
+--   best_moves         how many of some replies report a best move
 --   taken              how many `go` lines before `quit` are not refused as busy
 --   unfinished         whether a search runs at the end, or ran when `quit` came
 --   AnswersEachGo      as many best moves as such `go` lines, less one where a search is unfinished
 --   cause              the event ends a search, or is a `go` without a legal move
---   AnswersAtTheEnd    a best move is told exactly there, and once
+--   AnswersAtTheEnd    a best move is reported exactly there, and once
 --   IsReadyAlone       `isready` is answered at its own event, and all else is as without it
 --   SilentAfterQuit    nothing is answered after `quit`
---   TellsTheBest       what is told of a depth, and each best move, is the best among the roots
+--   TellsTheBest       what is reported of a depth, and each best move, is the best among the roots
 --   SearchStays        the line, the roots, the last depth and the end of a search stay while it runs
 use Rattle.std.specs.Prelude.{◌≡◌, ⊤, ℕ, zero, suc, ◌+◌, ◌==◌, max, Bool, true, false, ◌&&◌, not, if◌then◌else◌, List, [], ◌∷◌, ◌++◌, length, count_by, Option, Some, None, is_some, ℤ}
 use Rattle.chess_types.specs.board.MoveParts.{MoveParts}
@@ -161,7 +161,7 @@ finished x (Starved bytes) = x.done
 finished x Slice = x.depth
 finished x (Moment moment) = x.done
 
--- What a reply tells is the best at its depth among the roots, on the line as it is.
+-- What a reply reports is the best at its depth among the roots, on the line as it is.
 abbrev pub TellsBest : GameLine → Option Search → Event → Reply → Type 0
 TellsBest l None event (Info depth m value) = ⊥
 TellsBest l (Some x) event (Info depth m value) = (depth ≡ x.depth) × (best x.claims depth l x.roots ≡ Some (m, value))

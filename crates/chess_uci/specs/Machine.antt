@@ -6,7 +6,7 @@
 --   beginning    as it begins
 --   roots_of     the moves that a search is about
 --   begun        a search as it begins
---   chosen       the move that is told when it ends
+--   chosen       the move that is reported when it ends
 --   slice        one root more is searched, at depths 1, 2, .. up to the last, and at each from the first root to the last
 --   is_reached   the clock has come to the end of the search
 --   step         the replies to an event, and the state afterwards
@@ -164,7 +164,7 @@ abbrev pub line_step : State → Option Search → Command → Step
 line_step s None command = idle_command s command
 line_step s (Some x) command = busy_command x s command
 
--- what is told of a completed depth
+-- what is reported of a completed depth
 abbrev pub info : ℕ → Option (MoveParts × ℤ) → List Reply
 info depth None = []
 info depth (Some best) = Info depth best.0 best.1 ∷ []

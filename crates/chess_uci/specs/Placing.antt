@@ -1,4 +1,4 @@
--- The line that the words behind `position` name.
+-- The line that the words after `position` name.
 --   start_line   a game as it begins
 --   begun_by     where the line begins: `startpos`, or `fen` and the words of a FEN
 --   named_move   the legal move that a word names in long algebraic notation
@@ -26,7 +26,7 @@ start_line = from_position start
 abbrev pub is_moves : List ℕ → Bool
 is_moves word = bytes_eq word (codes "moves")
 
--- the words before the first `moves`, and those behind it
+-- the words before the first `moves`, and those after it
 abbrev pub before_moves : List (List ℕ) → List (List ℕ)
 before_moves [] = []
 before_moves (word ∷ words) = if is_moves word then [] else word ∷ before_moves words
@@ -40,16 +40,16 @@ abbrev pub if_read : Result State FenFault → Option Line
 if_read (Ok p) = Some (from_position p)
 if_read (Err fault) = None
 
--- nothing stands behind `startpos`
+-- nothing comes after `startpos`
 abbrev pub if_alone : List (List ℕ) → Option Line
 if_alone [] = Some start_line
 if_alone (word ∷ words) = None
 
--- the words, each with a space behind it
+-- the words, each with a space after it
 abbrev pub spaced : List (List ℕ) → List ℕ
 spaced words = flat_map (λ word. word ++ codes " ") words
 
--- the words behind `fen`, parted by spaces, are the FEN
+-- the words after `fen`, separated by spaces, are the FEN
 abbrev pub begun_by : List (List ℕ) → Option Line
 begun_by [] = None
 begun_by (word ∷ words) =

@@ -8,7 +8,7 @@ use chess_types::split_word;
 /// The bytes that part words.
 pub(crate) const GAPS: &[u8] = b"\t\n\x0b\x0c\r ";
 
-/// What a line asks for, with what stands behind the command.
+/// What a line asks for, with what comes after the command.
 #[derive(Clone, Copy)]
 pub(crate) enum Command<'a> {
     Idle,
@@ -87,7 +87,7 @@ fn truth_in(word: &[u8]) -> Option<bool>
     }
 }
 
-/// What the words behind `setoption` set the option Claims to, if they do.
+/// What the words after `setoption` set the option Claims to, if they do.
 pub(crate) fn claims_set(rest: &[u8]) -> Option<bool>
     ensures { result ≡ claims_set (words gaps rest.now) }
 {

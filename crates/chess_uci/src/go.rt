@@ -22,7 +22,7 @@ fn is_name(word: &[u8]) -> bool
         || is_searchmoves(word)
 }
 
-/// What stands behind the last `searchmoves`.
+/// What comes after the last `searchmoves`.
 pub(crate) fn behind(text: &[u8]) -> &[u8]
     ensures { words gaps result.now ≡ behind [] (words gaps text.now) }
 {

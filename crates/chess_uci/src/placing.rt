@@ -36,7 +36,7 @@ pub(crate) fn start_line<'a, A: Allocator>(alloc: &'a A, table: &'a KeyTable) ->
     Line::start(alloc, Position::start(), table)
 }
 
-// What stands behind the first `moves`; nothing where there is none.
+// What comes after the first `moves`; nothing where there is none.
 fn behind_moves(text: &[u8]) -> &[u8]
     ensures { words gaps result.now ≡ behind_moves (words gaps text.now) }
 {
@@ -50,7 +50,7 @@ fn behind_moves(text: &[u8]) -> &[u8]
     &[]
 }
 
-// A word and a space behind it.
+// A word and a space after it.
 fn add_word<'a, A: Allocator>(text: &mut Vec<u8, &'a A>, word: &[u8]) -> Result<(), AllocError>
     ensures { OnOk result (text.new.items ≡ text.old.items ++ (word.now ++ codes " ")) }
 {
@@ -59,7 +59,7 @@ fn add_word<'a, A: Allocator>(text: &mut Vec<u8, &'a A>, word: &[u8]) -> Result<
     Ok(())
 }
 
-// The words up to the first `moves`, each with a space behind it.
+// The words up to the first `moves`, each with a space after it.
 fn fen_text<'a, A: Allocator>(alloc: &'a A, text: &[u8]) -> Result<Vec<u8, &'a A>, AllocError>
     ensures fen { IfOk result (λ fen. fen.items ≡ spaced (before_moves (words gaps text.now))) }
     ensures grows { OnErr result (names_fen (codes "fen" ∷ before_moves (words gaps text.now)) ≡ true) }
@@ -76,7 +76,7 @@ fn fen_text<'a, A: Allocator>(alloc: &'a A, text: &[u8]) -> Result<Vec<u8, &'a A
     Ok(fen)
 }
 
-// The line that begins in the position whose FEN stands in front of the first `moves`.
+// The line that begins in the position whose FEN stands before the first `moves`.
 fn begin_in<'a, A: Allocator>(
     alloc: &'a A,
     table: &'a KeyTable,
@@ -149,7 +149,7 @@ fn play<A: Allocator>(line: &mut Line<'_, A>, moves: &[u8]) -> Result<(), PlaceF
     Ok(())
 }
 
-/// The line that the words behind `position` name.
+/// The line that the words after `position` name.
 pub(crate) fn place<'a, A: Allocator>(
     alloc: &'a A,
     table: &'a KeyTable,

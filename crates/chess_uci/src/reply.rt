@@ -15,7 +15,7 @@ pub enum Reply {
     Author,
     /// The option Claims.
     ClaimsOption,
-    /// All options were told.
+    /// All options were listed.
     UciOk,
     /// The session is ready.
     ReadyOk,

@@ -93,7 +93,7 @@ impl Search {
         }
     }
 
-    // What is told of the completed depth.
+    // What is reported of the completed depth.
     fn info(&self) -> ArrayVec<Reply, 4>
         ensures { result.items ≡ info self.now.done self.now.completed }
     {
@@ -107,7 +107,7 @@ impl Search {
         }
     }
 
-    // What is told of it where the search ends with it.
+    // What is reported of it where the search ends with it.
     fn last_info(&self) -> ArrayVec<Reply, 4>
         ensures { result.items ≡ info self.now.done self.now.completed ++ Reply.BestMove (chosen self.now.completed self.now.slices.roots) ∷ [] }
     {

@@ -22,7 +22,7 @@ use tags::name_game;
 /// The status where memory or a stream failed.
 const FAILED: u8 = 3;
 
-/// The number that the digits at the front of a text spell, 1,000,000 at most.
+/// The number that the digits at the beginning of a text spell, 1,000,000 at most.
 fn number(text: &[u8]) -> u32 {
     let mut number = 0u32;
     for b in text {

@@ -29,7 +29,7 @@ const WORDS: [&str; 8] = [
 /// Writes random games.
 #[derive(Drop)]
 pub struct Scribe<'a, A: Allocator> {
-    analysis: Analysis<'a, A>,
+    analysis: Analysis<'a, 'a, A>,
     random: Pcg32,
 }
 
@@ -61,7 +61,7 @@ impl<'a, A: Allocator> Scribe<'a, A> {
         }
     }
 
-    // Adds a variation in place of the last move, and so on within it, and comes back behind that move.
+    // Adds a variation to the last move, and so on within it, and comes back after that move.
     fn vary(&mut self, deep: u32) {
         let depth = self.analysis.tree().depth();
         if deep == 0 || depth == 0 {
@@ -88,7 +88,7 @@ impl<'a, A: Allocator> Scribe<'a, A> {
         let _set = self.analysis.set_comment(text.as_slice());
     }
 
-    /// Writes a game of that kind behind what is written.
+    /// Writes a game of that kind after what is written.
     pub fn write(&mut self, kind: Kind) {
         for _ in 0..PLIES / STEP {
             self.wander(STEP);

@@ -12,7 +12,7 @@ use Rattle.chess_types.proofs.Counters.{clock_more, number_more}
 use Rattle.chess_types.specs.board.Legal.{is_legal, legal_moves, all_moves}
 use Rattle.perft.specs.Leaves.{leaves_of}
 
--- the leaves behind one move
+-- the leaves after one move
 abbrev pub leaves_after : ℕ → State → MoveParts → ℕ
 leaves_after n p m = leaves_of n (after p m)
 
@@ -46,7 +46,7 @@ counted_begin p depth list deep is =
 saturated : (count one sum : ℕ) → min (min (count + min one (2 ^ 64 - 1)) (2 ^ 64 - 1) + sum) (2 ^ 64 - 1) ≡ min (count + (one + sum)) (2 ^ 64 - 1)
 saturated count one sum = omega arith
 
--- one more move is counted, by the leaves of the position behind it
+-- one more move is counted, by the leaves of the position after it
 pub counted_next : {p : State} {depth count : ℕ} {rest : List MoveParts} → Counted p depth count rest → (m : MoveParts) (more : List MoveParts) (now : State) (one new : ℕ) →
     rest ≡ m ∷ more → now ≡ after p m → one ≡ min (leaves_of (depth - 1) now) (2 ^ 64 - 1) → new ≡ min (count + one) (2 ^ 64 - 1) → Counted p depth new more
 counted_next {p} {depth} {count} {rest} counted m more now one new is now_is one_is new_is =
@@ -109,7 +109,7 @@ one_ply p depth len list one len_is is fits =
     ∙ sym len_is in
     omega (arith, leaves)
 
--- A move adds at most one to each counter, so that there is room for the plies behind it. The position is known under two names.
+-- A move adds at most one to each counter, so that there is room for the plies after it. The position is known under two names.
 pub clock_room : (p now next : State) (m : MoveParts) (depth : ℕ) → now ≡ p → next ≡ after now m → 1 ≤ depth → p.clock + depth ≤ 1000000 → next.clock + (depth - 1) ≤ 1000000
 clock_room p now next m depth same next_is deep room =
     let e : next.clock ≡ (after p m).clock = ap (λ (s : State). s.clock) (next_is ∙ ap (λ (s : State). after s m) same) in

@@ -5,7 +5,7 @@ use Rattle.std.proofs.KnownBytes.{Appends-nil, Appends-trans, Appends-kept, Cons
 use Rattle.std.proofs.lemmas.Bool.{cases_Bool}
 use Rattle.perft.specs.InputLines.{lines_from, line_after, kept, line_text, text_after, texts, answers}
 
--- What was read is `given`, of which `begun` stands behind the last line feed; the lines before it are answered by `done`.
+-- What was read is `given`, of which `begun` comes after the last line feed; the lines before it are answered by `done`.
 -- Whatever comes next, what is still to be answered is as if all came at once.
 pub record Underway (x0 x w0 w line : Option (List ℕ)) : Type 0 where
   pub given : List ℕ
@@ -49,7 +49,7 @@ on {x0} {x} {w0} {w} {line} so b y v new read new_is written =
           ∙ ap answers (sym (append_assoc so.given (b ∷ []) rest));
     }
 
--- the end of the input, and the answer to what stands behind the last line feed
+-- the end of the input, and the answer to what comes after the last line feed
 pub finished : {x0 x w0 w line : Option (List ℕ)} → Underway x0 x w0 w line → (v u : Option (List ℕ)) → IsAtEnd x → Appends w v (line_text line) → Keeps v u →
     IfSome x0 (λ given. Appends w0 u (answers given))
 finished {x0} {x} {w0} {w} {line} so v u at_end written kept_is =

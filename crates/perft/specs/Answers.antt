@@ -4,7 +4,7 @@
 --   fault_text   `fault N NAME`
 --   count_text   the number of leaves at the depth, at most 2^64 - 1, or the fault of the FEN
 --   answer_for   the same, or the fault of the depth
---   answer_to    of the words `DEPTH FEN`; behind, what stands behind the first word of a line
+--   answer_to    of the words `DEPTH FEN`; `behind`, what comes after the first word of a line
 --   is_full      the word asks for every leaf to be made
 --   answer       of a whole line, without its line feed; nothing for a line without words
 use Rattle.std.specs.Prelude.{ℕ, ◌-◌, ◌^◌, min, Bool, if◌then◌else◌, List, [], ◌∷◌, ◌++◌, Option, Some, None, Result, Ok, Err, codes, decimal, bytes_eq}
@@ -34,11 +34,11 @@ abbrev pub answer_for : Option ℕ → List ℕ → List ℕ
 answer_for None fen = codes "fault Depth"
 answer_for (Some depth) fen = count_text depth (reading fen)
 
--- what stands behind the first word
+-- what comes after the first word
 abbrev pub behind : List ℕ → List ℕ
 behind line = after_word gaps (skip_gaps gaps line)
 
--- the first word is the depth, and what stands behind it the FEN
+-- the first word is the depth, and what comes after it the FEN
 abbrev pub answer_to : List (List ℕ) → List ℕ → List ℕ
 answer_to [] fen = codes "fault Depth"
 answer_to (word ∷ _) fen = answer_for (depth_in word) fen

@@ -1,5 +1,5 @@
 -- What is answered to the lines of the input, which end with a line feed (byte 10), as the last need not.
---   lines_of    the lines: what stands behind the last line feed is one too
+--   lines_of    the lines: what comes after the last line feed is one too
 --   line_text   what is written for a line
 --   answers     what is written for all
 use Rattle.std.specs.Prelude.{ℕ, ◌==◌, nat_le, if◌then◌else◌, List, [], ◌∷◌, ◌++◌, length, Option, Some, None, codes}

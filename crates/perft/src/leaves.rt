@@ -14,8 +14,8 @@ pub enum LastPly {
     Made,
 }
 
-/// How many positions stand so many plies behind this one, each line of legal moves counted by itself: 1 at depth 0. A count over
-/// 2^64 - 1 is told as that. The halfmove clock and the fullmove number plus the depth are at most 1,000,000, so that both have room
+/// How many positions stand so many plies after this one, each line of legal moves counted by itself: 1 at depth 0. A count over
+/// 2^64 - 1 is reported as that. The halfmove clock and the fullmove number plus the depth are at most 1,000,000, so that both have room
 /// for each ply's move. Each ply lies on the stack with its list of moves. All is as before but for the ticks.
 pub fn leaves(live: &mut Live, depth: u32, last: LastPly) -> u64
     requires clock { live.old.position.clock + depth ≤ 1000000 }

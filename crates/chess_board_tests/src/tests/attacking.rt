@@ -2,7 +2,7 @@ ghost use Rattle.std.specs.Prelude.{◌≡◌};
 ghost use Rattle.chess_types.specs.board.Men.{kings_of};
 
 use super::boards::{board, square, start};
-use chess_attack::{attacks, attacks_square, checkers, is_clear, leaps, pinned};
+use chess_attack::{attackers, attacks, attacks_square, checkers, is_clear, leaps, pinned};
 use chess_types::{Colour, Kind, Man, Placement, Square, SquareSet, is_king_of};
 use std::process::Abort;
 
@@ -131,6 +131,15 @@ fn a_double_check(rt: HostRuntime) {
     let placement = board(&rt, "re8 kh8 nf3 Ra1 Ke1");
     assert_checkers(&rt, &placement, Colour::White, &["e8", "f3"]);
     assert_checkers(&rt, &placement, Colour::Black, &[]);
+}
+
+#[test]
+fn a_king_and_others_attack_a_square(rt: HostRuntime) {
+    let placement = board(&rt, "re8 kd5 Pc4 Pe4 Be2 Ke1");
+    let d1 = attackers(&placement, Colour::White, Square::D1);
+    assert_holds(&rt, d1, &["e1", "e2"]);
+    let e4 = attackers(&placement, Colour::Black, Square::E4);
+    assert_holds(&rt, e4, &["d5", "e8"]);
 }
 
 #[test]

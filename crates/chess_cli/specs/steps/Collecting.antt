@@ -1,5 +1,5 @@
 -- Games that are read and written one after another.
---   WritesOne   a game is written, or a front of it, or there is no memory for it
+--   WritesOne   a game is written, or a prefix of it, or there is no memory for it
 --   Reads       games are read, one after another, whatever comes next
 --   SoFar       they are written as well
 --   WritesAll   how the reading and writing ends

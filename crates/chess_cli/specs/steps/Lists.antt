@@ -1,7 +1,7 @@
 -- How a list of texts is written, one after the other.
 use Rattle.std.specs.Prelude.{ℕ, List, [], ◌∷◌, ◌++◌}
 
--- the text, and the next one behind a space, where there is a text already
+-- the text, and the next one after a space, where there is a text already
 abbrev pub behind : List ℕ → List ℕ → List ℕ
 behind [] next = next
 behind (byte ∷ bytes) next = (byte ∷ bytes) ++ 32 ∷ next

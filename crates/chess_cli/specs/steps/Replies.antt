@@ -1,5 +1,5 @@
--- What the board's code puts on the page, and what it does with the word behind `goto` or `best`.
---   IsOnPage      this text is put behind what stood on the page, or is the path to the cursor or the game, which is still to be written
+-- What the board's code puts on the page, and what it does with the word after `goto` or `best`.
+--   IsOnPage      this text is put after what was on the page, or is the path to the cursor or the game, which is still to be written
 --   best_effect   the best move, as deep as a word writes
 --   path_effect   to the node at a path, where a word writes one
 use Rattle.std.specs.Prelude.{◌≡◌, ◌⊎◌, ℕ, false, List, [], ◌∷◌, ◌++◌, Option, Some, None}

@@ -34,7 +34,7 @@ ArePlies p (ply ∷ plies) = IsPly p ply × ArePlies (after p ply.past.played) p
 abbrev pub move_of : Ply → MoveParts
 move_of ply = ply.past.played
 
--- the position in which the line begins is well formed, with the counters of a FEN; each ply tells of a legal move; what is kept of
+-- the position in which the line begins is well formed, with the counters of a FEN; each ply has a legal move; what is kept of
 -- the last position is that after all of them
 pub record IsLine (start : State) (plies : List Ply) (live : LiveParts) (here : Stand) : Type 0 where
   pub well_formed : IsWellFormed start

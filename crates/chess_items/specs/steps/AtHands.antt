@@ -1,7 +1,7 @@
 -- Reads that put bytes at hand.
 --   Reads     one read
 --   Tries     one read, or there was no memory to read into
---   Needed    each read is made where the bytes at hand don't decide the item at their front
+--   Needed    each read is made where the bytes at hand don't decide the item that they begin with
 --   Readied   reads, until the item is decided or the source has ended
 --   Refilled  all bytes at hand are used, and one read brings more
 use Rattle.std.specs.Prelude.{◌≡◌, ℕ, ◌+◌, ◌*◌, ◌≤◌, ◌<◌, ◌⊎◌, Bool, true, false, List, [], ◌∷◌, ◌++◌, length, Result, Ok, Err}
@@ -25,6 +25,7 @@ pub record Reads {R : Type 0} (gives : R → List ℕ → R → Type 0) (ended :
   pub call : gives old.source piece new.source
   pub small : length piece ≤ 65536
   pub counted : new.reads + 1 ≡ old.reads
+  pub placed : new.used + length (unread new) ≡ old.used + length (unread old) + length piece
   pub after : After ended failed old piece new result
 
 abbrev pub Tries : {R : Type 0} → (R → List ℕ → R → Type 0) → (R → Type 0) → (R → Bool) → AtHand R → AtHand R → Result (Unit {0}) Fault → Type 0
@@ -45,6 +46,7 @@ pub record HasRead {R : Type 0} (gives : R → List ℕ → R → Type 0) (ended
   pub needed : Needed most place (unread old) pieces
   pub counted : new.reads + length pieces ≡ old.reads
   pub well : failed new.source ≡ failed old.source
+  pub placed : new.used + length (unread new) ≡ old.used + length (unread old) + length (joined pieces)
   pub at_end : old.has_ended ≡ true → (pieces ≡ []) × (new.has_ended ≡ true)
   pub each : new.has_ended ≡ false → AllByRecursion (λ piece. 0 < length piece) pieces
   pub whole : unread new ≡ unread old ++ joined pieces
@@ -65,6 +67,7 @@ pub record HasRefilled {R : Type 0} (gives : R → List ℕ → R → Type 0) (e
   pub calls : Calls gives old.source pieces new.source
   pub counted : new.reads + length pieces ≡ old.reads
   pub small : length (joined pieces) ≤ 65536 * length pieces
+  pub placed : new.used + length (unread new) ≡ old.used + length (unread old) + length (joined pieces)
   pub well : failed new.source ≡ failed old.source
   pub at_end : old.has_ended ≡ true → (pieces ≡ []) × (new.has_ended ≡ true)
   pub each : new.has_ended ≡ false → AllByRecursion (λ piece. 0 < length piece) pieces

@@ -1,7 +1,7 @@
--- When bytes at hand decide the item at their front.
---   longer    what is found, with more bytes behind it
---   Decides   whatever follows, the item at the front is the same
---   is_open   the item at the front reaches the end of the bytes and may go on
+-- When bytes at hand decide the item that they begin with.
+--   longer    what is found, with more bytes after it
+--   Decides   whatever follows, the first item is the same
+--   is_open   the first item reaches the end of the bytes and may go on
 use Rattle.std.specs.Prelude.{◌≡◌, ℕ, ◌==◌, nat_lt, ◌&&◌, if◌then◌else◌, Bool, true, false, List, [], ◌∷◌, ◌++◌, length, Some, None}
 use Rattle.std.specs.List.{list_all}
 use Rattle.std.specs.Str.{byte}
@@ -18,7 +18,7 @@ longer (Some x) more = Some (x.0, x.1 ++ more)
 abbrev pub Decides : Place → List ℕ → Type 0
 Decides place front = (more : List ℕ) → item_at place (front ++ more) ≡ longer (item_at place front) more
 
--- behind one of the other bytes; a number above 255 is one too many
+-- after one of the other bytes; a number above 255 is one too many
 unfoldable pub sign_open : Bool → ℕ → List ℕ → Bool
 sign_open start b bytes =
     if b == byte "%" then start && list_all in_line bytes
@@ -54,7 +54,7 @@ value_open (b ∷ bytes) =
     else (if b == byte "\\" then escape_open bytes
     else (if b == 10 then false else list_all is_plain bytes))
 
--- behind the first byte of a mark
+-- after the first byte of a mark
 abbrev pub mark_open : List ℕ → Bool
 mark_open [] = true
 mark_open (b ∷ []) = b == 187

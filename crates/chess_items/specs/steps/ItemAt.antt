@@ -1,4 +1,4 @@
--- The item at the front of a text, and what follows it, as the code finds them: by the first byte, and by longest runs.
+-- The first item of a text, and what follows it, as the code finds them: by the first byte, and by longest runs.
 use Rattle.std.specs.Prelude.{ℕ, ◌==◌, nat_lt, if◌then◌else◌, Bool, true, false, List, [], ◌∷◌, take, drop, map, Option, Some, None}
 use Rattle.std.specs.List.{prefix_len}
 use Rattle.std.specs.Str.{byte}
@@ -82,7 +82,7 @@ tag_at start (b ∷ bytes) =
     else (if b == byte "]" then Some (TagClose, bytes)
     else (if b == byte "%" then hidden_at start bytes else None))))
 
--- behind a backslash
+-- after a backslash
 abbrev pub escaped_at : List ℕ → Found
 escaped_at [] = Some (Stretch (byte "\\" ∷ []), [])
 escaped_at (b ∷ bytes) = if is_escapable b then Some (Escaped b, bytes) else Some (Stretch (byte "\\" ∷ []), b ∷ bytes)
@@ -95,7 +95,7 @@ value_at (b ∷ bytes) =
     else (if b == byte "\\" then escaped_at bytes
     else (if b == 10 then None else run_at is_plain stretch_found (b ∷ bytes)))
 
--- behind the first byte of a mark
+-- after the first byte of a mark
 abbrev pub mark_at : List ℕ → Found
 mark_at [] = None
 mark_at (b ∷ []) = None

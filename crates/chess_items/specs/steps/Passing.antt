@@ -1,4 +1,4 @@
--- Items that are taken, where white space and hidden lines behind the limit are passed over.
+-- Items that are taken, where white space and hidden lines after the limit are passed over.
 --   AreWhite  these bytes are white items, one after another
 --   Passes    items are taken, or the text was white
 --   PassBreaks  some are, and then there was no memory, or a read broke off
@@ -28,7 +28,7 @@ module _ {X T : Type 0} (comes : X → List ℕ → X → Type 0) (at_hand : X �
     pub nothing : at_hand new ≡ []
     pub still : all old → joined pieces ≡ []
 
-  -- only white items stood before the limit, and behind them comes something else
+  -- only white items stood before the limit, and after them comes something else
   pub record NotWhite (stopped : Stopped) (mid new : X) : Type 0 where
     pub over : stopped.why ≡ stop.TooLarge
     pub white : stopped.white ≡ true
@@ -36,6 +36,8 @@ module _ {X T : Type 0} (comes : X → List ℕ → X → Type 0) (at_hand : X �
     pub came : Calls comes mid pieces new
     pub other : white_after (Some (column_at stopped.place)) (at_hand mid ++ joined pieces) ≡ None
     pub still : all mid → (joined pieces ≡ []) × all new
+    pub text : List ℕ
+    pub parts : at_hand mid ++ joined pieces ≡ text ++ at_hand new
 
   pub record Passed (limit : ℕ) (old new : X) (t u : T) (stopped : Stopped) : Type 0 where
     pub mid : X
@@ -48,7 +50,7 @@ module _ {X T : Type 0} (comes : X → List ℕ → X → Type 0) (at_hand : X �
   Passes limit old new t u (Ok None) = WasWhite old new
   Passes limit old new t u (Ok (Some stopped)) = Passed limit old new t u stopped
 
-  -- so it did behind the limit
+  -- so it did after the limit
   pub record WhiteBroke (limit : ℕ) (breaks : X → X → Type 0) (old new : X) (t : T) : Type 0 where
     pub mid : X
     pub last : T

@@ -1,5 +1,5 @@
 -- White space and hidden lines that are read on without being kept.
---   white_after  where in white space and hidden lines the byte behind these bytes stands; none, where something else is among them
+--   white_after  where in white space and hidden lines the byte after these bytes stands; none, where something else is among them
 --   Skips        reads, until something else comes or the text has ended
 use Rattle.std.specs.Prelude.{◌≡◌, ℕ, ◌==◌, if◌then◌else◌, Bool, true, false, List, [], ◌∷◌, ◌++◌, Option, Some, None, is_some, Result, Ok, Err}
 use Rattle.std.specs.Str.{byte}
@@ -30,7 +30,7 @@ column_at place = if starts_line place then First else Later
 module _ {X : Type 0} (comes : X → List ℕ → X → Type 0) (at_hand : X → List ℕ) (all sound : X → Type 0) where
   abbrev pub AfterSkip : Place → X → List (List ℕ) → X → Bool → Type 0
   AfterSkip place old pieces new true = (is_some (white_after (Some (column_at place)) (at_hand old ++ joined pieces)) ≡ true) × all new × (at_hand new ≡ []) × sound new × (all old → joined pieces ≡ [])
-  AfterSkip place old pieces new false = (white_after (Some (column_at place)) (at_hand old ++ joined pieces) ≡ None) × sound new × (all old → (joined pieces ≡ []) × all new)
+  AfterSkip place old pieces new false = (white_after (Some (column_at place)) (at_hand old ++ joined pieces) ≡ None) × sound new × (all old → (joined pieces ≡ []) × all new) × (text : List ℕ) × (at_hand old ++ joined pieces ≡ text ++ at_hand new)
 
   pub record Skipped (place : Place) (old new : X) (is_white : Bool) : Type 0 where
     pub pieces : List (List ℕ)

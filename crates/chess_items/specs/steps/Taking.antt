@@ -43,7 +43,7 @@ abbrev pub Takes : {T : Type 0} → TakesOne T → T → List (ℕ × Item) → 
 Takes takes t [] u = t ≡ u
 Takes {T} takes t (x ∷ items) u = (mid : T) × takes t x.0 x.1 (Ok GoesOn) mid × Takes takes mid items u
 
--- the place behind the items
+-- the place after the items
 abbrev pub behind : Place → List (ℕ × Item) → Place
 behind place [] = place
 behind place (x ∷ items) = behind (place_after place x.1) items
@@ -51,7 +51,7 @@ behind place (x ∷ items) = behind (place_after place x.1) items
 abbrev pub all_white : List (ℕ × Item) → Bool
 all_white items = list_all (λ (x : ℕ × Item). is_white x.1) items
 
--- so that no game ended in front of it
+-- so that no game ended before it
 abbrev pub Brackets : {T : Type 0} → TakesOne T → ℕ → T → T → Type 0
 Brackets takes at t u = takes t at TagOpen (Ok GoesOn) u ⊎ takes t at TagOpen (Ok Ends) u
 
@@ -98,7 +98,7 @@ module _ {X T : Type 0} (comes : X → List ℕ → X → Type 0) (at_hand : X �
     pub at_end : all old → (joined pieces ≡ []) × all new
     pub sound_still : sound new
 
-  -- this item comes next, and where it was brought by a read, at most one piece is behind it
+  -- this item comes next, and where it was brought by a read, at most one piece is after it
   pub record Next (place : Place) (old new : X) (item : Item) : Type 0 where
     pub rest : List ℕ
     pub found : Whatever new (λ more. item_at place (at_hand new ++ more) ≡ Some (item, rest ++ more))
@@ -112,7 +112,7 @@ module _ {X T : Type 0} (comes : X → List ℕ → X → Type 0) (at_hand : X �
     pub within : most < length (at_hand new) → Decides place (take (most + 1) (at_hand new))
     pub some : at_hand new ≢ []
 
-  -- what comes next is too long, and no bracket in front of which a game ends
+  -- what comes next is too long, and no bracket before which a game ends
   pub record RunsPast (at most : ℕ) (place : Place) (new : X) (t u : T) : Type 0 where
     pub over : Whatever new (λ more. Oversized most place (at_hand new ++ more))
     pub bracket : Whatever new (λ more. (rest : List ℕ) → item_at place (at_hand new ++ more) ≡ Some (TagOpen, rest) → Brackets takes at t u)
@@ -141,7 +141,7 @@ module _ {X T : Type 0} (comes : X → List ℕ → X → Type 0) (at_hand : X �
   Steps at most place old new t u (Ok one) = Stepped at most place old new t u one
   Steps at most place old new t u (Err e) = Unit {0}
 
-  -- the items are at the front of what was at hand and what came, whatever follows
+  -- the items are at the beginning of what was at hand and what came, whatever follows
   pub record Took (limit : ℕ) (old : X) (pieces : List (List ℕ)) (new : X) (items : List (ℕ × Item)) (at : ℕ) (place : Place) (white : Bool) : Type 0 where
     pub spelled : Whatever new (λ more. SpellsFrom 0 GameStart (at_hand old ++ (joined pieces ++ more)) items (at_hand new ++ more))
     pub counted : length (at_hand old) + length (joined pieces) ≡ length (at_hand new) + at

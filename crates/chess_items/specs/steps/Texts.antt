@@ -1,10 +1,10 @@
 -- A text that comes bit by bit.
 --   Near        where bytes came, the last read was made where the bytes before it did not decide the item
---   MadeReady   bytes came until the item at the front is decided or all have come
+--   MadeReady   bytes came until the first item is decided or all have come
 --   Keeps       the first bytes are used
 --   Refills     all bytes at hand are used, and more come
 --   BreaksOff   why no more bytes come, though not all have: bytes came, and then there was no memory, or a read broke off
---   Broke       bytes came, and then a read broke off; those before it don't decide the item at their front
+--   Broke       bytes came, and then a read broke off; those before it don't decide the item that they begin with
 --   BreaksAt    either
 --   Oversized   no item within so many bytes, and that there is none isn't decided by one byte more
 use Rattle.std.specs.Prelude.{◌≡◌, ℕ, ◌+◌, ◌≤◌, ◌<◌, ◌⊎◌, Bool, true, false, List, [], ◌++◌, length, take, MatchOption, Result, Ok, Err}

@@ -39,7 +39,7 @@ module _ {S W : Type 0} (step cut : S → List ℕ → List (List ℕ) → S →
     pub front : IsFront lines (ended_lines begun piece)
     pub runs : Partly step cut old lines text rest new
 
-  -- what stands on the page is sent, too
+  -- what is on the page is sent, too
   abbrev pub Feeds : {X E : Type 0} → (S → Bool) → List ℕ → List ℕ → S → S → LineSoFar → W → List ℕ → W → Result X E → Type 0
   Feeds over begun piece old new line before page after (Ok x) = (text : List ℕ) × Fed over begun piece old new line text page × Sent takes failed before text page after
   Feeds over begun piece old new line before page after (Err e) =

@@ -1,7 +1,7 @@
 -- Texts on their way to a sink: they are gathered on a page, and written when it is full or before more is read.
---   Sent         all of a text is written, but for what stands on the page
+--   Sent         all of a text is written, but for what is on the page
 --   Flows        whatever was sent before, no more is sent now, or a call failed
---   Sends        whatever was sent before, this text is sent behind it, or a call failed
+--   Sends        whatever was sent before, this text is sent after it, or a call failed
 --   SendsParts   what is on the page and these parts after it are sent, and no more is left on the page than may be unwritten; or a call failed
 use Rattle.std.specs.Prelude.{◌≡◌, ℕ, ◌≤◌, Bool, List, ◌++◌, length, Result, Ok, Err}
 use Rattle.chess_types.specs.bytes.Calls.{Carries, joined}

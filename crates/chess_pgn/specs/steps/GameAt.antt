@@ -2,8 +2,8 @@
 --   HasCome    bytes came, and a game stands at the front of what was at hand and what came, whatever follows
 --   NoneCame   all has come, and was white
 --   FoundGame  one of both, as a game is answered or none
---   NotCome    bytes came, and no game stands at the front of what was at hand and what came, and more than white, whatever follows; the text
---              is sound still
+--   NotCome    bytes came, and no game stands at the front of what was at hand and what came, and more than white, whatever follows; the first
+--              of those bytes are used, and the text is sound still
 --   HasStarved bytes came, and then there was no memory
 --   HasBroken  bytes came, and then a read broke off; no one game stands at the front of what was at hand and what came, whatever follows
 --   IsFault    a read broke off, or there was no memory, or no game stands there
@@ -45,6 +45,8 @@ module _ {X : Type 0} (comes : X → List ℕ → X → Type 0) (at_hand : X →
   pub record NotCome (old new : X) : Type 0 where
     pub pieces : List (List ℕ)
     pub came : Calls comes old pieces new
+    pub text : List ℕ
+    pub parts : at_hand old ++ joined pieces ≡ text ++ at_hand new
     pub sound_still : sound new
     pub none : (more : List ℕ) → (all new → more ≡ []) → HasNoGame (at_hand old ++ (joined pieces ++ more))
     pub dark : (more : List ℕ) → (all new → more ≡ []) → IsWhite (at_hand old ++ (joined pieces ++ more)) → ⊥

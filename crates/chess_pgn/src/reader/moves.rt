@@ -33,7 +33,7 @@ struct Interrupted {
 #[derive(Drop)]
 pub struct Moves<'a, A: Allocator> {
     alloc: &'a A,
-    analysis: Analysis<'a, A>,
+    analysis: Analysis<'a, 'a, A>,
     /// The lines around the one that is being read, the innermost last.
     interrupted: Vec<Interrupted, &'a A>,
     /// Whether that line has a move.
@@ -55,7 +55,7 @@ fn push_line<'a, A: Allocator>(text: &mut Vec<u8, &'a A>, line: &[u8]) -> Result
 
 // Sets the comment at the cursor.
 fn set_comment<'a, A: Allocator>(
-    analysis: &mut Analysis<'a, A>,
+    analysis: &mut Analysis<'a, 'a, A>,
     text: &[u8],
 ) -> Result<(), AllocError>
     ensures { OnOk result (analysis.new ≡ commented_here (normalised text.now) analysis.old) }
@@ -69,7 +69,7 @@ fn set_comment<'a, A: Allocator>(
 // Adds a comment behind the one at the cursor.
 fn say<'a, A: Allocator>(
     alloc: &'a A,
-    analysis: &mut Analysis<'a, A>,
+    analysis: &mut Analysis<'a, 'a, A>,
     text: &[u8],
 ) -> Result<(), AllocError>
     ensures { OnOk result (analysis.new ≡ said_here (normalised text.now) analysis.old) }

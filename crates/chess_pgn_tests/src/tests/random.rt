@@ -56,7 +56,7 @@ fn pick<'t>(random: &mut Pcg64, texts: &[&'t [u8]]) -> &'t [u8] {
 }
 
 /// Adds so many random moves, with a note at some of them.
-fn wander<A: Allocator>(analysis: &mut Analysis<'_, A>, random: &mut Pcg64, plies: u64) {
+fn wander<A: Allocator>(analysis: &mut Analysis<'_, '_, A>, random: &mut Pcg64, plies: u64) {
     for _ in 0..plies {
         let moves = analysis.moves();
         let index = below(random, moves.len() as u64) as usize;
@@ -76,7 +76,7 @@ fn wander<A: Allocator>(analysis: &mut Analysis<'_, A>, random: &mut Pcg64, plie
 }
 
 /// Adds a variation in place of the last move, some within it, and comes back behind that move.
-fn vary<A: Allocator>(analysis: &mut Analysis<'_, A>, random: &mut Pcg64, deep: u32) {
+fn vary<A: Allocator>(analysis: &mut Analysis<'_, '_, A>, random: &mut Pcg64, deep: u32) {
     let depth = analysis.tree().depth();
     if deep == 0 || depth == 0 {
         return;

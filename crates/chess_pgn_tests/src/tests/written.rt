@@ -21,7 +21,7 @@ fn begin<'a, A: Allocator>(alloc: &'a A) -> Result<Game<'a, A>, PgnFault> {
 type Step = (&'static str, Option<u8>, &'static str);
 
 /// Goes to the first position, or plays the move of that text; false where it can't be had.
-fn goes<A: Allocator>(analysis: &mut Analysis<'_, A>, text: &str) -> bool {
+fn goes<A: Allocator>(analysis: &mut Analysis<'_, '_, A>, text: &str) -> bool {
     if text == "-" {
         analysis.start();
         return true;
@@ -33,7 +33,7 @@ fn goes<A: Allocator>(analysis: &mut Analysis<'_, A>, text: &str) -> bool {
 }
 
 /// Adds an annotation number, if there is one; false where it can't be had.
-fn annotates<A: Allocator>(analysis: &mut Analysis<'_, A>, nag: Option<u8>) -> bool {
+fn annotates<A: Allocator>(analysis: &mut Analysis<'_, '_, A>, nag: Option<u8>) -> bool {
     match nag {
         Some(nag) => analysis.add_nag(nag).is_ok(),
         None => true,
@@ -41,7 +41,7 @@ fn annotates<A: Allocator>(analysis: &mut Analysis<'_, A>, nag: Option<u8>) -> b
 }
 
 /// Takes the step; false where a move or a note can't be had.
-fn takes<A: Allocator>(analysis: &mut Analysis<'_, A>, step: &Step) -> bool {
+fn takes<A: Allocator>(analysis: &mut Analysis<'_, '_, A>, step: &Step) -> bool {
     let (text, nag, comment) = *step;
     goes(analysis, text)
         && annotates(analysis, nag)
@@ -49,7 +49,7 @@ fn takes<A: Allocator>(analysis: &mut Analysis<'_, A>, step: &Step) -> bool {
 }
 
 /// Takes one step after another; false where one of them can't be taken.
-fn takes_all<A: Allocator>(analysis: &mut Analysis<'_, A>, steps: &[Step]) -> bool {
+fn takes_all<A: Allocator>(analysis: &mut Analysis<'_, '_, A>, steps: &[Step]) -> bool {
     for step in steps {
         if !takes(analysis, step) {
             return false;

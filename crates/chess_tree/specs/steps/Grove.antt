@@ -19,7 +19,7 @@ pub data Grove : Type 0 where
   Empty : Grove
   Tree : (number : ℕ) → (move : MoveParts) → (below next : Grove) → Grove
 
--- the forest without the numbers: `noted` tells each node's notes
+-- the forest without the numbers: `noted` has each node's notes
 abbrev pub plain : (ℕ → Noted) → Grove → Forest
 plain noted Empty = Bare
 plain noted (Tree i m below next) = Node m (noted i).nags (noted i).comment (plain noted below) (plain noted next)

@@ -88,7 +88,7 @@ root_shown n = record { move = None; nags = []; comment = n.comment; below = n.b
 abbrev pub path_root : List ℕ → Rooted → Rooted
 path_root path z = record { root = z.root; path = path }
 
--- a child with that move behind the others, and the cursor on it
+-- a child with that move after the others, and the cursor on it
 abbrev pub added_root : MoveParts → Rooted → Rooted
 added_root m z = record { root = with_below (change_below (with_move m) z.path) z.root; path = z.path ++ count (below_at z.path z.root.below) ∷ [] }
 
@@ -96,14 +96,14 @@ added_root m z = record { root = with_below (change_below (with_move m) z.path) 
 abbrev pub deleted_root : Rooted → Rooted
 deleted_root z = record { root = with_below (change_node without_node z.path) z.root; path = parent z.path }
 
--- the node in front of its siblings, and the cursor still on it
+-- the node before its siblings, and the cursor still on it
 abbrev pub promoted_root : Rooted → Rooted
 promoted_root z = record { root = with_below (change_node promoted z.path) z.root; path = parent z.path ++ 0 ∷ [] }
 
--- that annotation number behind those of the node
+-- that annotation number after those of the node
 abbrev pub annotated_root : ℕ → Rooted → Rooted
 annotated_root nag z = record { root = with_below (change_node (annotated nag) z.path) z.root; path = z.path }
 
--- that text in place of the node's comment
+-- that text instead of the node's comment
 abbrev pub commented_root : List ℕ → Rooted → Rooted
 commented_root text z = record { root = commented_at text z.path z.root; path = z.path }

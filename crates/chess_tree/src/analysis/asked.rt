@@ -1,20 +1,24 @@
-ghost use Rattle.std.specs.Prelude.{◌≡◌, ◌≤◌, true, false, IfOk};
+ghost use Rattle.std.specs.Prelude.{◌≡◌, ◌≤◌, true, false, IfOk, IsTrue};
+ghost use Rattle.std.specs.List.{slice_get};
+ghost use Rattle.chess_types.specs.board.Attack.{in_check as in_check_of};
+ghost use Rattle.chess_types.specs.board.Position.{look};
 ghost use Rattle.chess_types.specs.board.Legal.{is_legal, legal_moves};
 ghost use Rattle.chess_types.specs.board.Lines.{last};
 ghost use Rattle.chess_types.specs.board.Repetition.{repetitions};
-ghost use Rattle.chess_types.specs.board.Outcome.{status, claims, claims_with};
+ghost use Rattle.chess_types.specs.board.Outcome.{status, claims, claims_with, winner};
 ghost use Rattle.chess_san.specs.Naming.{reading};
+ghost use Rattle.chess_san.specs.Writing.{san};
 ghost use Rattle.chess_search.specs.Best.{best};
 ghost use Rattle.chess_search.specs.Slices.{IsInRange};
 ghost use Rattle.chess_tree.specs.GameTree.{line_to};
 
 use super::Analysis;
-use arrayvec::ArrayVec;
+use arrayvec::{ArrayString, ArrayVec};
 use chess_san::SanFault;
-use chess_types::{Claims, Move, Status};
+use chess_types::{Claims, Colour, Move, Status};
 use std::alloc::Allocator;
 
-impl<'a, A: Allocator> Analysis<'a, A> {
+impl<'a, 'k, A: Allocator> Analysis<'a, 'k, A> {
     /// The legal moves at the cursor, in order (FIDE Laws 3.1 to 3.10).
     pub fn moves(&mut self) -> ArrayVec<Move, 432>
         ensures listed { result.items ≡ legal_moves (last (line_to self.old)) }
@@ -34,6 +38,37 @@ impl<'a, A: Allocator> Analysis<'a, A> {
         ensures as_before { self.new ≡ self.old }
     {
         self.line.read_move(text)
+    }
+
+    /// The text in standard algebraic notation (PGN 8.2.3) of a legal move at the cursor, at most 7 bytes.
+    pub fn write_move(&mut self, m: Move) -> ArrayString<8>
+        requires legal { IsTrue (is_legal (last (line_to self.old)) m) }
+        ensures value { result.bytes ≡ san (last (line_to self.old)) m }
+        ensures as_before { self.new ≡ self.old }
+    {
+        self.line.write_move(m)
+    }
+
+    /// Whether the king of the side to move is in check at the cursor (FIDE Laws 3.9.1).
+    pub fn in_check(&self) -> bool
+        ensures { result ≡ in_check_of (look (last (line_to self.now))) (last (line_to self.now)).side }
+    {
+        self.line.in_check()
+    }
+
+    /// The move that was made after so many plies from the root on the way to the cursor, from 0; `None` at the cursor and beyond.
+    pub fn played(&self, ply: u32) -> Option<Move>
+        ensures value { result ≡ slice_get (line_to self.now).moves ply }
+    {
+        self.line.played(ply)
+    }
+
+    /// The side that has mated the other at the cursor (FIDE Laws 1.4.1, 5.1.1); `None` where there is no mate.
+    pub fn winner(&mut self) -> Option<Colour>
+        ensures value { result ≡ winner (last (line_to self.old)) }
+        ensures as_before { self.new ≡ self.old }
+    {
+        self.line.winner()
     }
 
     /// How many of the positions from the root to the cursor are the same as that at the cursor, itself included (FIDE Laws

@@ -8,7 +8,7 @@ use super::Analysis;
 use crate::fault::TreeFault;
 use std::alloc::Allocator;
 
-impl<'a, A: Allocator> Analysis<'a, A> {
+impl<'a, 'k, A: Allocator> Analysis<'a, 'k, A> {
     /// Takes out the node at the cursor and all below it, and steps to its parent; its siblings keep their order. No
     /// memory is taken. `AtRoot` at the root.
     pub fn delete(&mut self) -> Result<(), TreeFault>
@@ -22,7 +22,7 @@ impl<'a, A: Allocator> Analysis<'a, A> {
         Ok(())
     }
 
-    /// Moves the node at the cursor in front of its siblings, which keep their order; the cursor stays on it. `AtRoot` at the
+    /// Moves the node at the cursor before its siblings, which keep their order; the cursor stays on it. `AtRoot` at the
     /// root.
     pub fn promote(&mut self) -> Result<(), TreeFault>
         ensures ok { OnOk result (self.new ≡ promoted_here self.old) }

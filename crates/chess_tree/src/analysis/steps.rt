@@ -9,7 +9,7 @@ use super::Analysis;
 use crate::fault::TreeFault;
 use std::alloc::Allocator;
 
-impl<'a, A: Allocator> Analysis<'a, A> {
+impl<'a, 'k, A: Allocator> Analysis<'a, 'k, A> {
     /// Steps to the child at that place, from 0. `NoSuch` where there is none. Takes no memory.
     pub fn step(&mut self, place: u32) -> Result<(), TreeFault>
         ensures ok { OnOk result (self.new ≡ at_path (self.old.path ++ place ∷ []) self.old) }

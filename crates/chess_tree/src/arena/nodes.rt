@@ -128,7 +128,7 @@ impl<'a, A: Allocator> Nodes<'a, A> {
         Ok(())
     }
 
-    /// Another node without children in place of one without.
+    /// Another node without children instead of one without.
     pub(crate) fn write(&mut self, at: NodeId, played: Move, parent: NodeId, place: u32)
         requires there { at < length self.old }
         requires bare { (look self.old at).children ≡ [] }

@@ -11,7 +11,7 @@ use std::alloc::{AllocError, Allocator};
 /// The bytes of white space: from the horizontal tab to the carriage return, and the space.
 const BLANKS: &[u8] = b"\t\n\x0b\x0c\r ";
 
-// Appends a word, behind a space unless it is the first.
+// Appends a word, after a space unless it is the first.
 fn add_word<'a, A: Allocator>(comment: &mut Vec<u8, &'a A>, word: &[u8]) -> Result<(), AllocError>
     ensures { OnOk result (comment.new.items ≡ with_next_word comment.old.items word.now) }
 {

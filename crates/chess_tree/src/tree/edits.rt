@@ -25,7 +25,7 @@ impl<'a, A: Allocator> Tree<'a, A> {
         Ok(())
     }
 
-    /// Moves the node at the cursor in front of its siblings, which keep their order; the cursor stays on it. `AtRoot` at the
+    /// Moves the node at the cursor before its siblings, which keep their order; the cursor stays on it. `AtRoot` at the
     /// root.
     pub fn promote(&mut self) -> Result<(), TreeFault>
         ensures ok { OnOk result (self.new ≡ promoted_here self.old) }

@@ -13,7 +13,7 @@ use std::process::Abort;
 pub fn begin<'a, A: Allocator>(
     alloc: &'a A,
     table: &'a KeyTable,
-) -> Result<Analysis<'a, A>, TreeFault> {
+) -> Result<Analysis<'a, 'a, A>, TreeFault> {
     Analysis::new(alloc, Position::start(), table)
 }
 
@@ -96,7 +96,7 @@ fn of_tree(edited: Result<(), TreeFault>) -> Answer {
 }
 
 /// Adds the move that a text in standard algebraic notation names.
-fn read<A: Allocator>(analysis: &mut Analysis<'_, A>, text: &[u8]) -> Answer {
+fn read<A: Allocator>(analysis: &mut Analysis<'_, '_, A>, text: &[u8]) -> Answer {
     match analysis.read_move(text) {
         Ok(m) => of_play(analysis.add(m)),
         Err(_) => Answer::Other,
@@ -106,7 +106,7 @@ fn read<A: Allocator>(analysis: &mut Analysis<'_, A>, text: &[u8]) -> Answer {
 /// Plays the move of a text.
 fn play<A: Allocator>(
     rt: &impl Abort,
-    analysis: &mut Analysis<'_, A>,
+    analysis: &mut Analysis<'_, '_, A>,
     text: &str,
 ) -> Result<(), PlayFault> {
     analysis.play(a_move(rt, text))
@@ -115,7 +115,7 @@ fn play<A: Allocator>(
 /// Makes a call.
 pub fn make_call<A: Allocator>(
     rt: &impl Abort,
-    analysis: &mut Analysis<'_, A>,
+    analysis: &mut Analysis<'_, '_, A>,
     call: Call,
 ) -> Answer {
     match call {
@@ -145,7 +145,7 @@ pub fn make_call<A: Allocator>(
 }
 
 /// Whether it is so.
-fn is_so<A: Allocator>(rt: &impl Abort, analysis: &mut Analysis<'_, A>, asked: Asked) -> bool {
+fn is_so<A: Allocator>(rt: &impl Abort, analysis: &mut Analysis<'_, '_, A>, asked: Asked) -> bool {
     match asked {
         Asked::Seen(look) => is_seen(rt, analysis.tree(), look),
         Asked::Plies(plies) => analysis.line().plies() == plies,
@@ -161,7 +161,7 @@ fn is_so<A: Allocator>(rt: &impl Abort, analysis: &mut Analysis<'_, A>, asked: A
 }
 
 /// Makes a row's call, or asks: whether the row is right.
-fn holds<A: Allocator>(rt: &impl Abort, analysis: &mut Analysis<'_, A>, row: Row) -> bool {
+fn holds<A: Allocator>(rt: &impl Abort, analysis: &mut Analysis<'_, '_, A>, row: Row) -> bool {
     match row {
         Row::Gives(want, call) => make_call(rt, analysis, call) == want,
         Row::Is(asked) => is_so(rt, analysis, asked),
@@ -169,7 +169,7 @@ fn holds<A: Allocator>(rt: &impl Abort, analysis: &mut Analysis<'_, A>, row: Row
 }
 
 /// Goes by a table.
-pub fn run<A: Allocator>(rt: &impl Abort, analysis: &mut Analysis<'_, A>, rows: &[Row]) {
+pub fn run<A: Allocator>(rt: &impl Abort, analysis: &mut Analysis<'_, '_, A>, rows: &[Row]) {
     for (index, row) in rows.iter().enumerate() {
         assert!(rt; holds(rt, analysis, *row), "row {index}");
     }

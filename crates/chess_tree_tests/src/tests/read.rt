@@ -113,7 +113,7 @@ fn one_of(moves: &[Move], word: u64) -> Option<Move> {
 }
 
 /// One random legal move, if there is one.
-fn pick<A: Allocator>(analysis: &mut Analysis<'_, A>, word: u64) -> Option<Move> {
+fn pick<A: Allocator>(analysis: &mut Analysis<'_, '_, A>, word: u64) -> Option<Move> {
     one_of(analysis.moves().as_slice(), word)
 }
 
@@ -164,7 +164,7 @@ fn compare<A: Allocator>(
 
 /// A random legal move more below that node, else back to the start.
 fn add_random<A: Allocator>(
-    analysis: &mut Analysis<'_, A>,
+    analysis: &mut Analysis<'_, '_, A>,
     list: &mut Vec<Linked, &A>,
     path: &mut Vec<usize, &A>,
     at: usize,
@@ -183,7 +183,7 @@ fn add_random<A: Allocator>(
 
 /// A step up, down, or back so far, or a random legal move more. The path has the numbers of the nodes on the way to the cursor.
 fn step_or_add<A: Allocator>(
-    analysis: &mut Analysis<'_, A>,
+    analysis: &mut Analysis<'_, '_, A>,
     list: &mut Vec<Linked, &A>,
     path: &mut Vec<usize, &A>,
     word: u64,
@@ -215,7 +215,7 @@ fn step_or_add<A: Allocator>(
 /// Steps and adds until there are so many moves.
 fn grow<A: Allocator>(
     alloc: &A,
-    analysis: &mut Analysis<'_, A>,
+    analysis: &mut Analysis<'_, '_, A>,
     list: &mut Vec<Linked, &A>,
 ) -> Result<(), Fail> {
     append(list, 0, Move::default())?;

@@ -94,7 +94,7 @@ const WALKED: &[analysis::Row] = &[
     Gives(Answer::Done, analysis::Call::Goto(&[0, 0, 0])),
 ];
 
-impl<A: Allocator> Called for Analysis<'_, A> {
+impl<A: Allocator> Called for Analysis<'_, '_, A> {
     const CALLS: u32 = 31;
 
     /// The last call is the walk.

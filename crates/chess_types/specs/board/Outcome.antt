@@ -1,6 +1,7 @@
 -- How a line stands, and which draws may be claimed (FIDE Laws, articles 5.1, 5.2, 9.2, 9.3 and 9.6).
 --   status_at     the first that holds of mate, stalemate, dead, fivefold, seventyfive and play, from the position and its repetitions
 --   status        of a line
+--   winner        the side that has mated the other
 --   claims_at     what may be claimed in play
 --   claims        of a line; claims_with, with a named move that is not made yet
 -- After dead, fivefold and seventyfive the game is over, but analysis may go on: further moves are made as ever.
@@ -8,6 +9,8 @@ use Rattle.std.specs.Prelude.{ℕ, nat_le, Bool, true, false, ◌&&◌, if◌the
 use Rattle.chess_types.specs.declared.board.outcome.Status.{Status}
 use Rattle.chess_types.specs.declared.board.outcome.Status.TheVariants.{Mate, Stalemate, Dead, Fivefold, Seventyfive, Play}
 use Rattle.chess_types.specs.declared.board.outcome.Claims.{Claims}
+use Rattle.chess_types.specs.declared.board.man.Colour.{Colour}
+use Rattle.chess_types.specs.board.Men.{opponent}
 use Rattle.chess_types.specs.board.Attack.{in_check}
 use Rattle.chess_types.specs.board.MoveParts.{MoveParts}
 use Rattle.chess_types.specs.board.Position.{State, look}
@@ -34,6 +37,10 @@ status line = status_at (last line) (repetitions line)
 abbrev pub is_play : Status → Bool
 is_play Play = true
 is_play _ = false
+
+-- the opponent of a side that is mated (1.4.1, 5.1.1)
+abbrev pub winner : State → Option Colour
+winner p = if is_without (legal_moves p) && in_check (look p) p.side then Some (opponent p.side) else None
 
 -- three times the same position (9.2), 50 moves without a capture or a pawn's move (9.3); neither where the game is over
 abbrev pub claims_at : Bool → ℕ → ℕ → Claims

@@ -22,7 +22,7 @@ words_from gaps begun (b ∷ bs) =
 abbrev pub words : List ℕ → List ℕ → List (List ℕ)
 words gaps bytes = words_from gaps [] bytes
 
--- the bytes without the gaps at their front
+-- the bytes without the gaps at their beginning
 abbrev pub skip_gaps : List ℕ → List ℕ → List ℕ
 skip_gaps gaps [] = []
 skip_gaps gaps (b ∷ bs) = if is_gap gaps b then skip_gaps gaps bs else b ∷ bs

@@ -1,5 +1,5 @@
 ghost use Rattle.std.specs.Prelude.{◌≡◌, count_by};
-ghost use Rattle.chess_types.specs.board.Men.{is_of, is_king_of, holds_pawn};
+ghost use Rattle.chess_types.specs.board.Men.{is_of, is_king_of, is_man, holds_pawn};
 
 use super::man::{Colour, Kind, Man};
 
@@ -20,6 +20,16 @@ pub fn is_king_of(colour: Colour, cell: Option<Man>) -> bool
     match cell {
         None => false,
         Some(man) => man.colour == colour && man.kind == Kind::King,
+    }
+}
+
+/// Whether that man stands on a square that holds this.
+pub fn is_man(cell: Option<Man>, colour: Colour, kind: Kind) -> bool
+    ensures { result ≡ is_man cell colour kind }
+{
+    match cell {
+        None => false,
+        Some(man) => man.colour == colour && man.kind == kind,
     }
 }
 

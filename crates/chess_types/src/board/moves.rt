@@ -3,10 +3,13 @@ ghost use Rattle.chess_types.specs.declared.board.man.Kind.{Kind};
 ghost use Rattle.chess_types.specs.board.MoveParts.{MoveParts};
 ghost use Rattle.chess_types.specs.board.Texts.{IsPromotion, kind_letter, move_text};
 
+mod texts;
+
 use super::man::Kind;
 use super::square::Square;
 use arrayvec::ArrayString;
 use std::marker::Model;
+pub use texts::NotAMove;
 
 // What a pawn becomes, by its letter.
 fn promotion(letter: u8) -> Option<Kind>

@@ -1,4 +1,4 @@
-ghost use Rattle.std.specs.Prelude.{◌≡◌, ◌<◌, ◌≤◌, IsSome, count_by, ⊤};
+ghost use Rattle.std.specs.Prelude.{◌≡◌, ◌<◌, ◌≤◌, IsSome, count_by, length, ⊤};
 ghost use Rattle.std.specs.FinMap as map;
 ghost use Rattle.chess_types.specs.board.Cells.{board_of};
 ghost use Rattle.std.specs.Prelude.{is_some};
@@ -6,6 +6,10 @@ ghost use Rattle.chess_types.specs.board.Board.{man_at};
 ghost use Rattle.chess_types.specs.board.Men.{men_of, is_of, is_king_of};
 ghost use Rattle.chess_types.specs.steps.KeptSets.{Gathers, holds_straight, holds_diagonal};
 ghost use Rattle.chess_types.specs.declared.board.man.Colour.{Colour};
+ghost use Rattle.std.specs.Cmp.{partial_equiv_from_equiv};
+ghost use Rattle.chess_types.specs.board.Repetition.{same_man};
+ghost use Rattle.chess_types.specs.board.Equality.{same_board};
+ghost use Rattle.chess_types.specs.steps.SameLaws.{same_board-laws};
 
 use super::kept::Kept;
 use super::man::{Colour, Man};
@@ -56,6 +60,36 @@ impl Clone for Placement {
     }
 }
 
+// Whether both squares are empty, or the same man stands on both.
+fn same_man(one: Option<Man>, other: Option<Man>) -> bool
+    ensures { result ≡ same_man one other }
+{
+    match (one, other) {
+        (None, None) => true,
+        (Some(man), Some(same)) => man.colour == same.colour && man.kind == same.kind,
+        _ => false,
+    }
+}
+
+impl PartialEq for Placement {
+    ghost eq = { same_board };
+
+    ghost laws = { partial_equiv_from_equiv same_board-laws };
+
+    /// Whether the same men stand on the same squares.
+    #[tactic(auto, unfolding(crate::specs::board::Equality::same_board, crate::specs::board::Squares::squares))]
+    fn eq(&self, other: &Placement) -> bool {
+        (0..64u8).all(|number| {
+            let at = Square::from_index(number);
+            same_man(self.get(at), other.get(at))
+        })
+    }
+}
+
+impl Eq for Placement {
+    ghost laws = { same_board-laws };
+}
+
 impl Placement {
     /// The board without a man.
     pub fn empty() -> Placement
@@ -94,6 +128,14 @@ impl Placement {
         ensures { self.now ≡ board_of result.now }
     {
         &self.cells
+    }
+
+    // The same, as a value of their own.
+    pub(crate) fn copy_of_cells(&self) -> [Option<Man>; 64]
+        ensures value { self.now ≡ board_of result }
+        ensures len { length result ≡ 64 }
+    {
+        self.cells
     }
 
     /// How many men of the colour stand on the board, at most 16.

@@ -3,6 +3,12 @@ ghost use Rattle.chess_types.specs.declared.board.man.Kind.TheVariants.{Pawn};
 ghost use Rattle.chess_types.specs.board.Position.{IsQuiet, back_rank, cell_of, holds, king_home, rook_home, start, start_cells};
 ghost use Rattle.chess_types.specs.board.Pseudo.{castles_to, crossed, reached};
 ghost use Rattle.chess_types.specs.board.After.{is_castling};
+ghost use Rattle.std.specs.Cmp.{partial_equiv_from_equiv};
+ghost use Rattle.std.specs.Prelude.{◌&&◌, ◌==◌};
+ghost use Rattle.chess_types.specs.board.Men.{same_colour};
+ghost use Rattle.chess_types.specs.board.Repetition.{same_rights, same_target};
+ghost use Rattle.chess_types.specs.board.Equality.{same_state};
+ghost use Rattle.chess_types.specs.steps.SameLaws.{same_state-laws};
 
 use super::man::{Colour, Kind, Man};
 use super::moves::Move;
@@ -109,7 +115,7 @@ impl Rights {
 
 /// The six fields of a position, with every part of 'well formed' but the last: the side not to move may be in check.
 /// Contracts see the record `State` of `specs/Position.antt`.
-#[derive(Drop)]
+#[derive(Debug, Drop)]
 pub struct Setup {
     /// The men.
     pub placement: Placement,
@@ -158,6 +164,53 @@ impl Clone for Setup {
     }
 }
 
+// Whether all rights are held by both or by neither.
+fn same_rights(one: Rights, other: Rights) -> bool
+    ensures { result ≡ same_rights one other }
+{
+    let white = (one.white_king == other.white_king) & (one.white_queen == other.white_queen);
+    let black_king = one.black_king == other.black_king;
+    let black_queen = one.black_queen == other.black_queen;
+    white & black_king & black_queen
+}
+
+// Whether there is no target in both, or the same one.
+fn same_target(one: Option<Square>, other: Option<Square>) -> bool
+    ensures { result ≡ same_target one other }
+{
+    match (one, other) {
+        (None, None) => true,
+        (Some(target), Some(same)) => target == same,
+        _ => false,
+    }
+}
+
+// Whether all fields but the men are equal.
+fn same_fields(one: &Setup, other: &Setup) -> bool
+    ensures { result ≡ (same_colour one.now.side other.now.side && (same_rights one.now.rights other.now.rights && (same_target one.now.target other.now.target && (one.now.clock == other.now.clock && one.now.number == other.now.number)))) }
+{
+    let same_counters = (one.clock == other.clock) & (one.number == other.number);
+    let same_rest = same_rights(one.rights, other.rights)
+        & (same_target(one.target, other.target) & same_counters);
+    (one.side == other.side) & same_rest
+}
+
+impl PartialEq for Setup {
+    ghost eq = { same_state };
+
+    ghost laws = { partial_equiv_from_equiv same_state-laws };
+
+    /// Whether all six fields are equal. (Whether one position repeats another by the Laws is another question.)
+    #[tactic(auto, unfolding(crate::specs::board::Equality::same_state))]
+    fn eq(&self, other: &Setup) -> bool {
+        self.placement == other.placement && same_fields(self, other)
+    }
+}
+
+impl Eq for Setup {
+    ghost laws = { same_state-laws };
+}
+
 // A man on a square.
 fn cell_of(colour: Colour, kind: Kind) -> Option<Man>
     ensures { result ≡ cell_of colour kind }
@@ -201,7 +254,7 @@ fn start_cells() -> [Option<Man>; 64]
 }
 
 /// A well-formed position: a setup in which the side not to move isn't in check.
-#[derive(Drop)]
+#[derive(Debug, Drop)]
 pub struct Position {
     setup: Setup,
 }
@@ -232,6 +285,21 @@ impl Clone for Position {
             setup: self.setup.clone()?,
         })
     }
+}
+
+impl PartialEq for Position {
+    ghost eq = { same_state };
+
+    ghost laws = { partial_equiv_from_equiv same_state-laws };
+
+    /// Whether all six fields are equal, the counters too. (Whether one position repeats another by the Laws is another question.)
+    fn eq(&self, other: &Position) -> bool {
+        self.setup == other.setup
+    }
+}
+
+impl Eq for Position {
+    ghost laws = { same_state-laws };
 }
 
 impl Position {

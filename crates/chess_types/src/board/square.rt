@@ -2,8 +2,12 @@ ghost use Rattle.std.specs.Prelude.{◌≡◌, ℕ, ◌<◌, ◌↔◌, IsSome, 
 ghost use Rattle.chess_types.specs.board.Squares.{file_of, rank_of};
 ghost use Rattle.chess_types.specs.board.Texts.{square_text};
 
+mod names;
+mod texts;
+
 use arrayvec::ArrayString;
 use std::marker::Model;
+pub use texts::NotASquare;
 
 /// One of the 64 squares. Contracts see its number: a1 is 0, b1 is 1, a2 is 8, h8 is 63.
 #[derive(Clone, Copy, Debug, PartialEq, Eq, PartialOrd, Ord)]
@@ -40,6 +44,19 @@ impl Square {
         ensures { result ≡ number }
     {
         Square { number }
+    }
+
+    /// The square of the file, 0 for a to 7 for h, and the rank, 0 for the first to 7 for the eighth.
+    #[inline(always)]
+    pub fn at(file: u8, rank: u8) -> Square
+        requires file { file < 8 }
+        requires rank { rank < 8 }
+        ensures file { file_of result ≡ file }
+        ensures rank { rank_of result ≡ rank }
+    {
+        Square {
+            number: 8 * rank + file,
+        }
     }
 
     /// The square's number, 0 to 63.

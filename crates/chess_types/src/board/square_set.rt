@@ -1,9 +1,12 @@
-ghost use Rattle.std.specs.Prelude.{◌≡◌, ◌==◌, ◌<◌, ◌≤◌, ℕ, true, false, filter, cond, count_by, nat_lt, IfSome, IfNone};
+ghost use Rattle.std.specs.Prelude.{◌≡◌, ◌==◌, ◌<◌, ◌≤◌, ◌&&◌, ℕ, true, false, not, filter, cond, count_by, nat_lt, IfSome, IfNone};
 ghost use Rattle.std.specs.Iterator.{YieldsFirst, item_count};
 ghost use Rattle.std.specs.FinSet as set;
-ghost use Rattle.chess_types.specs.board.Squares.{squares};
+ghost use Rattle.chess_types.specs.board.Squares.{squares, file_of, rank_of};
+ghost use Rattle.chess_types.specs.board.Dead.{is_light};
 ghost use Rattle.chess_types.specs.board.Bits.{set_of};
 ghost use Rattle.chess_types.specs.board.SetEnds.{IsLowest, IsHighest};
+
+mod operators;
 
 use super::square::Square;
 use std::marker::Model;
@@ -49,6 +52,58 @@ impl SquareSet {
         ensures { (s : ℕ) → set.contains result s ≡ nat_lt s 64 }
     {
         SquareSet { bits: u64::MAX }
+    }
+
+    /// The set of one square.
+    #[inline(always)]
+    pub fn single(at: Square) -> SquareSet
+        ensures { result ≡ set.insert set.empty at }
+    {
+        let mut alone = SquareSet::empty();
+        alone.insert(at);
+        alone
+    }
+
+    /// The eight squares of a file, 0 for a to 7 for h.
+    #[inline(always)]
+    pub fn file(file: u8) -> SquareSet
+        requires { file < 8 }
+        ensures { (s : ℕ) → set.contains result s ≡ (nat_lt s 64 && (file_of s == file)) }
+    {
+        SquareSet {
+            bits: 0x0101010101010101 << file,
+        }
+    }
+
+    /// The eight squares of a rank, 0 for the first to 7 for the eighth.
+    #[inline(always)]
+    pub fn rank(rank: u8) -> SquareSet
+        requires { rank < 8 }
+        ensures { (s : ℕ) → set.contains result s ≡ (nat_lt s 64 && (rank_of s == rank)) }
+    {
+        SquareSet {
+            bits: 0xff << (8 * rank),
+        }
+    }
+
+    /// The light squares, h1 among them (FIDE Laws 2.1).
+    #[inline(always)]
+    pub fn light() -> SquareSet
+        ensures { (s : ℕ) → set.contains result s ≡ (nat_lt s 64 && is_light s) }
+    {
+        SquareSet {
+            bits: 0x55aa55aa55aa55aa,
+        }
+    }
+
+    /// The dark squares, a1 among them (FIDE Laws 2.1).
+    #[inline(always)]
+    pub fn dark() -> SquareSet
+        ensures { (s : ℕ) → set.contains result s ≡ (nat_lt s 64 && not (is_light s)) }
+    {
+        SquareSet {
+            bits: 0xaa55aa55aa55aa55,
+        }
     }
 
     /// Whether the set holds the square.
@@ -121,6 +176,14 @@ impl SquareSet {
         SquareSet {
             bits: self.bits & !other.bits,
         }
+    }
+
+    /// Whether the other set holds each square of this one.
+    #[inline(always)]
+    pub fn is_subset(self, other: SquareSet) -> bool
+        ensures { result ≡ set.is_subset self other }
+    {
+        self.bits & !other.bits == 0
     }
 
     /// The first square of the set.

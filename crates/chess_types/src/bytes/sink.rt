@@ -11,7 +11,7 @@ pub trait Sink {
     /// A call has failed, or has taken none of some bytes.
     ghost failed: { Self → Bool };
 
-    /// Writes some bytes of the front of the buffer, and answers how many.
+    /// Writes some bytes of the beginning of the buffer, and answers how many.
     fn write(&mut self, buf: &[u8]) -> Result<usize, Failed>
         ensures bound { IfOk result (λ n. n ≤ length buf.now) }
         ensures takes { takes self.old (carried result buf.now) self.new }

@@ -17,7 +17,7 @@ pub trait Source {
     /// A call has failed.
     ghost failed: { Self → Bool };
 
-    /// Reads some bytes into the front of the buffer, and answers how many. None are read only at the end, or into an
+    /// Reads some bytes into the beginning of the buffer, and answers how many. None are read only at the end, or into an
     /// empty buffer.
     fn read(&mut self, buf: &mut [u8]) -> Result<usize, Failed>
         ensures bound { IfOk result (λ n. n ≤ length buf.new) }

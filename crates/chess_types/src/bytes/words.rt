@@ -7,7 +7,7 @@ fn is_gap(gaps: &[u8], byte: u8) -> bool
     gaps.contains(&byte)
 }
 
-// The bytes without the gaps at their front.
+// The bytes without the gaps at their beginning.
 fn skip_gaps<'a>(bytes: &'a [u8], gaps: &[u8]) -> &'a [u8]
     ensures { result.now ≡ skip_gaps gaps.now bytes.now }
 {
@@ -33,7 +33,7 @@ fn word_len(bytes: &[u8], gaps: &[u8]) -> usize
     len
 }
 
-/// The first word, and what stands behind it. Words are parted by the bytes of `gaps`; `None` where there is no word.
+/// The first word, and what comes after it. Words are separated by the bytes of `gaps`; `None` where there is no word.
 pub fn split_word<'a>(bytes: &'a [u8], gaps: &[u8]) -> Option<(&'a [u8], &'a [u8])>
     ensures none { IfNone result (words gaps.now bytes.now ≡ []) }
     ensures some { IfSome result (λ r. words gaps.now bytes.now ≡ r.0.now ∷ words gaps.now r.1.now) }

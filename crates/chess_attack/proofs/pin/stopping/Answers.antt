@@ -1,5 +1,5 @@
 use Rattle.std.proofs.Common.{◌||◌, ◌==◌, ap, ◌∙◌, arith}
-use Rattle.std.specs.FinSet.{contains, contains-empty}
+use Rattle.std.specs.FinSet.{contains, empty, contains-empty}
 use Rattle.std.specs.Ordering.{nat_cmp}
 use Rattle.chess_attack.proofs.Reached.{inserted}
 use Rattle.chess_attack.proofs.StopSets.{stop_set, stop_alone}
@@ -13,7 +13,7 @@ returns-in-Some c = λ to ht.
 
 pub returns-in-None : goal.returns-in-None
 returns-in-None c = λ to ht.
-    ap (λ s. contains s to) c.insert.ensures
-    ∙ inserted c.empty-alone.result c.args.from to
-    ∙ ap (λ b. b || (c.args.from == to)) (ap (λ s. contains s to) c.empty-alone.ensures ∙ contains-empty nat_cmp to)
+    ap (λ s. contains s to) c.single.ensures
+    ∙ inserted empty c.args.from to
+    ∙ ap (λ b. b || (c.args.from == to)) (contains-empty nat_cmp to)
     ∙ stop_alone c.args.king c.args.from to c.in-None.ensures.none

@@ -1,4 +1,5 @@
-use Rattle.std.proofs.Common.{◌&&◌, ◌||◌, ◌∙◌}
+use Rattle.std.proofs.Common.{◌&&◌, ◌||◌, ◌∙◌, arith}
+use Rattle.std.proofs.lemmas.Bool.Decides.{nat_tests}
 use Rattle.chess_types.specs.board.Board.{man_at}
 use Rattle.chess_draws.proofs.DeadLemmas.{one_coloured_is}
 use Rattle.chess_draws.proofs.dead.is_one_coloured.Goals as goal
@@ -7,4 +8,4 @@ pub returns : goal.returns
 returns c =
     (λ i. c.is_within-are_bishops.ensures i && (c.is_within-are_light.ensures i || c.is_within-are_dark.ensures i))
     ∙ one_coloured_is c.others-others.result c.bishops.result c.light.result c.dark.result (man_at c.args.men.now) c.others-others.ensures c.bishops.ensures
-    c.light.ensures c.dark.ensures
+    (λ s on. c.light.ensures s ∙ grind (arith, nat_tests, on)) (λ s on. c.dark.ensures s ∙ grind (arith, nat_tests, on))

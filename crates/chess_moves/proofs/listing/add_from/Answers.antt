@@ -12,7 +12,7 @@ use Rattle.chess_moves.proofs.Reach.{lands_each, lands_listed}
 use Rattle.chess_moves.proofs.listing.add_from.Goals as goal
 use Rattle.chess_moves.proofs.listing.add_from.Goals.{In-Some}
 
--- the man's move to the next square is legal, and so is the one to each behind it
+-- the man's move to the next square is legal, and so is the one to each after it
 legal : (c : In-Some) →
     (is_legal_target c.args.live.now.position c.own_kind-kind.result c.args.from c.in-Some.to ≡ true)
     × (list_all (is_legal_target c.args.live.now.position c.own_kind-kind.result c.args.from) c.next.new.self ≡ true)

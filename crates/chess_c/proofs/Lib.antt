@@ -1,0 +1,5 @@
+pub mod CallLemmas
+pub mod PutLemmas
+pub mod SlotValues
+pub mod TextLemmas
+pub mod Values

@@ -1,0 +1,31 @@
+-- How C sees a move: three numbers.
+--   promotion_code, promotion_in   what a pawn becomes: 0 for no promotion, else 1 to 4 for knight, bishop, rook and queen; and read back
+--   shown, move_in                 a move as three numbers, and read back: squares are below 64
+use Rattle.std.specs.Prelude.{ℕ, ◌==◌, nat_lt, ◌&&◌, if◌then◌else◌, Option, Some, None}
+use Rattle.chess_types.specs.declared.board.man.Kind.{Kind}
+use Rattle.chess_types.specs.declared.board.man.Kind.TheVariants.{Knight, Bishop, Rook, Queen}
+use Rattle.chess_types.specs.board.MoveParts.{MoveParts}
+use Rattle.chess_c.specs.declared.moves.CMove.{CMove}
+
+abbrev pub promotion_code : Option Kind → ℕ
+promotion_code (Some Knight) = 1
+promotion_code (Some Bishop) = 2
+promotion_code (Some Rook) = 3
+promotion_code (Some Queen) = 4
+promotion_code _ = 0
+
+abbrev pub promotion_in : ℕ → Option (Option Kind)
+promotion_in code =
+    if code == 0 then Some None else if code == 1 then Some (Some Knight) else if code == 2 then Some (Some Bishop) else if code == 3 then Some (Some Rook)
+    else if code == 4 then Some (Some Queen) else None
+
+abbrev pub shown : MoveParts → CMove
+shown m = record { from = m.from; to = m.to; promotion = promotion_code m.promo }
+
+-- between those squares
+abbrev pub move_between : ℕ → ℕ → Option (Option Kind) → Option MoveParts
+move_between from to None = None
+move_between from to (Some promo) = Some (record { from = from; to = to; promo = promo })
+
+abbrev pub move_in : CMove → Option MoveParts
+move_in m = if nat_lt m.from 64 && nat_lt m.to 64 then move_between m.from m.to (promotion_in m.promotion) else None

@@ -1,0 +1,293 @@
+ghost use Rattle.std.specs.Prelude.{◌≡◌, map};
+ghost use Rattle.chess_types.specs.declared.board.man.Colour.TheVariants.{Black, White};
+ghost use Rattle.chess_types.specs.board.Attack.{checks_from, count};
+ghost use Rattle.chess_types.specs.board.Legal.{legal_moves};
+ghost use Rattle.chess_types.specs.board.Lines.{last};
+ghost use Rattle.chess_types.specs.board.Outcome.{claims, status};
+ghost use Rattle.chess_types.specs.board.Position.{look};
+ghost use Rattle.chess_types.specs.board.Repetition.{repetitions};
+ghost use Rattle.chess_types.specs.board.Squares.{squares};
+ghost use Rattle.chess_eval.specs.Evaluation.{evaluation};
+ghost use Rattle.chess_fen.specs.Writing.{written};
+ghost use Rattle.chess_san.specs.Naming.{reading};
+ghost use Rattle.chess_tree.specs.GameTree.{line_to};
+ghost use Rattle.chess_c.specs.Asked.{IsBestAt, IsClaimed, IsRead, IsWritten, claims_in, flag};
+ghost use Rattle.chess_c.specs.Calls.{Asks};
+ghost use Rattle.chess_c.specs.Codes.{claims_code, outcome_code};
+ghost use Rattle.chess_c.specs.Handed.{IsHanded};
+ghost use Rattle.chess_c.specs.Moves.{move_in, shown};
+
+use crate::codes::{ARGUMENT, EMPTY, ILLEGAL, NONE, OK, claims_code, outcome_code, refusal_code};
+use crate::moves::{CMove, hand_moves};
+use crate::slot::{Slot, put, take};
+use crate::squares::{put_counts, put_set};
+use crate::texts::hand;
+use chess_cli::{Board, Refusal};
+use chess_types::Colour;
+use std::alloc::Global;
+
+/// How the game stands: 0 mate, 1 stalemate, 2 dead, 3 fivefold repetition, 4 the 75 moves, 5 play (FIDE Laws 5.1.1, 5.2.1, 5.2.2, 9.6).
+#[unsafe(no_mangle)]
+pub extern "C" fn jatshegi_board_outcome(alloc: Global, slot: &mut Slot, outcome: &mut u32) -> u32
+    ensures { Asks (outcome.new ≡ outcome.old) (λ board code. (code ≡ 0) × (outcome.new ≡ outcome_code (status (line_to board)))) slot.old.held result slot.new.held }
+{
+    let Some(mut session) = take(slot, alloc) else {
+        return EMPTY;
+    };
+    *outcome = outcome_code(session.board.outcome());
+    put(slot, session, alloc);
+    OK
+}
+
+/// The draws that may be claimed: 1 for threefold repetition, and 2 for fifty moves (FIDE Laws 9.2.2, 9.3.2).
+#[unsafe(no_mangle)]
+pub extern "C" fn jatshegi_board_claims(alloc: Global, slot: &mut Slot, draws: &mut u32) -> u32
+    ensures { Asks (draws.new ≡ draws.old) (λ board code. (code ≡ 0) × (draws.new ≡ claims_code (claims (line_to board)))) slot.old.held result slot.new.held }
+{
+    let Some(mut session) = take(slot, alloc) else {
+        return EMPTY;
+    };
+    *draws = claims_code(session.board.claimable());
+    put(slot, session, alloc);
+    OK
+}
+
+// What may be claimed with a move.
+fn claims_with(board: &mut Board<'static, Global>, m: CMove, draws: &mut u32) -> u32
+    ensures value { IsClaimed (claims_in (move_in m) (line_to board.old)) result draws.old draws.new }
+    ensures as_before { board.new ≡ board.old }
+{
+    let Some(legal) = m.read() else {
+        return ILLEGAL;
+    };
+    let Some(found) = board.claimable_with(legal) else {
+        return ILLEGAL;
+    };
+    *draws = claims_code(found);
+    OK
+}
+
+/// The draws that may be claimed with a move (FIDE Laws 9.2.1, 9.3.1).
+#[unsafe(no_mangle)]
+pub extern "C" fn jatshegi_board_claims_with(
+    alloc: Global,
+    slot: &mut Slot,
+    m: CMove,
+    draws: &mut u32,
+) -> u32
+    ensures { Asks (draws.new ≡ draws.old) (λ board code. IsClaimed (claims_in (move_in m) (line_to board)) code draws.old draws.new) slot.old.held result slot.new.held }
+{
+    let Some(mut session) = take(slot, alloc) else {
+        return EMPTY;
+    };
+    let code = claims_with(&mut session.board, m, draws);
+    put(slot, session, alloc);
+    code
+}
+
+/// How often the position has come up on the way to it, this time included (FIDE Laws 9.2.2).
+#[unsafe(no_mangle)]
+pub extern "C" fn jatshegi_board_repetitions(alloc: Global, slot: &mut Slot, times: &mut u32) -> u32
+    ensures { Asks (times.new ≡ times.old) (λ board code. (code ≡ 0) × (times.new ≡ repetitions (line_to board))) slot.old.held result slot.new.held }
+{
+    let Some(mut session) = take(slot, alloc) else {
+        return EMPTY;
+    };
+    *times = session.board.repetitions();
+    put(slot, session, alloc);
+    OK
+}
+
+/// The evaluation, in centipawns for White.
+#[unsafe(no_mangle)]
+pub extern "C" fn jatshegi_board_evaluation(alloc: Global, slot: &mut Slot, value: &mut i32) -> u32
+    ensures { Asks (value.new ≡ value.old) (λ board code. (code ≡ 0) × (value.new ≡ evaluation (look (last (line_to board))))) slot.old.held result slot.new.held }
+{
+    let Some(session) = take(slot, alloc) else {
+        return EMPTY;
+    };
+    *value = session.board.live().white();
+    put(slot, session, alloc);
+    OK
+}
+
+/// How many men of each colour attack each of the 64 squares, a1 first (FIDE Laws 3.1.2).
+#[unsafe(no_mangle)]
+pub extern "C" fn jatshegi_board_counts(
+    alloc: Global,
+    slot: &mut Slot,
+    white: &mut [u8; 64],
+    black: &mut [u8; 64],
+) -> u32
+    ensures { Asks ((white.new ≡ white.old) × (black.new ≡ black.old)) (λ board code. (code ≡ 0) × (white.new ≡ map (count (look (last (line_to board))) White) squares) × (black.new ≡ map (count (look (last (line_to board))) Black) squares)) slot.old.held result slot.new.held }
+{
+    let Some(session) = take(slot, alloc) else {
+        return EMPTY;
+    };
+    put_counts(session.board.live(), Colour::White, white);
+    put_counts(session.board.live(), Colour::Black, black);
+    put(slot, session, alloc);
+    OK
+}
+
+// Which squares have a man that checks the side to move.
+fn put_checks(board: &Board<'static, Global>, checks: &mut [u8; 64])
+    ensures { checks.new ≡ map (λ square. flag (checks_from (look (last (line_to board.now))) (last (line_to board.now)).side square)) squares }
+{
+    put_set(board.checking(), checks);
+}
+
+/// For each of the 64 squares, a1 first, 1 where a man on it checks the side to move, else 0 (FIDE Laws 3.9.1).
+#[unsafe(no_mangle)]
+pub extern "C" fn jatshegi_board_checks(
+    alloc: Global,
+    slot: &mut Slot,
+    checks: &mut [u8; 64],
+) -> u32
+    ensures { Asks (checks.new ≡ checks.old) (λ board code. (code ≡ 0) × (checks.new ≡ map (λ square. flag (checks_from (look (last (line_to board))) (last (line_to board)).side square)) squares)) slot.old.held result slot.new.held }
+{
+    let Some(session) = take(slot, alloc) else {
+        return EMPTY;
+    };
+    put_checks(&session.board, checks);
+    put(slot, session, alloc);
+    OK
+}
+
+/// The legal moves in order, and how many they are, at most 432 (FIDE Laws 3.1 to 3.10).
+#[unsafe(no_mangle)]
+pub extern "C" fn jatshegi_board_moves(
+    alloc: Global,
+    slot: &mut Slot,
+    moves: &mut [CMove],
+    count: &mut usize,
+) -> u32
+    ensures { Asks ((moves.new ≡ moves.old) × (count.new ≡ count.old)) (λ board code. IsHanded (map shown (legal_moves (last (line_to board)))) code count.new moves.old moves.new) slot.old.held result slot.new.held }
+{
+    let Some(mut session) = take(slot, alloc) else {
+        return EMPTY;
+    };
+    let code = hand_moves(session.board.legal_moves().as_slice(), moves, count);
+    put(slot, session, alloc);
+    code
+}
+
+/// The FEN of the position, at most 128 bytes (PGN 16.1).
+#[unsafe(no_mangle)]
+pub extern "C" fn jatshegi_board_fen(
+    alloc: Global,
+    slot: &mut Slot,
+    text: &mut [u8],
+    count: &mut usize,
+) -> u32
+    ensures { Asks ((text.new ≡ text.old) × (count.new ≡ count.old)) (λ board code. IsHanded (written (last (line_to board))) code count.new text.old text.new) slot.old.held result slot.new.held }
+{
+    let Some(session) = take(slot, alloc) else {
+        return EMPTY;
+    };
+    let code = hand(session.board.fen_text().as_str().as_bytes(), text, count);
+    put(slot, session, alloc);
+    code
+}
+
+// The text of a move.
+fn write(board: &Board<'static, Global>, m: CMove, text: &mut [u8], count: &mut usize) -> u32
+    ensures { IsWritten (move_in m) (last (line_to board.now)) result count.old count.new text.old text.new }
+{
+    let Some(legal) = m.read() else {
+        return ILLEGAL;
+    };
+    match board.write_move(legal) {
+        None => ILLEGAL,
+        Some(san) => hand(san.as_str().as_bytes(), text, count),
+    }
+}
+
+/// The text of a legal move in standard algebraic notation, at most 8 bytes (PGN 8.2.3).
+#[unsafe(no_mangle)]
+pub extern "C" fn jatshegi_board_write(
+    alloc: Global,
+    slot: &mut Slot,
+    m: CMove,
+    text: &mut [u8],
+    count: &mut usize,
+) -> u32
+    ensures { Asks ((text.new ≡ text.old) × (count.new ≡ count.old)) (λ board code. IsWritten (move_in m) (last (line_to board)) code count.old count.new text.old text.new) slot.old.held result slot.new.held }
+{
+    let Some(session) = take(slot, alloc) else {
+        return EMPTY;
+    };
+    let code = write(&session.board, m, text, count);
+    put(slot, session, alloc);
+    code
+}
+
+// The move that a text names.
+fn read(board: &mut Board<'static, Global>, text: &[u8], m: &mut CMove) -> u32
+    ensures value { IsRead (reading (last (line_to board.old)) text.now) result m.old m.new }
+    ensures as_before { board.new ≡ board.old }
+{
+    match board.read_move(text) {
+        Ok(named) => {
+            *m = CMove::of(named);
+            OK
+        }
+        Err(fault) => refusal_code(Refusal::from(fault)),
+    }
+}
+
+/// The legal move that a text names, in standard algebraic notation or from square to square (PGN 8.2.3).
+#[unsafe(no_mangle)]
+pub extern "C" fn jatshegi_board_read(
+    alloc: Global,
+    slot: &mut Slot,
+    text: &[u8],
+    m: &mut CMove,
+) -> u32
+    ensures { Asks (m.new ≡ m.old) (λ board code. IsRead (reading (last (line_to board)) text.now) code m.old m.new) slot.old.held result slot.new.held }
+{
+    let Some(mut session) = take(slot, alloc) else {
+        return EMPTY;
+    };
+    let code = read(&mut session.board, text, m);
+    put(slot, session, alloc);
+    code
+}
+
+// The best move and its value.
+fn best(board: &mut Board<'static, Global>, depth: u8, m: &mut CMove, value: &mut i32) -> u32
+    ensures value { IsBestAt (line_to board.old) depth result m.old m.new value.old value.new }
+    ensures as_before { board.new ≡ board.old }
+{
+    if depth < 1 || depth > 16 {
+        return ARGUMENT;
+    }
+    match board.best_move(depth) {
+        None => NONE,
+        Some((found, worth)) => {
+            *m = CMove::of(found);
+            *value = worth;
+            OK
+        }
+    }
+}
+
+/// The first legal move of greatest minimax value, 1 to 16 plies deep, with its value for the side to move: centipawns, or 30,000 less the plies to
+/// a mate.
+#[unsafe(no_mangle)]
+pub extern "C" fn jatshegi_board_best(
+    alloc: Global,
+    slot: &mut Slot,
+    depth: u8,
+    m: &mut CMove,
+    value: &mut i32,
+) -> u32
+    ensures { Asks ((m.new ≡ m.old) × (value.new ≡ value.old)) (λ board code. IsBestAt (line_to board) depth code m.old m.new value.old value.new) slot.old.held result slot.new.held }
+{
+    let Some(mut session) = take(slot, alloc) else {
+        return EMPTY;
+    };
+    let code = best(&mut session.board, depth, m, value);
+    put(slot, session, alloc);
+    code
+}

@@ -1,0 +1,46 @@
+ghost use Rattle.std.specs.Prelude.{◌≡◌, ◌⊎◌, Some, None};
+ghost use Rattle.chess_fen.specs.Reading.{reading};
+ghost use Rattle.chess_cli.specs.Answers.{HasEffect, beginning, set_effect};
+ghost use Rattle.chess_c.specs.Calls.{Acts};
+
+use crate::codes::{EMPTY, MEMORY, OK, ended_code};
+use crate::keys::Keys;
+use crate::session::Session;
+use crate::slot::{Slot, put, take};
+use std::alloc::Global;
+
+/// A board as a game begins, in the slot; what was there is freed. Where there is no memory the slot is as it was.
+#[unsafe(no_mangle)]
+pub extern "C" fn jatshegi_board_new(alloc: Global, keys: &'static Keys, slot: &mut Slot) -> u32
+    ensures { ((result ≡ 0) × (slot.new.held ≡ Some beginning)) ⊎ ((result ≡ 2) × (slot.new.held ≡ slot.old.held)) }
+{
+    let Ok(session) = Session::new(&keys.heap, &keys.table) else {
+        return MEMORY;
+    };
+    let Ok(kept) = Box::new(alloc, session) else {
+        return MEMORY;
+    };
+    put(slot, kept, alloc);
+    OK
+}
+
+/// Frees the board; the slot is then empty.
+#[unsafe(no_mangle)]
+pub extern "C" fn jatshegi_board_free(alloc: Global, slot: &mut Slot)
+    ensures { slot.new.held ≡ None }
+{
+    drop(take(slot, alloc));
+}
+
+/// Begins a tree from the position of a FEN, in place of the one that there was.
+#[unsafe(no_mangle)]
+pub extern "C" fn jatshegi_board_set(alloc: Global, slot: &mut Slot, fen: &[u8]) -> u32
+    ensures { Acts (λ board ended after. HasEffect (set_effect (reading fen.now)) board ended after) slot.old.held result slot.new.held }
+{
+    let Some(mut session) = take(slot, alloc) else {
+        return EMPTY;
+    };
+    let ended = session.board.set(fen);
+    put(slot, session, alloc);
+    ended_code(ended)
+}

@@ -1,0 +1,93 @@
+ghost use Rattle.std.specs.Prelude.{◌≡◌, ◌≤◌, ◌++◌, drop, length, map};
+ghost use Rattle.chess_c.specs.Handed.{IsHanded};
+ghost use Rattle.chess_c.specs.Moves.{move_in, promotion_code, promotion_in, shown};
+
+use crate::codes::{OK, ROOM};
+use chess_types::{Kind, Move, Square};
+
+/// A move, as C sees it.
+#[repr(C)]
+#[derive(Clone, Copy)]
+pub struct CMove {
+    /// From where, 0 for a1 to 63 for h8.
+    pub from: u8,
+    /// To where.
+    pub to: u8,
+    /// What a pawn becomes: 0 for no promotion, else 1 to 4 for knight, bishop, rook and queen.
+    pub promotion: u8,
+}
+
+fn promotion_code(promo: Option<Kind>) -> u8
+    ensures { result ≡ promotion_code promo }
+{
+    match promo {
+        Some(Kind::Knight) => 1,
+        Some(Kind::Bishop) => 2,
+        Some(Kind::Rook) => 3,
+        Some(Kind::Queen) => 4,
+        _ => 0,
+    }
+}
+
+fn promotion_in(code: u8) -> Option<Option<Kind>>
+    ensures { result ≡ promotion_in code }
+{
+    match code {
+        0 => Some(None),
+        1 => Some(Some(Kind::Knight)),
+        2 => Some(Some(Kind::Bishop)),
+        3 => Some(Some(Kind::Rook)),
+        4 => Some(Some(Kind::Queen)),
+        _ => None,
+    }
+}
+
+impl CMove {
+    /// A move in three numbers.
+    pub fn of(m: Move) -> CMove
+        ensures { result ≡ shown m }
+    {
+        CMove {
+            from: m.from.index() as u8,
+            to: m.to.index() as u8,
+            promotion: promotion_code(m.promo),
+        }
+    }
+
+    /// The move of three numbers; `None` where they are none.
+    pub fn read(self) -> Option<Move>
+        ensures { result ≡ move_in self }
+    {
+        if self.from >= 64 || self.to >= 64 {
+            return None;
+        }
+        let promo = promotion_in(self.promotion)?;
+        Some(Move {
+            from: Square::from_index(self.from),
+            to: Square::from_index(self.to),
+            promo,
+        })
+    }
+}
+
+// Puts the moves first in a room that is large enough.
+fn put_moves(moves: &[Move], room: &mut [CMove])
+    requires { length moves.now ≤ length room.old }
+    ensures { room.new ≡ map shown moves.now ++ drop (length moves.now) room.old }
+{
+    for i in 0..moves.len() {
+        room[i] = CMove::of(moves[i]);
+    }
+}
+
+/// Puts the moves where there is room for them, and says how many they are.
+pub fn hand_moves(moves: &[Move], room: &mut [CMove], count: &mut usize) -> u32
+    ensures { IsHanded (map shown moves.now) result count.new room.old room.new }
+{
+    *count = moves.len();
+    if moves.len() > room.len() {
+        return ROOM;
+    }
+    put_moves(moves, room);
+    OK
+}

@@ -1,0 +1,239 @@
+//! Readers that go on after a bad game.
+ghost use Rattle.std.specs.Prelude.{◌<◌};
+ghost use Rattle.chess_pgn.specs.Sources.{IsSound};
+
+use super::common::a_table;
+use super::passing::Step::{End, Fault, Game, NextFails, PassFails, Passed};
+use chess_key::KeyTable;
+use chess_pgn::{FaultKind, Games, GamesFault};
+use chess_types::{FromBytes, Source};
+use linked_list_allocator::LocalHeap;
+use std::alloc::Allocator;
+use std::process::Abort;
+use std::test::Fail;
+
+/// What a call returns.
+#[derive(Clone, Copy)]
+enum Step {
+    /// `next`: a game, after which so many bytes were used.
+    Game(u64),
+    /// `next`: a fault, its place and its number.
+    Fault(u64, u8),
+    /// `next`: that there are no more games.
+    End,
+    /// `next`: that a read failed.
+    NextFails,
+    /// `pass_over`: how many bytes were passed over.
+    Passed(u64),
+    /// `pass_over`: that a read failed.
+    PassFails,
+}
+
+/// Whether there is a next game.
+fn next_is_game<A: Allocator, R: Source>(games: &mut Games<'_, R, A>) -> Result<bool, GamesFault>
+    requires sound { IsSound R.ended games.old }
+    ensures sound { IsSound R.ended games.new }
+{
+    match games.next() {
+        Ok(found) => Ok(found.is_some()),
+        Err(fault) => Err(fault),
+    }
+}
+
+/// Whether a fault has that place and that number.
+fn is_fault(fault: GamesFault, place: u64, number: u8) -> bool {
+    match fault {
+        GamesFault::Pgn(fault) => fault.place == place && fault.kind.number() == number,
+        GamesFault::Read => false,
+    }
+}
+
+/// Makes the call, and whether it returns that.
+fn goes<A: Allocator, R: Source>(games: &mut Games<'_, R, A>, step: Step) -> bool
+    requires sound { IsSound R.ended games.old }
+    ensures sound { IsSound R.ended games.new }
+{
+    match step {
+        Game(used) => next_is_game(games) == Ok(true) && games.used() == used,
+        Fault(place, number) => match next_is_game(games) {
+            Ok(_) => false,
+            Err(fault) => is_fault(fault, place, number),
+        },
+        End => next_is_game(games) == Ok(false),
+        NextFails => next_is_game(games) == Err(GamesFault::Read),
+        Passed(count) => games.pass_over() == Ok(count),
+        PassFails => games.pass_over() == Err(GamesFault::Read),
+    }
+}
+
+/// The calls return these, one after another.
+fn assert_steps<A: Allocator, R: Source>(
+    rt: &impl Abort,
+    games: &mut Games<'_, R, A>,
+    steps: &[Step],
+)
+    requires sound { IsSound R.ended games.old }
+    ensures sound { IsSound R.ended games.new }
+{
+    for step in steps {
+        let used = games.used();
+        let goes = goes(games, *step);
+        assert!(rt; goes, "a call after {used} bytes");
+    }
+}
+
+/// Collections, and what the calls return that go through them.
+const ROWS: &[(&[u8], &[Step])] = &[
+    // A byte that begins no token.
+    (
+        b"[A \"1\"]\n\n1. e4 *\n\n[A \"2\"]\n\n1. e4 ~ e5 *\n\n[A \"3\"]\n\n1. d4 *\n",
+        &[Game(16), Fault(33, 1), Passed(8), Game(57), End],
+    ),
+    // An illegal move.
+    (
+        b"[A \"1\"]\n\n1. e4 *\n\n[A \"2\"]\n\n1. e4 e5 2. Ke3 Ke7 *\n\n[A \"3\"]\n\n1. d4 *\n",
+        &[Game(16), Fault(39, 3), Passed(11), Game(66), End],
+    ),
+    // A malformed tag: what follows one line feed is of the same section.
+    (
+        b"[A \"1\"]\n\n1. e4 *\n\n[A ~\"2\"]\n[B \"2\"]\n\n1. e4 *\n\n[A \"3\"]\n\n1. d4 *\n",
+        &[Game(16), Fault(18, 2), Passed(24), Game(61), End],
+    ),
+    // Empty lines of spaces, and a bracket that opens no tag.
+    (
+        b"[A \"1\"]\n\n1. e4 *\n\n[A \"2\"]\n\n1. e4 ~\n \t\n[%x]\n\n[ A]\n\n](1)\n\r \n[A \"3\"]\n\n1. d4 *\n",
+        &[Game(16), Fault(33, 1), Passed(25), Game(74), End],
+    ),
+    // A line feed and no more.
+    (
+        b"[A \"1\"]\n\n1. e4 *\n\n[A \"2\"]\n\n1. e4 ~\n[A \"4\"]\n[A \"5\"] *\n\n[A \"3\"]\n\n1. d4 *\n",
+        &[Game(16), Fault(33, 1), Passed(21), Game(70), End],
+    ),
+    // The last game.
+    (
+        b"[A \"1\"]\n\n1. e4 *\n\n[A \"2\"]\n\n1. e4 ~ e5 *\n",
+        &[Game(16), Fault(33, 1), Passed(7), End],
+    ),
+    // The last game, a bracket at the end.
+    (
+        b"[A \"1\"]\n\n1. e4 *\n\n[A \"2\"]\n\n1. e4 ~\n\n[",
+        &[Game(16), Fault(33, 1), Passed(4), End],
+    ),
+    // The first game.
+    (
+        b"~\n\n[A \"3\"]\n\n1. d4 *\n",
+        &[Fault(0, 1), Passed(3), Game(19), End],
+    ),
+    // Two games in a row.
+    (
+        b"[A \"1\"]\n\n1. e4 *\n\n[A \"2\"]\n\n1. e4 ~ e5 *\n\n[A \"4\"]\n\n1. e4 ) *\n\n[A \"3\"]\n\n1. d4 *\n",
+        &[
+            Game(16),
+            Fault(33, 1),
+            Passed(8),
+            Fault(56, 4),
+            Passed(5),
+            Game(77),
+            End,
+        ],
+    ),
+    // A comment with an empty line and a bracket, which is taken for a section.
+    (
+        b"[A \"1\"]\n\n1. e4 *\n\n[A \"2\"]\n\n1. e4 ~ {a\n\n[%eval 1]\n\n[x]} *\n\n[A \"3\"]\n\n1. d4 *\n",
+        &[
+            Game(16),
+            Fault(33, 1),
+            Passed(17),
+            Fault(50, 2),
+            Passed(6),
+            Game(74),
+            End,
+        ],
+    ),
+    // Line ends of two bytes.
+    (
+        b"[A \"1\"]\r\n\r\n1. e4 *\r\n\r\n[A \"2\"]\r\n\r\n1. e4 ~ e5 *\r\n\r\n[A \"3\"]\r\n\r\n1. d4 *\r\n",
+        &[Game(18), Fault(39, 1), Passed(10), Game(67), End],
+    ),
+    // A variation without its end: reading stops at the next section itself.
+    (
+        b"[A \"1\"]\n\n1. e4 *\n\n[A \"2\"]\n\n1. e4 (1. d4\n\n[A \"3\"]\n\n1. d4 *\n",
+        &[Game(16), Fault(41, 4), Passed(0), Game(57), End],
+    ),
+    // A comment without its end.
+    (
+        b"[A \"1\"]\n\n1. e4 *\n\n[A \"2\"]\n\n1. e4 {d4\n\n[A \"3\"]\n\n1. d4 *\n",
+        &[Game(16), Fault(55, 6), Passed(5), Game(54), End],
+    ),
+    // No fault: what follows the last game is passed over.
+    (
+        b"[A \"1\"]\n\n1. e4 *\n\ne4 *\n\n[A \"3\"]\n\n1. d4 *\n",
+        &[
+            Passed(0),
+            Game(16),
+            Passed(8),
+            Game(40),
+            End,
+            Passed(0),
+            End,
+        ],
+    ),
+];
+
+/// The collections in pieces of that size.
+fn assert_rows<A: Allocator>(rt: &impl Abort, alloc: &A, piece: usize)
+    requires { 0 < piece }
+{
+    let table = a_table();
+    for (text, steps) in ROWS {
+        let mut games = Games::new(alloc, &table, FromBytes::new(text, piece));
+        assert_steps(rt, &mut games, steps);
+    }
+}
+
+#[test]
+fn goes_on_after_a_bad_game(rt: HostRuntime) {
+    assert_rows(&rt, &rt.alloc(), 1);
+    assert_rows(&rt, &rt.alloc(), 2);
+    assert_rows(&rt, &rt.alloc(), 7);
+    assert_rows(&rt, &rt.alloc(), 65_536);
+}
+
+/// A collection in reads of four bytes, of which the one after so many fails.
+fn assert_failing<A: Allocator>(rt: &impl Abort, alloc: &A, good_reads: u64, steps: &[Step]) {
+    let table = a_table();
+    let text = b"* ~~~~~~\n\n[A \"3\"] *";
+    let source = FromBytes::failing_after(text, 4, good_reads);
+    assert_steps(rt, &mut Games::new(alloc, &table, source), steps);
+}
+
+/// A read that fails while bytes are passed over, and one that fails afterwards.
+#[test]
+fn a_failing_read_while_passing_over(rt: HostRuntime) {
+    let passes: &[Step] = &[Game(1), Fault(2, 1), PassFails, NextFails, PassFails];
+    assert_failing(&rt, &rt.alloc(), 1, passes);
+    assert_failing(&rt, &rt.alloc(), 2, passes);
+    let reads: &[Step] = &[Game(1), Fault(2, 1), Passed(8), NextFails, PassFails];
+    assert_failing(&rt, &rt.alloc(), 3, reads);
+    assert_failing(&rt, &rt.alloc(), 4, reads);
+    let whole: &[Step] = &[Game(1), Fault(2, 1), Passed(8), Game(19), End];
+    assert_failing(&rt, &rt.alloc(), 6, whole);
+}
+
+/// Want of memory stays.
+fn assert_starved(rt: &impl Abort, heap: &LocalHeap, table: &KeyTable) {
+    let mut games = Games::new(heap, table, FromBytes::new(b"*", 1));
+    let passed = games.pass_over();
+    assert!(rt; passed.is_err());
+    let starved = goes(&mut games, Fault(0, FaultKind::Memory.number()));
+    assert!(rt; starved);
+    let again = games.pass_over();
+    assert!(rt; again == passed);
+}
+
+#[test]
+fn want_of_memory_stays(rt: HostRuntime) -> Result<(), Fail> {
+    let heap = LocalHeap::new(rt.alloc(), 1024)?;
+    assert_starved(&rt, &heap, &a_table());
+    Ok(())
+}

@@ -1,0 +1,2 @@
+-- Words of the code alone.
+pub mod Tallies

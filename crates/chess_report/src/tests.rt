@@ -1,0 +1,17 @@
+use crate::report::Report;
+use chess_key::KeyTable;
+use chess_pgn::read_game;
+use chess_types::Status;
+
+#[test]
+fn a_mate(rt: HostRuntime) {
+    let alloc = rt.alloc();
+    let table = KeyTable::fixed();
+    let Ok(Some((game, _))) = read_game(&alloc, &table, b"1. f3 e5 2. g4 Qh4# 1-0") else {
+        return;
+    };
+    let Ok(report) = Report::of(alloc, &table, &game) else {
+        return;
+    };
+    assert!(rt; report.plies == 4 && report.status == Status::Mate && !report.agrees);
+}

@@ -1,0 +1,5 @@
+use Rattle.chess_types.proofs.SetShapes.{same_words}
+use Rattle.chess_types.proofs.board.square_set.operators.SquareSetPartialEq.eq.Goals as goal
+
+pub returns : goal.returns
+returns c = rw (← c.self.view_is, ← c.other.view_is) (same_words c.self.inside.bits c.other.inside.bits c.self.invariant c.other.invariant)

@@ -1,0 +1,209 @@
+/*
+ * Jatshegi: a chess board in which every answer is proved, for C (C11) and C++.
+ *
+ *     struct jatshegi_keys keys;
+ *     struct jatshegi_board board = JATSHEGI_NO_BOARD;
+ *     jatshegi_keys_fill(&keys);
+ *     if (jatshegi_board_new(&keys, &board) == JATSHEGI_OK) {
+ *         jatshegi_board_play_text(&board, "e4", 2);
+ *         jatshegi_board_free(&board);
+ *     }
+ *
+ * A board is a game tree with a cursor, as in the program's `board`: a move that is played is a step to the child that has it, or to a new one, and
+ * `back` leaves it in the tree. All that is asked is asked of the position at the cursor, or of the line of moves from the root to it.
+ *
+ * What a caller owes:
+ *   - A board begins as JATSHEGI_NO_BOARD, which is zeros, and after that only these functions write to it. A board that is in use is never copied.
+ *   - The keys are filled once, and stay where they are, unchanged, for as long as there is a board with them. Any number of boards share them.
+ *   - A board stays on the thread that it was made on, and one call at a time uses it. Boards of different threads are independent: there is no
+ *     other state.
+ *   - Pointers are not null and are aligned as C aligns their types, also where a length is 0. What is written to overlaps nothing else that the
+ *     call is given; a text that is read is not changed meanwhile. Lengths are at most PTRDIFF_MAX bytes.
+ *   - `malloc`, `realloc` and `free` are those of one allocator; no call comes from a signal handler.
+ *
+ * Then every input is answered, and nothing aborts. Each function is proved to answer what the Laws of Chess say, and to keep the board as it was wherever
+ * the status isn't JATSHEGI_OK, but for what is said at jatshegi_board_answer. Outputs are written at JATSHEGI_OK, and at JATSHEGI_NO_ROOM the length
+ * or the count alone; at every other status they are as they were, which is proved, too.
+ *
+ * Texts are bytes and a length, without a byte 0 at the end. Squares are numbers: 0 for a1, 1 for b1, 63 for h8.
+ */
+#ifndef JATSHEGI_H
+#define JATSHEGI_H
+
+#include <stdbool.h>
+#include <stddef.h>
+#include <stdint.h>
+
+#ifdef __cplusplus
+extern "C" {
+#endif
+
+/* What a call answers. */
+enum jatshegi_status {
+    JATSHEGI_OK = 0,
+    JATSHEGI_EMPTY = 1,       /* there is no board */
+    JATSHEGI_NO_MEMORY = 2,   /* there is no memory */
+    JATSHEGI_ILLEGAL = 3,     /* the move isn't legal, or the text names no legal move */
+    JATSHEGI_AMBIGUOUS = 4,   /* the text names more than one legal move */
+    JATSHEGI_FORM = 5,        /* the text has no form of a move */
+    JATSHEGI_TOO_LONG = 6,    /* the cursor is 20,000 plies deep */
+    JATSHEGI_FULL = 7,        /* the tree holds 1,000,000 moves */
+    JATSHEGI_AT_ROOT = 8,     /* the cursor is at the root */
+    JATSHEGI_ARGUMENT = 9,    /* a number is out of its range */
+    JATSHEGI_NO_ROOM = 10,    /* the answer is longer than the room for it; its length is known */
+    JATSHEGI_NONE = 11,       /* there is no legal move, so none is best */
+    JATSHEGI_NO_SUCH = 12,    /* there is no such child */
+    JATSHEGI_BAD_COMMENT = 13, /* the comment has a right brace */
+    /* A text is no FEN: the first fault that applies. */
+    JATSHEGI_FEN_FIELDS = 21,       /* neither four nor six fields */
+    JATSHEGI_FEN_PLACEMENT = 22,    /* the men are not eight ranks of eight squares */
+    JATSHEGI_FEN_KINGS = 23,        /* not exactly one king a side */
+    JATSHEGI_FEN_PAWN_RANK = 24,    /* a pawn on the first or the last rank */
+    JATSHEGI_FEN_TOO_MANY_MEN = 25, /* more than 16 men of a side */
+    JATSHEGI_FEN_SIDE = 26,         /* the side to move is neither w nor b */
+    JATSHEGI_FEN_CASTLING = 27,     /* neither - nor different letters of KQkq */
+    JATSHEGI_FEN_TARGET = 28,       /* the en passant field is neither - nor a square */
+    JATSHEGI_FEN_COUNTER = 29,      /* a counter is no number up to 99,999 */
+    JATSHEGI_FEN_IN_CHECK = 30      /* the side not to move is in check */
+};
+
+/* How a game stands (FIDE Laws 5.1.1, 5.2.1, 5.2.2, 9.6). */
+enum jatshegi_outcome {
+    JATSHEGI_MATE = 0,
+    JATSHEGI_STALEMATE = 1,
+    JATSHEGI_DEAD = 2,        /* too few men to mate with */
+    JATSHEGI_FIVEFOLD = 3,    /* the same position for the fifth time */
+    JATSHEGI_SEVENTYFIVE = 4, /* 75 moves of each side without a capture or a pawn's move */
+    JATSHEGI_PLAY = 5         /* the game goes on */
+};
+
+/* The draws that may be claimed, added up (FIDE Laws 9.2, 9.3). */
+enum jatshegi_claims {
+    JATSHEGI_THREEFOLD = 1,
+    JATSHEGI_FIFTY = 2
+};
+
+/* What a pawn becomes. */
+enum jatshegi_promotion {
+    JATSHEGI_NO_PROMOTION = 0,
+    JATSHEGI_KNIGHT = 1,
+    JATSHEGI_BISHOP = 2,
+    JATSHEGI_ROOK = 3,
+    JATSHEGI_QUEEN = 4
+};
+
+/* A move: from where, to where, and what a pawn becomes on the last rank. Castling is the king's move of two squares. */
+struct jatshegi_move {
+    uint8_t from;
+    uint8_t to;
+    uint8_t promotion;
+};
+
+/* A table that boards share. No answer depends on its words. */
+struct jatshegi_keys {
+    uint64_t words[768];
+};
+
+/* A board, or nothing: zeros are nothing. Its fields are for the functions below alone. */
+struct jatshegi_board {
+    bool full;
+    void *at;
+};
+#define JATSHEGI_NO_BOARD {false, NULL}
+
+/* No position has more legal moves, no FEN and no line's answer but those of `path` and `pgn` is longer. */
+enum {
+    JATSHEGI_MOST_MOVES = 432,
+    JATSHEGI_MOST_FEN = 128,
+    JATSHEGI_MOST_SAN = 8,
+    JATSHEGI_MOST_ANSWER = 2600
+};
+
+/* Fills the table. */
+void jatshegi_keys_fill(struct jatshegi_keys *keys);
+
+/* A board as a game begins; one that was there is freed. OK, NO_MEMORY. */
+uint32_t jatshegi_board_new(const struct jatshegi_keys *keys, struct jatshegi_board *board);
+
+/* Frees the board, if there is one: then there is none. */
+void jatshegi_board_free(struct jatshegi_board *board);
+
+/* Begins a tree from the position of a FEN, in place of the one that there was. OK, EMPTY, NO_MEMORY, FEN_... */
+uint32_t jatshegi_board_set(struct jatshegi_board *board, const char *fen, size_t length);
+
+/* The FEN of the position, and its length, at most JATSHEGI_MOST_FEN (PGN 16.1). OK, EMPTY, NO_ROOM. */
+uint32_t jatshegi_board_fen(struct jatshegi_board *board, char *text, size_t room, size_t *length);
+
+/* The legal moves in order, and how many they are, at most JATSHEGI_MOST_MOVES (FIDE Laws 3.1 to 3.10). OK, EMPTY, NO_ROOM. */
+uint32_t jatshegi_board_moves(struct jatshegi_board *board, struct jatshegi_move *moves, size_t room, size_t *count);
+
+/* Makes a move. OK, EMPTY, NO_MEMORY, ILLEGAL, TOO_LONG, FULL. */
+uint32_t jatshegi_board_play(struct jatshegi_board *board, struct jatshegi_move move);
+
+/* Makes the move that a text names: Nf3, exd8=Q+, O-O, or e2e4 (PGN 8.2.3). OK, EMPTY, NO_MEMORY, ILLEGAL, AMBIGUOUS, FORM, TOO_LONG, FULL. */
+uint32_t jatshegi_board_play_text(struct jatshegi_board *board, const char *text, size_t length);
+
+/* Takes the last move back: steps to the parent. OK, EMPTY, AT_ROOT. */
+uint32_t jatshegi_board_back(struct jatshegi_board *board);
+
+/* The legal move that a text names. OK, EMPTY, ILLEGAL, AMBIGUOUS, FORM. */
+uint32_t jatshegi_board_read(struct jatshegi_board *board, const char *text, size_t length, struct jatshegi_move *move);
+
+/* The text of a move in standard algebraic notation, and its length, at most JATSHEGI_MOST_SAN (PGN 8.2.3). OK, EMPTY, ILLEGAL, NO_ROOM. */
+uint32_t jatshegi_board_write(struct jatshegi_board *board, struct jatshegi_move move, char *text, size_t room, size_t *length);
+
+/* How the game stands: an enum jatshegi_outcome. OK, EMPTY. */
+uint32_t jatshegi_board_outcome(struct jatshegi_board *board, uint32_t *outcome);
+
+/* The draws that may be claimed: enum jatshegi_claims, added up; with a move, in the position after it. OK, EMPTY; ILLEGAL. */
+uint32_t jatshegi_board_claims(struct jatshegi_board *board, uint32_t *claims);
+uint32_t jatshegi_board_claims_with(struct jatshegi_board *board, struct jatshegi_move move, uint32_t *claims);
+
+/* How often the position has come up on the way to it, this time included (FIDE Laws 9.2.2). OK, EMPTY. */
+uint32_t jatshegi_board_repetitions(struct jatshegi_board *board, uint32_t *times);
+
+/* For each square, 1 where a man on it checks the side to move, else 0 (FIDE Laws 3.9.1). OK, EMPTY. */
+uint32_t jatshegi_board_checks(struct jatshegi_board *board, uint8_t checks[64]);
+
+/* For each square, how many men of White and of Black attack it (FIDE Laws 3.1.2). OK, EMPTY. */
+uint32_t jatshegi_board_counts(struct jatshegi_board *board, uint8_t white[64], uint8_t black[64]);
+
+/* The evaluation, in centipawns for White. OK, EMPTY. */
+uint32_t jatshegi_board_evaluation(struct jatshegi_board *board, int32_t *value);
+
+/*
+ * The first legal move of greatest minimax value, 1 to 16 plies deep, with its value for the side to move: centipawns, or 30,000 less the plies to a
+ * mate. OK, EMPTY, ARGUMENT, NONE.
+ */
+uint32_t jatshegi_board_best(struct jatshegi_board *board, uint8_t depth, struct jatshegi_move *move, int32_t *value);
+
+/* Steps to a child, by its place among its siblings, from 0. OK, EMPTY, NO_SUCH. */
+uint32_t jatshegi_board_step(struct jatshegi_board *board, uint32_t place);
+
+/* Goes to the root, or along the first children as far as they lead. OK, EMPTY. */
+uint32_t jatshegi_board_start(struct jatshegi_board *board);
+uint32_t jatshegi_board_end(struct jatshegi_board *board);
+
+/* Puts the move at the cursor before its siblings; takes it out, with all after it, and steps to its parent. OK, EMPTY, AT_ROOT. */
+uint32_t jatshegi_board_promote(struct jatshegi_board *board);
+uint32_t jatshegi_board_delete(struct jatshegi_board *board);
+
+/* A comment for the node at the cursor, in place of the one that it had (PGN 5). OK, EMPTY, NO_MEMORY, BAD_COMMENT. */
+uint32_t jatshegi_board_comment(struct jatshegi_board *board, const char *text, size_t length);
+
+/* An annotation number more for the move at the cursor (PGN 8.2.4). OK, EMPTY, NO_MEMORY, AT_ROOT. */
+uint32_t jatshegi_board_annotate(struct jatshegi_board *board, uint8_t number);
+
+/*
+ * Answers a line of the program's `board`, without its line feed, and hands out the answer and its length. OK, EMPTY, NO_ROOM, NO_MEMORY.
+ *
+ * The line has been answered also where the answer is longer than the room for it, or there is no memory to gather it in. With room for
+ * JATSHEGI_MOST_ANSWER bytes that happens only to `path` and `pgn`, which change nothing and may be asked again with more room.
+ */
+uint32_t jatshegi_board_answer(struct jatshegi_board *board, const char *line, size_t length, char *answer, size_t room, size_t *count);
+
+#ifdef __cplusplus
+}
+#endif
+
+#endif

@@ -1,0 +1,63 @@
+"""Jatshegi: a chess board in which every answer is proved.
+
+    >>> import jatshegi
+    >>> board = jatshegi.Board()
+    >>> board.push_san("e4")
+    Move.from_uci('e2e4')
+    >>> board.fen()
+    'rnbqkbnr/pppppppp/8/8/4P3/8/PPPP1PPP/RNBQKBNR b KQkq e3 0 1'
+
+A `Board` answers what the Laws of Chess say of its position and of the moves that led there. The board itself is a library for C
+(`include/jatshegi.h`), whose functions a prover has checked against the Laws; this package is a thin layer over it, which is tested.
+"""
+from ._board import Board, Outcome, Status
+from ._errors import AmbiguousMoveError, IllegalMoveError, InvalidFenError, InvalidMoveError, LimitError
+from ._moves import (
+    BISHOP,
+    BLACK,
+    KING,
+    KNIGHT,
+    PAWN,
+    QUEEN,
+    ROOK,
+    SQUARE_NAMES,
+    SQUARES,
+    STARTING_FEN,
+    WHITE,
+    Move,
+    parse_square,
+    square,
+    square_file,
+    square_name,
+    square_rank,
+)
+
+__version__ = "0.2.0"
+
+__all__ = [
+    "BISHOP",
+    "BLACK",
+    "KING",
+    "KNIGHT",
+    "PAWN",
+    "QUEEN",
+    "ROOK",
+    "SQUARES",
+    "SQUARE_NAMES",
+    "STARTING_FEN",
+    "WHITE",
+    "AmbiguousMoveError",
+    "Board",
+    "IllegalMoveError",
+    "InvalidFenError",
+    "InvalidMoveError",
+    "LimitError",
+    "Move",
+    "Outcome",
+    "Status",
+    "parse_square",
+    "square",
+    "square_file",
+    "square_name",
+    "square_rank",
+]

@@ -1,0 +1,76 @@
+"""The library for C: where it is, its functions and its types, as include/jatshegi.h has them."""
+from __future__ import annotations
+
+import ctypes
+import os
+from ctypes import POINTER, c_bool, c_char, c_char_p, c_int32, c_size_t, c_uint8, c_uint32, c_uint64, c_void_p
+
+OK, EMPTY, NO_MEMORY, ILLEGAL, AMBIGUOUS, FORM, TOO_LONG, FULL, AT_ROOT, ARGUMENT, NO_ROOM, NONE, NO_SUCH, BAD_COMMENT = range(14)
+
+# The status of a FEN's fault is its number and this.
+FEN = 20
+
+MOST_MOVES, MOST_FEN, MOST_SAN, MOST_ANSWER = 432, 128, 8, 2600
+
+
+class Slot(ctypes.Structure):
+    """A board, or nothing."""
+
+    _fields_ = [("full", c_bool), ("at", c_void_p)]
+
+
+class CMove(ctypes.Structure):
+    """A move as C sees it."""
+
+    _fields_ = [("from_square", c_uint8), ("to_square", c_uint8), ("promotion", c_uint8)]
+
+
+def _found() -> str:
+    """The library beside this file, else the one that tools/libraries made in a clone of the repository."""
+    here = os.path.dirname(os.path.realpath(__file__))
+    built = os.path.join(os.path.dirname(os.path.dirname(here)), "out")
+    for folder in (here, built):
+        path = os.path.join(folder, "libjatshegi.so")
+        if os.path.exists(path):
+            return path
+    raise ImportError(f"libjatshegi.so is neither in {here} nor in {built}: run tools/libraries of the repository")
+
+
+lib = ctypes.CDLL(_found())
+
+_slot, _number = POINTER(Slot), POINTER(c_uint32)
+for _name, _types in {
+    "new": [c_void_p, _slot],
+    "set": [_slot, c_char_p, c_size_t],
+    "fen": [_slot, POINTER(c_char), c_size_t, POINTER(c_size_t)],
+    "moves": [_slot, POINTER(CMove), c_size_t, POINTER(c_size_t)],
+    "play": [_slot, CMove],
+    "play_text": [_slot, c_char_p, c_size_t],
+    "back": [_slot],
+    "read": [_slot, c_char_p, c_size_t, POINTER(CMove)],
+    "write": [_slot, CMove, POINTER(c_char), c_size_t, POINTER(c_size_t)],
+    "outcome": [_slot, _number],
+    "claims": [_slot, _number],
+    "claims_with": [_slot, CMove, _number],
+    "repetitions": [_slot, _number],
+    "checks": [_slot, POINTER(c_uint8)],
+    "counts": [_slot, POINTER(c_uint8), POINTER(c_uint8)],
+    "evaluation": [_slot, POINTER(c_int32)],
+    "best": [_slot, c_uint8, POINTER(CMove), POINTER(c_int32)],
+    "step": [_slot, c_uint32],
+    "start": [_slot],
+    "end": [_slot],
+    "promote": [_slot],
+    "delete": [_slot],
+    "comment": [_slot, c_char_p, c_size_t],
+    "annotate": [_slot, c_uint8],
+    "answer": [_slot, c_char_p, c_size_t, POINTER(c_char), c_size_t, POINTER(c_size_t)],
+}.items():
+    _function = getattr(lib, f"jatshegi_board_{_name}")
+    _function.argtypes, _function.restype = _types, c_uint32
+lib.jatshegi_board_free.argtypes, lib.jatshegi_board_free.restype = [_slot], None
+lib.jatshegi_keys_fill.argtypes, lib.jatshegi_keys_fill.restype = [c_void_p], None
+
+# All boards share the keys, which stay as long as this module.
+KEYS = (c_uint64 * 768)()
+lib.jatshegi_keys_fill(KEYS)

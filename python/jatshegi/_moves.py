@@ -1,0 +1,91 @@
+"""Squares, colours and moves. A square is a number, 0 for a1, 1 for b1, 63 for h8; a colour is `WHITE` (True) or `BLACK` (False)."""
+from __future__ import annotations
+
+from typing import List, NamedTuple, Optional
+
+from ._errors import InvalidMoveError
+
+WHITE = True
+BLACK = False
+
+PAWN, KNIGHT, BISHOP, ROOK, QUEEN, KING = 1, 2, 3, 4, 5, 6
+
+STARTING_FEN = "rnbqkbnr/pppppppp/8/8/8/8/PPPPPPPP/RNBQKBNR w KQkq - 0 1"
+
+SQUARES: List[int] = list(range(64))
+SQUARE_NAMES: List[str] = [file + rank for rank in "12345678" for file in "abcdefgh"]
+
+_NUMBERS = {name: number for number, name in enumerate(SQUARE_NAMES)}
+# The letter of what a pawn becomes, by its kind.
+_LETTERS = {KNIGHT: "n", BISHOP: "b", ROOK: "r", QUEEN: "q"}
+_KINDS = {letter: kind for kind, letter in _LETTERS.items()}
+
+
+def square(file: int, rank: int) -> int:
+    """The square on that file and rank, both 0 to 7."""
+    if not (0 <= file < 8 and 0 <= rank < 8):
+        raise ValueError(f"a file and a rank are 0 to 7: {file}, {rank}")
+    return 8 * rank + file
+
+
+def square_file(square: int) -> int:
+    """The square's file, 0 for a to 7 for h."""
+    return square & 7
+
+
+def square_rank(square: int) -> int:
+    """The square's rank, 0 for the first to 7 for the eighth."""
+    return square >> 3
+
+
+def square_name(square: int) -> str:
+    """The square's name, as 'e4'.
+
+    >>> square_name(28)
+    'e4'
+    """
+    if not 0 <= square < 64:
+        raise ValueError(f"a square is 0 to 63: {square}")
+    return SQUARE_NAMES[square]
+
+
+def parse_square(name: str) -> int:
+    """The square of that name.
+
+    >>> parse_square("e4")
+    28
+    """
+    try:
+        return _NUMBERS[name]
+    except KeyError:
+        raise ValueError(f"a square is a1 to h8: {name!r}") from None
+
+
+class Move(NamedTuple):
+    """A move: from a square, to a square, and what a pawn becomes on the last rank. Castling is the king's move of two squares."""
+
+    from_square: int
+    to_square: int
+    promotion: Optional[int] = None
+
+    @classmethod
+    def from_uci(cls, text: str) -> Move:
+        """The move of a text as UCI has it.
+
+        >>> Move.from_uci("e7e8q").promotion == QUEEN
+        True
+        """
+        if len(text) in (4, 5) and text[:2] in _NUMBERS and text[2:4] in _NUMBERS and (len(text) == 4 or text[4] in _KINDS):
+            return cls(_NUMBERS[text[:2]], _NUMBERS[text[2:4]], _KINDS[text[4]] if text[4:] else None)
+        raise InvalidMoveError(f"a move from square to square is as e2e4 or e7e8q: {text!r}")
+
+    def uci(self) -> str:
+        """The move's text as UCI has it: 'e2e4', 'e1g1', 'e7e8q'."""
+        became = "" if self.promotion is None else _LETTERS[self.promotion]
+        return SQUARE_NAMES[self.from_square] + SQUARE_NAMES[self.to_square] + became
+
+    def __str__(self) -> str:
+        return self.uci()
+
+    def __repr__(self) -> str:
+        return f"Move.from_uci({self.uci()!r})"

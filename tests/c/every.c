@@ -1,0 +1,264 @@
+/* Goes through every function of jatshegi.h, on a board and on none; ends with status 0 where each answered what the Laws say. C11, and C++. */
+#include <inttypes.h>
+#include <stdio.h>
+#include <stdlib.h>
+#include <string.h>
+
+#include "jatshegi.h"
+
+static struct jatshegi_keys keys;
+static int checks, failures;
+
+static void check(int holds, const char *what, int line) {
+    checks++;
+    if (!holds) {
+        failures++;
+        printf("line %d: not %s\n", line, what);
+    }
+}
+#define CHECK(holds) check((holds), #holds, __LINE__)
+
+static struct jatshegi_move move_of(unsigned from, unsigned to, unsigned promotion) {
+    struct jatshegi_move m;
+    m.from = (uint8_t)from;
+    m.to = (uint8_t)to;
+    m.promotion = (uint8_t)promotion;
+    return m;
+}
+
+static uint32_t set(struct jatshegi_board *board, const char *fen) { return jatshegi_board_set(board, fen, strlen(fen)); }
+
+static uint32_t play(struct jatshegi_board *board, const char *text) { return jatshegi_board_play_text(board, text, strlen(text)); }
+
+static int fen_is(struct jatshegi_board *board, const char *wanted) {
+    char text[JATSHEGI_MOST_FEN];
+    size_t length = 0;
+    return jatshegi_board_fen(board, text, sizeof text, &length) == JATSHEGI_OK && length == strlen(wanted) && memcmp(text, wanted, length) == 0;
+}
+
+static int answers(struct jatshegi_board *board, const char *line, const char *wanted) {
+    char text[JATSHEGI_MOST_ANSWER];
+    size_t length = 0;
+    return jatshegi_board_answer(board, line, strlen(line), text, sizeof text, &length) == JATSHEGI_OK && length == strlen(wanted) &&
+           memcmp(text, wanted, length) == 0;
+}
+
+static int writes(struct jatshegi_board *board, struct jatshegi_move m, const char *wanted) {
+    char text[JATSHEGI_MOST_SAN];
+    size_t length = 0;
+    return jatshegi_board_write(board, m, text, sizeof text, &length) == JATSHEGI_OK && length == strlen(wanted) && memcmp(text, wanted, length) == 0;
+}
+
+#define SEVEN_TAGS "[Event \"?\"]\n[Site \"?\"]\n[Date \"????.??.??\"]\n[Round \"?\"]\n[White \"?\"]\n[Black \"?\"]\n[Result \"*\"]\n\n"
+static const char START[] = "rnbqkbnr/pppppppp/8/8/8/8/PPPPPPPP/RNBQKBNR w KQkq - 0 1";
+
+static void without_a_board(void) {
+    struct jatshegi_board none = JATSHEGI_NO_BOARD;
+    struct jatshegi_move moves[JATSHEGI_MOST_MOVES], m = move_of(12, 28, 0);
+    uint8_t white[64], black[64];
+    uint32_t number = 7;
+    int32_t value = 7;
+    size_t count = 7;
+    char text[8];
+    CHECK(set(&none, START) == JATSHEGI_EMPTY);
+    CHECK(jatshegi_board_fen(&none, text, sizeof text, &count) == JATSHEGI_EMPTY);
+    CHECK(jatshegi_board_moves(&none, moves, JATSHEGI_MOST_MOVES, &count) == JATSHEGI_EMPTY);
+    CHECK(jatshegi_board_play(&none, m) == JATSHEGI_EMPTY);
+    CHECK(play(&none, "e4") == JATSHEGI_EMPTY);
+    CHECK(jatshegi_board_back(&none) == JATSHEGI_EMPTY);
+    CHECK(jatshegi_board_read(&none, "e4", 2, &m) == JATSHEGI_EMPTY);
+    CHECK(jatshegi_board_write(&none, m, text, sizeof text, &count) == JATSHEGI_EMPTY);
+    CHECK(jatshegi_board_outcome(&none, &number) == JATSHEGI_EMPTY);
+    CHECK(jatshegi_board_claims(&none, &number) == JATSHEGI_EMPTY);
+    CHECK(jatshegi_board_claims_with(&none, m, &number) == JATSHEGI_EMPTY);
+    CHECK(jatshegi_board_repetitions(&none, &number) == JATSHEGI_EMPTY);
+    CHECK(jatshegi_board_checks(&none, white) == JATSHEGI_EMPTY);
+    CHECK(jatshegi_board_counts(&none, white, black) == JATSHEGI_EMPTY);
+    CHECK(jatshegi_board_evaluation(&none, &value) == JATSHEGI_EMPTY);
+    CHECK(jatshegi_board_best(&none, 1, &m, &value) == JATSHEGI_EMPTY);
+    CHECK(jatshegi_board_step(&none, 0) == JATSHEGI_EMPTY);
+    CHECK(jatshegi_board_start(&none) == JATSHEGI_EMPTY);
+    CHECK(jatshegi_board_end(&none) == JATSHEGI_EMPTY);
+    CHECK(jatshegi_board_promote(&none) == JATSHEGI_EMPTY);
+    CHECK(jatshegi_board_delete(&none) == JATSHEGI_EMPTY);
+    CHECK(jatshegi_board_comment(&none, "", 0) == JATSHEGI_EMPTY);
+    CHECK(jatshegi_board_annotate(&none, 1) == JATSHEGI_EMPTY);
+    CHECK(jatshegi_board_answer(&none, "fen", 3, text, sizeof text, &count) == JATSHEGI_EMPTY);
+    CHECK(number == 7 && value == 7 && count == 7 && m.from == 12 && m.to == 28 && m.promotion == 0);
+    jatshegi_board_free(&none);
+    jatshegi_board_free(&none);
+}
+
+static void fens(struct jatshegi_board *b) {
+    static const struct {
+        const char *fen;
+        uint32_t status;
+    } rows[] = {
+        {"8/8/8/8/8/8/8/8 w -", JATSHEGI_FEN_FIELDS},
+        {"9/8/8/8/8/8/8/8 w - -", JATSHEGI_FEN_PLACEMENT},
+        {"8/8/8/8/8/8/8/8 w - -", JATSHEGI_FEN_KINGS},
+        {"k6P/8/8/8/8/8/8/K7 w - -", JATSHEGI_FEN_PAWN_RANK},
+        {"k7/8/8/8/8/1Q6/QQQQQQQQ/KQQQQQQQ w - -", JATSHEGI_FEN_TOO_MANY_MEN},
+        {"k7/8/8/8/8/8/8/K7 white - -", JATSHEGI_FEN_SIDE},
+        {"k7/8/8/8/8/8/8/K7 w KK -", JATSHEGI_FEN_CASTLING},
+        {"k7/8/8/8/8/8/8/K7 w - e9", JATSHEGI_FEN_TARGET},
+        {"k7/8/8/8/8/8/8/K7 w - - 100000 1", JATSHEGI_FEN_COUNTER},
+    };
+    CHECK(set(b, START) == JATSHEGI_OK);
+    for (size_t i = 0; i < sizeof rows / sizeof rows[0]; i++) {
+        CHECK(set(b, rows[i].fen) == rows[i].status);
+        CHECK(fen_is(b, START));
+    }
+    CHECK(set(b, "k7/8/8/8/8/8/8/KQ6 w - -") == JATSHEGI_OK);
+    CHECK(set(b, "kQ6/8/8/8/8/8/8/K7 w - -") == JATSHEGI_FEN_IN_CHECK);
+    CHECK(fen_is(b, "k7/8/8/8/8/8/8/KQ6 w - - 0 1"));
+}
+
+static void moves(struct jatshegi_board *b) {
+    struct jatshegi_move found[JATSHEGI_MOST_MOVES], m;
+    size_t count = 0;
+    memset(found, 99, sizeof found);
+    CHECK(set(b, START) == JATSHEGI_OK);
+    CHECK(jatshegi_board_moves(b, found, 19, &count) == JATSHEGI_NO_ROOM && count == 20 && found[0].from == 99);
+    CHECK(jatshegi_board_moves(b, found, 20, &count) == JATSHEGI_OK && count == 20);
+    CHECK(found[0].from == 1 && found[0].to == 16 && found[0].promotion == 0 && found[20].from == 99);
+    for (size_t i = 0; i < count; i++) {
+        CHECK(jatshegi_board_play(b, found[i]) == JATSHEGI_OK);
+        CHECK(jatshegi_board_back(b) == JATSHEGI_OK);
+    }
+    CHECK(fen_is(b, START));
+    CHECK(jatshegi_board_back(b) == JATSHEGI_AT_ROOT);
+    CHECK(jatshegi_board_play(b, move_of(12, 36, 0)) == JATSHEGI_ILLEGAL);
+    CHECK(jatshegi_board_play(b, move_of(64, 28, 0)) == JATSHEGI_ILLEGAL);
+    CHECK(jatshegi_board_play(b, move_of(12, 255, 0)) == JATSHEGI_ILLEGAL);
+    CHECK(jatshegi_board_play(b, move_of(12, 28, 5)) == JATSHEGI_ILLEGAL);
+    CHECK(play(b, "e5") == JATSHEGI_ILLEGAL);
+    CHECK(play(b, "castle") == JATSHEGI_FORM);
+    CHECK(fen_is(b, START));
+    CHECK(jatshegi_board_read(b, "Nf3", 3, &m) == JATSHEGI_OK && m.from == 6 && m.to == 21 && m.promotion == 0);
+    CHECK(jatshegi_board_read(b, "Nf4", 3, &m) == JATSHEGI_ILLEGAL && m.from == 6);
+    CHECK(jatshegi_board_read(b, "", 0, &m) == JATSHEGI_FORM);
+    CHECK(set(b, "k7/7P/8/8/8/8/8/K1N3N1 w - -") == JATSHEGI_OK);
+    CHECK(play(b, "Ne2") == JATSHEGI_AMBIGUOUS);
+    CHECK(jatshegi_board_read(b, "Ne2", 3, &m) == JATSHEGI_AMBIGUOUS);
+    CHECK(writes(b, move_of(2, 12, 0), "Nce2"));
+    CHECK(writes(b, move_of(55, 63, 4), "h8=Q+"));
+    CHECK(writes(b, move_of(55, 63, 3), "h8=R+"));
+    CHECK(writes(b, move_of(55, 63, 2), "h8=B"));
+    CHECK(writes(b, move_of(55, 63, 1), "h8=N"));
+    CHECK(jatshegi_board_write(b, move_of(55, 63, 0), (char *)found, 8, &count) == JATSHEGI_ILLEGAL);
+    CHECK(jatshegi_board_write(b, move_of(55, 63, 9), (char *)found, 8, &count) == JATSHEGI_ILLEGAL);
+    CHECK(jatshegi_board_write(b, move_of(55, 63, 4), (char *)found, 4, &count) == JATSHEGI_NO_ROOM && count == 5);
+    CHECK(jatshegi_board_play(b, move_of(55, 63, 4)) == JATSHEGI_OK);
+    CHECK(fen_is(b, "k6Q/8/8/8/8/8/8/K1N3N1 b - - 0 1"));
+    CHECK(jatshegi_board_fen(b, (char *)found, 3, &count) == JATSHEGI_NO_ROOM && count == 32);
+}
+
+static void outcomes(struct jatshegi_board *b) {
+    uint32_t number = 9;
+    static const char *const there[] = {"Nf3", "Nf6", "Ng1", "Ng8"};
+    CHECK(set(b, START) == JATSHEGI_OK);
+    CHECK(jatshegi_board_outcome(b, &number) == JATSHEGI_OK && number == JATSHEGI_PLAY);
+    for (uint32_t round = 1; round < 5; round++) {
+        CHECK(jatshegi_board_repetitions(b, &number) == JATSHEGI_OK && number == round);
+        CHECK(jatshegi_board_claims(b, &number) == JATSHEGI_OK && number == (round > 2 ? 1u : 0u));
+        for (int i = 0; i < 4; i++) {
+            CHECK(jatshegi_board_claims_with(b, move_of(12, 28, 0), &number) == (i % 2 ? JATSHEGI_ILLEGAL : JATSHEGI_OK));
+            CHECK(play(b, there[i]) == JATSHEGI_OK);
+        }
+    }
+    CHECK(jatshegi_board_outcome(b, &number) == JATSHEGI_OK && number == JATSHEGI_FIVEFOLD);
+    CHECK(set(b, "7k/8/6K1/8/8/8/8/R7 w - - 149 90") == JATSHEGI_OK);
+    CHECK(jatshegi_board_claims(b, &number) == JATSHEGI_OK && number == JATSHEGI_FIFTY);
+    CHECK(jatshegi_board_claims_with(b, move_of(0, 8, 0), &number) == JATSHEGI_OK && number == JATSHEGI_FIFTY);
+    CHECK(jatshegi_board_claims_with(b, move_of(0, 9, 0), &number) == JATSHEGI_ILLEGAL);
+    CHECK(jatshegi_board_claims_with(b, move_of(0, 99, 0), &number) == JATSHEGI_ILLEGAL);
+    CHECK(play(b, "Ra8#") == JATSHEGI_OK);
+    CHECK(jatshegi_board_outcome(b, &number) == JATSHEGI_OK && number == JATSHEGI_MATE);
+    CHECK(jatshegi_board_back(b) == JATSHEGI_OK);
+    CHECK(play(b, "a1a2") == JATSHEGI_OK);
+    CHECK(jatshegi_board_outcome(b, &number) == JATSHEGI_OK && number == JATSHEGI_SEVENTYFIVE);
+    CHECK(set(b, "7k/8/6Q1/8/8/8/8/K7 b - -") == JATSHEGI_OK);
+    CHECK(jatshegi_board_outcome(b, &number) == JATSHEGI_OK && number == JATSHEGI_STALEMATE);
+    CHECK(set(b, "7k/8/8/8/8/8/8/K7 b - -") == JATSHEGI_OK);
+    CHECK(jatshegi_board_outcome(b, &number) == JATSHEGI_OK && number == JATSHEGI_DEAD);
+}
+
+static void numbers(struct jatshegi_board *b) {
+    uint8_t white[64], black[64];
+    int32_t value = 5;
+    struct jatshegi_move m = move_of(0, 0, 0);
+    int sum = 0;
+    CHECK(set(b, START) == JATSHEGI_OK);
+    CHECK(jatshegi_board_counts(b, white, black) == JATSHEGI_OK);
+    CHECK(white[0] == 0 && white[16] == 2 && white[18] == 3 && black[18] == 0 && black[42] == 3 && white[12] == 4);
+    CHECK(jatshegi_board_evaluation(b, &value) == JATSHEGI_OK && value == 0);
+    CHECK(jatshegi_board_checks(b, white) == JATSHEGI_OK);
+    for (int i = 0; i < 64; i++) sum += white[i];
+    CHECK(sum == 0);
+    CHECK(set(b, "4k3/8/3N4/8/4R3/8/8/K7 b - -") == JATSHEGI_OK);
+    CHECK(jatshegi_board_checks(b, white) == JATSHEGI_OK);
+    for (int i = 0; i < 64; i++) sum += white[i];
+    CHECK(sum == 2 && white[28] == 1 && white[43] == 1);
+    CHECK(set(b, "7k/8/6K1/8/8/8/8/R7 w - - 0 1") == JATSHEGI_OK);
+    CHECK(jatshegi_board_best(b, 3, &m, &value) == JATSHEGI_OK && m.from == 0 && m.to == 56 && value == 29999);
+    CHECK(jatshegi_board_best(b, 0, &m, &value) == JATSHEGI_ARGUMENT);
+    CHECK(jatshegi_board_best(b, 17, &m, &value) == JATSHEGI_ARGUMENT);
+    CHECK(play(b, "Ra8") == JATSHEGI_OK);
+    CHECK(jatshegi_board_best(b, 1, &m, &value) == JATSHEGI_NONE && m.to == 56);
+}
+
+static void trees(struct jatshegi_board *b) {
+    CHECK(set(b, START) == JATSHEGI_OK);
+    CHECK(play(b, "e4") == JATSHEGI_OK && play(b, "e5") == JATSHEGI_OK && jatshegi_board_back(b) == JATSHEGI_OK);
+    CHECK(play(b, "c5") == JATSHEGI_OK);
+    CHECK(jatshegi_board_comment(b, "the  Sicilian", 13) == JATSHEGI_OK);
+    CHECK(jatshegi_board_comment(b, "}", 1) == JATSHEGI_BAD_COMMENT);
+    CHECK(jatshegi_board_annotate(b, 1) == JATSHEGI_OK);
+    CHECK(answers(b, "path", "0.1\n"));
+    CHECK(answers(b, "pgn", SEVEN_TAGS "1. e4 e5 (1... c5 $1 {the Sicilian}) *\n\n"));
+    CHECK(jatshegi_board_promote(b) == JATSHEGI_OK && answers(b, "path", "0.0\n"));
+    CHECK(jatshegi_board_start(b) == JATSHEGI_OK && answers(b, "path", "-\n"));
+    CHECK(jatshegi_board_annotate(b, 1) == JATSHEGI_AT_ROOT && jatshegi_board_promote(b) == JATSHEGI_AT_ROOT && jatshegi_board_delete(b) == JATSHEGI_AT_ROOT);
+    CHECK(jatshegi_board_step(b, 1) == JATSHEGI_NO_SUCH && jatshegi_board_step(b, 0) == JATSHEGI_OK);
+    CHECK(jatshegi_board_end(b) == JATSHEGI_OK && answers(b, "path", "0.0\n"));
+    CHECK(jatshegi_board_delete(b) == JATSHEGI_OK && answers(b, "path", "0\n"));
+    CHECK(jatshegi_board_end(b) == JATSHEGI_OK && answers(b, "path", "0.0\n"));
+    CHECK(fen_is(b, "rnbqkbnr/pppp1ppp/8/4p3/4P3/8/PPPP1PPP/RNBQKBNR w KQkq e6 0 2"));
+}
+
+static void lines(struct jatshegi_board *b) {
+    char text[4096];
+    size_t count = 0;
+    CHECK(answers(b, "new", "ok\n") && answers(b, "eval", "0\n") && answers(b, "", "") && answers(b, "eval\r", "0\n"));
+    CHECK(answers(b, "play e5", "refused 2 Illegal\n") && answers(b, "dance", "refused 6 Command\n"));
+    CHECK(answers(b, "play e4", "ok\n"));
+    text[0] = 'x';
+    CHECK(jatshegi_board_answer(b, "status", 6, text, 4, &count) == JATSHEGI_NO_ROOM && count == 5 && text[0] == 'x');
+    CHECK(jatshegi_board_answer(b, "pgn", 3, text, 20, &count) == JATSHEGI_NO_ROOM && count > 80 && text[0] == 'x');
+    size_t wanted = count;
+    CHECK(jatshegi_board_answer(b, "pgn", 3, text, wanted, &count) == JATSHEGI_OK && count == wanted && memcmp(text + count - 9, "1. e4 *\n", 8) == 0);
+    CHECK(jatshegi_board_answer(b, "back", 4, text, 0, &count) == JATSHEGI_NO_ROOM && count == 3 && fen_is(b, START));
+    CHECK(answers(b, "back", "refused 2 AtRoot\n"));
+}
+
+int main(void) {
+    struct jatshegi_board board = JATSHEGI_NO_BOARD, other = JATSHEGI_NO_BOARD;
+    jatshegi_keys_fill(&keys);
+    without_a_board();
+    CHECK(jatshegi_board_new(&keys, &board) == JATSHEGI_OK && jatshegi_board_new(&keys, &other) == JATSHEGI_OK);
+    CHECK(fen_is(&board, START) && play(&other, "d4") == JATSHEGI_OK && fen_is(&board, START));
+    fens(&board);
+    moves(&board);
+    outcomes(&board);
+    numbers(&board);
+    trees(&board);
+    lines(&board);
+    CHECK(jatshegi_board_new(&keys, &board) == JATSHEGI_OK && fen_is(&board, START));
+    CHECK(fen_is(&other, "rnbqkbnr/pppppppp/8/8/3P4/8/PPP1PPPP/RNBQKBNR b KQkq d3 0 1"));
+    jatshegi_board_free(&board);
+    jatshegi_board_free(&other);
+    CHECK(jatshegi_board_back(&other) == JATSHEGI_EMPTY);
+    printf("%d checks, %d failed\n", checks, failures);
+    return failures ? EXIT_FAILURE : EXIT_SUCCESS;
+}

@@ -1,0 +1,118 @@
+"""What the program `arbiter` reports of games: a row each, by the FIDE Laws; docs/FORMATS.md has the columns."""
+import csv
+import io
+import json
+import os
+import subprocess
+import unittest
+
+import runs
+
+ARBITER = f"{runs.TOP}/crates/arbiter/out/arbiter"
+
+KNIGHTS = "Nf3 Nf6 Ng1 Ng8 "
+BLACK_MATES = "1. f3 e5 2. g4 Qh4# "
+
+
+def start(fen):
+    return f'[FEN "{fen}"]\n\n'
+
+
+def judged(text, *words):
+    given = text if isinstance(text, bytes) else text.encode()
+    return subprocess.run([ARBITER, *words], input=given, capture_output=True, timeout=runs.MOST_SECONDS)
+
+
+def rows(text, *words):
+    """The rows as dictionaries of texts by the header's names."""
+    ended = judged(text, *words)
+    assert ended.returncode in (0, 2), ended
+    return list(csv.DictReader(io.StringIO(ended.stdout.decode("latin-1"), newline="")))
+
+
+@unittest.skipUnless(os.path.exists(ARBITER), "crates/arbiter is not built")
+class Arbiter(unittest.TestCase):
+    def judge(self, text, **wanted):
+        (row,) = rows(text)
+        self.assertEqual({name: row[name] for name in wanted}, wanted)
+
+    def test_no_game(self):
+        self.assertEqual(rows(" \n"), [])
+
+    def test_a_mate(self):
+        self.judge(BLACK_MATES + "0-1", plies="4", result="0-1", status="mate", winner="black", over_ply="", agrees="true",
+                   fen="rnb1kbnr/pppp1ppp/8/4p3/6Pq/5P2/PPPPP2P/RNBQKBNR w KQkq - 1 3")
+
+    def test_the_wrong_winner(self):
+        self.judge(BLACK_MATES + "1-0", winner="black", agrees="false")
+        self.judge(BLACK_MATES + "1/2-1/2", agrees="false")
+        self.judge(BLACK_MATES + "*", agrees="true")
+
+    def test_a_win_on_a_stalemate(self):
+        board = start("7k/8/6K1/8/8/8/8/5Q2 w - - 0 1")
+        self.judge(board + "1. Qf7 1-0", status="stalemate", winner="", over_ply="", agrees="false")
+        self.judge(board + "1. Qf7 1/2-1/2", agrees="true")
+
+    def test_moves_after_a_dead_position(self):
+        self.judge(start("4k3/8/8/8/8/8/4p3/4K3 w - - 0 1") + "1. Kxe2 Kd7 1/2-1/2", plies="2", status="dead", over_ply="1", over_why="dead", agrees="true")
+
+    def test_moves_after_the_fifth_repetition(self):
+        self.judge(KNIGHTS * 4 + "e4 1-0", plies="17", status="play", over_ply="16", over_why="fivefold", threefold_ply="8", fifty_ply="", repetitions="5",
+                   quiet="16", agrees="true")
+
+    def test_the_fourth_repetition_ends_no_game(self):
+        self.judge(KNIGHTS * 3 + "e4 1-0", plies="13", over_ply="", threefold_ply="8", repetitions="4", quiet="12")
+
+    def test_a_claim_by_fifty_moves(self):
+        self.judge(start("4k3/8/8/8/8/8/8/R3K3 w - - 98 80") + "1. Ra2 Kd7 2. Ra3 *", fifty_ply="2", threefold_ply="", quiet="101", repetitions="1")
+
+    def test_75_moves(self):
+        self.judge(start("4k3/8/8/8/8/8/8/R3K3 w - - 148 80") + "1. Ra2 Kd7 2. Ra3 1-0", over_ply="2", over_why="seventyfive", status="seventyfive", agrees="false", fifty_ply="0")
+
+    def test_variations_are_left_out(self):
+        self.judge("1. e4 (1. f3 e5 2. g4 Qh4#) 1... e5 *", plies="2", status="play")
+
+    def test_a_bad_game_among_good_ones(self):
+        text = '*\n\n[White "a"]\n\n1. e4 e4 *\n\n[White "b, \\"c\\""]\n\n*\n'
+        self.assertEqual(judged(text).returncode, 2)
+        found = rows(text)
+        self.assertEqual([(row["number"], row["offset"], row["white"], row["plies"], row["fault"]) for row in found],
+                         [("1", "0", "?", "0", ""), ("2", "1", "", "", "Move"), ("3", str(text.index('[White "b')), 'b, "c"', "0", "")])
+        self.assertEqual(found[1]["fault_place"], str(text.index("e4 *")))
+        self.assertEqual([row["number"] for row in rows(text, "--findings")], ["2"])
+
+    def test_moves_after_mate_cannot_be_read(self):
+        (row,) = rows(BLACK_MATES + "3. e3 *")
+        self.assertEqual(row["fault"], "Move")
+
+    def test_findings(self):
+        text = f"{BLACK_MATES}0-1 {BLACK_MATES}1-0 {KNIGHTS * 4}e4 *"
+        self.assertEqual([row["number"] for row in rows(text, "--findings")], ["2", "3"])
+        self.assertEqual(judged(text, "--findings").returncode, 0)
+
+    def test_lines_of_json(self):
+        text = b'[White "M\xfcller"]\n[Black "\xc3\xa9 \\"x\\""]\n\n' + BLACK_MATES.encode() + b"1-0\n\n[Site \"?\"]\n\n1. e5 *\n"
+        good, bad = [json.loads(line) for line in judged(text, "--format", "jsonl").stdout.splitlines()]
+        self.assertEqual((good["white"], good["black"], good["plies"], good["agrees"], good["over_ply"]), ("Müller", 'é "x"', 4, False, None))
+        self.assertEqual((bad["number"], bad["plies"], bad["fault"]), (2, None, "Move"))
+        self.assertEqual(list(good), list(rows("*")[0]))
+
+    def test_bytes_of_a_tag_stay(self):
+        self.assertEqual(rows(b'[White "M\xfcller"] *')[0]["white"], "Müller")
+
+    def test_words(self):
+        self.assertEqual(judged("", "x").returncode, 1)
+        self.assertEqual(judged("", "--format", "xml").returncode, 1)
+        self.assertIn(b"--findings", judged("", "--help").stdout)
+
+    def test_a_folder_is_no_input(self):
+        folder = os.open("/", os.O_RDONLY)
+        try:
+            ended = subprocess.run([ARBITER], stdin=folder, capture_output=True, timeout=runs.MOST_SECONDS)
+        finally:
+            os.close(folder)
+        self.assertEqual((ended.returncode, ended.stderr), (3, b"read fault\n"))
+
+
+if __name__ == "__main__":
+    unittest.main()

@@ -1,0 +1,90 @@
+"""The library for C: its header and its functions, as gcc, clang and a compiler of C++ take them; its memory, under valgrind and refused."""
+import os
+import shutil
+import subprocess
+import tempfile
+import unittest
+
+import runs
+
+HEADER = f"{runs.TOP}/include"
+STRICT = ["-Wall", "-Wextra", "-Werror", "-pedantic", "-g", f"-I{HEADER}"]
+
+
+def called(*words, **also):
+    return subprocess.run(words, stdin=subprocess.DEVNULL, capture_output=True, text=True, timeout=1200, **also)
+
+
+def setUpModule():
+    runs.make_libraries()
+
+
+class Library(unittest.TestCase):
+    def setUp(self):
+        folder = tempfile.TemporaryDirectory()
+        self.addCleanup(folder.cleanup)
+        self.folder = folder.name
+
+    def build(self, words, source, library=("out/libjatshegi.a",)):
+        """Builds a program of tests/c, and returns its path."""
+        program = f"{self.folder}/program"
+        ran = called(*words, *STRICT, f"{runs.TOP}/tests/c/{source}", *(f"{runs.TOP}/{it}" for it in library), "-o", program)
+        self.assertEqual(ran.returncode, 0, ran.stderr)
+        return program
+
+    def assert_ends_well(self, *words, **also):
+        ran = called(*words, **also)
+        self.assertEqual(ran.returncode, 0, ran.stdout + ran.stderr)
+        return ran.stdout
+
+    def wants(self, tool):
+        if not shutil.which(tool):
+            self.skipTest(f"{tool} is not on the path")
+
+    def test_every_function_by_each_compiler(self):
+        for words in (["gcc", "-std=c11"], ["clang", "-std=c11"], ["g++", "-std=c++17", "-x", "c++"], ["clang++", "-std=c++17", "-x", "c++"]):
+            with self.subTest(compiler=words[0]):
+                self.wants(words[0])
+                # What comes after the sources isn't C++.
+                archive = [f"-L{runs.TOP}/out", "-l:libjatshegi.a"] if "-x" in words else [f"{runs.TOP}/out/libjatshegi.a"]
+                program = f"{self.folder}/program"
+                ran = called(*words, *STRICT, f"{runs.TOP}/tests/c/every.c", *archive, "-o", program)
+                self.assertEqual(ran.returncode, 0, ran.stderr)
+                self.assertIn(" 0 failed", self.assert_ends_well(program))
+
+    def test_every_function_of_the_shared_library(self):
+        program = self.build(["cc", "-std=c11"], "every.c", ["out/libjatshegi.so"])
+        self.assertIn(" 0 failed", self.assert_ends_well(program, env={"LD_LIBRARY_PATH": f"{runs.TOP}/out"}))
+
+    def test_the_program_of_the_page(self):
+        with open(f"{runs.TOP}/docs/C.md", encoding="utf-8") as page:
+            source = page.read().split("```c\n")[1].split("```")[0]
+        with open(f"{self.folder}/page.c", "w", encoding="utf-8") as file:
+            file.write(source)
+        ran = called("cc", "-std=c11", *STRICT, f"{self.folder}/page.c", f"{runs.TOP}/out/libjatshegi.a", "-o", f"{self.folder}/page")
+        self.assertEqual(ran.returncode, 0, ran.stderr)
+        self.assertEqual(self.assert_ends_well(f"{self.folder}/page"), "rnbqkbnr/pppppppp/8/8/4P3/8/PPPP1PPP/RNBQKBNR b KQkq e3 0 1: 20 legal moves\n")
+
+    def test_no_error_and_no_leak_under_valgrind(self):
+        self.wants("valgrind")
+        program = self.build(["cc", "-std=c11"], "every.c")
+        self.assert_ends_well("valgrind", "--error-exitcode=9", "--leak-check=full", "--errors-for-leak-kinds=all", program)
+
+    def test_each_allocation_refused(self):
+        program = self.build(["cc", "-std=gnu11", "-Wl,--wrap=malloc,--wrap=realloc"], "refused.c")
+        self.assertIn("allocations refused", self.assert_ends_well(program))
+
+    def test_only_the_functions_of_the_header_are_visible(self):
+        self.wants("nm")
+        with open(f"{HEADER}/jatshegi.h", encoding="utf-8") as file:
+            declared = {word.split("(")[0].lstrip("*") for word in file.read().split() if word.startswith("jatshegi_") and "(" in word}
+        for words, library in ((["nm", "-g", "--defined-only"], "libjatshegi.a"), (["nm", "-D", "--defined-only"], "libjatshegi.so")):
+            names = {line.split()[-1] for line in called(*words, f"{runs.TOP}/out/{library}").stdout.splitlines() if " T " in line or " D " in line or " B " in line}
+            with self.subTest(library=library):
+                self.assertEqual(names, declared)
+
+    def test_pkg_config(self):
+        self.wants("pkg-config")
+        said = called("pkg-config", "--cflags", "--libs", "jatshegi", env={**os.environ, "PKG_CONFIG_PATH": f"{runs.TOP}/out"})
+        self.assertEqual(said.returncode, 0, said.stderr)
+        self.assertIn("-ljatshegi", said.stdout)

@@ -1,0 +1,271 @@
+"""The Python package: every call and every refusal, games compared with the program, the page's examples, its types, its installation."""
+import doctest
+import gc
+import importlib
+import os
+import random
+import resource
+import shutil
+import subprocess
+import sys
+import tempfile
+import unittest
+import xml.dom.minidom
+
+import runs
+
+PACKAGE = f"{runs.TOP}/python"
+
+
+def setUpModule():
+    runs.make_libraries()
+    sys.path.insert(0, PACKAGE)
+    global jatshegi
+    jatshegi = importlib.import_module("jatshegi")
+
+
+def tearDownModule():
+    sys.path.remove(PACKAGE)
+
+
+def answers_of(lines):
+    """What the program's board answers to lines, each of which has one line for an answer."""
+    ran = subprocess.run([runs.BUILT, "board"], input="".join(f"{line}\n" for line in lines), capture_output=True, text=True, check=True)
+    return ran.stdout.splitlines()
+
+
+class Moves(unittest.TestCase):
+    def test_a_move_and_its_text(self):
+        for text in ("e2e4", "e1g1", "a7a8q", "h2h1n", "b7b8r", "g2g1b"):
+            self.assertEqual(jatshegi.Move.from_uci(text).uci(), text)
+        self.assertEqual(jatshegi.Move.from_uci("a7a8q"), jatshegi.Move(48, 56, jatshegi.QUEEN))
+        for text in ("", "e2", "e2e9", "e2e4k", "e2e4qq", "E2E4", "e2-e4"):
+            with self.assertRaises(jatshegi.InvalidMoveError):
+                jatshegi.Move.from_uci(text)
+
+    def test_squares(self):
+        for square in jatshegi.SQUARES:
+            self.assertEqual(jatshegi.parse_square(jatshegi.square_name(square)), square)
+            self.assertEqual(jatshegi.square(jatshegi.square_file(square), jatshegi.square_rank(square)), square)
+        for wrong in (-1, 64):
+            self.assertRaises(ValueError, jatshegi.square_name, wrong)
+        self.assertRaises(ValueError, jatshegi.square, 8, 0)
+        self.assertRaises(ValueError, jatshegi.parse_square, "e9")
+
+
+class TheBoard(unittest.TestCase):
+    def test_begins(self):
+        board = jatshegi.Board()
+        self.assertEqual((board.fen(), board.turn, board.ply), (jatshegi.STARTING_FEN, jatshegi.WHITE, 0))
+        self.assertEqual(len(board.legal_moves), 20)
+        self.assertEqual(repr(board), f"Board({jatshegi.STARTING_FEN!r})")
+        board.push_san("e4")
+        self.assertEqual((board.turn, board.ply), (jatshegi.BLACK, 1))
+        board.reset()
+        self.assertEqual((board.fen(), board.ply), (jatshegi.STARTING_FEN, 0))
+
+    def test_refuses_each_fault_of_a_fen(self):
+        rows = [
+            "8/8/8/8/8/8/8/8 w -",
+            "9/8/8/8/8/8/8/8 w - -",
+            "8/8/8/8/8/8/8/8 w - -",
+            "k6P/8/8/8/8/8/8/K7 w - -",
+            "k7/8/8/8/8/1Q6/QQQQQQQQ/KQQQQQQQ w - -",
+            "k7/8/8/8/8/8/8/K7 white - -",
+            "k7/8/8/8/8/8/8/K7 w KK -",
+            "k7/8/8/8/8/8/8/K7 w - e9",
+            "k7/8/8/8/8/8/8/K7 w - - 100000 1",
+            "kQ6/8/8/8/8/8/8/K7 w - -",
+        ]
+        board = jatshegi.Board()
+        board.push_san("d4")
+        fen = board.fen()
+        for fault, row in enumerate(rows, 1):
+            with self.assertRaises(jatshegi.InvalidFenError) as raised:
+                board.set_fen(row)
+            self.assertEqual(raised.exception.fault, fault)
+            self.assertEqual((board.fen(), board.ply), (fen, 1))
+            self.assertRaises(jatshegi.InvalidFenError, jatshegi.Board, row)
+        for text in ("", "\0", "ä" * 200, "\udc80"):
+            self.assertRaises(jatshegi.InvalidFenError, jatshegi.Board, text)
+
+    def test_refuses_moves_and_changes_nothing(self):
+        board = jatshegi.Board("4k3/8/8/8/8/2N5/8/4K1N1 w - - 0 1")
+        fen = board.fen()
+        for wrong, call, argument in (
+            (jatshegi.IllegalMoveError, board.push, jatshegi.Move(0, 1)),
+            (jatshegi.IllegalMoveError, board.push, jatshegi.Move(99, 1)),
+            (jatshegi.IllegalMoveError, board.push, jatshegi.Move(4, 5, jatshegi.KING)),
+            (jatshegi.IllegalMoveError, board.push_uci, "e1e3"),
+            (jatshegi.InvalidMoveError, board.push_uci, "e1"),
+            (jatshegi.IllegalMoveError, board.push_san, "Qh5"),
+            (jatshegi.AmbiguousMoveError, board.push_san, "Ne2"),
+            (jatshegi.InvalidMoveError, board.push_san, "a knight"),
+            (jatshegi.InvalidMoveError, board.parse_san, "\udc80"),
+            (jatshegi.IllegalMoveError, board.san, jatshegi.Move(0, 1)),
+            (jatshegi.IllegalMoveError, board.claims, jatshegi.Move(0, 1)),
+            (ValueError, board.best, 0),
+            (ValueError, board.best, 17),
+            (ValueError, board.line, "new\nnew"),
+        ):
+            with self.subTest(call=call, argument=argument):
+                self.assertRaises(wrong, call, argument)
+                self.assertEqual((board.fen(), board.ply), (fen, 0))
+        self.assertRaises(IndexError, board.pop)
+        self.assertFalse(board.is_legal(jatshegi.Move(0, 1)) or board.is_legal(jatshegi.Move(64, 1)))
+        self.assertTrue(board.is_legal(jatshegi.Move(6, 12)))
+
+    def test_moves_and_back(self):
+        board = jatshegi.Board("k7/7P/8/8/8/8/8/K7 w - -")
+        move = jatshegi.Move.from_uci("h7h8q")
+        self.assertEqual((board.san(move), board.parse_san("h8=Q"), board.push_san("h8=Q+")), ("h8=Q+", move, move))
+        self.assertTrue(board.is_check())
+        self.assertEqual(board.checkers(), [63])
+        self.assertEqual(board.pop(), move)
+        self.assertEqual(board.push_uci("h7h8n"), jatshegi.Move(55, 63, jatshegi.KNIGHT))
+        self.assertFalse(board.is_check())
+        board.pop()
+        self.assertEqual(board.pgn().split("\n\n")[1], "*")
+
+    def test_pops_a_move_that_a_line_made(self):
+        board = jatshegi.Board()
+        for line in ("play e4", "play e5", "back", "play c5", "start", "step 0", "step 1"):
+            self.assertEqual(board.line(line), "ok")
+        self.assertEqual((board.ply, board.pop().uci(), board.pop().uci(), board.ply), (2, "c7c5", "e2e4", 0))
+        self.assertEqual(board.line("play e5"), "refused 2 Illegal")
+
+    def test_outcomes(self):
+        claimed = jatshegi.Board()
+        for _ in range(2):
+            for san in ("Nf3", "Nf6", "Ng1", "Ng8"):
+                claimed.push_san(san)
+        self.assertEqual((claimed.repetitions(), claimed.claims(), claimed.outcome()), (3, (True, False), None))
+        self.assertEqual(claimed.outcome(claim_draw=True), (jatshegi.Status.THREEFOLD_REPETITION, None))
+        for _ in range(2):
+            for san in ("Nf3", "Nf6", "Ng1", "Ng8"):
+                claimed.push_san(san)
+        self.assertEqual(claimed.status, jatshegi.Status.FIVEFOLD_REPETITION)
+        for fen, status, winner, result in (
+            ("R5k1/5ppp/8/8/8/8/8/6K1 b - - 0 1", "CHECKMATE", jatshegi.WHITE, "1-0"),
+            ("6k1/8/8/8/8/8/5PPP/r5K1 w - - 0 1", "CHECKMATE", jatshegi.BLACK, "0-1"),
+            ("7k/8/6Q1/8/8/8/8/K7 b - -", "STALEMATE", None, "1/2-1/2"),
+            ("7k/8/8/8/8/8/8/K7 b - -", "DEAD_POSITION", None, "1/2-1/2"),
+            ("7k/8/6K1/8/8/8/R7/8 b - - 150 90", "SEVENTYFIVE_MOVES", None, "1/2-1/2"),
+        ):
+            outcome = jatshegi.Board(fen).outcome()
+            self.assertEqual((outcome, outcome.result()), ((jatshegi.Status[status], winner), result))
+        fifty = jatshegi.Board("7k/8/6K1/8/8/8/8/R7 w - - 99 90")
+        self.assertEqual((fifty.claims(), fifty.claims(jatshegi.Move.from_uci("a1a2"))), ((False, False), (False, True)))
+        fifty.push_san("Ra2")
+        self.assertEqual(fifty.outcome(claim_draw=True), (jatshegi.Status.FIFTY_MOVES, None))
+
+    def test_numbers(self):
+        board = jatshegi.Board("6k1/5ppp/8/8/8/8/8/R5K1 w - - 0 1")
+        self.assertEqual(board.best(1), (jatshegi.Move.from_uci("a1a8"), 29999))
+        board.push_san("Ra8#")
+        self.assertIsNone(board.best(1))
+        self.assertEqual(jatshegi.Board("4k3/8/8/8/8/8/4P3/4K3 w - - 0 1").evaluate(), 110)
+        counts = jatshegi.Board().attack_counts
+        self.assertEqual((counts(jatshegi.WHITE)[18], counts(jatshegi.BLACK)[18], counts(jatshegi.BLACK)[42]), (3, 0, 3))
+
+    def test_pictures(self):
+        board = jatshegi.Board("R5k1/5ppp/8/8/8/8/8/6K1 b - - 0 1")
+        self.assertEqual(str(board).splitlines()[0], "R . . . . . k .")
+        self.assertEqual(len(board.piece_map()), 6)
+        picture = xml.dom.minidom.parseString(board._repr_svg_())
+        self.assertEqual(len(picture.getElementsByTagName("text")), 6)
+        self.assertEqual(len(picture.getElementsByTagName("rect")), 64)
+
+    def test_a_long_game_as_text(self):
+        board = jatshegi.Board()
+        board.line("comment " + "word " * 1000)
+        self.assertGreater(len(board.pgn()), 5000)
+        self.assertEqual(board.line("comment a } b"), "refused 4 BadComment")
+
+    def test_a_million_calls_take_no_memory(self):
+        board, move = jatshegi.Board(), jatshegi.Move.from_uci("e2e4")
+
+        def calls(count):
+            for _ in range(count):
+                board.push(move)
+                board.legal_moves
+                board.pop()
+                board.fen()
+            for _ in range(count // 20):
+                jatshegi.Board(jatshegi.STARTING_FEN)
+            gc.collect()
+            return resource.getrusage(resource.RUSAGE_SELF).ru_maxrss
+
+        first = calls(10_000)
+        self.assertLess(calls(240_000) - first, 4_000)
+
+
+class RandomGames(unittest.TestCase):
+    """The same game by typed calls and by the program's lines."""
+
+    def test_games_of_random_moves(self):
+        for seed in range(20):
+            choose = random.Random(seed)
+            board, lines, wanted = jatshegi.Board(), ["new"], ["ok"]
+            for _ in range(80):
+                moves = board.legal_moves
+                lines += ["fen", "moves", "eval", "status", "claims", "count", "checks", "counts w", "counts b"]
+                threefold, fifty = board.claims()
+                wanted += [
+                    board.fen(),
+                    " ".join(map(str, moves)) or "none",
+                    str(board.evaluate()),
+                    ["mate", "stalemate", "dead", "fivefold", "seventyfive", "play"][board.status],
+                    " ".join(["threefold"] * threefold + ["fifty"] * fifty) or "none",
+                    str(board.repetitions()),
+                    " ".join(map(jatshegi.square_name, board.checkers())) or "none",
+                    *(" / ".join(" ".join(map(str, counts[8 * rank : 8 * rank + 8])) for rank in range(8)) for counts in map(board.attack_counts, (True, False))),
+                ]
+                if not moves:
+                    break
+                move = choose.choice(moves)
+                lines.append(f"play {board.san(move)}")
+                wanted.append("ok")
+                board.push(move)
+                if choose.random() < 0.1:
+                    lines.append("delete")
+                    wanted.append("ok")
+                    self.assertEqual(board.pop(), move)
+            with self.subTest(seed=seed):
+                self.assertEqual(answers_of(lines), wanted)
+
+
+class ThePackage(unittest.TestCase):
+    def test_examples(self):
+        tried = doctest.testfile(f"{runs.TOP}/docs/PYTHON.md", module_relative=False, verbose=False)
+        self.assertEqual(tried.failed, 0)
+        self.assertGreater(tried.attempted, 10)
+        for name in ("jatshegi", "jatshegi._board", "jatshegi._moves"):
+            tried = doctest.testmod(importlib.import_module(name), verbose=False)
+            self.assertEqual(tried.failed, 0)
+
+    def test_one_version(self):
+        with open(f"{runs.TOP}/VERSION", encoding="utf-8") as file:
+            version = file.read().strip()
+        with open(f"{PACKAGE}/pyproject.toml", encoding="utf-8") as file:
+            self.assertIn(f'version = "{version}"', file.read())
+        self.assertEqual(jatshegi.__version__, version)
+
+    def test_types(self):
+        if not shutil.which("mypy"):
+            self.skipTest("mypy is not on the path")
+        with tempfile.TemporaryDirectory() as folder:
+            ran = subprocess.run(["mypy", "--strict", "--cache-dir", folder, f"{PACKAGE}/jatshegi"], capture_output=True, text=True)
+        self.assertEqual(ran.returncode, 0, ran.stdout)
+
+    def test_installs_and_answers(self):
+        with tempfile.TemporaryDirectory() as folder:
+            shutil.copytree(PACKAGE, f"{folder}/python")
+            words = [sys.executable, "-m", "pip", "install", "--quiet", "--no-deps", "--no-index", "--target", f"{folder}/there", "."]
+            ran = subprocess.run(words, cwd=f"{folder}/python", capture_output=True, text=True)
+            if "No module named pip" in ran.stderr:
+                self.skipTest("pip is not installed")
+            self.assertEqual(ran.returncode, 0, ran.stderr)
+            words = [sys.executable, "-c", "import jatshegi; print(len(jatshegi.Board().legal_moves), jatshegi.__file__)"]
+            ran = subprocess.run(words, cwd="/", env={**os.environ, "PYTHONPATH": f"{folder}/there"}, capture_output=True, text=True)
+            self.assertEqual(ran.stdout.split(), ["20", f"{folder}/there/jatshegi/__init__.py"], ran.stderr)
