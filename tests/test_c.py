@@ -54,7 +54,8 @@ class Library(unittest.TestCase):
 
     def test_every_function_of_the_shared_library(self):
         program = self.build(["cc", "-std=c11"], "every.c", ["out/libjatshegi.so"])
-        self.assertIn(" 0 failed", self.assert_ends_well(program, env={"LD_LIBRARY_PATH": f"{runs.TOP}/out"}))
+        for folder in ("out", "release/x86_64-linux/lib"):
+            self.assertIn(" 0 failed", self.assert_ends_well(program, env={"LD_LIBRARY_PATH": f"{runs.TOP}/{folder}"}), folder)
 
     def test_the_program_of_the_page(self):
         with open(f"{runs.TOP}/docs/C.md", encoding="utf-8") as page:

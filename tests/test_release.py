@@ -9,7 +9,10 @@ import unittest
 
 import runs
 
-PROGRAM = "x86_64-linux/bin/chess"
+SYSTEM = "x86_64-linux"
+PROGRAM = f"{SYSTEM}/bin/chess"
+OTHERS = ("arbiter", "chess_games", "perft")
+LIBRARIES = ("libjatshegi.a", "libjatshegi.so.0")
 # The system's own folders: no kit is on this path.
 BARE = {"PATH": "/usr/bin:/bin"}
 
@@ -30,6 +33,10 @@ def read(path):
         return file.read()
 
 
+def tool_version(*words):
+    return subprocess.run(words, capture_output=True, check=True, text=True).stdout.splitlines()[0].strip()
+
+
 def difference(released, built, kit_of_release, kit_here):
     """Why the released program is not the one that was built, or None where it is, or where kits differ and both write the same."""
     if read(released) == read(built):
@@ -48,6 +55,9 @@ class TheRelease(unittest.TestCase):
         sources = subprocess.run([f"{runs.TOP}/tools/sources"], capture_output=True, check=True).stdout
         self.assertEqual(sum_of(sources), manifest()[0]["sources"], "make release/ anew: tools/release")
         self.assertEqual(sources, read(f"{runs.TOP}/release/chess.sources"))
+        sources = subprocess.run([f"{runs.TOP}/tools/sources", "chess", "chess_games", "arbiter", "perft", "chess_c"], capture_output=True, check=True).stdout
+        self.assertEqual(sum_of(sources), manifest()[0]["all"], "make release/ anew: tools/release")
+        self.assertEqual(sources, read(f"{runs.TOP}/release/all.sources"))
 
     def test_the_version_is_that_of_the_repository(self):
         self.assertEqual(read(f"{runs.TOP}/VERSION").decode().strip(), manifest()[0]["version"])
@@ -59,11 +69,28 @@ class TheRelease(unittest.TestCase):
             self.assertEqual((len(data), sum_of(data)), (int(size), digest), path)
         for folder, _, names in os.walk(f"{runs.TOP}/release"):
             found.update(os.path.relpath(f"{folder}/{name}", f"{runs.TOP}/release") for name in names)
-        self.assertEqual(found - {"MANIFEST", "chess.sources"}, set(manifest()[1]))
+        self.assertEqual(found - {"MANIFEST", "chess.sources", "all.sources"}, set(manifest()[1]))
+        self.assertEqual(set(manifest()[1]), {PROGRAM, *(f"{SYSTEM}/bin/{it}" for it in OTHERS), *(f"{SYSTEM}/lib/{it}" for it in LIBRARIES)})
 
     def test_the_program_is_the_one_just_built(self):
-        kit = subprocess.run(["rt", "version"], capture_output=True, check=True, text=True).stdout.strip()
-        self.assertIsNone(difference(f"{runs.TOP}/release/{PROGRAM}", runs.BUILT, manifest()[0]["kit"], kit))
+        self.assertIsNone(difference(f"{runs.TOP}/release/{PROGRAM}", runs.BUILT, manifest()[0]["kit"], tool_version("rt", "version")))
+
+    def test_the_other_programs_are_those_just_built(self):
+        for name in OTHERS:
+            with self.subTest(program=name):
+                released, crate = f"{runs.TOP}/release/{SYSTEM}/bin/{name}", f"{runs.TOP}/crates/{name}"
+                if manifest()[0]["kit"] == tool_version("rt", "version"):
+                    self.assertEqual(sum_of(read(released)), sum_of(read(f"{crate}/out/{name}")), "make release/ anew: tools/release")
+                ran = subprocess.run([released], input=read(f"{crate}/stdin"), capture_output=True, timeout=runs.MOST_SECONDS)
+                self.assertEqual(ran.stdout, read(f"{crate}/stdout"))
+
+    def test_the_libraries_are_those_just_built(self):
+        """To the byte under the same kit and compiler; under others test_c and test_python try both."""
+        runs.make_libraries()
+        if (manifest()[0]["kit"], manifest()[0]["cc"]) != (tool_version("rt", "version"), tool_version("cc", "--version")):
+            self.skipTest("the release was built by another kit or compiler")
+        for name in LIBRARIES:
+            self.assertEqual(sum_of(read(f"{runs.TOP}/release/{SYSTEM}/lib/{name}")), sum_of(read(f"{runs.TOP}/out/{name}")), name)
 
 
 class ADifference(unittest.TestCase):

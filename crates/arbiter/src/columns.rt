@@ -1,5 +1,6 @@
 use crate::row::Row;
 use chess_pgn::{Game, Outcome, PgnFault};
+use chess_programs::Place;
 use chess_report::Report;
 use chess_types::{Colour, Status};
 use std::alloc::{AllocError, Allocator};
@@ -7,15 +8,6 @@ use std::alloc::{AllocError, Allocator};
 /// The names of the columns, in their order, as comma-separated values.
 pub const HEADER: &str =
     "number,offset,white,black,event,date,plies,result,status,winner,over_ply,over_why,threefold_ply,fifty_ply,repetitions,quiet,agrees,fen,fault_place,fault\r\n";
-
-/// A game's place in a collection.
-#[derive(Clone, Copy)]
-pub struct Place {
-    /// Which one it is, from 1.
-    pub number: u64,
-    /// How many bytes come before it.
-    pub offset: u64,
-}
 
 fn outcome_text(outcome: Outcome) -> &'static str {
     match outcome {

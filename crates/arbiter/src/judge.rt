@@ -1,19 +1,14 @@
 ghost use Rattle.std.specs.Prelude.{◌≡◌, false};
-ghost use Rattle.chess_pgn.specs.Sources.{IsSound};
 
-use crate::columns::{HEADER, Place, has_finding, put_fault, put_game};
-use crate::progress::Progress;
+use crate::columns::{HEADER, has_finding, put_fault, put_game};
 use crate::row::{Format, Row};
 use chess_key::KeyTable;
 use chess_loop::write_all;
-use chess_pgn::{FaultKind, Game, Games, GamesFault, PgnFault};
+use chess_pgn::{Game, Games, PgnFault};
+use chess_programs::{EachGame, Failure, Place, Progress, go_over};
 use chess_report::Report;
-use chess_types::{Failed, Sink, Source};
-use std::alloc::{AllocError, Allocator};
-use thiserror::Error;
-
-/// More games than all reads have bytes.
-const GAMES: u64 = 1 << 57;
+use chess_types::{Sink, Source};
+use std::alloc::Allocator;
 
 /// Which rows are written, and how.
 #[derive(Clone, Copy, Debug, PartialEq, Eq)]
@@ -21,41 +16,6 @@ pub struct Asked {
     pub format: Format,
     /// Only the games that have a finding, and those that can't be read.
     pub findings: bool,
-}
-
-/// Why not all of the input was read, or not all rows written.
-#[derive(Clone, Copy, Debug, PartialEq, Eq, Error)]
-pub enum Failure {
-    /// A read failed, or there were 2^40 reads.
-    #[error("read fault")]
-    Read,
-    /// A write failed or took no byte.
-    #[error("write fault")]
-    Write,
-    /// There was no memory for a game, its line or its row.
-    #[error("out of memory")]
-    Memory,
-}
-
-impl From<AllocError> for Failure {
-    fn from(_error: AllocError) -> Failure {
-        Failure::Memory
-    }
-}
-
-impl From<Failed> for Failure {
-    fn from(_failed: Failed) -> Failure {
-        Failure::Write
-    }
-}
-
-// The fault of a game, from which reading may go on; else why it can't.
-fn refused(fault: GamesFault) -> Result<PgnFault, Failure> {
-    match fault {
-        GamesFault::Read => Err(Failure::Read),
-        GamesFault::Pgn(fault) if fault.kind == FaultKind::Memory => Err(Failure::Memory),
-        GamesFault::Pgn(fault) => Ok(fault),
-    }
 }
 
 /// Rows on their way to a sink.
@@ -76,7 +36,9 @@ impl<'a, 'w, A: Allocator, W: Sink> Rows<'a, 'w, A, W> {
         }
         Ok(())
     }
+}
 
+impl<'a, 'w, A: Allocator, W: Sink> EachGame<'a, A> for Rows<'a, 'w, A, W> {
     // Writes a game's row, if it is asked for.
     fn game(&mut self, place: Place, game: &Game<'a, A>) -> Result<(), Failure> {
         let report = Report::of(self.alloc, self.table, game)?;
@@ -96,38 +58,6 @@ impl<'a, 'w, A: Allocator, W: Sink> Rows<'a, 'w, A, W> {
         write_all(self.writer, self.row.bytes())?;
         Ok(())
     }
-}
-
-// Writes the rows of the games; how many games could not be read.
-fn write_rows<'a, A: Allocator, R: Source, W: Sink>(
-    games: &mut Games<'a, R, A>,
-    rows: &mut Rows<'a, '_, A, W>,
-    progress: &mut Progress<'_>,
-) -> Result<u64, Failure>
-    requires sound { IsSound R.ended games.old }
-{
-    let mut bad = 0u64;
-    for before in 0..GAMES {
-        let offset = games.used();
-        progress.show(offset, before);
-        let place = Place {
-            number: before.saturating_add(1),
-            offset,
-        };
-        match games.next() {
-            Ok(None) => return Ok(bad),
-            Ok(Some(game)) => rows.game(place, &game)?,
-            Err(fault) => {
-                rows.fault(place, refused(fault)?)?;
-                bad = bad.saturating_add(1);
-                if let Err(fault) = games.pass_over() {
-                    let _fault = refused(fault)?;
-                    return Err(Failure::Read);
-                }
-            }
-        }
-    }
-    Err(Failure::Read)
 }
 
 /// Writes a row for each game of the reader, before the next is read: what the Laws say of it, or why it can't be read. Returns how many could not.
@@ -155,5 +85,5 @@ pub fn judge<A: Allocator, R: Source + Drop, W: Sink>(
         writer,
     };
     rows.header()?;
-    write_rows(&mut games, &mut rows, progress)
+    go_over(&mut games, &mut rows, progress)
 }

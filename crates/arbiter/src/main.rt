@@ -5,43 +5,27 @@
 
 mod columns;
 mod judge;
-mod progress;
 mod row;
 #[cfg(test)]
 mod tests;
 mod words;
 
+use chess_programs::{FAILED, Progress, Refused, SOME_REFUSED, read_words};
 use chess_types::{FromRead, ToWrite};
 use judge::judge;
-use progress::Progress;
 use std::process::ExitCode;
-use words::{Refused, read_words};
+use words::{Words, parse_words};
 
-/// The status where the words after the program's name are refused, `--help` among them.
-const WORDS_REFUSED: u8 = 1;
-
-/// The status where some games could not be read.
-const SOME_REFUSED: u8 = 2;
-
-/// The status where a stream failed or memory was refused.
-const FAILED: u8 = 3;
+// What the program was called for.
+fn asked(rt: &HostRuntime) -> Result<Words, Refused> {
+    let words = read_words(rt)?;
+    parse_words(rt.alloc(), words.as_slice())
+}
 
 fn main(rt: HostRuntime) -> ExitCode {
-    let words = match read_words(&rt) {
+    let words = match asked(&rt) {
         Ok(words) => words,
-        Err(Refused::Help(text)) => {
-            // A fault of the standard output is ignored, as one of the standard error below.
-            let _ = print!(rt; "{text}");
-            return ExitCode::from(WORDS_REFUSED);
-        }
-        Err(Refused::Words(message)) => {
-            let _ = eprint!(rt; "{message}");
-            return ExitCode::from(WORDS_REFUSED);
-        }
-        Err(Refused::Memory) => {
-            let _ = eprintln!(rt; "out of memory");
-            return ExitCode::from(FAILED);
-        }
+        Err(refused) => return refused.end(&rt),
     };
     let mut progress = Progress::new(&rt, words.progress);
     let reader = FromRead::new(rt.stdin());

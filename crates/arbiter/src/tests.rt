@@ -1,7 +1,7 @@
-use crate::judge::{Asked, Failure, judge};
-use crate::progress::Progress;
+use crate::judge::{Asked, judge};
 use crate::row::Format;
-use crate::words::{Refused, Words, parse_words};
+use crate::words::{Words, parse_words};
+use chess_programs::{Failure, Progress, Refused};
 use chess_types::{FromBytes, ToBytes};
 
 /// How many games of a text are refused, where the rows are as wanted in at most 4,096 bytes; else `None`.

@@ -1,11 +1,9 @@
 use crate::judge::Asked;
 use crate::row::Format;
-use clap::error::ErrorKind;
+use chess_programs::{Refused, VERSION, why_refused};
 use clap::{Arg, ArgAction, Command, Error};
-use std::alloc::{AllocError, Global};
+use std::alloc::Global;
 use std::convert::AsStr;
-use std::rt::Env;
-use std::{env, io};
 
 /// What the program is to do.
 #[derive(Clone, Copy, Debug, PartialEq, Eq)]
@@ -15,25 +13,8 @@ pub struct Words {
     pub progress: bool,
 }
 
-/// Why the words ask for nothing.
-#[derive(Debug, Drop)]
-pub enum Refused {
-    /// They ask how the program is used. The text says so.
-    Help(String),
-    /// They are none of the program's. The text says what is wrong and how the program is used.
-    Words(String),
-    /// There was no memory to read them.
-    Memory,
-}
-
-impl From<AllocError> for Refused {
-    fn from(_error: AllocError) -> Refused {
-        Refused::Memory
-    }
-}
-
 const ABOUT: &str =
-    "What the FIDE Laws say of each game of the standard input, a row a game on the standard output.";
+    "Jatshegi 0.2.0: what the FIDE Laws say of each game of the standard input, a row a game on the standard output.";
 
 const AFTER: &str = "\
 A row has the game's number and place, its players, event and date, its plies, its marker, and what the Laws say of its
@@ -58,6 +39,7 @@ fn matched<S: AsStr>(alloc: Global, words: &[S]) -> Result<Words, Error> {
         .action(ArgAction::SetTrue);
     let command = Command::new(alloc, "arbiter")
         .about(ABOUT)
+        .version(VERSION)
         .after_help(AFTER)
         .arg(findings)?
         .arg(format)?
@@ -76,26 +58,10 @@ fn matched<S: AsStr>(alloc: Global, words: &[S]) -> Result<Words, Error> {
     })
 }
 
-/// What the words ask for. `--help` is refused, too, with the help as its text.
+/// What the words ask for. `--help` and `--version` are refused, too, with their text.
 pub fn parse_words<S: AsStr>(alloc: Global, words: &[S]) -> Result<Words, Refused> {
     match matched(alloc, words) {
         Ok(words) => Ok(words),
-        Err(error) if error.kind() == ErrorKind::OutOfMemory => Err(Refused::Memory),
-        Err(error) if error.kind() == ErrorKind::DisplayHelp => {
-            Err(Refused::Help(format!(in alloc; "{error}")?))
-        }
-        Err(error) => Err(Refused::Words(format!(in alloc; "{error}")?)),
+        Err(error) => Err(why_refused(alloc, error)),
     }
-}
-
-/// What the program was called with.
-pub fn read_words(rt: &(impl Env + AllocGlobal)) -> Result<Words, Refused> {
-    let args = match env::args(rt) {
-        Ok(args) => args,
-        Err(error) if error.kind() == io::ErrorKind::OutOfMemory => return Err(Refused::Memory),
-        // A word that is no text.
-        Err(error) => return Err(Refused::Words(format!(in rt.alloc(); "error: {error}\n")?)),
-    };
-    let words = args.collect::<Vec<String>>(rt.alloc())?;
-    parse_words(rt.alloc(), words.as_slice())
 }

@@ -7,17 +7,21 @@ mod clock;
 mod tests;
 mod words;
 
-use chess_cli::{Ended, board, pgn, uci};
+use chess_cli::{board, pgn, uci};
+use chess_programs::{Refused, read_words};
 use chess_types::{FromRead, ToWrite};
 use clock::MachineClock;
 use std::process::ExitCode;
-use words::{Asked, Refused, read_words};
+use words::{Asked, parse_words};
 
-/// The status where the words after the program's name are refused, `--help` among them.
-const WORDS_REFUSED: u8 = 1;
+// What the program was called for.
+fn asked(rt: &HostRuntime) -> Result<Asked, Refused> {
+    let words = read_words(rt)?;
+    parse_words(rt.alloc(), words.as_slice())
+}
 
 fn main(rt: HostRuntime) -> ExitCode {
-    let ended = match read_words(&rt) {
+    let ended = match asked(&rt) {
         Ok(Asked::Board) => board(
             rt.alloc(),
             &mut FromRead::new(rt.stdin()),
@@ -34,20 +38,11 @@ fn main(rt: HostRuntime) -> ExitCode {
             &mut FromRead::new(rt.stdin()),
             &mut ToWrite::new(rt.stdout()),
         ),
-        Err(Refused::Help(text)) => {
-            // A fault of the standard output is ignored, as one of the standard error below.
-            let _ = print!(rt; "{text}");
-            return ExitCode::from(WORDS_REFUSED);
-        }
-        Err(Refused::Words(message)) => {
-            // A fault of the standard error is ignored, here and below.
-            let _ = eprint!(rt; "{message}");
-            return ExitCode::from(WORDS_REFUSED);
-        }
-        Err(Refused::Memory) => Ended::Memory,
+        Err(refused) => return refused.end(&rt),
     };
     let message = ended.message();
     if !message.is_empty() {
+        // A fault of the standard error is ignored.
         let _ = eprintln!(rt; "{message}");
     }
     ExitCode::from(ended.status())

@@ -1,6 +1,7 @@
 use crate::clock::MachineClock;
-use crate::words::{Asked, Refused, parse_words};
+use crate::words::{Asked, parse_words};
 use chess_cli::Clock;
+use chess_programs::Refused;
 
 fn is_refused(asked: Result<Asked, Refused>) -> bool {
     matches!(asked, Err(Refused::Words(_)))
@@ -28,7 +29,16 @@ fn other_words_are_refused(rt: HostRuntime) {
     assert!(rt; is_refused(parse_words(rt.alloc(), &["chess", "board", "board"])));
     assert!(rt; is_refused(parse_words(rt.alloc(), &["chess", "boards"])));
     assert!(rt; is_refused(parse_words(rt.alloc(), &["chess", ""])));
-    assert!(rt; is_refused(parse_words(rt.alloc(), &["chess", "board", "--version"])));
+    assert!(rt; is_refused(parse_words(rt.alloc(), &["chess", "board", "--versions"])));
+}
+
+#[test]
+fn the_version_is_asked_for(rt: HostRuntime) {
+    let Err(Refused::Help(text)) = parse_words(rt.alloc(), &["chess", "--version"]) else {
+        assert!(rt; false);
+        return;
+    };
+    assert!(rt; text.as_str() == "chess 0.2.0\n");
 }
 
 #[test]

@@ -1,9 +1,7 @@
-use clap::error::ErrorKind;
+use chess_programs::{Refused, VERSION, why_refused};
 use clap::{Arg, Command, Error};
-use std::alloc::{AllocError, Global};
+use std::alloc::Global;
 use std::convert::AsStr;
-use std::rt::Env;
-use std::{env, io};
 
 /// The engine that the program's words ask for.
 #[derive(Clone, Copy, Debug, PartialEq, Eq)]
@@ -13,25 +11,8 @@ pub enum Asked {
     Pgn,
 }
 
-/// Why the words ask for none.
-#[derive(Debug, Drop)]
-pub enum Refused {
-    /// They ask how the program is used. The text says so.
-    Help(String),
-    /// They aren't the name of one engine. The text says what is wrong and how the program is used.
-    Words(String),
-    /// There was no memory to read them.
-    Memory,
-}
-
-impl From<AllocError> for Refused {
-    fn from(_error: AllocError) -> Refused {
-        Refused::Memory
-    }
-}
-
 const ABOUT: &str =
-    "A chess board that answers by the Laws of Chess, a chess engine, and a reader and writer of games.";
+    "Jatshegi 0.2.0: a chess board that answers by the Laws of Chess, a chess engine, and a reader and writer of games.";
 
 const ENGINE: &str = "\
 board: answers the lines of the standard input, one line each; \
@@ -76,6 +57,7 @@ fn matched<S: AsStr>(alloc: Global, words: &[S]) -> Result<Option<Asked>, Error>
         .value_parser(["board", "uci", "pgn"].as_slice());
     let command = Command::new(alloc, "chess")
         .about(ABOUT)
+        .version(VERSION)
         .after_help(COMMANDS)
         .arg(engine)?;
     let matches = command.try_get_matches_from(words)?;
@@ -87,28 +69,12 @@ fn matched<S: AsStr>(alloc: Global, words: &[S]) -> Result<Option<Asked>, Error>
     })
 }
 
-/// What the words ask for, the program's name first: exactly one word after it, the name of an engine. `--help` is refused, too, with the
-/// help as its text.
+/// What the words ask for, the program's name first: exactly one word after it, the name of an engine. `--help` and `--version` are refused, too, with
+/// their text.
 pub fn parse_words<S: AsStr>(alloc: Global, words: &[S]) -> Result<Asked, Refused> {
     match matched(alloc, words) {
         Ok(Some(asked)) => Ok(asked),
         Ok(None) => Err(Refused::Words(String::new(alloc))),
-        Err(error) if error.kind() == ErrorKind::OutOfMemory => Err(Refused::Memory),
-        Err(error) if error.kind() == ErrorKind::DisplayHelp => {
-            Err(Refused::Help(format!(in alloc; "{error}")?))
-        }
-        Err(error) => Err(Refused::Words(format!(in alloc; "{error}")?)),
+        Err(error) => Err(why_refused(alloc, error)),
     }
-}
-
-/// What the program was called with.
-pub fn read_words(rt: &(impl Env + AllocGlobal)) -> Result<Asked, Refused> {
-    let args = match env::args(rt) {
-        Ok(args) => args,
-        Err(error) if error.kind() == io::ErrorKind::OutOfMemory => return Err(Refused::Memory),
-        // A word that is no text.
-        Err(error) => return Err(Refused::Words(format!(in rt.alloc(); "error: {error}\n")?)),
-    };
-    let words = args.collect::<Vec<String>>(rt.alloc())?;
-    parse_words(rt.alloc(), words.as_slice())
 }

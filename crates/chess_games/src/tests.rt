@@ -1,6 +1,6 @@
-use crate::filter::{Failure, filter};
-use crate::progress::Progress;
-use crate::words::{Refused, parse_words};
+use crate::filter::filter;
+use crate::words::parse_words;
+use chess_programs::{Failure, Progress, Refused};
 use chess_types::{FromBytes, ToBytes};
 
 /// How many games of a text are refused, where the others are written as wanted in at most 4,096 bytes; else `None`.
@@ -8,6 +8,7 @@ fn filtered(rt: &HostRuntime, text: &str, wanted: &str) -> Option<Result<u64, Fa
     let mut room = [0; 4096];
     let mut writer = ToBytes::new(&mut room, 4096);
     let refused = filter(
+        rt,
         rt.alloc(),
         FromBytes::new(text.as_bytes(), 7),
         &mut writer,

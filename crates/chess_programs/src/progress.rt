@@ -1,6 +1,6 @@
 use std::time::{Duration, Instant};
 
-/// How far reading has come, on the standard error, where that is asked for. A fault of the standard error is ignored.
+/// How far the reading of a collection has come, on the standard error, where that is asked for. A fault of the standard error is ignored.
 #[derive(Drop)]
 pub struct Progress<'r> {
     rt: &'r HostRuntime,

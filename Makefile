@@ -1,0 +1,32 @@
+# Installs the released files, or removes what was installed: no compiler and no prover is needed. `./build` and `tools/libraries` build from the sources.
+#
+#     make install                        into /usr/local
+#     make install PREFIX=/usr DESTDIR=d  into the folder d, as a package would have it
+#     make uninstall                      with the same words: removes exactly those files, and the folders that are empty then
+#     make packages                       the Debian package, the tarball and the wheel, into out/
+
+PREFIX = /usr/local
+DESTDIR =
+BINDIR = $(PREFIX)/bin
+LIBDIR = $(PREFIX)/lib
+INCLUDEDIR = $(PREFIX)/include
+DATADIR = $(PREFIX)/share
+MANDIR = $(DATADIR)/man
+DOCDIR = $(DATADIR)/doc/jatshegi
+PYTHONDIR = $(PREFIX)/lib/python3/dist-packages
+
+export PREFIX DESTDIR BINDIR LIBDIR INCLUDEDIR DATADIR MANDIR DOCDIR PYTHONDIR
+
+help:
+	@sed -n 's/^# \{0,1\}//p' Makefile
+
+install:
+	@tools/install
+
+uninstall:
+	@tools/install --remove
+
+packages:
+	@tools/packages
+
+.PHONY: help install uninstall packages

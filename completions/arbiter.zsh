@@ -1,0 +1,7 @@
+#compdef arbiter
+_arguments \
+    '(- :)'{-h,--help}'[print help]' \
+    '(- :)'{-V,--version}'[print version]' \
+    '--findings[only games that contradict the Laws, or cannot be read]' \
+    '--format[the form of a row]:form:(csv jsonl)' \
+    '--progress[bytes and games so far, once a second]'

@@ -1,0 +1,2 @@
+# Completion of the words of chess.
+complete -W 'board uci pgn --help --version' chess
