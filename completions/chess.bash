@@ -1,2 +1,5 @@
 # Completion of the words of chess.
-complete -W 'board uci pgn --help --version' chess
+_chess() {
+    mapfile -t COMPREPLY < <(compgen -W 'board uci pgn --help --version' -- "$2")
+}
+complete -F _chess chess

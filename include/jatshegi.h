@@ -34,6 +34,8 @@
 #include <stddef.h>
 #include <stdint.h>
 
+#define JATSHEGI_VERSION "0.2.0"
+
 #ifdef __cplusplus
 extern "C" {
 #endif

@@ -1,4 +1,5 @@
-"""Packs the package with its library into a wheel for Linux on x86-64, by pip's interface for building (PEP 517). Nothing is compiled."""
+"""Packs the package with its library into a wheel for Linux on x86-64, by pip's interface for building (PEP 517). Nothing is compiled: the library is the
+one that tools/libraries put beside the package, else the released one of the clone."""
 import base64
 import hashlib
 import os
@@ -6,7 +7,8 @@ import re
 import zipfile
 
 TAG = "py3-none-linux_x86_64"
-FILES = ["__init__.py", "_board.py", "_errors.py", "_library.py", "_moves.py", "libjatshegi.so", "py.typed"]
+FILES = ["__init__.py", "_board.py", "_errors.py", "_library.py", "_moves.py", "py.typed"]
+LIBRARIES = ["jatshegi/libjatshegi.so", "../release/x86_64-linux/lib/libjatshegi.so.0"]
 
 
 def read(path):
@@ -16,11 +18,12 @@ def read(path):
 
 def build_wheel(wheel_directory, config_settings=None, metadata_directory=None):
     """Writes the wheel into the folder, and returns its name."""
-    if not os.path.exists("jatshegi/libjatshegi.so"):
-        raise SystemExit("jatshegi/libjatshegi.so isn't there: run tools/libraries of the repository first")
+    library = next((path for path in LIBRARIES if os.path.exists(path)), None)
+    if not library:
+        raise SystemExit(f"there is none of {', '.join(LIBRARIES)}: run tools/libraries of the repository first")
     version = re.search(rb'__version__ = "(.*)"', read("jatshegi/__init__.py"))[1].decode()
     about = f"jatshegi-{version}.dist-info"
-    entries = {f"jatshegi/{name}": read(f"jatshegi/{name}") for name in FILES}
+    entries = {f"jatshegi/{name}": read(f"jatshegi/{name}") for name in FILES} | {"jatshegi/libjatshegi.so": read(library)}
     entries[f"{about}/METADATA"] = (
         f"Metadata-Version: 2.1\nName: jatshegi\nVersion: {version}\nSummary: A chess board in which every answer is proved\n"
         "License: MIT OR Apache-2.0\nRequires-Python: >=3.9\n"

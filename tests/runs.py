@@ -9,6 +9,8 @@ import subprocess
 
 TOP = os.path.dirname(os.path.dirname(os.path.realpath(__file__)))
 BUILT = f"{TOP}/crates/chess/out/chess"
+with open(f"{TOP}/VERSION", encoding="utf-8") as text:
+    VERSION = text.read().strip()
 
 # No run takes a second, but for a machine with much else to do.
 MOST_SECONDS = 120
@@ -90,7 +92,8 @@ RUNS = [
     Run("no word is refused", [], output="", error=None, status=1, of_error=("Usage",)),
     Run("another word is refused", ["boards"], output="", error=None, status=1, of_error=("boards",)),
     Run("two words are refused", ["board", "board"], output="", error=None, status=1, of_error=("board",)),
-    Run("help is on the standard output", ["--help"], output=None, status=1, of_output=("play MOVE", "pgn  ", "perft", "docs/FORMATS.md")),
+    Run("help is on the standard output", ["--help"], output=None, status=1, of_output=(f"Jatshegi {VERSION}", "play MOVE", "pgn  ", "perft", "docs/FORMATS.md")),
+    Run("the version is on the standard output", ["--version"], f"chess {VERSION}\n", status=1),
     # The board
     board("nothing is asked"),
     board("a capture en passant that would expose the king",

@@ -26,14 +26,14 @@ class CMove(ctypes.Structure):
 
 
 def _found() -> str:
-    """The library beside this file, else the one that tools/libraries made in a clone of the repository."""
+    """The library beside this file, else in a clone of the repository the one that tools/libraries made, or the released one."""
     here = os.path.dirname(os.path.realpath(__file__))
-    built = os.path.join(os.path.dirname(os.path.dirname(here)), "out")
-    for folder in (here, built):
-        path = os.path.join(folder, "libjatshegi.so")
+    top = os.path.dirname(os.path.dirname(here))
+    paths = [f"{here}/libjatshegi.so", f"{top}/out/libjatshegi.so.0", f"{top}/release/x86_64-linux/lib/libjatshegi.so.0"]
+    for path in paths:
         if os.path.exists(path):
             return path
-    raise ImportError(f"libjatshegi.so is neither in {here} nor in {built}: run tools/libraries of the repository")
+    raise ImportError(f"there is none of {', '.join(paths)}: install the package, or run tools/libraries in a clone of the repository")
 
 
 lib = ctypes.CDLL(_found())

@@ -5,31 +5,16 @@
 //! universal chess interface, by the written machine of `chess_uci` and the clock (`specs/Sittings.antt`), over the same loop.
 #![tactic(auto)]
 
-mod answer;
-mod clock;
-mod collection;
-mod command;
+mod board;
 mod ended;
 mod laws;
-mod lists;
-mod machine;
-mod numbers;
-mod outcomes;
-mod over_bytes;
-mod over_streams;
-mod path;
-mod refusal;
-mod sessions;
-mod sitting;
-mod texts;
+mod pgn;
+mod uci;
 
-pub use clock::Clock;
-pub use collection::{pgn, pgn_with};
+pub use board::{
+    Board, Kept, Refusal, board, board_over_bytes, board_with, board_within, counts_text, eval_text,
+};
 pub use ended::Ended;
 pub use laws::{collection_laws, path_laws};
-pub use machine::Board;
-pub use over_bytes::board_over_bytes;
-pub use over_streams::{board, board_with, board_within};
-pub use refusal::Refusal;
-pub use sessions::{uci, uci_with};
-pub use texts::{Kept, counts_text, eval_text};
+pub use pgn::{pgn, pgn_with};
+pub use uci::{Clock, uci, uci_with};

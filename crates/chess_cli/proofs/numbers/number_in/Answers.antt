@@ -1,6 +1,6 @@
 use Rattle.std.proofs.Common.{◌∙◌}
 use Rattle.chess_cli.proofs.NumberLemmas.{no_number, number_is_text, number_read}
-use Rattle.chess_cli.proofs.numbers.number_in.Goals as goal
+use Rattle.chess_cli.proofs.board.numbers.number_in.Goals as goal
 
 pub returns-then-not-is_number : goal.returns-then-not-is_number
 returns-then-not-is_number c = no_number c.args.word.now (cc)

@@ -5,7 +5,7 @@ use Rattle.std.proofs.lemmas.Bool.Decides.{nat_tests}
 use Rattle.std.proofs.lemmas.Iterator.Consumers.{YieldsList-turn, YieldsList-end}
 use Rattle.std.proofs.lemmas.Iterator.Splits.{YieldsList-from_slice_split}
 use Rattle.chess_cli.proofs.PathLemmas.{ReadSoFar, read_on, read_full, read_all, path_in-root, path_in-parts, path_in-bad}
-use Rattle.chess_cli.proofs.numbers.read_path.Goals as goal
+use Rattle.chess_cli.proofs.board.numbers.read_path.Goals as goal
 
 pub returns-then-eq : goal.returns-then-eq
 returns-then-eq c = (omega arith, path_in-root c.args.word.now [] (cc) refl)

@@ -1,6 +1,6 @@
 use Rattle.std.proofs.Common.{◌≡◌, ◌≤◌, map, take, length}
 use Rattle.chess_cli.proofs.PathLemmas.{ReadSoFar}
-use Rattle.chess_cli.proofs.numbers.read_path.Given as goal
+use Rattle.chess_cli.proofs.board.numbers.read_path.Given as goal
 
 abbrev pub invariant-loop-part : goal.invariant-loop-part
 invariant-loop-part l = record {
