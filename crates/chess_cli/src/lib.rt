@@ -5,16 +5,16 @@
 //! universal chess interface, by the written machine of `chess_uci` and the clock (`specs/Sittings.antt`), over the same loop.
 #![tactic(auto)]
 
-mod board;
+mod board_command;
 mod ended;
 mod laws;
-mod pgn;
-mod uci;
+mod pgn_command;
+mod uci_command;
 
-pub use board::{
+pub use board_command::{
     Board, Kept, Refusal, board, board_over_bytes, board_with, board_within, counts_text, eval_text,
 };
 pub use ended::Ended;
 pub use laws::{collection_laws, path_laws};
-pub use pgn::{pgn, pgn_with};
-pub use uci::{Clock, uci, uci_with};
+pub use pgn_command::{pgn, pgn_with};
+pub use uci_command::{Clock, uci, uci_with};

@@ -1,0 +1,55 @@
+ghost use Rattle.std.specs.Prelude.{◌≡◌, false};
+ghost use Rattle.chess_cli.specs.Endings.{SittingEnds};
+
+use super::clock::Clock;
+use super::sitting::Sitting;
+use crate::board_command::READS;
+use crate::ended::Ended;
+use chess_key::KeyTable;
+use chess_loop::run;
+use chess_types::{Sink, Source};
+use chess_uci::Session;
+use std::alloc::Allocator;
+
+/// Answers the lines of the reader, those of one read before more is read, as a session of the universal chess interface (UCI) whose
+/// time that the clock gives, on the writer, until `quit` or the end of the input.
+///
+/// Each line is an event after a moment by the clock. While a search is to be fed, it is given time root by root, and what it reports is
+/// written before it is given more: a search with a last depth or a budget runs to its end before the next line is read, an infinite one
+/// until depth 5 is complete.
+///
+/// `Good`: the whole input was read, or `quit` came, and the writer took the replies; nothing is read after the piece that has `quit`.
+/// `ReadFault`: a read failed, or there were 2^40 reads of some bytes each, and the writer took the replies to the lines that had ended.
+/// `WriteFault`: a write failed or took no byte, and the writer took a prefix of the replies. `Memory`: there was no memory to begin with,
+/// and nothing was read or written. After a call that fails none is made.
+pub fn uci<A: Allocator, R: Source, W: Sink, C: Clock + Drop>(
+    alloc: A,
+    reader: &mut R,
+    writer: &mut W,
+    clock: C,
+) -> Ended
+    requires reader { R.failed reader.old ≡ false }
+    requires writer { W.failed writer.old ≡ false }
+    ensures { SittingEnds R.gives R.failed W.takes W.failed R.ended A C.reads clock result reader.old reader.new writer.old writer.new }
+{
+    uci_with(alloc, reader, writer, clock, &KeyTable::fixed())
+}
+
+/// `uci` with keys by the table of the caller. No reply depends on it.
+pub fn uci_with<A: Allocator, R: Source, W: Sink, C: Clock + Drop>(
+    alloc: A,
+    reader: &mut R,
+    writer: &mut W,
+    clock: C,
+    table: &KeyTable,
+) -> Ended
+    requires reader { R.failed reader.old ≡ false }
+    requires writer { W.failed writer.old ≡ false }
+    ensures { SittingEnds R.gives R.failed W.takes W.failed R.ended A C.reads clock result reader.old reader.new writer.old writer.new }
+{
+    let mut sitting = Sitting {
+        session: Session::new(&alloc, table),
+        clock,
+    };
+    Ended::from(run(&alloc, &mut sitting, reader, writer, READS))
+}
