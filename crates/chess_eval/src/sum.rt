@@ -1,4 +1,4 @@
-ghost use Rattle.std.specs.Prelude.{◌≡◌, Some, pos, neg_ℤ, ◌≤ℤ◌, int_div};
+ghost use Rattle.std.specs.Prelude.{◌≡◌, ◌≢◌, Some, pos, neg_ℤ, ◌≤ℤ◌, int_div};
 ghost use Rattle.std.specs.FinMap as map;
 ghost use Rattle.chess_types.specs.board.Board.{Board, Look, man_at};
 ghost use Rattle.chess_eval.specs.Evaluation.{for_white as for_white_of, balance_there, AreSumsOf, tapered as tapered_of, evaluation, IsWithin, HasArmies};
@@ -131,17 +131,77 @@ impl Sum {
         }
     }
 
+    // With what the man counts on the square.
+    #[inline(always)]
+    fn with_man(&self, man: Man, square: Square) -> Sum
+        requires { AreInRange (with_man self.now man square) }
+        ensures { result ≡ with_man self.now man square }
+    {
+        Sum {
+            middle: self.middle + middle_for_white(man, square),
+            end: self.end + end_for_white(man, square),
+            weights: self.weights + weight(man.kind),
+        }
+    }
+
+    // Without what the man counts on the square.
+    #[inline(always)]
+    fn without_man(&self, man: Man, square: Square) -> Sum
+        requires { AreInRange (without_man self.now man square) }
+        ensures { result ≡ without_man self.now man square }
+    {
+        Sum {
+            middle: self.middle - middle_for_white(man, square),
+            end: self.end - end_for_white(man, square),
+            weights: self.weights - weight(man.kind),
+        }
+    }
+
+    // The same sums.
+    #[inline(always)]
+    fn as_they_are(&self) -> Sum
+        ensures { result ≡ self.now }
+    {
+        Sum {
+            middle: self.middle,
+            end: self.end,
+            weights: self.weights,
+        }
+    }
+
+    // The sums without the man on the square, if there is one.
+    #[inline(always)]
+    fn cleared(&self, placement: &Placement, at: Square) -> Sum
+        requires agrees { AreSumsOf self.now placement.now }
+        ensures { AreSumsOf result (map.remove placement.now at) }
+    {
+        match placement.get(at) {
+            Some(man) => self.without_man(man, at),
+            None => self.as_they_are(),
+        }
+    }
+
+    /// The sums of the board after the man on one square has gone to another, where it takes the man that is there: without a change of the
+    /// placement, which is the one that these are the sums of.
+    #[inline(always)]
+    pub fn after(&self, placement: &Placement, man: Man, from: Square, to: Square) -> Sum
+        requires agrees { AreSumsOf self.now placement.now }
+        requires here { man_at placement.now from ≡ Some man }
+        requires apart { from ≢ to }
+        ensures { AreSumsOf result (map.insert (map.remove (map.remove placement.now to) from) to man) }
+    {
+        self.cleared(placement, to)
+            .without_man(man, from)
+            .with_man(man, to)
+    }
+
     // Adds what the man counts on the square.
     #[inline(always)]
     fn add(&mut self, man: Man, square: Square)
         requires { AreInRange (with_man self.old man square) }
         ensures { self.new ≡ with_man self.old man square }
     {
-        *self = Sum {
-            middle: self.middle + middle_for_white(man, square),
-            end: self.end + end_for_white(man, square),
-            weights: self.weights + weight(man.kind),
-        };
+        *self = self.with_man(man, square);
     }
 
     // Takes away what the man counts on the square.
@@ -150,11 +210,7 @@ impl Sum {
         requires { AreInRange (without_man self.old man square) }
         ensures { self.new ≡ without_man self.old man square }
     {
-        *self = Sum {
-            middle: self.middle - middle_for_white(man, square),
-            end: self.end - end_for_white(man, square),
-            weights: self.weights - weight(man.kind),
-        };
+        *self = self.without_man(man, square);
     }
 }
 

@@ -4,8 +4,8 @@ ghost use Rattle.chess_types.specs.board.Position.{IsWellFormed};
 ghost use Rattle.chess_search.specs.steps.Frontiers.{AfterQuiet, IsFrontier, IsQuietMove};
 
 use crate::search::{decided, for_side};
-use crate::sums::Sums;
 use chess_attack::{attacks, attacks_square, king_square};
+use chess_eval::Sum;
 use chess_play::{Live, is_en_passant};
 use chess_types::{Kind, Man, Move, Setup, Square, SquareSet};
 
@@ -17,7 +17,7 @@ pub(crate) struct Frontier {
     king: Square,
     // The squares that a queen sees from there: a man on another one bars no line to the king.
     seen: SquareSet,
-    sums: Sums,
+    sums: Sum,
 }
 
 /// Whether the move is one of two squares along a rank, as castling is.
@@ -72,7 +72,7 @@ impl Frontier {
         Frontier {
             king,
             seen: attacks(&setup.placement, queen, king),
-            sums: Sums::of(&setup.placement),
+            sums: Sum::of(&setup.placement),
         }
     }
 

@@ -12,7 +12,6 @@ mod roots;
 mod score;
 mod search;
 mod slices;
-mod sums;
 
 pub use laws::mate_laws;
 pub use nodes::Nodes;

@@ -2,7 +2,7 @@ use Rattle.std.proofs.Common.{arith, subst, sym}
 use Rattle.std.proofs.lemmas.Int.{ints}
 use Rattle.chess_eval.specs.steps.Changes.{AreInRange}
 use Rattle.chess_eval.proofs.Evaluations.{same_sums, same_parts}
-use Rattle.chess_eval.proofs.sum.Sum.subtract.Goals as goal
+use Rattle.chess_eval.proofs.sum.Sum.without_man.Goals as goal
 
 pub returns : goal.returns
 returns c =
@@ -12,5 +12,5 @@ returns c =
     (omega (arith, ints, same.end, c.requires.end.low, c.requires.end.high, c.end_for_white.ensures))
     (omega (arith, ints, same.weights, c.requires.weights_low, c.requires.weights_high, c.weight.ensures.value))
 
-pub invariant_of-self : goal.invariant_of-self
-invariant_of-self c = subst AreInRange (sym (returns c)) c.requires
+pub invariant_of-result : goal.invariant_of-result
+invariant_of-result c = subst AreInRange (sym (returns c)) c.requires

@@ -6,7 +6,7 @@ use Rattle.chess_types.proofs.BoardLaws.{boards}
 use Rattle.chess_eval.specs.Evaluation.{Sums, sums_of}
 use Rattle.chess_eval.specs.steps.Changes.{with_man, without_man, AreInRange}
 use Rattle.chess_eval.proofs.Evaluations.{sums-clear, sums-put, sums_in_range}
-use Rattle.chess_search.proofs.sums.Sums.after.Goals as goal
+use Rattle.chess_eval.proofs.sum.Sum.after.Goals as goal
 
 module _ (board : Board) (from to : ℕ) (man : Man) (on_board : from < 64) (there : to < 64) (here : get board from ≡ Some man) (apart : from ≢ to) where
   gone : (cleared : Sums) → cleared ≡ sums_of (man_at (remove board to)) → sums_of (man_at (remove (remove board to) from)) ≡ without_man cleared man from

@@ -2,7 +2,7 @@ use Rattle.std.proofs.Common.{arith, subst, sym}
 use Rattle.std.proofs.lemmas.Int.{ints}
 use Rattle.chess_eval.specs.steps.Changes.{AreInRange}
 use Rattle.chess_eval.proofs.Evaluations.{same_sums, same_parts}
-use Rattle.chess_search.proofs.sums.Sums.with_man.Goals as goal
+use Rattle.chess_eval.proofs.sum.Sum.with_man.Goals as goal
 
 pub returns : goal.returns
 returns c =

@@ -5,7 +5,7 @@ use Rattle.chess_types.proofs.BoardLaws.{clear-none}
 use Rattle.chess_eval.specs.Evaluation.{sums_of, Sums}
 use Rattle.chess_eval.specs.steps.Changes.{without_man, AreInRange}
 use Rattle.chess_eval.proofs.Evaluations.{sums-clear, sums_in_range}
-use Rattle.chess_search.proofs.sums.Sums.cleared.Goals as goal
+use Rattle.chess_eval.proofs.sum.Sum.cleared.Goals as goal
 
 pub without_man-requires : goal.without_man-requires
 without_man-requires c =
@@ -21,4 +21,4 @@ returns-in-Some c =
 
 pub returns-in-None : goal.returns-in-None
 returns-in-None c =
-    c.with_none.ensures ∙ c.requires.agrees ∙ ap (λ (b : Board). sums_of (man_at b)) (sym (clear-none c.args.placement.now c.args.at (sym c.get.ensures ∙ c.in-None.is)))
+    c.as_they_are.ensures ∙ c.requires.agrees ∙ ap (λ (b : Board). sums_of (man_at b)) (sym (clear-none c.args.placement.now c.args.at (sym c.get.ensures ∙ c.in-None.is)))
