@@ -15,6 +15,7 @@ use Rattle.chess_types.specs.board.Men.{same_kind, is_king_of}
 use Rattle.chess_types.specs.board.Dead.{holds_bishop, is_light, is_one_coloured, is_other, others}
 use Rattle.chess_types.specs.steps.KeptSets.{Gathers, is_straight, is_diagonal, holds_king, holds_straight, holds_diagonal}
 use Rattle.chess_types.proofs.Runs.{list_all_at, list_all_from, same_test}
+use Rattle.chess_types.proofs.SetShapes.{all_filtered}
 use Rattle.chess_draws.proofs.SetLemmas.{both_gather, kings_there}
 
 no_king : (there : Option Man) → (is_some there && not (holds_king there)) ≡ is_other there
@@ -46,45 +47,6 @@ pub bishops_gathered : (diagonal straight bishops : FinSet nat_cmp) (look : Look
 bishops_gathered diagonal straight bishops look are_diagonal are_straight is s =
     ap (λ (x : FinSet nat_cmp). contains x s) is ∙ contains-difference nat_cmp_total diagonal straight s
     ∙ (λ i. are_diagonal s i && not (are_straight s i)) ∙ bishop_there (look s)
-
--- a test of those that are let through is a test of all
-all_filtered : (p q : ℕ → Bool) (xs : List ℕ) → list_all q (filter p xs) ≡ list_all (λ s. not (p s) || q s) xs
-all_filtered p q [] = refl
-all_filtered p q (x ∷ xs) =
-    elim (cases_Bool (p x)) as (λ _. list_all q (filter p (x ∷ xs)) ≡ list_all (λ s. not (p s) || q s) (x ∷ xs)) [
-      | inl h ↦ rw (h, all_filtered p q xs) refl
-      | inr h ↦ rw (h, all_filtered p q xs) refl
-    ]
-
-module _ (set other : FinSet nat_cmp) where
-  outside : (s : ℕ) → contains (difference set other) s ≡ not (not (contains set s) || contains other s)
-  outside s = contains-difference nat_cmp_total set other s ∙ either (contains set s) (contains other s)
-    where
-      either : (a b : Bool) → (a && not b) ≡ not (not a || b)
-      either true b = refl
-      either false b = refl
-
-  true_from : (b : Bool) → not b ≡ false → b ≡ true
-  true_from true h = refl
-  true_from false h = absurd (true≢false h)
-
-  false_from : (b : Bool) → not b ≡ true → b ≡ false
-  false_from true h = absurd (true≢false (sym h))
-  false_from false h = refl
-
-  -- none is outside
-  pub within : ((s : ℕ) → contains (difference set other) s ≡ false) → list_all (contains other) (filter (contains set) squares) ≡ true
-  unfolding squares
-  within none =
-      all_filtered (contains set) (contains other) squares
-      ∙ list_all_from (λ s. not (contains set s) || contains other s) 0 64 (λ s low high. true_from _ (sym (outside s) ∙ none s))
-
-  -- one is
-  pub not_within : (s : ℕ) → s < 64 → contains (difference set other) s ≡ true → list_all (contains other) (filter (contains set) squares) ≡ false
-  unfolding squares
-  not_within s on one =
-      false_from_ne_true _ (λ all. true≢false (sym (list_all_at (λ t. not (contains set t) || contains other t) 0 64 s
-      (sym (all_filtered (contains set) (contains other) squares) ∙ all) (omega arith) (omega arith)) ∙ false_from _ (sym (outside s) ∙ one)))
 
 -- tests that agree on the board agree on the squares that are let through
 pub all_agree : (p f g : ℕ → Bool) → ((s : ℕ) → s < 64 → f s ≡ g s) → list_all f (filter p squares) ≡ list_all g (filter p squares)

@@ -14,6 +14,7 @@ use Rattle.chess_types.specs.board.Squares.{squares}
 use Rattle.chess_types.specs.board.Board.{Look}
 use Rattle.chess_types.specs.board.Men.{same_colour, is_of, is_pawn, is_king}
 use Rattle.chess_types.specs.board.Position.{State, look}
+use Rattle.chess_types.specs.board.Sets.{same_each}
 use Rattle.chess_types.specs.board.Repetition.{same_bool, same_man, same_rights, same_target, counting_target, is_same}
 use Rattle.chess_types.specs.steps.KeptSets.{is_straight, is_diagonal, holds_diagonal}
 use Rattle.chess_types.proofs.Runs.{list_all_from, same_test}
@@ -22,7 +23,7 @@ use Rattle.chess_types.proofs.SameLemmas.{same_is, kind_is, same_self, kind_self
 use Rattle.chess_draws.specs.declared.men.Men.{Men}
 use Rattle.chess_draws.specs.declared.stand.Stand.{Stand}
 use Rattle.chess_draws.specs.declared.ply.Ply.{Ply}
-use Rattle.chess_draws.specs.steps.Stands.{holds_straight_or_king, holds_short, IsMenOf, IsStandOf, same_set, same_men, same_ply}
+use Rattle.chess_draws.specs.steps.Stands.{holds_straight_or_king, holds_short, IsMenOf, IsStandOf, same_men, same_ply}
 use Rattle.chess_draws.specs.steps.Plies.{IsPly}
 
 -- what passes as the same man is
@@ -84,68 +85,34 @@ bool_self true = refl
 bool_self false = refl
 
 -- sets that hold the same squares
-same_set_at : (a b : FinSet nat_cmp) → same_set a b ≡ true → (s : ℕ) → s < 64 → contains a s ≡ contains b s
-unfolding same_set
-same_set_at a b h s low = bool_is (contains a s) (contains b s) (every_square (λ t. same_bool (contains a t) (contains b t)) h s low)
+same_each_at : (a b : FinSet nat_cmp) → same_each a b ≡ true → (s : ℕ) → s < 64 → contains a s ≡ contains b s
+unfolding same_each
+same_each_at a b h s low = bool_is (contains a s) (contains b s) (every_square (λ t. same_bool (contains a t) (contains b t)) h s low)
 
-same_set_from : (a b : FinSet nat_cmp) → ((s : ℕ) → s < 64 → contains a s ≡ contains b s) → same_set a b ≡ true
-unfolding same_set squares
-same_set_from a b h =
+same_each_from : (a b : FinSet nat_cmp) → ((s : ℕ) → s < 64 → contains a s ≡ contains b s) → same_each a b ≡ true
+unfolding same_each squares
+same_each_from a b h =
     list_all_from (λ t. same_bool (contains a t) (contains b t)) 0 64
     (λ t low high. ap (same_bool (contains a t)) (sym (h t high)) ∙ bool_self (contains a t))
 
--- the squares that one of two sets holds and the other doesn't
-abbrev pub apart : FinSet nat_cmp → FinSet nat_cmp → FinSet nat_cmp
-apart a b = union (difference a b) (difference b a)
-
-abbrev one_of : Bool → Bool → Bool
-one_of x y = (x && not y) || (y && not x)
-
-one_of_none : (x y : Bool) → one_of x y ≡ false → x ≡ y
-one_of_none true true h = refl
-one_of_none true false h = h
-one_of_none false true h = sym h
-one_of_none false false h = refl
-
-one_of_some : (x y : Bool) → one_of x y ≡ true → x ≡ y → ⊥
-one_of_some true true h e = true≢false (sym h)
-one_of_some true false h e = true≢false e
-one_of_some false true h e = true≢false (sym e)
-one_of_some false false h e = true≢false (sym h)
-
-apart_is : (a b : FinSet nat_cmp) (s : ℕ) → contains (apart a b) s ≡ one_of (contains a s) (contains b s)
-apart_is a b s =
-    contains-union nat_cmp_total (difference a b) (difference b a) s
-    ∙ ap (λ x. x || contains (difference b a) s) (contains-difference nat_cmp_total a b s)
-    ∙ ap (λ x. (contains a s && not (contains b s)) || x) (contains-difference nat_cmp_total b a s)
-
-pub sets_same : (a b : FinSet nat_cmp) → ((s : ℕ) → contains (apart a b) s ≡ false) → same_set a b ≡ true
-sets_same a b none =
-    same_set_from a b (λ s low. one_of_none (contains a s) (contains b s) (sym (apart_is a b s) ∙ none s))
-
-pub sets_differ : (a b : FinSet nat_cmp) (s : ℕ) → s < 64 → contains (apart a b) s ≡ true → same_set a b ≡ false
-sets_differ a b s low held =
-    false_from_ne_true (same_set a b) (λ h.
-    one_of_some (contains a s) (contains b s) (sym (apart_is a b s) ∙ held) (same_set_at a b h s low))
-
 -- the same sets, by two boards
 by_look : (a b : FinSet nat_cmp) (test : Option Man → Bool) (x y : Look) → ((s : ℕ) → contains a s ≡ test (x s)) →
-    ((s : ℕ) → contains b s ≡ test (y s)) → ((s : ℕ) → s < 64 → x s ≡ y s) → same_set a b ≡ true
-by_look a b test x y ga gb same = same_set_from a b (λ s low. ga s ∙ ap test (same s low) ∙ sym (gb s))
+    ((s : ℕ) → contains b s ≡ test (y s)) → ((s : ℕ) → s < 64 → x s ≡ y s) → same_each a b ≡ true
+by_look a b test x y ga gb same = same_each_from a b (λ s low. ga s ∙ ap test (same s low) ∙ sym (gb s))
 
 by_sets : (a b : FinSet nat_cmp) (test : Option Man → Bool) (x y : Look) → ((s : ℕ) → contains a s ≡ test (x s)) →
-    ((s : ℕ) → contains b s ≡ test (y s)) → same_set a b ≡ true → (s : ℕ) → s < 64 → test (x s) ≡ test (y s)
-by_sets a b test x y ga gb same s low = sym (ga s) ∙ same_set_at a b same s low ∙ gb s
+    ((s : ℕ) → contains b s ≡ test (y s)) → same_each a b ≡ true → (s : ℕ) → s < 64 → test (x s) ≡ test (y s)
+by_sets a b test x y ga gb same s low = sym (ga s) ∙ same_each_at a b same s low ∙ gb s
 
 -- all five show whether the men are the same
 men_there : (m n : Men) (x y : Look) → IsMenOf m x → IsMenOf n y → same_men m n ≡ true → (s : ℕ) → s < 64 → x s ≡ y s
 unfolding same_men
 men_there m n x y is_m is_n h s low =
-    let a = and_parts (same_set m.white n.white && same_set m.black n.black && same_set m.straight n.straight && same_set m.diagonal n.diagonal)
-    (same_set m.short n.short) h in
-    let b = and_parts (same_set m.white n.white && same_set m.black n.black && same_set m.straight n.straight) (same_set m.diagonal n.diagonal) a.0 in
-    let c = and_parts (same_set m.white n.white && same_set m.black n.black) (same_set m.straight n.straight) b.0 in
-    let d = and_parts (same_set m.white n.white) (same_set m.black n.black) c.0 in
+    let a = and_parts (same_each m.white n.white && same_each m.black n.black && same_each m.straight n.straight && same_each m.diagonal n.diagonal)
+    (same_each m.short n.short) h in
+    let b = and_parts (same_each m.white n.white && same_each m.black n.black && same_each m.straight n.straight) (same_each m.diagonal n.diagonal) a.0 in
+    let c = and_parts (same_each m.white n.white && same_each m.black n.black) (same_each m.straight n.straight) b.0 in
+    let d = and_parts (same_each m.white n.white) (same_each m.black n.black) c.0 in
     men_agree (x s) (y s)
     (by_sets m.white n.white (is_of White) x y is_m.white is_n.white d.0 s low)
     (by_sets m.black n.black (is_of Black) x y is_m.black is_n.black d.1 s low)

@@ -1,5 +1,4 @@
 ghost use Rattle.std.specs.Prelude.{◌≡◌, filter};
-ghost use Rattle.std.specs.List.{list_all};
 ghost use Rattle.std.specs.FinSet.{contains};
 ghost use Rattle.chess_types.specs.steps.KeptSets.{Gathers};
 ghost use Rattle.chess_types.specs.board.Squares.{squares};
@@ -33,16 +32,6 @@ fn holds_minor(there: Option<Man>) -> bool
     }
 }
 
-// Whether the other set holds each square of the set.
-fn is_within(set: SquareSet, other: SquareSet) -> bool
-    ensures { result ≡ list_all (contains other) (filter (contains set) squares) }
-{
-    match set.difference(other).lowest() {
-        None => true,
-        Some(_) => false,
-    }
-}
-
 // Whether beside the kings there is at most one man, a knight or a bishop.
 fn is_lone_minor(men: &Placement) -> bool
     ensures { result ≡ is_lone_minor (man_at men.now) }
@@ -62,9 +51,9 @@ fn is_one_coloured(men: &Placement) -> bool
     ensures { result ≡ is_one_coloured (man_at men.now) }
 {
     let others = others(men);
-    let are_bishops = is_within(others, bishops(men));
-    let are_light = is_within(others, SquareSet::light());
-    let are_dark = is_within(others, SquareSet::dark());
+    let are_bishops = others.is_subset(bishops(men));
+    let are_light = others.is_subset(SquareSet::light());
+    let are_dark = others.is_subset(SquareSet::dark());
     are_bishops & (are_light | are_dark)
 }
 

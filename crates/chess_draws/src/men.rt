@@ -2,7 +2,7 @@ ghost use Rattle.std.specs.Prelude.{◌≡◌, true, false};
 ghost use Rattle.chess_types.specs.board.Board.{Look, man_at};
 ghost use Rattle.chess_types.specs.board.Men.{holds_pawn};
 ghost use Rattle.chess_types.specs.steps.KeptSets.{Gathers, holds_king};
-ghost use Rattle.chess_draws.specs.steps.Stands.{IsMenOf, Settles, holds_pawn_or_knight, holds_short, same_set as same_set_of, same_men};
+ghost use Rattle.chess_draws.specs.steps.Stands.{IsMenOf, Settles, holds_pawn_or_knight, holds_short, same_men};
 
 use chess_types::{Colour, Placement, Square, SquareSet, holds_pawn};
 
@@ -69,18 +69,6 @@ fn pawns_moved(short: SquareSet, placement: &Placement, kings: SquareSet, to: Sq
     found
 }
 
-// Whether two sets hold the same squares.
-#[inline(always)]
-fn same_set(set: SquareSet, other: SquareSet) -> bool
-    ensures { result ≡ same_set_of set other }
-{
-    let apart = set.difference(other).union(other.difference(set));
-    match apart.lowest() {
-        None => true,
-        Some(_) => false,
-    }
-}
-
 impl Men {
     // Those of a placement, by its kings and its pawns.
     #[inline(always)]
@@ -132,10 +120,10 @@ impl Men {
     pub(crate) fn is_same(&self, other: &Men) -> bool
         ensures { result ≡ same_men self.now other.now }
     {
-        same_set(self.white, other.white)
-            && same_set(self.black, other.black)
-            && same_set(self.straight, other.straight)
-            && same_set(self.diagonal, other.diagonal)
-            && same_set(self.short, other.short)
+        self.white == other.white
+            && self.black == other.black
+            && self.straight == other.straight
+            && self.diagonal == other.diagonal
+            && self.short == other.short
     }
 }

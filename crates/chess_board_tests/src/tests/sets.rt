@@ -1,5 +1,6 @@
-//! Sets of squares joined, compared, and made of files, ranks and colours.
-use chess_types::{Square, SquareSet};
+//! Sets of squares joined, compared, and made of files, ranks, colours and the men of a board.
+use super::boards::board;
+use chess_types::{Colour, Kind, Square, SquareSet};
 
 #[test]
 fn sets_are_joined(rt: HostRuntime) {
@@ -32,4 +33,13 @@ fn squares_have_colours(rt: HostRuntime) {
     assert!(rt; SquareSet::light().contains(Square::H1));
     assert!(rt; SquareSet::dark().contains(Square::A1));
     assert!(rt; (SquareSet::light() & SquareSet::rank(7)).len() == 4);
+}
+
+#[test]
+fn men_by_kind(rt: HostRuntime) {
+    let placement = board(&rt, "Ke1 ke8 Ra1 Rh1 ra8 Pa2 nb8");
+    let rooks = placement.of_kind(Colour::White, Kind::Rook);
+    assert!(rt; rooks == (SquareSet::single(Square::A1) | SquareSet::single(Square::H1)));
+    assert!(rt; placement.of_kind(Colour::Black, Kind::Knight) == SquareSet::single(Square::B8));
+    assert!(rt; placement.of_kind(Colour::Black, Kind::Pawn).is_empty());
 }

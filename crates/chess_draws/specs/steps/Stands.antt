@@ -9,16 +9,15 @@
 use Rattle.std.specs.Prelude.{ℕ, ◌≡◌, ◌≢◌, ◌⊎◌, Bool, true, false, ◌&&◌, ◌||◌, Option, Some, None}
 use Rattle.std.specs.Ordering.{nat_cmp}
 use Rattle.std.specs.FinSet.{FinSet, contains}
-use Rattle.std.specs.List.{list_all}
 use Rattle.chess_types.specs.declared.board.man.Man.{Man}
 use Rattle.chess_types.specs.declared.board.man.Kind.{Kind}
 use Rattle.chess_types.specs.declared.board.man.Kind.TheVariants.{Pawn, Knight}
 use Rattle.chess_types.specs.declared.board.man.Colour.TheVariants.{White, Black}
-use Rattle.chess_types.specs.board.Squares.{squares}
 use Rattle.chess_types.specs.board.Board.{Look}
 use Rattle.chess_types.specs.board.Men.{same_colour, is_of, is_pawn, is_king}
 use Rattle.chess_types.specs.board.Position.{State, look}
-use Rattle.chess_types.specs.board.Repetition.{same_bool, same_rights, same_target, counting_target}
+use Rattle.chess_types.specs.board.Sets.{same_each}
+use Rattle.chess_types.specs.board.Repetition.{same_rights, same_target, counting_target}
 use Rattle.chess_types.specs.steps.KeptSets.{Gathers, is_straight, holds_diagonal}
 use Rattle.chess_draws.specs.declared.men.Men.{Men}
 use Rattle.chess_draws.specs.declared.stand.Stand.{Stand}
@@ -63,14 +62,10 @@ pub record IsStandOf (stand : Stand) (p : State) : Type 0 where
   pub rights : stand.rights ≡ p.rights
   pub target : stand.target ≡ counting_target p
 
--- two sets hold the same squares
-unfoldable pub same_set : FinSet nat_cmp → FinSet nat_cmp → Bool
-same_set a b = list_all (λ s. same_bool (contains a s) (contains b s)) squares
-
 unfoldable pub same_men : Men → Men → Bool
 same_men m n =
-    same_set m.white n.white && same_set m.black n.black && same_set m.straight n.straight && same_set m.diagonal n.diagonal
-    && same_set m.short n.short
+    same_each m.white n.white && same_each m.black n.black && same_each m.straight n.straight && same_each m.diagonal n.diagonal
+    && same_each m.short n.short
 
 -- by `is_same`, of positions (9.2.3)
 unfoldable pub same_ply : Stand → Ply → Bool

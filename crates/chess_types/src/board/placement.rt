@@ -3,7 +3,7 @@ ghost use Rattle.std.specs.FinMap as map;
 ghost use Rattle.chess_types.specs.board.Cells.{board_of};
 ghost use Rattle.std.specs.Prelude.{is_some};
 ghost use Rattle.chess_types.specs.board.Board.{man_at};
-ghost use Rattle.chess_types.specs.board.Men.{men_of, is_of, is_king_of};
+ghost use Rattle.chess_types.specs.board.Men.{men_of, is_of, is_king_of, is_man};
 ghost use Rattle.chess_types.specs.steps.KeptSets.{Gathers, holds_straight, holds_diagonal};
 ghost use Rattle.chess_types.specs.declared.board.man.Colour.{Colour};
 ghost use Rattle.std.specs.Cmp.{partial_equiv_from_equiv};
@@ -11,8 +11,9 @@ ghost use Rattle.chess_types.specs.board.Repetition.{same_man};
 ghost use Rattle.chess_types.specs.board.Equality.{same_board};
 ghost use Rattle.chess_types.specs.steps.SameLaws.{same_board-laws};
 
+use super::cell::is_man;
 use super::kept::Kept;
-use super::man::{Colour, Man};
+use super::man::{Colour, Kind, Man};
 use super::square::Square;
 use super::square_set::SquareSet;
 use std::alloc::AllocError;
@@ -175,6 +176,18 @@ impl Placement {
         ensures { Gathers result (is_king_of colour) (man_at self.now) }
     {
         self.kept.kings.intersection(self.of(colour))
+    }
+
+    /// The squares on which a man of the colour and kind stands: the white rooks, for one.
+    pub fn of_kind(&self, colour: Colour, kind: Kind) -> SquareSet
+        ensures { Gathers result (λ there. is_man there colour kind) (man_at self.now) }
+    {
+        let mut found = SquareSet::empty();
+        for number in 0..64u8 {
+            let holds = is_man(self.cells[number as usize], colour, kind);
+            found.insert_if(Square::from_index(number), holds);
+        }
+        found
     }
 
     /// The squares on which a rook or a queen stands.

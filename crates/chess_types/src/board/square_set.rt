@@ -1,4 +1,5 @@
 ghost use Rattle.std.specs.Prelude.{◌≡◌, ◌==◌, ◌<◌, ◌≤◌, ◌&&◌, ℕ, true, false, not, filter, cond, count_by, nat_lt, IfSome, IfNone};
+ghost use Rattle.std.specs.List.{list_all};
 ghost use Rattle.std.specs.Iterator.{YieldsFirst, item_count};
 ghost use Rattle.std.specs.FinSet as set;
 ghost use Rattle.chess_types.specs.board.Squares.{squares, file_of, rank_of};
@@ -181,7 +182,8 @@ impl SquareSet {
     /// Whether the other set holds each square of this one.
     #[inline(always)]
     pub fn is_subset(self, other: SquareSet) -> bool
-        ensures { result ≡ set.is_subset self other }
+        ensures value { result ≡ set.is_subset self other }
+        ensures each { result ≡ list_all (set.contains other) (filter (set.contains self) squares) }
     {
         self.bits & !other.bits == 0
     }

@@ -2,7 +2,7 @@
 ghost use Rattle.std.specs.Prelude.{◌≡◌, ℕ, ◌&&◌, not, nat_lt};
 ghost use Rattle.std.specs.FinSet as set;
 ghost use Rattle.std.specs.Cmp.{partial_equiv_from_equiv};
-ghost use Rattle.chess_types.specs.board.Sets.{same_squares};
+ghost use Rattle.chess_types.specs.board.Sets.{same_squares, same_each};
 ghost use Rattle.chess_types.specs.steps.SetLaws.{same_squares-laws};
 
 use super::SquareSet;
@@ -64,7 +64,10 @@ impl PartialEq for SquareSet {
 
     /// Whether both sets have the same squares.
     #[inline(always)]
-    fn eq(&self, other: &SquareSet) -> bool {
+    fn eq(&self, other: &SquareSet) -> bool
+        ensures value { result ≡ same_squares self.now other.now }
+        ensures each { result ≡ same_each self.now other.now }
+    {
         self.bits == other.bits
     }
 }
