@@ -14,11 +14,7 @@ mod answer;
 mod leaves;
 mod lines;
 #[cfg(test)]
-mod live;
-#[cfg(test)]
 mod tests;
-#[cfg(test)]
-mod walks;
 
 use lines::answer_lines;
 use std::io;

@@ -1,7 +1,7 @@
 use Rattle.std.proofs.Common.{sym, subst}
 use Rattle.chess_types.specs.board.Position.{State}
 use Rattle.chess_play.specs.Records.{IsBefore}
-use Rattle.perft.proofs.live.moves_taken_back_in_turn.Goals as goal
+use Rattle.chess_board_tests.proofs.tests.live.moves_taken_back_in_turn.Goals as goal
 
 pub undo-requires : goal.undo-requires
 undo-requires g c =

@@ -1,6 +1,6 @@
 use Rattle.std.proofs.Common.{sym, subst}
 use Rattle.chess_play.specs.Records.{RecordParts, IsBefore}
-use Rattle.perft.proofs.live.there_and_back.Goals as goal
+use Rattle.chess_board_tests.proofs.tests.live.there_and_back.Goals as goal
 
 pub take_back-requires : goal.take_back-requires
 take_back-requires g c =

@@ -2,7 +2,7 @@
 ghost use Rattle.std.specs.Prelude.{◌≡◌};
 ghost use Rattle.chess_play.specs.Records.{IsBefore};
 
-use crate::walks::{PROMOTIONS, make_move};
+use super::walks::{PROMOTIONS, make_move};
 use chess_attack::Counts;
 use chess_eval::Sum;
 use chess_fen::read;
