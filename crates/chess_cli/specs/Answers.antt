@@ -38,6 +38,7 @@ use Rattle.chess_cli.specs.Numbers.{path_text}
 use Rattle.chess_cli.specs.Outcomes.{status_text, claims_text}
 use Rattle.chess_cli.specs.Requests.{Request, Blank, New, Set, Counts, Eval, Fen, Moves, Checks, Play, Back, Step, Start, End, Goto, Path, Promote, Delete, Comment, Nag, Count, Status, Claims, Claim, Best, Pgn, Unknown, Malformed, request}
 
+-- the answer where all is done and nothing was asked for
 abbrev pub ok : List ℕ
 ok = codes "ok\n"
 
@@ -67,6 +68,7 @@ abbrev pub ok_or_refused : {X : Type 0} → Result X Refusal → List ℕ
 ok_or_refused (Ok _) = ok
 ok_or_refused (Err refusal) = refused refusal
 
+-- the refusal for want of memory
 abbrev pub no_memory : List ℕ
 no_memory = refused Memory
 
@@ -88,6 +90,7 @@ pub data Effect : Type 0 where
 abbrev pub says_line : List ℕ → Effect
 says_line text = Says (text ++ 10 ∷ [])
 
+-- `set`: a tree from the position, or the FEN's first fault
 abbrev pub set_effect : Result State FenFault → Effect
 set_effect (Ok position) = Does (tree_from position)
 set_effect (Err fault) = Refuses (BadFen fault)
@@ -100,6 +103,7 @@ playing t m None =
     if nat_le 20000 (length t.path) then Refuses TooLong
     else (if nat_le 1000000 (moves_held t.tree.below) then Refuses Full else Does (added m t))
 
+-- a move is made: to the first child that has it, else to a new one
 abbrev pub move_effect : TreeParts → MoveParts → Effect
 move_effect t m = if is_legal (last (line_to t)) m then playing t m (find m (nodes_here t)) else Refuses Illegal
 
@@ -118,13 +122,16 @@ abbrev pub if_there : Bool → TreeParts → Effect
 if_there true new = Does new
 if_there false new = Refuses NoSuch
 
+-- `comment`: the text with single spaces between its words, which may have no right brace
 abbrev pub comment_effect : TreeParts → List ℕ → Effect
 comment_effect t text = if has_brace text then Refuses BadComment else Does (commented_here (normalised text) t)
 
+-- the draws that may be claimed, if the move is legal
 abbrev pub claimed : Option DrawClaims → Effect
 claimed None = Refuses Illegal
 claimed (Some claims) = says_line (claims_text claims)
 
+-- `claim`: those that may be claimed with the move that the text names
 abbrev pub claim_effect : Line → Result MoveParts SanFault → Effect
 claim_effect line (Ok m) = claimed (claims_with line m)
 claim_effect line (Err fault) = Refuses (san_refusal fault)
@@ -133,6 +140,7 @@ claim_effect line (Err fault) = Refuses (san_refusal fault)
 abbrev pub counts_of : State → Colour → List ℕ
 counts_of p colour = counts_text (count (look p) colour)
 
+-- the squares of the men that give check to the side to move
 abbrev pub checks_of : State → List ℕ
 checks_of p = list_text (map square_text (filter (checks_from (look p) p.side) squares))
 
@@ -183,9 +191,11 @@ left_by old (Says text) = old
 left_by old (Does new) = new
 left_by old (Refuses refusal) = old
 
+-- what a request is answered
 abbrev pub answer : TreeParts → Request → List ℕ
 answer t request = told (effect t request)
 
+-- the tree and its cursor after a request
 abbrev pub tree_after : TreeParts → Request → TreeParts
 tree_after t request = left_by t (effect t request)
 
@@ -223,9 +233,11 @@ TellsBy answers old request new =
     (answers (answer old request) × (new ≡ tree_after old request))
     ⊎ ((takes_memory request ≡ true) × IsGranted (effect old request) × answers no_memory × (new ≡ old))
 
+-- the text answers the request
 abbrev pub Tells : TreeParts → Request → List ℕ → TreeParts → Type 0
 Tells old request text new = TellsBy (λ answer. text ≡ answer) old request new
 
+-- the refusal of a line over the limit
 abbrev pub long_line : List ℕ
 long_line = refused LongLine
 
@@ -239,5 +251,6 @@ abbrev pub AnswersWithin : Bool → TreeParts → List ℕ → List ℕ → Tree
 AnswersWithin true old input text new = AnswersKept old input text new
 AnswersWithin false old input text new = (text ≡ long_line) × (new ≡ old)
 
+-- the text answers the line of the input
 abbrev pub Answers : TreeParts → List ℕ → List ℕ → TreeParts → Type 0
 Answers old input text new = AnswersWithin (nat_le (length input) line_limit) old input text new

@@ -16,10 +16,12 @@ use Rattle.chess_pgn.specs.Reading.{HasNoGame, HasNoGameYet, IsAtFront, IsWhite}
 use Rattle.chess_pgn.specs.Written.{game_text}
 use Rattle.chess_loop.specs.RunEnds.{Broken}
 
+-- the export forms of games, one after another
 abbrev pub games_text : List Game → List ℕ
 games_text [] = []
 games_text (game ∷ games) = game_text game ++ games_text games
 
+-- these games are at the start of the input, one after another, and the rest is left
 abbrev pub AreGames : List ℕ → List Game → List ℕ → Type 0
 AreGames input [] rest = input ≡ rest
 AreGames input (game ∷ games) rest =

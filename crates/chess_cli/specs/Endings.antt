@@ -18,6 +18,7 @@ use Rattle.chess_loop.specs.Runs.{AnyRest, Partly, Runs, Whole}
 use Rattle.chess_loop.specs.RunEnds.{EndsGood, EndsOver, EndsReadFault, EndsWriteFault, most_reads, never}
 use Rattle.chess_cli.specs.Sittings.{Answered, AnsweredInPart, beginning_with, has_ended}
 
+-- how the run over games ends, from how the loop ended
 abbrev pub ended_of : RunEnd → Ended
 ended_of loop.Good = Good
 ended_of loop.ReadFault = ReadFault

@@ -5,6 +5,7 @@ use Rattle.chess_items.specs.Faults.{number_of, name_of}
 use Rattle.chess_cli.specs.declared.ended.Ended.{Ended}
 use Rattle.chess_cli.specs.declared.ended.Ended.TheVariants.{Good, Input, ReadFault, WriteFault, Memory}
 
+-- the exit status
 abbrev pub status_of : Ended → ℕ
 status_of Good = 0
 status_of (Input fault) = 2

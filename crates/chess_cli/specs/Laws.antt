@@ -12,17 +12,22 @@ use Rattle.chess_pgn.specs.Written.{game_text}
 use Rattle.chess_cli.specs.Collections.{AreGames, games_text}
 use Rattle.chess_cli.specs.Numbers.{path_in, path_text}
 
+-- a path that is written is read as that path
 abbrev pub PathsAreReadBack : Type 0
 PathsAreReadBack = (path : List ℕ) → AllByRecursion (λ place. place < 1000000) path → path_in (path_text path) ≡ Some path
 
+-- a game with at most 128 variations within one another
 abbrev pub IsShallow : Game → Type 0
 IsShallow game = IsGame game × (nesting false game.tree.below ≤ 128)
 
+-- a game that is no larger than what the reader takes
 abbrev pub CanBeRead : Game → Type 0
 CanBeRead game = IsShallow game × (length (game_text game) ≤ 1048576)
 
+-- games that are written are read again as the same games
 abbrev pub WrittenAreRead : Type 0
 WrittenAreRead = (games : List Game) → AllByRecursion CanBeRead games → (rest : List ℕ) × IsWhite rest × AreGames (games_text games) games rest
 
+-- games that were read are games that can be written
 abbrev pub ReadAreGames : Type 0
 ReadAreGames = (input : List ℕ) (games : List Game) (rest : List ℕ) → AreGames input games rest → AllByRecursion IsShallow games

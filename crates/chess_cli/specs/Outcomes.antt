@@ -6,6 +6,7 @@ use Rattle.chess_types.specs.declared.board.outcome.Status.{Status}
 use Rattle.chess_types.specs.declared.board.outcome.Status.TheVariants.{Mate, Stalemate, Dead, Fivefold, Seventyfive, Play}
 use Rattle.chess_types.specs.declared.board.outcome.Claims.{Claims}
 
+-- the word of a status
 abbrev pub status_text : Status → List ℕ
 status_text Mate = codes "mate"
 status_text Stalemate = codes "stalemate"
@@ -21,5 +22,6 @@ claims_text_by true false = codes "threefold"
 claims_text_by false true = codes "fifty"
 claims_text_by true true = codes "threefold fifty"
 
+-- the words of the draws that may be claimed
 abbrev pub claims_text : Claims → List ℕ
 claims_text claims = claims_text_by claims.threefold claims.fifty

@@ -26,9 +26,11 @@ told Command = (6, codes "Command")
 told Argument = (7, codes "Argument")
 told LongLine = (8, codes "LongLine")
 
+-- a refusal's number
 abbrev pub number_of : Refusal → ℕ
 number_of refusal = (told refusal).0
 
+-- a refusal's name
 abbrev pub name_of : Refusal → List ℕ
 name_of refusal = (told refusal).1
 

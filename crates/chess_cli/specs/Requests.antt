@@ -6,6 +6,7 @@ use Rattle.chess_types.specs.declared.board.man.Colour.TheVariants.{White, Black
 use Rattle.chess_types.specs.bytes.Words.{words, skip_gaps, after_word, trimmed}
 use Rattle.chess_cli.specs.Numbers.{number_in, depth_in, path_in}
 
+-- what a line asks of the board
 pub data Request : Type 0 where
   -- nothing: the line has no words
   Blank : Request
@@ -96,9 +97,11 @@ abbrev pub written_by : {A : Type 0} → (A → Request) → Option A → Reques
 written_by request None = Malformed
 written_by request (Some value) = request value
 
+-- a request of one word more
 abbrev pub with_word : (List ℕ → Request) → List (List ℕ) → Request
 with_word request words = written_by request (only_word words)
 
+-- a request of the value that one word more writes
 abbrev pub with_value : {A : Type 0} → (List ℕ → Option A) → (A → Request) → List (List ℕ) → Request
 with_value value request words = written_by request (option_and_then value (only_word words))
 
@@ -140,6 +143,7 @@ with_rest word rest =
     else if bytes_eq word (codes "best") then with_value depth_in Best (words gaps rest)
     else Unknown
 
+-- the request of a word that is known, if nothing follows it; else another
 abbrev pub asked_by : Option Request → List (List ℕ) → Request → Request
 asked_by None others other = other
 asked_by (Some request) others other = alone request others
@@ -149,5 +153,6 @@ abbrev pub asked : List ℕ → List (List ℕ) → Request
 asked line [] = Blank
 asked line (word ∷ others) = asked_by (alone_named word) others (with_rest word (rest_of line))
 
+-- the request of a line, without the carriage return at its end
 abbrev pub request : List ℕ → Request
 request line = asked (without_return line) (words gaps (without_return line))

@@ -17,6 +17,7 @@ use Rattle.chess_uci.specs.Laws.{replies, after_events}
 use Rattle.chess_cli.specs.declared.sitting.Sitting.{Sitting}
 use Rattle.chess_loop.specs.InputLines.{line_limit, line_room}
 
+-- the texts of replies, each with a line feed
 abbrev pub reply_lines : List Reply → List ℕ
 reply_lines [] = []
 reply_lines (reply ∷ others) = (reply_text reply ++ 10 ∷ []) ++ reply_lines others
@@ -25,25 +26,31 @@ reply_lines (reply ∷ others) = (reply_text reply ++ 10 ∷ []) ++ reply_lines 
 abbrev pub wants_slices : Option Search → Bool
 wants_slices x = is_some x && not (is_infinite x && (is_waiting x || nat_le 5 (depth_done x)))
 
+-- a search runs that wants slices
 abbrev pub is_fed : State → Bool
 is_fed s = not s.ended && wants_slices s.search
 
+-- the clock is read once for each of these moments, in order
 abbrev pub Readings : {C : Type 0} → (C → ℕ → C → Type 0) → C → List ℕ → C → Type 0
 Readings reads c [] d = c ≡ d
 Readings {C} reads c (moment ∷ moments) d = (mid : C) × reads c moment mid × Readings reads mid moments d
 
+-- a slice, and the moment after it, for each moment
 abbrev pub slices_of : List ℕ → List Event
 slices_of [] = []
 slices_of (moment ∷ moments) = Slice ∷ Moment moment ∷ slices_of moments
 
+-- a line as events: the moment before it, the line, and slices until the search ends
 abbrev pub events_of : ℕ → Event → List ℕ → List Event
 events_of first event later = Moment first ∷ event ∷ slices_of later
 
+-- what is replied to each slice and its moment
 abbrev pub slice_parts : State → List ℕ → List (List ℕ)
 slice_parts s [] = []
 slice_parts s (moment ∷ moments) =
     reply_lines (replies s (Slice ∷ Moment moment ∷ [])) ∷ slice_parts (after_events s (Slice ∷ Moment moment ∷ [])) moments
 
+-- what is replied to a line, and to each slice after it
 abbrev pub parts_of : State → ℕ → Event → List ℕ → List (List ℕ)
 parts_of s first event later =
     reply_lines (replies s (Moment first ∷ event ∷ [])) ∷ slice_parts (after_events s (Moment first ∷ event ∷ [])) later
@@ -57,6 +64,7 @@ WasFed s (moment ∷ moments) = (is_fed s ≡ true) × WasFed (after_events s (S
 abbrev pub IsLineEvent : List ℕ → Event → Type 0
 IsLineEvent input event = (event ≡ Line input) ⊎ ((event ≡ Starved input) × AsksForMemory (asked input))
 
+-- a line and some slices after it have been replied
 pub record AnsweredSoFar {C : Type 0} (reads : C → ℕ → C → Type 0) (s : State) (c : C) (input : List ℕ) (parts : List (List ℕ)) (t : State) (d : C) : Type 0 where
   pub first : ℕ
   pub event : Event
@@ -71,18 +79,22 @@ pub record AnsweredSoFar {C : Type 0} (reads : C → ℕ → C → Type 0) (s : 
 abbrev pub too_long_line : List ℕ
 too_long_line = codes "info string line too long\n"
 
+-- the reply for want of memory
 abbrev pub no_memory_line : List ℕ
 no_memory_line = codes "info string out of memory\n"
 
+-- how a line within the limit, or over it, is replied
 abbrev pub AnsweredWithin : {A C : Type 0} → (C → ℕ → C → Type 0) → Bool → Sitting A C → List ℕ → List (List ℕ) → Sitting A C → Type 0
 AnsweredWithin reads true old input parts new =
     (AnsweredSoFar reads old.session old.clock input parts new.session new.clock × (is_fed new.session ≡ false))
     ⊎ ((line_room < length input) × (parts ≡ no_memory_line ∷ []) × (new ≡ old))
 AnsweredWithin reads false old input parts new = (parts ≡ too_long_line ∷ []) × (new ≡ old)
 
+-- a line is replied whole, slices included
 abbrev pub Answered : {A C : Type 0} → (C → ℕ → C → Type 0) → Sitting A C → List ℕ → List (List ℕ) → Sitting A C → Type 0
 Answered reads old input parts new = (old.session.ended ≡ false) × AnsweredWithin reads (nat_le (length input) line_limit) old input parts new
 
+-- a line is replied up to some slice, where a write failed
 abbrev pub AnsweredInPart : {A C : Type 0} → (C → ℕ → C → Type 0) → Sitting A C → List ℕ → List (List ℕ) → Sitting A C → Type 0
 AnsweredInPart reads old input parts new =
     (old.session.ended ≡ false) × (length input ≤ line_limit) × AnsweredSoFar reads old.session old.clock input parts new.session new.clock

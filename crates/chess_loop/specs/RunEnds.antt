@@ -20,13 +20,16 @@ use Rattle.chess_loop.specs.InputLines.{lines_of, ended_lines, last_line, unfini
 abbrev pub most_reads : ℕ
 most_reads = 1099511627776
 
+-- no state ends the run
 abbrev pub never : {S : Type 0} → S → Bool
 never state = false
 
+-- the first lines of all
 pub record IsFront (lines all : List (List ℕ)) : Type 0 where
   pub others : List (List ℕ)
   pub whole : lines ++ others ≡ all
 
+-- the lines that were answered before a call failed: some of those that had ended, or at the end the last one
 abbrev pub Awaited : {R : Type 0} → (R → Type 0) → List ℕ → List ℕ → List (List ℕ) → R → Type 0
 Awaited ended begun piece lines r = IsFront lines (ended_lines begun piece) ⊎ ((piece ≡ []) × (lines ≡ last_line begun) × ended r)
 

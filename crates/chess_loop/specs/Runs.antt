@@ -16,9 +16,11 @@ Runs step old [] text new = (text ≡ []) × (new ≡ old)
 Runs {S} step old (line ∷ lines) text new =
     (answer : List ℕ) × (others : List ℕ) × (mid : S) × step old line answer mid × Runs step mid lines others new × (text ≡ answer ++ others)
 
+-- a line is answered in one text
 abbrev pub InOne : {S : Type 0} → (S → List ℕ → List ℕ → S → Type 0) → S → List ℕ → List (List ℕ) → S → Type 0
 InOne step old line parts new = (text : List ℕ) × step old line text new × (parts ≡ text ∷ [])
 
+-- the text is all parts of the answer to a line
 abbrev pub Whole : {S : Type 0} → (S → List ℕ → List (List ℕ) → S → Type 0) → S → List ℕ → List ℕ → S → Type 0
 Whole step old line text new = (parts : List (List ℕ)) × step old line parts new × (text ≡ joined parts)
 
@@ -32,9 +34,11 @@ abbrev pub unwritten : ℕ → List (List ℕ) → ℕ
 unwritten before [] = before
 unwritten before (part ∷ parts) = last_length (before + length part) parts
 
+-- a line is answered, and counted
 abbrev pub Counted : {S : Type 0} → (S → List ℕ → List (List ℕ) → S → Type 0) → S × ℕ → List ℕ → List ℕ → S × ℕ → Type 0
 Counted step old line text new = (parts : List (List ℕ)) × step old.0 line parts new.0 × (text ≡ joined parts) × (new.1 ≡ unwritten old.1 parts)
 
+-- lines are answered, whatever bytes follow them
 abbrev pub AnyRest : {S : Type 0} → (S → List (List ℕ) → List ℕ → S → Type 0) → S → List (List ℕ) → List ℕ → List ℕ → S → Type 0
 AnyRest runs old lines text rest new = runs old lines text new
 
@@ -50,6 +54,7 @@ pub record BrokenOff {S : Type 0} (step cut : S → List ℕ → List (List ℕ)
   pub lines_are : lines ≡ done ++ line ∷ []
   pub text_is : text ≡ answers ++ begun
 
+-- of the last of these lines the answer may be broken off
 abbrev pub Partly : {S : Type 0} → (S → List ℕ → List (List ℕ) → S → Type 0) → (S → List ℕ → List (List ℕ) → S → Type 0) → S → List (List ℕ) → List ℕ → List ℕ → S → Type 0
 Partly step cut old lines text rest new =
     (most : ℕ) × (length rest ≤ most) × (Runs (Counted step) (old, 0) lines text (new, most) ⊎ BrokenOff step cut old lines text (new, most))

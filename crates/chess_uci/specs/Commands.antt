@@ -13,6 +13,7 @@ use Rattle.chess_types.specs.bytes.Words.{words}
 abbrev pub gaps : List ℕ
 gaps = 9 ∷ 10 ∷ 11 ∷ 12 ∷ 13 ∷ 32 ∷ []
 
+-- what a line asks of the engine
 pub data Command : Type 0 where
   -- nothing: `debug`, `register`, `ponderhit`, or a line without a command
   Idle : Command
@@ -30,9 +31,11 @@ pub data Command : Type 0 where
   -- an option, by the words after `setoption`
   SetOption : List (List ℕ) → Command
 
+-- commands that ask for nothing here
 abbrev pub is_idle : List ℕ → Bool
 is_idle word = bytes_eq word (codes "debug") || bytes_eq word (codes "register") || bytes_eq word (codes "ponderhit")
 
+-- the command of a first word and the words after it
 abbrev pub named : List ℕ → List (List ℕ) → Option Command
 named word others =
     if bytes_eq word (codes "uci") then Some Uci
@@ -51,6 +54,7 @@ abbrev pub command : List (List ℕ) → Command
 command [] = Idle
 command (word ∷ others) = unwrap_or (named word others) (command others)
 
+-- the command of a line
 abbrev pub asked : List ℕ → Command
 asked line = command (words gaps line)
 
@@ -71,6 +75,7 @@ without_memory (SetOption words) = SetOption words
 abbrev pub same_word : List ℕ → List ℕ → Bool
 same_word a b = bytes_eq (map to_ascii_lowercase a) (map to_ascii_lowercase b)
 
+-- `true` or `false`, in any case of letters
 abbrev pub truth_in : List ℕ → Option Bool
 truth_in word = if same_word word (codes "true") then Some true else if same_word word (codes "false") then Some false else None
 

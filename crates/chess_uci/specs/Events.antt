@@ -10,17 +10,21 @@ use Rattle.chess_uci.specs.declared.event.Event.TheVariants.{Line as LineCode, S
 use Rattle.chess_uci.specs.Commands.{asked}
 use Rattle.chess_uci.specs.Machine.{State, Step, Event, Line, Slice, Moment, Starved, AsksForMemory, step}
 
+-- the event that the code passes
 abbrev pub event_of : EventCode → Event
 event_of (LineCode line) = Line line.now
 event_of SliceCode = Slice
 event_of (MomentCode moment) = Moment moment
 
+-- these replies, and this state afterwards
 abbrev pub Does : Step → List Reply → State → Type 0
 Does t replies new = (replies ≡ t.0) × (new ≡ t.1)
 
+-- the step of a line for which a growth was refused: only of one that asks for memory
 abbrev pub Starves : State → EventCode → List Reply → State → Type 0
 Starves old (LineCode line) replies new = AsksForMemory (asked line.now) × Does (step old (Starved line.now)) replies new
 Starves old _ replies new = ⊥
 
+-- what an event leads to: its step, or that of a refused growth
 abbrev pub Follows : State → EventCode → List Reply → State → Type 0
 Follows old event replies new = Does (step old (event_of event)) replies new ⊎ Starves old event replies new

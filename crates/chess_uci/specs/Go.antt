@@ -19,6 +19,7 @@ use Rattle.chess_uci.specs.declared.fields.Fields.{Fields}
 abbrev pub is_ignored : List ℕ → Bool
 is_ignored word = bytes_eq word (codes "movestogo") || bytes_eq word (codes "nodes") || bytes_eq word (codes "mate")
 
+-- the name of a field of `go`
 abbrev pub name_of : List ℕ → Option Name
 name_of word =
     if bytes_eq word (codes "depth") then Some Depth
@@ -30,9 +31,11 @@ name_of word =
     else if is_ignored word then Some Ignored
     else None
 
+-- the word `infinite`
 abbrev pub is_infinite : List ℕ → Bool
 is_infinite word = bytes_eq word (codes "infinite")
 
+-- the word `searchmoves`
 abbrev pub is_searchmoves : List ℕ → Bool
 is_searchmoves word = bytes_eq word (codes "searchmoves")
 
@@ -40,6 +43,7 @@ is_searchmoves word = bytes_eq word (codes "searchmoves")
 abbrev pub is_name : List ℕ → Bool
 is_name word = is_some (name_of word) || is_infinite word || bytes_eq word (codes "ponder") || is_searchmoves word
 
+-- the number with one decimal digit more
 abbrev pub with_digit : ℕ → ℕ → ℕ
 with_digit n digit = n * 10 + (digit - 48)
 
@@ -53,6 +57,7 @@ abbrev pub number : List ℕ → Option ℕ
 number [] = None
 number (b ∷ bs) = if b == 45 then option_map (λ _. 0) (digits bs) else digits (b ∷ bs)
 
+-- a `go` without fields
 abbrev pub no_fields : Fields
 no_fields = record { depth = None; movetime = None; white_time = None; black_time = None; white_increment = None; black_increment = None; infinite = false }
 
@@ -66,6 +71,7 @@ with_number f WhiteIncrement n = record f { white_increment = Some n }
 with_number f BlackIncrement n = record f { black_increment = Some n }
 with_number f Ignored n = f
 
+-- the fields with a word that is no name of a number
 abbrev pub fields_with_word : Fields → List ℕ → Fields
 fields_with_word f word = if is_infinite word then record f { infinite = true } else f
 
@@ -84,6 +90,7 @@ abbrev pub read_as : Fields → List ℕ → Option (Name × ℕ) → Reading
 read_as f word (Some gift) = record { fields = with_number f gift.0 gift.1; wanted = None }
 read_as f word None = record { fields = fields_with_word f word; wanted = name_of word }
 
+-- what has been read, with the next word
 abbrev pub read_word : Reading → List ℕ → Reading
 read_word r word = read_as r.fields word (given r.wanted word)
 
@@ -101,6 +108,7 @@ abbrev pub is_listed : List ℕ → List (List ℕ) → Bool
 is_listed text [] = false
 is_listed text (word ∷ words) = if is_name word then false else bytes_eq word text || is_listed text words
 
+-- the text is one of the words after `searchmoves`
 abbrev pub is_named : List (List ℕ) → List ℕ → Bool
 is_named words text = is_listed text (behind [] words)
 
@@ -109,6 +117,7 @@ abbrev pub time_of : Fields → Colour → Option ℕ
 time_of f White = f.white_time
 time_of f Black = f.black_time
 
+-- the increment of a side, 0 where none is given
 abbrev pub increment_of : Fields → Colour → ℕ
 increment_of f White = unwrap_or f.white_increment 0
 increment_of f Black = unwrap_or f.black_increment 0
@@ -117,6 +126,7 @@ increment_of f Black = unwrap_or f.black_increment 0
 abbrev pub share : ℕ → ℕ → ℕ
 share time increment = min (time / 20 + increment / 2) (max (time - 50) 1)
 
+-- a time that is given, else a share of the clock
 abbrev pub or_share : Option ℕ → Option ℕ → ℕ → Option ℕ
 or_share (Some n) time increment = Some n
 or_share None time increment = option_map (λ t. share t increment) time
@@ -125,6 +135,7 @@ or_share None time increment = option_map (λ t. share t increment) time
 abbrev pub budget : Fields → Colour → Option ℕ
 budget f side = if f.infinite then None else or_share f.movetime (time_of f side) (increment_of f side)
 
+-- the depth that is given, from 1 to 16; else 16 where the search ends by time or a stop, and 4 where by neither
 abbrev pub depth_or : Option ℕ → Bool → ℕ
 depth_or (Some depth) long = min (max depth 1) 16
 depth_or None long = if long then 16 else 4

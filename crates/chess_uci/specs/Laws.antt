@@ -31,31 +31,38 @@ abbrev pub replies : State → List Event → List Reply
 replies s [] = []
 replies s (event ∷ events) = (step s event).0 ++ replies (step s event).1 events
 
+-- 1 where it holds, else 0
 abbrev pub one : Bool → ℕ
 one true = 1
 one false = 0
 
+-- a reply `bestmove`
 abbrev pub is_best_move : Reply → Bool
 is_best_move (BestMove m) = true
 is_best_move _ = false
 
+-- how many replies are `bestmove`
 abbrev pub best_moves : List Reply → ℕ
 best_moves rs = count_by is_best_move rs
 
+-- a command `go`
 abbrev pub is_go : Command → Bool
 is_go (Go words) = true
 is_go _ = false
 
+-- a command `quit`
 abbrev pub is_quit : Command → Bool
 is_quit Quit = true
 is_quit _ = false
 
+-- the event is a line that says `go`
 abbrev pub says_go : Event → Bool
 says_go (Line bytes) = is_go (asked bytes)
 says_go (Starved bytes) = is_go (without_memory (asked bytes))
 says_go Slice = false
 says_go (Moment moment) = false
 
+-- the event is a line that says `quit`
 abbrev pub says_quit : Event → Bool
 says_quit (Line bytes) = is_quit (asked bytes)
 says_quit (Starved bytes) = is_quit (without_memory (asked bytes))
@@ -93,6 +100,7 @@ abbrev pub by_depth : Option Search → Bool
 by_depth None = false
 by_depth (Some x) = x.searched + 1 == length x.roots && x.depth == x.last && not x.infinite
 
+-- a search whose time is over at this moment
 abbrev pub by_time : Option Search → ℕ → Bool
 by_time None moment = false
 by_time (Some x) moment = is_reached x.end moment
@@ -102,14 +110,17 @@ abbrev pub at_once : List MoveParts → Bool → Bool
 at_once [] infinite = not infinite
 at_once (m ∷ ms) infinite = false
 
+-- a `go` that is answered at once: no legal move, and no waiting for `stop`
 abbrev pub by_command : GameLine → Command → Bool
 by_command l (Go words) = at_once (legal_moves (last l)) (fields words).infinite
 by_command l _ = false
 
+-- a command `stop`
 abbrev pub is_stop : Command → Bool
 is_stop Stop = true
 is_stop _ = false
 
+-- a line that brings a `bestmove`: a `go` that is answered at once, or `stop` while a search runs
 abbrev pub by_line : GameLine → Option Search → Command → Bool
 by_line l None command = by_command l command
 by_line l (Some x) command = is_stop command

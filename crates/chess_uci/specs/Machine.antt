@@ -24,6 +24,7 @@ use Rattle.chess_uci.specs.Commands.{Command, Idle, Uci, IsReady, NewGame, Posit
 use Rattle.chess_uci.specs.Go.{fields, is_named, budget, last_depth}
 use Rattle.chess_uci.specs.Placing.{Grows, start_line, placed}
 
+-- what happens to a session
 pub data Event : Type 0 where
   Line : List ℕ → Event
   -- a line for which a growth of memory is refused
@@ -31,6 +32,7 @@ pub data Event : Type 0 where
   Slice : Event
   Moment : ℕ → Event
 
+-- only a `position` asks for memory, and only where it has a FEN or a move to add
 abbrev pub AsksForMemory : Command → Type 0
 AsksForMemory (Position words) = Grows words
 AsksForMemory _ = ⊥
@@ -54,6 +56,7 @@ pub record Search : Type 0 where
   pub done : ℕ
   pub completed : Option (MoveParts × ℤ)
 
+-- what a session keeps between events
 pub record State : Type 0 where
   pub line : GameLine
   -- the greatest moment seen
@@ -64,6 +67,7 @@ pub record State : Type 0 where
   pub claims : Bool
   pub search : Option Search
 
+-- a session at its beginning: the start position, no search
 abbrev pub beginning : State
 beginning = record { line = start_line; moment = 0; ended = false; claims = false; search = None }
 
@@ -71,6 +75,7 @@ beginning = record { line = start_line; moment = 0; ended = false; claims = fals
 abbrev pub Step : Type 0
 Step = List Reply × State
 
+-- these moves, or all legal ones where there are none
 abbrev pub or_all : List MoveParts → List MoveParts → List MoveParts
 or_all [] legal = legal
 or_all (m ∷ ms) legal = m ∷ ms
@@ -79,6 +84,7 @@ or_all (m ∷ ms) legal = m ∷ ms
 abbrev pub roots_of : GameLine → List (List ℕ) → List MoveParts
 roots_of line words = or_all (filter (λ m. is_named words (move_text m)) (legal_moves (last line))) (legal_moves (last line))
 
+-- the search that a `go` begins
 abbrev pub begun : State → List (List ℕ) → Search
 begun s words = record {
   claims = s.claims;
@@ -98,9 +104,11 @@ go_among [] false search s = (BestMove None ∷ [], s)
 go_among [] true search s = ([], record s { search = Some search })
 go_among (m ∷ ms) infinite search s = ([], record s { search = Some search })
 
+-- a `go` while no search runs
 abbrev pub go : State → List (List ℕ) → Step
 go s words = go_among (legal_moves (last s.line)) (fields words).infinite (begun s words) s
 
+-- the first of the moves that a search is to choose among
 abbrev pub first_root : List MoveParts → Option MoveParts
 first_root [] = None
 first_root (m ∷ ms) = Some m
@@ -114,23 +122,29 @@ chosen None roots = first_root roots
 abbrev pub Turn : Type 0
 Turn = List Reply × Option Search
 
+-- the replies and the search of a turn, in the state
 abbrev pub turned : Turn → State → Step
 turned t s = (t.0, record s { search = t.1 })
 
+-- the search ends with its `bestmove`
 abbrev pub ended_with : Option (MoveParts × ℤ) → List MoveParts → Turn
 ended_with completed roots = (BestMove (chosen completed roots) ∷ [], None)
 
+-- a `position`: its line, or the reply that it is refused
 abbrev pub placed_at : Option GameLine → State → Step
 placed_at None s = (Refused ∷ [], s)
 placed_at (Some line) s = ([], record s { line = line })
 
+-- whether draws that may be claimed count as draws
 abbrev pub set_claims : Option Bool → State → Step
 set_claims None s = ([], s)
 set_claims (Some claims) s = ([], record s { claims = claims })
 
+-- no search, and nothing more is replied
 abbrev pub quit : State → Step
 quit s = ([], record s { ended = true; search = None })
 
+-- what `uci` is replied
 abbrev pub introduction : List Reply
 introduction = Name ∷ Author ∷ ClaimsOption ∷ UciOk ∷ []
 
@@ -160,6 +174,7 @@ busy_command x s Stop = turned (ended_with x.completed x.roots) s
 busy_command x s Quit = quit s
 busy_command x s (SetOption words) = (Busy ∷ [], s)
 
+-- what a command does
 abbrev pub line_step : State → Option Search → Command → Step
 line_step s None command = idle_command s command
 line_step s (Some x) command = busy_command x s command
@@ -185,17 +200,21 @@ abbrev pub slice_if : GameLine → Bool → Search → Turn
 slice_if line false x = ([], Some x)
 slice_if line true x = sliced line (x.searched + 1 == length x.roots) (record x { searched = x.searched + 1 })
 
+-- one more root is searched, if one is left
 abbrev pub slice : GameLine → Search → Turn
 slice line x = slice_if line (nat_lt x.searched (length x.roots)) x
 
+-- a slice of the search, if one runs
 abbrev pub slice_step : Option Search → State → Step
 slice_step None s = ([], s)
 slice_step (Some x) s = turned (slice s.line x) s
 
+-- a moment that is not before the end, if there is one
 abbrev pub is_reached : Option ℕ → ℕ → Bool
 is_reached None moment = false
 is_reached (Some end) moment = nat_le end moment
 
+-- the search ends where its time is over
 abbrev pub end_if : Bool → Search → Turn
 end_if false x = ([], Some x)
 end_if true x = ended_with x.completed x.roots
@@ -205,12 +224,14 @@ abbrev pub moment_step : Option Search → State → Step
 moment_step None s = ([], s)
 moment_step (Some x) s = turned (end_if (is_reached x.end s.moment) x) s
 
+-- what an event does to a session that has not ended
 abbrev pub live_step : State → Event → Step
 live_step s (Line bytes) = line_step s s.search (asked bytes)
 live_step s (Starved bytes) = line_step s s.search (without_memory (asked bytes))
 live_step s Slice = slice_step s.search s
 live_step s (Moment moment) = moment_step s.search (record s { moment = max s.moment moment })
 
+-- after `quit` nothing is replied
 abbrev pub step_if : Bool → State → Event → Step
 step_if true s event = ([], s)
 step_if false s event = live_step s event
@@ -239,11 +260,13 @@ abbrev pub so_far : GameLine → Option Search → Option (MoveParts × ℤ)
 so_far line None = None
 so_far line (Some x) = best x.claims x.depth line (take x.searched x.roots)
 
+-- what holds of a search while it runs
 pub record IsRunning (x : Search) : Type 0 where
   pub ahead : x.depth ≤ x.last
   pub shallow : x.last ≤ 16
   pub waits : length x.roots ≤ x.searched → x.infinite ≡ true
 
+-- a search, if one runs, is within its depths
 abbrev pub IsAhead : Option Search → Type 0
 IsAhead None = ⊤
 IsAhead (Some x) = IsRunning x

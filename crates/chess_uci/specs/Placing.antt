@@ -20,9 +20,11 @@ use Rattle.chess_fen.specs.Reading.{reading}
 abbrev pub from_position : State → Line
 from_position p = record { start = p; moves = [] }
 
+-- the line of the start position without moves
 abbrev pub start_line : Line
 start_line = from_position start
 
+-- the word `moves`
 abbrev pub is_moves : List ℕ → Bool
 is_moves word = bytes_eq word (codes "moves")
 
@@ -31,6 +33,7 @@ abbrev pub before_moves : List (List ℕ) → List (List ℕ)
 before_moves [] = []
 before_moves (word ∷ words) = if is_moves word then [] else word ∷ before_moves words
 
+-- the words after the first `moves`
 abbrev pub behind_moves : List (List ℕ) → List (List ℕ)
 behind_moves [] = []
 behind_moves (word ∷ words) = if is_moves word then words else behind_moves words
@@ -57,6 +60,7 @@ begun_by (word ∷ words) =
     else if bytes_eq word (codes "fen") then if_read (reading (spaced words))
     else None
 
+-- the legal move that a text in long algebraic notation names
 abbrev pub named_move : Line → List ℕ → Option MoveParts
 named_move line word = find (λ m. bytes_eq word (move_text m)) (legal_moves (last line))
 
@@ -65,6 +69,7 @@ abbrev pub line_with_move : Line → Option MoveParts → Option Line
 line_with_move line None = None
 line_with_move line (Some m) = if nat_le 20000 (length line.moves) then None else Some (extended line m)
 
+-- the line with the move of one word more, if the word names one
 abbrev pub line_with_word : Option Line → List ℕ → Option Line
 line_with_word None word = None
 line_with_word (Some line) word = line_with_move line (named_move line word)
@@ -73,6 +78,7 @@ line_with_word (Some line) word = line_with_move line (named_move line word)
 abbrev pub line_played : Option Line → List (List ℕ) → Option Line
 line_played line words = fold line_with_word line words
 
+-- the line of a `position`, if its words give one
 abbrev pub placed : List (List ℕ) → Option Line
 placed words = line_played (begun_by (before_moves words)) (behind_moves words)
 
@@ -89,5 +95,6 @@ pub record AddsMove (begun : Option Line) (moves : List (List ℕ)) : Type 0 whe
   pub whole : moves ≡ done ++ word ∷ others
   pub legal : is_some (line_played begun (done ++ word ∷ [])) ≡ true
 
+-- a position that takes memory: it has a FEN, or moves to add
 abbrev pub Grows : List (List ℕ) → Type 0
 Grows words = (names_fen (before_moves words) ≡ true) ⊎ AddsMove (begun_by (before_moves words)) (behind_moves words)

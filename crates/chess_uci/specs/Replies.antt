@@ -12,6 +12,7 @@ abbrev pub move_or_zeros : Option MoveParts → List ℕ
 move_or_zeros None = codes "0000"
 move_or_zeros (Some m) = move_text m
 
+-- the text of a reply, without its line feed
 unfoldable pub reply_text : Reply → List ℕ
 reply_text Name = codes "id name chess_uci 1"
 reply_text Author = codes "id author chess_uci project"

@@ -16,6 +16,7 @@ use Rattle.chess_fen.specs.Faults.{number_of, name_of}
 use Rattle.chess_fen.specs.Reading.{reading}
 use Rattle.perft.specs.Leaves.{leaves_of}
 
+-- the bytes that separate words
 abbrev pub gaps : List ℕ
 gaps = 32 ∷ 9 ∷ 13 ∷ []
 
@@ -23,13 +24,16 @@ gaps = 32 ∷ 9 ∷ 13 ∷ []
 unfoldable pub depth_in : List ℕ → Option ℕ
 depth_in word = find (λ depth. bytes_eq (decimal depth) word) (range_with_len 0 17)
 
+-- the answer to a line that asks for no count
 abbrev pub fault_text : ℕ → List ℕ → List ℕ
 fault_text number name = codes "fault " ++ decimal number ++ codes " " ++ name
 
+-- the number of leaves, at most 2^64 - 1; or the FEN's fault
 abbrev pub count_text : ℕ → Result State FenFault → List ℕ
 count_text depth (Ok p) = decimal (min (leaves_of depth p) (2 ^ 64 - 1))
 count_text depth (Err fault) = fault_text (number_of fault) (name_of fault)
 
+-- the answer for a depth and a FEN
 abbrev pub answer_for : Option ℕ → List ℕ → List ℕ
 answer_for None fen = codes "fault Depth"
 answer_for (Some depth) fen = count_text depth (reading fen)
@@ -43,6 +47,7 @@ abbrev pub answer_to : List (List ℕ) → List ℕ → List ℕ
 answer_to [] fen = codes "fault Depth"
 answer_to (word ∷ _) fen = answer_for (depth_in word) fen
 
+-- the word `full`
 abbrev pub is_full : List ℕ → Bool
 is_full word = bytes_eq word (codes "full")
 
@@ -54,5 +59,6 @@ answer_by (word ∷ more) line =
     then answer_to (words gaps (behind line)) (trimmed gaps (behind (behind line)))
     else answer_to (word ∷ more) (trimmed gaps (behind line))
 
+-- the answer to a line; nothing for a line without words
 unfoldable pub answer : List ℕ → List ℕ
 answer line = answer_by (words gaps line) line

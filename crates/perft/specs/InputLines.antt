@@ -14,6 +14,7 @@ lines_from begun (b ∷ bs) = if b == 10 then begun ∷ lines_from [] bs else li
 abbrev pub line_after : List ℕ → ℕ → List ℕ
 line_after begun b = if b == 10 then [] else begun ++ b ∷ []
 
+-- the lines of an input
 abbrev pub lines_of : List ℕ → List (List ℕ)
 lines_of bytes = lines_from [] bytes
 
@@ -26,6 +27,7 @@ abbrev pub ended_by_feed : List ℕ → List ℕ
 ended_by_feed [] = []
 ended_by_feed (b ∷ bs) = (b ∷ bs) ++ 10 ∷ []
 
+-- the answer to a line with its line feed; a line that is too long has its fault
 abbrev pub line_text : Option (List ℕ) → List ℕ
 line_text None = codes "fault LongLine" ++ 10 ∷ []
 line_text (Some line) = ended_by_feed (answer line)
@@ -34,9 +36,11 @@ line_text (Some line) = ended_by_feed (answer line)
 abbrev pub text_after : List ℕ → ℕ → List ℕ
 text_after begun b = if b == 10 then line_text (kept begun) else []
 
+-- the answers to lines, one after another
 abbrev pub texts : List (List ℕ) → List ℕ
 texts [] = []
 texts (line ∷ lines) = line_text (kept line) ++ texts lines
 
+-- what is written for an input
 abbrev pub answers : List ℕ → List ℕ
 answers bytes = texts (lines_of bytes)

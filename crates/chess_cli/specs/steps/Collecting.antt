@@ -25,6 +25,7 @@ module _ {W : Type 0} (takes : W → List ℕ → W → Type 0) (failed : W → 
   WritesOne text old new (Err WriteFault) = Broken takes failed old text new
   WritesOne text old new (Err Memory) = new ≡ old
 
+-- games read so far, and what was read of the source for them
 pub record Reads {R : Type 0} (gives : R → List ℕ → R → Type 0) (read_failed : R → Bool) (old new : AtHand R) (games : List Game) : Type 0 where
   pub bytes : List ℕ
   pub came : Came gives read_failed old bytes new

@@ -4,6 +4,7 @@ use Rattle.chess_cli.specs.declared.command.Command.TheVariants.{Blank, New, Set
 use Rattle.chess_cli.specs.Requests as asks
 use Rattle.chess_cli.specs.Numbers.{depth_in, path_in}
 
+-- the request that the code passes
 abbrev pub request_of : Command → asks.Request
 request_of Blank = asks.Blank
 request_of New = asks.New

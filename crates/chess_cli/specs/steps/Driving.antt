@@ -10,6 +10,7 @@ use Rattle.chess_cli.specs.declared.sitting.Sitting.{Sitting}
 use Rattle.chess_cli.specs.Sittings.{AnsweredSoFar, is_fed, reply_lines}
 use Rattle.chess_loop.specs.steps.Sending.{SendsParts}
 
+-- an event has been replied on the page
 abbrev pub Happened : State → Event → State → List ℕ → List ℕ → Type 0
 Happened s event t page page1 = (told : List Reply) × Follows s event told t × (page1 ≡ page ++ reply_lines told)
 

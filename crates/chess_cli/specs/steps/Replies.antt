@@ -15,6 +15,7 @@ use Rattle.chess_cli.specs.declared.refusal.Refusal.TheVariants.{Argument}
 use Rattle.chess_cli.specs.Numbers.{path_text}
 use Rattle.chess_cli.specs.Answers.{Effect, Refuses, best_text, if_there, no_memory, says_line}
 
+-- the answer is on the page, but for a path or a game, which may be long
 abbrev pub IsOnPage : Told → TreeParts → List ℕ → List ℕ → List ℕ → Type 0
 IsOnPage Whole t page page1 text = page1 ≡ page ++ text
 IsOnPage Path t page page1 text = (page1 ≡ page) × (path_text t.path ++ 10 ∷ [] ≡ text)
@@ -24,10 +25,12 @@ IsOnPage Game t page page1 text = (page1 ≡ page) × (game_text (untold t.tree)
 abbrev pub IsGameText : TreeParts → List ℕ → Type 0
 IsGameText t text = (text ≡ game_text (untold t.tree)) ⊎ (text ≡ no_memory)
 
+-- `goto`: to the node of the path, if there is one
 abbrev pub path_effect : TreeParts → Option (List ℕ) → Effect
 path_effect t None = Refuses Argument
 path_effect t (Some path) = if_there (has path t.tree.below) (at_path path t)
 
+-- `best`: the best move to that depth
 abbrev pub best_effect : TreeParts → Option ℕ → Effect
 best_effect t None = Refuses Argument
 best_effect t (Some depth) = says_line (best_text (best false depth (line_to t) (legal_moves (last (line_to t)))))

@@ -4,6 +4,7 @@ use Rattle.chess_loop.specs.InputLines.{line_limit, line_room}
 use Rattle.chess_loop.specs.declared.unfinished.Reading.{Reading}
 use Rattle.chess_loop.specs.declared.unfinished.Reading.TheVariants.{Whole, TooLong, NoMemory}
 
+-- how a line is read: whole, too long, or without memory to keep it
 abbrev pub ReadAs : List ℕ → Reading → Type 0
 ReadAs bytes (Whole kept) = (kept.now ≡ bytes) × (length bytes ≤ line_limit)
 ReadAs bytes TooLong = line_limit < length bytes

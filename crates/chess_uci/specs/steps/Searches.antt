@@ -10,6 +10,7 @@ use Rattle.chess_uci.specs.declared.search.Search.{Search as Code}
 use Rattle.chess_uci.specs.declared.search.Turn.{Turn as TurnCode}
 use Rattle.chess_uci.specs.Machine.{Search, Turn}
 
+-- the search that the code passes
 abbrev pub search_of : Code → Search
 search_of x = record {
   claims = x.slices.claims;
@@ -26,13 +27,16 @@ search_of x = record {
 abbrev pub seen : Option Code → Option Search
 seen x = option_map search_of x
 
+-- the search, unless it is over
 abbrev pub unless_over : Bool → Code → Option Search
 unless_over true x = None
 unless_over false x = Some (search_of x)
 
+-- the turn that the code passes
 abbrev pub turn_of : TurnCode → Code → Turn
 turn_of t x = (t.replies.items, unless_over t.over x)
 
+-- what holds of a search between slices
 pub record GoesOn (line : GameLine) (x : Code) : Type 0 where
   pub goes : GoesWith line x.slices
   pub shallow : x.last ≤ 16
@@ -40,10 +44,12 @@ pub record GoesOn (line : GameLine) (x : Code) : Type 0 where
   pub deep : 1 ≤ x.slices.depth
   pub waits : length x.slices.roots ≤ x.slices.searched → x.infinite ≡ true
 
+-- what holds of a search, if there is one
 abbrev pub IsGoing : GameLine → Option Code → Type 0
 IsGoing line None = ⊤
 IsGoing line (Some x) = GoesOn line x
 
+-- the search, if there is one, began no later than this
 abbrev pub HasStarted : ℕ → Option Code → Type 0
 HasStarted moment None = ⊤
 HasStarted moment (Some x) = x.begin ≤ moment

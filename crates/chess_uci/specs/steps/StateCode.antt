@@ -6,6 +6,7 @@ use Rattle.chess_types.specs.board.Lines.{Line}
 use Rattle.chess_types.specs.steps.LineCode.{coded_line, coded_move}
 use Rattle.chess_uci.specs.Machine.{Search, State}
 
+-- a search as a tuple, by which a proof distinguishes searches
 abbrev pub coded_search : Coded Search
 coded_search =
     code_by (((Bool × Bool) × (List MoveParts × Option ℕ)) × ((ℕ × ℕ) × ((ℕ × ℕ) × Option (MoveParts × ℤ))))
@@ -14,6 +15,7 @@ coded_search =
     (λ p. record { claims = p.0.0.0; infinite = p.0.0.1; roots = p.0.1.0; end = p.0.1.1; last = p.1.0.0; depth = p.1.0.1; searched = p.1.1.0.0; done = p.1.1.0.1; completed = p.1.1.1 })
     (λ _. refl)
 
+-- a state as a tuple, by which a proof distinguishes states
 abbrev pub coded_session : Coded State
 coded_session =
     code_by ((Line × ℕ) × ((Bool × Bool) × Option Search)) (coded× (coded× coded_line coded_ℕ) (coded× (coded× coded_bool coded_bool) (coded_option coded_search)))
