@@ -20,6 +20,7 @@ ok = 0
 abbrev pub empty_slot : ℕ
 empty_slot = 1
 
+-- there is no memory
 abbrev pub no_memory : ℕ
 no_memory = 2
 
@@ -47,10 +48,12 @@ refusal_code Command = 14
 refusal_code Argument = 9
 refusal_code LongLine = 15
 
+-- the status of a call that is done or refused
 abbrev pub ended_code : Result (Unit {0}) Refusal → ℕ
 ended_code (Ok _) = ok
 ended_code (Err refusal) = refusal_code refusal
 
+-- the number of a status
 abbrev pub outcome_code : Status → ℕ
 outcome_code Mate = 0
 outcome_code Stalemate = 1
@@ -59,5 +62,6 @@ outcome_code Fivefold = 3
 outcome_code Seventyfive = 4
 outcome_code Play = 5
 
+-- the draws that may be claimed, added up
 abbrev pub claims_code : Claims → ℕ
 claims_code claims = (if claims.threefold then 1 else 0) + (if claims.fifty then 2 else 0)

@@ -10,8 +10,10 @@ abbrev pub HandedIf : {X : Type 0} → Bool → List X → ℕ → List X → Li
 HandedIf true values code old new = (code ≡ ok) × (new ≡ values ++ drop (length values) old)
 HandedIf false values code old new = (code ≡ no_room) × (new ≡ old)
 
+-- the values are handed out, or only their number where there is too little room
 abbrev pub IsHanded : {X : Type 0} → List X → (code count : ℕ) → (old new : List X) → Type 0
 IsHanded values code count old new = (count ≡ length values) × HandedIf (nat_le (length values) (length old)) values code old new
 
+-- the same, or there is no memory
 abbrev pub IsToldBy : List ℕ → (code count count' : ℕ) → (old new : List ℕ) → Type 0
 IsToldBy text code count count' old new = IsHanded text code count' old new ⊎ ((code ≡ no_memory) × (count' ≡ count) × (new ≡ old))

@@ -7,6 +7,7 @@ use Rattle.chess_types.specs.declared.board.man.Kind.TheVariants.{Knight, Bishop
 use Rattle.chess_types.specs.board.MoveParts.{MoveParts}
 use Rattle.chess_c.specs.declared.moves.CMove.{CMove}
 
+-- the number of what a pawn becomes
 abbrev pub promotion_code : Option Kind → ℕ
 promotion_code (Some Knight) = 1
 promotion_code (Some Bishop) = 2
@@ -14,11 +15,13 @@ promotion_code (Some Rook) = 3
 promotion_code (Some Queen) = 4
 promotion_code _ = 0
 
+-- what a number says that a pawn becomes
 abbrev pub promotion_in : ℕ → Option (Option Kind)
 promotion_in code =
     if code == 0 then Some None else if code == 1 then Some (Some Knight) else if code == 2 then Some (Some Bishop) else if code == 3 then Some (Some Rook)
     else if code == 4 then Some (Some Queen) else None
 
+-- a move as C sees it
 abbrev pub shown : MoveParts → CMove
 shown m = record { from = m.from; to = m.to; promotion = promotion_code m.promo }
 
@@ -27,5 +30,6 @@ abbrev pub move_between : ℕ → ℕ → Option (Option Kind) → Option MovePa
 move_between from to None = None
 move_between from to (Some promo) = Some (record { from = from; to = to; promo = promo })
 
+-- the move that C means, if it is one
 abbrev pub move_in : CMove → Option MoveParts
 move_in m = if nat_lt m.from 64 && nat_lt m.to 64 then move_between m.from m.to (promotion_in m.promotion) else None

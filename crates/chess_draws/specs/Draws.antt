@@ -15,8 +15,10 @@ is_drawn_at p count = is_dead p || nat_le 5 count || nat_le 150 p.clock
 abbrev pub is_claimable_at : State → ℕ → Bool
 is_claimable_at p count = nat_le 3 count || nat_le 100 p.clock
 
+-- the game of the line is drawn
 unfoldable pub is_drawn : Line → Bool
 is_drawn line = is_drawn_at (last line) (repetitions line)
 
+-- a draw may be claimed
 unfoldable pub is_claimable : Line → Bool
 is_claimable line = is_claimable_at (last line) (repetitions line)

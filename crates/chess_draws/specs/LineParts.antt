@@ -9,6 +9,7 @@ use Rattle.std.specs.Coded.{Coded, code_by, coded×, coded_ℕ, coded_list}
 use Rattle.chess_types.specs.board.Lines.{Line, last}
 use Rattle.chess_types.specs.steps.LineCode.{coded_line}
 
+-- a line with the plies that are only looked at and the keys' words
 pub record LineParts : Type 0 where
   pub line : Line
   pub looked : ℕ
@@ -30,6 +31,7 @@ coded_parts =
 abbrev pub comparisons : Line → ℕ
 comparisons line = min (length line.moves) (last line).clock / 2
 
+-- nothing has changed but the number of positions compared
 pub record IsAsBefore (old new : LineParts) : Type 0 where
   pub line : new.line ≡ old.line
   pub looked : new.looked ≡ old.looked

@@ -15,16 +15,20 @@ use Rattle.chess_draws.specs.LineParts.{LineParts}
 abbrev pub push_answer : Line → MoveParts → Result (Unit {0}) LineFault
 push_answer line m = if not (is_legal (last line) m) then Err Illegal else (if nat_le 20000 (length line.moves) then Err TooLong else Ok tt)
 
+-- how a push is answered: by the line and the move, or for want of memory
 abbrev pub AnswersPush : LineParts → MoveParts → Result (Unit {0}) LineFault → Type 0
 AnswersPush old m result =
     (result ≡ push_answer old.line m) ⊎ ((push_answer old.line m ≡ Ok tt) × (result ≡ Err Memory) × (old.room ≤ length old.line.moves))
 
+-- whether the line may have one move more
 abbrev pub room_answer : Line → Result (Unit {0}) LineFault
 room_answer line = if nat_le 20000 (length line.moves) then Err TooLong else Ok tt
 
+-- how room for a move is answered
 abbrev pub AnswersRoom : LineParts → Result (Unit {0}) LineFault → Type 0
 AnswersRoom old result = (result ≡ room_answer old.line) ⊎ ((room_answer old.line ≡ Ok tt) × (result ≡ Err Memory) × (old.room ≤ length old.line.moves))
 
+-- the line after a push that was answered so
 abbrev pub line_after : Line → MoveParts → Result (Unit {0}) LineFault → Line
 line_after line m (Ok _) = extended line m
 line_after line m (Err fault) = line

@@ -50,6 +50,7 @@ pub record Sums : Type 0 where
   pub end : ℤ
   pub weights : ℤ
 
+-- the three sums of a board
 abbrev pub sums_of : Look → Sums
 sums_of look =
     record {

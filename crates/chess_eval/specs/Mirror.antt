@@ -13,12 +13,15 @@ use Rattle.chess_types.specs.board.Squares.{file_of, rank_of}
 abbrev pub across : ℕ → ℕ
 across square = 8 * (7 - rank_of square) + file_of square
 
+-- what is on a square, in the other colour
 abbrev pub recoloured : Option Man → Option Man
 recoloured None = None
 recoloured (Some man) = Some (record man { colour = opponent man.colour })
 
+-- the board seen from the other side
 abbrev pub mirrored : Look → Look
 mirrored look square = recoloured (look (across square))
 
+-- one board is the other seen from the other side
 abbrev pub IsMirror : Board → Board → Type 0
 IsMirror board other = (square : ℕ) → square < 64 → man_at other square ≡ mirrored (man_at board) square

@@ -48,6 +48,7 @@ end_of_kind King file rank = pos (10 * (from_edge file + from_edge rank))
 unfoldable pub middle_of : Man → ℕ → ℤ
 middle_of man square = middle_of_kind man.kind (file_of square) (own_rank man.colour square)
 
+-- a man's worth on a square in the endgame
 unfoldable pub end_of : Man → ℕ → ℤ
 end_of man square = end_of_kind man.kind (file_of square) (own_rank man.colour square)
 

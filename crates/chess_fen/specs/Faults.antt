@@ -18,9 +18,11 @@ told Target = (8, codes "Target")
 told Counter = (9, codes "Counter")
 told InCheck = (10, codes "InCheck")
 
+-- a fault's number
 abbrev pub number_of : FenFault → ℕ
 number_of fault = (told fault).0
 
+-- a fault's name
 abbrev pub name_of : FenFault → List ℕ
 name_of fault = (told fault).1
 

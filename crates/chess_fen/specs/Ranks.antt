@@ -24,14 +24,17 @@ cells_of_byte b =
 abbrev pub both_cells : Option (List (Option Man)) → Option (List (Option Man)) → Option (List (Option Man))
 both_cells first second = option_and_then (λ cells. option_map (λ more. cells ++ more) second) first
 
+-- the squares of some bytes, or none where a byte has no meaning
 unfoldable pub cells_of : List ℕ → Option (List (Option Man))
 cells_of [] = Some []
 cells_of (b ∷ bytes) = both_cells (cells_of_byte b) (cells_of bytes)
 
+-- the first byte is a digit from 1 to 8
 abbrev pub starts_with_digit : List ℕ → Bool
 starts_with_digit [] = false
 starts_with_digit (b ∷ bytes) = stands_for_empty b
 
+-- two digits are side by side
 abbrev pub has_adjacent_digits : List ℕ → Bool
 has_adjacent_digits [] = false
 has_adjacent_digits (b ∷ bytes) = (stands_for_empty b && starts_with_digit bytes) || has_adjacent_digits bytes
@@ -46,6 +49,7 @@ abbrev pub of_length : ℕ → Option (List (Option Man)) → Option (List (Opti
 of_length n None = None
 of_length n (Some cells) = if length cells == n then Some cells else None
 
+-- the eight squares of a rank's text
 unfoldable pub rank_cells : List ℕ → Option (List (Option Man))
 rank_cells bytes = if has_adjacent_digits bytes then None else of_length 8 (cells_of bytes)
 
@@ -58,5 +62,6 @@ unfoldable pub cells_of_ranks : List (List ℕ) → Option (List (Option Man))
 cells_of_ranks [] = Some []
 cells_of_ranks (highest ∷ others) = both_cells (cells_of_ranks others) (rank_cells highest)
 
+-- the 64 squares of the field of men, from a1 to h8
 unfoldable pub board_cells : List ℕ → Option (List (Option Man))
 board_cells field = if length (ranks field) == 8 then cells_of_ranks (ranks field) else None

@@ -33,6 +33,7 @@ use Rattle.chess_fen.specs.Ranks.{board_cells}
 
 -- the rest, where the first part has no fault
 infixl 10 ◌>>=◌
+-- the first fault counts
 abbrev pub ◌>>=◌ : {A B : Type 0} → Result A FenFault → (A → Result B FenFault) → Result B FenFault
 (Ok x) >>= next = next x
 (Err fault) >>= next = Err fault
@@ -42,6 +43,7 @@ abbrev pub demand : Bool → FenFault → Result (Unit {0}) FenFault
 demand true fault = Ok tt
 demand false fault = Err fault
 
+-- the texts of the six fields
 pub record FieldTexts : Type 0 where
   pub placement : List ℕ
   pub side : List ℕ
@@ -67,6 +69,7 @@ fields_of _ = Err Fields
 unfoldable pub fields_in : List ℕ → Result FieldTexts FenFault
 fields_in text = fields_of (words (codes " ") text)
 
+-- the men of a field, or its first fault
 unfoldable pub board_in : List ℕ → Result Board FenFault
 board_in field = do
   cells ← ok_or (board_cells field) Placement
@@ -75,9 +78,11 @@ board_in field = do
   _ ← demand (has_at_most_16_each (board_of cells)) TooManyMen
   Ok (board_of cells)
 
+-- the side to move of a field
 unfoldable pub side_in : List ℕ → Result Colour FenFault
 side_in field = if bytes_eq field (codes "w") then Ok White else (if bytes_eq field (codes "b") then Ok Black else Err Side)
 
+-- no castling right
 abbrev pub no_rights : Rights
 no_rights = record { white_king = false; white_queen = false; black_king = false; black_queen = false }
 
@@ -102,10 +107,12 @@ rights_of field = record {
   black_queen = has_letter field (byte "q");
 }
 
+-- the castling rights of a field
 unfoldable pub castling_in : List ℕ → Result Rights FenFault
 castling_in field =
     if bytes_eq field (codes "-") then Ok no_rights else (if is_castling_field field then Ok (rights_of field) else Err Castling)
 
+-- the rights whose king and rook are at home
 unfoldable pub kept_rights : Look → Rights → Rights
 kept_rights look rights = record {
   white_king = rights.white_king && is_home look White KingSide;
@@ -118,6 +125,7 @@ kept_rights look rights = record {
 unfoldable pub square_in : List ℕ → Option ℕ
 square_in field = find (λ s. bytes_eq field (square_text s)) squares
 
+-- the en passant target of a field
 unfoldable pub target_in : List ℕ → Result (Option ℕ) FenFault
 target_in field = if bytes_eq field (codes "-") then Ok None else ok_or (option_map (λ s. Some s) (square_in field)) Target
 
@@ -130,6 +138,7 @@ kept_target side look (Some t) = if is_explained side look t then Some t else No
 abbrev pub is_counter : List ℕ → Bool
 is_counter field = nat_le 1 (length field) && list_all is_ascii_digit field && nat_le (digits_value 10 field) 99999
 
+-- the number of a field, at most 99,999
 unfoldable pub counter_in : List ℕ → Result ℕ FenFault
 counter_in field = if is_counter field then Ok (digits_value 10 field) else Err Counter
 

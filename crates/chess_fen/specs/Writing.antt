@@ -29,6 +29,7 @@ cells_text run (Some man ∷ cells) = run_text run ++ man_letter man ∷ cells_t
 abbrev pub rank_squares : ℕ → List ℕ
 rank_squares rank = range_with_len (8 * rank) 8
 
+-- the text of a rank
 unfoldable pub rank_text : Look → ℕ → List ℕ
 rank_text look rank = cells_text 0 (map look (rank_squares rank))
 
@@ -36,6 +37,7 @@ rank_text look rank = cells_text 0 (map look (rank_squares rank))
 unfoldable pub placement_text : Look → List ℕ
 placement_text look = join_with_byte (byte "/") (map (rank_text look) (7 ∷ 6 ∷ 5 ∷ 4 ∷ 3 ∷ 2 ∷ 1 ∷ 0 ∷ []))
 
+-- `w` or `b`
 abbrev pub side_text : Colour → List ℕ
 side_text White = codes "w"
 side_text Black = codes "b"
@@ -55,10 +57,12 @@ rights_text rights =
     or_dash (right_text rights.white_king (byte "K") ++ right_text rights.white_queen (byte "Q") ++ right_text rights.black_king (byte "k") ++
     right_text rights.black_queen (byte "q"))
 
+-- the target's square, or `-`
 unfoldable pub target_text : Option ℕ → List ℕ
 target_text None = codes "-"
 target_text (Some square) = square_text square
 
+-- the FEN of a position
 unfoldable pub written : State → List ℕ
 written p =
     join_with_byte (byte " ") (placement_text (look p) ∷ side_text p.side ∷ rights_text p.rights ∷ target_text p.target ∷ decimal p.clock ∷ decimal p.number ∷ [])

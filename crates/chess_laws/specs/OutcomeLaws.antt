@@ -16,10 +16,12 @@ use Rattle.chess_types.specs.board.Outcome.{is_without, is_play, status, claims,
 use Rattle.chess_types.specs.board.Repetition.{repetitions}
 use Rattle.chess_laws.specs.DeadLaws.{is_mate}
 
+-- mate
 abbrev pub shows_mate : Status → Bool
 shows_mate Mate = true
 shows_mate _ = false
 
+-- stalemate
 abbrev pub shows_stalemate : Status → Bool
 shows_stalemate Stalemate = true
 shows_stalemate _ = false
@@ -33,10 +35,12 @@ abbrev pub StalemateIsNone : Type 0
 StalemateIsNone =
     (line : Line) → shows_stalemate (status line) ≡ (is_without (legal_moves (last line)) && not (in_check (look (last line)) (last line).side))
 
+-- the fifth repetition
 abbrev pub shows_fivefold : Status → Bool
 shows_fivefold Fivefold = true
 shows_fivefold _ = false
 
+-- 75 moves of each side
 abbrev pub shows_seventyfive : Status → Bool
 shows_seventyfive Seventyfive = true
 shows_seventyfive _ = false

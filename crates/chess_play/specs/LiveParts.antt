@@ -5,6 +5,7 @@ use Rattle.std.specs.Coded.{Coded, code_by, coded×, coded_ℕ, coded_list}
 use Rattle.chess_types.specs.board.Position.{State}
 use Rattle.chess_types.specs.steps.StateCode.{coded_state}
 
+-- a position, the keys' words, and the ticks of the last change
 pub record LiveParts : Type 0 where
   pub position : State
   pub words : List ℕ

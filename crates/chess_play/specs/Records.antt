@@ -11,6 +11,7 @@ use Rattle.chess_types.specs.board.Position.{State, IsSetup, look}
 use Rattle.chess_types.specs.board.Pseudo.{is_pseudo}
 use Rattle.chess_types.specs.board.After.{captured_at, after}
 
+-- what is needed to take a move back
 pub record RecordParts : Type 0 where
   pub played : MoveParts
   pub captured : Option Man
@@ -23,6 +24,7 @@ abbrev pub captured_by : State → Option Man → MoveParts → Option Man
 captured_by p None m = None
 captured_by p (Some man) m = look p (captured_at p.target man m)
 
+-- the record of a move that is about to be made
 abbrev pub record_of : State → MoveParts → RecordParts
 record_of p m = record {
   played = m;

@@ -24,6 +24,7 @@ use Rattle.chess_report.specs.MainLine.{first, most}
 abbrev pub is_over : Line → Bool
 is_over line = not (is_play (status line))
 
+-- the first ply after which the game was over
 abbrev pub first_over : Line → Option ℕ
 first_over line = first is_over line
 
@@ -40,9 +41,11 @@ first_threefold line = first (λ l. (claims l).threefold) line
 abbrev pub first_fifty : Line → Option ℕ
 first_fifty line = first (λ l. (claims l).fifty) line
 
+-- the most often that a position had come up
 abbrev pub most_repetitions : Line → ℕ
 most_repetitions line = most repetitions line
 
+-- the greatest halfmove clock of the line
 abbrev pub longest_quiet : Line → ℕ
 longest_quiet line = most (λ l. (last l).clock) line
 
@@ -52,6 +55,7 @@ is_win_of (Some White) WhiteWins = true
 is_win_of (Some Black) BlackWins = true
 is_win_of _ _ = false
 
+-- the marker of a draw
 abbrev pub is_draw : Outcome → Bool
 is_draw Draw = true
 is_draw _ = false
@@ -67,5 +71,6 @@ fits Play won marker = true
 fits Mate won marker = is_win_of won marker
 fits _ won marker = is_draw marker
 
+-- the marker says nothing, or what the board says
 abbrev pub agrees : Line → Outcome → Bool
 agrees line marker = is_open marker || fits (status line) (winner (last line)) marker

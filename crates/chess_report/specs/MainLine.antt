@@ -22,10 +22,12 @@ abbrev pub else_here : Option ℕ → Bool → ℕ → Option ℕ
 else_here (Some found) has n = Some found
 else_here None has n = if has then Some n else None
 
+-- the least number below n that passes the test
 abbrev pub least : (ℕ → Bool) → ℕ → Option ℕ
 least has zero = None
 least has (suc n) = else_here (least has n) (has n) n
 
+-- the greatest value of the numbers below n, 0 of none
 abbrev pub greatest : (ℕ → ℕ) → ℕ → ℕ
 greatest value zero = 0
 greatest value (suc n) = max (greatest value n) (value n)
@@ -34,5 +36,6 @@ greatest value (suc n) = max (greatest value n) (value n)
 abbrev pub first : (Line → Bool) → Line → Option ℕ
 first has line = least (λ n. has (as_far n line)) (suc (length line.moves))
 
+-- the greatest value of the line after any of its plies
 abbrev pub most : (Line → ℕ) → Line → ℕ
 most value line = greatest (λ n. value (as_far n line)) (suc (length line.moves))

@@ -24,6 +24,7 @@ file_in b = if nat_le (byte "a") b && nat_le b (byte "h") then Some (b - byte "a
 unfoldable pub rank_in : ℕ → Option ℕ
 rank_in b = if nat_le (byte "1") b && nat_le b (byte "8") then Some (b - byte "1") else None
 
+-- the square of a file and a rank, where both are given
 abbrev pub square_at : Option ℕ → Option ℕ → Option ℕ
 square_at None rank = None
 square_at (Some file) None = None
@@ -44,6 +45,7 @@ promotion_in b =
     if b == byte "Q" || b == byte "q" then Some Queen
     else (if b == byte "R" || b == byte "r" then Some Rook else (if b == byte "B" || b == byte "b" then Some Bishop else (if b == byte "N" || b == byte "n" then Some Knight else None)))
 
+-- a promotion that a letter names
 abbrev pub named_promotion : Option Kind → Option (Option Kind)
 named_promotion None = None
 named_promotion (Some kind) = Some (Some kind)
@@ -55,6 +57,7 @@ ending_in (b ∷ []) = named_promotion (promotion_in b)
 ending_in (e ∷ b ∷ []) = if e == byte "=" then named_promotion (promotion_in b) else None
 ending_in (e ∷ b ∷ c ∷ rest) = None
 
+-- where a man comes from, his target, and what a pawn becomes
 abbrev pub course_to : Origin → Option ℕ → Option (Option Kind) → Option Course
 course_to origin None ending = None
 course_to origin (Some to) None = None
@@ -76,6 +79,7 @@ abbrev pub or_else : Option Course → Option Course → Option Course
 or_else None other = other
 or_else (Some course) other = Some course
 
+-- a rank, and then the target
 abbrev pub from_rank : Option ℕ → Option ℕ → List ℕ → Option Course
 from_rank file None rest = None
 from_rank file (Some rank) rest = arrival_in (record { file = file; rank = Some rank }) rest
@@ -89,6 +93,7 @@ ranked_in file (b ∷ rest) = from_rank file (rank_in b) rest
 unfoldable pub rank_or_not : Option ℕ → List ℕ → Option Course
 rank_or_not file text = or_else (arrival_in (record { file = file; rank = None }) text) (ranked_in file text)
 
+-- a file, then perhaps a rank, and then the target
 abbrev pub from_file : Option ℕ → List ℕ → Option Course
 from_file None rest = None
 from_file (Some file) rest = rank_or_not (Some file) rest
@@ -107,10 +112,12 @@ abbrev pub piece_of : Kind → Option Course → Option Form
 piece_of named None = None
 piece_of named (Some course) = elim course.promo [ None ↦ Some (Piece named course) | Some promo ↦ None ]
 
+-- the form of a move without a letter
 abbrev pub plain_of : Option Course → Option Form
 plain_of None = None
 plain_of (Some course) = Some (Plain course)
 
+-- the form of a move with a letter, or without one
 abbrev pub lettered : Option Kind → List ℕ → List ℕ → Option Form
 lettered None rest text = plain_of (course_in text)
 lettered (Some kind) rest text = piece_of kind (course_in rest)
@@ -126,6 +133,7 @@ wing_in text =
     if bytes_eq text (codes "O-O") || bytes_eq text (codes "0-0") then Some KingSide
     else (if bytes_eq text (codes "O-O-O") || bytes_eq text (codes "0-0-0") then Some QueenSide else None)
 
+-- castling, or the move of a man
 abbrev pub castles_or_man : Option Wing → List ℕ → Option Form
 castles_or_man None text = man_in text
 castles_or_man (Some wing) text = Some (Castles wing)
@@ -134,8 +142,10 @@ castles_or_man (Some wing) text = Some (Castles wing)
 abbrev pub marks : List ℕ
 marks = codes "+#"
 
+-- the form of a text without marks at its end
 abbrev pub bare_form : List ℕ → Option Form
 bare_form text = castles_or_man (wing_in text) text
 
+-- the form of a text
 unfoldable pub form_in : List ℕ → Option Form
 form_in text = bare_form (without_last_gaps marks text)

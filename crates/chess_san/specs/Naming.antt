@@ -31,6 +31,7 @@ abbrev pub castles_by : Option Man → Wing → MoveParts → Bool
 castles_by None wing m = false
 castles_by (Some man) wing m = is_castling man wing m
 
+-- the move castles to either side
 abbrev pub is_castles : Option Man → MoveParts → Bool
 is_castles there m = castles_by there KingSide m || castles_by there QueenSide m
 
@@ -57,11 +58,13 @@ may_be_plain origin there m =
     (is_some origin.file && is_some origin.rank)
     || (holds_pawn there && (is_some origin.file || is_some origin.rank || file_of m.from == file_of m.to))
 
+-- a text of this form names the move
 unfoldable pub names : State → Form → MoveParts → Bool
 names p (Castles wing) m = castles_by (look p m.from) wing m
 names p (Piece kind course) m = follows course m && is_kind kind (look p m.from) && not (is_castles (look p m.from) m)
 names p (Plain course) m = follows course m && may_be_plain course.origin (look p m.from) m
 
+-- the legal moves that a text of this form names
 abbrev pub named_by : State → Option Form → List MoveParts
 named_by p None = []
 named_by p (Some form) = filter (names p form) (legal_moves p)
@@ -70,11 +73,13 @@ named_by p (Some form) = filter (names p form) (legal_moves p)
 unfoldable pub named : State → List ℕ → List MoveParts
 named p text = named_by p (form_in text)
 
+-- the only one of these moves, or why there is none
 abbrev pub the_one : List MoveParts → Result MoveParts SanFault
 the_one [] = Err Illegal
 the_one (m ∷ []) = Ok m
 the_one (m ∷ n ∷ rest) = Err Ambiguous
 
+-- the legal move that a text of this form names
 abbrev pub reading_by : State → Option Form → Result MoveParts SanFault
 reading_by p None = Err NoForm
 reading_by p (Some form) = the_one (filter (names p form) (legal_moves p))

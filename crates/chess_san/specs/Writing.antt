@@ -26,10 +26,12 @@ use Rattle.chess_san.specs.Naming.{is_kind}
 abbrev pub piece_letter : Kind → ℕ
 piece_letter kind = to_ascii_uppercase (kind_letter kind)
 
+-- the letter of a file, if it is given
 abbrev pub file_letter : Option ℕ → List ℕ
 file_letter None = []
 file_letter (Some file) = (byte "a" + file) ∷ []
 
+-- the digit of a rank, if it is given
 abbrev pub rank_digit : Option ℕ → List ℕ
 rank_digit None = []
 rank_digit (Some rank) = (byte "1" + rank) ∷ []
@@ -38,6 +40,7 @@ rank_digit (Some rank) = (byte "1" + rank) ∷ []
 abbrev pub is_rival : State → Kind → ℕ → ℕ → MoveParts → Bool
 is_rival p kind from to n = n.to == to && not (n.from == from) && is_kind kind (look p n.from)
 
+-- the moves of other men of the kind and colour that may go to the target
 unfoldable pub rivals : State → Kind → ℕ → ℕ → List MoveParts
 rivals p kind from to = filter (is_rival p kind from to) (legal_moves p)
 
@@ -45,6 +48,7 @@ rivals p kind from to = filter (is_rival p kind from to) (legal_moves p)
 abbrev pub share_file : List MoveParts → ℕ → Bool
 share_file moves from = list_any (λ n. file_of n.from == file_of from) moves
 
+-- one of the moves begins on the same rank
 abbrev pub share_rank : List MoveParts → ℕ → Bool
 share_rank moves from = list_any (λ n. rank_of n.from == rank_of from) moves
 
@@ -60,6 +64,7 @@ origin_by none file rank from =
 unfoldable pub origin_among : List MoveParts → ℕ → Origin
 origin_among others from = origin_by (is_without others) (share_file others from) (share_rank others from) from
 
+-- the file, the rank or both, where rivals need it
 abbrev pub origin_of : State → Kind → MoveParts → Origin
 origin_of p kind m = origin_among (rivals p kind m.from m.to) m.from
 
@@ -67,9 +72,11 @@ origin_of p kind m = origin_among (rivals p kind m.from m.to) m.from
 abbrev pub captures : State → Man → MoveParts → Bool
 captures p man m = is_some (look p m.to) || is_en_passant p.target man m
 
+-- `x` for a capture
 abbrev pub capture_text : Bool → List ℕ
 capture_text taken = if taken then codes "x" else []
 
+-- `=` and the letter of what a pawn becomes
 abbrev pub becoming_text : Option Kind → List ℕ
 becoming_text None = []
 becoming_text (Some kind) = byte "=" ∷ piece_letter kind ∷ []
@@ -91,6 +98,7 @@ step_text p Rook man m = piece_text Rook (origin_of p Rook m) (captures p man m)
 step_text p Queen man m = piece_text Queen (origin_of p Queen m) (captures p man m) m.to
 step_text p King man m = piece_text King (origin_of p King m) (captures p man m) m.to
 
+-- the text of a move without its mark of check or mate
 abbrev pub bare_text : State → Option Man → MoveParts → List ℕ
 bare_text p None m = []
 bare_text p (Some man) m =
@@ -101,5 +109,6 @@ bare_text p (Some man) m =
 unfoldable pub mark_text : State → List ℕ
 mark_text p = if in_check (look p) p.side then (if is_without (legal_moves p) then codes "#" else codes "+") else []
 
+-- the text of a move (PGN 8.2.3)
 unfoldable pub san : State → MoveParts → List ℕ
 san p m = bare_text p (look p m.from) m ++ mark_text (after p m)

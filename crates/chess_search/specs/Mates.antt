@@ -16,17 +16,20 @@ use Rattle.chess_types.specs.board.Outcome.{is_without}
 use Rattle.chess_search.specs.Scores.{score_text}
 use Rattle.chess_search.specs.Value.{counts_drawn, value}
 
+-- mated, or every legal move lets the other side win so
 abbrev pub is_mated_by : Bool → (Line → Bool) → Line → Bool
 is_mated_by claims wins line =
     if is_without (legal_moves (last line))
     then in_check (look (last line)) (last line).side
     else (not (counts_drawn claims line) && list_all (λ m. wins (extended line m)) (legal_moves (last line)))
 
+-- the side to move mates with its n-th move at the latest
 abbrev pub mates_in : Bool → ℕ → Line → Bool
 mates_in claims zero line = false
 mates_in claims (suc n) line =
     not (counts_drawn claims line) && list_any (λ m. is_mated_by claims (mates_in claims n) (extended line m)) (legal_moves (last line))
 
+-- the side to move is mated by the other side's n-th move at the latest
 abbrev pub is_mated_in : Bool → ℕ → Line → Bool
 is_mated_in claims n line = is_mated_by claims (mates_in claims n) line
 
@@ -40,6 +43,7 @@ MateIsReported =
     (claims : Bool) (depth n : ℕ) (line : Line) → IsSetup (last line) → depth ≤ 16 → 1 ≤ n → n + n ≤ depth + 1 → IsMateIn claims n line →
     score_text (value claims depth line 0) ≡ codes "mate " ++ signed_decimal (pos n)
 
+-- `mate N` is reported only where it is forced, with no earlier one
 abbrev pub MateIsForced : Type 0
 MateIsForced =
     (claims : Bool) (depth : ℕ) (line : Line) → IsSetup (last line) → depth ≤ 16 → pos 29984 ≤ℤ value claims depth line 0 →
@@ -55,6 +59,7 @@ MatedIsReported =
     (claims : Bool) (depth n : ℕ) (line : Line) → IsSetup (last line) → depth ≤ 16 → 1 ≤ n → n + n ≤ depth → IsMatedIn claims n line →
     score_text (value claims depth line 0) ≡ codes "mate -" ++ signed_decimal (pos n)
 
+-- `mate -N` is reported only where it is forced, with no earlier one
 abbrev pub MatedIsForced : Type 0
 MatedIsForced =
     (claims : Bool) (depth : ℕ) (line : Line) → IsSetup (last line) → depth ≤ 16 → value claims depth line 0 ≤ℤ neg_ℤ (pos 29984) →

@@ -13,6 +13,7 @@ use Rattle.chess_types.specs.board.Lines.{Line, last}
 use Rattle.chess_search.specs.Scores.{IsValue, IsApart}
 use Rattle.chess_search.specs.Best.{best}
 
+-- a search at one depth: what it searches, how many roots are searched, and the best of them
 pub record Progress : Type 0 where
   pub depth : ℕ
   -- draws that may be claimed count as draws
@@ -24,9 +25,11 @@ pub record Progress : Type 0 where
   -- how many positions were asked for, with the root of the search
   pub nodes : ℕ
 
+-- what is kept is the value of a position
 abbrev pub IsInRange : Option (MoveParts × ℤ) → Type 0
 IsInRange kept = IfSome kept (λ k. IsValue k.1)
 
+-- what is kept is clearly a mate, or clearly none
 abbrev pub HasBorder : Option (MoveParts × ℤ) → Type 0
 HasBorder kept = IfSome kept (λ k. IsApart k.1)
 
@@ -39,5 +42,6 @@ pub record GoesWith (line : Line) (p : Progress) : Type 0 where
 abbrev pub next_root : Progress → List MoveParts
 next_root p = take 1 (drop p.searched p.roots)
 
+-- the best root, once all are searched
 abbrev pub done_of : Progress → Option (MoveParts × ℤ)
 done_of p = if p.searched == length p.roots then p.kept else None

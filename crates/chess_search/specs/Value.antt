@@ -33,6 +33,7 @@ ended claims line distance =
     then Some (if in_check (look (last line)) (last line).side then pos distance -ℤ pos 30000 else pos 0)
     else (if counts_drawn claims line then Some (pos 0) else None)
 
+-- the greatest of some values, 0 of none
 abbrev pub greatest : List ℤ → ℤ
 greatest [] = pos 0
 greatest (v ∷ vs) = fold int_max v vs

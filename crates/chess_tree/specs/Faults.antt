@@ -3,6 +3,7 @@ use Rattle.std.specs.Prelude.{ℕ}
 use Rattle.chess_tree.specs.declared.fault.TreeFault.{TreeFault}
 use Rattle.chess_tree.specs.declared.fault.TreeFault.TheVariants.{NoSuch, AtRoot, Full, BadComment, Memory}
 
+-- a fault's number
 abbrev pub number_of : TreeFault → ℕ
 number_of NoSuch = 1
 number_of AtRoot = 2

@@ -17,9 +17,11 @@ abbrev pub legal_answer : TreeParts → Option ℕ → Result (Unit {0}) PlayFau
 legal_answer t (Some place) = Ok tt
 legal_answer t None = if nat_le 20000 (length t.path) then Err TooLong else (if nat_le 1000000 (moves_held t.tree.below) then Err Full else Ok tt)
 
+-- how `add` is answered where memory is found
 abbrev pub add_answer : TreeParts → MoveParts → Result (Unit {0}) PlayFault
 add_answer t m = if not (is_legal (last (line_to t)) m) then Err Illegal else legal_answer t None
 
+-- how `play` is answered where memory is found
 abbrev pub play_answer : TreeParts → MoveParts → Result (Unit {0}) PlayFault
 play_answer t m = if not (is_legal (last (line_to t)) m) then Err Illegal else legal_answer t (find m (nodes_here t))
 
@@ -32,5 +34,6 @@ led_to m t None = added m t
 abbrev pub played : MoveParts → TreeParts → TreeParts
 played m t = led_to m t (find m (nodes_here t))
 
+-- this answer, or for want of memory `Memory`
 abbrev pub IsAnswer : Result (Unit {0}) PlayFault → Result (Unit {0}) PlayFault → Type 0
 IsAnswer answer result = (result ≡ answer) ⊎ ((answer ≡ Ok tt) × (result ≡ Err Memory))

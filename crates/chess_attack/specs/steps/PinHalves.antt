@@ -18,6 +18,7 @@ use Rattle.chess_attack.specs.steps.Through.{is_attacked_along}
 abbrev pub along : (Axis → Way → Bool) → Axis → Bool
 along test axis = test axis Up || test axis Down
 
+-- one of the eight halves of the axes passes the test
 abbrev pub round : (Axis → Way → Bool) → Bool
 round test = along test Rank || along test File || along test Rising || along test Falling
 

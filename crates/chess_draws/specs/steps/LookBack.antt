@@ -6,10 +6,12 @@ use Rattle.chess_draws.specs.declared.ply.Ply.{Ply}
 use Rattle.chess_draws.specs.declared.stand.Stand.{Stand}
 use Rattle.chess_draws.specs.steps.Stands.{same_ply}
 
+-- the last of the plies is of the same position
 abbrev pub first_same : Stand → List Ply → Bool
 first_same stand [] = false
 first_same stand (ply ∷ plies) = same_ply stand ply
 
+-- how often the position came up among the plies
 abbrev pub came_back : Stand → List Ply → ℕ → ℕ
 came_back stand plies zero = 0
 came_back stand plies (suc n) = came_back stand plies n + cond (first_same stand (drop (length plies - 2 * suc n) plies)) 1 0

@@ -31,6 +31,7 @@ abbrev pub ArePlies : State → List Ply → Type 0
 ArePlies p [] = ⊤
 ArePlies p (ply ∷ plies) = IsPly p ply × ArePlies (after p ply.past.played) plies
 
+-- the move of a ply
 abbrev pub move_of : Ply → MoveParts
 move_of ply = ply.past.played
 

@@ -33,6 +33,7 @@ abbrev pub holds_short : Option Man → Bool
 holds_short None = false
 holds_short (Some man) = is_pawn man.kind || is_king man.kind
 
+-- a pawn or a knight
 abbrev pub is_pawn_or_knight : Kind → Bool
 is_pawn_or_knight Pawn = true
 is_pawn_or_knight Knight = true
@@ -62,6 +63,7 @@ pub record IsStandOf (stand : Stand) (p : State) : Type 0 where
   pub rights : stand.rights ≡ p.rights
   pub target : stand.target ≡ counting_target p
 
+-- the same men are on the same squares, by the sets that are kept
 unfoldable pub same_men : Men → Men → Bool
 same_men m n =
     same_each m.white n.white && same_each m.black n.black && same_each m.straight n.straight && same_each m.diagonal n.diagonal

@@ -6,6 +6,7 @@ use Rattle.chess_types.specs.declared.board.man.Man.{Man}
 use Rattle.chess_eval.specs.Worth.{middle_of, end_of}
 use Rattle.chess_eval.specs.Evaluation.{Sums, balance_there, weight_there, IsWithin}
 
+-- the sums with one man more
 abbrev pub with_man : Sums → Man → ℕ → Sums
 with_man sums man square =
     record {
@@ -14,6 +15,7 @@ with_man sums man square =
       weights = sums.weights +ℤ weight_there (Some man) square;
     }
 
+-- the sums with one man fewer
 abbrev pub without_man : Sums → Man → ℕ → Sums
 without_man sums man square =
     record {

@@ -11,6 +11,7 @@ use Rattle.chess_attack.specs.Pins.{is_pinned, permits}
 use Rattle.chess_attack.specs.steps.PinHalves.{round, shaded_on}
 use Rattle.chess_moves.specs.declared.guard.Guard.{Guard}
 
+-- what decides which moves leave the mover's king unattacked
 pub record IsGuard (guard : Guard) (p : State) : Type 0 where
   pub on_board : guard.king < 64
   pub king : is_king_of p.side (look p guard.king) ≡ true

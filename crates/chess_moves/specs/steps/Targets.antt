@@ -22,9 +22,11 @@ use Rattle.chess_types.specs.board.Position.{State, look}
 use Rattle.chess_types.specs.board.Pseudo.{last_rank, reached, is_capturable, is_target, steps_one, steps_two, pawn_takes, moves_as_it_attacks, castles}
 use Rattle.chess_types.specs.board.Legal.{is_legal}
 
+-- a move from its parts
 abbrev pub move_to : ℕ → ℕ → Option Kind → MoveParts
 move_to from to promo = record { from = from; to = to; promo = promo }
 
+-- so many squares forward, seen by the colour
 abbrev pub is_forward : Colour → ℕ → ℕ → ℕ → Bool
 is_forward White by a b = b == a + by
 is_forward Black by a b = a == b + by
@@ -33,6 +35,7 @@ is_forward Black by a b = a == b + by
 abbrev pub attacks_from : State → Kind → ℕ → ℕ → Bool
 attacks_from p kind a b = attacks_as (record { colour = p.side; kind = kind }) (look p) a b
 
+-- a square that a man of the kind might go to
 unfoldable pub is_candidate : State → Kind → ℕ → ℕ → Bool
 is_candidate p Pawn a b = attacks_from p Pawn a b || is_forward p.side 8 a b || is_forward p.side 16 a b
 is_candidate p Knight a b = attacks_from p Knight a b
@@ -41,6 +44,7 @@ is_candidate p Rook a b = attacks_from p Rook a b
 is_candidate p Queen a b = attacks_from p Queen a b
 is_candidate p King a b = attacks_from p King a b || reached p.side KingSide == b || reached p.side QueenSide == b
 
+-- a square that a man of the kind may go to, but for his king
 unfoldable pub is_pseudo_target : State → Kind → ℕ → ℕ → Bool
 is_pseudo_target p Pawn a b = steps_one p (move_to a b None) || steps_two p (move_to a b None) || pawn_takes p (move_to a b None)
 is_pseudo_target p Knight a b = moves_as_it_attacks p Knight (move_to a b None)
@@ -60,15 +64,19 @@ is_plain_target p kind a b =
 abbrev pub is_passing_target : State → ℕ → ℕ → Bool
 is_passing_target p a b = leaps p.side Pawn a b && is_target p.target b
 
+-- a pawn comes to its last rank
 abbrev pub promotes : Colour → Kind → ℕ → Bool
 promotes side kind to = is_pawn kind && rank_of to == last_rank side
 
+-- a pawn becomes something exactly where it comes to its last rank
 abbrev pub promotion_fits : Colour → Kind → MoveParts → Bool
 promotion_fits side kind m = if promotes side kind m.to then is_some m.promo && names_promotion m.promo else is_none m.promo
 
+-- what a pawn may become, in order
 unfoldable pub promotion_kinds : List Kind
 promotion_kinds = Queen ∷ Rook ∷ Bishop ∷ Knight ∷ []
 
+-- the promotions from one square to another
 abbrev pub promotions_between : ℕ → ℕ → List MoveParts
 promotions_between from to = map (λ kind. move_to from to (Some kind)) promotion_kinds
 

@@ -17,13 +17,16 @@ use Rattle.chess_types.specs.board.Position.{rook_home}
 use Rattle.chess_types.specs.board.Pseudo.{crossed}
 use Rattle.chess_types.specs.board.After.{captured_at, arriving, is_castling, rook_of, with_rook}
 
+-- a man has gone from one square to another
 abbrev pub moved : ℕ → ℕ → Man → Board → Board
 moved from to man board = insert (remove board from) to man
 
+-- a man that was taken is back, if there was one
 abbrev pub restored : ℕ → Option Man → Board → Board
 restored at None board = board
 restored at (Some man) board = insert board at man
 
+-- the castling rook has moved, if the king castles
 abbrev pub with_castled : Man → MoveParts → Board → Board
 with_castled man m board =
     if is_castling man KingSide m then with_rook man.colour KingSide board
@@ -33,6 +36,7 @@ with_castled man m board =
 abbrev pub without_rook : Colour → Wing → Board → Board
 without_rook side wing board = moved (crossed side wing) (rook_home side wing) (rook_of side) board
 
+-- the castling rook is back, if the king castled
 abbrev pub with_castled_back : Man → MoveParts → Board → Board
 with_castled_back man m board =
     if is_castling man KingSide m then without_rook man.colour KingSide board
@@ -68,11 +72,13 @@ CanCastleBack man m board =
 abbrev pub CapturesOrCastles : Man → MoveParts → Option Man → Type 0
 CapturesOrCastles man m taken = (wing : Wing) → is_castling man wing m ≡ true → taken ≡ None
 
+-- the men are where a move needs them
 pub record CanMake (target : Option ℕ) (man : Man) (m : MoveParts) (board : Board) : Type 0 where
   pub man_goes : CanShift (remove board (captured_at target man m)) m.from m.to (arriving man m.promo)
   pub rook_goes : CanCastle man m (moved m.from m.to (arriving man m.promo) (remove board (captured_at target man m)))
   pub either : CapturesOrCastles man m (man_at board (captured_at target man m))
 
+-- the men are where taking a move back needs them
 pub record CanTakeBack (target : Option ℕ) (man : Man) (m : MoveParts) (taken : Option Man) (board : Board) : Type 0 where
   pub rook_goes : CanCastleBack man m board
   pub man_goes : CanShift (with_castled_back man m board) m.to m.from man
@@ -80,9 +86,11 @@ pub record CanTakeBack (target : Option ℕ) (man : Man) (m : MoveParts) (taken 
   pub room : IfSome taken (λ other. men_of (moved m.to m.from man (with_castled_back man m board)) other.colour < 16)
   pub either : CapturesOrCastles man m taken
 
+-- the ticks of taking a man off, at most
 abbrev pub ticks_of : Option Man → ℕ
 ticks_of None = 0
 ticks_of (Some man) = 54
 
+-- the ticks of the castling rook, at most
 abbrev pub castling_ticks : Man → MoveParts → ℕ
 castling_ticks man m = if is_castling man KingSide m || is_castling man QueenSide m then 108 else 0

@@ -8,6 +8,7 @@ use Rattle.chess_attack.specs.KeptCounts.{KeptCounts, AreCounts, changed_of}
 use Rattle.chess_eval.specs.Evaluation.{Sums, AreSumsOf}
 use Rattle.chess_key.specs.Keys.{KeptKey, IsKeyOf}
 
+-- what is kept beside a position
 pub record KeptNumbers : Type 0 where
   pub counts : KeptCounts
   pub sums : Sums

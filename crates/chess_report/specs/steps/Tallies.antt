@@ -11,10 +11,12 @@ use Rattle.chess_report.specs.declared.tally.Tally.{Tally}
 use Rattle.chess_report.specs.MainLine.{as_far, greatest, least}
 use Rattle.chess_report.specs.Findings.{is_over}
 
+-- where the game was over first, so far
 abbrev pub over_or : Option Over → Status → ℕ → Option Over
 over_or (Some over) why ply = Some over
 over_or None why ply = if not (is_play why) then Some (record { ply = ply; why = why }) else None
 
+-- what has been counted of the first plies
 pub record IsTally (line : Line) (n : ℕ) (t : Tally) : Type 0 where
   pub over : option_map (λ (o : Over). o.ply) t.over ≡ least (λ k. is_over (as_far k line)) n
   pub why : IfSome t.over (λ o. o.why ≡ status (as_far o.ply line))

@@ -16,15 +16,19 @@ use Rattle.chess_moves.specs.steps.Targets.{move_to}
 use Rattle.chess_san.specs.declared.form.Form.{Form}
 use Rattle.chess_san.specs.Naming.{is_kind, names}
 
+-- each legal move of the kind to the square begins on one of the set
 abbrev pub Comes : FinSet nat_cmp → State → Kind → ℕ → Type 0
 Comes set p k to = (m : MoveParts) → m.from < 64 → m.to ≡ to → is_legal p m ≡ true → is_kind k (look p m.from) ≡ true → contains set m.from ≡ true
 
+-- each legal move that the form names begins on one of the set
 abbrev pub ComesBy : FinSet nat_cmp → State → Form → Type 0
 ComesBy set p form = (m : MoveParts) → m.from < 64 → is_legal p m ≡ true → names p form m ≡ true → contains set m.from ≡ true
 
+-- legal, and passes the test
 abbrev pub legal_and : (MoveParts → Bool) → State → MoveParts → Bool
 legal_and test p m = test m && is_legal p m
 
+-- each legal move to the square that passes the test begins on one of the set
 abbrev pub Begins : FinSet nat_cmp → (MoveParts → Bool) → State → ℕ → Option Kind → Type 0
 Begins set test p to promo = (from : ℕ) → from < 64 → contains set from ≡ legal_and test p (move_to from to promo)
 
@@ -32,5 +36,6 @@ Begins set test p to promo = (from : ℕ) → from < 64 → contains set from �
 abbrev pub from_each : ℕ → Option Kind → List ℕ → List MoveParts
 from_each to promo xs = map (λ a. move_to a to promo) xs
 
+-- the same of the moves that begin on one of the squares
 abbrev pub BeginsAmong : FinSet nat_cmp → FinSet nat_cmp → (MoveParts → Bool) → State → ℕ → Option Kind → Type 0
 BeginsAmong all set test p to promo = (from : ℕ) → from < 64 → contains set from ≡ (contains all from && legal_and test p (move_to from to promo))

@@ -18,9 +18,11 @@ use Rattle.chess_search.specs.Value.{evaluation_for}
 use Rattle.chess_search.specs.steps.Windows.{IsDecided}
 use Rattle.chess_search.specs.declared.frontier.Frontier.{Frontier}
 
+-- a queen of the colour
 abbrev pub queen_of : Colour → Man
 queen_of colour = record { colour = colour; kind = Queen }
 
+-- what is computed once for a position whose moves are the last to be looked at
 pub record IsFrontier (frontier : Frontier) (p : State) : Type 0 where
   pub on_board : frontier.king < 64
   pub king : is_king_of (opponent p.side) (look p frontier.king) ≡ true
@@ -36,6 +38,7 @@ pub record IsQuietMove (king : ℕ) (p : State) (man : Man) (m : MoveParts) : Ty
   pub passes_none : is_en_passant p.target man m ≡ false
   pub away : attacks_as man (look p) m.to king ≡ false
 
+-- an answer for a move that surely gives no check
 pub record AfterQuiet (p : State) (m : MoveParts) (alpha beta answer : ℤ) : Type 0 where
   pub quiet : in_check (look (after p m)) (after p m).side ≡ false
   pub decided : IsDecided alpha beta (neg_ℤ (evaluation_for (after p m))) answer

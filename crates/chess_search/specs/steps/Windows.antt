@@ -11,6 +11,7 @@ pub record FitsWindow (alpha beta value answer : ℤ) : Type 0 where
   pub upper : answer <ℤ beta → value ≤ℤ answer
   pub lower : alpha <ℤ answer → answer ≤ℤ value
 
+-- the window decides a draw and the evaluation alike
 pub record IsDecided (alpha beta evaluation answer : ℤ) : Type 0 where
   pub draw : FitsWindow alpha beta (pos 0) answer
   pub evaluated : FitsWindow alpha beta evaluation answer

@@ -6,6 +6,7 @@ use Rattle.chess_tree.specs.Forest.{height}
 use Rattle.chess_tree.specs.GameTree.{TreeParts, line_to}
 use Rattle.chess_tree.specs.WellFormed.{IsGameTree}
 
+-- the line goes from the root to the cursor
 pub record IsAnalysed (t : TreeParts) (l : LineParts) : Type 0 where
   pub game : IsGameTree t
   pub follows : l.line ≡ line_to t

@@ -11,12 +11,14 @@ use Rattle.chess_types.specs.board.MoveParts.{MoveParts}
 use Rattle.chess_types.specs.steps.LineCode.{coded_move}
 use Rattle.chess_tree.specs.steps.Grove.{no_move}
 
+-- a node: its move, its parent, its place among its siblings, and its children
 pub record Entry : Type 0 where
   pub played : MoveParts
   pub parent : ℕ
   pub place : ℕ
   pub children : List ℕ
 
+-- a node as a tuple
 abbrev pub coded_entry : Coded Entry
 coded_entry =
     code_by (MoveParts × (ℕ × (ℕ × List ℕ))) (coded× coded_move (coded× coded_ℕ (coded× coded_ℕ (coded_list coded_ℕ))))
@@ -40,9 +42,11 @@ look nodes i = get_or nodes i no_entry
 abbrev pub with_children : ℕ → List ℕ → List Entry → List Entry
 with_children i children nodes = set nodes i (record (look nodes i) { children = children })
 
+-- the nodes with another parent for one
 abbrev pub with_parent : ℕ → ℕ → List Entry → List Entry
 with_parent i parent nodes = set nodes i (record (look nodes i) { parent = parent })
 
+-- the nodes with another place for one
 abbrev pub with_place : ℕ → ℕ → List Entry → List Entry
 with_place i place nodes = set nodes i (record (look nodes i) { place = place })
 

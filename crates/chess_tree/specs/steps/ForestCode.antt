@@ -42,6 +42,7 @@ forests-pieces (Node m nags comment below next) rest =
     let forest = ap (λ (ps : List Piece). forests ps) parted ∙ forests-pieces below (pieces next ++ rest) ∙ ap (λ (fs : List Forest). below ∷ fs) (forests-pieces next rest) in
     ap (hung (m, (nags, comment))) forest
 
+-- a forest is given back by its pieces
 pub first-pieces : (f : Forest) → first (forests (pieces f)) ≡ f
 first-pieces f =
     ap (λ (ps : List Piece). first (forests ps)) (sym (append-nil (pieces f))) ∙ ap first (forests-pieces f [])

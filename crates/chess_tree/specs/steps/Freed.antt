@@ -18,13 +18,16 @@ pub record Loosened (new : List Entry) (last : ℕ) (game : Grove) : Type 0 wher
   pub bare : (look new last).children ≡ []
   pub some : 0 < last
 
+-- a freed branch has been taken apart, whatever the game
 abbrev pub IsLoosened : List Entry → ℕ → List Entry → ℕ → Type 0
 IsLoosened old free new last = (game freed : Grove) → Laid old free game freed Empty → Loosened new last game
 
+-- a node has been put on a free number
 pub record Put (s : Entry) (new : List Entry) (next number : ℕ) (game : Grove) : Type 0 where
   pub later : Grove
   pub laid : Laid new next game later (Tree number s.played Empty Empty)
   pub is : look new number ≡ s
 
+-- the same, whatever the game
 abbrev pub IsPut : List Entry → ℕ → Entry → List Entry → ℕ → ℕ → Type 0
 IsPut old free s new next number = (game freed : Grove) → Laid old free game freed Empty → Put s new next number game

@@ -7,6 +7,7 @@ use Rattle.chess_tree.specs.Forest.{Forest}
 use Rattle.chess_tree.specs.steps.ForestCode.{coded_forest}
 use Rattle.chess_tree.specs.GameTree.{TreeParts}
 
+-- a tree as a tuple
 abbrev pub coded_tree : Coded TreeParts
 coded_tree =
     code_by ((State × (List ℕ × Forest)) × List ℕ) (coded× (coded× coded_state (coded× (coded_list coded_ℕ) coded_forest)) (coded_list coded_ℕ))

@@ -33,22 +33,28 @@ is_en_passant target man m = is_pawn man.kind && is_target target m.to && not (f
 abbrev pub captured_at : Option ℕ → Man → MoveParts → ℕ
 captured_at target man m = if is_en_passant target man m then 8 * rank_of m.from + file_of m.to else m.to
 
+-- the man on the move's last square: a pawn may have become another (3.7.3.3)
 abbrev pub arriving : Man → Option Kind → Man
 arriving man None = man
 arriving man (Some kind) = record { colour = man.colour; kind = kind }
 
+-- the captured man has left the board, and the mover has gone to the move's last square
 abbrev pub transferred : State → Man → MoveParts → Board
 transferred p man m = insert (remove (remove p.placement (captured_at p.target man m)) m.from) m.to (arriving man m.promo)
 
+-- the king castles on that side (3.8.2)
 abbrev pub is_castling : Man → Wing → MoveParts → Bool
 is_castling man wing m = is_king man.kind && castles_to man.colour wing m
 
+-- a rook of the colour
 abbrev pub rook_of : Colour → Man
 rook_of colour = record { colour = colour; kind = Rook }
 
+-- the castling rook has gone from its home to the square that the king crossed
 abbrev pub with_rook : Colour → Wing → Board → Board
 with_rook side wing board = insert (remove board (rook_home side wing)) (crossed side wing) (rook_of side)
 
+-- the board after the move, the castling rook too
 abbrev pub placement_after : State → Man → MoveParts → Board
 placement_after p man m =
     if is_castling man KingSide m then with_rook man.colour KingSide (transferred p man m)
@@ -58,9 +64,11 @@ placement_after p man m =
 abbrev pub touches : MoveParts → ℕ → Bool
 touches m s = m.from == s || m.to == s
 
+-- a right is kept where the move touches neither the king's home nor the rook's
 abbrev pub keeps : Bool → Colour → Wing → MoveParts → Bool
 keeps right side wing m = right && not (touches m (king_home side)) && not (touches m (rook_home side wing))
 
+-- the castling rights after the move (3.8.2.1)
 abbrev pub rights_after : Rights → MoveParts → Rights
 rights_after rights m = record {
   white_king = keeps rights.white_king White KingSide m;
@@ -73,12 +81,15 @@ rights_after rights m = record {
 abbrev pub is_advance : Man → MoveParts → Bool
 is_advance man m = is_pawn man.kind && (m.to == m.from + 16 || m.from == m.to + 16)
 
+-- the en passant target after the move: the square that a pawn passed over, if it advanced two squares (3.7.3.1)
 abbrev pub target_after : Man → MoveParts → Option ℕ
 target_after man m = if is_advance man m then Some (midway m) else None
 
+-- the halfmove clock after the move: 0 after a move of a pawn or a capture (9.3)
 abbrev pub clock_after : State → Man → MoveParts → ℕ
 clock_after p man m = if is_pawn man.kind || is_some (look p m.to) then 0 else p.clock + 1
 
+-- the fullmove number after a move of this side: it grows after Black's
 abbrev pub number_after : Colour → ℕ → ℕ
 number_after White number = number
 number_after Black number = number + 1
@@ -95,5 +106,6 @@ after_by p (Some man) m = record {
   number = number_after p.side p.number;
 }
 
+-- the position after the move
 unfoldable pub after : State → MoveParts → State
 after p m = after_by p (look p m.from) m

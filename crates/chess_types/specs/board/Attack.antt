@@ -46,9 +46,11 @@ slides Bishop Falling = true
 slides Queen axis = true
 slides _ _ = false
 
+-- the man of that kind moves along the axis, and both squares are on one line of it
 abbrev pub slides_on : Kind → Axis → ℕ → ℕ → Bool
 slides_on kind axis a b = slides kind axis && on_axis axis a b
 
+-- the man of that kind moves along a line through both squares
 unfoldable pub slides_to : Kind → ℕ → ℕ → Bool
 slides_to kind a b =
     not (a == b) && (slides_on kind Rank a b || slides_on kind File a b || slides_on kind Rising a b || slides_on kind Falling a b)

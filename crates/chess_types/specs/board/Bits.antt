@@ -10,12 +10,15 @@ use Rattle.std.specs.FinSet.{FinSet, contains, from_list}
 use lib.Lanes.{mask_l}
 use Rattle.chess_types.specs.board.Squares.{squares}
 
+-- the squares whose bits are 1, in ascending order
 abbrev pub squares_of : ℕ → List ℕ
 squares_of bits = filter (λ s. bit_at bits s == 1) squares
 
+-- the set of the squares whose bits are 1
 abbrev pub set_of : ℕ → FinSet nat_cmp
 set_of bits = from_list (squares_of bits)
 
+-- the word whose bits are 1 for the squares of the set
 unfoldable pub bits_of : FinSet nat_cmp → ℕ
 bits_of set = mask_l (map (contains set) squares)
 
@@ -23,5 +26,6 @@ bits_of set = mask_l (map (contains set) squares)
 unfoldable pub word_where : (ℕ → Bool) → ℕ
 word_where test = mask_l (map test squares)
 
+-- for each square the word of the squares that pass a test with it
 unfoldable pub table_of : (ℕ → ℕ → Bool) → List ℕ
 table_of test = map (λ a. word_where (test a)) squares

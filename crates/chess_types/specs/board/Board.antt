@@ -7,11 +7,14 @@ use Rattle.std.specs.Ordering.{nat_cmp}
 use Rattle.std.specs.FinMap.{FinMap, get}
 use Rattle.chess_types.specs.declared.board.man.Man.{Man}
 
+-- the men on their squares
 abbrev pub Board : Type 0
 Board = FinMap nat_cmp Man
 
+-- what is on each square, read as a function
 abbrev pub Look : Type 0
 Look = ℕ → Option Man
 
+-- what is on each square of a board
 abbrev pub man_at : Board → Look
 man_at board square = get board square

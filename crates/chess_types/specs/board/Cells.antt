@@ -10,5 +10,6 @@ men_from from [] = empty
 men_from from (None ∷ cells) = men_from (from + 1) cells
 men_from from (Some man ∷ cells) = insert (men_from (from + 1) cells) from man
 
+-- the board of 64 cells, from a1 to h8
 abbrev pub board_of : List (Option Man) → Board
 board_of cells = men_from 0 cells

@@ -32,6 +32,7 @@ holds_minor (Some man) = same_kind man.kind Bishop || same_kind man.kind Knight
 abbrev pub is_light : ℕ → Bool
 is_light s = (file_of s + rank_of s) % 2 == 1
 
+-- the squares of the men other than kings
 abbrev pub others : Look → List ℕ
 others men = filter (λ s. is_other (men s)) squares
 

@@ -13,6 +13,7 @@ use Rattle.chess_types.specs.declared.board.man.Man.{Man}
 use Rattle.chess_types.specs.board.Board.{Look}
 use Rattle.chess_types.specs.board.Texts.{man_letter}
 
+-- a man's letter, or a period
 abbrev pub shown : Option Man → ℕ
 shown None = byte "."
 shown (Some man) = man_letter man
@@ -22,9 +23,11 @@ abbrev pub seen_at : Colour → ℕ → ℕ → ℕ
 seen_at White line column = 8 * (7 - line) + column
 seen_at Black line column = 8 * line + (7 - column)
 
+-- the numbers from 0 to 7
 abbrev pub eight : List ℕ
 eight = 0 ∷ 1 ∷ 2 ∷ 3 ∷ 4 ∷ 5 ∷ 6 ∷ 7 ∷ []
 
+-- a line of the diagram, its squares separated by spaces
 unfoldable pub line_text : Look → Colour → ℕ → List ℕ
 line_text look side line = join_with_byte (byte " ") (map (λ column. shown (look (seen_at side line column)) ∷ []) eight)
 

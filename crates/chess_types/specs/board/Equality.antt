@@ -11,9 +11,11 @@ use Rattle.chess_types.specs.board.Men.{same_colour}
 use Rattle.chess_types.specs.board.Position.{State}
 use Rattle.chess_types.specs.board.Repetition.{same_man, same_rights, same_target}
 
+-- the same men are on the same squares
 unfoldable pub same_board : Board → Board → Bool
 same_board a b = list_all (λ s. same_man (man_at a s) (man_at b s)) squares
 
+-- all six fields are equal
 unfoldable pub same_state : State → State → Bool
 same_state p q =
     same_board p.placement q.placement && (same_colour p.side q.side && (same_rights p.rights q.rights && (same_target p.target q.target && (p.clock == q.clock && p.number == q.number))))

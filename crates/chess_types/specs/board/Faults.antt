@@ -28,6 +28,7 @@ use Rattle.chess_types.specs.board.Men.{is_man, opponent, holds_pawn, men_of, ki
 use Rattle.chess_types.specs.board.Attack.{in_check}
 use Rattle.chess_types.specs.board.Position.{State, look, is_explained, king_home, rook_home, holds}
 
+-- each side has exactly one king
 abbrev pub has_one_king_each : Board → Bool
 has_one_king_each board = kings_of board White == 1 && kings_of board Black == 1
 
@@ -35,12 +36,15 @@ has_one_king_each board = kings_of board White == 1 && kings_of board Black == 1
 abbrev pub is_edge : ℕ → Bool
 is_edge square = rank_of square == 0 || rank_of square == 7
 
+-- a pawn is on rank 1 or rank 8
 abbrev pub has_pawn_on_edge : Look → Bool
 has_pawn_on_edge look = list_any (λ square. is_edge square && holds_pawn (look square)) squares
 
+-- each side has at most 16 men
 abbrev pub has_at_most_16_each : Board → Bool
 has_at_most_16_each board = nat_le (men_of board White) 16 && nat_le (men_of board Black) 16
 
+-- the first fault of the men, if there is one
 unfoldable pub men_fault : Board → Option PositionFault
 men_fault board =
     if not (has_one_king_each board) then Some Kings
@@ -56,11 +60,13 @@ is_home look colour wing = is_man (look (king_home colour)) colour King && is_ma
 abbrev pub is_home_if : Look → Rights → Colour → Wing → Bool
 is_home_if look rights colour wing = not (holds rights colour wing) || is_home look colour wing
 
+-- each right that is held has its king and rook at home
 abbrev pub are_home : Look → Rights → Bool
 are_home look rights =
     (is_home_if look rights White KingSide && is_home_if look rights White QueenSide)
     && (is_home_if look rights Black KingSide && is_home_if look rights Black QueenSide)
 
+-- the target, if there is one, is explained by an advance of two squares
 abbrev pub is_explained_if : Colour → Look → Option ℕ → Bool
 is_explained_if side look None = true
 is_explained_if side look (Some t) = is_explained side look t
@@ -78,12 +84,15 @@ abbrev pub first_of : Option PositionFault → Option PositionFault → Option P
 first_of (Some fault) other = Some fault
 first_of None other = other
 
+-- the first fault of the fields of a setup, if there is one
 unfoldable pub setup_fault : State → Option PositionFault
 setup_fault p = first_of (men_fault p.placement) (fields_fault (look p) p.side p.rights p.target p.number)
 
+-- the first fault of the fields of a position, if there is one
 unfoldable pub position_fault : State → Option PositionFault
 position_fault p = first_of (setup_fault p) (if in_check (look p) (opponent p.side) then Some InCheck else None)
 
+-- the position, or its fault
 abbrev pub tested : Option PositionFault → State → Result State PositionFault
 tested None p = Ok p
 tested (Some fault) p = Err fault

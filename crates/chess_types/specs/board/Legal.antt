@@ -22,9 +22,11 @@ is_legal p m = is_pseudo p m && not (in_check (look (after p m)) p.side)
 unfoldable pub promotions : List (Option Kind)
 promotions = None ∷ Some Queen ∷ Some Rook ∷ Some Bishop ∷ Some Knight ∷ []
 
+-- the moves from one square to another, by what they promote to
 abbrev pub moves_between : ℕ → ℕ → List MoveParts
 moves_between from to = map (λ promo. record { from = from; to = to; promo = promo }) promotions
 
+-- the moves from a square, by the square that they end on
 unfoldable pub moves_from : ℕ → List MoveParts
 moves_from from = flat_map (moves_between from) squares
 

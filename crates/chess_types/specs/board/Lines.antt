@@ -11,6 +11,7 @@ use Rattle.chess_types.specs.board.Position.{State}
 use Rattle.chess_types.specs.board.After.{after}
 use Rattle.chess_types.specs.board.Legal.{is_legal}
 
+-- a game: its first position and the moves made from it
 pub record Line : Type 0 where
   pub start : State
   pub moves : List MoveParts
@@ -30,9 +31,11 @@ abbrev pub positions_from : State → List MoveParts → List State
 positions_from p [] = p ∷ []
 positions_from p (m ∷ moves) = p ∷ positions_from (after p m) moves
 
+-- the position after all moves of the line
 unfoldable pub last : Line → State
 last line = play line.start line.moves
 
+-- the positions of the line, the first and that after each move
 unfoldable pub positions : Line → List State
 positions line = positions_from line.start line.moves
 

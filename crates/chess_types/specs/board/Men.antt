@@ -13,10 +13,12 @@ use Rattle.chess_types.specs.declared.board.man.Kind.TheVariants.{Pawn, Knight, 
 use Rattle.chess_types.specs.board.Board.{Board, man_at}
 use Rattle.chess_types.specs.board.Squares.{squares}
 
+-- the other colour
 abbrev pub opponent : Colour → Colour
 opponent White = Black
 opponent Black = White
 
+-- both are White, or both Black
 abbrev pub same_colour : Colour → Colour → Bool
 same_colour White White = true
 same_colour White Black = false
@@ -32,17 +34,21 @@ kind_number Rook = 3
 kind_number Queen = 4
 kind_number King = 5
 
+-- 0 for White, 1 for Black
 abbrev pub colour_number : Colour → ℕ
 colour_number White = 0
 colour_number Black = 1
 
+-- the same kind of man
 abbrev pub same_kind : Kind → Kind → Bool
 same_kind k l = kind_number k == kind_number l
 
+-- a pawn
 abbrev pub is_pawn : Kind → Bool
 is_pawn Pawn = true
 is_pawn _ = false
 
+-- a king
 abbrev pub is_king : Kind → Bool
 is_king King = true
 is_king _ = false

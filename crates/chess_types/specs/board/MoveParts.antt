@@ -2,6 +2,7 @@
 use Rattle.std.specs.Prelude.{ℕ, Option}
 use Rattle.chess_types.specs.declared.board.man.Kind.{Kind}
 
+-- a move: the square that it begins on, the square that it ends on, and what a pawn becomes
 pub record MoveParts : Type 0 where
   pub from : ℕ
   pub to : ℕ

@@ -31,9 +31,11 @@ status_at p count =
     if is_without (legal_moves p) then (if in_check (look p) p.side then Mate else Stalemate)
     else (if is_dead p then Dead else (if nat_le 5 count then Fivefold else (if nat_le 150 p.clock then Seventyfive else Play)))
 
+-- how the game of the line has ended, or that it goes on
 unfoldable pub status : Line → Status
 status line = status_at (last line) (repetitions line)
 
+-- the game goes on
 abbrev pub is_play : Status → Bool
 is_play Play = true
 is_play _ = false

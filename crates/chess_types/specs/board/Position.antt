@@ -20,6 +20,7 @@ use Rattle.chess_types.specs.board.Squares.{rank_of}
 use Rattle.chess_types.specs.board.Men.{opponent, is_man, holds_pawn, men_of, kings_of}
 use Rattle.chess_types.specs.board.Attack.{in_check}
 
+-- a position: the men, the side to move, the castling rights, the en passant target, the halfmove clock and the fullmove number
 pub record State : Type 0 where
   pub placement : Board
   pub side : Colour
@@ -37,6 +38,7 @@ abbrev pub king_home : Colour → ℕ
 king_home White = 4
 king_home Black = 60
 
+-- where the rook of that side of the board is as a game begins
 abbrev pub rook_home : Colour → Wing → ℕ
 rook_home White KingSide = 7
 rook_home White QueenSide = 0
@@ -71,6 +73,7 @@ pub record IsSetup (p : State) : Type 0 where
 abbrev pub IsQuiet : State → Type 0
 IsQuiet p = in_check (look p) (opponent p.side) ≡ false
 
+-- a setup, and the side not to move is not in check
 pub record IsWellFormed (p : State) : Type 0 where
   pub setup : IsSetup p
   pub quiet : IsQuiet p

@@ -112,6 +112,7 @@ moves_as p Rook m = moves_as_it_attacks p Rook m && is_none m.promo
 moves_as p Queen m = moves_as_it_attacks p Queen m && is_none m.promo
 moves_as p King m = (moves_as_it_attacks p King m || castles p KingSide m || castles p QueenSide m) && is_none m.promo
 
+-- the man on the move's first square is of the side to move, and moves so
 abbrev pub moves_man : State → Option Man → MoveParts → Bool
 moves_man p None m = false
 moves_man p (Some man) m = same_colour man.colour p.side && moves_as p man.kind m

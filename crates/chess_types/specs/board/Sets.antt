@@ -8,6 +8,7 @@ use Rattle.std.specs.FinSet.{FinSet, contains, is_subset}
 use Rattle.chess_types.specs.board.Squares.{squares}
 use Rattle.chess_types.specs.board.Repetition.{same_bool}
 
+-- the same squares are in both sets
 abbrev pub same_squares : FinSet nat_cmp → FinSet nat_cmp → Bool
 same_squares a b = is_subset a b && is_subset b a
 

@@ -8,9 +8,11 @@ use Rattle.std.specs.List.{range_with_len}
 use Rattle.chess_types.specs.declared.board.axis.Axis.{Axis}
 use Rattle.chess_types.specs.declared.board.axis.Axis.TheVariants.{Rank, File, Rising, Falling}
 
+-- the file of a square, from 0 for a
 abbrev pub file_of : ℕ → ℕ
 file_of s = s % 8
 
+-- the rank of a square, from 0 for rank 1
 abbrev pub rank_of : ℕ → ℕ
 rank_of s = s / 8
 
@@ -25,6 +27,7 @@ line_of File s = file_of s
 line_of Rising s = file_of s + (7 - rank_of s)
 line_of Falling s = file_of s + rank_of s
 
+-- both squares are on one line of the axis
 abbrev pub on_axis : Axis → ℕ → ℕ → Bool
 on_axis axis a b = line_of axis a == line_of axis b
 

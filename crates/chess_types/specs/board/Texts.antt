@@ -30,6 +30,7 @@ kind_letter Rook = byte "r"
 kind_letter Queen = byte "q"
 kind_letter King = byte "k"
 
+-- the kind of an upper-case letter
 abbrev pub kind_of_letter : ℕ → Option Kind
 kind_of_letter letter =
     if letter == byte "P" then Some Pawn
@@ -45,12 +46,15 @@ abbrev pub letter_in_case : Colour → ℕ → ℕ
 letter_in_case White letter = to_ascii_uppercase letter
 letter_in_case Black letter = letter
 
+-- the letter of a man: upper case for White, lower case for Black
 abbrev pub man_letter : Man → ℕ
 man_letter man = letter_in_case man.colour (kind_letter man.kind)
 
+-- the colour of a letter by its case
 abbrev pub colour_of_letter : ℕ → Colour
 colour_of_letter letter = if is_ascii_uppercase letter then White else Black
 
+-- the man of a letter
 abbrev pub man_of_letter : ℕ → Option Man
 man_of_letter letter =
     option_map (λ kind. record { colour = colour_of_letter letter; kind = kind }) (kind_of_letter (to_ascii_uppercase letter))
@@ -74,5 +78,6 @@ names_promotion (Some Rook) = true
 names_promotion (Some Queen) = true
 names_promotion (Some King) = false
 
+-- no promotion, or one to a queen, rook, bishop or knight
 abbrev pub IsPromotion : Option Kind → Type 0
 IsPromotion promo = names_promotion promo ≡ true

@@ -46,6 +46,7 @@ abbrev pub refusal_due : Option (ℕ × Refusal) → Option Refusal
 refusal_due None = None
 refusal_due (Some one) = if one.0 == 0 then Some one.1 else None
 
+-- which write goes wrong, after one more
 abbrev pub one_write_less : Option (ℕ × Refusal) → Option (ℕ × Refusal)
 one_write_less None = None
 one_write_less (Some one) = if one.0 == 0 then None else Some (one.0 - 1, one.1)

@@ -5,6 +5,7 @@
 use Rattle.std.specs.Prelude.{ℕ, Bool, ◌==◌, if◌then◌else◌, List, [], ◌∷◌, ◌++◌, reverse}
 use Rattle.std.specs.List.{list_any}
 
+-- the byte is one of those that separate words
 abbrev pub is_gap : List ℕ → ℕ → Bool
 is_gap gaps b = list_any (λ gap. gap == b) gaps
 
@@ -19,6 +20,7 @@ words_from gaps begun [] = as_word begun
 words_from gaps begun (b ∷ bs) =
     if is_gap gaps b then as_word begun ++ words_from gaps [] bs else words_from gaps (begun ++ b ∷ []) bs
 
+-- the words of the bytes: the longest runs without a byte that separates words
 abbrev pub words : List ℕ → List ℕ → List (List ℕ)
 words gaps bytes = words_from gaps [] bytes
 
@@ -32,6 +34,7 @@ abbrev pub first_word : List ℕ → List ℕ → List ℕ
 first_word gaps [] = []
 first_word gaps (b ∷ bs) = if is_gap gaps b then [] else b ∷ first_word gaps bs
 
+-- the bytes after the first word
 abbrev pub after_word : List ℕ → List ℕ → List ℕ
 after_word gaps [] = []
 after_word gaps (b ∷ bs) = if is_gap gaps b then b ∷ bs else after_word gaps bs
@@ -40,5 +43,6 @@ after_word gaps (b ∷ bs) = if is_gap gaps b then b ∷ bs else after_word gaps
 abbrev pub without_last_gaps : List ℕ → List ℕ → List ℕ
 without_last_gaps gaps bytes = reverse (skip_gaps gaps (reverse bytes))
 
+-- the bytes without those that separate words at both ends
 abbrev pub trimmed : List ℕ → List ℕ → List ℕ
 trimmed gaps bytes = without_last_gaps gaps (skip_gaps gaps bytes)

@@ -14,11 +14,13 @@ use Rattle.chess_types.specs.declared.board.man.Colour.TheVariants.{White, Black
 use Rattle.chess_types.specs.board.Board.{Look}
 use Rattle.chess_types.specs.board.Men.{is_of, is_king}
 
+-- a rook or a queen
 abbrev pub is_straight : Kind → Bool
 is_straight Rook = true
 is_straight Queen = true
 is_straight _ = false
 
+-- a bishop or a queen
 abbrev pub is_diagonal : Kind → Bool
 is_diagonal Bishop = true
 is_diagonal Queen = true
@@ -43,6 +45,7 @@ holds_diagonal (Some man) = is_diagonal man.kind
 abbrev pub Gathers : FinSet nat_cmp → (Option Man → Bool) → Look → Type 0
 Gathers set test look = (s : ℕ) → contains set s ≡ test (look s)
 
+-- each set that is kept has exactly its squares
 pub record SetsAreKept (kept : Kept) (look : Look) : Type 0 where
   pub white : Gathers kept.white (is_of White) look
   pub black : Gathers kept.black (is_of Black) look

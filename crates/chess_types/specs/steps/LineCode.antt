@@ -9,9 +9,11 @@ use Rattle.chess_types.specs.board.Position.{State}
 use Rattle.chess_types.specs.steps.StateCode.{coded_state}
 use Rattle.chess_types.specs.board.Lines.{Line}
 
+-- a kind as a number
 abbrev pub coded_kind : Coded Kind
 coded_kind = code_by ℕ coded_ℕ kind_number kind_of kind_of-number
 
+-- a move as a tuple
 abbrev pub coded_move : Coded MoveParts
 coded_move =
     code_by (ℕ × (ℕ × Option Kind)) (coded× coded_ℕ (coded× coded_ℕ (coded_option coded_kind)))
@@ -19,6 +21,7 @@ coded_move =
     (λ p. record { from = p.0; to = p.1.0; promo = p.1.1 })
     (λ _. refl)
 
+-- a line as a tuple
 abbrev pub coded_line : Coded Line
 coded_line =
     code_by (State × List MoveParts) (coded× coded_state (coded_list coded_move)) (λ l. (l.start, l.moves)) (λ p. record { start = p.0; moves = p.1 }) (λ _. refl)

@@ -15,6 +15,7 @@ use Rattle.chess_types.specs.board.Position.{State}
 use Rattle.chess_types.specs.board.Repetition.{same_bool, same_man, same_rights, same_target}
 use Rattle.chess_types.specs.board.Equality.{same_board, same_state}
 
+-- equality of colours
 colour_laws : IsEquivalence same_colour
 colour_laws = record { refl = itself; symm = back; congr = alike }
   where
@@ -34,6 +35,7 @@ colour_laws = record { refl = itself; symm = back; congr = alike }
     alike Black White e h = absurd (true≢false (sym h))
     alike Black Black e h = refl
 
+-- equality of truth values
 bool_laws : IsEquivalence same_bool
 bool_laws = record { refl = itself; symm = back; congr = alike }
   where
@@ -53,9 +55,11 @@ bool_laws = record { refl = itself; symm = back; congr = alike }
     alike false true d h = absurd (true≢false (sym h))
     alike false false d h = refl
 
+-- equality of men by colour and kind
 men_laws : IsEquivalence (λ (m n : Man). same_colour m.colour n.colour && same_kind m.kind n.kind)
 men_laws = and_equiv (on_equiv (λ m. m.colour) colour_laws) (on_equiv (λ m. kind_number m.kind) nat_eq_equiv)
 
+-- equality of what is on a square
 man_laws : IsEquivalence same_man
 man_laws = record { refl = itself; symm = back; congr = alike }
   where
@@ -76,6 +80,7 @@ man_laws = record { refl = itself; symm = back; congr = alike }
     alike (Some m) (Some n) None h = refl
     alike (Some m) (Some n) (Some o) h = men_laws.congr m n o h
 
+-- equality of targets
 target_laws : IsEquivalence same_target
 target_laws = record { refl = itself; symm = back; congr = alike }
   where
@@ -96,6 +101,7 @@ target_laws = record { refl = itself; symm = back; congr = alike }
     alike (Some t) (Some u) None h = refl
     alike (Some t) (Some u) (Some v) h = nat_eq_equiv.congr t u v h
 
+-- equality of rights
 rights_laws : IsEquivalence same_rights
 rights_laws = record {
   refl = λ r. all.refl r;
@@ -111,14 +117,17 @@ rights_laws = record {
         (on_equiv (λ (r : Rights). r.black_king) bool_laws))
         (on_equiv (λ (r : Rights). r.black_queen) bool_laws)
 
+-- equality on all of some squares
 on_all : (over : List ℕ) → IsEquivalence (λ (a b : Board). list_all (λ s. same_man (man_at a s) (man_at b s)) over)
 on_all [] = record { refl = λ _. refl; symm = λ _ _. refl; congr = λ _ _ _ _. refl }
 on_all (s ∷ over) = and_equiv (on_equiv (λ (a : Board). man_at a s) man_laws) (on_all over)
 
+-- boards are equal exactly where `same_board` says so
 pub same_board-laws : IsEquivalence same_board
 unfolding same_board
 same_board-laws = on_all squares
 
+-- positions are equal exactly where `same_state` says so
 pub same_state-laws : IsEquivalence same_state
 unfolding same_state
 same_state-laws =

@@ -15,6 +15,7 @@ use lib.Lanes.{mask_l}
 use Rattle.chess_types.specs.board.Squares.{squares}
 use Rattle.chess_types.specs.board.Bits.{squares_of, set_of, bits_of}
 
+-- each number below 64 is a square
 pub squares-holds : (i : ℕ) → i < 64 → list_any (λ y. nat_eq y i) squares ≡ true
 unfolding squares
 squares-holds i h =
@@ -31,6 +32,7 @@ set_of-holds bits i h =
     ∙ ap (λ b. test i && b) (squares-holds i h)
     ∙ and-true (test i)
 
+-- a bit is 1 or 0
 bit-from_test : (b : ℕ) → b < 2 → ◌≡◌ {A = ℕ} (cond (b == 1) 1 0) b
 bit-from_test zero h = refl
 bit-from_test (suc zero) h = refl

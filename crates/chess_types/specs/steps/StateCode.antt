@@ -9,9 +9,11 @@ use Rattle.chess_types.specs.board.Men.{colour_number}
 use Rattle.chess_types.specs.steps.ManCode.{coded_man, colour_of, colour_of-number}
 use Rattle.chess_types.specs.board.Position.{State}
 
+-- a colour as a number
 abbrev pub coded_colour : Coded Colour
 coded_colour = code_by ℕ coded_ℕ colour_number colour_of colour_of-number
 
+-- rights as a tuple
 abbrev pub coded_rights : Coded Rights
 coded_rights =
     code_by ((Bool × Bool) × (Bool × Bool)) (coded× (coded× coded_bool coded_bool) (coded× coded_bool coded_bool))
@@ -19,9 +21,11 @@ coded_rights =
     (λ p. record { white_king = p.0.0; white_queen = p.0.1; black_king = p.1.0; black_queen = p.1.1 })
     (λ _. refl)
 
+-- a board as a list
 abbrev pub coded_board : Coded Board
 coded_board = map.code coded_ℕ coded_man
 
+-- a position as a tuple
 abbrev pub coded_state : Coded State
 coded_state =
     code_by ((Board × Colour) × (Rights × (Option ℕ × (ℕ × ℕ))))
