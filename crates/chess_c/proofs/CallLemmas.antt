@@ -2,7 +2,7 @@
 use Rattle.std.proofs.Common.{◌≡◌, ℕ, List, sym, subst}
 use Rattle.std.specs.Prelude.{Option, Some, Result}
 use Rattle.chess_tree.specs.GameTree.{TreeParts}
-use Rattle.chess_cli.specs.declared.refusal.Refusal.{Refusal}
+use Rattle.chess_cli.specs.declared.board_command.refusal.Refusal.{Refusal}
 use Rattle.chess_cli.specs.Answers.{Tells}
 use Rattle.chess_cli.specs.Requests.{request}
 use Rattle.chess_c.specs.Calls.{Acts, IsAnswered}

@@ -18,7 +18,7 @@ use Rattle.chess_san.specs.declared.fault.SanFault.{SanFault}
 use Rattle.chess_san.specs.Writing.{san}
 use Rattle.chess_search.specs.Best.{best}
 use Rattle.chess_tree.specs.GameTree.{TreeParts}
-use Rattle.chess_cli.specs.declared.refusal.Refusal.TheVariants.{Argument, Illegal}
+use Rattle.chess_cli.specs.declared.board_command.refusal.Refusal.TheVariants.{Argument, Illegal}
 use Rattle.chess_cli.specs.Refusals.{san_refusal}
 use Rattle.chess_cli.specs.Answers.{Effect, Refuses, move_effect}
 use Rattle.chess_c.specs.declared.moves.CMove.{CMove}

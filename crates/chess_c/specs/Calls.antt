@@ -4,7 +4,7 @@
 --   IsAnswered   of a line: the board may answer it with a text, and go from the one board to the other; the text is handed out, or there was no memory
 use Rattle.std.specs.Prelude.{◌≡◌, ℕ, List, Option, Some, None, Result}
 use Rattle.chess_tree.specs.GameTree.{TreeParts}
-use Rattle.chess_cli.specs.declared.refusal.Refusal.{Refusal}
+use Rattle.chess_cli.specs.declared.board_command.refusal.Refusal.{Refusal}
 use Rattle.chess_cli.specs.Answers.{Tells}
 use Rattle.chess_cli.specs.Requests.{request}
 use Rattle.chess_c.specs.Codes.{empty_slot, ended_code}

@@ -9,8 +9,8 @@ use Rattle.chess_types.specs.declared.board.outcome.Status.{Status}
 use Rattle.chess_types.specs.declared.board.outcome.Status.TheVariants.{Mate, Stalemate, Dead, Fivefold, Seventyfive, Play}
 use Rattle.chess_types.specs.declared.board.outcome.Claims.{Claims}
 use Rattle.chess_fen.specs.Faults.{number_of}
-use Rattle.chess_cli.specs.declared.refusal.Refusal.{Refusal}
-use Rattle.chess_cli.specs.declared.refusal.Refusal.TheVariants.{Fen, Form, NoSuch, Illegal, TooLong, AtRoot, Ambiguous, Full, BadComment, Memory, Command, Argument, LongLine}
+use Rattle.chess_cli.specs.declared.board_command.refusal.Refusal.{Refusal}
+use Rattle.chess_cli.specs.declared.board_command.refusal.Refusal.TheVariants.{Fen, Form, NoSuch, Illegal, TooLong, AtRoot, Ambiguous, Full, BadComment, Memory, Command, Argument, LongLine}
 
 -- it is done
 abbrev pub ok : ℕ

@@ -3,7 +3,7 @@ use Rattle.std.proofs.Common.{◌≡◌, ℕ, ◌<◌, ◌≤◌, ◌++◌, ◌�
 use Rattle.std.proofs.lemmas.Bool.Decides.{nat_tests}
 use Rattle.chess_types.specs.declared.bytes.source.Failed.{Failed}
 use Rattle.chess_tree.specs.GameTree.{TreeParts}
-use Rattle.chess_cli.specs.declared.answer.Told.TheVariants.{Whole, Path, Game}
+use Rattle.chess_cli.specs.declared.board_command.answer.Told.TheVariants.{Whole, Path, Game}
 use Rattle.chess_loop.specs.InputLines.{line_limit, line_room}
 use Rattle.chess_cli.specs.Answers.{Answers, AnswersWithin, IsGranted, Tells, TellsBy, answer, effect, takes_memory, tree_after, long_line, no_memory}
 use Rattle.chess_cli.specs.Numbers.{path_text}

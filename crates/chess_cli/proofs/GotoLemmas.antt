@@ -5,8 +5,8 @@ use Rattle.chess_tree.specs.GameTree.{TreeParts, at_path, has}
 use Rattle.chess_tree.specs.WellFormed.{IsGameTree}
 use Rattle.chess_tree.proofs.EditLemmas.{path_le_height}
 use Rattle.chess_tree.proofs.WalkLemmas.{has_leads}
-use Rattle.chess_cli.specs.declared.refusal.Refusal.TheVariants.{NoSuch}
-use Rattle.chess_cli.specs.declared.numbers.PathWord.TheVariants.{TooLong}
+use Rattle.chess_cli.specs.declared.board_command.refusal.Refusal.TheVariants.{NoSuch}
+use Rattle.chess_cli.specs.declared.board_command.numbers.PathWord.TheVariants.{TooLong}
 use Rattle.chess_cli.specs.Answers.{Refuses, if_there}
 use Rattle.chess_cli.specs.Numbers.{path_in, ReadsPath}
 use Rattle.chess_cli.specs.steps.Replies.{path_effect}

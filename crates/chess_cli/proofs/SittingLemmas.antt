@@ -9,7 +9,7 @@ use Rattle.chess_uci.specs.declared.event.Event.TheVariants.{Line as LineCode, S
 use Rattle.chess_uci.specs.Commands.{asked}
 use Rattle.chess_uci.specs.Machine.{AsksForMemory, Event, Line, Starved, State, step}
 use Rattle.chess_uci.specs.Events.{Does, Follows}
-use Rattle.chess_cli.specs.declared.sitting.Sitting.{Sitting}
+use Rattle.chess_cli.specs.declared.uci_command.sitting.Sitting.{Sitting}
 use Rattle.chess_loop.specs.InputLines.{line_limit, line_room}
 use Rattle.chess_cli.specs.Sittings.{Answered, AnsweredInPart, AnsweredSoFar, AnsweredWithin, IsLineEvent, is_fed, no_memory_line, reply_lines, too_long_line}
 use Rattle.chess_cli.specs.steps.Driving.{Drives, Happened}

@@ -30,8 +30,8 @@ use Rattle.chess_tree.specs.GameTree.{TreeParts, added, annotated_here, at_path,
 use Rattle.chess_loop.specs.InputLines.{line_limit, line_room}
 use Rattle.chess_pgn.specs.Games.{untold}
 use Rattle.chess_pgn.specs.Written.{game_text}
-use Rattle.chess_cli.specs.declared.refusal.Refusal.{Refusal}
-use Rattle.chess_cli.specs.declared.refusal.Refusal.TheVariants.{Fen as BadFen, NoSuch, Illegal, TooLong, AtRoot, Full, BadComment, Memory, Command, Argument, LongLine}
+use Rattle.chess_cli.specs.declared.board_command.refusal.Refusal.{Refusal}
+use Rattle.chess_cli.specs.declared.board_command.refusal.Refusal.TheVariants.{Fen as BadFen, NoSuch, Illegal, TooLong, AtRoot, Full, BadComment, Memory, Command, Argument, LongLine}
 use Rattle.chess_cli.specs.Refusals.{number_of, name_of, san_refusal}
 use Rattle.chess_cli.specs.Gaps.{parted_by}
 use Rattle.chess_cli.specs.Numbers.{path_text}

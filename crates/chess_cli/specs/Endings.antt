@@ -9,7 +9,7 @@ use Rattle.chess_items.specs.declared.fault.PgnFault.{PgnFault}
 use Rattle.chess_tree.specs.GameTree.{TreeParts}
 use Rattle.chess_cli.specs.declared.ended.Ended.{Ended}
 use Rattle.chess_cli.specs.declared.ended.Ended.TheVariants.{Good, Input, ReadFault, WriteFault, Memory}
-use Rattle.chess_cli.specs.declared.sitting.Sitting.{Sitting}
+use Rattle.chess_cli.specs.declared.uci_command.sitting.Sitting.{Sitting}
 use Rattle.chess_loop.specs.declared.driver.RunEnd.{RunEnd}
 use Rattle.chess_loop.specs.declared.driver.RunEnd.TheVariants as loop
 use Rattle.chess_cli.specs.Answers.{Answers, beginning}

@@ -10,8 +10,8 @@ use Rattle.std.specs.Char.{is_ascii_digit}
 use Rattle.std.specs.List.{list_all, slice_split}
 use Rattle.std.specs.Str.{bytes_eq, byte}
 use Rattle.std.specs.Str.Parse.{digits_value}
-use Rattle.chess_cli.specs.declared.numbers.PathWord.{PathWord}
-use Rattle.chess_cli.specs.declared.numbers.PathWord.TheVariants.{Read, TooLong, Malformed}
+use Rattle.chess_cli.specs.declared.board_command.numbers.PathWord.{PathWord}
+use Rattle.chess_cli.specs.declared.board_command.numbers.PathWord.TheVariants.{Read, TooLong, Malformed}
 use Rattle.chess_cli.specs.Gaps.{parted_by}
 
 -- one to six decimal digits; zeros may stand first

@@ -7,8 +7,8 @@ use Rattle.chess_tree.specs.declared.fault.TreeFault.{TreeFault}
 use Rattle.chess_tree.specs.declared.fault.TreeFault.TheVariants as tree
 use Rattle.chess_tree.specs.declared.fault.PlayFault.{PlayFault}
 use Rattle.chess_tree.specs.declared.fault.PlayFault.TheVariants as play
-use Rattle.chess_cli.specs.declared.refusal.Refusal.{Refusal}
-use Rattle.chess_cli.specs.declared.refusal.Refusal.TheVariants.{Fen, Form, NoSuch, Illegal, TooLong, AtRoot, Ambiguous, Full, BadComment, Memory, Command, Argument, LongLine}
+use Rattle.chess_cli.specs.declared.board_command.refusal.Refusal.{Refusal}
+use Rattle.chess_cli.specs.declared.board_command.refusal.Refusal.TheVariants.{Fen, Form, NoSuch, Illegal, TooLong, AtRoot, Ambiguous, Full, BadComment, Memory, Command, Argument, LongLine}
 
 -- a refusal's number and its name
 abbrev pub told : Refusal → ℕ × List ℕ

@@ -14,7 +14,7 @@ use Rattle.chess_uci.specs.Replies.{reply_text}
 use Rattle.chess_uci.specs.Commands.{asked}
 use Rattle.chess_uci.specs.Machine.{AsksForMemory, Event, Line, Starved, Slice, Moment, Search, State, beginning, is_infinite, is_waiting, depth_done}
 use Rattle.chess_uci.specs.Laws.{replies, after_events}
-use Rattle.chess_cli.specs.declared.sitting.Sitting.{Sitting}
+use Rattle.chess_cli.specs.declared.uci_command.sitting.Sitting.{Sitting}
 use Rattle.chess_loop.specs.InputLines.{line_limit, line_room}
 
 -- the texts of replies, each with a line feed

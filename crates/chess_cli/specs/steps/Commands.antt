@@ -1,6 +1,6 @@
 -- What a command of the code asks for.
-use Rattle.chess_cli.specs.declared.command.Command.{Command}
-use Rattle.chess_cli.specs.declared.command.Command.TheVariants.{Blank, New, Set, Counts, Eval, Fen, Moves, Checks, Play, Back, Step, Start, End, Goto, Path, Promote, Delete, Comment, Nag, Count, Status, Claims, Claim, Best, Pgn, Unknown, Malformed}
+use Rattle.chess_cli.specs.declared.board_command.command.Command.{Command}
+use Rattle.chess_cli.specs.declared.board_command.command.Command.TheVariants.{Blank, New, Set, Counts, Eval, Fen, Moves, Checks, Play, Back, Step, Start, End, Goto, Path, Promote, Delete, Comment, Nag, Count, Status, Claims, Claim, Best, Pgn, Unknown, Malformed}
 use Rattle.chess_cli.specs.Requests as asks
 use Rattle.chess_cli.specs.Numbers.{depth_in, path_in}
 

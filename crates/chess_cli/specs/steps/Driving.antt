@@ -6,7 +6,7 @@ use Rattle.chess_uci.specs.declared.reply.Reply.{Reply}
 use Rattle.chess_uci.specs.declared.event.Event.{Event}
 use Rattle.chess_uci.specs.Machine.{State}
 use Rattle.chess_uci.specs.Events.{Follows}
-use Rattle.chess_cli.specs.declared.sitting.Sitting.{Sitting}
+use Rattle.chess_cli.specs.declared.uci_command.sitting.Sitting.{Sitting}
 use Rattle.chess_cli.specs.Sittings.{AnsweredSoFar, is_fed, reply_lines}
 use Rattle.chess_loop.specs.steps.Sending.{SendsParts}
 

@@ -9,9 +9,9 @@ use Rattle.chess_search.specs.Best.{best}
 use Rattle.chess_tree.specs.GameTree.{TreeParts, at_path, has, line_to}
 use Rattle.chess_pgn.specs.Games.{untold}
 use Rattle.chess_pgn.specs.Written.{game_text}
-use Rattle.chess_cli.specs.declared.answer.Told.{Told}
-use Rattle.chess_cli.specs.declared.answer.Told.TheVariants.{Whole, Path, Game}
-use Rattle.chess_cli.specs.declared.refusal.Refusal.TheVariants.{Argument}
+use Rattle.chess_cli.specs.declared.board_command.answer.Told.{Told}
+use Rattle.chess_cli.specs.declared.board_command.answer.Told.TheVariants.{Whole, Path, Game}
+use Rattle.chess_cli.specs.declared.board_command.refusal.Refusal.TheVariants.{Argument}
 use Rattle.chess_cli.specs.Numbers.{path_text}
 use Rattle.chess_cli.specs.Answers.{Effect, Refuses, best_text, if_there, no_memory, says_line}
 

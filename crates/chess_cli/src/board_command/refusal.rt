@@ -79,7 +79,7 @@ impl Refusal {
 
 impl From<FenFault> for Refusal {
     ghost use Rattle.std.specs.Prelude.{◌≡◌};
-    ghost use Rattle.chess_cli.specs.declared.refusal.Refusal.TheVariants.{Fen};
+    ghost use Rattle.chess_cli.specs.declared.board_command.refusal.Refusal.TheVariants.{Fen};
 
     ghost from_gives = { λ fault refusal. refusal ≡ Fen fault };
 
