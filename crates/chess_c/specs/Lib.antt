@@ -1,6 +1,7 @@
 pub mod Asked
 pub mod Calls
 pub mod Codes
+pub mod Games
 pub mod Handed
 pub mod Moves
 pub mod Slots

@@ -25,6 +25,9 @@ pub const ROOM: u32 = 10;
 /// There is no legal move, so none is best.
 pub const NONE: u32 = 11;
 
+/// No game follows.
+pub const NO_GAME: u32 = 16;
+
 /// The status of a refusal.
 pub fn refusal_code(refusal: Refusal) -> u32
     ensures { result ≡ refusal_code refusal }

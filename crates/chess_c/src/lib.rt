@@ -8,6 +8,7 @@
 mod asked;
 mod codes;
 mod edits;
+mod games;
 mod gathered;
 mod keys;
 mod life;
