@@ -1,0 +1,2 @@
+-- Lemmas on lines copied, and on moves with their texts.
+pub mod CopyLemmas

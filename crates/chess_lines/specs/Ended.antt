@@ -1,0 +1,27 @@
+-- How a game ended, by the Laws (FIDE Laws, articles 5.1, 5.2, 9.2, 9.3 and 9.6; PGN 8.2.6).
+--   ended_by       from how the last position stands and who has mated
+--   is_claimable   a draw may be claimed in it
+--   ended          of a line, with the draws that may be claimed or without
+use Rattle.std.specs.Prelude.{◌||◌, ◌&&◌, if◌then◌else◌, Bool, Option, Some, None}
+use Rattle.chess_types.specs.declared.board.man.Colour.{Colour}
+use Rattle.chess_types.specs.declared.board.man.Colour.TheVariants.{White, Black}
+use Rattle.chess_types.specs.declared.board.outcome.Status.{Status}
+use Rattle.chess_types.specs.declared.board.outcome.Status.TheVariants.{Mate, Play}
+use Rattle.chess_types.specs.board.Lines.{Line, last}
+use Rattle.chess_types.specs.board.Outcome.{claims, status, winner}
+use Rattle.chess_items.specs.declared.outcome.Outcome.{Outcome}
+use Rattle.chess_items.specs.declared.outcome.Outcome.TheVariants.{WhiteWins, BlackWins, Draw, Unfinished}
+
+-- the winner's, where there is mate; open, where the game goes on; else a draw
+abbrev pub ended_by : Status → Option Colour → Outcome
+ended_by Play won = Unfinished
+ended_by Mate None = Unfinished
+ended_by Mate (Some White) = WhiteWins
+ended_by Mate (Some Black) = BlackWins
+ended_by _ won = Draw
+
+abbrev pub is_claimable : Line → Bool
+is_claimable line = (claims line).threefold || (claims line).fifty
+
+abbrev pub ended : (with_claims : Bool) → Line → Outcome
+ended with_claims line = if with_claims && is_claimable line then Draw else ended_by (status line) (winner (last line))
