@@ -56,6 +56,7 @@ enum jatshegi_status {
     JATSHEGI_NONE = 11,       /* there is no legal move, so none is best */
     JATSHEGI_NO_SUCH = 12,    /* there is no such child */
     JATSHEGI_BAD_COMMENT = 13, /* the comment has a right brace */
+    JATSHEGI_NO_GAME = 16,    /* only whitespace follows */
     /* A text is no FEN: the first fault that applies. */
     JATSHEGI_FEN_FIELDS = 21,       /* neither four nor six fields */
     JATSHEGI_FEN_PLACEMENT = 22,    /* the men are not eight ranks of eight squares */
@@ -66,7 +67,16 @@ enum jatshegi_status {
     JATSHEGI_FEN_CASTLING = 27,     /* neither - nor different letters of KQkq */
     JATSHEGI_FEN_TARGET = 28,       /* the en passant field is neither - nor a square */
     JATSHEGI_FEN_COUNTER = 29,      /* a counter is no number up to 99,999 */
-    JATSHEGI_FEN_IN_CHECK = 30      /* the side not to move is in check */
+    JATSHEGI_FEN_IN_CHECK = 30,     /* the side not to move is in check */
+    /* No game (PGN) is at the start of a text: the first fault. */
+    JATSHEGI_PGN_TOKEN = 41,     /* bytes that are no token of PGN */
+    JATSHEGI_PGN_TAG = 42,       /* a tag that is none */
+    JATSHEGI_PGN_MOVE = 43,      /* a word that names no legal move, or more than one */
+    JATSHEGI_PGN_VARIATION = 44, /* a variation that doesn't fit */
+    JATSHEGI_PGN_DEEP = 45,      /* more than 128 variations within one another */
+    JATSHEGI_PGN_TRUNCATED = 46, /* the text ends within the game */
+    JATSHEGI_PGN_FEN = 47,       /* the tag FEN spells no position */
+    JATSHEGI_PGN_TOO_LARGE = 49  /* more than 1,048,576 bytes, or 20,000 plies in a line */
 };
 
 /* How a game stands (FIDE Laws 5.1.1, 5.2.1, 5.2.2, 9.6). */
@@ -203,6 +213,21 @@ uint32_t jatshegi_board_annotate(struct jatshegi_board *board, uint8_t number);
  * JATSHEGI_MOST_ANSWER bytes that happens only to `path` and `pgn`, which change nothing and may be asked again with more room.
  */
 uint32_t jatshegi_board_answer(struct jatshegi_board *board, const char *line, size_t length, char *answer, size_t room, size_t *count);
+
+/*
+ * The game at the start of a text (PGN): in export form (PGN 3.2) with its length, and how many bytes of the text it takes. OK, NO_MEMORY, NO_ROOM,
+ * NO_GAME, PGN_...
+ *
+ * At NO_ROOM the length and the bytes taken are written, and the game may be asked for again with more room. At PGN_... `used` is the place of the fault
+ * in the text, in bytes.
+ */
+uint32_t jatshegi_game_read(const char *text, size_t length, char *game, size_t room, size_t *count, size_t *used);
+
+/*
+ * How many bytes to pass over to what follows the game at the start of a text: those that it takes, or, where none is there, those up to the next
+ * section of tags (a `[` after an empty line), or all. OK. This one is tested and not proved.
+ */
+uint32_t jatshegi_game_pass(const char *text, size_t length, uint64_t *used);
 
 #ifdef __cplusplus
 }

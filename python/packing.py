@@ -7,7 +7,7 @@ import re
 import zipfile
 
 TAG = "py3-none-linux_x86_64"
-FILES = ["__init__.py", "_board.py", "_errors.py", "_library.py", "_moves.py", "py.typed"]
+FILES = ["__init__.py", "_board.py", "_errors.py", "_library.py", "_moves.py", "pgn.py", "py.typed"]
 LIBRARIES = ["jatshegi/libjatshegi.so", "../release/x86_64-linux/lib/libjatshegi.so.0"]
 
 

@@ -67,7 +67,7 @@ class Used(unittest.TestCase):
         ran = called(f"{folder}/chess", "board", input="new\nplay e4\nfen\n")
         self.assertEqual((ran.returncode, ran.stdout), (0, "ok\nok\nrnbqkbnr/pppppppp/8/8/4P3/8/PPPP1PPP/RNBQKBNR b KQkq - 0 1\n"))
         ran = called(f"{folder}/chess_games", input=GAMES)
-        self.assertEqual((ran.returncode, ran.stdout.count("[Event"), ran.stderr), (2, 2, "game 2: fault 45 5 Move\n"))
+        self.assertEqual((ran.returncode, ran.stdout.count("[Event"), ran.stderr), (2, 2, "game 2: fault 41 3 Move\n"))
         ran = called(f"{folder}/arbiter", "--findings", "--format", "jsonl", input=GAMES)
         rows = [json.loads(line) for line in ran.stdout.splitlines()]
         self.assertEqual([(row["number"], row["white"], row["agrees"]) for row in rows], [(2, None, None), (3, "c", False)])

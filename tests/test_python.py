@@ -235,13 +235,81 @@ class RandomGames(unittest.TestCase):
                 self.assertEqual(answers_of(lines), wanted)
 
 
+class Games(unittest.TestCase):
+    """jatshegi.pgn beside the program: the same games, the same texts, the same faults."""
+
+    def corpus(self):
+        """Random games with variations, comments and annotations, by the program that writes them."""
+        with open(f"{runs.TOP}/crates/corpus/stdin", "rb") as file:
+            asked = file.read()
+        return subprocess.run([f"{runs.TOP}/crates/corpus/out/corpus"], input=asked, capture_output=True, check=True).stdout
+
+    def program(self, data):
+        ran = subprocess.run([runs.BUILT, "pgn"], input=data, capture_output=True)
+        return ran.returncode, ran.stdout.decode("utf-8", "surrogateescape"), ran.stderr.decode()
+
+    def test_the_corpus_is_read_as_the_program_reads_it(self):
+        data = self.corpus()
+        texts = [str(game) for game in jatshegi.pgn.games(data)]
+        self.assertGreater(len(texts), 10)
+        self.assertEqual((0, "".join(texts), ""), self.program(data))
+
+    def test_a_file_by_its_path(self):
+        with tempfile.NamedTemporaryFile(suffix=".pgn") as file:
+            file.write(b'[White "a"] 1. e4 *\n[White "b"] 1. d4 *')
+            file.flush()
+            self.assertEqual([game.headers["White"] for game in jatshegi.pgn.games(file.name)], ["a", "b"])
+
+    def test_every_node_is_a_legal_move_of_the_board(self):
+        for game in jatshegi.pgn.games(self.corpus()):
+            todo, count = [game.root], 0
+            while todo and count < 40:
+                node = todo.pop()
+                board = game.board(node)
+                for child in node.children:
+                    self.assertEqual(board.san(board.parse_san(child.san)), child.san)
+                todo += node.children
+                count += 1
+
+    def test_a_tree_with_all_that_a_game_can_have(self):
+        text = '{root} 1. e4 $1 {a} (1. d4 {b} d5 (1... Nf6 $6 $19)) 1... e5 2. Nf3 (2. f4 exf4) (2. Nc3) 2... Nc6 1/2-1/2'
+        game = jatshegi.pgn.read_game(text)
+        self.assertEqual((game.root.comment, game.result, [node.san for node in game.mainline()]), ("root", "1/2-1/2", ["e4", "e5", "Nf3", "Nc6"]))
+        king, queen = game.root.children
+        self.assertEqual((king.nags, king.comment, queen.san, queen.comment), ([1], "a", "d4", "b"))
+        self.assertEqual([(it.san, it.nags) for it in queen.children], [("d5", []), ("Nf6", [6, 19])])
+        self.assertEqual([it.san for it in king.children[0].children], ["Nf3", "f4", "Nc3"])
+        self.assertEqual(king.children[0].children[1].children[0].path(), ["e4", "e5", "f4", "exf4"])
+        self.assertEqual((0, str(game), ""), self.program(text.encode()))
+
+    def test_tags(self):
+        game = jatshegi.pgn.read_game('[White "a \\"b\\" \\\\"] [FEN "8/8/8/8/8/4k3/4p3/4K3 w - - 0 1"] [Annotator "c"] *')
+        self.assertEqual((game.headers["White"], game.headers["Annotator"], game.start), ('a "b" \\', "c", "8/8/8/8/8/4k3/4p3/4K3 w - - 0 1"))
+        self.assertEqual(game.board().status, jatshegi.Status.STALEMATE)
+        latin = jatshegi.pgn.read_game(b'[White "R\xe9ti"] *')
+        self.assertEqual(str(latin).encode("utf-8", "surrogateescape").count(b"R\xe9ti"), 1)
+
+    def test_faults_have_their_places(self):
+        data = b'1. e4 *\n\n[White "?"]\n\n1. e5 *\n\n[A b]\n\n*\n\n[White "c"]\n\n1. d4 ('
+        faults = []
+        self.assertEqual([str(game).count("\n") for game in jatshegi.pgn.games(data, faults.append)], [10])
+        self.assertEqual([(fault.place, fault.fault) for fault in faults], [(25, 3), (34, 2), (60, 6)])
+        with self.assertRaises(jatshegi.InvalidGameError) as caught:
+            list(jatshegi.pgn.games(data))
+        self.assertEqual(f"fault {caught.exception.place} {caught.exception.fault}", self.program(data)[2].rsplit(" ", 1)[0])
+
+    def test_a_game_longer_than_the_room_for_it(self):
+        text = "{" + "word " * 5000 + "} *"
+        self.assertEqual((0, str(jatshegi.pgn.read_game(text)), ""), self.program(text.encode()))
+
+
 class ThePackage(unittest.TestCase):
     def test_examples(self):
         tried = doctest.testfile(f"{runs.TOP}/docs/PYTHON.md", module_relative=False, verbose=False)
         self.assertEqual(tried.failed, 0)
         self.assertGreater(tried.attempted, 10)
-        for name in ("jatshegi", "jatshegi._board", "jatshegi._moves"):
-            tried = doctest.testmod(importlib.import_module(name), verbose=False)
+        for name in ("jatshegi", "jatshegi._board", "jatshegi._moves", "jatshegi.pgn"):
+            tried = doctest.testmod(importlib.import_module(name), extraglobs={"jatshegi": jatshegi}, verbose=False)
             self.assertEqual(tried.failed, 0)
 
     def test_one_version(self):

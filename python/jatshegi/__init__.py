@@ -10,8 +10,9 @@
 A `Board` answers what the Laws of Chess say of its position and of the moves that led there. The board itself is a library for C
 (`include/jatshegi.h`), whose functions a prover has checked against the Laws; this package is a thin layer over it, which is tested.
 """
+from . import pgn
 from ._board import Board, Outcome, Status
-from ._errors import AmbiguousMoveError, IllegalMoveError, InvalidFenError, InvalidMoveError, LimitError
+from ._errors import AmbiguousMoveError, IllegalMoveError, InvalidFenError, InvalidGameError, InvalidMoveError, LimitError
 from ._moves import (
     BISHOP,
     BLACK,
@@ -50,12 +51,14 @@ __all__ = [
     "Board",
     "IllegalMoveError",
     "InvalidFenError",
+    "InvalidGameError",
     "InvalidMoveError",
     "LimitError",
     "Move",
     "Outcome",
     "Status",
     "parse_square",
+    "pgn",
     "square",
     "square_file",
     "square_name",

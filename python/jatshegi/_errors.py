@@ -24,3 +24,12 @@ class AmbiguousMoveError(ValueError):
 
 class LimitError(ValueError):
     """The line has 20,000 plies, or the game holds 1,000,000 moves."""
+
+
+class InvalidGameError(ValueError):
+    """No game is there: `place` is that of the first fault in bytes from the beginning of the input, `fault` its number, 1 to 9."""
+
+    def __init__(self, place: int, fault: int, why: str) -> None:
+        super().__init__(f"no game: at byte {place}, {why}")
+        self.place = place
+        self.fault = fault

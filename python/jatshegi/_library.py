@@ -6,9 +6,10 @@ import os
 from ctypes import POINTER, c_bool, c_char, c_char_p, c_int32, c_size_t, c_uint8, c_uint32, c_uint64, c_void_p
 
 OK, EMPTY, NO_MEMORY, ILLEGAL, AMBIGUOUS, FORM, TOO_LONG, FULL, AT_ROOT, ARGUMENT, NO_ROOM, NONE, NO_SUCH, BAD_COMMENT = range(14)
+NO_GAME = 16
 
-# The status of a FEN's fault is its number and this.
-FEN = 20
+# The status of a FEN's fault is its number and this; so is that of a game's.
+FEN, PGN = 20, 40
 
 MOST_MOVES, MOST_FEN, MOST_SAN, MOST_ANSWER = 432, 128, 8, 2600
 
@@ -68,6 +69,9 @@ for _name, _types in {
 }.items():
     _function = getattr(lib, f"jatshegi_board_{_name}")
     _function.argtypes, _function.restype = _types, c_uint32
+lib.jatshegi_game_read.argtypes = [c_void_p, c_size_t, POINTER(c_char), c_size_t, POINTER(c_size_t), POINTER(c_size_t)]
+lib.jatshegi_game_read.restype = c_uint32
+lib.jatshegi_game_pass.argtypes, lib.jatshegi_game_pass.restype = [c_void_p, c_size_t, POINTER(c_uint64)], c_uint32
 lib.jatshegi_board_free.argtypes, lib.jatshegi_board_free.restype = [_slot], None
 lib.jatshegi_keys_fill.argtypes, lib.jatshegi_keys_fill.restype = [c_void_p], None
 

@@ -242,6 +242,34 @@ static void lines(struct jatshegi_board *b) {
     CHECK(answers(b, "back", "refused 2 AtRoot\n"));
 }
 
+static void games(void) {
+    static const char text[] = "[White \"a\"]\n\n1.e4 e5(1...c5)2.Nf3 *\n\n[White \"b\"]\n\n1.e5 *\n\n[White \"c\"]\n\n*";
+    static const char wanted[] = "[Event \"?\"]\n[Site \"?\"]\n[Date \"????.??.??\"]\n[Round \"?\"]\n[White \"a\"]\n[Black \"?\"]\n[Result \"*\"]\n\n1. e4 e5 (1... c5) 2. Nf3 *\n\n";
+    size_t count = 7, used = 7, at;
+    uint64_t passed = 7;
+    char game[512];
+    CHECK(jatshegi_game_read(text, strlen(text), game, sizeof game, &count, &used) == JATSHEGI_OK);
+    CHECK(count == strlen(wanted) && memcmp(game, wanted, count) == 0 && used == strlen("[White \"a\"]\n\n1.e4 e5(1...c5)2.Nf3 *"));
+    memset(game, 'x', sizeof game);
+    count = used = 7;
+    CHECK(jatshegi_game_read(text, strlen(text), game, 5, &count, &used) == JATSHEGI_NO_ROOM && count == strlen(wanted) && game[0] == 'x');
+    at = used;
+    count = used = 7;
+    CHECK(jatshegi_game_read(text + at, strlen(text) - at, game, sizeof game, &count, &used) == JATSHEGI_PGN_MOVE && count == 7);
+    CHECK(used == (size_t)(strstr(text, "e5 *\n\n[White \"c") - text) - at);
+    CHECK(jatshegi_game_pass(text + at, strlen(text) - at, &passed) == JATSHEGI_OK && passed == (uint64_t)(strstr(text, "[White \"c") - text) - at);
+    at += (size_t)passed;
+    CHECK(jatshegi_game_read(text + at, strlen(text) - at, game, sizeof game, &count, &used) == JATSHEGI_OK && used == strlen(text) - at);
+    count = used = 7;
+    CHECK(jatshegi_game_read(" \n", 2, game, sizeof game, &count, &used) == JATSHEGI_NO_GAME && count == 7 && used == 7);
+    CHECK(jatshegi_game_read("", 0, game, sizeof game, &count, &used) == JATSHEGI_NO_GAME);
+    CHECK(jatshegi_game_read("{", 1, game, sizeof game, &count, &used) == JATSHEGI_PGN_TRUNCATED);
+    CHECK(jatshegi_game_read("#", 1, game, sizeof game, &count, &used) == JATSHEGI_PGN_TOKEN);
+    CHECK(jatshegi_game_read("[A b]", 5, game, sizeof game, &count, &used) == JATSHEGI_PGN_TAG);
+    CHECK(jatshegi_game_read("(", 1, game, sizeof game, &count, &used) == JATSHEGI_PGN_VARIATION);
+    CHECK(jatshegi_game_read("[FEN \"8\"] *", 11, game, sizeof game, &count, &used) == JATSHEGI_PGN_FEN);
+}
+
 int main(void) {
     struct jatshegi_board board = JATSHEGI_NO_BOARD, other = JATSHEGI_NO_BOARD;
     jatshegi_keys_fill(&keys);
@@ -254,6 +282,7 @@ int main(void) {
     numbers(&board);
     trees(&board);
     lines(&board);
+    games();
     CHECK(jatshegi_board_new(&keys, &board) == JATSHEGI_OK && fen_is(&board, START));
     CHECK(fen_is(&other, "rnbqkbnr/pppppppp/8/8/3P4/8/PPP1PPPP/RNBQKBNR b KQkq d3 0 1"));
     jatshegi_board_free(&board);
