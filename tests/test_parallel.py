@@ -31,7 +31,7 @@ class Parallel(unittest.TestCase):
         with tempfile.TemporaryDirectory() as folder:
             with open(f"{folder}/games.pgn", "w", encoding="utf-8") as file:
                 file.write(collection)
-            command = recipe.replace("/path/to/chess", runs.BUILT)
+            command = re.sub(r"(?<= )chess(?= pgn)", runs.BUILT, recipe)
             subprocess.run(["bash", "-c", command], cwd=folder, stdin=subprocess.DEVNULL, check=False, env={**os.environ, "PARALLEL_HOME": folder})
             written = {}
             for name in ("clean.pgn",):
