@@ -2,7 +2,7 @@ use chess_attack::position;
 use chess_draws::Line;
 use chess_fen::read;
 use chess_key::KeyTable;
-use chess_lines::{move_texts, outcome};
+use chess_lines::move_texts;
 use chess_moves::moves;
 use chess_pgn::read_game;
 use chess_play::Live;
@@ -51,7 +51,7 @@ pub fn game(rt: &HostRuntime, texts: &[&str]) -> io::Result<()> {
             return println!(rt; "out of memory");
         }
     }
-    println!(rt; "{:?}, {:?}", line.status(), outcome(&mut line, false))
+    println!(rt; "{:?}, won by {:?}", line.status(), line.winner())
 }
 
 /// The main line of a game with its comments, and how many variations each move has.
