@@ -2,12 +2,14 @@ use chess_attack::position;
 use chess_draws::Line;
 use chess_fen::read;
 use chess_key::KeyTable;
+use chess_lines::move_texts;
 use chess_moves::moves;
 use chess_pgn::read_game;
 use chess_play::Live;
 use chess_search::score_text;
 use chess_tree::Analysis;
 use chess_types::{Colour, Draft, Kind, Man, Position, Square};
+use chess_walk::Replay;
 use std::io;
 
 /// The legal moves of the position that a FEN spells.
@@ -23,17 +25,15 @@ pub fn legal_moves(rt: &HostRuntime, fen: &str) -> io::Result<()> {
     println!(rt; "")
 }
 
-/// The same in standard algebraic notation. Without the question whether a move is legal the prover refuses `write_move`.
+/// The same in standard algebraic notation.
 pub fn moves_as_texts(rt: &HostRuntime, fen: &str) -> io::Result<()> {
     let table = KeyTable::fixed();
     let Ok(position) = read(fen.as_bytes()) else {
         return println!(rt; "{fen} spells no position");
     };
     let mut line = Line::start(rt.alloc(), position, &table);
-    for m in line.moves().as_slice() {
-        if line.is_legal(*m) {
-            print!(rt; "{} ", line.write_move(*m))?;
-        }
+    for m in move_texts(rt.alloc(), &mut line)?.as_slice() {
+        print!(rt; "{} ", m.san)?;
     }
     println!(rt; "")
 }
@@ -71,6 +71,23 @@ pub fn main_line(rt: &HostRuntime, text: &str) -> io::Result<()> {
             println!(rt; "{m}, variations: {others}, comment: {comment}")?;
         }
         node = first;
+    }
+    Ok(())
+}
+
+/// A game with its variations: each move in the order of the text, with its ply, in how many variations it is, and its comment.
+pub fn variations(rt: &HostRuntime, text: &str) -> io::Result<()> {
+    let (alloc, table) = (rt.alloc(), KeyTable::fixed());
+    let Ok(Some((game, _))) = read_game(&alloc, &table, text.as_bytes()) else {
+        return println!(rt; "no game");
+    };
+    for made in Replay::of(&alloc, &table, &game.tree)? {
+        let made = made?;
+        let comment = String::from_utf8_lossy(rt.alloc(), made.node.notes().comment)?;
+        println!(rt;
+            "ply {}, within {}: {} {comment}",
+            made.depth, made.level, made.san
+        )?;
     }
     Ok(())
 }

@@ -20,8 +20,10 @@ ended_by Mate (Some White) = WhiteWins
 ended_by Mate (Some Black) = BlackWins
 ended_by _ won = Draw
 
+-- by repetition or by fifty moves (9.2, 9.3)
 abbrev pub is_claimable : Line → Bool
 is_claimable line = (claims line).threefold || (claims line).fifty
 
+-- a draw that may be claimed counts only where claims do
 abbrev pub ended : (with_claims : Bool) → Line → Outcome
 ended with_claims line = if with_claims && is_claimable line then Draw else ended_by (status line) (winner (last line))

@@ -9,11 +9,12 @@ use Rattle.std.specs.Prelude.{◌≡◌, ℕ, ◌+◌, Bool, true, false, List, 
 use Rattle.chess_types.specs.board.MoveParts.{MoveParts}
 use Rattle.chess_tree.specs.Forest.{Forest, Bare, Node, NodeParts, child}
 
--- by its places from 0, if each is one that the node there has
+-- on from a child, if there is one
 abbrev pub from_child : (NodeParts → Option NodeParts) → Option NodeParts → Option NodeParts
 from_child on None = None
 from_child on (Some node) = on node
 
+-- by its places from 0, if each is one that the node there has
 abbrev pub node_along : List ℕ → NodeParts → Option NodeParts
 node_along [] node = Some node
 node_along (k ∷ path) node = from_child (node_along path) (child k node.below)

@@ -13,6 +13,7 @@ use Rattle.chess_san.specs.Writing.{san}
 use Rattle.chess_tree.specs.Forest.{Forest, Bare, Node, NodeParts}
 use Rattle.chess_walk.specs.Order.{Visit, resumed}
 
+-- a node, and the line that its move goes on from
 pub record Played : Type 0 where
   pub before : Line
   pub visit : Visit

@@ -7,6 +7,7 @@ use Rattle.chess_tree.specs.Forest.{NodeParts}
 use Rattle.chess_tree.specs.steps.ForestCode.{coded_node}
 use Rattle.chess_walk.specs.Order.{Visit}
 
+-- a visit as its five parts
 abbrev pub coded_visit : Coded Visit
 coded_visit =
     code_by (ℕ × (ℕ × (Bool × (Option MoveParts × NodeParts)))) (coded× coded_ℕ (coded× coded_ℕ (coded× coded_bool (coded× (coded_option coded_move) coded_node))))

@@ -19,16 +19,20 @@ use Rattle.chess_walk.specs.steps.Code.{coded_visit}
 abbrev pub shortened : Line → ℕ → Line
 shortened line n = record { start = line.start; moves = take n line.moves }
 
+-- as many moves as lead to the node before; where that one is made again, one fewer and that move
 abbrev pub before_move : Line → (depth : ℕ) → Option MoveParts → Line
 before_move line depth None = shortened line (depth - 1)
 before_move line depth (Some m) = extended (shortened line (depth - 2)) m
 
+-- one move more, or none
 abbrev pub with_any : Line → Option MoveParts → Line
 with_any line move = record { start = line.start; moves = line.moves ++ option_to_list move }
 
+-- one move more than before the visit
 abbrev pub after_visit : Line → Visit → Line
 after_visit line v = with_any (before_move line v.depth v.again) v.node.move
 
+-- from a line, each visit on the line that the one before it left
 abbrev pub replayed : Line → List Visit → List Played
 replayed line [] = []
 replayed line (v ∷ vs) = record { before = before_move line v.depth v.again; visit = v } ∷ replayed (after_visit line v) vs
@@ -38,6 +42,7 @@ abbrev pub IsLegalAgain : Line → (depth : ℕ) → Option MoveParts → Type 0
 IsLegalAgain line depth None = ⊤
 IsLegalAgain line depth (Some m) = (2 ≤ depth) × (is_legal (last (shortened line (depth - 2))) m ≡ true)
 
+-- the visit has a move, legal where it is made, and at most 20,000 moves lead to it
 pub record IsReplayable (line : Line) (v : Visit) : Type 0 where
   pub deep : 1 ≤ v.depth
   pub again : IsLegalAgain line v.depth v.again
@@ -46,10 +51,12 @@ pub record IsReplayable (line : Line) (v : Visit) : Type 0 where
   pub legal : is_legal (last (before_move line v.depth v.again)) move ≡ true
   pub few : v.depth ≤ 20000
 
+-- and so has each after it
 abbrev pub AreReplayable : Line → List Visit → Type 0
 AreReplayable line [] = ⊤
 AreReplayable line (v ∷ vs) = IsReplayable line v × AreReplayable (after_visit line v) vs
 
+-- a line and a visit
 abbrev pub coded_played : Coded Played
 coded_played =
     code_by (Line × Visit) (coded× coded_line coded_visit)

@@ -1,0 +1,2 @@
+-- Lemmas on tags looked up by their names once one is set.
+pub mod SetLemmas

@@ -1,0 +1,2 @@
+-- What a reader must believe: how a game's tags are set.
+pub mod SetTags

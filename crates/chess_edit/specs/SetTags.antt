@@ -1,0 +1,36 @@
+-- Tags of a game set by their names (PGN 8.1).
+--   is_named      a name: letters, digits and underscores, at least one (PGN 7)
+--   tells         the tags that say how the game ended and where it begins, which the game itself tells (PGN 8.1.1.7, 9.7)
+--   tag_answer    what setting a tag answers where there is memory: the first fault that applies
+--   IsTagAnswer   want of memory is answered only where nothing else is wrong
+--   IsSet         the tags once that of a name has a value, or none
+use Rattle.std.specs.Prelude.{◌≡◌, ◌⊎◌, ℕ, ◌==◌, ◌||◌, ◌&&◌, not, if◌then◌else◌, Bool, List, length, Option, Result, Ok, Err, bytes_eq, codes}
+use Rattle.std.specs.List.{list_all}
+use Rattle.chess_items.specs.Items.{in_line, is_name_byte}
+use Rattle.chess_pgn.specs.Games.{Tags, tag_value}
+use Rattle.chess_pgn.specs.Tags.{Ascend}
+use Rattle.chess_edit.specs.declared.tags.TagFault.{TagFault}
+use Rattle.chess_edit.specs.declared.tags.TagFault.TheVariants.{BadName, OwnTag, BadValue, Memory}
+
+-- letters, digits and underscores, and at least one
+abbrev pub is_named : List ℕ → Bool
+is_named name = not (length name == 0) && list_all is_name_byte name
+
+-- how the game ended, and where it begins
+abbrev pub tells : List ℕ → Bool
+tells name = bytes_eq name (codes "Result") || bytes_eq name (codes "FEN") || bytes_eq name (codes "SetUp")
+
+-- a name, of no tag that the game tells, and a value on one line
+abbrev pub tag_answer : (name value : List ℕ) → Result (Unit {0}) TagFault
+tag_answer name value =
+    if not (is_named name) then Err BadName
+    else (if tells name then Err OwnTag else (if not (list_all in_line value) then Err BadValue else Ok tt))
+
+-- memory may be refused where nothing else is wrong
+abbrev pub IsTagAnswer : Result (Unit {0}) TagFault → Result (Unit {0}) TagFault → Type 0
+IsTagAnswer answer result = (result ≡ answer) ⊎ ((answer ≡ Ok tt) × (result ≡ Err Memory))
+
+-- that of the name has the value, each other its own; the others' names ascend
+pub record IsSet (name : List ℕ) (value : Option (List ℕ)) (old new : Tags) : Type 0 where
+  pub tags : (other : List ℕ) → tag_value other new ≡ (if bytes_eq name other then value else tag_value other old)
+  pub ascend : Ascend old.others → Ascend new.others
