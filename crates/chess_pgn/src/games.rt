@@ -12,12 +12,12 @@ ghost use Rattle.chess_pgn.specs.steps.GameCode.{game_of};
 ghost use Rattle.chess_pgn.specs.steps.Next.{HasKind, staying};
 ghost use Rattle.chess_pgn.specs.steps.ReaderCode.{Answered, EndsReading, Unanswered};
 
+use crate::basis::Basis;
 use crate::game::Game;
 use crate::reader::Reader;
 use chess_items::{
     AtHand, Fault, FaultKind, PgnFault, Place, Stop, Stopped, Text, Whole, at_place, pass,
 };
-use chess_key::KeyTable;
 use chess_types::Source;
 use std::alloc::Allocator;
 use std::marker::Model;
@@ -39,7 +39,7 @@ pub enum GamesFault {
 
 // The fault where no item stands: a comment without its end is cut off by the end of the input.
 fn aground<A: Allocator>(
-    reader: &Reader<'_, A>,
+    reader: &Reader<'_, '_, A>,
     unread: &[u8],
     at: usize,
     place: Place,
@@ -53,7 +53,7 @@ fn aground<A: Allocator>(
 
 // Ends the reading that has stopped; a fault where what was read is no game.
 fn end_reading<A: Allocator>(
-    reader: &mut Reader<'_, A>,
+    reader: &mut Reader<'_, '_, A>,
     stopped: Stopped,
     unread: &[u8],
 ) -> Result<(), PgnFault>
@@ -71,8 +71,8 @@ fn end_reading<A: Allocator>(
 }
 
 // The game whose reading has stopped.
-fn stopped_game<'a, A: Allocator>(
-    reader: Reader<'a, A>,
+fn stopped_game<'a, 'k, A: Allocator>(
+    reader: Reader<'a, 'k, A>,
     stopped: Stopped,
     unread: &[u8],
 ) -> Result<Game<'a, A>, PgnFault>
@@ -87,16 +87,14 @@ fn stopped_game<'a, A: Allocator>(
 // The game at the front of a text, and how many bytes it took.
 fn take_game<'a, X: Text, A: Allocator>(
     alloc: &'a A,
-    table: &'a KeyTable,
+    basis: &Basis,
     text: &mut X,
 ) -> Result<Option<(Game<'a, A>, usize)>, GamesFault>
     requires { X.sound text.old }
     ensures sound { IfOk result (λ _. X.sound text.new) }
     ensures game { TakesGame X.comes X.at_hand X.all X.sound X.breaks text.old text.new result }
 {
-    let Ok(mut reader) = Reader::new(alloc, table) else {
-        return Err(GamesFault::Pgn(at_place(0, FaultKind::Memory)));
-    };
+    let mut reader = Reader::new(alloc, basis);
     let stopped = match pass(text, &mut reader, LIMIT) {
         Ok(Some(stopped)) => stopped,
         Ok(None) => return Ok(None),
@@ -109,15 +107,13 @@ fn take_game<'a, X: Text, A: Allocator>(
     }
 }
 
-/// The game at the front of the text, and how many bytes of it that took; `None` where there are only white space and hidden lines. The
-/// table serves the reading alone.
+/// The game that the text begins with, and how many bytes of it that took; `None` where there are only white space and hidden lines.
 ///
 /// # Errors
 ///
 /// The first fault of the text, with its place in bytes from the text's beginning.
 pub fn read_game<'a, A: Allocator>(
     alloc: &'a A,
-    table: &'a KeyTable,
     input: &[u8],
 ) -> Result<Option<(Game<'a, A>, usize)>, PgnFault>
     ensures game { IfOk result (λ found. IfSome found (λ x. IsAtFront input.now (game_of x.0) x.1)) }
@@ -127,7 +123,7 @@ pub fn read_game<'a, A: Allocator>(
     ensures fault { IfErr result (λ fault. (fault.kind ≡ Memory) ⊎ HasNoGame input.now) }
     ensures only { (game : games.Game) (used : ℕ) → IsAtFront input.now game used → IsAnswered game used result }
 {
-    match take_game(alloc, table, &mut Whole { left: input }) {
+    match take_game(alloc, &Basis::new(), &mut Whole { left: input }) {
         Ok(game) => Ok(game),
         Err(GamesFault::Pgn(fault)) => Err(fault),
         // Nothing is read of a whole text.
@@ -165,7 +161,7 @@ pub struct Games<'a, R, A: Allocator> {
     text: AtHand<'a, R, A>,
     fault: Option<GamesFault>,
     alloc: &'a A,
-    table: &'a KeyTable,
+    basis: Basis,
 }
 
 impl<'a, R, A: Allocator> Model for Games<'a, R, A> {
@@ -177,8 +173,8 @@ impl<'a, R, A: Allocator> Model for Games<'a, R, A> {
 }
 
 impl<'a, R: Source, A: Allocator> Games<'a, R, A> {
-    /// The games of a source of which no call has failed. Takes no memory. The table serves the reading alone.
-    pub fn new(alloc: &'a A, table: &'a KeyTable, source: R) -> Games<'a, R, A>
+    /// The games of a source of which no call has failed. Takes no memory.
+    pub fn new(alloc: &'a A, source: R) -> Games<'a, R, A>
         ensures sound { IsSound R.ended result }
         ensures none { result.fault ≡ None }
         ensures source { result.text.source ≡ source }
@@ -191,7 +187,7 @@ impl<'a, R: Source, A: Allocator> Games<'a, R, A> {
             text: AtHand::new(alloc, source),
             fault: None,
             alloc,
-            table,
+            basis: Basis::new(),
         }
     }
 
@@ -203,7 +199,7 @@ impl<'a, R: Source, A: Allocator> Games<'a, R, A> {
             text,
             fault: _,
             alloc: _,
-            table: _,
+            basis: _,
         } = self;
         text.into_source()
     }
@@ -245,7 +241,7 @@ impl<'a, R: Source, A: Allocator> Games<'a, R, A> {
         ensures none { self.new.fault ≡ None }
         ensures game { TakesGame (λ s bytes t. Came R.gives R.failed s bytes t) unread (λ s. s.has_ended ≡ true) (λ s. s.has_ended ≡ true → R.ended s.source) (λ s t. Breaks R.gives R.failed s t) self.old.text self.new.text result }
     {
-        take_game(self.alloc, self.table, &mut self.text)
+        take_game(self.alloc, &self.basis, &mut self.text)
     }
 
     // Passes over bytes, and forgets the fault where that goes well.

@@ -5,6 +5,7 @@
 //! `game_laws` tells.
 #![tactic(auto)]
 
+mod basis;
 mod game;
 mod games;
 mod laws;

@@ -6,42 +6,39 @@ ghost use Rattle.chess_pgn.specs.steps.ReaderCode.{BeginsMoves, Closed, Finishes
 
 mod found;
 mod header;
+mod late;
 mod moves;
 
+use crate::basis::Basis;
 use crate::game::Game;
 use chess_items::{FaultKind, Outcome, PgnFault, Taken, Taker, Token, at_place};
-use chess_key::KeyTable;
-use chess_types::Position;
 use header::Header;
 use moves::Moves;
-use std::alloc::{AllocError, Allocator};
+use std::alloc::Allocator;
 
 /// Reads a game, item by item (PGN 8). Tags and comments come first; the movetext begins at any other item but white space.
 #[derive(Drop)]
-pub struct Reader<'a, A: Allocator> {
+pub struct Reader<'a, 'k, A: Allocator> {
     alloc: &'a A,
-    table: &'a KeyTable,
     header: Header<'a, A>,
-    moves: Moves<'a, A>,
+    moves: Moves<'a, 'k, A>,
     outcome: Outcome,
     /// Whether the movetext has begun.
     moving: bool,
 }
 
-impl<'a, A: Allocator> Reader<'a, A> {
-    /// Nothing read. `Memory` where there is none.
-    #[tactic(auto, unfolding(chess_types::specs::board::Position::start))]
-    pub fn new(alloc: &'a A, table: &'a KeyTable) -> Result<Reader<'a, A>, AllocError>
-        ensures { IfOk result (λ reader. IsNew reader) }
+impl<'a, 'k, A: Allocator> Reader<'a, 'k, A> {
+    /// Nothing read. Takes no memory.
+    pub fn new(alloc: &'a A, basis: &'k Basis) -> Reader<'a, 'k, A>
+        ensures { IsNew result }
     {
-        Ok(Reader {
+        Reader {
             alloc,
-            table,
             header: Header::new(alloc),
-            moves: Moves::new(alloc, Position::start(), table)?,
+            moves: Moves::new(alloc, basis.start(), basis.table()),
             outcome: Outcome::Unfinished,
             moving: false,
-        })
+        }
     }
 
     // The end of the tags: the game begins in the position that they give.
@@ -54,7 +51,7 @@ impl<'a, A: Allocator> Reader<'a, A> {
         let Some(start) = self.header.start()? else {
             return Ok(());
         };
-        self.moves.begin_in(self.alloc, start, self.table)?;
+        self.moves.begin_in(start);
         Ok(())
     }
 
@@ -145,7 +142,6 @@ impl<'a, A: Allocator> Reader<'a, A> {
     {
         let Reader {
             alloc,
-            table: _,
             header,
             moves,
             outcome,
@@ -177,7 +173,7 @@ impl<'a, A: Allocator> Reader<'a, A> {
     }
 }
 
-impl<'a, A: Allocator> Taker for Reader<'a, A> {
+impl<'a, 'k, A: Allocator> Taker for Reader<'a, 'k, A> {
     ghost use Rattle.chess_pgn.specs.steps.ReaderCode.{TakesItem};
 
     ghost takes = { λ old at item result new. TakesItem old item result new };
