@@ -5,6 +5,7 @@ ghost use Rattle.chess_items.specs.Coming.{Breaks, Came, unread};
 ghost use Rattle.chess_items.specs.Sections.{PassesOver};
 ghost use Rattle.chess_items.specs.declared.fault.FaultKind.TheVariants.{Memory};
 ghost use Rattle.chess_pgn.specs.Games as games;
+ghost use Rattle.chess_pgn.specs.declared.games.GamesFault.TheVariants.{Pgn};
 ghost use Rattle.chess_pgn.specs.Reading.{HasNoGame, IsAnswered, IsAtFront, IsWhite};
 ghost use Rattle.chess_pgn.specs.Sources.{GoesOn, HasFault, HasNone, IsPlaced, IsSound, NextGame, NotPassed};
 ghost use Rattle.chess_pgn.specs.steps.GameAt.{TakesGame};
@@ -29,7 +30,7 @@ const LIMIT: usize = 1_048_576;
 /// Why no game comes.
 #[derive(Clone, Copy, Debug, PartialEq, Eq, Error)]
 pub enum GamesFault {
-    /// What stands there is no game, or there is no memory for it. The place is counted from the input's beginning.
+    /// The text there is no game, or there is no memory for it. The place is counted from the input's beginning.
     #[error("what stands there is no game")]
     Pgn(PgnFault),
     /// A read failed, or there were 2^40 reads.
@@ -37,7 +38,7 @@ pub enum GamesFault {
     Read,
 }
 
-// The fault where no item stands: a comment without its end is cut off by the end of the input.
+// The fault where there is no item: a comment without its end is cut off by the end of the input.
 fn aground<A: Allocator>(
     reader: &Reader<'_, '_, A>,
     unread: &[u8],
@@ -84,7 +85,7 @@ fn stopped_game<'a, 'k, A: Allocator>(
     reader.into_game()
 }
 
-// The game at the front of a text, and how many bytes it took.
+// The game at the start of a text, and how many bytes it took.
 fn take_game<'a, X: Text, A: Allocator>(
     alloc: &'a A,
     basis: &Basis,
@@ -111,7 +112,7 @@ fn take_game<'a, X: Text, A: Allocator>(
 ///
 /// # Errors
 ///
-/// The first fault of the text, with its place in bytes from the text's beginning.
+/// The first fault of the text, with its place in bytes from the text's beginning; `8 Memory` has place 0.
 pub fn read_game<'a, A: Allocator>(
     alloc: &'a A,
     input: &[u8],
@@ -121,36 +122,42 @@ pub fn read_game<'a, A: Allocator>(
     ensures none { result ≡ Ok None → IsWhite input.now }
     ensures white { IsWhite input.now → IfOk result (λ found. found ≡ None) × IfErr result (λ fault. fault.kind ≡ Memory) }
     ensures fault { IfErr result (λ fault. (fault.kind ≡ Memory) ⊎ HasNoGame input.now) }
+    ensures memory { IfErr result (λ fault. fault.kind ≡ Memory → fault.place ≡ 0) }
     ensures only { (game : games.Game) (used : ℕ) → IsAtFront input.now game used → IsAnswered game used result }
 {
     match take_game(alloc, &Basis::new(), &mut Whole { left: input }) {
         Ok(game) => Ok(game),
-        Err(GamesFault::Pgn(fault)) => Err(fault),
+        Err(GamesFault::Pgn(fault)) => Err(placed_after(fault, 0)),
         // Nothing is read of a whole text.
         Err(GamesFault::Read) => unreachable!(),
     }
 }
 
-// A fault with its place behind so many bytes.
+// A fault of a text with its place after so many bytes; want of memory has its place there.
+fn placed_after(fault: PgnFault, used: u64) -> PgnFault
+    ensures kind { result.kind ≡ fault.kind }
+    ensures place { IsPlaced used (Pgn result) }
+{
+    match fault.kind {
+        FaultKind::Memory => PgnFault {
+            place: used,
+            kind: FaultKind::Memory,
+        },
+        kind => PgnFault {
+            place: fault.place.saturating_add(used),
+            kind,
+        },
+    }
+}
+
+// A fault with its place after so many bytes.
 fn placed(fault: GamesFault, used: u64) -> GamesFault
     ensures kind { HasKind fault result }
     ensures place { IsPlaced used result }
 {
     match fault {
         GamesFault::Read => GamesFault::Read,
-        GamesFault::Pgn(
-            PgnFault {
-                place: _,
-                kind: FaultKind::Memory,
-            },
-        ) => GamesFault::Pgn(PgnFault {
-            place: used,
-            kind: FaultKind::Memory,
-        }),
-        GamesFault::Pgn(PgnFault { place, kind }) => GamesFault::Pgn(PgnFault {
-            place: place.saturating_add(used),
-            kind,
-        }),
+        GamesFault::Pgn(fault) => GamesFault::Pgn(placed_after(fault, used)),
     }
 }
 
@@ -276,8 +283,8 @@ impl<'a, R: Source, A: Allocator> Games<'a, R, A> {
         placed
     }
 
-    /// The next game; `None` where there are only white space and hidden lines. It is read before the next: the source is asked for more
-    /// only where the bytes at hand don't decide what they spell.
+    /// The next game; `None` where there are only white space and hidden lines. It is read before the next: the source is asked for more,
+    /// at most 65,536 bytes at a time, only where no one game is at the start of the bytes at hand, whatever follows them.
     ///
     /// # Errors
     ///

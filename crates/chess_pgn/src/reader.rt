@@ -55,7 +55,7 @@ impl<'a, 'k, A: Allocator> Reader<'a, 'k, A> {
         Ok(())
     }
 
-    // What ends the movetext: a marker, or in front of it the bracket of a tag.
+    // What ends the movetext: a marker, or before it the bracket of a tag.
     fn ending(&mut self, at: usize, marker: Option<Outcome>) -> Result<Taken, PgnFault>
         ensures { Moved (ending_item marker) result self.old self.new }
     {
@@ -98,7 +98,7 @@ impl<'a, 'k, A: Allocator> Reader<'a, 'k, A> {
         Ok(Taken::GoesOn)
     }
 
-    // An item in front of the movetext, or its first one.
+    // An item before the movetext, or its first one.
     fn head(&mut self, at: usize, token: Token<'_>) -> Result<Taken, PgnFault>
         requires { is_begun self.old.header.part ≡ false }
         ensures { takes_when false (item_of token.entry) result self.old self.new }
@@ -126,7 +126,7 @@ impl<'a, 'k, A: Allocator> Reader<'a, 'k, A> {
         }
     }
 
-    /// The fault where at that place no item stands.
+    /// The fault where at that place there is no item.
     pub fn unspelled(&self, at: usize) -> PgnFault {
         if self.header.is_in_tag() {
             self.header.malformed()

@@ -20,7 +20,7 @@ use std::alloc::{AllocError, Allocator};
 /// The most variations that are open at once.
 const DEEPEST: usize = 128;
 
-/// A line that a variation interrupts, behind its last move.
+/// A line that a variation interrupts, after its last move.
 #[derive(Clone, Copy)]
 struct Interrupted {
     /// How many plies come before that move, and its place among its siblings.
@@ -38,12 +38,12 @@ pub struct Moves<'a, 'k, A: Allocator> {
     interrupted: Vec<Interrupted, &'a A>,
     /// Whether that line has a move.
     played: bool,
-    /// The comments of its last move from `from` on, each behind a space; before that those of the lines around it.
+    /// The comments of its last move from `from` on, each after a space; before that those of the lines around it.
     comments: Vec<u8, &'a A>,
     from: usize,
 }
 
-// A comment behind a semicolon, which might stand between braces.
+// A comment after a semicolon, which might stand between braces.
 fn push_line<'a, A: Allocator>(text: &mut Vec<u8, &'a A>, line: &[u8]) -> Result<(), AllocError>
     ensures { OnOk result (text.new.items ≡ text.old.items ++ map without_brace line.now) }
 {
@@ -97,7 +97,7 @@ impl<'a, 'k, A: Allocator> Moves<'a, 'k, A> {
         Ok(())
     }
 
-    /// A comment behind a semicolon.
+    /// A comment after a semicolon.
     pub fn line_comment(&mut self, line: &[u8]) -> Result<(), AllocError>
         ensures steps { OnOk result (StepsOn (grammar.Remark (normalised (map without_brace line.now))) self.old self.new) }
         ensures first { OnOk result (IsLed (normalised (map without_brace line.now)) self.old self.new) }
@@ -168,7 +168,7 @@ impl<'a, 'k, A: Allocator> Moves<'a, 'k, A> {
         Ok(())
     }
 
-    // Whether the comments are the cursor's: behind a move, and before the first move of the game.
+    // Whether the comments are the cursor's: after a move, and before the first move of the game.
     fn is_behind_move(&self) -> bool
         ensures { result ≡ (self.now.played || is_nil self.now.interrupted.items) }
     {
@@ -190,7 +190,7 @@ impl<'a, 'k, A: Allocator> Moves<'a, 'k, A> {
         Ok(())
     }
 
-    /// The begin of a variation, which takes the place of the last move.
+    /// The begin of a variation, which replaces the last move.
     pub fn open(&mut self, at: usize) -> Result<(), PgnFault>
         ensures steps { OnOk result (StepsOn grammar.Open self.old self.new) }
         ensures refuses { IfErr result (λ fault. RefusesElements (grammar.Open ∷ []) fault.kind self.old) }
@@ -214,7 +214,7 @@ impl<'a, 'k, A: Allocator> Moves<'a, 'k, A> {
         Ok(())
     }
 
-    // Goes on with a line behind its last move.
+    // Goes on with a line after its last move.
     fn resume(&mut self, line: Interrupted)
         ensures analysis { line.place < count (below_at (take line.depth self.old.analysis.path) self.old.analysis.tree.below)
             → self.new.analysis ≡ at_path (take line.depth self.old.analysis.path ++ line.place ∷ []) self.old.analysis }

@@ -1,18 +1,15 @@
 use Rattle.std.proofs.Common.{◌≡◌, ap, ◌∙◌, List, ℕ, ◌++◌, ◌∷◌, [], append_assoc}
 use Rattle.chess_tree.specs.GameTree.{TreeParts, here}
-use Rattle.chess_pgn.proofs.SayLemmas.{first_said, next_said, no_bytes, nothing_said, then}
-use Rattle.chess_pgn.proofs.reader.moves.say.Goals as goal
+use Rattle.chess_pgn.proofs.SayLemmas.{first_said, next_said, no_bytes, then}
+use Rattle.chess_pgn.proofs.reader.late.say.Goals as goal
 
 pub returns-then-is_empty : goal.returns-then-is_empty
-returns-then-is_empty g c = nothing_said c.args.analysis.now c.args.text.now (no_bytes c.args.text.now c.if-is_empty.ensures)
-
-pub returns-then-is_empty-2 : goal.returns-then-is_empty-2
-returns-then-is_empty-2 g c =
+returns-then-is_empty g c =
     let t = c.args.analysis.now in
     let said = c.notes.result.comment.now in
     then c.set_comment.result c.set_comment.ensures
     (λ e. e ∙ first_said t c.args.text.now said c.tree.ensures.game
-    (c.notes.ensures.comment ∙ ap (λ (z : TreeParts). (here z).comment) c.tree.ensures.tree) (no_bytes said c.if-is_empty-2.ensures))
+    (c.notes.ensures.comment ∙ ap (λ (z : TreeParts). (here z).comment) c.tree.ensures.tree) (no_bytes said c.if-is_empty.ensures))
 
 pub returns : goal.returns
 returns g c =
