@@ -15,7 +15,6 @@ pub struct Basis {
 
 impl Basis {
     /// The same for every game.
-    #[tactic(auto, unfolding(chess_types::specs::board::Position::start))]
     pub fn new() -> Basis {
         Basis {
             table: KeyTable::new([0; 768]),

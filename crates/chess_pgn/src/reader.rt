@@ -29,6 +29,7 @@ pub struct Reader<'a, 'k, A: Allocator> {
 
 impl<'a, 'k, A: Allocator> Reader<'a, 'k, A> {
     /// Nothing read. Takes no memory.
+    #[tactic(auto, unfolding(chess_types::specs::board::Position::start))]
     pub fn new(alloc: &'a A, basis: &'k Basis) -> Reader<'a, 'k, A>
         ensures { IsNew result }
     {

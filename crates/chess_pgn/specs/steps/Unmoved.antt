@@ -2,7 +2,7 @@
 --   unmoved        no move and no comment, and the cursor at the root
 --   parts_so_far   so it is before an analysis has begun; afterwards it is the analysis's
 use Rattle.std.specs.Prelude.{[], Option, Some, None}
-use Rattle.std.specs.Box.{Box}
+use Rattle.std.specs.declared.boxed.Box.{Box}
 use Rattle.chess_types.specs.board.Position.{State}
 use Rattle.chess_tree.specs.Forest.{Bare}
 use Rattle.chess_tree.specs.GameTree.{TreeParts}

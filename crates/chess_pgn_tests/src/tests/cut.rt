@@ -1,5 +1,5 @@
 //! A game cut anywhere, and games up to the limits.
-use super::common::first_game;
+use super::common::{NO_MEMORY, first_game};
 use chess_pgn::{FaultKind, PgnFault, game_laws, read_game, write_game};
 use linked_list_allocator::LocalHeap;
 use std::alloc::{AllocError, Allocator, Global};
@@ -137,7 +137,7 @@ fn is_read(rt: &impl Abort, begun: Begun) -> bool {
             true
         }
         Err(fault) => {
-            assert!(rt; fault.kind == FaultKind::Memory);
+            assert!(rt; fault == NO_MEMORY);
             false
         }
     }
