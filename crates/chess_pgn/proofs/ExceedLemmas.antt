@@ -1,6 +1,6 @@
 -- A tree at one of its limits, with a move more, is too large, however the reading goes on.
 use Rattle.std.proofs.Common.{◌≡◌, ◌⊎◌, ℕ, zero, suc, ◌+◌, ◌<◌, ◌≤◌, Bool, true, false, List, [], ◌∷◌, ◌++◌, length, Some, None, refl, sym, subst, ap, ◌∙◌, arith, length-append}
-use Rattle.std.specs.Prelude.{Option, Result, Ok, Err, OnOk, if◌then◌else◌}
+use Rattle.std.specs.Prelude.{IfOk, Option, Result, Ok, Err, OnOk, if◌then◌else◌}
 use mathlib.Core.Logic.{inl, inr}
 use Rattle.chess_types.specs.board.MoveParts.{MoveParts}
 use Rattle.chess_types.specs.board.Position.{State}
@@ -221,3 +221,7 @@ room_exceeds t t1 lines played due comments from w text m kind e1 legal (inr ful
 pub ok_of : {A E P : Type 0} (r : Result A E) → ((fault : E) → r ≡ Err fault → ⊥) → OnOk r P → P
 ok_of (Ok x) none h = h
 ok_of (Err fault) none h = absurd (none fault refl)
+
+-- what holds of every value that there may be, of the one that there is
+pub legal_of : {A E : Type 0} (r : Result A E) (m : A) (P : A → Type 0) → IfOk r P → r ≡ Ok m → P m
+legal_of r m P h e = subst (λ (x : Result _ _). IfOk x P) e h

@@ -77,7 +77,8 @@ fn set_comment<'a, 'k, A: Allocator>(
     analysis: &mut Analysis<'a, 'k, A>,
     text: &[u8],
 ) -> Result<(), AllocError>
-    ensures { OnOk result (analysis.new ≡ commented_here (normalised text.now) analysis.old) }
+    ensures ok { OnOk result (analysis.new ≡ commented_here (normalised text.now) analysis.old) }
+    ensures line { OnOk result (line_to analysis.new ≡ line_to analysis.old) }
 {
     match analysis.set_comment(text) {
         Ok(()) => Ok(()),
@@ -91,7 +92,8 @@ fn say<'a, 'k, A: Allocator>(
     analysis: &mut Analysis<'a, 'k, A>,
     text: &[u8],
 ) -> Result<(), AllocError>
-    ensures { OnOk result (analysis.new ≡ said_here (normalised text.now) analysis.old) }
+    ensures said { OnOk result (analysis.new ≡ said_here (normalised text.now) analysis.old) }
+    ensures line { OnOk result (line_to analysis.new ≡ line_to analysis.old) }
 {
     let said = analysis.tree().notes().comment;
     if said.is_empty() {
@@ -158,7 +160,8 @@ impl<'a, 'k, A: Allocator> Late<'a, 'k, A> {
 
     /// Adds a comment after the one at the cursor.
     pub fn say(&mut self, text: &[u8]) -> Result<(), AllocError>
-        ensures { OnOk result (self.new ≡ said_here (normalised text.now) self.old) }
+        ensures said { OnOk result (self.new ≡ said_here (normalised text.now) self.old) }
+        ensures line { OnOk result (line_to self.new ≡ line_to self.old) }
     {
         if text.is_empty() {
             return Ok(());

@@ -110,6 +110,7 @@ impl<'a, 'k, A: Allocator> Moves<'a, 'k, A> {
     // Notes the comments at the cursor.
     fn note(&mut self) -> Result<(), AllocError>
         ensures analysis { OnOk result (self.new.analysis ≡ said_here (normalised (drop (min self.old.from (length self.old.comments.items)) self.old.comments.items)) self.old.analysis) }
+        ensures line { OnOk result (line_to self.new.analysis ≡ line_to self.old.analysis) }
         ensures comments { OnOk result (self.new.comments.items ≡ take (min self.old.from (length self.old.comments.items)) self.old.comments.items) }
         ensures from { self.new.from ≡ self.old.from }
         ensures played { self.new.played ≡ self.old.played }
@@ -124,6 +125,7 @@ impl<'a, 'k, A: Allocator> Moves<'a, 'k, A> {
     // The same, where they are due.
     fn note_if(&mut self, due: bool) -> Result<(), AllocError>
         ensures analysis { OnOk result (self.new.analysis ≡ (if due then said_here (normalised (drop (min self.old.from (length self.old.comments.items)) self.old.comments.items)) self.old.analysis else self.old.analysis)) }
+        ensures line { OnOk result (line_to self.new.analysis ≡ line_to self.old.analysis) }
         ensures comments { OnOk result (self.new.comments.items ≡ (if due then take (min self.old.from (length self.old.comments.items)) self.old.comments.items else self.old.comments.items)) }
         ensures from { self.new.from ≡ self.old.from }
         ensures played { self.new.played ≡ self.old.played }

@@ -11,10 +11,10 @@ returns-in-Ok-None-clause-game g c =
     none_come g.X.Text.comes g.X.Text.at_hand g.X.Text.all g.X.Text.sound g.X.Text.size (λ s at item result t. TakesItem s item result t) 1048576 c.args.text.now c.pass.new.text
     c.new-reader.result c.pass.new.taker c.in-Ok-None.field-0 c.in-Ok-None.ensures.passes c.in-Ok-None.field-0-is
 
-pub returns-in-Ok-stopped_game-clause-game : goal.returns-in-Ok-stopped_game-clause-game
-returns-in-Ok-stopped_game-clause-game g c =
-    game_come g.X.Text.comes g.X.Text.at_hand g.X.Text.all g.X.Text.sound g.X.Text.size c.args.text.now c.new-reader.result c.pass.new.taker c.new-reader.ensures c.in-Ok-stopped_game.game c.pass.new.text
-    c.in-Ok-Some.field-0 c.in-Ok-Some.stopped c.in-Ok-Some.ensures.passes c.in-Ok-Some.field-0-is c.in-Ok-stopped_game.ensures.game
+pub returns-in-Ok-clause-game : goal.returns-in-Ok-clause-game
+returns-in-Ok-clause-game g c =
+    game_come g.X.Text.comes g.X.Text.at_hand g.X.Text.all g.X.Text.sound g.X.Text.size c.args.text.now c.new-reader.result c.pass.new.taker c.new-reader.ensures c.in-Ok.game c.pass.new.text
+    c.in-Ok-Some.field-0 c.in-Ok-Some.stopped c.in-Ok-Some.ensures.passes c.in-Ok-Some.field-0-is c.in-Ok.ensures.game
 
 pub returns-in-Err-clause-game : goal.returns-in-Err-clause-game
 returns-in-Err-clause-game g c =
