@@ -5,7 +5,6 @@ ghost use Rattle.chess_c.specs.Games.{IsGame, IsWithout};
 
 use crate::codes::{MEMORY, NO_GAME, OK};
 use crate::texts::hand;
-use chess_key::KeyTable;
 use chess_pgn::{FaultKind, Games, PgnFault, read_game, write_game};
 use chess_types::FromBytes;
 use std::alloc::Global;
@@ -34,8 +33,7 @@ pub extern "C" fn jatshegi_game_read(
 ) -> u32
     ensures { IsGame text.now result count.old count.new used.old used.new game.old game.new }
 {
-    let table = KeyTable::fixed();
-    match read_game(&alloc, &table, text) {
+    match read_game(&alloc, text) {
         Ok(None) => NO_GAME,
         Ok(Some((found, taken))) => {
             let Ok(written) = write_game(&alloc, &found) else {
@@ -52,8 +50,7 @@ pub extern "C" fn jatshegi_game_read(
 /// of tags, or all.
 #[unsafe(no_mangle)]
 pub extern "C" fn jatshegi_game_pass(alloc: Global, text: &[u8], used: &mut u64) -> u32 {
-    let table = KeyTable::fixed();
-    let mut games = Games::new(&alloc, &table, FromBytes::new(text, PIECE));
+    let mut games = Games::new(&alloc, FromBytes::new(text, PIECE));
     if games.next().is_err() {
         drop(games.pass_over());
     }

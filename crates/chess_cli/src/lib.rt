@@ -16,5 +16,5 @@ pub use board_command::{
 };
 pub use ended::Ended;
 pub use laws::{collection_laws, path_laws};
-pub use pgn_command::{pgn, pgn_with};
+pub use pgn_command::pgn;
 pub use uci_command::{Clock, uci, uci_with};

@@ -1,6 +1,5 @@
 ghost use Rattle.std.specs.Prelude.{◌≡◌, false};
 
-use chess_key::KeyTable;
 use chess_loop::write_all;
 use chess_pgn::{Game, Games, PgnFault, write_game};
 use chess_programs::{EachGame, Failure, Place, Progress, go_over};
@@ -54,8 +53,7 @@ pub fn filter<A: Allocator, R: Source + Drop, W: Sink>(
     requires reader { R.failed reader ≡ false }
     requires writer { W.failed writer.old ≡ false }
 {
-    let table = KeyTable::fixed();
-    let mut games = Games::new(&alloc, &table, reader);
+    let mut games = Games::new(&alloc, reader);
     let mut good_games = GoodGames {
         rt,
         alloc: &alloc,
