@@ -79,7 +79,7 @@ impl<'a, 'w, A: Allocator, W: Sink> Rows<'a, 'w, A, W> {
 
     // Writes a game's row, if it is asked for.
     fn game(&mut self, place: Place, game: &Game<'a, A>) -> Result<(), Failure> {
-        let report = Report::of(self.alloc, self.table, game)?;
+        let report = Report::of(self.alloc, game, self.table)?;
         if self.asked.findings && !has_finding(&report) {
             return Ok(());
         }
@@ -146,7 +146,7 @@ pub fn judge<A: Allocator, R: Source + Drop, W: Sink>(
     requires writer { W.failed writer.old ≡ false }
 {
     let table = KeyTable::fixed();
-    let mut games = Games::new(&alloc, &table, reader);
+    let mut games = Games::new(&alloc, reader);
     let mut rows = Rows {
         alloc: &alloc,
         table: &table,

@@ -8,7 +8,6 @@ ghost use Rattle.chess_loop.specs.RunEnds.{most_reads};
 ghost use Rattle.chess_cli.specs.steps.Collecting.{EndsBy, WritesAll, WritesOne};
 
 use super::ended::Ended;
-use chess_key::KeyTable;
 use chess_loop::write_all;
 use chess_pgn::{FaultKind, Game, Games, GamesFault, PgnFault, write_game};
 use chess_types::{Failed, Sink, Source};
@@ -122,21 +121,7 @@ pub fn pgn<A: Allocator, R: Source, W: Sink>(alloc: A, reader: &mut R, writer: &
     requires writer { W.failed writer.old ≡ false }
     ensures { CollectionEnds R.gives R.failed W.takes W.failed R.ended result reader.old reader.new writer.old writer.new }
 {
-    pgn_with(alloc, reader, writer, &KeyTable::fixed())
-}
-
-/// `pgn` with keys by the table of the caller. What is written doesn't depend on it.
-pub fn pgn_with<A: Allocator, R: Source, W: Sink>(
-    alloc: A,
-    reader: &mut R,
-    writer: &mut W,
-    table: &KeyTable,
-) -> Ended
-    requires reader { R.failed reader.old ≡ false }
-    requires writer { W.failed writer.old ≡ false }
-    ensures { CollectionEnds R.gives R.failed W.takes W.failed R.ended result reader.old reader.new writer.old writer.new }
-{
-    let mut games = Games::new(&alloc, table, Lent { reader });
+    let mut games = Games::new(&alloc, Lent { reader });
     let ended = write_lent(&alloc, &mut games, writer);
     let Lent { reader: _left } = games.into_source();
     ended

@@ -24,7 +24,7 @@ mod sitting;
 mod texts;
 
 pub use clock::Clock;
-pub use collection::{pgn, pgn_with};
+pub use collection::pgn;
 pub use ended::Ended;
 pub use laws::{collection_laws, path_laws};
 pub use machine::Board;

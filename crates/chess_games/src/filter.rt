@@ -2,7 +2,6 @@ ghost use Rattle.std.specs.Prelude.{◌≡◌, false};
 ghost use Rattle.chess_pgn.specs.Sources.{IsSound};
 
 use crate::progress::Progress;
-use chess_key::KeyTable;
 use chess_loop::write_all;
 use chess_pgn::{FaultKind, Game, Games, GamesFault, PgnFault, write_game};
 use chess_types::{Sink, Source};
@@ -93,7 +92,6 @@ pub fn filter<A: Allocator, R: Source + Drop, W: Sink>(
     requires reader { R.failed reader ≡ false }
     requires writer { W.failed writer.old ≡ false }
 {
-    let table = KeyTable::fixed();
-    let mut games = Games::new(&alloc, &table, reader);
+    let mut games = Games::new(&alloc, reader);
     write_good(&alloc, &mut games, writer, progress)
 }

@@ -56,8 +56,8 @@ pub fn game(rt: &HostRuntime, texts: &[&str]) -> io::Result<()> {
 
 /// The main line of a game with its comments, and how many variations each move has.
 pub fn main_line(rt: &HostRuntime, text: &str) -> io::Result<()> {
-    let (alloc, table) = (rt.alloc(), KeyTable::fixed());
-    let Ok(Some((game, _))) = read_game(&alloc, &table, text.as_bytes()) else {
+    let alloc = rt.alloc();
+    let Ok(Some((game, _))) = read_game(&alloc, text.as_bytes()) else {
         return println!(rt; "no game");
     };
     let mut node = game.tree.root();

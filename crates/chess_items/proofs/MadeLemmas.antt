@@ -1,10 +1,10 @@
 -- Bytes at hand of a source are a text.
-use Rattle.std.proofs.Common.{◌≡◌, ℕ, ◌+◌, ◌≤◌, inl, inr, Bool, true, false, List, [], ◌∷◌, ◌++◌, length, refl, ap, subst, ◌∙◌, arith, append_assoc, append-nil, length-append, Result, Ok, Err}
+use Rattle.std.proofs.Common.{◌≡◌, ◌⊎◌, ℕ, ◌+◌, ◌≤◌, inl, inr, Bool, true, false, List, [], ◌∷◌, ◌++◌, length, refl, sym, ap, subst, ◌∙◌, arith, append_assoc, append-nil, length-append, Result, Ok, Err}
 use Rattle.chess_types.specs.bytes.Calls.{joined}
 use Rattle.chess_items.specs.steps.Deciding.{Decides}
 use Rattle.chess_items.specs.Coming.{AtHand, unread}
 use Rattle.chess_items.specs.steps.AtHands.{Needed, HasRead, Readied}
-use Rattle.chess_items.specs.steps.Texts.{Near, AfterCame, MadeReady}
+use Rattle.chess_items.specs.steps.Texts.{Near, Needs, AfterCame, MadeReady}
 use Rattle.chess_items.specs.declared.at_hand.Fault.{Fault}
 use Rattle.chess_items.specs.declared.place.Place.{Place}
 use Rattle.chess_items.proofs.BreakLemmas.{brings, ends_truly, has_all, size_at_hand}
@@ -20,6 +20,19 @@ near_of most place front (p ∷ pieces) n =
     near_on place front p (front ++ (p ++ joined pieces)) n.2 n.0
     (subst (λ (x : List ℕ). Near place (front ++ p) x) (append_assoc front p (joined pieces)) (near_of most place (front ++ p) pieces n.3))
 
+-- the last of the pieces, and those before it
+abbrev LastOf : Place → List ℕ → List (List ℕ) → Type 0
+LastOf place front pieces =
+    (earlier : List ℕ) × (piece : List ℕ) × (joined pieces ≡ earlier ++ piece) × (length piece ≤ 65536) × (Decides place (front ++ earlier) → ⊥) × (pieces ≡ [] → ⊥)
+
+last_of : (most : ℕ) (place : Place) (front : List ℕ) (pieces : List (List ℕ)) → Needed most place front pieces → (pieces ≡ []) ⊎ LastOf place front pieces
+last_of most place front [] n = inl refl
+last_of most place front (p ∷ pieces) n = inr (on (last_of most place (front ++ p) pieces n.3))
+  where
+    on : (pieces ≡ []) ⊎ LastOf place (front ++ p) pieces → LastOf place front (p ∷ pieces)
+    on (inl e) = ([], p, ap (λ (x : List (List ℕ)). p ++ joined x) e ∙ append-nil p, n.2, subst (λ (x : List ℕ). Decides place x → ⊥) (sym (append-nil front)) n.0, λ h. cc)
+    on (inr h) = (p ++ h.0, h.1, ap (λ (x : List ℕ). p ++ x) h.2 ∙ sym (append_assoc p h.0 h.1), h.3, subst (λ (x : List ℕ). Decides place x → ⊥) (append_assoc front p h.0) h.4, λ e. cc)
+
 -- What is held stays below the most that is asked for, and one piece.
 held_of : (most : ℕ) (place : Place) (front : List ℕ) (pieces : List (List ℕ)) → Needed most place front pieces → length front ≤ most + 65536 → length (front ++ joined pieces) ≤ most + 65536
 held_of most place front [] n few = rw (append-nil front) few
@@ -34,11 +47,19 @@ module _ {R : Type 0} (gives : R → List ℕ → R → Type 0) (ended : R → T
       let l : length (unread new) ≡ length (unread old) + length (joined pieces) = ap length e ∙ length-append (unread old) (joined pieces) in
       omega (arith, k, l, counted)
 
+  asks : (is_ready : Bool) (r : HasRead gives ended failed most place old new is_ready) → Needs unread (has_all gives failed) place old (joined r.pieces) new
+  asks is_ready r = by (last_of most place (unread old) r.pieces r.needed)
+    where
+      by : (r.pieces ≡ []) ⊎ LastOf place (unread old) r.pieces → Needs unread (has_all gives failed) place old (joined r.pieces) new
+      by (inl e) = inl (ap joined e, r.quiet e)
+      by (inr h) = inr (h.0, h.1, h.2, h.3, h.4, λ e. h.5 (r.at_end e).0)
+
   came_after : (is_ready : Bool) (r : HasRead gives ended failed most place old new is_ready) → AfterCame (brings gives failed) unread (has_all gives failed) (ends_truly gives failed ended) (size_at_hand gives failed) most place old (joined r.pieces) new is_ready
   came_after false r = record {
     longer = r.whole;
     over = r.after.0;
     undecided = r.after.1;
+    asked = asks false r;
     at_end = λ e. (ap joined (r.at_end e).0, (r.at_end e).1);
     sound_still = r.ended_so;
     held = (λ few. rw (r.whole) (held_of most place (unread old) r.pieces r.needed few));
@@ -47,6 +68,7 @@ module _ {R : Type 0} (gives : R → List ℕ → R → Type 0) (ended : R → T
     longer = r.whole;
     decided = r.after;
     near = rw (r.whole) (near_of most place (unread old) r.pieces r.needed);
+    asked = asks true r;
     at_end = λ e. (ap joined (r.at_end e).0, (r.at_end e).1);
     sound_still = r.ended_so;
     no_larger = size_falls r.pieces r.needed r.counted r.whole;

@@ -7,7 +7,7 @@ use Rattle.chess_types.proofs.CallLemmas.{Calls-more, joined-more}
 use Rattle.chess_items.specs.Items.{Item, TagOpen, is_white, may_stand, place_after}
 use Rattle.chess_items.specs.steps.ItemAt.{Found, item_at}
 use Rattle.chess_items.specs.steps.Deciding.{longer, Decides, is_open}
-use Rattle.chess_items.specs.steps.Texts.{Oversized, Near, MadeReady, IsReady, Keeps}
+use Rattle.chess_items.specs.steps.Texts.{Oversized, Near, Needs, MadeReady, IsReady, Keeps}
 use Rattle.chess_items.specs.steps.Taking.{TakesOne, Brackets, Offered, UsesItem, Next, AfterStop, Settles, Steps, settled}
 use Rattle.chess_items.specs.declared.place.Place.{Place}
 use Rattle.chess_items.specs.declared.taking.Answer.{Answer}
@@ -31,7 +31,7 @@ decided_item place hand more found A (inr all) none e =
     whole None = refl
     whole (Some x) = ap (λ (y : List ℕ). Some (x.0, y)) (sym (append-nil x.1))
 
-near_item : (place : Place) (old hand rest : List ℕ) (item : Item) → Near place old hand → item_at place hand ≡ the item rest → length old ≤ 65536 → length rest ≤ 65536
+near_item : (place : Place) (old hand rest : List ℕ) (item : Item) → Near place old hand → item_at place hand ≡ the item rest → length old ≤ 65537 → length rest ≤ 65537
 near_item place old hand rest item (inl e) found small = (let s = item_shorter place hand item rest found in let l = ap length e in omega (arith, s, l))
 near_item place old hand rest item (inr h) found small =
     (let s = undecided_taken place h.0 h.1 item rest h.4 (subst (λ (x : List ℕ). item_at place x ≡ the item rest) h.2 found) in omega (arith, s, h.3))
@@ -60,11 +60,11 @@ undecided_bracket place (b ∷ hand) more rest some undecided found =
     undecided (subst (λ (x : ℕ). Decides place (x ∷ hand)) (sym k) (bracket_decided place hand t.2.stands))
 
 -- so it was brought by a read for which nothing was at hand
-near_bracket : (place : Place) (old hand rest : List ℕ) → Near place old hand → item_at place hand ≡ the TagOpen rest → length old ≤ 65536 → length hand ≤ 65536
+near_bracket : (place : Place) (old hand rest : List ℕ) → Near place old hand → item_at place hand ≡ the TagOpen rest → length old ≤ 65537 → length hand ≤ 65537
 near_bracket place old hand rest (inl e) found small = (let l = ap length e in omega (arith, l, small))
 near_bracket place old hand rest (inr h) found small = (let t = item_taken place hand TagOpen rest found in by h.0 h.1 h.2 h.3 h.4 t.2.stands (t.1 ∙ ap (λ (x : List ℕ). x ++ rest) t.2.spelled))
   where
-    by : (front piece : List ℕ) → hand ≡ front ++ piece → length piece ≤ 65536 → (Decides place front → ⊥) → may_stand place TagOpen ≡ true → hand ≡ byte "[" ∷ rest → length hand ≤ 65536
+    by : (front piece : List ℕ) → hand ≡ front ++ piece → length piece ≤ 65536 → (Decides place front → ⊥) → may_stand place TagOpen ≡ true → hand ≡ byte "[" ∷ rest → length hand ≤ 65537
     by [] piece e few undecided stands is = (let l = ap length e in omega (arith, l, few))
     by (b ∷ front) piece e few undecided stands is =
         (let k : b ≡ byte "[" = first b (byte "[") (front ++ piece) rest (sym e ∙ is) in absurd (undecided (subst (λ (x : ℕ). Decides place (x ∷ front)) (sym k) (bracket_decided place front stands))))
@@ -148,6 +148,7 @@ module _ {X : Type 0} {comes : X → List ℕ → X → Type 0} {at_hand : X →
               over = λ further none. over_oversized most place (at_hand mid) further a.over a.undecided;
               bracket = λ further none rest found. absurd (undecided_bracket place (at_hand mid) further rest (omega (arith, a.over)) a.undecided found);
             },
+            subst (λ (x : List ℕ). Needs at_hand all place old x mid) (sym (append-nil r.more)) a.asked,
           );
         }
 
@@ -169,6 +170,7 @@ module _ {X : Type 0} {comes : X → List ℕ → X → Type 0} {at_hand : X →
       longer = sym (append-nil (at_hand old));
       decided = inl (found_decides place (at_hand old) item rest (ap (item_at place) (sym same) ∙ sym look) some);
       near = inl refl;
+      asked = inl (refl, λ h. h);
       at_end = λ h. (refl, h);
       sound_still = sure;
       no_larger = omega arith;
@@ -184,7 +186,7 @@ module _ {X : Type 0} {comes : X → List ℕ → X → Type 0} {at_hand : X →
   -- nothing is used
   stops : {T : Type 0} {takes : TakesOne T} {at : ℕ} {t : T} (why : Stop) (u : T) → AfterStop comes at_hand all sound size takes at most place old mid t u why → Steps comes at_hand all sound size takes at most place old mid t u (Ok (step.Stops why))
   stops why u after =
-      record { pieces = ready.pieces; came = ready.came; after = (record { longer = ready.after.longer; at_end = ready.after.at_end; sound_still = sound_still }, after) }
+      record { pieces = ready.pieces; came = ready.came; after = (record { longer = ready.after.longer; at_end = ready.after.at_end; sound_still = sound_still }, after, ready.after.asked) }
 
   all_came : (hand : List ℕ) → hand ≡ [] → Decides place hand ⊎ all mid → all mid
   all_came hand e (inl d) = absurd (nothing_undecided place (subst (λ (x : List ℕ). Decides place x) e d))
@@ -272,6 +274,10 @@ module _ {X : Type 0} {comes : X → List ℕ → X → Type 0} {at_hand : X →
             ap (λ (x : List ℕ). x ++ more) ready.after.longer ∙ append_assoc (at_hand old) (joined ready.pieces) more ∙ ap (λ (x : List ℕ). at_hand old ++ (x ++ more)) (sym no_more) in
             ap (item_at place) (sym e) ∙ found_on more (λ h. none (k.at_end h)) ∙ ap (λ (x : List ℕ). the item (x ++ more)) (sym left)
 
+        asks : Needs at_hand all place old (joined ready.pieces) mid → Needs at_hand all place old (joined pieces) new
+        asks (inl n) = inl (no_more ∙ n.0, λ h. n.1 (k.not_yet h))
+        asks (inr n) = inr (n.0, n.1, no_more ∙ n.2, n.3, n.4, n.5)
+
         counted : length (at_hand old) + length (joined pieces) ≡ length (at_hand new) + used
         counted =
             let e = ap length ready.after.longer in
@@ -283,6 +289,7 @@ module _ {X : Type 0} {comes : X → List ℕ → X → Type 0} {at_hand : X →
         uses : {T : Type 0} {takes : TakesOne T} → used ≤ most → UsesItem comes at_hand all sound size takes most place old pieces new item used
         uses few = record {
           found = finds_left;
+          asked = asks ready.after.asked;
           near = (λ small. rw left (near_item place (at_hand old) (at_hand mid) rest item ready.after.near found small));
           at_end = (λ h. (no_more ∙ (ready.after.at_end h).0, k.at_end (ready.after.at_end h).1));
           sound_still = k.sound_still;

@@ -21,6 +21,7 @@ pub record Going {R : Type 0} (gives : R → List ℕ → R → Type 0) (ended :
   pub well : failed now.source ≡ failed old.source
   pub placed : now.used + length (unread now) ≡ old.used + length (unread old) + length (joined pieces)
   pub at_end : old.has_ended ≡ true → (now.has_ended ≡ true) × (pieces ≡ [])
+  pub quiet : pieces ≡ [] → now.has_ended ≡ true → old.has_ended ≡ true
   pub each : now.has_ended ≡ false → AllByRecursion (λ piece. 0 < length piece) pieces
   pub whole : unread now ≡ unread old ++ joined pieces
   pub ended_so : now.has_ended ≡ true → ended now.source
@@ -37,6 +38,7 @@ module _ {R : Type 0} (gives : R → List ℕ → R → Type 0) (ended : R → T
     well = refl;
     placed = omega arith;
     at_end = λ e. (e, refl);
+    quiet = λ e h. h;
     each = λ e. tt;
     whole = sym (append-nil (unread old));
     ended_so = so;
@@ -57,6 +59,7 @@ module _ {R : Type 0} (gives : R → List ℕ → R → Type 0) (ended : R → T
         well = r.after.3 ∙ g.well;
         placed = (let j = ap length (joined-more gives g.pieces r.piece) in let n = length-append (joined g.pieces) r.piece in omega (arith, j, n, r.placed, g.placed));
         at_end = λ e. absurd (false≢true (sym goes ∙ (g.at_end e).0));
+        quiet = λ e h. absurd (let n = length-append g.pieces (r.piece ∷ []) in let k = ap length e in omega (arith, n, k));
         each = λ e. each_append g.pieces (r.piece ∷ []) (g.each goes) (r.after.4 e, tt);
         whole = first ∙ ap (λ (x : List ℕ). x ++ r.piece) g.whole ∙ append_assoc (unread old) (joined g.pieces) r.piece ∙ ap (λ (x : List ℕ). unread old ++ x) (sym (joined-more gives g.pieces r.piece));
         ended_so = r.after.1;

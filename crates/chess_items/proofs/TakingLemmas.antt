@@ -1,10 +1,11 @@
 -- Items are taken, one after another.
-use Rattle.std.proofs.Common.{◌≡◌, ℕ, ◌+◌, ◌-◌, ◌≤◌, arith, length-append, Bool, true, false, ◌&&◌, List, [], ◌∷◌, ◌++◌, length, refl, sym, ap, subst, ◌∙◌, append_assoc, Ok}
+use Rattle.std.proofs.Common.{◌≡◌, inl, inr, ℕ, ◌+◌, ◌-◌, ◌≤◌, arith, length-append, Bool, true, false, ◌&&◌, List, [], ◌∷◌, ◌++◌, length, refl, sym, ap, subst, ◌∙◌, append_assoc, append-nil, Ok}
 use Rattle.chess_types.specs.bytes.Calls.{Calls, joined}
 use Rattle.chess_types.proofs.CallLemmas.{Calls-append, joined-append}
 use Rattle.chess_items.specs.Items.{Item, Spells, is_white, place_after}
-use Rattle.chess_items.specs.steps.Taking.{TakesOne, SpellsFrom, Takes, behind, all_white, UsesItem, Rests, AfterStop, Steps, Took, AfterRun, Ran, RunBreaks}
-use Rattle.chess_items.specs.steps.Texts.{BreaksAt}
+use Rattle.chess_items.specs.steps.Deciding.{Decides}
+use Rattle.chess_items.specs.steps.Taking.{TakesOne, SpellsFrom, Takes, behind, all_white, Asked, LastRead, UsesItem, Rests, AfterStop, Steps, Took, AfterRun, Ran, RunBreaks}
+use Rattle.chess_items.specs.steps.Texts.{BreaksAt, Needs}
 use Rattle.chess_items.specs.declared.at_hand.Fault.{Fault}
 use Rattle.chess_items.specs.declared.at_hand.Fault.TheVariants.{Memory, Read}
 use Rattle.chess_items.specs.declared.place.Place.{Place}
@@ -62,7 +63,8 @@ module _ {X T : Type 0} (comes : X → List ℕ → X → Type 0) (at_hand : X �
     pub items : List (ℕ × Item)
     pub took : Took comes at_hand all sound size takes limit old pieces now items at place white
     pub taken : Takes takes t items u
-    pub near : length (at_hand old) ≤ 65536 → length (at_hand now) ≤ 65536
+    pub asked : Asked comes at_hand all sound size takes old (joined pieces) now t
+    pub near : length (at_hand old) ≤ 65537 → length (at_hand now) ≤ 65537
 
   pub underway_start : sound old → Underway 0 GameStart true old t
   underway_start so = record {
@@ -79,6 +81,7 @@ module _ {X T : Type 0} (comes : X → List ℕ → X → Type 0) (at_hand : X �
       sound_still = so;
     };
     taken = refl;
+    asked = inl (refl, λ e. e);
     near = (λ h. h);
   }
 
@@ -105,6 +108,27 @@ module _ {X T : Type 0} (comes : X → List ℕ → X → Type 0) (at_hand : X �
         let a = w.took.at_end e in
         let b = at_end a.1 in
         (rw (joined-append w.pieces ps, a.0) b.0, b.1)
+
+    -- nothing more came
+    as_asked : joined ps ≡ [] → (all new → all now) → Asked comes at_hand all sound size takes old (joined w.pieces) now t → Asked comes at_hand all sound size takes old (joined (w.pieces ++ ps)) new t
+    as_asked none still (inl a) = inl (joined-append w.pieces ps ∙ ap (λ (x : List ℕ). joined w.pieces ++ x) none ∙ append-nil (joined w.pieces) ∙ a.0, λ e. a.1 (still e))
+    as_asked none still (inr r) =
+        inr (subst (λ (x : List ℕ). LastRead comes at_hand all sound size takes old x t) (sym (joined-append w.pieces ps ∙ ap (λ (x : List ℕ). joined w.pieces ++ x) none ∙ append-nil (joined w.pieces))) r)
+
+    asked_on : Needs at_hand all place now (joined ps) new → Asked comes at_hand all sound size takes old (joined (w.pieces ++ ps)) new t
+    asked_on (inl n) = as_asked n.0 n.1 w.asked
+    asked_on (inr n) = inr (record {
+      earlier = joined w.pieces ++ n.0;
+      piece = n.1;
+      parts = joined-append w.pieces ps ∙ ap (λ (x : List ℕ). joined w.pieces ++ x) n.2 ∙ sym (append_assoc (joined w.pieces) n.0 n.1);
+      small = n.3;
+      items = w.items;
+      rest = at_hand now ++ n.0;
+      last = u;
+      spelled = λ more. rw (append_assoc (joined w.pieces) n.0 more, append_assoc (at_hand now) n.0 more) (w.took.spelled (n.0 ++ more) (λ e. absurd (n.5 e)));
+      taken = w.taken;
+      undecided = subst (λ (p : Place). Decides p (at_hand now ++ n.0) → ⊥) w.took.stands n.4;
+    })
 
     module _ (item : Item) (used : ℕ) (one : UsesItem comes at_hand all sound size takes (limit - at) place now ps new item used) where
       here : (more : List ℕ) → at + length (at_hand now ++ (joined ps ++ more)) ≡ 0 + length (at_hand old ++ (joined (w.pieces ++ ps) ++ more))
@@ -140,6 +164,7 @@ module _ {X T : Type 0} (comes : X → List ℕ → X → Type 0) (at_hand : X �
         items = w.items ++ (at, item) ∷ [];
         took = took_one next is e h;
         taken = takes_more takes t u v w.items (at, item) w.taken taken;
+        asked = asked_on one.asked;
         near = (λ h. one.near (w.near h));
       }
 
@@ -155,6 +180,7 @@ module _ {X T : Type 0} (comes : X → List ℕ → X → Type 0) (at_hand : X �
           mid = u;
           taken = w.taken;
           ends = taken;
+          asked = asked_on one.asked;
           near = (λ h. one.near (w.near h));
         };
       }
@@ -176,20 +202,20 @@ module _ {X T : Type 0} (comes : X → List ℕ → X → Type 0) (at_hand : X �
         sound_still = rests.sound_still;
       }
 
-      after_stop : (v : T) (why : Stop) → AfterStop comes at_hand all sound size takes at (limit - at) place now new u v why → AfterRun comes at_hand all sound size takes limit old (w.pieces ++ ps) new t v at place white why
-      after_stop v stop.Full a = absurd a
-      after_stop v stop.Left a = record { items = w.items; took = took_rest; mid = u; taken = w.taken; item = a.0; rest = a.1.rest; found = a.1.found; answered = a.2; near = (λ h. a.1.near (w.near h)); bracket = (λ e h. a.1.bracket e (w.near h)) }
-      after_stop v (stop.Refused fault) a = record { items = w.items; took = took_rest; mid = u; taken = w.taken; item = a.0; rest = a.1.rest; found = a.1.found; answered = a.2; near = (λ h. a.1.near (w.near h)); bracket = (λ e h. a.1.bracket e (w.near h)) }
-      after_stop v stop.End a = record { items = w.items; took = took_rest; taken = subst (λ x. Takes takes t w.items x) (sym a.2) w.taken; ended = a.0; nothing = a.1 }
-      after_stop v stop.NoItem a = record { items = w.items; took = took_rest; taken = subst (λ x. Takes takes t w.items x) (sym a.1) w.taken; none = a.0 }
-      after_stop v stop.TooLarge a = record { items = w.items; took = took_rest; mid = u; taken = w.taken; exceeds = a }
+      after_stop : (v : T) (why : Stop) → AfterStop comes at_hand all sound size takes at (limit - at) place now new u v why → Needs at_hand all place now (joined ps) new → AfterRun comes at_hand all sound size takes limit old (w.pieces ++ ps) new t v at place white why
+      after_stop v stop.Full a n = absurd a
+      after_stop v stop.Left a n = record { items = w.items; took = took_rest; mid = u; taken = w.taken; item = a.0; rest = a.1.rest; found = a.1.found; answered = a.2; asked = asked_on n; near = (λ h. a.1.near (w.near h)); bracket = (λ e h. a.1.bracket e (w.near h)) }
+      after_stop v (stop.Refused fault) a n = record { items = w.items; took = took_rest; mid = u; taken = w.taken; item = a.0; rest = a.1.rest; found = a.1.found; answered = a.2; asked = asked_on n; near = (λ h. a.1.near (w.near h)); bracket = (λ e h. a.1.bracket e (w.near h)) }
+      after_stop v stop.End a n = record { items = w.items; took = took_rest; taken = subst (λ x. Takes takes t w.items x) (sym a.2) w.taken; asked = asked_on n; ended = a.0; nothing = a.1 }
+      after_stop v stop.NoItem a n = record { items = w.items; took = took_rest; taken = subst (λ x. Takes takes t w.items x) (sym a.1) w.taken; none = a.0 }
+      after_stop v stop.TooLarge a n = record { items = w.items; took = took_rest; mid = u; taken = w.taken; exceeds = a }
 
   pub ran : (at : ℕ) (place : Place) (white : Bool) (now new : X) (u v : T) (why : Stop) → Underway at place white now u → Steps comes at_hand all sound size takes at (limit - at) place now new u v (Ok (step.Stops why))
       → Ran comes at_hand all sound size takes limit old new t v (Ok (record { why = why; at = at; place = place; white = white }))
   ran at place white now new u v why w s = record {
     pieces = w.pieces ++ s.pieces;
     came = all_came at place white now u w s.pieces new s.came;
-    after = after_stop at place white now u w s.pieces new s.came s.after.0 v why s.after.1;
+    after = after_stop at place white now u w s.pieces new s.came s.after.0 v why s.after.1 s.after.2;
   }
 
   pub ran_ends : (at : ℕ) (place : Place) (white : Bool) (now new : X) (u v : T) (next : Place) (used : ℕ) (is : Bool) → Underway at place white now u → Steps comes at_hand all sound size takes at (limit - at) place now new u v (Ok (step.Full next used is))

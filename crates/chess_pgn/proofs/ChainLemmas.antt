@@ -28,7 +28,7 @@ pub record InHead {A : Type 0} (is : List Item) (r : Reader A) : Type 0 where
   pub moving : r.moving ≡ false
   pub outcome : r.outcome ≡ Unfinished
 
--- behind a head, some movetext
+-- after a head, some movetext
 pub record InMovetext {A : Type 0} (head movetext : List Item) (r : Reader A) : Type 0 where
   pub heading : list_all is_heading head ≡ true
   pub tags : List (List ℕ × List ℕ)

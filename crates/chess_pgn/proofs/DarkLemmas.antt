@@ -135,7 +135,7 @@ white_place place (items.Blank b) out e = ap is_game_start (after_blank place _ 
 white_place place items.Hidden out e = ap is_game_start (after_blank place false out)
 white_place place _ out e = absurd cc
 
--- behind white items is no start of a game
+-- after white items is no start of a game
 later : (place : Place) (is : List Item) → is_outside place ≡ true → is_game_start place ≡ false → list_all is_white is ≡ true → is_game_start (place_behind place is) ≡ false
 later place [] out h e = h
 later place (i ∷ is) out h e =

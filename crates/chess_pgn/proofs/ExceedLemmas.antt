@@ -1,6 +1,6 @@
 -- A tree at one of its limits, with a move more, is too large, however the reading goes on.
 use Rattle.std.proofs.Common.{◌≡◌, ◌⊎◌, ℕ, zero, suc, ◌+◌, ◌<◌, ◌≤◌, Bool, true, false, List, [], ◌∷◌, ◌++◌, length, Some, None, refl, sym, subst, ap, ◌∙◌, arith, length-append}
-use Rattle.std.specs.Prelude.{Option, Result, Ok, Err, OnOk, if◌then◌else◌}
+use Rattle.std.specs.Prelude.{IfOk, Option, Result, Ok, Err, OnOk, if◌then◌else◌}
 use mathlib.Core.Logic.{inl, inr}
 use Rattle.chess_types.specs.board.MoveParts.{MoveParts}
 use Rattle.chess_types.specs.board.Position.{State}
@@ -141,7 +141,7 @@ larger n k p i g le h = (
   (let a = path_le_height (p ++ i ∷ []) g h.there in let b = length-append p (i ∷ []) in omega (arith, a, b)),
 )
 
--- behind a move of a line, the tree is larger at the end than before it
+-- after a move of a line, the tree is larger at the end than before it
 text_grows : (w : List ℕ) (es : List Element) (start : State) (c : List ℕ) (f : Forest) (up : List ℕ) (l : Last) (here : State) (lead : List ℕ) (st : List Frame) (d : List ℕ) (g : Forest)
     → Leads (end_of up l) f → goes_on (Text w ∷ es) (state start c f up l here lead st) ≡ Some (d, g) → Larger (moves_held f) (length (end_of up l)) g
 text_grows w es start c f up None here lead [] d g at e =
@@ -209,7 +209,7 @@ text_exceeds t t1 lines played due comments from w text m e1 legal full s h es d
     by (inl deep) = inl (let a = grows.1 in let b = ap length h.path in omega (arith, a, b, deep))
     by (inr many) = inr (let a = grows.0 in let b = ap moves_held h.forest in omega (arith, a, b, many))
 
--- why no move was added, behind a text that names a legal one
+-- why no move was added, after a text that names a legal one
 pub room_exceeds : (t t1 : TreeParts) (lines : List Interrupted) (played due : Bool) (comments : List ℕ) (from : ℕ) (w text : List ℕ) (m : MoveParts) (kind : FaultKind) → t1 ≡ (if due then said_here text t else t)
     → is_legal (last (line_to t)) m ≡ true → IsRoomFault kind (is_legal (last (line_to t1)) m) t1
     → (kind ≡ Memory) ⊎ ((kind ≡ TooLarge)
@@ -221,3 +221,7 @@ room_exceeds t t1 lines played due comments from w text m kind e1 legal (inr ful
 pub ok_of : {A E P : Type 0} (r : Result A E) → ((fault : E) → r ≡ Err fault → ⊥) → OnOk r P → P
 ok_of (Ok x) none h = h
 ok_of (Err fault) none h = absurd (none fault refl)
+
+-- what holds of every value that there may be, of the one that there is
+pub legal_of : {A E : Type 0} (r : Result A E) (m : A) (P : A → Type 0) → IfOk r P → r ≡ Ok m → P m
+legal_of r m P h e = subst (λ (x : Result _ _). IfOk x P) e h

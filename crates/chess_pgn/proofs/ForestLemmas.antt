@@ -157,7 +157,7 @@ numbered_words false Black n text es small f = f
 abbrev pub node_elements : Bool → State → MoveParts → List ℕ → List ℕ → List Element
 node_elements due p m nags comment = numbers_of due p.side ++ (Text (san p m) ∷ (annotations_of nags ++ remark_of comment))
 
--- what is written of a node behind its space or parenthesis
+-- what is written of a node after its space or parenthesis
 pub node_words : (due : Bool) (p : State) (m : MoveParts) (nags comment : List ℕ) → p.number < 2 ^ 64 → IsText (san p m) → AreSmall nags → IsComment comment
     → Words (node_text [] due p m nags comment) (node_elements due p m nags comment)
 node_words due p m nags comment small text are is =

@@ -1,4 +1,4 @@
--- The game that a reader answers stands at the front of the text.
+-- The game that a reader answers stands at the start of the text.
 use Rattle.std.proofs.Common.{◌≡◌, ℕ, ◌+◌, ◌≤◌, Bool, true, false, ◌&&◌, List, [], ◌∷◌, ◌++◌, length, Some, refl, sym, subst, ap, ◌∙◌, arith, append_assoc, append-nil, length-append}
 use Rattle.std.specs.Prelude.{Option, None, Result, Ok}
 use Rattle.std.specs.List.{list_all}
@@ -7,9 +7,10 @@ use mathlib.Core.Logic.{inl, inr}
 use Rattle.chess_types.specs.board.Position.{State}
 use Rattle.chess_types.specs.bytes.Calls.{Calls, joined}
 use Rattle.chess_items.specs.Items as items
-use Rattle.chess_items.specs.Items.{IsSpelled, Item, is_white, place_after}
+use Rattle.chess_items.specs.Items.{IsSpelled, Item, Spells, is_white, place_after}
 use Rattle.chess_items.specs.steps.Passing.{Passed, Passes, WasWhite}
-use Rattle.chess_items.specs.steps.Taking.{AfterRun, TakesOne, Took, RanFull, RanOut, RanUpTo, SpellsFrom, all_white}
+use Rattle.chess_items.specs.steps.Deciding.{Decides}
+use Rattle.chess_items.specs.steps.Taking.{AfterRun, Asked, TakesOne, Took, RanFull, RanOut, RanUpTo, SpellsFrom, all_white, behind}
 use Rattle.chess_items.specs.declared.fault.PgnFault.{PgnFault}
 use Rattle.chess_items.specs.declared.place.Place.{Place}
 use Rattle.chess_items.specs.declared.place.Place.TheVariants.{GameStart}
@@ -19,11 +20,12 @@ use Rattle.chess_items.specs.declared.taking.Stop.{Stop}
 use Rattle.chess_items.specs.declared.taking.Stop.TheVariants as stop
 use Rattle.chess_items.specs.declared.taking.Stopped.{Stopped}
 use Rattle.chess_items.proofs.FoundLemmas.{item_taken}
+use Rattle.chess_items.proofs.SpellLemmas.{place_behind}
 use Rattle.chess_items.proofs.TakingLemmas.{bare, spells_bare}
 use Rattle.chess_pgn.specs.Grammar.{Derives, elements, few_are_open}
 use Rattle.chess_pgn.specs.Reading.{Ends, Gives, HasBegun, IsWithinLimits, Starts, is_heading, remarks}
 use Rattle.chess_pgn.specs.steps.GameCode.{game_of}
-use Rattle.chess_pgn.specs.steps.GameAt.{HasCome, NoneCame}
+use Rattle.chess_pgn.specs.steps.GameAt.{HasCome, NoneCame, ReadsNeeded}
 use Rattle.chess_pgn.specs.steps.HeaderCode.{HasFound}
 use Rattle.chess_pgn.specs.steps.ReaderCode.{Answered, BeginsMoves, Closed, Ended, Finished, HeadsGame, IsNew, Left, TakesItem, begins_when, takes_when}
 use Rattle.chess_pgn.specs.steps.Readings.{IsRead, fresh, goes_on}
@@ -35,6 +37,7 @@ use Rattle.chess_pgn.proofs.ChainLemmas.{InHead, InMovetext, Moving, Progress, b
 use Rattle.chess_pgn.proofs.DerivedLemmas.{derived}
 use Rattle.chess_pgn.proofs.GivenLemmas.{took_tags}
 use Rattle.chess_pgn.proofs.StepLemmas.{no_lines}
+use Rattle.chess_pgn.proofs.UndecidedLemmas.{undecided_none}
 
 -- ---- what isn't white
 
@@ -59,6 +62,11 @@ begun_dark head (item ∷ more) h = dark_after head item more (movetext_dark ite
 pub whites_bare : (is : List (ℕ × Item)) → all_white is ≡ list_all is_white (bare is)
 whites_bare [] = refl
 whites_bare (x ∷ is) = ap (λ (b : Bool). is_white x.1 && b) (whites_bare is)
+
+-- the place after the items, with and without the bytes before each
+pub behind_bare : (place : Place) (is : List (ℕ × Item)) → behind place is ≡ place_behind place (bare is)
+behind_bare place [] = refl
+behind_bare place (x ∷ is) = behind_bare (place_after place x.1) is
 
 bare_more : (is : List (ℕ × Item)) (x : ℕ × Item) → bare (is ++ x ∷ []) ≡ bare is ++ x.1 ∷ []
 bare_more [] x = refl
@@ -114,7 +122,7 @@ module _ {A : Type 0} (is : List Item) (item : Item) (rest : List ℕ) (game : G
   ended_gives (inr h) k =
       at_marker h.head h.movetext old h.parts (begun_starts h.movetext h.begun) h.there (subst (λ (b : Bool). takes_when b item (Ok AtEnd) old new) h.there.moving k)
 
--- in front of a bracket
+-- before a bracket
 module _ {A : Type 0} (is : List Item) (item : Item) (game : Game A) (old new : Reader A) (c : Closed new game) where
   at_bracket : (rest more : List ℕ) → rest ≡ byte "[" ∷ more → Moving is old → Left item old new → GivesGame is rest game
   at_bracket rest more e h l =
@@ -167,9 +175,23 @@ module _ {X A : Type 0} (comes : X → List ℕ → X → Type 0) (at_hand : X �
   limit = 1048576
 
   module _ (pieces : List (List ℕ)) (new : X) (came : Calls comes old pieces new) (at : ℕ) (place : Place) (white : Bool) where
-    come : (is : List (ℕ × Item)) → Took comes at_hand all sound size takes limit old pieces new is at place white → list_all is_white (bare is) ≡ false → game.tree.path ≡ [] → (length (at_hand old) ≤ 65536 → length (at_hand new) ≤ 65536)
-        → IsWithinLimits (game_of game) → ((more : List ℕ) → (all new → more ≡ []) → Gives (bare is) (at_hand new ++ more) (game_of game)) → HasCome comes at_hand all old new game at
-    come is took some cursor near within gives = let front = spelled_front 0 GameStart (at_hand old ++ (joined pieces ++ [])) is (at_hand new ++ []) (took.spelled [] (λ h. refl)) in record {
+    -- the last read was made where no one game was at the start of the bytes before it
+    needs : Asked comes at_hand all sound size takes old (joined pieces) new t → ReadsNeeded comes at_hand all old (joined pieces) new
+    needs (inl a) = inl a
+    needs (inr r) = inr (
+      at_hand old ++ r.earlier,
+      r.piece,
+      ap (λ (z : List ℕ). at_hand old ++ z) r.parts ∙ sym (append_assoc (at_hand old) r.earlier r.piece),
+      r.small,
+      λ g n x. undecided_none (bare r.items) r.last (progress_all [] r.items t r.last (progress_new t new_reader) r.taken) (at_hand old ++ r.earlier) r.rest
+          (λ more. subst (λ (z : List ℕ). Spells GameStart z (bare r.items) (r.rest ++ more)) (sym (append_assoc (at_hand old) r.earlier more))
+          (spells_bare 0 GameStart (at_hand old ++ (r.earlier ++ more)) r.items (r.rest ++ more) (r.spelled more)))
+          (subst (λ (p : Place). Decides p r.rest → ⊥) (behind_bare GameStart r.items) r.undecided) g n x,
+    )
+
+    come : (is : List (ℕ × Item)) → Took comes at_hand all sound size takes limit old pieces new is at place white → list_all is_white (bare is) ≡ false → game.tree.path ≡ [] → (length (at_hand old) ≤ 65537 → length (at_hand new) ≤ 65537)
+        → Asked comes at_hand all sound size takes old (joined pieces) new t → IsWithinLimits (game_of game) → ((more : List ℕ) → (all new → more ≡ []) → Gives (bare is) (at_hand new ++ more) (game_of game)) → HasCome comes at_hand all old new game at
+    come is took some cursor near asked within gives = let front = spelled_front 0 GameStart (at_hand old ++ (joined pieces ++ [])) is (at_hand new ++ []) (took.spelled [] (λ h. refl)) in record {
       pieces = pieces;
       came = came;
       reads = λ more none. record {
@@ -186,6 +208,7 @@ module _ {X A : Type 0} (comes : X → List ℕ → X → Type 0) (at_hand : X �
       parts = ap (λ (z : List ℕ). at_hand old ++ z) (sym (append-nil (joined pieces))) ∙ front.1 ∙ ap (λ (z : List ℕ). front.0 ++ z) (append-nil (at_hand new));
       counted = (let a = ap length front.1 in let b = length-append front.0 (at_hand new ++ []) in let c = length-append (at_hand new) [] in let d = length-append (at_hand old) (joined pieces ++ []) in let e = length-append (joined pieces) [] in omega (arith, a, b, c, d, e, took.counted));
       near = near;
+      needed = needs asked;
       cursor = cursor;
       still = took.at_end;
     }
@@ -195,7 +218,7 @@ module _ {X A : Type 0} (comes : X → List ℕ → X → Type 0) (at_hand : X �
         let is = bare r.items in
         let p : Progress is r.mid = progress_all [] r.items t r.mid (progress_new t new_reader) r.taken in
         let g = ended_gives is r.last.1 [] game r.mid u c p r.ends in
-        come (r.items ++ r.last ∷ []) r.took (ap (list_all is_white) (bare_more r.items r.last) ∙ dark_after is r.last.1 [] g.1) g.0.1 r.near c.within
+        come (r.items ++ r.last ∷ []) r.took (ap (list_all is_white) (bare_more r.items r.last) ∙ dark_after is r.last.1 [] g.1) g.0.1 r.near r.asked c.within
         (λ more none. subst (λ (z : List Item). Gives z (at_hand new ++ more) (game_of game)) (sym (bare_more r.items r.last)) (ended_gives is r.last.1 (at_hand new ++ more) game r.mid u c p r.ends).0.0)
 
     come_left : RanUpTo comes at_hand all sound size takes limit old pieces new t u at place white (Ok Leaves) → Closed u game → HasCome comes at_hand all old new game at
@@ -203,7 +226,7 @@ module _ {X A : Type 0} (comes : X → List ℕ → X → Type 0) (at_hand : X �
         let is = bare r.items in
         let p : Progress is r.mid = progress_all [] r.items t r.mid (progress_new t new_reader) r.taken in
         let g = left_gives is r.item game r.mid u c p r.answered in
-        come r.items r.took g.1 (g.2 (byte "[" ∷ []) [] refl).1 (r.bracket g.0) c.within
+        come r.items r.took g.1 (g.2 (byte "[" ∷ []) [] refl).1 (r.bracket g.0) r.asked c.within
         (λ more none.
         let k = item_taken place (at_hand new ++ more) r.item (r.rest ++ more) (r.found more none) in
         (g.2 (at_hand new ++ more) (r.rest ++ more) (bracket_first k.0 r.item (at_hand new ++ more) (r.rest ++ more) g.0 k.2.spelled k.1)).0)
@@ -213,7 +236,7 @@ module _ {X A : Type 0} (comes : X → List ℕ → X → Type 0) (at_hand : X �
         let is = bare r.items in
         let p : Progress is u = progress_all [] r.items t u (progress_new t new_reader) r.taken in
         let g = finished_gives is game u f p in
-        come r.items r.took (sym (whites_bare r.items) ∙ sym r.took.whites ∙ dark) g.1 (λ h. rw r.nothing (omega arith)) f.ends.within
+        come r.items r.took (sym (whites_bare r.items) ∙ sym r.took.whites ∙ dark) g.1 (λ h. rw r.nothing (omega arith)) r.asked f.ends.within
         (λ more none. subst (λ (z : List ℕ). Gives is z (game_of game)) (sym (ap (λ (z : List ℕ). z ++ more) r.nothing ∙ none r.ended)) g.0)
 
     come_run : (why : Stop) → AfterRun comes at_hand all sound size takes limit old pieces new t u at place white why → (why ≡ stop.End → white ≡ false) → Answered why u game → HasCome comes at_hand all old new game at

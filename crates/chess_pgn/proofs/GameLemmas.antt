@@ -11,7 +11,7 @@ use Rattle.chess_tree.specs.GameTree.{GameTree}
 use Rattle.chess_pgn.specs.Written.{comment_text, escaped, is_within, movetext, moves_text, others_text, outcome_text, tag_text}
 use Rattle.chess_pgn.specs.steps.OtherCode.{shown}
 
--- one part behind another; the last may fail
+-- one part after another; the last may fail
 pub then : {E : Type 0} (r : Result (Unit {0}) E) (x0 x1 x2 p q : List ℕ) → x1 ≡ x0 ++ p → OnOk r (x2 ≡ x1 ++ q) → OnOk r (x2 ≡ x0 ++ (p ++ q))
 then (Ok u) x0 x1 x2 p q e h = h ∙ ap (λ (x : List ℕ). x ++ q) e ∙ append_assoc x0 p q
 then (Err u) x0 x1 x2 p q e h = tt
@@ -59,7 +59,7 @@ some_behind : (xs ys : List (List ℕ)) → ys ≢ [] → xs ++ ys ≢ []
 some_behind [] ys h e = h e
 some_behind (x ∷ xs) ys h e = cc
 
--- behind a space stands a word
+-- after a space stands a word
 behind_space : (begun text : List ℕ) (b : ℕ) → is_gap (codes " ") b ≡ false → words_from (codes " ") begun (32 ∷ b ∷ text) ≢ []
 behind_space begun text b h = some_behind (as_word begun) (words_from (codes " ") [] (b ∷ text)) (λ e. begun_words b [] text (sym one ∙ e))
   where

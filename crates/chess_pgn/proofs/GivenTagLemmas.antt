@@ -1,4 +1,4 @@
--- The tags that the text of a game gives, and what they tell.
+-- The tags that the text of a game gives, and what they say.
 use Rattle.std.proofs.Common.{◌≡◌, ℕ, Bool, true, false, not, ◌&&◌, ◌||◌, if◌then◌else◌, List, [], ◌∷◌, ◌++◌, codes, bytes_eq, refl, sym, ap, ◌∙◌, append_assoc}
 use Rattle.std.specs.Prelude.{Option, Some, None, Ok}
 use Rattle.std.specs.Cmp.Lexicographic.{bytes_decides}
@@ -98,7 +98,7 @@ own_not_other name (tag ∷ tags) own are = step (bytes_eq name tag.0) refl (own
     step true e n = absurd (false≢true (sym are.0.2 ∙ ap is_own (sym ((bytes_decides name tag.0).0 e)) ∙ own))
     step false e n = n
 
--- ---- the tags behind the seven
+-- ---- the tags after the seven
 
 abbrev pub behind_given : Given → List ℕ → Given
 behind_given others fen =
@@ -173,7 +173,7 @@ unfolding is_name_byte is_digit
 given_good tags outcome p has in_it =
     ((is_name _ _ refl, has.site), ((is_name _ _ refl, has.date), ((is_name _ _ refl, has.round), ((is_name _ _ refl, has.white), ((is_name _ _ refl, has.black), ((is_name _ _ refl, outcome_value outcome), behind_good tags.others (written p) has.others in_it))))))
 
--- ---- what they tell
+-- ---- what they say
 
 from_nothing : (name : List ℕ) → is_before name [] ≡ false
 from_nothing [] = refl

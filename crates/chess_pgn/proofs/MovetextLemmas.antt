@@ -77,7 +77,7 @@ marker_goes o (y ∷ t) next p =
       breaks = space_breaks y (outcome_text o ++ 10 ∷ next) p.0;
     })
 
--- ---- the moves and the marker, behind a first space
+-- ---- the moves and the marker, after a first space
 
 record Body (o : Outcome) (s : List ℕ) (es : List Element) : Type 0 where
   space : ℕ
@@ -121,7 +121,7 @@ body_of p (Node m nags comment b next) o s w q =
 
 -- ---- the whole
 
--- behind the tags, before a line feed: what is between the tags and the moves, the moves, and the marker
+-- after the tags, before a line feed: what is between the tags and the moves, the moves, and the marker
 pub record HasMoves (tree : GameTree) (o : Outcome) (s next : List ℕ) (place : Place) : Type 0 where
   pub between : List Item
   pub moves : List Item

@@ -58,7 +58,7 @@ not_begun : (m : List Item) → HasBegun m → m ≡ [] → ⊥
 not_begun m h e = subst HasBegun e h
 
 module _ {A : Type 0} (is : List Item) (r : Reader A) (rest : List ℕ) (g : Game) (x : Gives is rest g) where
-  -- at the end of the text, or once the movetext has begun in front of a bracket
+  -- at the end of the text, or once the movetext has begun before a bracket
   abbrev pub Closes : Type 0
   Closes = (rest ≡ []) ⊎ ((r.moving ≡ true) × (is_outside (place_behind GameStart is) ≡ true) × (more : List ℕ) × (rest ≡ byte "[" ∷ more))
 

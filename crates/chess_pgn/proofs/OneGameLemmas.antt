@@ -49,7 +49,7 @@ one_tree es fs a b lead more same leads start x y =
 
 -- ---- items part in one way
 
--- items that are a head and movetext, and a marker behind them or none
+-- items that are a head and movetext, and a marker after them or none
 pub record InParts (is : List Item) : Type 0 where
   pub head : List Item
   pub movetext : List Item
@@ -102,7 +102,7 @@ module _ (is js : List Item) (rest last : List ℕ) (g h : Game) (same : is ≡ 
       (one_outcome x.movetext y.movetext x.ending y.ending g.outcome h.outcome rest last in_three.2 x.ends y.ends)
       (one_tree x.movetext y.movetext g.tree h.tree (remarks [] x.head) (remarks [] y.head) in_three.1 (ap (remarks []) in_three.0) one_start x.derives y.derives)
 
--- ---- nothing goes on behind a game
+-- ---- nothing goes on after a game
 
 not_two : (o : Outcome) (k : Item) (ks e : List Item) → items.Marker o ∷ k ∷ ks ≡ e → (e ≡ []) ⊎ ((p : Outcome) × (e ≡ items.Marker p ∷ [])) → ⊥
 not_two o k ks e same (inl z) = (let two : items.Marker o ∷ k ∷ ks ≡ [] = same ∙ z in cc)
@@ -156,7 +156,7 @@ none_behind : (is ks : List Item) (rest last : List ℕ) (g h : Game) → Gives 
 none_behind is [] rest last g h x y s = refl
 none_behind is (k ∷ ks) rest last g h x y s = absurd (no_more is k ks rest g x (given_parts (is ++ k ∷ ks) last h y) last s)
 
--- ---- the front of a text
+-- ---- the start of a text
 
 abbrev Both : Game → Game → ℕ → ℕ → Type 0
 Both g h m n = (g ≡ h) × (m ≡ n)

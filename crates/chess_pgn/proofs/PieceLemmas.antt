@@ -37,7 +37,7 @@ pub record Goes (next : List ℕ) (last : List Item) (rest : List ℕ) (es : Lis
   pub says : Everywhere next last rest es
   pub breaks : Breaks next
 
--- What begins with a space or a parenthesis, or is nothing: in front of what goes on.
+-- What begins with a space or a parenthesis, or is nothing: before what goes on.
 pub record Piece (text : List ℕ) (es : List Element) : Type 0 where
   pub goes : (s next : List ℕ) (last : List Item) (rest : List ℕ) (us : List Element) → Respaced text s → Goes next last rest us → Goes (s ++ next) last rest (es ++ us)
   pub single : (more : List ℕ) → is_single false more ≡ true → is_single false (text ++ more) ≡ true
@@ -88,7 +88,7 @@ out_blank TagLineStart b e = absurd cc
 out_blank InTag b e = absurd cc
 out_blank InValue b e = absurd cc
 
--- ---- pieces behind one another
+-- ---- pieces after one another
 
 pub piece_none : Piece [] []
 piece_none = record { goes = λ s next last rest us p g. rw p g; single = λ more e. e }
@@ -130,7 +130,7 @@ fills_same x y none (inr e) = absurd (false≢true (sym none ∙ space x e.0))
     space : (x : ℕ) → x ≡ 32 → is_space x ≡ true
     space x e = rw e refl
 
--- behind a space
+-- after a space
 pub spaced : (a : List ℕ) (es : List Element) → Words a es → Piece (32 ∷ a) es
 spaced a es f = record { goes = goes; single = λ more e. f.single true more e }
   where
@@ -141,7 +141,7 @@ spaced a es f = record { goes = goes; single = λ more e. f.single true more e }
       breaks = space_breaks y (t ++ next) p.0;
     }
 
--- behind a parenthesis
+-- after a parenthesis
 pub opened : (a : List ℕ) (es : List Element) → Words a es → Words (40 ∷ a) (Open ∷ es)
 opened a es f = record { begins = begins; single = λ behind more e. f.single false more e }
   where

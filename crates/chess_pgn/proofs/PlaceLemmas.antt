@@ -43,7 +43,7 @@ child_below k Bare n h = absurd (omega arith)
 child_below zero (Node m nags c b next) n h = refl
 child_below (suc k) (Node m nags c b next) n h = child_below k next n (omega arith)
 
--- a comment behind the one that is there
+-- a comment after the one that is there
 pub commented_is : (k : ℕ) (p : List ℕ) (t : List ℕ) (n : NodeParts) → Leads (k ∷ p) n.below
     → change_node (commented (comments_joined (node_of (k ∷ p) n).comment t)) (k ∷ p) n.below ≡ hang (k ∷ p) (say t) n.below
 commented_is k [] t n at = commented_node k t n.below n at.0 ∙ sym (append-bare (on_node k (say t) n.below))

@@ -310,7 +310,7 @@ refused_more is item fault t u (inr m) takes not more rest game within g =
     let p = moving_parts is t m (is ++ item ∷ more) rest game g (item ∷ more) refl in
     refused_there m.head m.movetext (is ++ item ∷ more) t m.there rest game g p.0 item more fault.kind p.1 within not (subst (λ (b : Bool). takes_when b item (Err fault) t u) m.there.moving takes)
 
--- nor does it end in front of a bracket that was refused
+-- nor does it end before a bracket that was refused
 pub refused_bracket : {A : Type 0} (is : List Item) (item : Item) (fault : PgnFault) (t u : Reader A) → Progress is t → TakesItem t item (Err fault) u → (fault.kind ≡ Memory → ⊥) → item ≡ items.TagOpen → (rest more : List ℕ)
     → rest ≡ byte "[" ∷ more → (game : Game) → Gives is rest game → ⊥
 refused_bracket is item fault t u (inl h) takes not bracket rest more e game g =
@@ -328,7 +328,7 @@ refused_bracket is item fault t u (inr m) takes not bracket rest more e game g =
 
 -- ---- the end of the text
 
--- where a tag or a variation is open, or the tags tell no position, no game is at its end
+-- where a tag or a variation is open, or the tags give no position, no game is at its end
 pub unended : {A : Type 0} (is : List Item) (t : Reader A) → Progress is t → MayNotEnd t → (game : Game) → Gives is [] game → ⊥
 unended is t (inl h) why game g =
     let a = all_head is t h is [] game g refl in

@@ -1,4 +1,4 @@
--- Comments that stand one behind another, each behind a space, are joined when they are normalised.
+-- Comments that stand one after another, each after a space, are joined when they are normalised.
 use Rattle.std.proofs.Common.{◌≡◌, ℕ, ◌<◌, Bool, true, false, List, [], ◌∷◌, ◌++◌, length, refl, sym, ap, ◌∙◌, arith, append_assoc}
 use Rattle.std.specs.Prelude.{if◌then◌else◌}
 use Rattle.std.specs.List.{AllByRecursion, join_with_byte}
@@ -78,7 +78,7 @@ joined_none : (a : List ℕ) → comments_joined a [] ≡ a
 joined_none [] = refl
 joined_none (x ∷ a) = refl
 
--- behind another, a text that begins with a space, if it isn't empty
+-- after another, a text that begins with a space, if it isn't empty
 pub normalised_append : (a b : List ℕ) → IsSpaced b → normalised (a ++ b) ≡ comments_joined (normalised a) (normalised b)
 unfolding normalised
 normalised_append a [] h = ap normalised (append-nil a) ∙ sym (joined_none (normalised a))

@@ -1,4 +1,4 @@
--- A text whose words are parted by single spaces, laid in lines: some of its spaces are line feeds, and nothing else changes.
+-- A text whose words are separated by single spaces, laid in lines: some of its spaces are line feeds, and nothing else changes.
 use Rattle.std.proofs.Common.{◌≡◌, ◌≢◌, ◌⊎◌, inl, inr, ℕ, ◌+◌, Bool, true, false, cond, leb, not, ◌&&◌, if◌then◌else◌, List, [], ◌∷◌, ◌++◌, length, refl, sym, ap, ◌∙◌, append_assoc, arith, codes}
 use Rattle.std.specs.List.{AllByRecursion}
 use Rattle.std.proofs.lemmas.Bool.{false≢true, lt-leb}
@@ -52,7 +52,7 @@ respaced_same (x ∷ a) (y ∷ t) none p =
     let r = respaced_same a t none.1 p.1 in
     elim p.0 [ inl e ↦ rw (e, r) refl | inr e ↦ absurd (false≢true (sym none.0 ∙ space_is_one x e.0)) ]
 
--- ---- words parted by single spaces
+-- ---- words separated by single spaces
 
 -- a space before each word
 abbrev pub parted : List (List ℕ) → List ℕ
@@ -102,7 +102,7 @@ first_line : (ws : List (List ℕ)) → ws ≢ [] → lay 79 ws ≡ 10 ∷ laid 
 first_line [] some = absurd (some refl)
 first_line (w ∷ ws) some = rw (lt-leb (79 + 1 + length w) 79 (omega arith)) refl
 
--- The text in lines, behind a line feed, is the text respaced.
+-- The text in lines, after a line feed, is the text respaced.
 pub filled : (text : List ℕ) → is_single true text ≡ true → words (codes " ") (32 ∷ text) ≢ [] → Respaced (32 ∷ text) (10 ∷ in_lines (32 ∷ text))
 filled text one some = rw (first_line (words (codes " ") (32 ∷ text)) some) at (respaced_words text one)
 

@@ -1,4 +1,4 @@
--- A comment is added behind the one at the cursor.
+-- A comment is added after the one at the cursor.
 use Rattle.std.proofs.Common.{◌≡◌, ℕ, List, [], ◌∷◌, ◌++◌, ◌==◌, true, refl, sym, ap, ◌∙◌, arith}
 use Rattle.std.proofs.lemmas.Grind.{common_steps}
 use Rattle.std.specs.Prelude.{OnOk, Result, Ok, Err, length}
@@ -32,7 +32,7 @@ said_nothing t = at t.path
 pub nothing_said : (t : TreeParts) (text : List ℕ) → text ≡ [] → t ≡ said_here (normalised text) t
 nothing_said t text e = said_nothing t ∙ ap (λ (z : List ℕ). said_here z t) (sym normalised_none ∙ ap normalised (sym e))
 
--- where there is no comment, and behind one
+-- where there is no comment, and after one
 pub first_said : (t : TreeParts) (text said : List ℕ) → IsGameTree t → said ≡ (here t).comment → said ≡ [] → commented_here (normalised text) t ≡ said_here (normalised text) t
 first_said t text said game es e = said_as t (normalised text) (normalised text) game (ap (λ (z : List ℕ). comments_joined z (normalised text)) (sym e ∙ es))
 

@@ -149,7 +149,7 @@ or_value (Some value) text f h = f value refl
 own_value : (given : List (List ℕ × List ℕ)) (name text value : List ℕ) → AreGood given → IsValue text → value ≡ value_in given name text → IsValue value
 own_value given name text value good known e = subst IsValue (sym e) (or_value (tag_in name given) text (λ v h. (found_good name v given good h).1) known)
 
--- a name that is found behind another ascends
+-- a name that is found after another ascends
 found_less : (first name value : List ℕ) (tags : List (List ℕ × List ℕ)) → AllByRecursion (λ y. slice_cmp nat_cmp first y ≡ Less) (map (λ (tag : List ℕ × List ℕ). tag.0) tags) → tag_in name tags ≡ Some value → slice_cmp nat_cmp first name ≡ Less
 found_less first name value [] all e = absurd cc
 found_less first name value (tag ∷ tags) all e = step (bytes_eq name tag.0) refl e (λ h. found_less first name value tags all.1 h)

@@ -71,6 +71,7 @@ module _ {R : Type 0} (gives : R → List ℕ → R → Type 0) (failed : R → 
     parts = h.parts;
     reads = λ more none. subst (λ (n : ℕ). IsAtFront (unread old ++ (joined h.pieces ++ more)) (game_of game) n) (sym h.counted) (h.reads more none);
     near = h.near;
+    needed = h.needed;
     still = h.still;
   }
 

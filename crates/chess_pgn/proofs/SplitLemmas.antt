@@ -1,4 +1,4 @@
--- Items parted by a test, the place behind movetext, and what may come next there.
+-- Items separated by a test, the place after movetext, and what may come next there.
 use Rattle.std.proofs.Common.{◌≡◌, ℕ, Bool, true, false, ◌&&◌, List, [], ◌∷◌, ◌++◌, Option, Some, None, refl, sym, ap, subst, ◌∙◌}
 use Rattle.std.specs.Prelude.{⊤}
 use Rattle.std.specs.List.{AllByRecursion, list_all}
@@ -17,7 +17,7 @@ use Rattle.chess_items.proofs.WhiteLemmas.{stays_outside}
 use Rattle.chess_pgn.specs.Reading.{Ends, HasBegun, Starts, is_heading, is_movetext}
 use Rattle.chess_pgn.specs.Tags.{AreGaps, AreTags, IsTag, may_part_tags, is_tag_gap, is_value_part}
 
--- ---- items parted by a test
+-- ---- items separated by a test
 
 abbrev pub All : (Item → Bool) → List Item → Type 0
 All p is = AllByRecursion (λ (i : Item). p i ≡ true) is
@@ -139,7 +139,7 @@ first_after : (place : Place) (i : Item) → is_heading i ≡ false → is_movet
 first_after place items.Skipped h e = refl
 first_after place _ h e = cc
 
--- behind movetext that has begun is a place outside of tags
+-- after movetext that has begun is a place outside of tags
 pub begun_outside : (place : Place) (is : List Item) → HasBegun is → All is_movetext is → is_outside (place_behind place is) ≡ true
 begun_outside place [] begun h = absurd begun
 begun_outside place (i ∷ is) begun h = movetext_behind (place_after place i) is (first_after place i begun h.0) h.1

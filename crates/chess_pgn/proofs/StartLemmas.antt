@@ -11,7 +11,7 @@ read_usual : (at : ℕ) (r : Result State FenFault) → start_read at r ≡ Ok N
 read_usual at (Ok p) e = absurd cc
 read_usual at (Err fault) e = absurd cc
 
--- the usual one, where they tell none
+-- the usual one, where they give none
 pub usual : (at : ℕ) (told : Option (List ℕ)) → start_told at told ≡ Ok None → start_by told ≡ Some start
 usual at None e = refl
 usual at (Some fen) e = read_usual at (reading fen) e
@@ -20,7 +20,7 @@ read_position : (at : ℕ) (r : Result State FenFault) (p : State) → start_rea
 read_position at (Ok q) p e = cc
 read_position at (Err fault) p e = absurd cc
 
--- or the one that they tell
+-- or the one that they give
 pub told : (at : ℕ) (fen : Option (List ℕ)) (p : State) → start_told at fen ≡ Ok (Some p) → start_by fen ≡ Some p
 told at None p e = absurd cc
 told at (Some fen) p e = read_position at (reading fen) p e

@@ -158,7 +158,7 @@ nag_ignored t lines played comments from n start c f up (Some x) here lead st no
 moved : (p : State) (w : List ℕ) (m : MoveParts) → reading p w ≡ Ok m → move_in p w ≡ Some m
 moved p w m e = ap ok_move e
 
--- a move behind the place to which a path leads
+-- a move after the place to which a path leads
 module _ (t t' : TreeParts) (m : MoveParts) (start : State) (f : Forest) (p : List ℕ) (es : t.tree.start ≡ start) (ef : t.tree.below ≡ f) (ep : t.path ≡ p) (e : t' ≡ added m t) (el : line_to t' ≡ extended (line_to t) m) where
   added_forest : t'.tree.below ≡ hang p (leaf m) f
   added_forest = ap (λ (z : TreeParts). z.tree.below) e ∙ rw (ep, ef) (added_is p m f)
@@ -175,7 +175,7 @@ module _ (t t' : TreeParts) (m : MoveParts) (start : State) (f : Forest) (p : Li
       let at_t' : last (line_to t') ≡ position_at start (hang p (leaf m) f) (p ++ count (below_at p f) ∷ []) = rw (added_start, added_forest, added_path) refl in
       ap (λ (z : State). after z m) (eh ∙ at_t) ∙ sym (last_extended (line_to t) m) ∙ sym (ap last el) ∙ at_t'
 
-  -- what is held behind the move
+  -- what is held after the move
   pub move_held : (lines : List Interrupted) (comments : List ℕ) (from : ℕ) (c : List ℕ) (here : State) (lead : List ℕ) (st : List Frame) (outer text : List ℕ)
       → t.tree.comment ≡ c → here ≡ position_at start f p → Leads p f → Nested p st → AreFrames start f st
       → comments ≡ outer ++ text → from ≡ length outer → IsSpaced text → lead ≡ normalised text → Pends outer st (reverse lines)

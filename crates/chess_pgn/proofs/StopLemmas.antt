@@ -1,4 +1,4 @@
--- Why the reading of a game stops with a fault: no game stands there, whatever follows.
+-- Why the reading of a game stops with a fault: no game is there, whatever follows.
 use Rattle.std.proofs.Common.{◌≡◌, ◌⊎◌, ℕ, ◌+◌, ◌-◌, Bool, false, List, [], ◌∷◌, ◌++◌, length, Option, Some, None, Ok, Err, refl, sym, ap, subst, ◌∙◌, arith, append_assoc, append-nil, length-append}
 use Rattle.std.specs.Prelude.{Result}
 use mathlib.Core.Logic.{inl, inr}
@@ -32,7 +32,7 @@ use Rattle.chess_pgn.specs.steps.ReaderCode.{IsNew, MayNotEnd, TakesItem, Unansw
 use Rattle.chess_pgn.specs.declared.reader.Reader.{Reader}
 use Rattle.chess_pgn.proofs.ChainLemmas.{Progress, progress_all, progress_new}
 use Rattle.chess_pgn.proofs.DarkLemmas.{dark_aground, dark_over, dark_refused, dark_taken}
-use Rattle.chess_pgn.proofs.FrontLemmas.{spelled_front, whites_bare}
+use Rattle.chess_pgn.proofs.FrontLemmas.{behind_bare, spelled_front, whites_bare}
 use Rattle.chess_pgn.proofs.NoGameLemmas.{none_aground, none_out, none_over, none_refused}
 use Rattle.chess_pgn.proofs.UndecidedLemmas.{undecided_none}
 
@@ -41,11 +41,6 @@ use Rattle.chess_pgn.proofs.UndecidedLemmas.{undecided_none}
 front_nil : (xs ys : List ℕ) → xs ++ ys ≡ [] → xs ≡ []
 front_nil [] ys e = refl
 front_nil (x ∷ xs) ys e = absurd cc
-
--- the place behind the items, with and without the bytes before each
-behind_bare : (place : Place) (is : List (ℕ × Item)) → behind place is ≡ place_behind place (bare is)
-behind_bare place [] = refl
-behind_bare place (x ∷ is) = behind_bare (place_after place x.1) is
 
 is_memory : (k : FaultKind) → (k ≡ Memory) ⊎ (k ≡ Memory → ⊥)
 is_memory Memory = inl refl
@@ -138,7 +133,7 @@ module _ {X A : Type 0} (comes : X → List ℕ → X → Type 0) (at_hand : X �
           dark_aground (bare r.items) whole rest (spelled r.items r.took) w (subst (λ (p : Place). item_at p rest ≡ None) (there r.items r.took) (r.none.none more none)) (λ e. r.none.some (front_nil (at_hand new) more e))
       run_dark stop.TooLarge fault kind r a end over = dark_taken (bare r.items) whole rest (spelled r.items r.took) w (sym (whites_bare r.items) ∙ sym r.took.whites ∙ over refl)
 
-      -- behind white space beyond the limit
+      -- after white space beyond the limit
       over_dark : (hand behind : List ℕ) → RanOver comes at_hand all sound size takes limit old pieces new t u at place white → rest ≡ hand ++ behind → white_after (Some (column_at place)) hand ≡ None → ⊥
       over_dark hand behind r parts other =
           dark_over (bare r.items) at whole rest hand behind (spelled r.items r.took) w (counted r.items r.took) (subst (λ (p : Place). Oversized (limit - at) p rest) (there r.items r.took) (r.exceeds.over more none)) parts
@@ -166,7 +161,7 @@ module _ {X A : Type 0} (comes : X → List ℕ → X → Type 0) (at_hand : X �
       still = still_there;
     }
 
-    -- behind white space beyond the limit
+    -- after white space beyond the limit
     beyond_none : (new : X) → NotWhite comes at_hand all sound size takes s mid new → sound new → NotCome comes at_hand all sound old new
     beyond_none new w well =
         let pieces = r.pieces ++ w.pieces in
@@ -235,7 +230,7 @@ module _ {X A : Type 0} (comes : X → List ℕ → X → Type 0) (at_hand : X �
       (λ more. subst (λ (z : List ℕ). Spells GameStart z (bare r.items) (at_hand r.mid ++ more)) (front_is r.pieces more) (spells_bare 0 GameStart (at_hand old ++ (joined r.pieces ++ more)) r.items (at_hand r.mid ++ more) (r.took.spelled more (ended more))))
       (subst (λ (p : Place). Decides p (at_hand r.mid) → ⊥) (r.took.stands ∙ behind_bare GameStart r.items) r.undecided) g n x
 
-  -- behind white space beyond the limit
+  -- after white space beyond the limit
   white_none_yet : (w : WhiteBroke comes at_hand all sound size takes_item 1048576 breaks old new t) → HasNoGameYet (at_hand old ++ joined (w.ran.pieces ++ w.broke.1))
   white_none_yet w = λ g n x.
       let more = joined w.broke.1 in

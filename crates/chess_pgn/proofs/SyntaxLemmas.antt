@@ -111,7 +111,7 @@ node_means due p m nags comment l before r named e =
     skipped_mean due p.side (Play (san p m) (annotations_line nags (remark_line comment l))) before p
     ∙ rw (named, annotations_mean nags (remark_line comment l) (Some p) (after p m) (plus (say comment) r) (remark_means comment l (Some p) (after p m) r e)) refl
 
--- as a line, and as variations in front of a line
+-- as a line, and as variations before a line
 abbrev Means : Forest → State → Type 0
 Means f p =
     ((due : Bool) (before : Option State) → meaning (line_of false due p f End) before p ≡ Some (below f))

@@ -132,7 +132,7 @@ tag_spells place name value next more rest out is in_it s =
       silent = λ lead others. ap (remarks lead) (append_assoc v.parts (items.Quote ∷ items.TagClose ∷ []) others) ∙ parts_silent v.parts v.are lead (items.Quote ∷ items.TagClose ∷ others);
     }
 
--- ---- tags, one behind the other
+-- ---- tags, one after the other
 
 abbrev pub given_text : List (List ℕ × List ℕ) → List ℕ
 given_text [] = []
@@ -144,7 +144,7 @@ IsGood tag = IsName tag.0 × IsValue tag.1
 abbrev pub AreGood : List (List ℕ × List ℕ) → Type 0
 AreGood = AllByRecursion IsGood
 
--- white space in front of tags
+-- white space before tags
 blank_front : (b : ℕ) (is : List Item) (tags : List (List ℕ × List ℕ)) → AreTags is tags → AreTags (items.Blank b ∷ is) tags
 blank_front b is [] h = (refl, h)
 blank_front b is (tag ∷ tags) h = (items.Blank b ∷ h.0, h.1, h.2, ap (λ (xs : List Item). items.Blank b ∷ xs) h.3, (refl, h.4), h.5, h.6)
@@ -180,7 +180,7 @@ tags_spell place tag given text between next rest out good all are s =
     rw (append_assoc (tag_text tag.0 tag.1) (given_text given) next)
     (one_more place tag.0 tag.1 given text between (given_text given ++ next) rest out good.0 good.1 (given_spells given text between next rest all are s))
 
--- and behind white space
+-- and after white space
 pub behind_blanks : (place : Place) (before : List ℕ) (given : List (List ℕ × List ℕ)) (text between : List Item) (input rest : List ℕ) → is_outside place ≡ true → Each items.is_blank before
     → ((q : Place) → is_outside q ≡ true → HasHead q given text between input rest) → HasHead place given text between (before ++ input) rest
 behind_blanks place [] given text between input rest out white h = h place out

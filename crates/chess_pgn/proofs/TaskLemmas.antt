@@ -28,7 +28,7 @@ without_last-append (n ∷ k ∷ moves) m = ap (λ (x : List MoveParts). n ∷ x
 pub shortened_extended : (line : Line) (m : MoveParts) → shortened (extended line m) ≡ line
 shortened_extended line m = ap (λ (x : List MoveParts). record { start = line.start; moves = x }) (without_last-append line.moves m)
 
--- a move's text in two parts, the second asked behind the move
+-- a move's text in two parts, the second asked after the move
 pub text_whole : (line l1 l2 l3 : Line) (m : MoveParts) (text bytes mark bytes2 : List ℕ) → l1 ≡ line → l2 ≡ l1 → l3 ≡ extended l2 m → text ++ mark_text (after (last l1) m) ≡ san (last l1) m
     → bytes ≡ text → bytes2 ≡ mark → mark ≡ mark_text (last l3) → bytes ++ bytes2 ≡ san (last line) m
 text_whole line l1 l2 l3 m text bytes mark bytes2 e1 e2 e3 whole e5 e6 e7 =
@@ -111,7 +111,7 @@ step_below lines line ts m nodes due are adds =
       smaller = omega arith;
     }
 
--- the same where nothing is behind it
+-- the same where nothing is after it
 step_last : {A : Type 0} (lines : Lines A) (line : Line) (m : MoveParts) (nodes : Forest) (due : Bool) → AreTasks line (Below m nodes due ∷ []) → Adds lines lines []
     → WritesSome lines lines line (extended line m) (Below m nodes due ∷ []) (Moves nodes due ∷ [])
 step_last lines line m nodes due are adds =
@@ -139,7 +139,7 @@ steps_then old mid new line line1 line2 ts ts1 ts2 s t = record {
   smaller = omega (arith, s.smaller, t.smaller);
 }
 
--- some tasks are behind another
+-- some tasks are after another
 pub returning_pushed : {A : Type 0} (items : List (Task A)) (t : Task A) → returning (items ++ t ∷ []) ≡ Back ∷ todos (items ++ t ∷ [])
 returning_pushed [] t = refl
 returning_pushed (u ∷ items) t = refl

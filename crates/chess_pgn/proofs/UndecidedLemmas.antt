@@ -1,4 +1,4 @@
--- Where bytes don't decide the next item, no one game stands at their start, whatever follows.
+-- Where bytes don't decide the next item, no one game is at their start, whatever follows.
 use Rattle.std.proofs.Common.{◌≡◌, ◌⊎◌, ◌<◌, ℕ, ◌+◌, true, List, [], ◌∷◌, ◌++◌, length, refl, sym, ap, subst, ◌∙◌, arith, append-nil, length-append}
 use Rattle.std.specs.Str.{byte}
 use mathlib.Core.Logic.{inl, inr}
@@ -18,7 +18,7 @@ use Rattle.chess_pgn.proofs.NoGameLemmas.{closes, progress_parts, spelled_shorte
 use Rattle.chess_pgn.proofs.OneGameLemmas.{InParts, either, no_more}
 use Rattle.chess_pgn.proofs.SplitLemmas.{bracket_found}
 
--- a game ends behind these items, or goes on there
+-- a game ends after these items, or goes on there
 abbrev Ahead : List Item → List ℕ → Game → List ℕ → Type 0
 Ahead is rest g last = ((last ≡ rest) × Gives is rest g) ⊎ ((k : Item) × (ks : List Item) × Spells (place_behind GameStart is) rest (k ∷ ks) last)
 

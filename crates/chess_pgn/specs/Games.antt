@@ -15,7 +15,7 @@ abbrev pub tag_in : List ℕ → List (List ℕ × List ℕ) → Option (List �
 tag_in name [] = None
 tag_in name (tag ∷ tags) = if bytes_eq name tag.0 then Some tag.1 else tag_in name tags
 
--- The others are a map from names to values: the names ascend in ASCII order. They are not Result, FEN and SetUp, which tell the outcome and the start.
+-- The others are a map from names to values: the names ascend in ASCII order. They are not Result, FEN and SetUp, which give the outcome and the start.
 pub record Tags : Type 0 where
   pub event : List ℕ
   pub site : List ℕ

@@ -6,7 +6,7 @@
 --   meaning      what a line adds, by the positions before its last move and after it
 --   Derives      the elements of a game's own line give its comment and its moves
 --   few_are_open no more than 128 variations are open at once
--- A variation takes the place of the last move of the line around it: its first move is a further child of the same parent. Children stand in
+-- A variation replaces the last move of the line around it: its first move is a further child of the same parent. Children stand in
 -- the order in which their moves begin.
 use Rattle.std.specs.Prelude.{◌≡◌, ℕ, suc, ◌-◌, nat_lt, ◌&&◌, Bool, true, List, [], ◌∷◌, ◌++◌, Option, Some, None, Result, Ok, Err}
 use Rattle.std.specs.List.{flat_map}
@@ -91,11 +91,11 @@ pub record Part : Type 0 where
 abbrev pub nothing : Part
 nothing = record { nags = []; comment = []; beside = Bare; below = Bare }
 
--- an annotation number in front of the others
+-- an annotation number before the others
 abbrev pub with_annotation : ℕ → Part → Part
 with_annotation n r = record { nags = n ∷ r.nags; comment = r.comment; beside = r.beside; below = r.below }
 
--- a comment in front of the others
+-- a comment before the others
 abbrev pub said : List ℕ → Part → Part
 said text r = record { nags = r.nags; comment = comments_joined text r.comment; beside = r.beside; below = r.below }
 
@@ -103,12 +103,12 @@ said text r = record { nags = r.nags; comment = comments_joined text r.comment; 
 abbrev pub with_move_first : MoveParts → Part → Part
 with_move_first m r = record { nags = []; comment = []; beside = Bare; below = Node m r.nags r.comment r.below r.beside }
 
--- a comment in front of the first move's
+-- a comment before the first move's
 abbrev pub with_opening_comment : List ℕ → Forest → Forest
 with_opening_comment text Bare = Bare
 with_opening_comment text (Node m nags comment below next) = Node m nags (comments_joined text comment) below next
 
--- A variation: its moves, with the comments before the first of them in front of that move's. One without a move is dropped, and its comments
+-- A variation: its moves, with the comments before the first of them before that move's. One without a move is dropped, and its comments
 -- go to the move before it. Annotations before its first move are ignored.
 abbrev pub varied : Forest → List ℕ → Part → Part
 varied Bare text r = said text r
@@ -141,7 +141,7 @@ meaning (Vary variation line) None here = None
 meaning (Vary variation line) (Some p) here =
     meaning variation None p >>= λ v. meaning line (Some p) here >>= λ r. Some (varied v.below v.comment r)
 
--- The game's own line, in the position in which it begins and behind the comments before its movetext, gives the comment before the first move
+-- The game's own line, in the position in which it begins and after the comments before its movetext, gives the comment before the first move
 -- and the moves.
 pub record Derives (es : List Element) (start : State) (before comment : List ℕ) (moves : Forest) : Type 0 where
   pub line : Line

@@ -1,7 +1,7 @@
 -- What holds of every game.
 --   AreNoted       each move is between two squares, and each annotation number is one byte
 --   nesting        how many variations are open at once in the text of moves
---   IsValue, IsOther   the value of a tag; a tag besides those that the games have or that tell the start and the end
+--   IsValue, IsOther   the value of a tag; a tag besides those that the games have or that give the start and the end
 --   HasTagTexts    what is true of the tags of each game
 --   IsGame         what is true of each game
 --   WrittenIsRead  a game that is written is read again
@@ -60,8 +60,8 @@ pub record IsGame (game : Game) : Type 0 where
   pub deep : height game.tree.below ≤ 20000
   pub many : moves_held game.tree.below ≤ 1000000
 
--- Whatever white space stands before the text of a game, and whatever follows it, that game stands there, up to the two line feeds at the
--- text's end: where that isn't too long for a game, and no more than 128 variations are open at once. So do games whose texts stand one behind
+-- Whatever white space stands before the text of a game, and whatever follows it, that game is there, up to the two line feeds at the
+-- text's end: where that isn't too long for a game, and no more than 128 variations are open at once. So do games whose texts stand one after
 -- the other.
 abbrev pub WrittenIsRead : Type 0
 WrittenIsRead =

@@ -1,6 +1,6 @@
 -- A text in lines of at most 79 bytes (PGN 4.3, 8.2.1).
---   lay       words behind a line of so many bytes: each behind a space, or on a new line where the line would be too long
---   in_lines  the words of a text, parted by spaces, in such lines; a longer word stands alone
+--   lay       words after a line of so many bytes: each after a space, or on a new line where the line would be too long
+--   in_lines  the words of a text, separated by spaces, in such lines; a longer word stands alone
 use Rattle.std.specs.Prelude.{ℕ, ◌+◌, nat_le, if◌then◌else◌, List, [], ◌∷◌, ◌++◌, length, codes}
 use Rattle.std.specs.Str.{byte}
 use Rattle.chess_types.specs.bytes.Words.{words}

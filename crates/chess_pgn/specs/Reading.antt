@@ -1,15 +1,15 @@
--- What the front of a text gives as a game (PGN 8).
+-- What the start of a text gives as a game (PGN 8).
 --   is_heading   may stand before the movetext: a part of a tag, a comment, or white
 --   is_movetext  may stand in movetext, and doesn't end it
---   remarks      the comments among some items, behind others
+--   remarks      the comments among some items, after others
 --   Starts       movetext begins with an item that no head has
 --   HasBegun     movetext has such an item
---   Ends         how a game ends: with its marker, or without one in front of a tag or at the end of the text
---   Gives        some items are a head, a movetext and an end: the head's tags are the game's and tell its start, and the movetext derives its comments and moves
+--   Ends         how a game ends: with its marker, or without one before a tag or at the end of the text
+--   Gives        some items are a head, a movetext and an end: the head's tags are the game's and give its start, and the movetext derives its comments and moves
 --   IsWithinLimits a game isn't too large to be read
 --   IsAtFront    the items of a text's first bytes give a game
---   HasNoGame    no game stands at the front of a text
---   HasNoGameYet no one game stands at the front of every text that begins so
+--   HasNoGame    no game is at the start of a text
+--   HasNoGameYet no one game is at the start of every text that begins so
 --   IsWhite      a text has white space, a mark and hidden lines alone
 --   IsAnswered   a reader answers that game, unless there is no memory
 use Rattle.std.specs.Prelude.{◌≡◌, ◌⊎◌, ℕ, ◌+◌, ◌≤◌, Bool, true, false, List, [], ◌∷◌, ◌++◌, length, Option, Some, None, Result, Ok, Err, ⊤}

@@ -2,15 +2,17 @@
 --   Games      the bytes at hand, how many were used before them, and the fault that came
 --   GoesOn     reading may go on: no fault came, or one of a game's text, from which bytes may be passed over
 --   IsSound    where reading may go on, the source has ended where its end was seen
---   IsPlaced   a fault of the text is behind the bytes that were used before its game; want of memory has its place there
---   HasGame    a game stands at the front of the bytes at hand and those that the source gave, whatever it gives next, and is used; at most
---              65,536 bytes behind it were read; a source that has ended gives no more
+--   IsPlaced   a fault of the text is after the bytes that were used before its game; want of memory has its place there
+--   ReadsNeeded  no read was made, or the last, of at most 65,536 bytes, was made where no one game was at the start of the bytes before it,
+--              whatever follows; so was each read before it, since fewer bytes say no more
+--   HasGame    a game is at the start of the bytes at hand and those that the source gave, whatever it gives next, and is used; no read was
+--              made that wasn't needed, and at most one piece and a byte are left; a source that has ended gives no more
 --   NextGame   so it does, and its bytes are counted
 --   HasNone    the source has ended, and those bytes are white
---   Fails      no game stands at the front of those bytes, which aren't white, whatever the source gives next; the first of them are used
+--   Fails      no game is at the start of those bytes, which aren't white, whatever the source gives next; the first of them are used
 --   Starves    bytes came, and then there was no memory
---   ReadFails  bytes came, and then a read failed, or there may be no more; the source had not ended, and those bytes don't tell of a game
---   HasFault   a read failed, there was no memory, or no game stands there; but for the first, no read failed
+--   ReadFails  bytes came, and then a read failed, or there may be no more; the source had not ended, and no one game is at their start, whatever follows
+--   HasFault   a read failed, there was no memory, or no game is there; but for the first, no read failed
 --   NotPassed  bytes can't be passed over: no section of tags begins among them and a read failed, or there was no memory
 use Rattle.std.specs.Prelude.{◌≡◌, ◌≢◌, ◌⊎◌, ◌≤◌, ◌<◌, ℕ, ◌+◌, Bool, true, false, List, [], ◌++◌, length, Option, Some, None, ⊤}
 use Rattle.chess_items.specs.Coming.{AtHand, Breaks, Came, unread}
@@ -34,6 +36,12 @@ GoesOn (Some (Pgn fault)) = fault.kind ≢ Memory
 pub record IsSound {R : Type 0} (ended : R → Type 0) (games : Games R) : Type 0 where
   pub ended_so : GoesOn games.fault → games.text.has_ended ≡ true → ended games.text.source
 
+-- with the bytes that came; each read before the end of the source brings some
+abbrev pub ReadsNeeded : {R : Type 0} → AtHand R → List ℕ → AtHand R → Type 0
+ReadsNeeded old bytes new =
+    ((bytes ≡ []) × (new.has_ended ≡ true → old.has_ended ≡ true))
+    ⊎ ((begun : List ℕ) × (piece : List ℕ) × (unread old ++ bytes ≡ begun ++ piece) × (length piece ≤ 65536) × HasNoGameYet begun)
+
 pub record HasGame {R : Type 0} (gives : R → List ℕ → R → Type 0) (failed : R → Bool) (old new : AtHand R) (game : Game) : Type 0 where
   pub bytes : List ℕ
   pub came : Came gives failed old bytes new
@@ -41,7 +49,8 @@ pub record HasGame {R : Type 0} (gives : R → List ℕ → R → Type 0) (faile
   pub some : 0 < length text
   pub parts : unread old ++ bytes ≡ text ++ unread new
   pub reads : (more : List ℕ) → (new.has_ended ≡ true → more ≡ []) → IsAtFront (unread old ++ (bytes ++ more)) game (length text)
-  pub near : length (unread old) ≤ 65536 → length (unread new) ≤ 65536
+  pub near : length (unread old) ≤ 65537 → length (unread new) ≤ 65537
+  pub needed : ReadsNeeded old bytes new
   pub still : old.has_ended ≡ true → (bytes ≡ []) × (new.has_ended ≡ true)
 
 -- and its bytes are counted

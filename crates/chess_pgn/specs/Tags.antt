@@ -1,10 +1,10 @@
 -- The tags of a game as a text gives them (PGN 8.1): pairs of a name and a value, in their order.
 --   IsTag     the items of a tag
---   AreTags   the items in front of the movetext, and the tags among them
+--   AreTags   the items before the movetext, and the tags among them
 --   HasTags   the tags of the game, where those are given
 --   fen_in    the FEN of the position in which the game begins; start_in, that position
 --   Ascend    names in ASCII order
--- The first tag of a name counts. Result, FEN and SetUp are no tags of the game: its movetext tells how it ended, and the others where it begins.
+-- The first tag of a name counts. Result, FEN and SetUp are no tags of the game: its movetext says how it ended, and the others where it begins.
 use Rattle.std.specs.Prelude.{◌≡◌, ℕ, ◌||◌, if◌then◌else◌, Bool, true, false, List, [], ◌∷◌, ◌++◌, map, Option, Some, None, Result, Ok, Err, unwrap_or, codes, bytes_eq}
 use Rattle.std.specs.Cmp.Lexicographic.{slice_cmp}
 use Rattle.std.specs.List.{AllByRecursion}
@@ -27,7 +27,7 @@ is_tag_gap _ = false
 abbrev pub AreGaps : List Item → Type 0
 AreGaps = AllByRecursion (λ item. is_tag_gap item ≡ true)
 
--- a value stands in stretches, and bytes behind a backslash
+-- a value stands in stretches, and bytes after a backslash
 abbrev pub is_value_part : Item → Bool
 is_value_part (Stretch text) = true
 is_value_part (Escaped b) = true
@@ -72,7 +72,7 @@ AreTags items [] = AreBetween items
 AreTags items (tag ∷ tags) =
     (front own rest : List Item) × (items ≡ front ++ (own ++ rest)) × AreBetween front × IsTag own tag.0 tag.1 × AreTags rest tags
 
--- ---- what they tell
+-- ---- what they say
 
 -- the names ascend in ASCII order, so that none stands twice
 abbrev pub Ascend : List (List ℕ × List ℕ) → Type 0
@@ -82,7 +82,7 @@ Ascend tags = IsStrictlySortedBy (slice_cmp nat_cmp) (map (λ tag. tag.0) tags)
 abbrev pub value_in : List (List ℕ × List ℕ) → List ℕ → List ℕ → List ℕ
 value_in given name text = unwrap_or (tag_in name given) text
 
--- the tags that tell how the game ended and where it begins, and the others that each game has
+-- the tags that say how the game ended and where it begins, and the others that each game has
 abbrev pub is_own : List ℕ → Bool
 is_own name =
     bytes_eq name (codes "Result") || bytes_eq name (codes "FEN") || bytes_eq name (codes "SetUp")
@@ -105,7 +105,7 @@ abbrev pub is_usual : Option (List ℕ) → Bool
 is_usual None = false
 is_usual (Some value) = bytes_eq value (codes "0")
 
--- the FEN of the position in which the game begins (PGN 9.7.2), if the tags tell one
+-- the FEN of the position in which the game begins (PGN 9.7.2), if the tags give one
 abbrev pub fen_in : List (List ℕ × List ℕ) → Option (List ℕ)
 fen_in given = if is_usual (tag_in (codes "SetUp") given) then None else tag_in (codes "FEN") given
 

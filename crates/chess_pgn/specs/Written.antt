@@ -1,9 +1,9 @@
 -- The export form of a game (PGN 3.2, 8.2).
 --   others_text    the tags whose names are within two bounds
---   behind_text    the tags behind the seven
+--   behind_text    the tags after the seven
 --   tags_text      the tags, each on a line of its own (PGN 8.1.1)
 --   node_text      a move with its number, where it is due, and its notes
---   moves_text     moves and variations, each behind a space
+--   moves_text     moves and variations, each after a space
 --   movetext       the movetext on one line
 --   game_text      the whole
 -- A game's text is its tags, an empty line, the movetext in lines of at most 79 bytes, and an empty line.
@@ -35,7 +35,7 @@ outcome_text BlackWins = codes "0-1"
 outcome_text Draw = codes "1/2-1/2"
 outcome_text Unfinished = codes "*"
 
--- a quotation mark and a backslash stand behind a backslash (PGN 7)
+-- a quotation mark and a backslash stand after a backslash (PGN 7)
 abbrev pub escaped : List ℕ → List ℕ
 escaped [] = []
 escaped (b ∷ value) = if is_escapable b then byte "\\" ∷ b ∷ escaped value else b ∷ escaped value
@@ -57,7 +57,7 @@ abbrev pub others_text : (from : List ℕ) → (to : Option (List ℕ)) → List
 others_text from to [] = []
 others_text from to (tag ∷ tags) = (if is_within from to tag.0 then tag_text tag.0 tag.1 else []) ++ others_text from to tags
 
--- The tags behind the seven, by their names in ASCII order (PGN 8.1.1): the others, and the position in which a game begins, unless it is the
+-- The tags after the seven, by their names in ASCII order (PGN 8.1.1): the others, and the position in which a game begins, unless it is the
 -- usual one (PGN 9.7).
 abbrev pub behind_text : List (List ℕ × List ℕ) → List ℕ → List ℕ
 behind_text others fen =
@@ -68,7 +68,7 @@ behind_text others fen =
     ++ (tag_text (codes "SetUp") (codes "1")
     ++ others_text (codes "SetUp") None others)))
 
--- in the order of PGN 8.1.1, the others behind them
+-- in the order of PGN 8.1.1, the others after them
 abbrev pub tags_text : Tags → Outcome → State → List ℕ
 tags_text tags outcome p =
     tag_text (codes "Event") tags.event
@@ -81,7 +81,7 @@ tags_text tags outcome p =
 
 -- ---- moves
 
--- one period behind White's number, three behind Black's, who has one only where it is due (PGN 8.2.2.2)
+-- one period after White's number, three after Black's, who has one only where it is due (PGN 8.2.2.2)
 abbrev pub number_text : Bool → Colour → ℕ → List ℕ
 number_text due White number = decimal number ++ codes ". "
 number_text true Black number = decimal number ++ codes "... "
@@ -97,7 +97,7 @@ abbrev pub comment_text : List ℕ → List ℕ
 comment_text [] = []
 comment_text (b ∷ text) = codes " {" ++ ((b ∷ text) ++ codes "}")
 
--- behind a space, or a space and a parenthesis
+-- after a space, or a space and a parenthesis
 abbrev pub node_text : List ℕ → Bool → State → MoveParts → List ℕ → List ℕ → List ℕ
 node_text opening due p m nags comment = opening ++ (number_text due p.side p.number ++ (san p m ++ (nags_text nags ++ comment_text comment)))
 
@@ -109,7 +109,7 @@ abbrev pub is_noted : List ℕ → List ℕ → Bool
 is_noted nags comment = is_some_text nags || is_some_text comment
 
 -- Nodes side by side: the main continuation, the others as variations, and what follows the main continuation; or all of them as
--- variations. A number is due at the beginning, and where something stands between two moves.
+-- variations. A number is due at the beginning, and where something is between two moves.
 abbrev pub moves_text : (as_variations : Bool) → (due : Bool) → State → Forest → List ℕ
 moves_text as_variations due p Bare = []
 moves_text false due p (Node m nags comment below next) =

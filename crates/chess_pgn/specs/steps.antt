@@ -12,3 +12,4 @@ pub mod OtherCode
 pub mod HeaderCode
 pub mod Next
 pub mod GameAt
+pub mod Unmoved

@@ -5,6 +5,7 @@ ghost use Rattle.chess_items.specs.Coming.{Breaks, Came, unread};
 ghost use Rattle.chess_items.specs.Sections.{PassesOver};
 ghost use Rattle.chess_items.specs.declared.fault.FaultKind.TheVariants.{Memory};
 ghost use Rattle.chess_pgn.specs.Games as games;
+ghost use Rattle.chess_pgn.specs.declared.games.GamesFault.TheVariants.{Pgn};
 ghost use Rattle.chess_pgn.specs.Reading.{HasNoGame, IsAnswered, IsAtFront, IsWhite};
 ghost use Rattle.chess_pgn.specs.Sources.{GoesOn, HasFault, HasNone, IsPlaced, IsSound, NextGame, NotPassed};
 ghost use Rattle.chess_pgn.specs.steps.GameAt.{TakesGame};
@@ -12,12 +13,12 @@ ghost use Rattle.chess_pgn.specs.steps.GameCode.{game_of};
 ghost use Rattle.chess_pgn.specs.steps.Next.{HasKind, staying};
 ghost use Rattle.chess_pgn.specs.steps.ReaderCode.{Answered, EndsReading, Unanswered};
 
+use crate::basis::Basis;
 use crate::game::Game;
 use crate::reader::Reader;
 use chess_items::{
     AtHand, Fault, FaultKind, PgnFault, Place, Stop, Stopped, Text, Whole, at_place, pass,
 };
-use chess_key::KeyTable;
 use chess_types::Source;
 use std::alloc::Allocator;
 use std::marker::Model;
@@ -29,7 +30,7 @@ const LIMIT: usize = 1_048_576;
 /// Why no game comes.
 #[derive(Clone, Copy, Debug, PartialEq, Eq, Error)]
 pub enum GamesFault {
-    /// What stands there is no game, or there is no memory for it. The place is counted from the input's beginning.
+    /// The text there is no game, or there is no memory for it. The place is counted from the input's beginning.
     #[error("what stands there is no game")]
     Pgn(PgnFault),
     /// A read failed, or there were 2^40 reads.
@@ -37,9 +38,9 @@ pub enum GamesFault {
     Read,
 }
 
-// The fault where no item stands: a comment without its end is cut off by the end of the input.
+// The fault where there is no item: a comment without its end is cut off by the end of the input.
 fn aground<A: Allocator>(
-    reader: &Reader<'_, A>,
+    reader: &Reader<'_, '_, A>,
     unread: &[u8],
     at: usize,
     place: Place,
@@ -53,7 +54,7 @@ fn aground<A: Allocator>(
 
 // Ends the reading that has stopped; a fault where what was read is no game.
 fn end_reading<A: Allocator>(
-    reader: &mut Reader<'_, A>,
+    reader: &mut Reader<'_, '_, A>,
     stopped: Stopped,
     unread: &[u8],
 ) -> Result<(), PgnFault>
@@ -71,8 +72,8 @@ fn end_reading<A: Allocator>(
 }
 
 // The game whose reading has stopped.
-fn stopped_game<'a, A: Allocator>(
-    reader: Reader<'a, A>,
+fn stopped_game<'a, 'k, A: Allocator>(
+    reader: Reader<'a, 'k, A>,
     stopped: Stopped,
     unread: &[u8],
 ) -> Result<Game<'a, A>, PgnFault>
@@ -84,19 +85,17 @@ fn stopped_game<'a, A: Allocator>(
     reader.into_game()
 }
 
-// The game at the front of a text, and how many bytes it took.
+// The game at the start of a text, and how many bytes it took.
 fn take_game<'a, X: Text, A: Allocator>(
     alloc: &'a A,
-    table: &'a KeyTable,
+    basis: &Basis,
     text: &mut X,
 ) -> Result<Option<(Game<'a, A>, usize)>, GamesFault>
     requires { X.sound text.old }
     ensures sound { IfOk result (λ _. X.sound text.new) }
     ensures game { TakesGame X.comes X.at_hand X.all X.sound X.breaks text.old text.new result }
 {
-    let Ok(mut reader) = Reader::new(alloc, table) else {
-        return Err(GamesFault::Pgn(at_place(0, FaultKind::Memory)));
-    };
+    let mut reader = Reader::new(alloc, basis);
     let stopped = match pass(text, &mut reader, LIMIT) {
         Ok(Some(stopped)) => stopped,
         Ok(None) => return Ok(None),
@@ -109,15 +108,13 @@ fn take_game<'a, X: Text, A: Allocator>(
     }
 }
 
-/// The game at the front of the text, and how many bytes of it that took; `None` where there are only white space and hidden lines. The
-/// table serves the reading alone.
+/// The game that the text begins with, and how many bytes of it that took; `None` where there are only white space and hidden lines.
 ///
 /// # Errors
 ///
-/// The first fault of the text, with its place in bytes from the text's beginning.
+/// The first fault of the text, with its place in bytes from the text's beginning; `8 Memory` has place 0.
 pub fn read_game<'a, A: Allocator>(
     alloc: &'a A,
-    table: &'a KeyTable,
     input: &[u8],
 ) -> Result<Option<(Game<'a, A>, usize)>, PgnFault>
     ensures game { IfOk result (λ found. IfSome found (λ x. IsAtFront input.now (game_of x.0) x.1)) }
@@ -125,36 +122,42 @@ pub fn read_game<'a, A: Allocator>(
     ensures none { result ≡ Ok None → IsWhite input.now }
     ensures white { IsWhite input.now → IfOk result (λ found. found ≡ None) × IfErr result (λ fault. fault.kind ≡ Memory) }
     ensures fault { IfErr result (λ fault. (fault.kind ≡ Memory) ⊎ HasNoGame input.now) }
+    ensures memory { IfErr result (λ fault. fault.kind ≡ Memory → fault.place ≡ 0) }
     ensures only { (game : games.Game) (used : ℕ) → IsAtFront input.now game used → IsAnswered game used result }
 {
-    match take_game(alloc, table, &mut Whole { left: input }) {
+    match take_game(alloc, &Basis::new(), &mut Whole { left: input }) {
         Ok(game) => Ok(game),
-        Err(GamesFault::Pgn(fault)) => Err(fault),
+        Err(GamesFault::Pgn(fault)) => Err(placed_after(fault, 0)),
         // Nothing is read of a whole text.
         Err(GamesFault::Read) => unreachable!(),
     }
 }
 
-// A fault with its place behind so many bytes.
+// A fault of a text with its place after so many bytes; want of memory has its place there.
+fn placed_after(fault: PgnFault, used: u64) -> PgnFault
+    ensures kind { result.kind ≡ fault.kind }
+    ensures place { IsPlaced used (Pgn result) }
+{
+    match fault.kind {
+        FaultKind::Memory => PgnFault {
+            place: used,
+            kind: FaultKind::Memory,
+        },
+        kind => PgnFault {
+            place: fault.place.saturating_add(used),
+            kind,
+        },
+    }
+}
+
+// A fault with its place after so many bytes.
 fn placed(fault: GamesFault, used: u64) -> GamesFault
     ensures kind { HasKind fault result }
     ensures place { IsPlaced used result }
 {
     match fault {
         GamesFault::Read => GamesFault::Read,
-        GamesFault::Pgn(
-            PgnFault {
-                place: _,
-                kind: FaultKind::Memory,
-            },
-        ) => GamesFault::Pgn(PgnFault {
-            place: used,
-            kind: FaultKind::Memory,
-        }),
-        GamesFault::Pgn(PgnFault { place, kind }) => GamesFault::Pgn(PgnFault {
-            place: place.saturating_add(used),
-            kind,
-        }),
+        GamesFault::Pgn(fault) => GamesFault::Pgn(placed_after(fault, used)),
     }
 }
 
@@ -165,7 +168,7 @@ pub struct Games<'a, R, A: Allocator> {
     text: AtHand<'a, R, A>,
     fault: Option<GamesFault>,
     alloc: &'a A,
-    table: &'a KeyTable,
+    basis: Basis,
 }
 
 impl<'a, R, A: Allocator> Model for Games<'a, R, A> {
@@ -177,8 +180,8 @@ impl<'a, R, A: Allocator> Model for Games<'a, R, A> {
 }
 
 impl<'a, R: Source, A: Allocator> Games<'a, R, A> {
-    /// The games of a source of which no call has failed. Takes no memory. The table serves the reading alone.
-    pub fn new(alloc: &'a A, table: &'a KeyTable, source: R) -> Games<'a, R, A>
+    /// The games of a source of which no call has failed. Takes no memory.
+    pub fn new(alloc: &'a A, source: R) -> Games<'a, R, A>
         ensures sound { IsSound R.ended result }
         ensures none { result.fault ≡ None }
         ensures source { result.text.source ≡ source }
@@ -191,7 +194,7 @@ impl<'a, R: Source, A: Allocator> Games<'a, R, A> {
             text: AtHand::new(alloc, source),
             fault: None,
             alloc,
-            table,
+            basis: Basis::new(),
         }
     }
 
@@ -203,7 +206,7 @@ impl<'a, R: Source, A: Allocator> Games<'a, R, A> {
             text,
             fault: _,
             alloc: _,
-            table: _,
+            basis: _,
         } = self;
         text.into_source()
     }
@@ -245,7 +248,7 @@ impl<'a, R: Source, A: Allocator> Games<'a, R, A> {
         ensures none { self.new.fault ≡ None }
         ensures game { TakesGame (λ s bytes t. Came R.gives R.failed s bytes t) unread (λ s. s.has_ended ≡ true) (λ s. s.has_ended ≡ true → R.ended s.source) (λ s t. Breaks R.gives R.failed s t) self.old.text self.new.text result }
     {
-        take_game(self.alloc, self.table, &mut self.text)
+        take_game(self.alloc, &self.basis, &mut self.text)
     }
 
     // Passes over bytes, and forgets the fault where that goes well.
@@ -280,8 +283,8 @@ impl<'a, R: Source, A: Allocator> Games<'a, R, A> {
         placed
     }
 
-    /// The next game; `None` where there are only white space and hidden lines. It is read before the next: the source is asked for more
-    /// only where the bytes at hand don't decide what they spell.
+    /// The next game; `None` where there are only white space and hidden lines. It is read before the next: the source is asked for more,
+    /// at most 65,536 bytes at a time, only where no one game is at the start of the bytes at hand, whatever follows them.
     ///
     /// # Errors
     ///

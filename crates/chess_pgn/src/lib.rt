@@ -2,9 +2,10 @@
 //!
 //! What a text is made of stands in `chess_items/specs/Items.antt`, what a game is in `specs/Games.antt`, and its export form, which `write_game`
 //! gives, in `specs/Written.antt`. That a game which is written is read again is a law of these definitions (`specs/Laws.antt`), which
-//! `game_laws` tells.
+//! `game_laws` states.
 #![tactic(auto)]
 
+mod basis;
 mod game;
 mod games;
 mod laws;

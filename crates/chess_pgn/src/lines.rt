@@ -7,13 +7,13 @@ use std::alloc::{AllocError, Allocator};
 /// The most bytes of a line.
 const WIDTH: usize = 79;
 
-/// A text that is written in lines, behind another text and an empty line.
+/// A text that is written in lines, after another text and an empty line.
 #[derive(Drop)]
 pub struct Lines<'a, A: Allocator> {
     text: Vec<u8, &'a A>,
-    /// Where the space before the last word stands, which may become a line feed.
+    /// Where the space before the last word is, which may become a line feed.
     space: usize,
-    /// How many bytes of that line stand before it.
+    /// How many bytes of that line are before it.
     column: usize,
     ghost within: { space < vec_len text },
 }
@@ -21,7 +21,7 @@ pub struct Lines<'a, A: Allocator> {
 impl<'a, A: Allocator> Lines<'a, A> {
     ghost use Rattle.chess_pgn.specs.steps.Adding.{Adds, HoldsText};
 
-    /// No text behind `before`, which ends with a line feed.
+    /// No text after `before`, which ends with a line feed.
     pub fn new(before: Vec<u8, &'a A>) -> Result<Lines<'a, A>, AllocError>
         ensures { IfOk result (λ lines. HoldsText before.entry.items lines []) }
     {
@@ -102,7 +102,7 @@ impl<'a, A: Allocator> Lines<'a, A> {
         Ok(())
     }
 
-    /// The two texts, with a line feed and an empty line behind them.
+    /// The two texts, with a line feed and an empty line after them.
     pub fn finish(self) -> Result<Vec<u8, &'a A>, AllocError>
         ensures { IfOk result (λ bytes. (before text : List ℕ) → HoldsText before self.entry text
             → words (codes " ") text ≢ [] → bytes.items ≡ before ++ 10 ∷ (in_lines text ++ 10 ∷ 10 ∷ [])) }

@@ -66,14 +66,14 @@ fn is_noted(notes: &Notes<'_>) -> bool
     !notes.nags.is_empty() || !notes.comment.is_empty()
 }
 
-// Whether something stands between a node's move and the next.
+// Whether something is between a node's move and the next.
 fn is_parted<A: Allocator>(notes: &Notes<'_>, others: &Children<'_, '_, A>) -> bool
     ensures { result ≡ (is_noted notes.now.nags.now notes.now.comment.now || not (is_none (child 0 others.now))) }
 {
     is_noted(notes) || !others.is_empty()
 }
 
-// Makes a move, and writes its text: its mark is asked behind it.
+// Makes a move, and writes its text: its mark is asked after it.
 fn push_text<'k, 'a, A: Allocator>(
     lines: &mut Lines<'a, A>,
     line: &mut Line<'k, &'a A>,
@@ -215,8 +215,8 @@ impl<'t, 'k, 'a, A: Allocator> Writer<'t, 'k, 'a, A> {
         self.go_on(node.below(), due_below)
     }
 
-    // Behind a move that is made, leaves the tasks of what is below it and of taking it back; the last is left out where no task is
-    // behind it.
+    // After a move that is made, leaves the tasks of what is below it and of taking it back; the last is left out where no task is
+    // after it.
     fn go_on(&mut self, nodes: Children<'t, 'a, A>, due: bool) -> Result<(), AllocError>
         ensures lines { self.new.lines ≡ self.old.lines }
         ensures line { self.new.line ≡ self.old.line }

@@ -6,42 +6,40 @@ ghost use Rattle.chess_pgn.specs.steps.ReaderCode.{BeginsMoves, Closed, Finishes
 
 mod found;
 mod header;
+mod late;
 mod moves;
 
+use crate::basis::Basis;
 use crate::game::Game;
 use chess_items::{FaultKind, Outcome, PgnFault, Taken, Taker, Token, at_place};
-use chess_key::KeyTable;
-use chess_types::Position;
 use header::Header;
 use moves::Moves;
-use std::alloc::{AllocError, Allocator};
+use std::alloc::Allocator;
 
 /// Reads a game, item by item (PGN 8). Tags and comments come first; the movetext begins at any other item but white space.
 #[derive(Drop)]
-pub struct Reader<'a, A: Allocator> {
+pub struct Reader<'a, 'k, A: Allocator> {
     alloc: &'a A,
-    table: &'a KeyTable,
     header: Header<'a, A>,
-    moves: Moves<'a, A>,
+    moves: Moves<'a, 'k, A>,
     outcome: Outcome,
     /// Whether the movetext has begun.
     moving: bool,
 }
 
-impl<'a, A: Allocator> Reader<'a, A> {
-    /// Nothing read. `Memory` where there is none.
+impl<'a, 'k, A: Allocator> Reader<'a, 'k, A> {
+    /// Nothing read. Takes no memory.
     #[tactic(auto, unfolding(chess_types::specs::board::Position::start))]
-    pub fn new(alloc: &'a A, table: &'a KeyTable) -> Result<Reader<'a, A>, AllocError>
-        ensures { IfOk result (λ reader. IsNew reader) }
+    pub fn new(alloc: &'a A, basis: &'k Basis) -> Reader<'a, 'k, A>
+        ensures { IsNew result }
     {
-        Ok(Reader {
+        Reader {
             alloc,
-            table,
             header: Header::new(alloc),
-            moves: Moves::new(alloc, Position::start(), table)?,
+            moves: Moves::new(alloc, basis.start(), basis.table()),
             outcome: Outcome::Unfinished,
             moving: false,
-        })
+        }
     }
 
     // The end of the tags: the game begins in the position that they give.
@@ -54,11 +52,11 @@ impl<'a, A: Allocator> Reader<'a, A> {
         let Some(start) = self.header.start()? else {
             return Ok(());
         };
-        self.moves.begin_in(self.alloc, start, self.table)?;
+        self.moves.begin_in(start);
         Ok(())
     }
 
-    // What ends the movetext: a marker, or in front of it the bracket of a tag.
+    // What ends the movetext: a marker, or before it the bracket of a tag.
     fn ending(&mut self, at: usize, marker: Option<Outcome>) -> Result<Taken, PgnFault>
         ensures { Moved (ending_item marker) result self.old self.new }
     {
@@ -101,7 +99,7 @@ impl<'a, A: Allocator> Reader<'a, A> {
         Ok(Taken::GoesOn)
     }
 
-    // An item in front of the movetext, or its first one.
+    // An item before the movetext, or its first one.
     fn head(&mut self, at: usize, token: Token<'_>) -> Result<Taken, PgnFault>
         requires { is_begun self.old.header.part ≡ false }
         ensures { takes_when false (item_of token.entry) result self.old self.new }
@@ -129,7 +127,7 @@ impl<'a, A: Allocator> Reader<'a, A> {
         }
     }
 
-    /// The fault where at that place no item stands.
+    /// The fault where at that place there is no item.
     pub fn unspelled(&self, at: usize) -> PgnFault {
         if self.header.is_in_tag() {
             self.header.malformed()
@@ -145,7 +143,6 @@ impl<'a, A: Allocator> Reader<'a, A> {
     {
         let Reader {
             alloc,
-            table: _,
             header,
             moves,
             outcome,
@@ -177,7 +174,7 @@ impl<'a, A: Allocator> Reader<'a, A> {
     }
 }
 
-impl<'a, A: Allocator> Taker for Reader<'a, A> {
+impl<'a, 'k, A: Allocator> Taker for Reader<'a, 'k, A> {
     ghost use Rattle.chess_pgn.specs.steps.ReaderCode.{TakesItem};
 
     ghost takes = { λ old at item result new. TakesItem old item result new };

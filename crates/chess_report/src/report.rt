@@ -133,8 +133,8 @@ impl Report {
     /// Want of memory for the line.
     pub fn of<A: Allocator, B: Allocator>(
         alloc: B,
-        table: &KeyTable,
         game: &Game<'_, A>,
+        table: &KeyTable,
     ) -> Result<Report, AllocError>
         ensures plies { IfOk result (λ r. r.plies ≡ length (main game.now.tree.tree).moves) }
         ensures marker { IfOk result (λ r. r.marker ≡ game.now.result) }

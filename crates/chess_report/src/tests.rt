@@ -7,10 +7,10 @@ use chess_types::Status;
 fn a_mate(rt: HostRuntime) {
     let alloc = rt.alloc();
     let table = KeyTable::fixed();
-    let Ok(Some((game, _))) = read_game(&alloc, &table, b"1. f3 e5 2. g4 Qh4# 1-0") else {
+    let Ok(Some((game, _))) = read_game(&alloc, b"1. f3 e5 2. g4 Qh4# 1-0") else {
         return;
     };
-    let Ok(report) = Report::of(alloc, &table, &game) else {
+    let Ok(report) = Report::of(alloc, &game, &table) else {
         return;
     };
     assert!(rt; report.plies == 4 && report.status == Status::Mate && !report.agrees);

@@ -2,7 +2,7 @@
 use crate::tests::games;
 use crate::tests::runs::Letters;
 use crate::tests::sessions::STOPPED;
-use chess_cli::{Ended, board, board_with, pgn, pgn_with, uci, uci_with};
+use chess_cli::{Ended, board, board_with, pgn, uci, uci_with};
 use chess_key::KeyTable;
 use chess_types::{FromBytes, ToBytes};
 use linked_list_allocator::LocalHeap;
@@ -70,21 +70,6 @@ fn any_keys_serve_a_session(rt: HostRuntime) {
             Ended::Good
         );
         assert_eq!(rt; writer.taken(), REPLIES);
-    }
-}
-
-#[test]
-fn any_keys_serve_games(rt: HostRuntime) {
-    for word in [0, u64::MAX] {
-        let mut room = [0; 400];
-        let mut writer = ToBytes::new(&mut room, 400);
-        let mut reader = FromBytes::new(games::INPUT, 400);
-        let table = KeyTable::new([word; 768]);
-        assert_eq!(rt;
-            pgn_with(rt.alloc(), &mut reader, &mut writer, &table),
-            Ended::Good
-        );
-        assert_eq!(rt; writer.taken(), games::OUTPUT);
     }
 }
 

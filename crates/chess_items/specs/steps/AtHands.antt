@@ -48,6 +48,7 @@ pub record HasRead {R : Type 0} (gives : R → List ℕ → R → Type 0) (ended
   pub well : failed new.source ≡ failed old.source
   pub placed : new.used + length (unread new) ≡ old.used + length (unread old) + length (joined pieces)
   pub at_end : old.has_ended ≡ true → (pieces ≡ []) × (new.has_ended ≡ true)
+  pub quiet : pieces ≡ [] → new.has_ended ≡ true → old.has_ended ≡ true
   pub each : new.has_ended ≡ false → AllByRecursion (λ piece. 0 < length piece) pieces
   pub whole : unread new ≡ unread old ++ joined pieces
   pub ended_so : new.has_ended ≡ true → ended new.source

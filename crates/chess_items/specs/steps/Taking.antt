@@ -5,6 +5,7 @@
 --   Brackets    the taker took the bracket of a tag
 --   Offered     what becomes of an item that is offered
 --   settled, Settles  what an offer comes to: the step, and what is used
+--   Asked       no read was made, or the last was made where the bytes before it did not decide the item after those taken so far
 --   Steps       one item is taken, or none
 --   Ran         items are taken, and why no more are
 --   RunBreaks   items are taken, and then there was no memory, or a read broke off
@@ -14,7 +15,7 @@ use Rattle.chess_types.specs.bytes.Calls.{Calls, joined}
 use Rattle.chess_items.specs.Items.{Item, TagOpen, IsItem, is_white, place_after}
 use Rattle.chess_items.specs.steps.ItemAt.{item_at}
 use Rattle.chess_items.specs.steps.Deciding.{Decides}
-use Rattle.chess_items.specs.steps.Texts.{BreaksOff, Keeps, Oversized}
+use Rattle.chess_items.specs.steps.Texts.{BreaksOff, Keeps, Needs, Oversized}
 use Rattle.chess_items.specs.declared.at_hand.Fault.{Fault}
 use Rattle.chess_items.specs.declared.at_hand.Fault.TheVariants as fault
 use Rattle.chess_items.specs.declared.fault.PgnFault.{PgnFault}
@@ -85,7 +86,8 @@ module _ {X T : Type 0} (comes : X → List ℕ → X → Type 0) (at_hand : X �
   -- one item is used
   pub record UsesItem (most : ℕ) (place : Place) (old : X) (pieces : List (List ℕ)) (new : X) (item : Item) (used : ℕ) : Type 0 where
     pub found : Whatever new (λ more. item_at place (at_hand old ++ (joined pieces ++ more)) ≡ Some (item, at_hand new ++ more))
-    pub near : length (at_hand old) ≤ 65536 → length (at_hand new) ≤ 65536
+    pub asked : Needs at_hand all place old (joined pieces) new
+    pub near : length (at_hand old) ≤ 65537 → length (at_hand new) ≤ 65537
     pub at_end : all old → (joined pieces ≡ []) × all new
     pub sound_still : sound new
     pub smaller : size new + 1 ≤ size old
@@ -102,8 +104,8 @@ module _ {X T : Type 0} (comes : X → List ℕ → X → Type 0) (at_hand : X �
   pub record Next (place : Place) (old new : X) (item : Item) : Type 0 where
     pub rest : List ℕ
     pub found : Whatever new (λ more. item_at place (at_hand new ++ more) ≡ Some (item, rest ++ more))
-    pub near : length (at_hand old) ≤ 65536 → length rest ≤ 65536
-    pub bracket : item ≡ TagOpen → length (at_hand old) ≤ 65536 → length (at_hand new) ≤ 65536
+    pub near : length (at_hand old) ≤ 65537 → length rest ≤ 65537
+    pub bracket : item ≡ TagOpen → length (at_hand old) ≤ 65537 → length (at_hand new) ≤ 65537
 
   -- what comes next is no item
   pub record NoNext (most : ℕ) (place : Place) (new : X) : Type 0 where
@@ -130,7 +132,7 @@ module _ {X T : Type 0} (comes : X → List ℕ → X → Type 0) (at_hand : X �
       (item : Item) × UsesItem most place old pieces new item used × takes t at item (Ok GoesOn) u × (next ≡ place_after place item) × (white ≡ is_white item)
   AfterStep at most place old pieces new t u (step.Full next used white) =
       (item : Item) × UsesItem most place old pieces new item used × takes t at item (Ok Ends) u × (next ≡ place_after place item) × (white ≡ is_white item)
-  AfterStep at most place old pieces new t u (step.Stops why) = Rests old pieces new × AfterStop at most place old new t u why
+  AfterStep at most place old pieces new t u (step.Stops why) = Rests old pieces new × AfterStop at most place old new t u why × Needs at_hand all place old (joined pieces) new
 
   pub record Stepped (at most : ℕ) (place : Place) (old new : X) (t u : T) (one : Step) : Type 0 where
     pub pieces : List (List ℕ)
@@ -140,6 +142,22 @@ module _ {X T : Type 0} (comes : X → List ℕ → X → Type 0) (at_hand : X �
   abbrev pub Steps : ℕ → ℕ → Place → X → X → T → T → Result Step Fault → Type 0
   Steps at most place old new t u (Ok one) = Stepped at most place old new t u one
   Steps at most place old new t u (Err e) = Unit {0}
+
+  -- the last read, before which these items were taken
+  pub record LastRead (old : X) (came : List ℕ) (t : T) : Type 0 where
+    pub earlier : List ℕ
+    pub piece : List ℕ
+    pub parts : came ≡ earlier ++ piece
+    pub small : length piece ≤ 65536
+    pub items : List (ℕ × Item)
+    pub rest : List ℕ
+    pub last : T
+    pub spelled : (more : List ℕ) → SpellsFrom 0 GameStart (at_hand old ++ (earlier ++ more)) items (rest ++ more)
+    pub taken : Takes takes t items last
+    pub undecided : Decides (behind GameStart items) rest → ⊥
+
+  abbrev pub Asked : X → List ℕ → X → T → Type 0
+  Asked old came new t = ((came ≡ []) × (all new → all old)) ⊎ LastRead old came t
 
   -- the items are at the beginning of what was at hand and what came, whatever follows
   pub record Took (limit : ℕ) (old : X) (pieces : List (List ℕ)) (new : X) (items : List (ℕ × Item)) (at : ℕ) (place : Place) (white : Bool) : Type 0 where
@@ -159,7 +177,8 @@ module _ {X T : Type 0} (comes : X → List ℕ → X → Type 0) (at_hand : X �
     pub mid : T
     pub taken : Takes takes t items mid
     pub ends : takes mid last.0 last.1 (Ok Ends) u
-    pub near : length (at_hand old) ≤ 65536 → length (at_hand new) ≤ 65536
+    pub asked : Asked old (joined pieces) new t
+    pub near : length (at_hand old) ≤ 65537 → length (at_hand new) ≤ 65537
 
   -- the next item isn't used, with this answer
   pub record RanUpTo (limit : ℕ) (old : X) (pieces : List (List ℕ)) (new : X) (t u : T) (at : ℕ) (place : Place) (white : Bool) (answer : Result Taken PgnFault) : Type 0 where
@@ -171,14 +190,16 @@ module _ {X T : Type 0} (comes : X → List ℕ → X → Type 0) (at_hand : X �
     pub rest : List ℕ
     pub found : Whatever new (λ more. item_at place (at_hand new ++ more) ≡ Some (item, rest ++ more))
     pub answered : takes mid at item answer u
-    pub near : length (at_hand old) ≤ 65536 → length rest ≤ 65536
-    pub bracket : item ≡ TagOpen → length (at_hand old) ≤ 65536 → length (at_hand new) ≤ 65536
+    pub asked : Asked old (joined pieces) new t
+    pub near : length (at_hand old) ≤ 65537 → length rest ≤ 65537
+    pub bracket : item ≡ TagOpen → length (at_hand old) ≤ 65537 → length (at_hand new) ≤ 65537
 
   -- the text has ended
   pub record RanOut (limit : ℕ) (old : X) (pieces : List (List ℕ)) (new : X) (t u : T) (at : ℕ) (place : Place) (white : Bool) : Type 0 where
     pub items : List (ℕ × Item)
     pub took : Took limit old pieces new items at place white
     pub taken : Takes takes t items u
+    pub asked : Asked old (joined pieces) new t
     pub ended : all new
     pub nothing : at_hand new ≡ []
 

@@ -1,5 +1,6 @@
 -- A text that comes bit by bit.
 --   Near        where bytes came, the last read was made where the bytes before it did not decide the item
+--   Needs       no read was made, or the last was made where the bytes before it did not decide the item
 --   MadeReady   bytes came until the first item is decided or all have come
 --   Keeps       the first bytes are used
 --   Refills     all bytes at hand are used, and more come
@@ -17,6 +18,12 @@ use Rattle.chess_items.specs.declared.place.Place.{Place}
 
 abbrev pub Near : Place → List ℕ → List ℕ → Type 0
 Near place old new = (new ≡ old) ⊎ ((front : List ℕ) × (piece : List ℕ) × (new ≡ front ++ piece) × (length piece ≤ 65536) × (Decides place front → ⊥))
+
+-- with the bytes that came: each read before the end of the text brings some
+abbrev pub Needs : {X : Type 0} → (X → List ℕ) → (X → Type 0) → Place → X → List ℕ → X → Type 0
+Needs at_hand all place old more new =
+    ((more ≡ []) × (all new → all old))
+    ⊎ ((earlier : List ℕ) × (piece : List ℕ) × (more ≡ earlier ++ piece) × (length piece ≤ 65536) × (Decides place (at_hand old ++ earlier) → ⊥) × (all old → ⊥))
 
 -- more than `most` bytes, of which no item of at most `most` is the first, and the first `most + 1` don't decide that there is none
 abbrev pub Oversized : ℕ → Place → List ℕ → Type 0
@@ -46,6 +53,7 @@ module _ {X : Type 0} (comes : X → List ℕ → X → Type 0) (at_hand : X →
     pub longer : at_hand new ≡ at_hand old ++ more
     pub decided : Decides place (at_hand new) ⊎ all new
     pub near : Near place (at_hand old) (at_hand new)
+    pub asked : Needs at_hand all place old more new
     pub at_end : all old → (more ≡ []) × all new
     pub sound_still : sound new
     pub no_larger : size new ≤ size old
@@ -56,6 +64,7 @@ module _ {X : Type 0} (comes : X → List ℕ → X → Type 0) (at_hand : X →
     pub longer : at_hand new ≡ at_hand old ++ more
     pub over : most < length (at_hand new)
     pub undecided : Decides place (at_hand new) → ⊥
+    pub asked : Needs at_hand all place old more new
     pub at_end : all old → (more ≡ []) × all new
     pub sound_still : sound new
     pub held : length (at_hand old) ≤ most + 65536 → length (at_hand new) ≤ most + 65536

@@ -3,7 +3,7 @@ use Rattle.std.specs.Prelude.{ℕ, List, ◌++◌}
 use Rattle.chess_pgn.specs.steps.Laying.{Lays}
 use Rattle.chess_pgn.specs.declared.lines.Lines.{Lines}
 
--- the text so far, behind another
+-- the text so far, after another
 abbrev pub HoldsText : {A : Type 0} → List ℕ → Lines A → List ℕ → Type 0
 HoldsText before lines text = Lays before lines.text.items lines.space lines.column text
 

@@ -1,12 +1,13 @@
--- A game at the front of a text that comes bit by bit.
---   HasCome    bytes came, and a game stands at the front of what was at hand and what came, whatever follows
+-- A game at the start of a text that comes bit by bit.
+--   ReadsNeeded  no read was made, or the last was made where no one game was at the start of the bytes before it, whatever follows
+--   HasCome    bytes came, and a game is at the start of what was at hand and what came, whatever follows
 --   NoneCame   all has come, and was white
 --   FoundGame  one of both, as a game is answered or none
---   NotCome    bytes came, and no game stands at the front of what was at hand and what came, and more than white, whatever follows; the first
+--   NotCome    bytes came, and no game is at the start of what was at hand and what came, and more than white, whatever follows; the first
 --              of those bytes are used, and the text is sound still
 --   HasStarved bytes came, and then there was no memory
---   HasBroken  bytes came, and then a read broke off; no one game stands at the front of what was at hand and what came, whatever follows
---   IsFault    a read broke off, or there was no memory, or no game stands there
+--   HasBroken  bytes came, and then a read broke off; no one game is at the start of what was at hand and what came, whatever follows
+--   IsFault    a read broke off, or there was no memory, or no game is there
 --   TakesGame  what becomes of a text of which one game is taken
 use Rattle.std.specs.Prelude.{◌≡◌, ◌⊎◌, ◌≤◌, ℕ, List, [], ◌++◌, length, Option, Some, None, Result, Ok, Err}
 use Rattle.chess_types.specs.bytes.Calls.{Calls, joined}
@@ -18,6 +19,10 @@ use Rattle.chess_pgn.specs.declared.games.GamesFault.{GamesFault}
 use Rattle.chess_pgn.specs.declared.games.GamesFault.TheVariants.{Pgn, Read}
 
 module _ {X : Type 0} (comes : X → List ℕ → X → Type 0) (at_hand : X → List ℕ) (all : X → Type 0) where
+  abbrev pub ReadsNeeded : X → List ℕ → X → Type 0
+  ReadsNeeded old came new =
+      ((came ≡ []) × (all new → all old)) ⊎ ((front : List ℕ) × (piece : List ℕ) × (at_hand old ++ came ≡ front ++ piece) × (length piece ≤ 65536) × HasNoGameYet front)
+
   pub record HasCome {A : Type 0} (old new : X) (game : Game A) (used : ℕ) : Type 0 where
     pub pieces : List (List ℕ)
     pub came : Calls comes old pieces new
@@ -25,7 +30,8 @@ module _ {X : Type 0} (comes : X → List ℕ → X → Type 0) (at_hand : X →
     pub text : List ℕ
     pub parts : at_hand old ++ joined pieces ≡ text ++ at_hand new
     pub counted : length text ≡ used
-    pub near : length (at_hand old) ≤ 65536 → length (at_hand new) ≤ 65536
+    pub near : length (at_hand old) ≤ 65537 → length (at_hand new) ≤ 65537
+    pub needed : ReadsNeeded old (joined pieces) new
     pub cursor : game.tree.path ≡ []
     pub still : all old → (joined pieces ≡ []) × all new
 

@@ -136,7 +136,7 @@ abbrev pub ends_fen : Part → Item → List ℕ → List (List ℕ × List ℕ)
 ends_fen Closing items.TagClose name kept = is_first_fen name kept
 ends_fen _ _ name kept = false
 
--- where that tag's bracket stands, behind an item
+-- where that tag's bracket stands, after an item
 abbrev pub fen_place : {A : Type 0} → Header A → Item → ℕ
 fen_place old item = if ends_fen old.part item old.name.items old.found.tags then old.at else old.fen_at
 

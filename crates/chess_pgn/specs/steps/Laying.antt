@@ -4,7 +4,7 @@ use Rattle.std.specs.Str.{byte}
 use Rattle.chess_types.specs.bytes.Words.{words_from}
 use Rattle.chess_pgn.specs.Layout.{lay}
 
--- Behind `before`, and an empty line, the text so far is laid in lines, but for a word that has begun, behind a space: that line
+-- After `before`, and an empty line, the text so far is laid in lines, but for a word that has begun, after a space: that line
 -- has `column` bytes before the space, which stands at `space`.
 pub record Lays (before laid : List ℕ) (space column : ℕ) (text : List ℕ) : Type 0 where
   pub done : List ℕ

@@ -1,7 +1,7 @@
 -- What a reader of a game does with an item of the movetext.
 --   MovesOn   the elements of an item are read, whatever the state of reading was
---   Moved     what becomes of the item: it is read, it ends the game, the game ends in front of it, or no game goes on so
---   BeginsMoves  the tags end: the game begins in the position that they tell; NoStart, they tell none
+--   Moved     what becomes of the item: it is read, it ends the game, the game ends before it, or no game goes on so
+--   BeginsMoves  the tags end: the game begins in the position that they give; NoStart, they give none
 --   TakesItem what a reader does with any item
 --   IsNew     nothing is read
 --   Closed    the game that was read
@@ -82,7 +82,7 @@ abbrev pub ending_item : Option Outcome → Item
 ending_item (Some outcome) = items.Marker outcome
 ending_item None = items.TagOpen
 
--- ---- in front of the movetext
+-- ---- before the movetext
 
 -- it is a part of a tag, or stands between tags
 abbrev pub TakesPart : {A : Type 0} → Item → Header A → Header A → Type 0
@@ -95,7 +95,7 @@ pub record Headed {A : Type 0} (item : Item) (old new : Reader A) : Type 0 where
   pub moving : new.moving ≡ old.moving
   pub outcome : new.outcome ≡ old.outcome
 
--- in the position that the tags tell, where it was to begin in the usual one
+-- in the position that the tags give, where it was to begin in the usual one
 abbrev pub BeginsIn : {A : Type 0} → List (List ℕ × List ℕ) → Moves A → Moves A → Type 0
 BeginsIn read old new = (first : State) × (start_in read ≡ Some first) × ((lead : List ℕ) → Stands old (fresh start lead) → Stands new (fresh first lead))
 
@@ -106,7 +106,7 @@ pub record BeginsMoves {A : Type 0} (old new : Reader A) : Type 0 where
   pub moving : new.moving ≡ true
   pub outcome : new.outcome ≡ old.outcome
 
--- the tags tell no position
+-- the tags give no position
 abbrev pub NoStart : {A : Type 0} → Header A → Type 0
 NoStart header = (read : List (List ℕ × List ℕ)) → Finds read header.found.tags → start_in read ≡ None
 
@@ -159,7 +159,7 @@ pub record Finished {A : Type 0} (old : Reader A) (game : Game A) : Type 0 where
 abbrev pub Finishes : {A : Type 0} → Reader A → Reader A → Type 0
 Finishes {A = A} old new = (game : Game A) → Closed new game → Finished old game
 
--- in a tag or a variation, or where the movetext is still to begin and the tags tell no position, no game ends
+-- in a tag or a variation, or where the movetext is still to begin and the tags give no position, no game ends
 abbrev pub MayNotEnd : {A : Type 0} → Reader A → Type 0
 MayNotEnd reader = (is_begun reader.header.part ≡ true) ⊎ ((reader.moves.interrupted.items ≢ []) ⊎ ((reader.moving ≡ false) × NoStart reader.header))
 

@@ -1,11 +1,11 @@
 -- What a reader of movetext keeps, and the state of reading that it stands for.
 --   Reading     a state of reading; goes_on, what the elements give from there
---   said_here   a comment added behind the one at the cursor
---   Pends       the comments of the lines that are open, one behind the other
+--   said_here   a comment added after the one at the cursor
+--   Pends       the comments of the lines that are open, one after the other
 --   Stands      the reader is in that state
---   fresh       the state before any movetext, behind some comments
---   Goes        from one state, behind some elements, the others give what they give from another
---   StepsOn     whatever the state was, it is one behind that element
+--   fresh       the state before any movetext, after some comments
+--   Goes        from one state, after some elements, the others give what they give from another
+--   StepsOn     whatever the state was, it is one after that element
 --   FailsWith   whatever the state was, nothing is derived with some elements in front, or too many variations are open
 --   Exceeds     whatever the state was, only a game too large to be read is derived with some elements in front
 --   AtLimit     no move can be added at the cursor
@@ -57,7 +57,7 @@ abbrev pub said_here : List ℕ → TreeParts → TreeParts
 said_here text t =
     record { tree = record { start = t.tree.start; comment = comment_at t.path t.tree.comment text; below = forest_at t.path text t.tree.below }; path = t.path }
 
--- each comment stands behind a space
+-- each comment is after a space
 abbrev pub IsSpaced : List ℕ → Type 0
 IsSpaced [] = ⊤
 IsSpaced (b ∷ text) = b ≡ 32

@@ -18,7 +18,7 @@ todo Back = tasks.Back
 abbrev pub todos : {A : Type 0} → List (Task A) → List Todo
 todos items = map todo (reverse items)
 
--- the tasks behind a move that is made: it is taken back first, where there are any
+-- the tasks after a move that is made: it is taken back first, where there are any
 abbrev pub returning : {A : Type 0} → List (Task A) → List Todo
 returning [] = []
 returning (t ∷ ts) = tasks.Back ∷ todos (t ∷ ts)

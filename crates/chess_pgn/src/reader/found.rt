@@ -14,7 +14,7 @@ pub struct FoundTags<'a, A: Allocator> {
     tags: OtherTags<'a, A>,
 }
 
-// The value of the tag with that name goes where it belongs; where there is no such tag, what stands there stays.
+// The value of the tag with that name goes where it belongs; where there is no such tag, what is there stays.
 fn move_to<'a, A: Allocator>(tags: &mut OtherTags<'a, A>, name: &[u8], to: &mut Vec<u8, &'a A>)
     ensures value { to.new.items ≡ unwrap_or (tag_in name.now tags.old) to.old.items }
     ensures removed { Sets name.now None tags.old tags.new }
@@ -56,7 +56,7 @@ impl<'a, A: Allocator> FoundTags<'a, A> {
         self.tags.insert(name, value)
     }
 
-    /// The tags of the game, without those that tell its start.
+    /// The tags of the game, without those that give its start.
     pub fn into_tags(self, alloc: &'a A) -> Result<Tags<'a, A>, AllocError>
         ensures { IfOk result (λ tags. (given : List (List ℕ × List ℕ)) → Finds given self.entry.tags → HasTags given (tags_of tags)) }
     {

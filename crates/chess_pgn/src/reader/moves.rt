@@ -1,4 +1,4 @@
-ghost use Rattle.std.specs.Prelude.{◌≡◌, ◌<◌, ◌≤◌, if◌then◌else◌, ◌||◌, not, ◌++◌, ◌∷◌, [], List, ℕ, drop, take, length, map, min, true, IfErr, IfOk, OnOk};
+ghost use Rattle.std.specs.Prelude.{◌≡◌, ◌<◌, ◌≤◌, if◌then◌else◌, ◌||◌, not, ◌++◌, ◌∷◌, [], List, ℕ, drop, take, length, map, min, true, IfErr, IfOk, IsTrue, OnOk};
 ghost use Rattle.chess_types.specs.board.Position.{State};
 ghost use Rattle.chess_types.specs.board.Legal.{is_legal};
 ghost use Rattle.chess_types.specs.board.Lines.{extended, last};
@@ -10,16 +10,17 @@ ghost use Rattle.chess_tree.specs.WellFormed.{IsGameTree};
 ghost use Rattle.chess_pgn.specs.Grammar as grammar;
 ghost use Rattle.chess_pgn.specs.steps.Readings.{IsRead, IsLed, IsRoomFault, Stands, fresh, is_nil, said_here};
 
+use crate::reader::late::Late;
 use chess_items::{FaultKind, PgnFault, at_place};
 use chess_key::KeyTable;
-use chess_tree::{Analysis, PlayFault, Tree};
+use chess_tree::{PlayFault, Tree};
 use chess_types::{Move, Position};
 use std::alloc::{AllocError, Allocator};
 
 /// The most variations that are open at once.
 const DEEPEST: usize = 128;
 
-/// A line that a variation interrupts, behind its last move.
+/// A line that a variation interrupts, after its last move.
 #[derive(Clone, Copy)]
 struct Interrupted {
     /// How many plies come before that move, and its place among its siblings.
@@ -31,19 +32,18 @@ struct Interrupted {
 
 /// Reads movetext (PGN 8.2). The cursor is at the last move of the line that is being read; before its first move, where it begins.
 #[derive(Drop)]
-pub struct Moves<'a, A: Allocator> {
-    alloc: &'a A,
-    analysis: Analysis<'a, 'a, A>,
+pub struct Moves<'a, 'k, A: Allocator> {
+    analysis: Late<'a, 'k, A>,
     /// The lines around the one that is being read, the innermost last.
     interrupted: Vec<Interrupted, &'a A>,
     /// Whether that line has a move.
     played: bool,
-    /// The comments of its last move from `from` on, each behind a space; before that those of the lines around it.
+    /// The comments of its last move from `from` on, each after a space; before that those of the lines around it.
     comments: Vec<u8, &'a A>,
     from: usize,
 }
 
-// A comment behind a semicolon, which might stand between braces.
+// A comment after a semicolon, which might stand between braces.
 fn push_line<'a, A: Allocator>(text: &mut Vec<u8, &'a A>, line: &[u8]) -> Result<(), AllocError>
     ensures { OnOk result (text.new.items ≡ text.old.items ++ map without_brace line.now) }
 {
@@ -53,83 +53,31 @@ fn push_line<'a, A: Allocator>(text: &mut Vec<u8, &'a A>, line: &[u8]) -> Result
     Ok(())
 }
 
-// Sets the comment at the cursor.
-fn set_comment<'a, A: Allocator>(
-    analysis: &mut Analysis<'a, 'a, A>,
-    text: &[u8],
-) -> Result<(), AllocError>
-    ensures { OnOk result (analysis.new ≡ commented_here (normalised text.now) analysis.old) }
-{
-    match analysis.set_comment(text) {
-        Ok(()) => Ok(()),
-        Err(_) => Err(AllocError),
-    }
-}
-
-// Adds a comment behind the one at the cursor.
-fn say<'a, A: Allocator>(
-    alloc: &'a A,
-    analysis: &mut Analysis<'a, 'a, A>,
-    text: &[u8],
-) -> Result<(), AllocError>
-    ensures { OnOk result (analysis.new ≡ said_here (normalised text.now) analysis.old) }
-{
-    if text.is_empty() {
-        return Ok(());
-    }
-    let said = analysis.tree().notes().comment;
-    if said.is_empty() {
-        return set_comment(analysis, text);
-    }
-    let mut both = Vec::new(alloc);
-    both.extend_from_slice(said)?;
-    both.push(b' ')?;
-    both.extend_from_slice(text)?;
-    set_comment(analysis, both.as_slice())
-}
-
-impl<'a, A: Allocator> Moves<'a, A> {
+impl<'a, 'k, A: Allocator> Moves<'a, 'k, A> {
     ghost use Rattle.chess_pgn.specs.steps.Readings.{RefusesElements, StepsOn};
 
-    /// No movetext, from that position. `Memory` where there is none.
-    pub fn new(
-        alloc: &'a A,
-        start: Position,
-        table: &'a KeyTable,
-    ) -> Result<Moves<'a, A>, AllocError>
+    /// No movetext, from that position. Takes no memory.
+    pub fn new(alloc: &'a A, start: Position, table: &'k KeyTable) -> Moves<'a, 'k, A>
         requires clock { start.clock ≤ 99999 }
         requires number { start.number ≤ 99999 }
-        ensures { IfOk result (λ moves. Stands moves (fresh start [])) }
+        ensures { Stands result (fresh start []) }
     {
-        let Ok(analysis) = Analysis::new(alloc, start, table) else {
-            return Err(AllocError);
-        };
-        Ok(Moves {
-            alloc,
-            analysis,
+        Moves {
+            analysis: Late::new(alloc, start, table),
             interrupted: Vec::new(alloc),
             played: false,
             comments: Vec::new(alloc),
             from: 0,
-        })
+        }
     }
 
     /// Begins in another position, before any move.
-    pub fn begin_in(
-        &mut self,
-        alloc: &'a A,
-        start: Position,
-        table: &'a KeyTable,
-    ) -> Result<(), AllocError>
+    pub fn begin_in(&mut self, start: Position)
         requires clock { start.clock ≤ 99999 }
         requires number { start.number ≤ 99999 }
-        ensures { OnOk result ((first : State) (lead : List ℕ) → Stands self.old (fresh first lead) → Stands self.new (fresh start lead)) }
+        ensures { (first : State) (lead : List ℕ) → Stands self.old (fresh first lead) → Stands self.new (fresh start lead) }
     {
-        let Ok(analysis) = Analysis::new(alloc, start, table) else {
-            return Err(AllocError);
-        };
-        self.analysis = analysis;
-        Ok(())
+        self.analysis.begin_in(start);
     }
 
     /// Whether a variation is open.
@@ -149,7 +97,7 @@ impl<'a, A: Allocator> Moves<'a, A> {
         Ok(())
     }
 
-    /// A comment behind a semicolon.
+    /// A comment after a semicolon.
     pub fn line_comment(&mut self, line: &[u8]) -> Result<(), AllocError>
         ensures steps { OnOk result (StepsOn (grammar.Remark (normalised (map without_brace line.now))) self.old self.new) }
         ensures first { OnOk result (IsLed (normalised (map without_brace line.now)) self.old self.new) }
@@ -162,13 +110,14 @@ impl<'a, A: Allocator> Moves<'a, A> {
     // Notes the comments at the cursor.
     fn note(&mut self) -> Result<(), AllocError>
         ensures analysis { OnOk result (self.new.analysis ≡ said_here (normalised (drop (min self.old.from (length self.old.comments.items)) self.old.comments.items)) self.old.analysis) }
+        ensures line { OnOk result (line_to self.new.analysis ≡ line_to self.old.analysis) }
         ensures comments { OnOk result (self.new.comments.items ≡ take (min self.old.from (length self.old.comments.items)) self.old.comments.items) }
         ensures from { self.new.from ≡ self.old.from }
         ensures played { self.new.played ≡ self.old.played }
         ensures interrupted { self.new.interrupted ≡ self.old.interrupted }
     {
         let from = self.from.min(self.comments.len());
-        say(self.alloc, &mut self.analysis, &self.comments[from..])?;
+        self.analysis.say(&self.comments[from..])?;
         self.comments.truncate(from);
         Ok(())
     }
@@ -176,6 +125,7 @@ impl<'a, A: Allocator> Moves<'a, A> {
     // The same, where they are due.
     fn note_if(&mut self, due: bool) -> Result<(), AllocError>
         ensures analysis { OnOk result (self.new.analysis ≡ (if due then said_here (normalised (drop (min self.old.from (length self.old.comments.items)) self.old.comments.items)) self.old.analysis else self.old.analysis)) }
+        ensures line { OnOk result (line_to self.new.analysis ≡ line_to self.old.analysis) }
         ensures comments { OnOk result (self.new.comments.items ≡ (if due then take (min self.old.from (length self.old.comments.items)) self.old.comments.items else self.old.comments.items)) }
         ensures from { self.new.from ≡ self.old.from }
         ensures played { self.new.played ≡ self.old.played }
@@ -202,6 +152,7 @@ impl<'a, A: Allocator> Moves<'a, A> {
 
     // Adds a legal move at the cursor.
     fn add(&mut self, at: usize, m: Move) -> Result<(), PgnFault>
+        requires legal { IsTrue (is_legal (last (line_to self.old.analysis)) m) }
         ensures analysis { OnOk result (self.new.analysis ≡ added m self.old.analysis) }
         ensures line { OnOk result (line_to self.new.analysis ≡ extended (line_to self.old.analysis) m) }
         ensures comments { OnOk result (self.new.comments ≡ self.old.comments) }
@@ -210,7 +161,7 @@ impl<'a, A: Allocator> Moves<'a, A> {
         ensures interrupted { OnOk result (self.new.interrupted ≡ self.old.interrupted) }
         ensures room { IfErr result (λ fault. IsRoomFault fault.kind (is_legal (last (line_to self.old.analysis)) m) self.old.analysis) }
     {
-        match self.analysis.add(m) {
+        match self.analysis.add_legal(m) {
             Ok(()) => {}
             Err(PlayFault::Memory) => return Err(AllocError.into()),
             Err(_) => return Err(at_place(at, FaultKind::TooLarge)),
@@ -219,7 +170,7 @@ impl<'a, A: Allocator> Moves<'a, A> {
         Ok(())
     }
 
-    // Whether the comments are the cursor's: behind a move, and before the first move of the game.
+    // Whether the comments are the cursor's: after a move, and before the first move of the game.
     fn is_behind_move(&self) -> bool
         ensures { result ≡ (self.now.played || is_nil self.now.interrupted.items) }
     {
@@ -231,7 +182,7 @@ impl<'a, A: Allocator> Moves<'a, A> {
         ensures steps { OnOk result (StepsOn (grammar.Text text.now) self.old self.new) }
         ensures refuses { IfErr result (λ fault. RefusesElements (grammar.Text text.now ∷ []) fault.kind self.old) }
     {
-        let Ok(m) = self.analysis.read_move(text) else {
+        let Ok(m) = self.analysis.read_move(text)? else {
             return Err(at_place(at, FaultKind::Move));
         };
         self.note_if(self.is_behind_move())?;
@@ -241,7 +192,7 @@ impl<'a, A: Allocator> Moves<'a, A> {
         Ok(())
     }
 
-    /// The begin of a variation, which takes the place of the last move.
+    /// The begin of a variation, which replaces the last move.
     pub fn open(&mut self, at: usize) -> Result<(), PgnFault>
         ensures steps { OnOk result (StepsOn grammar.Open self.old self.new) }
         ensures refuses { IfErr result (λ fault. RefusesElements (grammar.Open ∷ []) fault.kind self.old) }
@@ -252,9 +203,8 @@ impl<'a, A: Allocator> Moves<'a, A> {
         if self.interrupted.len() >= DEEPEST {
             return Err(at_place(at, FaultKind::Deep));
         }
-        let tree = self.analysis.tree();
-        let depth = tree.depth().saturating_sub(1);
-        let place = tree.path_at(depth).unwrap_or(0);
+        let depth = self.analysis.depth().saturating_sub(1);
+        let place = self.analysis.path_at(depth).unwrap_or(0);
         self.interrupted.push(Interrupted {
             depth,
             place,
@@ -266,7 +216,7 @@ impl<'a, A: Allocator> Moves<'a, A> {
         Ok(())
     }
 
-    // Goes on with a line behind its last move.
+    // Goes on with a line after its last move.
     fn resume(&mut self, line: Interrupted)
         ensures analysis { line.place < count (below_at (take line.depth self.old.analysis.path) self.old.analysis.tree.below)
             → self.new.analysis ≡ at_path (take line.depth self.old.analysis.path ++ line.place ∷ []) self.old.analysis }
@@ -301,7 +251,7 @@ impl<'a, A: Allocator> Moves<'a, A> {
     {
         let mut moves = self;
         moves.note()?;
-        let mut tree = moves.analysis.into_tree();
+        let mut tree = moves.analysis.into_tree()?;
         tree.start();
         Ok(tree)
     }

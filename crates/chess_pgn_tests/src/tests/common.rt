@@ -23,10 +23,9 @@ pub const NO_MEMORY: PgnFault = PgnFault {
 pub fn first_game<'a, A: Allocator>(
     rt: &impl Abort,
     alloc: &'a A,
-    table: &'a KeyTable,
     text: &[u8],
 ) -> (Game<'a, A>, usize) {
-    match read_game(alloc, table, text) {
+    match read_game(alloc, text) {
         Ok(found) => found.expect(rt, "a game"),
         Err(_) => panic!(rt; "a fault"),
     }
@@ -77,13 +76,12 @@ fn export<'a, A: Allocator, R: Source>(
 /// What a source in pieces of one size gives: the export forms of its games, and the fault behind them.
 pub fn read_all<'a, A: Allocator>(
     alloc: &'a A,
-    table: &'a KeyTable,
     input: &[u8],
     piece: usize,
 ) -> Result<(Vec<u8, &'a A>, Option<GamesFault>), AllocError>
     requires { 0 < piece }
 {
-    let mut games = Games::new(alloc, table, FromBytes::new(input, piece));
+    let mut games = Games::new(alloc, FromBytes::new(input, piece));
     let mut text = Vec::new(alloc);
     let fault = export(alloc, &mut games, &mut text, 100)?;
     Ok((text, fault))

@@ -1,6 +1,5 @@
 //! A game cut anywhere, and games up to the limits.
-use super::common::{a_table, first_game};
-use chess_key::KeyTable;
+use super::common::{NO_MEMORY, first_game};
 use chess_pgn::{FaultKind, PgnFault, game_laws, read_game, write_game};
 use linked_list_allocator::LocalHeap;
 use std::alloc::{AllocError, Allocator, Global};
@@ -12,8 +11,8 @@ const GAME: &[u8] = b"1.e4 e5 (1...c5 2.Nf3 {x  y} $1) 2.Nf3 *";
 /// How many moves follow the first position of the game that a text begins with, if there is one.
 type Begun = Result<Option<u32>, PgnFault>;
 
-fn front_by<A: Allocator>(alloc: &A, table: &KeyTable, text: &[u8]) -> Begun {
-    match read_game(alloc, table, text) {
+fn front_by<A: Allocator>(alloc: &A, text: &[u8]) -> Begun {
+    match read_game(alloc, text) {
         Ok(None) => Ok(None),
         Ok(Some((game, _))) => Ok(Some(game.tree.child_count())),
         Err(fault) => Err(fault),
@@ -21,7 +20,7 @@ fn front_by<A: Allocator>(alloc: &A, table: &KeyTable, text: &[u8]) -> Begun {
 }
 
 fn front<A: Allocator>(alloc: &A, text: &[u8]) -> Begun {
-    front_by(alloc, &a_table(), text)
+    front_by(alloc, text)
 }
 
 fn fault(place: u64, kind: FaultKind) -> Begun {
@@ -95,11 +94,10 @@ fn varied<'a, A: Allocator>(alloc: &'a A, variations: u32) -> Result<Vec<u8, &'a
 fn written<'a, A: Allocator>(
     rt: &impl Abort,
     alloc: &'a A,
-    table: &'a KeyTable,
     text: &[u8],
     wanted: (usize, u32),
 ) -> Result<Vec<u8, &'a A>, PgnFault> {
-    let (game, used) = first_game(rt, alloc, table, text);
+    let (game, used) = first_game(rt, alloc, text);
     assert!(rt; used == wanted.0);
     assert!(rt; game.tree.child_count() == wanted.1);
     write_game(alloc, &game)
@@ -108,12 +106,11 @@ fn written<'a, A: Allocator>(
 fn is_written_again<A: Allocator>(
     rt: &impl Abort,
     alloc: &A,
-    table: &KeyTable,
     text: &[u8],
     wanted: (usize, u32),
 ) -> Result<(), PgnFault> {
-    let written = written(rt, alloc, table, text, wanted)?;
-    assert!(rt; front_by(alloc, table, written.as_slice()) == Ok(Some(wanted.1)));
+    let written = written(rt, alloc, text, wanted)?;
+    assert!(rt; front_by(alloc, written.as_slice()) == Ok(Some(wanted.1)));
     Ok(())
 }
 
@@ -123,7 +120,7 @@ fn as_many_variations_as_there_is_room_for(rt: HostRuntime) -> Result<(), Fail> 
     let alloc = rt.alloc();
     let text = varied(&alloc, 65_536)?;
     let wanted = (2 + 4 * 65_536, 65_537);
-    is_written_again(&rt, &alloc, &a_table(), text.as_slice(), wanted)?;
+    is_written_again(&rt, &alloc, text.as_slice(), wanted)?;
     game_laws();
     Ok(())
 }
@@ -140,7 +137,7 @@ fn is_read(rt: &impl Abort, begun: Begun) -> bool {
             true
         }
         Err(fault) => {
-            assert!(rt; fault.kind == FaultKind::Memory);
+            assert!(rt; fault == NO_MEMORY);
             false
         }
     }

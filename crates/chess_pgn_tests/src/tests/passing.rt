@@ -2,9 +2,7 @@
 ghost use Rattle.std.specs.Prelude.{◌<◌};
 ghost use Rattle.chess_pgn.specs.Sources.{IsSound};
 
-use super::common::a_table;
 use super::passing::Step::{End, Fault, Game, NextFails, PassFails, Passed};
-use chess_key::KeyTable;
 use chess_pgn::{FaultKind, Games, GamesFault};
 use chess_types::{FromBytes, Source};
 use linked_list_allocator::LocalHeap;
@@ -184,9 +182,8 @@ const ROWS: &[(&[u8], &[Step])] = &[
 fn assert_rows<A: Allocator>(rt: &impl Abort, alloc: &A, piece: usize)
     requires { 0 < piece }
 {
-    let table = a_table();
     for (text, steps) in ROWS {
-        let mut games = Games::new(alloc, &table, FromBytes::new(text, piece));
+        let mut games = Games::new(alloc, FromBytes::new(text, piece));
         assert_steps(rt, &mut games, steps);
     }
 }
@@ -201,10 +198,9 @@ fn goes_on_after_a_bad_game(rt: HostRuntime) {
 
 /// A collection in reads of four bytes, of which the one after so many fails.
 fn assert_failing<A: Allocator>(rt: &impl Abort, alloc: &A, good_reads: u64, steps: &[Step]) {
-    let table = a_table();
     let text = b"* ~~~~~~\n\n[A \"3\"] *";
     let source = FromBytes::failing_after(text, 4, good_reads);
-    assert_steps(rt, &mut Games::new(alloc, &table, source), steps);
+    assert_steps(rt, &mut Games::new(alloc, source), steps);
 }
 
 /// A read that fails while bytes are passed over, and one that fails afterwards.
@@ -221,8 +217,8 @@ fn a_failing_read_while_passing_over(rt: HostRuntime) {
 }
 
 /// Want of memory stays.
-fn assert_starved(rt: &impl Abort, heap: &LocalHeap, table: &KeyTable) {
-    let mut games = Games::new(heap, table, FromBytes::new(b"*", 1));
+fn assert_starved(rt: &impl Abort, heap: &LocalHeap) {
+    let mut games = Games::new(heap, FromBytes::new(b"*", 1));
     let passed = games.pass_over();
     assert!(rt; passed.is_err());
     let starved = goes(&mut games, Fault(0, FaultKind::Memory.number()));
@@ -234,6 +230,6 @@ fn assert_starved(rt: &impl Abort, heap: &LocalHeap, table: &KeyTable) {
 #[test]
 fn want_of_memory_stays(rt: HostRuntime) -> Result<(), Fail> {
     let heap = LocalHeap::new(rt.alloc(), 1024)?;
-    assert_starved(&rt, &heap, &a_table());
+    assert_starved(&rt, &heap);
     Ok(())
 }

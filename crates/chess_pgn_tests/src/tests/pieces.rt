@@ -2,8 +2,7 @@
 ghost use Rattle.std.specs.Prelude.{◌<◌};
 ghost use Rattle.chess_pgn.specs.Sources.{IsSound};
 
-use super::common::{NO_MEMORY, a_table};
-use chess_key::KeyTable;
+use super::common::NO_MEMORY;
 use chess_pgn::{FaultKind, Games, GamesFault, PgnFault, read_game};
 use chess_types::{FromBytes, Source};
 use linked_list_allocator::LocalHeap;
@@ -17,8 +16,8 @@ const LIMIT: usize = 1_048_576;
 /// How many bytes the game uses that a text begins with; none where the text is white.
 type Found = Result<Option<usize>, PgnFault>;
 
-fn front<A: Allocator>(alloc: &A, table: &KeyTable, text: &[u8]) -> Found {
-    match read_game(alloc, table, text) {
+fn front<A: Allocator>(alloc: &A, text: &[u8]) -> Found {
+    match read_game(alloc, text) {
         Ok(None) => Ok(None),
         Ok(Some((_, used))) => Ok(Some(used)),
         Err(fault) => Err(fault),
@@ -26,15 +25,10 @@ fn front<A: Allocator>(alloc: &A, table: &KeyTable, text: &[u8]) -> Found {
 }
 
 /// Whether there is a game where a source in pieces of that size begins.
-fn first_in_pieces<A: Allocator>(
-    alloc: &A,
-    table: &KeyTable,
-    text: &[u8],
-    piece: usize,
-) -> Result<bool, GamesFault>
+fn first_in_pieces<A: Allocator>(alloc: &A, text: &[u8], piece: usize) -> Result<bool, GamesFault>
     requires { 0 < piece }
 {
-    match Games::new(alloc, table, FromBytes::new(text, piece)).next() {
+    match Games::new(alloc, FromBytes::new(text, piece)).next() {
         Ok(found) => Ok(found.is_some()),
         Err(fault) => Err(fault),
     }
@@ -58,13 +52,13 @@ fn assert_in_pieces<A: Allocator>(
 )
     requires { 0 < piece }
 {
-    let found = first_in_pieces(alloc, &a_table(), text, piece);
+    let found = first_in_pieces(alloc, text, piece);
     assert!(rt; found == in_pieces(wanted), "in pieces of {piece}");
 }
 
 /// The text begins so, as a whole and in pieces.
 fn assert_front<A: Allocator>(rt: &impl Abort, alloc: &A, text: &[u8], wanted: Found) {
-    assert!(rt; front(alloc, &a_table(), text) == wanted);
+    assert!(rt; front(alloc, text) == wanted);
     assert_in_pieces(rt, alloc, text, 3, wanted);
     assert_in_pieces(rt, alloc, text, 65_536, wanted);
 }
@@ -232,9 +226,9 @@ fn white_space_behind_the_limit(rt: HostRuntime) -> Result<(), Fail> {
 }
 
 /// Whether there is a game in a source of which so many calls go well.
-fn first_until<A: Allocator>(alloc: &A, table: &KeyTable, calls: u64) -> Result<bool, GamesFault> {
+fn first_until<A: Allocator>(alloc: &A, calls: u64) -> Result<bool, GamesFault> {
     let source = FromBytes::failing_after(b"1. e4 e5 *", 2, calls);
-    match Games::new(alloc, table, source).next() {
+    match Games::new(alloc, source).next() {
         Ok(found) => Ok(found.is_some()),
         Err(fault) => Err(fault),
     }
@@ -242,7 +236,7 @@ fn first_until<A: Allocator>(alloc: &A, table: &KeyTable, calls: u64) -> Result<
 
 /// A read that fails before the game is whole.
 fn assert_failing<A: Allocator>(rt: &impl Abort, alloc: &A, calls: u64) {
-    let found = first_until(alloc, &a_table(), calls);
+    let found = first_until(alloc, calls);
     if calls == 5 {
         assert!(rt; found == Ok(true));
     } else {
@@ -262,8 +256,8 @@ fn next_fault<A: Allocator, R: Source>(games: &mut Games<'_, R, A>) -> Option<Ga
 }
 
 /// A source for which there is no memory: each call says so.
-fn assert_starved(rt: &impl Abort, heap: &LocalHeap, table: &KeyTable) {
-    let mut games = Games::new(heap, table, FromBytes::new(b"*", 1));
+fn assert_starved(rt: &impl Abort, heap: &LocalHeap) {
+    let mut games = Games::new(heap, FromBytes::new(b"*", 1));
     assert!(rt; heap.used() == 0);
     let wanted = Some(GamesFault::Pgn(NO_MEMORY));
     let first = next_fault(&mut games);
@@ -279,6 +273,6 @@ fn faults_of_a_source(rt: HostRuntime) -> Result<(), Fail> {
         assert_failing(&rt, &rt.alloc(), calls);
     }
     let heap = LocalHeap::new(rt.alloc(), 1024)?;
-    assert_starved(&rt, &heap, &a_table());
+    assert_starved(&rt, &heap);
     Ok(())
 }

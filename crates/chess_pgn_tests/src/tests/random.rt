@@ -181,7 +181,6 @@ fn collection<'a, A: Allocator>(
 fn assert_same<A: Allocator>(
     rt: &impl Abort,
     alloc: &A,
-    table: &KeyTable,
     input: &[u8],
     piece: usize,
     wanted: &[u8],
@@ -189,7 +188,7 @@ fn assert_same<A: Allocator>(
 ) -> Result<(), AllocError>
     requires { 0 < piece }
 {
-    let (text, found) = read_all(alloc, table, input, piece)?;
+    let (text, found) = read_all(alloc, input, piece)?;
     assert!(rt; text.as_slice() == wanted, "in pieces of {piece}");
     assert!(rt; found == fault, "in pieces of {piece}");
     Ok(())
@@ -199,7 +198,6 @@ fn assert_same<A: Allocator>(
 fn assert_pieces<A: Allocator>(
     rt: &impl Abort,
     alloc: &A,
-    table: &KeyTable,
     random: &mut Pcg64,
     input: &[u8],
     wanted: &[u8],
@@ -207,7 +205,7 @@ fn assert_pieces<A: Allocator>(
 ) -> Result<(), AllocError> {
     for most in [1, 7, 100, 5_000] {
         let piece = (below(random, most) as usize).saturating_add(1);
-        assert_same(rt, alloc, table, input, piece, wanted, fault)?;
+        assert_same(rt, alloc, input, piece, wanted, fault)?;
     }
     Ok(())
 }
@@ -216,16 +214,14 @@ fn assert_pieces<A: Allocator>(
 fn is_good<A: Allocator>(
     rt: &impl Abort,
     alloc: &A,
-    table: &KeyTable,
     random: &mut Pcg64,
     input: &[u8],
 ) -> Result<bool, AllocError> {
-    let (whole, fault) = read_all(alloc, table, input, 1_000_000)?;
-    assert_pieces(rt, alloc, table, random, input, whole.as_slice(), fault)?;
+    let (whole, fault) = read_all(alloc, input, 1_000_000)?;
+    assert_pieces(rt, alloc, random, input, whole.as_slice(), fault)?;
     assert_same(
         rt,
         alloc,
-        table,
         whole.as_slice(),
         1_000_000,
         whole.as_slice(),
@@ -242,7 +238,7 @@ fn is_one_good<A: Allocator>(
     random: &mut Pcg64,
 ) -> Result<bool, AllocError> {
     let text = collection(alloc, table, random)?;
-    is_good(rt, alloc, table, random, text.as_slice())
+    is_good(rt, alloc, random, text.as_slice())
 }
 
 /// However a source is cut, its games and its fault are the same; and games that are written are read again.

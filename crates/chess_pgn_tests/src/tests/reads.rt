@@ -1,8 +1,7 @@
 ghost use Rattle.std.specs.Prelude.{◌<◌};
 ghost use Rattle.chess_pgn.specs.Sources.{IsSound};
 
-use super::common::{a_table, first_game, is_written};
-use chess_key::KeyTable;
+use super::common::{first_game, is_written};
 use chess_pgn::{FaultKind, Game, Games, GamesFault, PgnFault, read_game, write_game};
 use chess_types::{FromBytes, Source};
 use std::alloc::Allocator;
@@ -10,22 +9,15 @@ use std::process::Abort;
 use std::test::Fail;
 
 /// The text begins with a game whose movetext that is, and uses so many bytes.
-fn assert_reads<A: Allocator>(
-    rt: &impl Abort,
-    alloc: &A,
-    table: &KeyTable,
-    text: &str,
-    movetext: &str,
-    used: usize,
-) {
-    let (game, count) = first_game(rt, alloc, table, text.as_bytes());
+fn assert_reads<A: Allocator>(rt: &impl Abort, alloc: &A, text: &str, movetext: &str, used: usize) {
+    let (game, count) = first_game(rt, alloc, text.as_bytes());
     assert!(rt; count == used, "{text}");
     assert!(rt; is_written(alloc, &game, movetext), "{text}");
 }
 
 /// The fault of a text, its place first.
-fn fault<A: Allocator>(alloc: &A, table: &KeyTable, text: &str) -> Option<(u64, u8)> {
-    match read_game(alloc, table, text.as_bytes()) {
+fn fault<A: Allocator>(alloc: &A, text: &str) -> Option<(u64, u8)> {
+    match read_game(alloc, text.as_bytes()) {
         Ok(_) => None,
         Err(fault) => Some((fault.place, fault.kind.number())),
     }
@@ -55,7 +47,7 @@ const GAMES: &[(&str, &str, usize)] = &[
 #[test]
 fn moves_and_variations(rt: HostRuntime) {
     for (text, movetext, used) in GAMES {
-        assert_reads(&rt, &rt.alloc(), &a_table(), text, movetext, *used);
+        assert_reads(&rt, &rt.alloc(), text, movetext, *used);
     }
 }
 
@@ -89,19 +81,18 @@ const VALUES: &[(&str, &str, Option<&[u8]>)] = &[
 fn assert_value<A: Allocator>(
     rt: &impl Abort,
     alloc: &A,
-    table: &KeyTable,
     text: &str,
     name: &str,
     value: Option<&[u8]>,
 ) {
-    let (game, _) = first_game(rt, alloc, table, text.as_bytes());
+    let (game, _) = first_game(rt, alloc, text.as_bytes());
     assert!(rt; game.tag(name.as_bytes()) == value, "{name}");
 }
 
 #[test]
 fn tags_of_a_game(rt: HostRuntime) {
     for (text, name, value) in VALUES {
-        assert_value(&rt, &rt.alloc(), &a_table(), text, name, *value);
+        assert_value(&rt, &rt.alloc(), text, name, *value);
     }
 }
 
@@ -130,15 +121,8 @@ fn ends_with<'a, A: Allocator>(alloc: &'a A, game: &Game<'a, A>, end: &str) -> b
 }
 
 /// The text begins with a game that uses so many bytes, and whose own text ends so.
-fn assert_end<A: Allocator>(
-    rt: &impl Abort,
-    alloc: &A,
-    table: &KeyTable,
-    text: &str,
-    used: usize,
-    end: &str,
-) {
-    let (game, count) = first_game(rt, alloc, table, text.as_bytes());
+fn assert_end<A: Allocator>(rt: &impl Abort, alloc: &A, text: &str, used: usize, end: &str) {
+    let (game, count) = first_game(rt, alloc, text.as_bytes());
     assert!(rt; count == used, "{text}");
     assert!(rt; ends_with(alloc, &game, end), "{text}");
 }
@@ -146,7 +130,7 @@ fn assert_end<A: Allocator>(
 #[test]
 fn ends_of_texts(rt: HostRuntime) {
     for (text, used, end) in ENDS {
-        assert_end(&rt, &rt.alloc(), &a_table(), text, *used, end);
+        assert_end(&rt, &rt.alloc(), text, *used, end);
     }
 }
 
@@ -182,19 +166,13 @@ const FAULTS: &[(&str, Option<(u64, u8)>)] = &[
 ];
 
 /// The text has that fault.
-fn assert_fault<A: Allocator>(
-    rt: &impl Abort,
-    alloc: &A,
-    table: &KeyTable,
-    text: &str,
-    wanted: Option<(u64, u8)>,
-) {
-    assert!(rt; fault(alloc, table, text) == wanted, "{text}");
+fn assert_fault<A: Allocator>(rt: &impl Abort, alloc: &A, text: &str, wanted: Option<(u64, u8)>) {
+    assert!(rt; fault(alloc, text) == wanted, "{text}");
 }
 
 /// Whether a text begins with a game, if it has no fault.
-fn has_game<A: Allocator>(alloc: &A, table: &KeyTable, text: &[u8]) -> Option<bool> {
-    match read_game(alloc, table, text) {
+fn has_game<A: Allocator>(alloc: &A, text: &[u8]) -> Option<bool> {
+    match read_game(alloc, text) {
         Ok(found) => Some(found.is_some()),
         Err(_) => None,
     }
@@ -203,11 +181,11 @@ fn has_game<A: Allocator>(alloc: &A, table: &KeyTable, text: &[u8]) -> Option<bo
 #[test]
 fn faults_of_a_text(rt: HostRuntime) {
     for (text, wanted) in FAULTS {
-        assert_fault(&rt, &rt.alloc(), &a_table(), text, *wanted);
+        assert_fault(&rt, &rt.alloc(), text, *wanted);
     }
-    let white = has_game(&rt.alloc(), &a_table(), b"\xef\xbb\xbf \n%x\n ");
+    let white = has_game(&rt.alloc(), b"\xef\xbb\xbf \n%x\n ");
     assert!(&rt; white == Some(false));
-    let empty = has_game(&rt.alloc(), &a_table(), b"%x\n{}");
+    let empty = has_game(&rt.alloc(), b"%x\n{}");
     assert!(&rt; empty == Some(true));
 }
 
@@ -233,18 +211,10 @@ fn count_games<A: Allocator, R: Source>(
 }
 
 /// How many of the first three games of a source come before none or a fault does, and the fault.
-fn all_games<A: Allocator>(
-    alloc: &A,
-    table: &KeyTable,
-    text: &[u8],
-    piece: usize,
-) -> (u32, Option<GamesFault>)
+fn all_games<A: Allocator>(alloc: &A, text: &[u8], piece: usize) -> (u32, Option<GamesFault>)
     requires { 0 < piece }
 {
-    count_games(
-        &mut Games::new(alloc, table, FromBytes::new(text, piece)),
-        3,
-    )
+    count_games(&mut Games::new(alloc, FromBytes::new(text, piece)), 3)
 }
 
 /// That fault of a source.
@@ -263,7 +233,7 @@ fn assert_games<A: Allocator>(
 )
     requires { 0 < piece }
 {
-    let found = all_games(alloc, &a_table(), text, piece);
+    let found = all_games(alloc, text, piece);
     assert!(rt; found.0 == count, "in pieces of {piece}");
     assert!(rt; found.1 == fault, "in pieces of {piece}");
 }
@@ -314,9 +284,9 @@ const LATER_FAULTS: &[(&[u8], u32, u64, FaultKind)] = &[
 ];
 
 /// A fault is told again by each later call.
-fn assert_told_again<A: Allocator>(rt: &impl Abort, alloc: &A, table: &KeyTable) {
+fn assert_told_again<A: Allocator>(rt: &impl Abort, alloc: &A) {
     let wanted = refused(2, FaultKind::Variation);
-    let mut games = Games::new(alloc, table, FromBytes::new(b"* (1. e4) *", 1));
+    let mut games = Games::new(alloc, FromBytes::new(b"* (1. e4) *", 1));
     let (count, fault) = count_games(&mut games, 3);
     assert!(rt; count == 1);
     assert!(rt; fault == wanted);
@@ -327,8 +297,8 @@ fn assert_told_again<A: Allocator>(rt: &impl Abort, alloc: &A, table: &KeyTable)
 
 #[test]
 fn a_fault_is_told_again(rt: HostRuntime) {
-    assert_told_again(&rt, &rt.alloc(), &a_table());
-    let none = all_games(&rt.alloc(), &a_table(), b"", 1);
+    assert_told_again(&rt, &rt.alloc());
+    let none = all_games(&rt.alloc(), b"", 1);
     assert!(&rt; none.0 == 0);
     assert!(&rt; none.1.is_none());
 }
@@ -355,8 +325,8 @@ fn nested<'a, A: Allocator>(alloc: &'a A, many: u32) -> Result<Vec<u8, &'a A>, P
 }
 
 /// How many moves follow the first position of the game that a text begins with.
-fn begun<A: Allocator>(alloc: &A, table: &KeyTable, text: &[u8]) -> Result<Option<u32>, PgnFault> {
-    match read_game(alloc, table, text) {
+fn begun<A: Allocator>(alloc: &A, text: &[u8]) -> Result<Option<u32>, PgnFault> {
+    match read_game(alloc, text) {
         Ok(None) => Ok(None),
         Ok(Some((game, _))) => Ok(Some(game.tree.child_count())),
         Err(fault) => Err(fault),
@@ -369,7 +339,7 @@ fn front_of_nested<A: Allocator>(
     many: u32,
 ) -> Result<Result<Option<u32>, PgnFault>, PgnFault> {
     let text = nested(alloc, many)?;
-    Ok(begun(alloc, &a_table(), text.as_slice()))
+    Ok(begun(alloc, text.as_slice()))
 }
 
 /// The fault of a game in which too many variations are open.

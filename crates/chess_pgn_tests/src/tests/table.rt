@@ -1,8 +1,7 @@
 //! A table of games, read and written: what is written stands there as the standard has it.
 ghost use Rattle.std.specs.Prelude.{◌<◌};
 
-use super::common::{a_table, read_all};
-use chess_key::KeyTable;
+use super::common::read_all;
 use std::alloc::{AllocError, Allocator};
 use std::process::Abort;
 use std::test::Fail;
@@ -362,14 +361,13 @@ Ba4 $10 $0 4... Nf6 $255 {rest ) of} 5. O-O 0-1\n\
 fn assert_written<A: Allocator>(
     rt: &impl Abort,
     alloc: &A,
-    table: &KeyTable,
     input: &[u8],
     wanted: &[u8],
     piece: usize,
 ) -> Result<(), AllocError>
     requires { 0 < piece }
 {
-    let (text, fault) = read_all(alloc, table, input, piece)?;
+    let (text, fault) = read_all(alloc, input, piece)?;
     assert!(rt; fault.is_none(), "{piece}: {wanted:?}");
     assert!(rt; text.as_slice() == wanted, "{piece}: {wanted:?}");
     Ok(())
@@ -379,28 +377,23 @@ fn assert_written<A: Allocator>(
 fn assert_row<A: Allocator>(
     rt: &impl Abort,
     alloc: &A,
-    table: &KeyTable,
     input: &[u8],
     wanted: &[u8],
 ) -> Result<(), AllocError> {
-    assert_written(rt, alloc, table, input, wanted, 1)?;
-    assert_written(rt, alloc, table, input, wanted, 4_096)?;
-    assert_written(rt, alloc, table, input, wanted, 65_536)?;
-    assert_written(rt, alloc, table, wanted, wanted, 1)?;
-    assert_written(rt, alloc, table, wanted, wanted, 4_096)?;
-    assert_written(rt, alloc, table, wanted, wanted, 65_536)
+    assert_written(rt, alloc, input, wanted, 1)?;
+    assert_written(rt, alloc, input, wanted, 4_096)?;
+    assert_written(rt, alloc, input, wanted, 65_536)?;
+    assert_written(rt, alloc, wanted, wanted, 1)?;
+    assert_written(rt, alloc, wanted, wanted, 4_096)?;
+    assert_written(rt, alloc, wanted, wanted, 65_536)
 }
 
 /// Each collection of the table, and all of them in one, with white space between that is longer than a read.
-fn assert_rows<A: Allocator>(
-    rt: &impl Abort,
-    alloc: &A,
-    table: &KeyTable,
-) -> Result<(), AllocError> {
+fn assert_rows<A: Allocator>(rt: &impl Abort, alloc: &A) -> Result<(), AllocError> {
     let mut all = Vec::new(alloc);
     let mut wanted = Vec::new(alloc);
     for (input, text) in ROWS {
-        assert_row(rt, alloc, table, input.as_bytes(), text.as_bytes())?;
+        assert_row(rt, alloc, input.as_bytes(), text.as_bytes())?;
     }
     for (_, text) in ROWS {
         all.extend_from_slice(text.as_bytes())?;
@@ -409,11 +402,11 @@ fn assert_rows<A: Allocator>(
         }
         wanted.extend_from_slice(text.as_bytes())?;
     }
-    assert_row(rt, alloc, table, all.as_slice(), wanted.as_slice())
+    assert_row(rt, alloc, all.as_slice(), wanted.as_slice())
 }
 
 #[test]
 fn games_are_read_and_written(rt: HostRuntime) -> Result<(), Fail> {
-    assert_rows(&rt, &rt.alloc(), &a_table())?;
+    assert_rows(&rt, &rt.alloc())?;
     Ok(())
 }

@@ -14,13 +14,13 @@ pub returns-in-Ok-clause-only : goal.returns-in-Ok-clause-only
 returns-in-Ok-clause-only g c = only_found (λ (s : Whole). s.left.now) (λ s. Unit {0}) (record { left = c.args.input }) c.take_game.new.text c.in-Ok.game c.in-Ok.ensures.game
 
 pub returns-in-Err-Pgn-clause-fault : goal.returns-in-Err-Pgn-clause-fault
-returns-in-Err-Pgn-clause-fault g c = whole_fault (λ s t. ⊥) (λ (s : Whole). s.left.now) (λ s. Unit {0}) (λ s. Unit {0}) (record { left = c.args.input }) c.take_game.new.text c.in-Err-Pgn.field-0 c.in-Err-Pgn.fault c.in-Err-Pgn.ensures.game c.in-Err-Pgn.field-0-is
+returns-in-Err-Pgn-clause-fault g c = rw c.placed_after.ensures.kind (whole_fault (λ s t. ⊥) (λ (s : Whole). s.left.now) (λ s. Unit {0}) (λ s. Unit {0}) (record { left = c.args.input }) c.take_game.new.text c.in-Err-Pgn.field-0 c.in-Err-Pgn.fault c.in-Err-Pgn.ensures.game c.in-Err-Pgn.field-0-is)
 
 pub returns-in-Err-Pgn-clause-only : goal.returns-in-Err-Pgn-clause-only
-returns-in-Err-Pgn-clause-only g c = only_fault (λ s t. ⊥) (λ (s : Whole). s.left.now) (λ s. Unit {0}) (λ s. Unit {0}) (record { left = c.args.input }) c.take_game.new.text c.in-Err-Pgn.field-0 c.in-Err-Pgn.fault c.in-Err-Pgn.ensures.game c.in-Err-Pgn.field-0-is
+returns-in-Err-Pgn-clause-only g c = λ game used at. rw c.placed_after.ensures.kind (only_fault (λ s t. ⊥) (λ (s : Whole). s.left.now) (λ s. Unit {0}) (λ s. Unit {0}) (record { left = c.args.input }) c.take_game.new.text c.in-Err-Pgn.field-0 c.in-Err-Pgn.fault c.in-Err-Pgn.ensures.game c.in-Err-Pgn.field-0-is game used at)
 
 pub returns-in-Ok-clause-white : goal.returns-in-Ok-clause-white
 returns-in-Ok-clause-white g c = λ w. (white_found (λ (s : Whole). s.left.now) (λ s. Unit {0}) (record { left = c.args.input }) c.take_game.new.text c.in-Ok.game c.in-Ok.ensures.game w, tt)
 
 pub returns-in-Err-Pgn-clause-white : goal.returns-in-Err-Pgn-clause-white
-returns-in-Err-Pgn-clause-white g c = λ w. (tt, white_fault (λ s t. ⊥) (λ (s : Whole). s.left.now) (λ s. Unit {0}) (λ s. Unit {0}) (record { left = c.args.input }) c.take_game.new.text c.in-Err-Pgn.field-0 c.in-Err-Pgn.fault c.in-Err-Pgn.ensures.game c.in-Err-Pgn.field-0-is w)
+returns-in-Err-Pgn-clause-white g c = λ w. (tt, rw c.placed_after.ensures.kind (white_fault (λ s t. ⊥) (λ (s : Whole). s.left.now) (λ s. Unit {0}) (λ s. Unit {0}) (record { left = c.args.input }) c.take_game.new.text c.in-Err-Pgn.field-0 c.in-Err-Pgn.fault c.in-Err-Pgn.ensures.game c.in-Err-Pgn.field-0-is w))

@@ -9,20 +9,20 @@ use Rattle.chess_pgn.proofs.games.take_game.Goals as goal
 pub returns-in-Ok-None-clause-game : goal.returns-in-Ok-None-clause-game
 returns-in-Ok-None-clause-game g c =
     none_come g.X.Text.comes g.X.Text.at_hand g.X.Text.all g.X.Text.sound g.X.Text.size (λ s at item result t. TakesItem s item result t) 1048576 c.args.text.now c.pass.new.text
-    c.in-Ok.reader c.pass.new.taker c.in-Ok-None.field-0 c.in-Ok-None.ensures.passes c.in-Ok-None.field-0-is
+    c.new-reader.result c.pass.new.taker c.in-Ok-None.field-0 c.in-Ok-None.ensures.passes c.in-Ok-None.field-0-is
 
-pub returns-in-Ok-stopped_game-clause-game : goal.returns-in-Ok-stopped_game-clause-game
-returns-in-Ok-stopped_game-clause-game g c =
-    game_come g.X.Text.comes g.X.Text.at_hand g.X.Text.all g.X.Text.sound g.X.Text.size c.args.text.now c.in-Ok.reader c.pass.new.taker c.in-Ok.ensures c.in-Ok-stopped_game.game c.pass.new.text
-    c.in-Ok-Some.field-0 c.in-Ok-Some.stopped c.in-Ok-Some.ensures.passes c.in-Ok-Some.field-0-is c.in-Ok-stopped_game.ensures.game
+pub returns-in-Ok-clause-game : goal.returns-in-Ok-clause-game
+returns-in-Ok-clause-game g c =
+    game_come g.X.Text.comes g.X.Text.at_hand g.X.Text.all g.X.Text.sound g.X.Text.size c.args.text.now c.new-reader.result c.pass.new.taker c.new-reader.ensures c.in-Ok.game c.pass.new.text
+    c.in-Ok-Some.field-0 c.in-Ok-Some.stopped c.in-Ok-Some.ensures.passes c.in-Ok-Some.field-0-is c.in-Ok.ensures.game
 
 pub returns-in-Err-clause-game : goal.returns-in-Err-clause-game
 returns-in-Err-clause-game g c =
-    no_game_come g.X.Text.comes g.X.Text.at_hand g.X.Text.all g.X.Text.sound g.X.Text.size c.args.text.now c.in-Ok.reader c.pass.new.taker c.in-Ok.ensures c.pass.new.text
+    no_game_come g.X.Text.comes g.X.Text.at_hand g.X.Text.all g.X.Text.sound g.X.Text.size c.args.text.now c.new-reader.result c.pass.new.taker c.new-reader.ensures c.pass.new.text
     c.in-Ok-Some.field-0 c.in-Ok-Some.stopped c.in-Err.fault c.in-Ok-Some.ensures.passes c.in-Ok-Some.field-0-is c.in-Err.ensures.refused c.in-Ok-Some.ensures.sound
 
 pub returns-in-Err-Read-clause-game : goal.returns-in-Err-Read-clause-game
 returns-in-Err-Read-clause-game g c =
-    broken_come g.X.Text.comes g.X.Text.at_hand g.X.Text.all g.X.Text.sound g.X.Text.size g.X.Text.breaks c.args.text.now c.pass.new.text c.in-Ok.reader c.in-Ok.ensures
-    (subst (λ (f : Fault). PassBreaks {X = g.row.X.Denot} g.X.Text.comes g.X.Text.at_hand g.X.Text.all g.X.Text.sound g.X.Text.size (λ s at item result t. TakesItem s item result t) 1048576 g.X.Text.breaks c.args.text.now c.pass.new.text c.in-Ok.reader f)
+    broken_come g.X.Text.comes g.X.Text.at_hand g.X.Text.all g.X.Text.sound g.X.Text.size g.X.Text.breaks c.args.text.now c.pass.new.text c.new-reader.result c.new-reader.ensures
+    (subst (λ (f : Fault). PassBreaks {X = g.row.X.Denot} g.X.Text.comes g.X.Text.at_hand g.X.Text.all g.X.Text.sound g.X.Text.size (λ s at item result t. TakesItem s item result t) 1048576 g.X.Text.breaks c.args.text.now c.pass.new.text c.new-reader.result f)
     c.in-Err-Read.field-0-is c.in-Err-Read.ensures.broken)

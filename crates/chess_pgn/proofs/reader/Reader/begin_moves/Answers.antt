@@ -21,7 +21,7 @@ returns-clause-begins g c = record {
   moves = λ read finds. (
     c.in-Some.start,
     told c.args.self.now.header.fen_at (fen_in read) c.in-Some.start (sym (c.start.ensures.start read finds) ∙ c.in_ok-start.was ∙ ap Ok c.in-Some.is),
-    λ lead h. c.in_ok-begin_in.ensures start lead h,
+    λ lead h. c.begin_in.ensures start lead h,
   );
   moving = refl;
   outcome = refl;

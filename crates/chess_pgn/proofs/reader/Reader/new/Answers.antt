@@ -7,7 +7,7 @@ use Rattle.chess_pgn.proofs.reader.Reader.new.Goals as goal
 pub returns : goal.returns
 returns g c = record {
   tags = took_none c.new.result c.new.ensures.none c.new.ensures.found;
-  lead = subst (λ (s : State). Stands c.in_ok-new.field-0 (fresh s [])) c.start.ensures c.in_ok-new.ensures;
+  lead = subst (λ (s : State). Stands c.new-2.result (fresh s [])) c.start.ensures c.new-2.ensures;
   moving = refl;
   outcome = refl;
 }

@@ -1,21 +1,18 @@
 use Rattle.std.proofs.Common.{◌≡◌, ap, ◌∙◌, List, ℕ, ◌++◌, ◌∷◌, [], append_assoc}
 use Rattle.chess_tree.specs.GameTree.{TreeParts, here}
-use Rattle.chess_pgn.proofs.SayLemmas.{first_said, next_said, no_bytes, nothing_said, then}
-use Rattle.chess_pgn.proofs.reader.moves.say.Goals as goal
+use Rattle.chess_pgn.proofs.SayLemmas.{first_said, next_said, no_bytes, then}
+use Rattle.chess_pgn.proofs.reader.late.say.Goals as goal
 
-pub returns-then-is_empty : goal.returns-then-is_empty
-returns-then-is_empty g c = nothing_said c.args.analysis.now c.args.text.now (no_bytes c.args.text.now c.if-is_empty.ensures)
-
-pub returns-then-is_empty-2 : goal.returns-then-is_empty-2
-returns-then-is_empty-2 g c =
+pub returns-then-is_empty-clause-said : goal.returns-then-is_empty-clause-said
+returns-then-is_empty-clause-said g c =
     let t = c.args.analysis.now in
     let said = c.notes.result.comment.now in
-    then c.set_comment.result c.set_comment.ensures
+    then c.set_comment.result c.set_comment.ensures.ok
     (λ e. e ∙ first_said t c.args.text.now said c.tree.ensures.game
-    (c.notes.ensures.comment ∙ ap (λ (z : TreeParts). (here z).comment) c.tree.ensures.tree) (no_bytes said c.if-is_empty-2.ensures))
+    (c.notes.ensures.comment ∙ ap (λ (z : TreeParts). (here z).comment) c.tree.ensures.tree) (no_bytes said c.if-is_empty.ensures))
 
-pub returns : goal.returns
-returns g c =
+pub returns-clause-said : goal.returns-clause-said
+returns-clause-said g c =
     let t = c.args.analysis.now in
     let said = c.notes.result.comment.now in
     let text = c.args.text.now in
@@ -23,6 +20,6 @@ returns g c =
     let both : c.as_slice.result.now ≡ said ++ 32 ∷ text =
     c.as_slice.ensures.value ∙ c.in_ok-extend_from_slice-2.ensures.items ∙ ap (λ (z : List ℕ). z ++ text) (c.in_ok-push.ensures.items ∙ ap (λ (z : List ℕ). z ++ 32 ∷ []) first)
     ∙ append_assoc said (32 ∷ []) text in
-    then c.set_comment-2.result c.set_comment-2.ensures
+    then c.set_comment-2.result c.set_comment-2.ensures.ok
     (λ e. e ∙ next_said t text said c.as_slice.result.now c.tree.ensures.game
     (c.notes.ensures.comment ∙ ap (λ (z : TreeParts). (here z).comment) c.tree.ensures.tree) both)

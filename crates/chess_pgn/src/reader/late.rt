@@ -1,0 +1,256 @@
+ghost use Rattle.std.specs.Prelude.{◌≡◌, ◌<◌, ◌≤◌, ◌++◌, ◌∷◌, [], IfErr, IfOk, IsTrue, MatchResult, None, OnOk, length, slice_get, take, true};
+ghost use Rattle.chess_types.specs.board.Legal.{is_legal};
+ghost use Rattle.chess_types.specs.board.Lines.{extended, last};
+ghost use Rattle.chess_san.specs.Naming.{reading};
+ghost use Rattle.chess_tree.specs.Comments.{normalised};
+ghost use Rattle.chess_tree.specs.Edits.{parent};
+ghost use Rattle.chess_tree.specs.Forest.{count};
+ghost use Rattle.chess_tree.specs.GameTree.{added, annotated_here, at_path, commented_here, line_to, nodes_here};
+ghost use Rattle.chess_tree.specs.Plays.{IsAnswer, add_answer};
+ghost use Rattle.chess_tree.specs.WellFormed.{IsGameTree};
+ghost use Rattle.chess_tree.specs.declared.fault.TreeFault.TheVariants.{AtRoot, NoSuch};
+ghost use Rattle.chess_pgn.specs.steps.Readings.{said_here};
+ghost use Rattle.chess_pgn.specs.steps.Unmoved.{parts_so_far, unmoved};
+
+use chess_key::KeyTable;
+use chess_san::SanFault;
+use chess_tree::{Analysis, PlayFault, Tree, TreeFault};
+use chess_types::{Move, Position};
+use std::alloc::{AllocError, Allocator};
+use std::marker::Model;
+
+/// An analysis that begins where the first move is read or the first comment is noted: a game without either costs its first position
+/// alone. Contracts see the tree and the path to the cursor.
+#[derive(Drop)]
+pub struct Late<'a, 'k, A: Allocator> {
+    alloc: &'a A,
+    table: &'k KeyTable,
+    /// Where the game begins.
+    start: Position,
+    begun: Option<Box<Analysis<'a, 'k, A>, &'a A>>,
+}
+
+impl<'a, 'k, A: Allocator> Model for Late<'a, 'k, A> {
+    ghost use Rattle.std.specs.Prelude.{◌≤◌};
+    ghost use Rattle.chess_tree.specs.GameTree.{TreeParts};
+    ghost use Rattle.chess_tree.specs.steps.TreeCode.{coded_tree};
+    ghost use Rattle.chess_pgn.specs.steps.Unmoved.{parts_so_far};
+
+    ghost Value = { TreeParts };
+
+    ghost coded = { coded_tree };
+
+    ghost view = { λ l. parts_so_far l.start l.begun };
+
+    ghost invariant = { λ l. (l.start.clock ≤ 99999) × (l.start.number ≤ 99999) };
+}
+
+// The analysis; one begins here unless it has before.
+fn begun<'a, 'k, A: Allocator>(
+    alloc: &'a A,
+    table: &'k KeyTable,
+    start: &Position,
+    held: Option<Box<Analysis<'a, 'k, A>, &'a A>>,
+) -> Result<Box<Analysis<'a, 'k, A>, &'a A>, AllocError>
+    requires clock { start.now.clock ≤ 99999 }
+    requires number { start.now.number ≤ 99999 }
+    ensures ok { IfOk result (λ analysis. analysis.value ≡ parts_so_far start.now held.entry) }
+    ensures none { IfErr result (λ _. held.entry ≡ None) }
+{
+    if let Some(analysis) = held {
+        return Ok(analysis);
+    }
+    let Ok(start) = start.clone() else {
+        unreachable!();
+    };
+    let Ok(analysis) = Analysis::new(alloc, start, table) else {
+        return Err(AllocError);
+    };
+    match Box::new(alloc, analysis) {
+        Ok(analysis) => Ok(analysis),
+        Err(_) => Err(AllocError),
+    }
+}
+
+// Sets the comment at the cursor.
+fn set_comment<'a, 'k, A: Allocator>(
+    analysis: &mut Analysis<'a, 'k, A>,
+    text: &[u8],
+) -> Result<(), AllocError>
+    ensures ok { OnOk result (analysis.new ≡ commented_here (normalised text.now) analysis.old) }
+    ensures line { OnOk result (line_to analysis.new ≡ line_to analysis.old) }
+{
+    match analysis.set_comment(text) {
+        Ok(()) => Ok(()),
+        Err(_) => Err(AllocError),
+    }
+}
+
+// Adds a comment after the one at the cursor.
+fn say<'a, 'k, A: Allocator>(
+    alloc: &'a A,
+    analysis: &mut Analysis<'a, 'k, A>,
+    text: &[u8],
+) -> Result<(), AllocError>
+    ensures said { OnOk result (analysis.new ≡ said_here (normalised text.now) analysis.old) }
+    ensures line { OnOk result (line_to analysis.new ≡ line_to analysis.old) }
+{
+    let said = analysis.tree().notes().comment;
+    if said.is_empty() {
+        return set_comment(analysis, text);
+    }
+    let mut both = Vec::new(alloc);
+    both.extend_from_slice(said)?;
+    both.push(b' ')?;
+    both.extend_from_slice(text)?;
+    set_comment(analysis, both.as_slice())
+}
+
+impl<'a, 'k, A: Allocator> Late<'a, 'k, A> {
+    /// No move, from that position. Takes no memory.
+    pub fn new(alloc: &'a A, start: Position, table: &'k KeyTable) -> Late<'a, 'k, A>
+        requires clock { start.clock ≤ 99999 }
+        requires number { start.number ≤ 99999 }
+        ensures { result ≡ unmoved start }
+    {
+        Late {
+            alloc,
+            table,
+            start,
+            begun: None,
+        }
+    }
+
+    /// No move, from another position. Takes no memory.
+    pub fn begin_in(&mut self, start: Position)
+        requires clock { start.clock ≤ 99999 }
+        requires number { start.number ≤ 99999 }
+        ensures { self.new ≡ unmoved start }
+    {
+        self.start = start;
+        self.begun = None;
+    }
+
+    /// The legal move at the cursor that a text names.
+    pub fn read_move(&mut self, text: &[u8]) -> Result<Result<Move, SanFault>, AllocError>
+        ensures value { IfOk result (λ found. found ≡ reading (last (line_to self.old)) text.now) }
+        ensures legal { IfOk result (λ found. IfOk found (λ m. is_legal (last (line_to self.old)) m ≡ true)) }
+        ensures as_before { self.new ≡ self.old }
+    {
+        let mut analysis = begun(self.alloc, self.table, &self.start, self.begun.take())?;
+        let found = analysis.read_move(text);
+        self.begun = Some(analysis);
+        Ok(found)
+    }
+
+    /// Adds a legal move at the cursor, and steps into it.
+    pub fn add_legal(&mut self, m: Move) -> Result<(), PlayFault>
+        requires legal { IsTrue (is_legal (last (line_to self.old)) m) }
+        ensures answer { IsAnswer (add_answer self.old m) result }
+        ensures ok { OnOk result (self.new ≡ added m self.old) }
+        ensures line { OnOk result (line_to self.new ≡ extended (line_to self.old) m) }
+    {
+        let Ok(mut analysis) = begun(self.alloc, self.table, &self.start, self.begun.take()) else {
+            return Err(PlayFault::Memory);
+        };
+        let added = analysis.add_legal(m);
+        self.begun = Some(analysis);
+        added
+    }
+
+    /// Adds a comment after the one at the cursor.
+    pub fn say(&mut self, text: &[u8]) -> Result<(), AllocError>
+        ensures said { OnOk result (self.new ≡ said_here (normalised text.now) self.old) }
+        ensures line { OnOk result (line_to self.new ≡ line_to self.old) }
+    {
+        if text.is_empty() {
+            return Ok(());
+        }
+        let mut analysis = begun(self.alloc, self.table, &self.start, self.begun.take())?;
+        let said = say(self.alloc, &mut analysis, text);
+        self.begun = Some(analysis);
+        said
+    }
+
+    /// Appends an annotation number to those at the cursor.
+    pub fn add_nag(&mut self, nag: u8) -> Result<(), TreeFault>
+        ensures { OnOk result (self.new ≡ annotated_here nag self.old) }
+    {
+        match &mut self.begun {
+            Some(analysis) => analysis.add_nag(nag),
+            None => Err(TreeFault::AtRoot),
+        }
+    }
+
+    /// How many plies the cursor is below the root.
+    pub fn depth(&self) -> u32
+        ensures { result ≡ length self.now.path }
+    {
+        match &self.begun {
+            Some(analysis) => analysis.tree().depth(),
+            None => 0,
+        }
+    }
+
+    /// The child number taken at that ply of the path.
+    pub fn path_at(&self, ply: u32) -> Option<u32>
+        ensures { result ≡ slice_get self.now.path ply }
+    {
+        match &self.begun {
+            Some(analysis) => analysis.tree().path_at(ply),
+            None => None,
+        }
+    }
+
+    /// Steps to the parent. `AtRoot` at the root.
+    pub fn back(&mut self) -> Result<(), TreeFault>
+        ensures ok { OnOk result (self.new ≡ at_path (parent self.old.path) self.old) }
+        ensures at_root { MatchResult result (λ _. 0 < length self.old.path) (λ fault. (fault ≡ AtRoot) × (self.old.path ≡ [])) }
+    {
+        match &mut self.begun {
+            Some(analysis) => analysis.back(),
+            None => Err(TreeFault::AtRoot),
+        }
+    }
+
+    /// Steps back until the cursor is at most so many plies deep.
+    pub fn back_to(&mut self, depth: u32)
+        ensures { self.new ≡ at_path (take depth self.old.path) self.old }
+    {
+        if let Some(analysis) = &mut self.begun {
+            analysis.back_to(depth);
+        }
+    }
+
+    /// Steps to the child at that place, from 0. `NoSuch` where there is none.
+    pub fn step(&mut self, place: u32) -> Result<(), TreeFault>
+        ensures ok { OnOk result (self.new ≡ at_path (self.old.path ++ place ∷ []) self.old) }
+        ensures no_such { MatchResult result (λ _. place < count (nodes_here self.old)) (λ fault. (fault ≡ NoSuch) × (count (nodes_here self.old) ≤ place)) }
+    {
+        match &mut self.begun {
+            Some(analysis) => analysis.step(place),
+            None => Err(TreeFault::NoSuch),
+        }
+    }
+
+    /// The tree with its cursor.
+    pub fn into_tree(self) -> Result<Tree<'a, A>, AllocError>
+        ensures tree { IfOk result (λ tree. tree ≡ self.entry) }
+        ensures game { IfOk result (λ tree. IsGameTree tree) }
+    {
+        let Late {
+            alloc,
+            table: _,
+            start,
+            begun,
+        } = self;
+        if let Some(analysis) = begun {
+            return Ok(Box::into_inner(analysis).into_tree());
+        }
+        let Ok(tree) = Tree::new(alloc, start) else {
+            return Err(AllocError);
+        };
+        let _ = tree.position();
+        Ok(tree)
+    }
+}
