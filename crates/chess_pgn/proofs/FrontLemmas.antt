@@ -10,7 +10,7 @@ use Rattle.chess_items.specs.Items as items
 use Rattle.chess_items.specs.Items.{IsSpelled, Item, Spells, is_white, place_after}
 use Rattle.chess_items.specs.steps.Passing.{Passed, Passes, WasWhite}
 use Rattle.chess_items.specs.steps.Deciding.{Decides}
-use Rattle.chess_items.specs.steps.Taking.{AfterRun, Asked, LastRead, TakesOne, Took, RanFull, RanOut, RanUpTo, SpellsFrom, all_white, behind}
+use Rattle.chess_items.specs.steps.Taking.{AfterRun, Asked, TakesOne, Took, RanFull, RanOut, RanUpTo, SpellsFrom, all_white, behind}
 use Rattle.chess_items.specs.declared.fault.PgnFault.{PgnFault}
 use Rattle.chess_items.specs.declared.place.Place.{Place}
 use Rattle.chess_items.specs.declared.place.Place.TheVariants.{GameStart}

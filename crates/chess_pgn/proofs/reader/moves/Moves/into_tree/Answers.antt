@@ -11,4 +11,4 @@ returns-clause-read g c = λ s h e.
     s.start s.comment s.forest s.up s.last_move s.here s.lead s.interrupted h
 
 pub returns-clause-game : goal.returns-clause-game
-returns-clause-game g c = at_root c.note.new.self.analysis c.start.new.self (c.start.ensures.path ∙ ap (at_path []) c.in_ok-tree.ensures.tree) c.in_ok-tree.ensures.game
+returns-clause-game g c = at_root c.in_ok-tree.tree c.start.new.self c.start.ensures.path c.in_ok-tree.ensures.game
