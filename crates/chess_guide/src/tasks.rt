@@ -1,11 +1,13 @@
 use chess_attack::position;
 use chess_draws::Line;
+use chess_edit::set_tag;
 use chess_fen::read;
 use chess_key::KeyTable;
-use chess_lines::move_texts;
+use chess_lines::{move_texts, outcome_by};
 use chess_moves::moves;
-use chess_pgn::read_game;
+use chess_pgn::{read_game, write_game};
 use chess_play::Live;
+use chess_report::Report;
 use chess_search::score_text;
 use chess_tree::Analysis;
 use chess_types::{Colour, Draft, Kind, Man, Position, Square};
@@ -90,6 +92,25 @@ pub fn variations(rt: &HostRuntime, text: &str) -> io::Result<()> {
         )?;
     }
     Ok(())
+}
+
+/// A game with tags set by their rules, and its outcome by the Laws; a game that ends in mate.
+pub fn tags(rt: &HostRuntime, text: &str) -> io::Result<()> {
+    let (alloc, table) = (rt.alloc(), KeyTable::fixed());
+    let Ok(Some((mut game, _))) = read_game(&alloc, &table, text.as_bytes()) else {
+        return println!(rt; "no game");
+    };
+    for (name, value) in [("White", "A"), ("WhiteElo", "2100"), ("FEN", "8/8")] {
+        if let Err(fault) = set_tag(&alloc, &mut game.tags, name.as_bytes(), value.as_bytes()) {
+            println!(rt; "{name}: {fault}")?;
+        }
+    }
+    let report = Report::of(rt.alloc(), &table, &game)?;
+    game.result = outcome_by(report.status, report.winner);
+    match write_game(&alloc, &game) {
+        Ok(text) => print!(rt; "{}", String::from_utf8_lossy(rt.alloc(), text.as_slice())?),
+        Err(fault) => println!(rt; "{fault}"),
+    }
 }
 
 /// The best move, three plies deep, with its score as UCI writes it.
