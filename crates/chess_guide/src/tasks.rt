@@ -97,7 +97,7 @@ pub fn variations(rt: &HostRuntime, text: &str) -> io::Result<()> {
 /// A game with tags set by their rules, and its outcome by the Laws; a game that ends in mate.
 pub fn tags(rt: &HostRuntime, text: &str) -> io::Result<()> {
     let (alloc, table) = (rt.alloc(), KeyTable::fixed());
-    let Ok(Some((mut game, _))) = read_game(&alloc, &table, text.as_bytes()) else {
+    let Ok(Some((mut game, _))) = read_game(&alloc, text.as_bytes()) else {
         return println!(rt; "no game");
     };
     for (name, value) in [("White", "A"), ("WhiteElo", "2100"), ("FEN", "8/8")] {
@@ -105,7 +105,7 @@ pub fn tags(rt: &HostRuntime, text: &str) -> io::Result<()> {
             println!(rt; "{name}: {fault}")?;
         }
     }
-    let report = Report::of(rt.alloc(), &table, &game)?;
+    let report = Report::of(rt.alloc(), &game, &table)?;
     game.result = outcome_by(report.status, report.winner);
     match write_game(&alloc, &game) {
         Ok(text) => print!(rt; "{}", String::from_utf8_lossy(rt.alloc(), text.as_slice())?),
