@@ -1,6 +1,6 @@
 -- Tags of a game set by their names (PGN 8.1).
 --   is_named      a name: letters, digits and underscores, at least one (PGN 7)
---   tells         the tags that say how the game ended and where it begins, which the game itself tells (PGN 8.1.1.7, 9.7)
+--   is_derived         the tags that say how the game ended and where it begins, which the game itself has (PGN 8.1.1.7, 9.7)
 --   tag_answer    what setting a tag answers where there is memory: the first fault that applies
 --   IsTagAnswer   want of memory is answered only where nothing else is wrong
 --   IsSet         the tags once that of a name has a value, or none
@@ -17,14 +17,14 @@ abbrev pub is_named : List ℕ → Bool
 is_named name = not (length name == 0) && list_all is_name_byte name
 
 -- how the game ended, and where it begins
-abbrev pub tells : List ℕ → Bool
-tells name = bytes_eq name (codes "Result") || bytes_eq name (codes "FEN") || bytes_eq name (codes "SetUp")
+abbrev pub is_derived : List ℕ → Bool
+is_derived name = bytes_eq name (codes "Result") || bytes_eq name (codes "FEN") || bytes_eq name (codes "SetUp")
 
--- a name, of no tag that the game tells, and a value on one line
+-- a name, of no tag that the game itself has, and a value on one line
 abbrev pub tag_answer : (name value : List ℕ) → Result (Unit {0}) TagFault
 tag_answer name value =
     if not (is_named name) then Err BadName
-    else (if tells name then Err OwnTag else (if not (list_all in_line value) then Err BadValue else Ok tt))
+    else (if is_derived name then Err OwnTag else (if not (list_all in_line value) then Err BadValue else Ok tt))
 
 -- memory may be refused where nothing else is wrong
 abbrev pub IsTagAnswer : Result (Unit {0}) TagFault → Result (Unit {0}) TagFault → Type 0

@@ -1,6 +1,6 @@
 ghost use Rattle.std.specs.Prelude.{◌≡◌, Some, OnOk, OnErr, IfOk, option_map};
 ghost use Rattle.chess_pgn.specs.Games.{tag_value, unknown};
-ghost use Rattle.chess_edit.specs.SetTags.{IsSet, IsTagAnswer, is_named, tag_answer, tells};
+ghost use Rattle.chess_edit.specs.SetTags.{IsSet, IsTagAnswer, is_named, tag_answer, is_derived};
 ghost use Rattle.chess_items.specs.Items.{in_line, is_digit, is_letter, is_name_byte};
 ghost use Rattle.std.specs.List.{list_all};
 ghost use Rattle.chess_pgn.specs.steps.GameCode.{tags_of};
@@ -16,8 +16,8 @@ pub enum TagFault {
     /// The name is empty, or has a byte that is no letter, digit or underscore.
     #[error("a tag's name has letters, digits and underscores")]
     BadName,
-    /// The tag says how the game ended or where it begins, which the game tells: Result, FEN, SetUp.
-    #[error("the game itself tells its result and its start")]
+    /// The tag says how the game ended or where it begins, which the game itself says: Result, FEN, SetUp.
+    #[error("the game itself has its result and its start")]
     OwnTag,
     /// The value goes on in another line.
     #[error("a tag's value is on one line")]
@@ -65,8 +65,8 @@ fn is_named(name: &[u8]) -> bool
 }
 
 // Whether the game itself says what the tag says.
-fn tells(name: &[u8]) -> bool
-    ensures { result ≡ tells name.now }
+fn is_derived(name: &[u8]) -> bool
+    ensures { result ≡ is_derived name.now }
 {
     is(name, b"Result") || is(name, b"FEN") || is(name, b"SetUp")
 }
@@ -85,7 +85,7 @@ fn check(name: &[u8], value: &[u8]) -> Result<(), TagFault>
     if !is_named(name) {
         return Err(TagFault::BadName);
     }
-    if tells(name) {
+    if is_derived(name) {
         return Err(TagFault::OwnTag);
     }
     if !is_on_line(value) {
