@@ -45,6 +45,28 @@ impl<'a, 'k, A: Allocator> Model for Late<'a, 'k, A> {
     ghost invariant = { λ l. (l.start.clock ≤ 99999) × (l.start.number ≤ 99999) };
 }
 
+// An analysis without a move. Apart from `begun`, whose frame is then small.
+fn begin<'a, 'k, A: Allocator>(
+    alloc: &'a A,
+    table: &'k KeyTable,
+    start: &Position,
+) -> Result<Box<Analysis<'a, 'k, A>, &'a A>, AllocError>
+    requires clock { start.now.clock ≤ 99999 }
+    requires number { start.now.number ≤ 99999 }
+    ensures { IfOk result (λ analysis. analysis.value ≡ unmoved start.now) }
+{
+    let Ok(start) = start.clone() else {
+        unreachable!();
+    };
+    let Ok(analysis) = Analysis::new(alloc, start, table) else {
+        return Err(AllocError);
+    };
+    match Box::new(alloc, analysis) {
+        Ok(analysis) => Ok(analysis),
+        Err(_) => Err(AllocError),
+    }
+}
+
 // The analysis; one begins here unless it has before.
 fn begun<'a, 'k, A: Allocator>(
     alloc: &'a A,
@@ -60,16 +82,7 @@ fn begun<'a, 'k, A: Allocator>(
     if let Some(analysis) = held {
         return Ok(analysis);
     }
-    let Ok(start) = start.clone() else {
-        unreachable!();
-    };
-    let Ok(analysis) = Analysis::new(alloc, start, table) else {
-        return Err(AllocError);
-    };
-    match Box::new(alloc, analysis) {
-        Ok(analysis) => Ok(analysis),
-        Err(_) => Err(AllocError),
-    }
+    begin(alloc, table, start)
 }
 
 // Sets the comment at the cursor.
