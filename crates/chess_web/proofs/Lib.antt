@@ -1,0 +1,5 @@
+pub mod CallLemmas
+pub mod ReplyLemmas
+pub mod SlotValues
+pub mod TextLemmas
+pub mod Values

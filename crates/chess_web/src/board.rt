@@ -1,0 +1,42 @@
+ghost use Rattle.chess_web.specs.Calls.{IsAnswered, IsNamedOf};
+
+use crate::codes::EMPTY;
+use crate::slot::{Slot, put, take};
+
+/// Answers a line of the board, as the program does, and hands out the answer with the line feed at its end. Where the answer is longer than the room
+/// for it, or there is no memory to gather it in, the line has been answered all the same; only `path` and `pgn` have answers of more than 2,600 bytes.
+#[unsafe(no_mangle)]
+pub extern "C" fn jatshegi_board_answer(
+    slot: &mut Slot,
+    line: &[u8],
+    answer: &mut [u8],
+    count: &mut usize,
+) -> u32
+    ensures { IsAnswered slot.old.held line.now result count.old count.new answer.old answer.new slot.new.held }
+{
+    let Some(mut session) = take(slot) else {
+        return EMPTY;
+    };
+    let code = session.answer(line, answer, count);
+    put(slot, session);
+    code
+}
+
+/// The text in long algebraic notation, at most 5 bytes, of the legal move that a text names, in standard algebraic notation or from square to square
+/// (PGN 8.2.3); 3 where it names none. The board stays as it is.
+#[unsafe(no_mangle)]
+pub extern "C" fn jatshegi_board_read(
+    slot: &mut Slot,
+    text: &[u8],
+    answer: &mut [u8],
+    count: &mut usize,
+) -> u32
+    ensures { IsNamedOf slot.old.held text.now result count.old count.new answer.old answer.new slot.new.held }
+{
+    let Some(mut session) = take(slot) else {
+        return EMPTY;
+    };
+    let code = session.named(text, answer, count);
+    put(slot, session);
+    code
+}

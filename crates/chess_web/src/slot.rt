@@ -1,0 +1,91 @@
+//! Where the page keeps a session: a pointer, or nothing.
+ghost use Rattle.std.specs.Prelude.{◌≡◌, Option, Some, None, is_some, MatchOption};
+ghost use Rattle.chess_web.specs.Held.{Held, coded_held};
+ghost use Rattle.chess_web.specs.Slots.{slot_owns};
+ghost use Rattle.chess_web.specs.contracts.session.Session.{the_row};
+ghost use Rattle.std.specs.Coded.{coded_option};
+
+use crate::loose::Loose;
+use crate::lost::Lost;
+use crate::session::Session;
+use std::marker::Model;
+use std::mem::replace;
+use std::ptr::null_mut;
+
+/// A session that the page owns, or nothing. The page fills a slot with zeros at first, and after that only the exported functions write to it.
+#[repr(C)]
+pub struct Slot {
+    full: bool,
+    at: *mut u8,
+    pub ghost held: { Option Held } by { coded_option coded_held },
+    ghost told: { full ≡ is_some held },
+}
+
+impl Model for Slot {
+    ghost also_owns = { λ s. slot_owns the_row s.held s.at };
+}
+
+impl Slot {
+    fn empty() -> Slot
+        ensures { result.held ≡ None }
+    {
+        Slot {
+            full: false,
+            at: null_mut(),
+        }
+    }
+
+    fn of(value: Box<Session, Lost>) -> Slot
+        ensures { result.held ≡ Some value.value }
+    {
+        Slot::filled(Loose::of(value))
+    }
+
+    fn into_box(self, alloc: Lost) -> Option<Box<Session, Lost>>
+        ensures { MatchOption result (self.held ≡ None) (λ b. self.held ≡ Some b.value) }
+    {
+        match self.loose(alloc) {
+            Some(loose) => Some(loose.into_box()),
+            None => None,
+        }
+    }
+
+    fn filled(loose: Loose<Session, Lost>) -> Slot
+        ensures { result.held ≡ Some loose.value }
+    {
+        let Loose { at, alloc: _ } = loose;
+        Slot {
+            full: true,
+            at: at as *mut u8,
+        }
+    }
+
+    fn loose(self, alloc: Lost) -> Option<Loose<Session, Lost>>
+        ensures { MatchOption result (self.held ≡ None) (λ l. self.held ≡ Some l.value) }
+    {
+        let Slot { full, at } = self;
+        if full {
+            Some(Loose {
+                at: at as *mut Session,
+                alloc,
+            })
+        } else {
+            None
+        }
+    }
+}
+
+/// What the slot holds; it is then empty.
+pub fn take(slot: &mut Slot) -> Option<Box<Session, Lost>>
+    ensures held { MatchOption result (slot.old.held ≡ None) (λ b. slot.old.held ≡ Some b.value) }
+    ensures left { slot.new.held ≡ None }
+{
+    replace(slot, Slot::empty()).into_box(Lost)
+}
+
+/// Puts a session into the slot; what was there is given up.
+pub fn put(slot: &mut Slot, session: Box<Session, Lost>)
+    ensures { slot.new.held ≡ Some session.value }
+{
+    drop(replace(slot, Slot::of(session)).into_box(Lost));
+}

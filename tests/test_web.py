@@ -1,0 +1,643 @@
+"""The page in a browser, and its module beside the program: the same bytes.
+
+Needs Debian's chromium, chromium-driver and python3-selenium; where they are missing and can't be installed, these tests are skipped. With the word
+`pictures` (python3 -m tests.test_web pictures, from tests/: python3 test_web.py pictures) the screenshots of docs/ are made anew.
+"""
+import functools
+import hashlib
+import http.server
+import os
+import random
+import shutil
+import subprocess
+import sys
+import tempfile
+import threading
+import time
+import unittest
+
+import runs
+
+WEB = f"{runs.TOP}/web"
+CHESS = f"{runs.TOP}/release/x86_64-linux/bin/chess"
+PACKAGES = ["chromium", "chromium-driver", "python3-selenium"]
+# So long a wait is for what never comes; what comes is seen at once.
+PATIENCE = 120
+
+LINES = """
+const [module, lines, done] = arguments;
+import('./module.js').then(async (it) => {
+  const session = await it.open('jatshegi.wasm');
+  done(lines.map((line) => session.line(line)).join(''));
+}).catch((error) => done('error: ' + error));
+"""
+
+
+def found_selenium():
+    """Whether selenium can be read, also where Debian keeps it and another Python runs."""
+    try:
+        import selenium  # noqa: F401
+        return True
+    except ImportError:
+        sys.path.append("/usr/lib/python3/dist-packages")
+    try:
+        import selenium  # noqa: F401,F811
+        return True
+    except ImportError:
+        return False
+
+
+def has_browser():
+    return bool(shutil.which("chromium") and shutil.which("chromedriver")) and found_selenium()
+
+
+def install():
+    """Installs what is missing, where this is Debian and the user may."""
+    if has_browser() or os.geteuid() != 0 or not shutil.which("apt-get"):
+        return
+    quiet = {"stdin": subprocess.DEVNULL, "stdout": subprocess.DEVNULL, "stderr": subprocess.DEVNULL, "env": {**os.environ, "DEBIAN_FRONTEND": "noninteractive"}}
+    subprocess.run(["apt-get", "update", "-qq"], **quiet)
+    subprocess.run(["apt-get", "install", "-y", "-qq", "-o", "DPkg::Lock::Timeout=300", *PACKAGES], **quiet)
+
+
+class Handler(http.server.SimpleHTTPRequestHandler):
+    def log_message(self, *words):
+        pass
+
+
+def setUpModule():
+    if not os.path.exists(f"{WEB}/jatshegi.wasm"):
+        raise unittest.SkipTest("web/jatshegi.wasm is not there: make it with tools/web")
+    install()
+    if not has_browser():
+        raise unittest.SkipTest(f"these packages are missing: {' '.join(PACKAGES)}")
+    global server
+    server = http.server.ThreadingHTTPServer(("127.0.0.1", 0), functools.partial(Handler, directory=WEB))
+    threading.Thread(target=server.serve_forever, daemon=True).start()
+
+
+def tearDownModule():
+    if "server" in globals():
+        server.shutdown()
+        server.server_close()
+
+
+def new_browser(folder, *more):
+    from selenium import webdriver
+    from selenium.webdriver.chrome.service import Service
+    options = webdriver.ChromeOptions()
+    for word in ("--headless=new", "--no-sandbox", "--disable-gpu", "--disable-dev-shm-usage", "--window-size=1200,950", "--force-prefers-reduced-motion", *more):
+        options.add_argument(word)
+    options.add_experimental_option("prefs", {"download.default_directory": folder, "download.prompt_for_download": False})
+    options.set_capability("goog:loggingPrefs", {"browser": "ALL"})
+    options.binary_location = shutil.which("chromium")
+    browser = webdriver.Chrome(service=Service(shutil.which("chromedriver")), options=options)
+    browser.set_script_timeout(PATIENCE)
+    return browser
+
+
+def chess(*words, given):
+    return subprocess.run([CHESS, *words], input=given, capture_output=True, timeout=runs.MOST_SECONDS)
+
+
+class Page:
+    """A page and what a person does with it."""
+
+    def __init__(self, browser):
+        self.browser = browser
+
+    def open(self, fragment=""):
+        self.browser.get("about:blank")
+        self.browser.get(f"http://127.0.0.1:{server.server_address[1]}/{fragment}")
+        self.until(lambda: self.script("return document.documentElement.dataset.ready") == "yes", "the page is ready")
+
+    def script(self, text, *words):
+        return self.browser.execute_script(text, *words)
+
+    def until(self, holds, what):
+        end = time.monotonic() + PATIENCE
+        while not holds():
+            if time.monotonic() > end:
+                raise AssertionError(f"never: {what}; moves '{self.moves}', status '{self.text('status')}', told '{self.text('told')}'")
+            time.sleep(0.02)
+
+    def at(self, name):
+        from selenium.webdriver.common.by import By
+        return self.browser.find_element(By.ID, name)
+
+    def square(self, name):
+        from selenium.webdriver.common.by import By
+        return self.browser.find_element(By.CSS_SELECTOR, f"[data-square={name}]")
+
+    def text(self, name):
+        return self.script("return document.getElementById(arguments[0]).textContent", name).strip()
+
+    @property
+    def moves(self):
+        return " ".join(self.text("moves").split())
+
+    @property
+    def fen(self):
+        return self.script("return document.getElementById('fen').value")
+
+    def until_moves(self, wanted):
+        self.until(lambda: self.moves == wanted, f"the moves are '{wanted}'")
+
+    def until_status(self, word):
+        self.until(lambda: word in self.text("status"), f"the status has '{word}'")
+
+    def until_told(self, word):
+        self.until(lambda: word in self.text("told"), f"'{word}' is said")
+
+    def drag(self, a, b):
+        from selenium.webdriver import ActionChains
+        ActionChains(self.browser).drag_and_drop(self.square(a), self.square(b)).perform()
+
+    def click(self, name):
+        self.script("arguments[0].scrollIntoView({block: 'center'})", self.at(name))
+        self.at(name).click()
+
+    def squares(self, *names):
+        for name in names:
+            self.square(name).click()
+
+    def type(self, name, text, then="\n"):
+        field = self.at(name)
+        self.script("arguments[0].value = ''", field)
+        field.send_keys(text + then)
+
+    def choose(self, name, value):
+        self.script("const it = document.getElementById(arguments[0]); it.value = arguments[1]; it.dispatchEvent(new Event('change'))", name, value)
+
+    def play(self, *texts):
+        for text in texts:
+            before = self.script("return document.querySelectorAll('.move').length")
+            self.type("san", text)
+            self.until(lambda: self.script("return document.querySelectorAll('.move').length") > before, f"{text} is made")
+
+    def set_fen(self, fen):
+        self.type("fen", fen)
+        self.until(lambda: self.fen == fen and not self.moves, f"{fen} is set")
+
+    def paste(self, text):
+        self.script("document.getElementById('pastebox').open = true; document.getElementById('pgn').value = arguments[0]", text)
+        self.click("read")
+
+
+class InTheBrowser(unittest.TestCase):
+    @classmethod
+    def setUpClass(cls):
+        cls.folder = tempfile.mkdtemp()
+        cls.browser = new_browser(cls.folder)
+        cls.page = Page(cls.browser)
+
+    @classmethod
+    def tearDownClass(cls):
+        cls.browser.quit()
+        shutil.rmtree(cls.folder, ignore_errors=True)
+
+    def setUp(self):
+        self.page.open()
+
+    def tearDown(self):
+        found = [it for it in self.browser.get_log("browser") if it["level"] == "SEVERE"]
+        self.assertEqual(found, [])
+
+    def saved(self):
+        """The file that 'Save PGN' writes."""
+        path = f"{self.folder}/game.pgn"
+        if os.path.exists(path):
+            os.remove(path)
+        self.page.click("save")
+        self.page.until(lambda: os.path.exists(path) and not os.path.exists(f"{path}.crdownload"), "the game is saved")
+        with open(path, "rb") as file:
+            return file.read()
+
+    def test_a_game_to_mate_by_drag_by_clicks_and_by_text(self):
+        page = self.page
+        page.drag("f2", "f3")
+        page.until_moves("1. f3")
+        page.play("e5")
+        page.squares("g2", "g4")
+        page.until_moves("1. f3 e5 2. g4")
+        page.drag("d8", "h4")
+        page.until_moves("1. f3 e5 2. g4 Qh4#")
+        page.until_status("Checkmate: the game is over (Article 5.1.1)")
+        self.assertEqual(page.fen, "rnb1kbnr/pppp1ppp/8/4p3/6Pq/5P2/PPPPP2P/RNBQKBNR w KQkq - 1 3")
+        self.assertIn("gives check", page.square("h4").get_attribute("aria-label"))
+
+    def test_en_passant_and_both_castlings(self):
+        page = self.page
+        page.play("e4", "a6", "e5", "d5")
+        page.drag("e5", "d6")
+        page.until_moves("1. e4 a6 2. e5 d5 3. exd6")
+        self.assertEqual(page.fen.split()[0], "rnbqkbnr/1pp1pppp/p2P4/8/8/8/PPPP1PPP/RNBQKBNR")
+        page.set_fen("r3k2r/8/8/8/8/8/8/R3K2R w KQkq - 0 1")
+        page.drag("e1", "g1")
+        page.until_moves("1. O-O")
+        page.squares("e8", "c8")
+        page.until_moves("1. O-O O-O-O")
+        self.assertEqual(page.fen.split()[0], "2kr3r/8/8/8/8/8/8/R4RK1")
+
+    def test_each_promotion(self):
+        from selenium.webdriver.common.by import By
+        page = self.page
+        for letter, name in zip("qrbn", ("queen", "rook", "bishop", "knight")):
+            page.set_fen("7k/P7/8/8/8/8/8/K7 w - - 0 1")
+            page.drag("a7", "a8")
+            page.until(lambda: page.script("return document.getElementById('promotion').open"), "the promotion is asked for")
+            button = self.browser.find_element(By.CSS_SELECTOR, f"#promotion [data-move=a7a8{letter}]")
+            self.assertEqual(button.get_attribute("aria-label"), f"white {name}")
+            button.click()
+            page.until(lambda: page.fen.startswith(f"{letter.upper()}6k/"), f"a {name} is there")
+
+    def test_what_is_not_legal_is_refused_and_nothing_is_lost(self):
+        page = self.page
+        page.play("e4")
+        before = page.fen
+        for text, said in (("e4", "isn’t legal"), ("Xy", "isn’t written as a move"), ("Ke4", "isn’t legal")):
+            page.type("san", text)
+            page.until_told(said)
+            self.assertEqual(page.fen, before)
+        page.drag("e7", "e4")
+        page.until_told("isn’t legal")
+        page.type("fen", "8/8/8/8/8/8/8/8 w - - 0 1")
+        page.until_told("exactly one king")
+        page.paste("1. e4 e5 2. Ke3 *")
+        page.until_told("a word that names no legal move, at byte 12")
+        page.paste("   ")
+        page.until_told("There is no game in it.")
+        page.type("comment", "a } brace")
+        page.until_told("closing brace")
+        self.assertEqual(page.moves, "1. e4")
+        page.set_fen("4k3/8/8/8/8/2N5/8/4K1N1 w - - 0 1")
+        page.type("san", "Ne2")
+        page.until_told("More than one man")
+
+    def test_a_variation_is_added_commented_promoted_and_deleted(self):
+        page = self.page
+        page.play("e4", "e5")
+        page.click("back")
+        page.until(lambda: page.fen.split()[1] == "b" and "e5" in page.moves, "one move is taken back")
+        page.play("c5")
+        page.until_moves("1. e4 e5 1... c5")
+        page.choose("nag", "1")
+        page.until_moves("1. e4 e5 1... c5!")
+        page.type("comment", "the Sicilian")
+        page.until_moves("1. e4 e5 1... c5! the Sicilian")
+        page.click("promote")
+        page.until(lambda: page.moves.startswith("1. e4 c5!"), "the variation is promoted")
+        self.assertEqual(self.saved().split(b"\n\n")[1], b"1. e4 c5 $1 {the Sicilian} (1... e5) *")
+        page.click("delete")
+        page.until_moves("1. e4 e5")
+        page.click("start")
+        page.until(lambda: page.fen.endswith("w KQkq - 0 1"), "the start is shown")
+        page.click("end")
+        page.until(lambda: page.fen.split()[1] == "w" and "/4p3/" in page.fen, "the end is shown")
+
+    def test_a_game_comes_in_and_goes_out_as_the_program_writes_it(self):
+        text = (b'[Event "A \\"quoted\\" name"]\n[White "Caf\xc3\xa9, A."]\n[Black "Latin \xe9"]\n[ECO "C50"]\n[Result "1-0"]\n\n{ before  the\tgame } 1. e4 $1 {first}'
+                b" e5 (1... c5 2. Nf3 (2. c3 $5 d5) 2... d6 {why not}) (1... e6) 2. Nf3 Nc6!? 3. Bc4 Nf6 4. Ng5 d5 5. exd5 Na5 1-0\n\n")
+        other = b'[FEN "4k3/P7/8/8/8/8/7p/4K3 b - - 3 40"]\n\n40... h1=Q+ {check} 41. Kd2 (41. Ke2 Qe4+ $14) 41... Qb7 $19 1/2-1/2\n'
+        for given in (text, other):
+            with tempfile.NamedTemporaryFile(suffix=".pgn") as file:
+                file.write(given)
+                file.flush()
+                self.page.at("file").send_keys(file.name)
+                self.page.until(lambda: self.page.moves, "the game is read")
+            self.assertEqual(self.saved(), chess("pgn", given=given).stdout)
+            self.page.click("new")
+            self.page.until_moves("")
+
+    def test_a_file_of_many_games(self):
+        from selenium.webdriver.common.by import By
+        page = self.page
+        games = [b'[White "One"]\n[Black "Two"]\n\n1. e4 e5 1-0\n\n', b'[White "Bad"]\n\n1. e4 e4 *\n\n', b'[White "Three"]\n[Black "Four"]\n\n1. d4 d5 2. c4 0-1\n\n', b'[White "Five"]\n\n1. c4 *\n']
+        with tempfile.NamedTemporaryFile(suffix=".pgn") as file:
+            file.write(b"".join(games))
+            file.flush()
+            page.at("file").send_keys(file.name)
+            page.until(lambda: page.text("howmany") == "3 games, and 1 that can’t be read", "the games are listed")
+        place = len(games[0]) + games[1].index(b"e4 *")
+        self.assertIn(f"2. Can’t be read: a word that names no legal move, at byte {place}", page.text("games"))
+        page.until_moves("1. e4 e5")
+        page.type("find", "four", then="")
+        page.until(lambda: page.script("return document.querySelectorAll('#games li').length") == 1, "one is found")
+        self.browser.find_element(By.CSS_SELECTOR, "#games button").click()
+        page.until_moves("1. d4 d5 2. c4")
+        self.assertEqual(self.saved(), chess("pgn", given=games[2]).stdout)
+
+    def test_the_engine_analyses_stops_and_plays(self):
+        page = self.page
+        page.choose("depth", "16")
+        page.click("analyse")
+        page.until(lambda: "1" in page.script("return [...document.querySelectorAll('#lines li')].map((it) => String(it.value))"), "depth 1 is told")
+        page.click("analyse")
+        page.until(lambda: page.text("lines") == "", "the lines are gone")
+        page.play("e4")
+        page.choose("depth", "2")
+        page.click("analyse")
+        told = chess("uci", given=b"position fen rnbqkbnr/pppppppp/8/8/4P3/8/PPPP1PPP/RNBQKBNR b KQkq e3 0 1\ngo depth 2\n").stdout.decode()
+        best = [line.split()[-1] for line in told.splitlines() if line.startswith("info depth")]
+        page.until(lambda: page.script("return [...document.querySelectorAll('#lines li')].map((it) => it.textContent.split(' ')[0])") == best, f"the best moves are {best}")
+        page.click("analyse")
+        page.choose("plays", "b")
+        page.until(lambda: page.fen.split()[1] == "w", "the engine moves")
+        page.choose("plays", "")
+        self.assertEqual(page.script("return document.querySelectorAll('.move').length"), 2)
+
+    def test_the_link_holds_the_game(self):
+        page = self.page
+        page.play("e4", "e5", "Nf3")
+        page.click("back")
+        page.click("flip")
+        page.type("comment", "grüezi")
+        page.until(lambda: "grüezi" in page.moves, "the comment is there")
+        had = page.moves, page.fen
+        # The address follows a little later, so a link without the comment may stand there first.
+        page.click("link")
+        page.until(lambda: "link is copied" in page.text("told") or "#g=" in page.script("return document.getElementById('pgn').value"), "the link is copied")
+        page.until(lambda: page.script("return document.documentElement.dataset.given") == page.script("return location.hash"), "the address has it")
+        link = page.script("return location.hash")
+        page.open(link)
+        page.until(lambda: (page.moves, page.fen) == had, "the game is there again")
+        self.assertEqual(page.script("return document.querySelector('[data-square]').dataset.square"), "h1")
+        page.open("#g=nonsense")
+        page.until_told("doesn’t hold a game")
+
+    def test_claims_and_ends_have_their_articles(self):
+        page = self.page
+        page.play("Nf3", "Nf6", "Ng1", "Ng8", "Nf3", "Nf6", "Ng1")
+        page.until(lambda: "With f6g8 a draw by threefold repetition (Article 9.2.1)" in page.script("return document.getElementById('laws').innerText").replace("\n", " "), "it may be claimed with the move")
+        page.play("Ng8")
+        page.until(lambda: "a draw by threefold repetition (Article 9.2.2)" in page.text("laws"), "it may be claimed")
+        for fen, article in (("7k/5Q2/6K1/8/8/8/8/8 b - - 0 1", "5.2.1"), ("8/8/8/8/8/4k3/8/4K3 w - - 0 1", "5.2.2"), ("4k3/8/8/8/8/8/8/R3K3 w - - 150 90", "9.6.2")):
+            page.set_fen(fen)
+            page.until_status(f"(Article {article})")
+        page.set_fen("4k3/8/8/8/8/8/4R3/4K3 b - - 0 1")
+        page.until_status("in check from e2 (Article 3.9.1)")
+
+    def test_the_heat_map_is_what_the_board_answers(self):
+        page = self.page
+        page.choose("heat", "counts b")
+        given = chess("board", given=b"counts b\n").stdout.decode().replace("/", " ").split()
+        shown = page.script("""return [...'12345678'].flatMap((r) => [...'abcdefgh'].map((f) => document.querySelector(`[data-square=${f}${r}] .heat`).textContent || '0'))""")
+        self.assertEqual(shown, given)
+
+    def test_by_keyboard_alone(self):
+        from selenium.webdriver import ActionChains
+        from selenium.webdriver.common.keys import Keys
+        page = self.page
+
+        def keys(*all_of_them):
+            for key in all_of_them:
+                ActionChains(self.browser).send_keys(key).perform()
+
+        def focused():
+            return page.script("const it = document.activeElement; return it.dataset.square || it.id || it.textContent")
+
+        for _ in range(20):
+            keys(Keys.TAB)
+            if focused() == "e2":
+                break
+        self.assertEqual(focused(), "e2")
+        keys(Keys.ENTER)
+        self.assertIn("may be moved to", page.square("e4").get_attribute("aria-label"))
+        keys(Keys.UP, Keys.UP, Keys.ENTER)
+        page.until_moves("1. e4")
+        self.assertEqual(focused(), "e4")
+        keys(Keys.UP, Keys.UP, Keys.UP, Keys.SPACE, Keys.DOWN, Keys.DOWN, Keys.SPACE)
+        page.until_moves("1. e4 e5")
+        ActionChains(self.browser).key_down(Keys.ALT).send_keys(Keys.ARROW_LEFT).key_up(Keys.ALT).perform()
+        page.until(lambda: page.fen.split()[1] == "b", "one move is taken back")
+        keys(Keys.HOME)
+        page.until(lambda: page.fen.endswith("w KQkq - 0 1"), "the start is shown")
+        for _ in range(40):
+            keys(Keys.TAB)
+            if focused() == "san":
+                break
+        keys("d4", Keys.ENTER)
+        page.until(lambda: "d4" in page.moves, "d4 is made")
+
+    def test_a_narrow_window_has_no_sideways_scroll(self):
+        page = self.page
+        self.browser.execute_cdp_cmd("Emulation.setDeviceMetricsOverride", {"width": 360, "height": 740, "deviceScaleFactor": 1, "mobile": True})
+        try:
+            page.open()
+            page.play("e4", "e5", "Nf3", "Nc6")
+            self.assertLessEqual(page.script("return document.documentElement.scrollWidth"), 360)
+            self.assertGreaterEqual(page.script("return document.getElementById('board').offsetWidth"), 290)
+        finally:
+            self.browser.execute_cdp_cmd("Emulation.clearDeviceMetricsOverride", {})
+
+    def test_a_browser_without_64_bit_memories_is_told_so(self):
+        added = self.browser.execute_cdp_cmd("Page.addScriptToEvaluateOnNewDocument", {"source": "WebAssembly.validate = () => false"})
+        try:
+            self.browser.get(f"http://127.0.0.1:{server.server_address[1]}/index.html")
+            self.page.until(lambda: "no 64-bit WebAssembly memories" in self.page.text("lacking"), "it is said")
+            self.assertFalse(self.page.at("main").is_displayed())
+        finally:
+            self.browser.execute_cdp_cmd("Page.removeScriptToEvaluateOnNewDocument", {"identifier": added["identifier"]})
+
+    def test_every_control_has_a_name_and_nothing_comes_from_elsewhere(self):
+        unnamed = self.page.script("""
+            return [...document.querySelectorAll('button, input, select, textarea, [role=img], [role=grid]')].filter((it) => !it.hidden && it.type !== 'file').filter((it) => {
+                const label = it.labels?.[0]?.textContent || it.getAttribute('aria-label') || (it.tagName === 'BUTTON' && it.textContent);
+                return !label || !label.trim();
+            }).map((it) => it.outerHTML)""")
+        self.assertEqual(unnamed, [])
+        self.assertEqual(self.page.script("return [...document.querySelectorAll('[data-square]')].length"), 64)
+        self.assertEqual(self.page.square("e1").get_attribute("aria-label"), "e1, white king")
+        origins = self.page.script("return [...new Set(performance.getEntriesByType('resource').map((it) => new URL(it.name).origin))]")
+        self.assertEqual(origins, [self.page.script("return location.origin")])
+
+
+class TheModule(unittest.TestCase):
+    """The module without the page."""
+
+    @classmethod
+    def setUpClass(cls):
+        cls.folder = tempfile.mkdtemp()
+        cls.browser = new_browser(cls.folder)
+        Page(cls.browser).open()
+
+    @classmethod
+    def tearDownClass(cls):
+        cls.browser.quit()
+        shutil.rmtree(cls.folder, ignore_errors=True)
+
+    def answers(self, lines):
+        return self.browser.execute_async_script(LINES, "", lines)
+
+    def script(self, rng):
+        """Lines as they come, most of them moves that are legal where they stand."""
+        program = subprocess.Popen([CHESS, "board"], stdin=subprocess.PIPE, stdout=subprocess.PIPE)
+        lines = []
+
+        def say(line):
+            lines.append(line)
+            program.stdin.write(line.encode("latin-1") + b"\n")
+            program.stdin.flush()
+            return program.stdout.readline().decode("latin-1").strip()
+
+        fens = ["4k3/P6P/8/2pP4/8/8/p6p/4K3 w - c6 0 2", "r3k2r/pppq1ppp/2n2n2/3pp3/3PP3/2N2N2/PPPQ1PPP/R3K2R w KQkq - 98 40", "8/8/8/8/8/8/8/8 w - - 0 1", "rubbish", "7k/8/6K1/8/8/8/8/R7 w - - 149 90"]
+        others = ["status", "claims", "count", "checks", "eval", "counts w", "counts b", "fen", "path", "back", "start", "end", "promote", "delete", "step 0", "step 1", "goto 0.0", "best 1",
+                  "nag 5", "nag 300", "comment a  word ", "comment }", "comment", "play zz", "play O-O", "claim e2e4", "rubbish", "best 0", "goto x", "moves", "new", ""]
+        for _ in range(rng.randint(5, 40)):
+            if rng.random() < 0.6:
+                moves = say("moves").split()
+                say(f"play {rng.choice(moves)}")
+            elif rng.random() < 0.1:
+                say(f"set {rng.choice(fens)}")
+            else:
+                line = rng.choice(others)
+                if line:
+                    say(line)
+                else:
+                    lines.append(line)
+        program.stdin.close()
+        program.wait()
+        program.stdout.close()
+        lines.append("pgn")
+        return lines
+
+    def test_the_same_bytes_as_the_program(self):
+        rng = random.Random(42)
+        scripts = [self.script(rng) for _ in range(100)]
+        given = [["new", *lines] for lines in scripts]
+        whole = [line for lines in given for line in lines]
+        self.assertEqual(self.answers(whole).encode("latin-1"), chess("board", given=("\n".join(whole) + "\n").encode("latin-1")).stdout)
+
+    def test_a_collection_is_read_and_written_as_the_program_does(self):
+        rng = random.Random(4242)
+        games = []
+        for _ in range(60):
+            told = chess("board", given=("\n".join(self.script(rng)) + "\n").encode("latin-1")).stdout
+            games.append(told[told.rindex(b"[Event "):])
+        given = b"".join(games)
+        read = self.browser.execute_async_script("""
+            const [bytes, done] = arguments;
+            import('./module.js').then(async (it) => {
+              const session = await it.open('jatshegi.wasm');
+              session.hold(it.toBytes(bytes));
+              let written = '';
+              for (let at = 0; ;) {
+                const game = session.game(at);
+                if (game.status !== 0) break;
+                written += game.text;
+                at += game.used;
+              }
+              done(written);
+            }).catch((error) => done('error: ' + error));
+        """, given.decode("latin-1"))
+        self.assertEqual(read.encode("latin-1"), chess("pgn", given=given).stdout)
+
+    def test_memory_that_is_too_small_is_an_error(self):
+        found = self.browser.execute_async_script("""
+            const done = arguments[0];
+            import('./module.js').then(async (it) => {
+              const found = [];
+              for (const heap of [0, 16, 32, 48, 1024, 65536, 131072, 160000, 180000, 200000, 262144, 524288, 1048576]) {
+                const session = await it.open('jatshegi.wasm', { heap, room: 65536 });
+                const answers = session.opened === 0 ? ['play e4', 'play e5', 'set 8/8/8/k7/8/8/8/K7 w - - 0 1', 'pgn', 'fen'].map((line) => session.line(line)) : [];
+                session.hold(it.toBytes('1. e4 e5 (1... c5 2. Nf3) 2. Nf3 *'));
+                const game = session.game(0);
+                found.push([heap, session.opened, answers, game.status, session.line('fen'), session.engineLine('position startpos moves e2e4'), session.engineLine('isready')]);
+              }
+              done(found);
+            }).catch((error) => done('error: ' + error));
+        """)
+        self.assertIsInstance(found, list, found)
+        self.assertEqual({it[1] for it in found}, {0, 2})
+        for heap, opened, answers, game, fen, placed, ready in found:
+            if opened == 2:
+                self.assertEqual((game, placed, ready), (1, "", ""), heap)
+                continue
+            for answer in answers[:3]:
+                self.assertIn(answer, ("ok\n", "refused 5 Memory\n"))
+            self.assertIn(game, (0, 2))
+            self.assertIn(placed, ("", "info string out of memory\n"))
+            self.assertEqual(ready, "readyok\n")
+        self.assertEqual(found[-1][2][:3], ["ok\n"] * 3)
+        self.assertEqual(found[-1][3], 0)
+
+    def test_the_games_of_a_text(self):
+        given = b'[White "a"]\n\n1. e4 {x} e5 1-0\n\n[White "b"]\n\n1. e4 Qh9 *\n\n[White "c"]\n\n1. c4 (1. d4 d5) *\n' + b"   \n"
+        found = self.browser.execute_async_script("""
+            const [bytes, done] = arguments;
+            import('./module.js').then(async (it) => {
+              const session = await it.open('jatshegi.wasm');
+              session.hold(it.toBytes(bytes));
+              const found = [];
+              for (let at = 0; ;) {
+                const game = session.game(at);
+                found.push([game.status, game.text, at + game.used]);
+                if (game.status === 16) break;
+                at += game.status === 0 ? game.used : session.pass(at);
+              }
+              done(found);
+            }).catch((error) => done('error: ' + error));
+        """, given.decode())
+        self.assertEqual([it[0] for it in found], [0, 43, 0, 16])
+        self.assertEqual(found[0][1].encode(), chess("pgn", given=given[:given.index(b'[White "b"]')]).stdout)
+        self.assertEqual(found[1][2], given.index(b"Qh9"))
+        self.assertEqual(found[2][1].encode(), chess("pgn", given=given[given.index(b'[White "c"]'):]).stdout)
+
+    def test_a_search_stops_at_the_next_event(self):
+        found = self.browser.execute_async_script("""
+            const done = arguments[0];
+            import('./module.js').then(async (it) => {
+              const session = await it.open('jatshegi.wasm');
+              const found = [session.engineLine('position startpos'), session.engineLine('go depth 16')];
+              for (let i = 0; i < 45; i++) found.push(session.engineSlice());
+              found.push(session.engineSearching(), session.engineLine('stop'), session.engineSearching(), session.engineSlice());
+              done(found);
+            }).catch((error) => done('error: ' + error));
+        """)
+        self.assertEqual([it for it in found if it], ["info depth 1 score cp 18 pv b1c3\n", "info depth 2 score cp 0 pv b1c3\n", True, "bestmove b1c3\n"])
+
+
+class TheFiles(unittest.TestCase):
+    def test_the_module_is_what_the_sources_give(self):
+        made = subprocess.run([f"{runs.TOP}/tools/sources", "chess_web"], capture_output=True, check=True).stdout
+        with open(f"{WEB}/jatshegi.sources", "rb") as file:
+            self.assertEqual(hashlib.sha256(made).hexdigest(), hashlib.sha256(file.read()).hexdigest(), "make the module anew: tools/web")
+
+    def test_the_page_is_small(self):
+        size = sum(os.path.getsize(f"{WEB}/{name}") for name in os.listdir(WEB) if not name.startswith("jatshegi."))
+        self.assertLess(size, 100_000)
+
+
+def pictures():
+    """Makes the screenshots of docs/ anew: light, dark and narrow."""
+    setUpModule()
+    with tempfile.TemporaryDirectory() as folder:
+        browser = new_browser(folder, "--hide-scrollbars")
+        page = Page(browser)
+        for name, scheme, width, height in (("light", "light", 1160, 800), ("dark", "dark", 1160, 800), ("narrow", "light", 360, 740)):
+            browser.execute_cdp_cmd("Emulation.setDeviceMetricsOverride", {"width": width, "height": height, "deviceScaleFactor": 1, "mobile": width < 500})
+            browser.execute_cdp_cmd("Emulation.setEmulatedMedia", {"features": [{"name": "prefers-color-scheme", "value": scheme}]})
+            page.open()
+            page.paste("1. e4 e5 2. Nf3 Nc6 3. Bc4 {The Italian.} Bc5 (3... Nf6 4. Ng5 $5 d5 5. exd5 Na5 $1 {and not 5... Nxd5}) 4. b4 $1 Bxb4 5. c3 Ba5 6. d4 exd4 7. O-O *")
+            page.until(lambda: "O-O" in page.moves, "the game is read")
+            page.script("document.getElementById('pastebox').open = false; scrollTo(0, 0)")
+            page.click("end")
+            page.until(lambda: "RNBQ1RK1" in page.fen, "the end is shown")
+            if name == "dark":
+                page.choose("heat", "counts w")
+            page.click("analyse")
+            page.until(lambda: page.script("return document.querySelectorAll('#lines li').length") == 4, "four depths are told")
+            if name != "dark":
+                page.square("d8").click()
+            page.script("scrollTo(0, 0)")
+            time.sleep(0.5)
+            browser.save_screenshot(f"{runs.TOP}/docs/web-{name}.png")
+        browser.quit()
+    tearDownModule()
+
+
+if __name__ == "__main__":
+    if sys.argv[1:] == ["pictures"]:
+        pictures()
+    else:
+        unittest.main()
