@@ -39,12 +39,6 @@ impl<'a, 'w, A: Allocator, W: Sink> Rows<'a, 'w, A, W> {
 }
 
 impl<'a, 'w, A: Allocator, W: Sink> EachGame<'a, A> for Rows<'a, 'w, A, W> {
-    ghost use Rattle.std.specs.Prelude.{⊤};
-
-    ghost takes = { λ s place game t. ⊤ };
-
-    ghost passes = { λ s place fault t. ⊤ };
-
     // Writes a game's row, if it is asked for.
     fn game(&mut self, place: Place, game: &Game<'a, A>) -> Result<(), Failure> {
         let report = Report::of(self.alloc, game, self.table)?;

