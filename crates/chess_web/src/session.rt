@@ -32,7 +32,6 @@ pub struct Session {
     engine: Uci<'static, LentHeap>,
     page: Page<&'static LentHeap>,
     heap: &'static LentHeap,
-    table: &'static KeyTable,
 }
 
 impl Model for Session {
@@ -65,7 +64,6 @@ impl Session {
             engine,
             page,
             heap,
-            table,
         })
     }
 
@@ -116,7 +114,7 @@ impl Session {
     pub fn game(&self, text: &[u8], room: &mut [u8], count: &mut usize, used: &mut usize) -> u32
         ensures { IsGame text.now result count.old count.new used.old used.new room.old room.new }
     {
-        match read_game(self.heap, self.table, text) {
+        match read_game(self.heap, text) {
             Ok(Some((game, taken))) => {
                 *used = taken;
                 write_out(self.heap, &game, room, count)
