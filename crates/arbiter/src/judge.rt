@@ -38,9 +38,9 @@ impl<'a, 'w, A: Allocator, W: Sink> Rows<'a, 'w, A, W> {
     }
 }
 
-impl<'a, 'w, A: Allocator, W: Sink> EachGame<'a, A> for Rows<'a, 'w, A, W> {
+impl<'a, 'w, A: Allocator, W: Sink> EachGame<A> for Rows<'a, 'w, A, W> {
     // Writes a game's row, if it is asked for.
-    fn game(&mut self, place: Place, game: &Game<'a, A>) -> Result<(), Failure> {
+    fn game<'g>(&mut self, place: Place, game: &Game<'g, A>) -> Result<(), Failure> {
         let report = Report::of(self.alloc, game, self.table)?;
         if self.asked.findings && !has_finding(&report) {
             return Ok(());

@@ -14,8 +14,8 @@ struct GoodGames<'a, 'w, A: Allocator, W: Sink> {
     writer: &'w mut W,
 }
 
-impl<'a, 'w, A: Allocator, W: Sink> EachGame<'a, A> for GoodGames<'a, 'w, A, W> {
-    fn game(&mut self, _place: Place, game: &Game<'a, A>) -> Result<(), Failure> {
+impl<'a, 'w, A: Allocator, W: Sink> EachGame<A> for GoodGames<'a, 'w, A, W> {
+    fn game<'g>(&mut self, _place: Place, game: &Game<'g, A>) -> Result<(), Failure> {
         let Ok(text) = write_game(self.alloc, game) else {
             return Err(Failure::Memory);
         };

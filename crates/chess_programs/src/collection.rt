@@ -46,9 +46,9 @@ pub struct Place {
 }
 
 /// What a program does with each game of a collection.
-pub trait EachGame<'a, A: Allocator> {
+pub trait EachGame<A: Allocator> {
     /// With a game that was read, before the next is read.
-    fn game(&mut self, place: Place, game: &Game<'a, A>) -> Result<(), Failure>;
+    fn game<'g>(&mut self, place: Place, game: &Game<'g, A>) -> Result<(), Failure>;
 
     /// With one that can't be read.
     fn fault(&mut self, place: Place, fault: PgnFault) -> Result<(), Failure>;
@@ -69,7 +69,7 @@ fn refused(fault: GamesFault) -> Result<PgnFault, Failure> {
 /// # Errors
 ///
 /// The first failure of a stream, want of memory, or what `each` fails with.
-pub fn go_over<'a, A: Allocator, R: Source, E: EachGame<'a, A>>(
+pub fn go_over<'a, A: Allocator, R: Source, E: EachGame<A>>(
     games: &mut Games<'a, R, A>,
     each: &mut E,
     progress: &mut Progress<'_>,
