@@ -1,11 +1,12 @@
 ghost use Rattle.std.specs.Prelude.{◌≡◌, false};
+ghost use Rattle.chess_pgn.specs.Sources.{IsSound};
 
 use crate::columns::{HEADER, has_finding, put_fault, put_game};
 use crate::row::{Format, Row};
 use chess_key::KeyTable;
 use chess_loop::write_all;
 use chess_pgn::{Game, Games, PgnFault};
-use chess_programs::{EachGame, Failure, Place, Progress, go_over};
+use chess_programs::{Failure, GAMES, Place, Progress, fault_of};
 use chess_report::Report;
 use chess_types::{Sink, Source};
 use std::alloc::Allocator;
@@ -36,11 +37,9 @@ impl<'a, 'w, A: Allocator, W: Sink> Rows<'a, 'w, A, W> {
         }
         Ok(())
     }
-}
 
-impl<'a, 'w, A: Allocator, W: Sink> EachGame<A> for Rows<'a, 'w, A, W> {
     // Writes a game's row, if it is asked for.
-    fn game<'g>(&mut self, place: Place, game: &Game<'g, A>) -> Result<(), Failure> {
+    fn game(&mut self, place: Place, game: &Game<'a, A>) -> Result<(), Failure> {
         let report = Report::of(self.alloc, game, self.table)?;
         if self.asked.findings && !has_finding(&report) {
             return Ok(());
@@ -58,6 +57,38 @@ impl<'a, 'w, A: Allocator, W: Sink> EachGame<A> for Rows<'a, 'w, A, W> {
         write_all(self.writer, self.row.bytes())?;
         Ok(())
     }
+}
+
+// Writes the rows of the games; how many games could not be read.
+fn write_rows<'a, A: Allocator, R: Source, W: Sink>(
+    games: &mut Games<'a, R, A>,
+    rows: &mut Rows<'a, '_, A, W>,
+    progress: &mut Progress<'_>,
+) -> Result<u64, Failure>
+    requires sound { IsSound R.ended games.old }
+{
+    let mut bad = 0u64;
+    for before in 0..GAMES {
+        let offset = games.used();
+        progress.show(offset, before);
+        let place = Place {
+            number: before.saturating_add(1),
+            offset,
+        };
+        match games.next() {
+            Ok(None) => return Ok(bad),
+            Ok(Some(game)) => rows.game(place, &game)?,
+            Err(fault) => {
+                rows.fault(place, fault_of(fault)?)?;
+                bad = bad.saturating_add(1);
+                if let Err(fault) = games.pass_over() {
+                    let _fault = fault_of(fault)?;
+                    return Err(Failure::Read);
+                }
+            }
+        }
+    }
+    Err(Failure::Read)
 }
 
 /// Writes a row for each game of the reader, before the next is read: what the Laws say of it, or why it can't be read. Returns how many could not.
@@ -85,5 +116,5 @@ pub fn judge<A: Allocator, R: Source + Drop, W: Sink>(
         writer,
     };
     rows.header()?;
-    go_over(&mut games, &mut rows, progress)
+    write_rows(&mut games, &mut rows, progress)
 }

@@ -1,34 +1,60 @@
 ghost use Rattle.std.specs.Prelude.{◌≡◌, false};
+ghost use Rattle.chess_pgn.specs.Sources.{IsSound};
 
 use chess_loop::write_all;
 use chess_pgn::{Game, Games, PgnFault, write_game};
-use chess_programs::{EachGame, Failure, Place, Progress, go_over};
+use chess_programs::{Failure, GAMES, Progress, fault_of};
 use chess_types::{Sink, Source};
 use std::alloc::Allocator;
 
-/// The games on their way to a sink, and the faults of the others to the standard error.
-#[derive(Drop)]
-struct GoodGames<'a, 'w, A: Allocator, W: Sink> {
-    rt: &'w HostRuntime,
+// Writes the export form of a game.
+fn write_one<'a, A: Allocator, W: Sink>(
     alloc: &'a A,
-    writer: &'w mut W,
+    game: &Game<'a, A>,
+    writer: &mut W,
+) -> Result<(), Failure> {
+    let Ok(text) = write_game(alloc, game) else {
+        return Err(Failure::Memory);
+    };
+    match write_all(writer, text.as_slice()) {
+        Ok(()) => Ok(()),
+        Err(_) => Err(Failure::Write),
+    }
 }
 
-impl<'a, 'w, A: Allocator, W: Sink> EachGame<A> for GoodGames<'a, 'w, A, W> {
-    fn game<'g>(&mut self, _place: Place, game: &Game<'g, A>) -> Result<(), Failure> {
-        let Ok(text) = write_game(self.alloc, game) else {
-            return Err(Failure::Memory);
-        };
-        write_all(self.writer, text.as_slice())?;
-        Ok(())
-    }
+// A line on the standard error with the number of a game, from 1, and its fault. A fault of the standard error is ignored.
+fn report(rt: &HostRuntime, number: u64, fault: PgnFault) {
+    let (place, kind, name) = (fault.place, fault.kind.number(), fault.kind.name());
+    let _ = eprintln!(rt; "game {number}: fault {place} {kind} {name}");
+}
 
-    fn fault(&mut self, place: Place, fault: PgnFault) -> Result<(), Failure> {
-        let (number, kind, name) = (place.number, fault.kind.number(), fault.kind.name());
-        // A fault of the standard error is ignored.
-        let _ = eprintln!(self.rt; "game {number}: fault {} {kind} {name}", fault.place);
-        Ok(())
+// Writes the good games, and goes on after the others; how many there were of those.
+fn write_good<'a, A: Allocator, R: Source, W: Sink>(
+    rt: &HostRuntime,
+    alloc: &'a A,
+    games: &mut Games<'a, R, A>,
+    writer: &mut W,
+    progress: &mut Progress<'_>,
+) -> Result<u64, Failure>
+    requires sound { IsSound R.ended games.old }
+{
+    let mut bad = 0u64;
+    for before in 0..GAMES {
+        progress.show(games.used(), before);
+        match games.next() {
+            Ok(None) => return Ok(bad),
+            Ok(Some(game)) => write_one(alloc, &game, writer)?,
+            Err(fault) => {
+                report(rt, before.saturating_add(1), fault_of(fault)?);
+                bad = bad.saturating_add(1);
+                if let Err(fault) = games.pass_over() {
+                    let _fault = fault_of(fault)?;
+                    return Err(Failure::Read);
+                }
+            }
+        }
     }
+    Err(Failure::Read)
 }
 
 /// Writes the good games of the reader in export form (PGN 3.2), each before the next is read, and reports the others by number, place and fault on the
@@ -48,10 +74,5 @@ pub fn filter<A: Allocator, R: Source + Drop, W: Sink>(
     requires writer { W.failed writer.old ≡ false }
 {
     let mut games = Games::new(&alloc, reader);
-    let mut good_games = GoodGames {
-        rt,
-        alloc: &alloc,
-        writer,
-    };
-    go_over(&mut games, &mut good_games, progress)
+    write_good(rt, &alloc, &mut games, writer, progress)
 }

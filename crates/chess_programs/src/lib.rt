@@ -1,12 +1,12 @@
-//! What the programs over the standard streams share: their version, how their words are read and refused, how a collection is gone over, and how far
-//! that has come.
+//! What the programs over the standard streams share: their version, how their words are read and refused, why a collection isn't read to its end, and how
+//! far its reading has come.
 #![tactic(auto)]
 
 mod collection;
 mod progress;
 mod words;
 
-pub use collection::{EachGame, Failure, Place, go_over};
+pub use collection::{Failure, GAMES, Place, fault_of};
 pub use progress::Progress;
 pub use words::{Refused, read_words, why_refused};
 

@@ -1,5 +1,5 @@
 use Rattle.chess_pgn.specs.Sources.{IsSound}
-use Rattle.chess_programs.proofs.collection.go_over.Given as goal
+use Rattle.chess_games.proofs.filter.write_good.Given as goal
 
 -- the games go on
 abbrev pub invariant-loop-before : goal.invariant-loop-before
