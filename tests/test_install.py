@@ -106,6 +106,7 @@ class Installed(Used):
         self.assert_programs(f"{there}/bin")
         self.assert_links(f"{there}/lib")
         self.assert_imports(f"{there}/lib/python3/dist-packages")
+        self.assertIn("jatshegi.wasm", os.listdir(f"{there}/share/jatshegi/web"))
         make("uninstall", f"PREFIX={there}")
         self.assertEqual(paths_below(there), [])
 
@@ -127,7 +128,7 @@ class Installed(Used):
             file.write(b"\0")
         ran = called("make", "-C", top, "install", f"PREFIX={self.folder}/there")
         self.assertNotEqual(ran.returncode, 0)
-        self.assertIn("bin/perft is not the file that release/MANIFEST names", ran.stderr)
+        self.assertIn("release/x86_64-linux/bin/perft is not the file that release/MANIFEST names", ran.stderr)
         self.assertFalse(os.path.exists(f"{self.folder}/there"))
 
     def test_the_manual_pages(self):

@@ -18,10 +18,10 @@ BARE = {"PATH": "/usr/bin:/bin"}
 
 
 def manifest(top=runs.TOP):
-    """The manifest's words, each with the rest of its line; a file by its path."""
+    """The manifest's words, each with the rest of its line; the files by their paths; the page's module."""
     with open(f"{top}/release/MANIFEST", encoding="utf-8") as text:
         lines = [line.split(maxsplit=1) for line in text.read().splitlines() if not line.startswith("#")]
-    return {word: rest for word, rest in lines if word != "file"}, {rest.split()[0]: rest.split()[1:] for word, rest in lines if word == "file"}
+    return {word: rest for word, rest in lines if word not in ("file", "module")}, {rest.split()[0]: rest.split()[1:] for word, rest in lines if word == "file"}, next(rest.split() for word, rest in lines if word == "module")
 
 
 def sum_of(data):
@@ -71,6 +71,12 @@ class TheRelease(unittest.TestCase):
             found.update(os.path.relpath(f"{folder}/{name}", f"{runs.TOP}/release") for name in names)
         self.assertEqual(found - {"MANIFEST", "chess.sources", "all.sources"}, set(manifest()[1]))
         self.assertEqual(set(manifest()[1]), {PROGRAM, *(f"{SYSTEM}/bin/{it}" for it in OTHERS), *(f"{SYSTEM}/lib/{it}" for it in LIBRARIES)})
+
+    def test_the_module_of_the_page_is_as_the_manifest_says(self):
+        """tests/test_web.py asks whether its sources are those of the repository."""
+        path, size, digest = manifest()[2]
+        data = read(f"{runs.TOP}/{path}")
+        self.assertEqual((path, len(data), sum_of(data)), ("web/jatshegi.wasm", int(size), digest))
 
     def test_the_program_is_the_one_just_built(self):
         self.assertIsNone(difference(f"{runs.TOP}/release/{PROGRAM}", runs.BUILT, manifest()[0]["kit"], tool_version("rt", "version")))
