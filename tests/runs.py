@@ -93,7 +93,7 @@ RUNS = [
     Run("another word is refused", ["boards"], output="", error=None, status=1, of_error=("boards",)),
     Run("two words are refused", ["board", "board"], output="", error=None, status=1, of_error=("board",)),
     Run("help is on the standard output", ["--help"], output=None, status=1, of_output=(f"Jatshegi {VERSION}", "play MOVE", "pgn  ", "perft", "docs/FORMATS.md")),
-    Run("the version is on the standard output", ["--version"], f"chess {VERSION}\n", status=1),
+    Run("the version is on the standard output", ["--version"], output=f"chess {VERSION}\n", status=1),
     # The board
     board("nothing is asked"),
     board("a capture en passant that would expose the king",
