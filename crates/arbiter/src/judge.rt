@@ -21,15 +21,15 @@ pub struct Asked {
 
 /// Rows on their way to a sink.
 #[derive(Drop)]
-struct Rows<'a, 'w, A: Allocator, W: Sink> {
+struct Rows<'a, 't, 'w, A: Allocator, W: Sink> {
     alloc: &'a A,
-    table: &'a KeyTable,
+    table: &'t KeyTable,
     asked: Asked,
     row: Row<'a, A>,
     writer: &'w mut W,
 }
 
-impl<'a, 'w, A: Allocator, W: Sink> Rows<'a, 'w, A, W> {
+impl<'a, 't, 'w, A: Allocator, W: Sink> Rows<'a, 't, 'w, A, W> {
     // Writes the names of the columns, where the format has a row of them.
     fn header(&mut self) -> Result<(), Failure> {
         if self.asked.format == Format::Csv {
@@ -62,7 +62,7 @@ impl<'a, 'w, A: Allocator, W: Sink> Rows<'a, 'w, A, W> {
 // Writes the rows of the games; how many games could not be read.
 fn write_rows<'a, A: Allocator, R: Source, W: Sink>(
     games: &mut Games<'a, R, A>,
-    rows: &mut Rows<'a, '_, A, W>,
+    rows: &mut Rows<'a, '_, '_, A, W>,
     progress: &mut Progress<'_>,
 ) -> Result<u64, Failure>
     requires sound { IsSound R.ended games.old }
