@@ -43,6 +43,13 @@ class Arbiter(unittest.TestCase):
         self.judge(BLACK_MATES + "0-1", plies="4", result="0-1", status="mate", winner="black", over_ply="", agrees="true",
                    fen="rnb1kbnr/pppp1ppp/8/4p3/6Pq/5P2/PPPPP2P/RNBQKBNR w KQkq - 1 3")
 
+    def test_claims_on_which_programs_differ(self):
+        """The games of suite/claims.pgn: the first ply of a claim by repetition, and by fifty moves."""
+        with open(f"{runs.TOP}/suite/claims.pgn", "rb") as file:
+            ran = subprocess.run([ARBITER, "--format", "jsonl"], input=file.read(), capture_output=True, check=True)
+        rows = [json.loads(line) for line in ran.stdout.splitlines()]
+        self.assertEqual([(row["threefold_ply"], row["fifty_ply"]) for row in rows], [(9, None), (None, None), (12, None), (9, None), (None, None), (None, 1)])
+
     def test_the_wrong_winner(self):
         self.judge(BLACK_MATES + "1-0", winner="black", agrees="false")
         self.judge(BLACK_MATES + "1/2-1/2", agrees="false")
