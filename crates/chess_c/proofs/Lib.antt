@@ -1,4 +1,5 @@
 pub mod CallLemmas
+pub mod GameLemmas
 pub mod PutLemmas
 pub mod SlotValues
 pub mod TextLemmas

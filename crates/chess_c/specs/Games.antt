@@ -34,13 +34,12 @@ abbrev pub IsFound : List ℕ → (code count' used' : ℕ) → (room room' : Li
 IsFound text code count' used' room room' = (game : Game) × IsAtFront text game used' × IsHanded (game_text game) code count' room room'
 
 -- there is no game, and this is the place of the first fault
-abbrev pub IsRefused : List ℕ → (code used' : ℕ) → Type 0
-IsRefused text code used' = (fault : PgnFault) × HasNoGame text × (code ≡ fault_code fault.kind) × (used' ≡ fault.place)
-
--- nothing is handed out: only whitespace follows, or there is no game, or no memory
-abbrev pub IsWithout : List ℕ → (code used used' : ℕ) → Type 0
-IsWithout text code used used' = (IsWhite text × (code ≡ no_game) × (used' ≡ used)) ⊎ IsRefused text code used' ⊎ ((code ≡ no_memory) × (used' ≡ used))
+abbrev pub IsFaulty : List ℕ → (code used' : ℕ) → Type 0
+IsFaulty text code used' = (fault : PgnFault) × HasNoGame text × (code ≡ fault_code fault.kind) × (used' ≡ fault.place)
 
 -- what is answered of the game at the start of a text
 abbrev pub IsGame : List ℕ → (code count count' used used' : ℕ) → (room room' : List ℕ) → Type 0
-IsGame text code count count' used used' room room' = IsFound text code count' used' room room' ⊎ ((count' ≡ count) × (room' ≡ room) × IsWithout text code used used')
+IsGame text code count count' used used' room room' =
+    IsFound text code count' used' room room'
+    ⊎ ((count' ≡ count) × (room' ≡ room)
+    × (((code ≡ no_game) × (used' ≡ used) × IsWhite text) ⊎ IsFaulty text code used' ⊎ (code ≡ no_memory)))

@@ -1,24 +1,41 @@
-ghost use Rattle.std.specs.Prelude.{◌≡◌, ◌⊎◌};
-ghost use Rattle.chess_items.specs.declared.fault.FaultKind.TheVariants.{Memory};
-ghost use Rattle.chess_pgn.specs.Reading.{HasNoGame};
-ghost use Rattle.chess_c.specs.Games.{IsGame, IsWithout};
+ghost use Rattle.std.specs.Prelude.{◌≡◌};
+ghost use Rattle.chess_pgn.specs.Written.{game_text};
+ghost use Rattle.chess_pgn.specs.steps.GameCode.{game_of};
+ghost use Rattle.chess_c.specs.Games.{IsGame, fault_code};
+ghost use Rattle.chess_c.specs.Handed.{IsToldBy};
 
 use crate::codes::{MEMORY, NO_GAME, OK};
 use crate::texts::hand;
-use chess_pgn::{FaultKind, Games, PgnFault, read_game, write_game};
+use chess_pgn::{FaultKind, Game, Games, read_game, write_game};
 use chess_types::FromBytes;
 use std::alloc::Global;
 
 /// A read of a text, in bytes.
 const PIECE: usize = 65536;
 
-// The status of a text at whose start no game is, and the place of its first fault.
-fn refused(fault: PgnFault, used: &mut usize) -> u32 {
-    if fault.kind == FaultKind::Memory {
-        return MEMORY;
+// The status of a text at whose start no game is: 40 and the number of the fault, or that there is no memory.
+fn fault_code(kind: FaultKind) -> u32
+    ensures { result ≡ fault_code kind }
+{
+    match kind {
+        FaultKind::Memory => MEMORY,
+        other => 40 + u32::from(other.number()),
     }
-    *used = fault.place as usize;
-    40 + u32::from(fault.kind.number())
+}
+
+// Hands out the export form of a game.
+fn write_out<'a>(
+    alloc: &'a Global,
+    game: &Game<'a, Global>,
+    room: &mut [u8],
+    count: &mut usize,
+) -> u32
+    ensures { IsToldBy (game_text (game_of game.now)) result count.old count.new room.old room.new }
+{
+    match write_game(alloc, game) {
+        Ok(text) => hand(text.as_slice(), room, count),
+        Err(_) => MEMORY,
+    }
 }
 
 /// The game at the start of a text (PGN), in export form, and how many bytes of the text it takes: 0. 16 where only whitespace follows. Where no game is
@@ -33,16 +50,17 @@ pub extern "C" fn jatshegi_game_read(
 ) -> u32
     ensures { IsGame text.now result count.old count.new used.old used.new game.old game.new }
 {
-    match read_game(&alloc, text) {
-        Ok(None) => NO_GAME,
+    let heap = &alloc;
+    match read_game(heap, text) {
         Ok(Some((found, taken))) => {
-            let Ok(written) = write_game(&alloc, &found) else {
-                return MEMORY;
-            };
             *used = taken;
-            hand(written.as_slice(), game, count)
+            write_out(heap, &found, game, count)
         }
-        Err(fault) => refused(fault, used),
+        Ok(None) => NO_GAME,
+        Err(fault) => {
+            *used = fault.place as usize;
+            fault_code(fault.kind)
+        }
     }
 }
 
