@@ -65,7 +65,7 @@ class Used(unittest.TestCase):
 
     def assert_programs(self, folder):
         ran = called(f"{folder}/chess", "board", input="new\nplay e4\nfen\n")
-        self.assertEqual((ran.returncode, ran.stdout), (0, "ok\nok\nrnbqkbnr/pppppppp/8/8/4P3/8/PPPP1PPP/RNBQKBNR b KQkq - 0 1\n"))
+        self.assertEqual((ran.returncode, ran.stdout), (0, "ok\nok\nrnbqkbnr/pppppppp/8/8/4P3/8/PPPP1PPP/RNBQKBNR b KQkq e3 0 1\n"))
         ran = called(f"{folder}/chess_games", input=GAMES)
         self.assertEqual((ran.returncode, ran.stdout.count("[Event"), ran.stderr), (2, 2, "game 2: fault 41 3 Move\n"))
         ran = called(f"{folder}/arbiter", "--findings", "--format", "jsonl", input=GAMES)
