@@ -14,7 +14,7 @@ use Rattle.chess_items.specs.declared.place.Place.TheVariants.{GameStart, LineSt
 use Rattle.chess_items.proofs.RunLemmas.{prefix_each, prefix_stops}
 use Rattle.chess_items.proofs.ItemLemmas.{at_line_start, at_tag_line, in_a_value, in_line_outside, in_tag_line, plain_byte, stands_outside, stands_in_tag, stands_in_value}
 
--- the beginning of the input, and its item, which may stand there
+-- the beginning of the input, and its item, which may be there
 abbrev pub Parted : (Item → Bool) → List ℕ → Item → List ℕ → Type 0
 Parted stands input item next = (text : List ℕ) × (input ≡ text ++ next) × (stands item ≡ true) × IsSpelled item text next
 
@@ -222,7 +222,7 @@ start_taken (b ∷ bytes) item next e =
     by_test (eqb b 239) _ _ _ e (λ w h. at_place GameStart (may_stand GameStart) (b ∷ bytes) item next (λ i s. s) (headed (may_stand GameStart) b 239 bytes item next w (mark_taken bytes item next h)))
     (λ w h. at_place GameStart (stands_outside true) (b ∷ bytes) item next at_start (outside_taken true (b ∷ bytes) item next h))
 
--- what is found at a place is an item that may stand there
+-- what is found at a place is an item that may be there
 pub item_taken : (place : Place) (input : List ℕ) (item : Item) (next : List ℕ) → item_at place input ≡ Some (item, next) → Taken place input item next
 unfolding item_at
 item_taken GameStart input item next e = start_taken input item next e
