@@ -53,7 +53,7 @@ enum jatshegi_status {
     JATSHEGI_AT_ROOT = 8,     /* the cursor is at the root */
     JATSHEGI_ARGUMENT = 9,    /* a number is out of its range */
     JATSHEGI_NO_ROOM = 10,    /* the answer is longer than the room for it; its length is known */
-    JATSHEGI_NONE = 11,       /* there is no legal move, so none is best */
+    JATSHEGI_NONE = 11,       /* there is no legal move, so none is best; or no search was begun, or nothing searched */
     JATSHEGI_NO_SUCH = 12,    /* there is no such child */
     JATSHEGI_BAD_COMMENT = 13, /* the comment has a right brace */
     JATSHEGI_NO_GAME = 16,    /* only whitespace follows */
@@ -95,6 +95,20 @@ enum jatshegi_claims {
     JATSHEGI_FIFTY = 2
 };
 
+/* A colour. */
+enum jatshegi_colour {
+    JATSHEGI_WHITE = 0,
+    JATSHEGI_BLACK = 1
+};
+
+/* How a game ended, as its text says (PGN 8.2.6). */
+enum jatshegi_marker {
+    JATSHEGI_UNFINISHED = 0, /* *, it goes on, was abandoned, or its end isn't known */
+    JATSHEGI_WHITE_WINS = 1, /* 1-0 */
+    JATSHEGI_BLACK_WINS = 2, /* 0-1 */
+    JATSHEGI_DRAW = 3        /* 1/2-1/2 */
+};
+
 /* What a pawn becomes. */
 enum jatshegi_promotion {
     JATSHEGI_NO_PROMOTION = 0,
@@ -111,12 +125,30 @@ struct jatshegi_move {
     uint8_t promotion;
 };
 
+/* The ply of what never happens. */
+#define JATSHEGI_NEVER UINT32_MAX
+
+/* What the Laws say of a game's main line (FIDE Laws 5 and 9). A ply is a number of moves made, from 0 to `plies`, or JATSHEGI_NEVER. */
+struct jatshegi_report {
+    uint32_t plies;       /* the moves of the main line, at most 20,000 */
+    uint32_t marker;      /* how the game ended, as its text says: an enum jatshegi_marker */
+    uint32_t status;      /* how the last position stands: an enum jatshegi_outcome */
+    uint32_t winner;      /* the side that has mated the other there: 0 for none, 1 for White, 2 for Black */
+    uint32_t over;        /* the first ply at which the game is over; where that isn't the last, moves follow it */
+    uint32_t why;         /* why it is over there, an enum jatshegi_outcome; JATSHEGI_PLAY where it never is */
+    uint32_t threefold;   /* the first ply at which a draw may be claimed by repetition (9.2.2) */
+    uint32_t fifty;       /* the same by fifty moves (9.3.2) */
+    uint32_t repetitions; /* the most often a position has come up, at least 1 */
+    uint32_t quiet;       /* the most plies in a row without a pawn's move or a capture */
+    bool agrees;          /* whether the marker agrees with the board: after mate the winner's, after each other end a draw's, else any */
+};
+
 /* A table that boards share. No answer depends on its words. */
 struct jatshegi_keys {
     uint64_t words[768];
 };
 
-/* A board, or nothing: zeros are nothing. Its fields are for the functions below alone. */
+/* A board, with a search and a session of the engine, or nothing: zeros are nothing. Its fields are for the functions below alone. */
 struct jatshegi_board {
     bool full;
     void *at;
@@ -128,7 +160,8 @@ enum {
     JATSHEGI_MOST_MOVES = 432,
     JATSHEGI_MOST_FEN = 128,
     JATSHEGI_MOST_SAN = 8,
-    JATSHEGI_MOST_ANSWER = 2600
+    JATSHEGI_MOST_ANSWER = 2600,
+    JATSHEGI_MOST_REPLIES = 260
 };
 
 /* Fills the table. */
@@ -140,8 +173,15 @@ uint32_t jatshegi_board_new(const struct jatshegi_keys *keys, struct jatshegi_bo
 /* Frees the board, if there is one: then there is none. */
 void jatshegi_board_free(struct jatshegi_board *board);
 
-/* Begins a tree from the position of a FEN, in place of the one that there was. OK, EMPTY, NO_MEMORY, FEN_... */
+/* Begins a tree from the position of a FEN; the one that was there is freed. OK, EMPTY, NO_MEMORY, FEN_... */
 uint32_t jatshegi_board_set(struct jatshegi_board *board, const char *fen, size_t length);
+
+/*
+ * Begins with the whole game at the start of a text (PGN), its variations, comments and annotations, from the position in which it begins; and says how
+ * many bytes of the text the game takes. The cursor is at the root. But for OK the board is as it was; at PGN_... `used` is the place of the fault in the text, in
+ * bytes. OK, EMPTY, NO_MEMORY, NO_GAME, PGN_...
+ */
+uint32_t jatshegi_board_load(struct jatshegi_board *board, const char *text, size_t length, size_t *used);
 
 /* The FEN of the position, and its length, at most JATSHEGI_MOST_FEN (PGN 16.1). OK, EMPTY, NO_ROOM. */
 uint32_t jatshegi_board_fen(struct jatshegi_board *board, char *text, size_t room, size_t *length);
@@ -180,6 +220,12 @@ uint32_t jatshegi_board_checks(struct jatshegi_board *board, uint8_t checks[64])
 /* For each square, how many men of White and of Black attack it (FIDE Laws 3.1.2). OK, EMPTY. */
 uint32_t jatshegi_board_counts(struct jatshegi_board *board, uint8_t white[64], uint8_t black[64]);
 
+/*
+ * The men of a colour that attack a square, whatever is on it: the bit of each man's square is 1, the lowest for a1. A king and pinned men attack too, a man
+ * that another is in the way of doesn't (FIDE Laws 3.1 to 3.8). OK, EMPTY, ARGUMENT.
+ */
+uint32_t jatshegi_board_attackers(struct jatshegi_board *board, uint8_t colour, uint8_t square, uint64_t *attackers);
+
 /* The evaluation, in centipawns for White. OK, EMPTY. */
 uint32_t jatshegi_board_evaluation(struct jatshegi_board *board, int32_t *value);
 
@@ -189,8 +235,51 @@ uint32_t jatshegi_board_evaluation(struct jatshegi_board *board, int32_t *value)
  */
 uint32_t jatshegi_board_best(struct jatshegi_board *board, uint8_t depth, struct jatshegi_move *move, int32_t *value);
 
+/*
+ * The same search in slices, which the caller drives by its own clock, and may leave at any time. Begins a search of the position at the cursor, 1 to 16
+ * plies deep; another one of the board's is ended, and nothing is searched yet. The search has a line of its own, so the board may be used meanwhile.
+ * OK, EMPTY, NO_MEMORY, ARGUMENT, NONE.
+ */
+uint32_t jatshegi_search_start(struct jatshegi_board *board, uint8_t depth);
+
+/* Searches one legal move more, and says how many are left: at 0 the search is done, and a further call searches nothing. OK, EMPTY; NONE without a search. */
+uint32_t jatshegi_search_slice(struct jatshegi_board *board, size_t *left);
+
+/*
+ * The best of the legal moves that were searched, with its value as jatshegi_board_best has it; once none is left, it is that function's answer. OK, EMPTY;
+ * NONE where none was searched.
+ */
+uint32_t jatshegi_search_best(struct jatshegi_board *board, struct jatshegi_move *move, int32_t *value);
+
+/* Ends the search and frees what it had; without one, nothing. OK, EMPTY. */
+uint32_t jatshegi_search_end(struct jatshegi_board *board);
+
+/*
+ * A session of the universal chess interface (UCI), driven by events. Each board has one, which knows nothing of the board. The replies are handed out,
+ * each on a line of its own, with their length, at most JATSHEGI_MOST_REPLIES; at NO_ROOM the event has happened all the same. OK, EMPTY, NO_ROOM.
+ *
+ * A line is read, without its line feed; there is time to search one root move more; the clock reads so many milliseconds, from any moment on.
+ */
+uint32_t jatshegi_engine_line(struct jatshegi_board *board, const char *line, size_t length, char *replies, size_t room, size_t *count);
+uint32_t jatshegi_engine_slice(struct jatshegi_board *board, char *replies, size_t room, size_t *count);
+uint32_t jatshegi_engine_moment(struct jatshegi_board *board, uint64_t moment, char *replies, size_t room, size_t *count);
+
+/* Whether the session searches, and so wants slices. OK, EMPTY. */
+uint32_t jatshegi_engine_searching(struct jatshegi_board *board, bool *searching);
+
 /* Steps to a child, by its place among its siblings, from 0. OK, EMPTY, NO_SUCH. */
 uint32_t jatshegi_board_step(struct jatshegi_board *board, uint32_t place);
+
+/*
+ * The node at the cursor, by which a tree is walked with `step` and `back`: how many plies it is below the root, at most 20,000; how many children it has;
+ * the move that leads to it; its comment, empty where there is none (PGN 5); its annotation numbers (PGN 8.2.4). OK, EMPTY; AT_ROOT of the move; NO_ROOM of
+ * the last two.
+ */
+uint32_t jatshegi_board_depth(struct jatshegi_board *board, uint32_t *depth);
+uint32_t jatshegi_board_children(struct jatshegi_board *board, uint32_t *children);
+uint32_t jatshegi_board_move(struct jatshegi_board *board, struct jatshegi_move *move);
+uint32_t jatshegi_board_comment_of(struct jatshegi_board *board, char *text, size_t room, size_t *length);
+uint32_t jatshegi_board_annotations_of(struct jatshegi_board *board, uint8_t *numbers, size_t room, size_t *count);
 
 /* Goes to the root, or along the first children as far as they lead. OK, EMPTY. */
 uint32_t jatshegi_board_start(struct jatshegi_board *board);
@@ -200,7 +289,7 @@ uint32_t jatshegi_board_end(struct jatshegi_board *board);
 uint32_t jatshegi_board_promote(struct jatshegi_board *board);
 uint32_t jatshegi_board_delete(struct jatshegi_board *board);
 
-/* A comment for the node at the cursor, in place of the one that it had (PGN 5). OK, EMPTY, NO_MEMORY, BAD_COMMENT. */
+/* A comment for the node at the cursor; the one that it had is forgotten (PGN 5). OK, EMPTY, NO_MEMORY, BAD_COMMENT. */
 uint32_t jatshegi_board_comment(struct jatshegi_board *board, const char *text, size_t length);
 
 /* An annotation number more for the move at the cursor (PGN 8.2.4). OK, EMPTY, NO_MEMORY, AT_ROOT. */
@@ -224,8 +313,14 @@ uint32_t jatshegi_board_answer(struct jatshegi_board *board, const char *line, s
 uint32_t jatshegi_game_read(const char *text, size_t length, char *game, size_t room, size_t *count, size_t *used);
 
 /*
- * How many bytes to pass over to what follows the game at the start of a text: those that it takes, or, where none is there, those up to the next
- * section of tags (a `[` after an empty line), or all. OK. This one is tested and not proved.
+ * What the Laws say of the main line of the game at the start of a text, the FEN of its last position with its length, at most JATSHEGI_MOST_FEN, and how
+ * many bytes of the text the game takes. OK, NO_MEMORY, NO_ROOM, NO_GAME, PGN_..., as jatshegi_game_read; at NO_ROOM the report is written, too.
+ */
+uint32_t jatshegi_game_report(const char *text, size_t length, struct jatshegi_report *report, char *fen, size_t room, size_t *count, size_t *used);
+
+/*
+ * How many bytes to pass over to what follows the game at the start of a text: those that it takes, or all where only whitespace follows, or, where no game
+ * is there, those up to the first section of tags after the place where reading stopped (a `[` after an empty line), or all. OK, NO_MEMORY.
  */
 uint32_t jatshegi_game_pass(const char *text, size_t length, uint64_t *used);
 

@@ -7,7 +7,6 @@ import re
 import zipfile
 
 TAG = "py3-none-linux_x86_64"
-FILES = ["__init__.py", "_board.py", "_errors.py", "_library.py", "_moves.py", "pgn.py", "py.typed"]
 LIBRARIES = ["jatshegi/libjatshegi.so", "../release/x86_64-linux/lib/libjatshegi.so.0"]
 
 
@@ -23,7 +22,8 @@ def build_wheel(wheel_directory, config_settings=None, metadata_directory=None):
         raise SystemExit(f"there is none of {', '.join(LIBRARIES)}: run tools/libraries of the repository first")
     version = re.search(rb'__version__ = "(.*)"', read("jatshegi/__init__.py"))[1].decode()
     about = f"jatshegi-{version}.dist-info"
-    entries = {f"jatshegi/{name}": read(f"jatshegi/{name}") for name in FILES} | {"jatshegi/libjatshegi.so": read(library)}
+    files = [name for name in sorted(os.listdir("jatshegi")) if name.endswith((".py", ".typed"))]
+    entries = {f"jatshegi/{name}": read(f"jatshegi/{name}") for name in files} | {"jatshegi/libjatshegi.so": read(library)}
     entries[f"{about}/METADATA"] = (
         f"Metadata-Version: 2.1\nName: jatshegi\nVersion: {version}\nSummary: A chess board in which every answer is proved\n"
         "License: MIT OR Apache-2.0\nRequires-Python: >=3.9\n"

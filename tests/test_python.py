@@ -168,6 +168,44 @@ class TheBoard(unittest.TestCase):
         counts = jatshegi.Board().attack_counts
         self.assertEqual((counts(jatshegi.WHITE)[18], counts(jatshegi.BLACK)[18], counts(jatshegi.BLACK)[42]), (3, 0, 3))
 
+    def test_attackers_are_as_many_as_the_counts_say(self):
+        for fen in (jatshegi.STARTING_FEN, "r3k2r/p1ppqpb1/bn2pnp1/3PN3/1p2P3/2N2Q1p/PPPBBPPP/R3K2R w KQkq - 0 1", "8/2p5/3p4/KP5r/1R3p1k/8/4P1P1/8 w - - 0 1"):
+            board = jatshegi.Board(fen)
+            men = board.piece_map()
+            for colour in (jatshegi.WHITE, jatshegi.BLACK):
+                found = [board.attackers(colour, square) for square in jatshegi.SQUARES]
+                self.assertEqual([len(squares) for squares in found], board.attack_counts(colour))
+                self.assertTrue(all(men[square].isupper() == colour for squares in found for square in squares))
+        self.assertEqual(jatshegi.Board("R3k3/8/8/8/8/8/8/4K2R b - - 0 1").attackers(jatshegi.WHITE, jatshegi.parse_square("e8")), [jatshegi.parse_square("a8")])
+        for square in (-1, 64):
+            with self.assertRaises(ValueError):
+                jatshegi.Board().attackers(jatshegi.WHITE, square)
+
+    def test_a_search_in_slices_is_the_whole_search(self):
+        board = jatshegi.Board("r3k2r/p1ppqpb1/bn2pnp1/3PN3/1p2P3/2N2Q1p/PPPBBPPP/R3K2R w KQkq - 0 1")
+        wanted = board.best(2)
+        slices = board.search(2)
+        board.push_san("O-O")
+        found = list(slices)
+        self.assertEqual(([left for left, *_ in found], found[-1][1:]), (list(range(47, -1, -1)), wanted))
+        first, second = board.search(1), board.search(2)
+        self.assertEqual((list(first), len(list(second))), ([], len(board.legal_moves)))
+        self.assertEqual(list(jatshegi.Board("7k/8/6Q1/8/8/8/8/K7 b - -").search(3)), [])
+        for depth in (0, 17, -1, 300):
+            with self.assertRaises(ValueError):
+                board.search(depth)
+
+    def test_an_engine_driven_by_events(self):
+        engine = jatshegi.Engine()
+        self.assertEqual(engine.line("uci")[-1], "uciok")
+        self.assertEqual((engine.line("position startpos"), engine.line("go infinite"), engine.is_searching()), ([], [], True))
+        for _ in range(25):
+            engine.slice()
+        self.assertEqual((engine.line("isready"), len(engine.line("stop")), engine.is_searching()), (["readyok"], 1, False))
+        self.assertEqual((engine.line("go movetime 5"), engine.moment(4), len(engine.moment(1000))), ([], [], 1))
+        with self.assertRaises(ValueError):
+            engine.line("uci\nuci")
+
     def test_pictures(self):
         board = jatshegi.Board("R5k1/5ppp/8/8/8/8/8/6K1 b - - 0 1")
         self.assertEqual(str(board).splitlines()[0], "R . . . . . k .")
@@ -281,6 +319,36 @@ class Games(unittest.TestCase):
         self.assertEqual([it.san for it in king.children[0].children], ["Nf3", "f4", "Nc3"])
         self.assertEqual(king.children[0].children[1].children[0].path(), ["e4", "e5", "f4", "exf4"])
         self.assertEqual((0, str(game), ""), self.program(text.encode()))
+
+    def test_reports_are_what_the_board_says_ply_by_ply(self):
+        knights = "Nf3 Nf6 Ng1 Ng8 "
+        texts = [
+            "1. f3 e5 2. g4 Qh4# 1-0",
+            knights * 5 + "e4 1-0",
+            '[FEN "4k3/8/8/8/8/8/4r3/4K3 w - - 149 90"] Kxe2 Kd7 Kd3 0-1',
+            '[FEN "4k3/8/8/8/8/8/4P3/4K3 w - - 148 90"] Kd2 Kd7 Ke3 1/2-1/2',
+            '[FEN "7k/8/8/6Q1/8/8/8/K7 w - - 0 1"] Qg6 1-0',
+            "*",
+        ]
+        for game in [*map(jatshegi.pgn.read_game, texts), *jatshegi.pgn.games(self.corpus())]:
+            report, board, plies = game.report(), game.board(), []
+            for node in (None, *game.mainline()):
+                if node:
+                    board.push_san(node.san)
+                plies.append((board.status, board.claims(), board.repetitions(), int(board.fen().split()[4])))
+
+            def first(test):
+                return next((ply for ply, found in enumerate(plies) if test(*found)), None)
+
+            over = first(lambda status, claims, times, clock: status != jatshegi.Status.PLAY)
+            outcome = board.outcome()
+            self.assertEqual((report.plies, report.marker, report.status, report.fen), (len(plies) - 1, game.result, board.status, board.fen()))
+            self.assertEqual((report.winner, report.over, report.why), (outcome and outcome.winner, over, None if over is None else plies[over][0]))
+            self.assertEqual(report.threefold, first(lambda status, claims, times, clock: claims[0]))
+            self.assertEqual(report.fifty, first(lambda status, claims, times, clock: claims[1]))
+            self.assertEqual((report.repetitions, report.quiet), (max(it[2] for it in plies), max(it[3] for it in plies)))
+            self.assertEqual(report.agrees, outcome is None or game.result in ("*", outcome.result()))
+            self.assertEqual((report.is_played_on, report.has_finding), (over not in (None, report.plies), not report.agrees or over not in (None, report.plies)))
 
     def test_tags(self):
         game = jatshegi.pgn.read_game('[White "a \\"b\\" \\\\"] [FEN "8/8/8/8/8/4k3/4p3/4K3 w - - 0 1"] [Annotator "c"] *')

@@ -1,12 +1,13 @@
 """The page in a browser, and its module beside the program: the same bytes.
 
-Needs Debian's chromium, chromium-driver and python3-selenium; where they are missing and can't be installed, these tests are skipped. With the word
+Needs Debian's chromium, chromium-driver, python3-selenium and firefox-esr; where they are missing and can't be installed, these tests are skipped. With the word
 `pictures` (python3 -m tests.test_web pictures, from tests/: python3 test_web.py pictures) the screenshots of docs/ are made anew.
 """
 import functools
 import hashlib
 import http.server
 import os
+import queue
 import random
 import shutil
 import subprocess
@@ -57,7 +58,7 @@ def install():
         return
     quiet = {"stdin": subprocess.DEVNULL, "stdout": subprocess.DEVNULL, "stderr": subprocess.DEVNULL, "env": {**os.environ, "DEBIAN_FRONTEND": "noninteractive"}}
     subprocess.run(["apt-get", "update", "-qq"], **quiet)
-    subprocess.run(["apt-get", "install", "-y", "-qq", "-o", "DPkg::Lock::Timeout=300", *PACKAGES], **quiet)
+    subprocess.run(["apt-get", "install", "-y", "-qq", "-o", "DPkg::Lock::Timeout=300", *PACKAGES, "firefox-esr"], **quiet)
 
 
 class Handler(http.server.SimpleHTTPRequestHandler):
@@ -327,6 +328,67 @@ class InTheBrowser(unittest.TestCase):
         page.until_moves("1. d4 d5 2. c4")
         self.assertEqual(self.saved(), chess("pgn", given=games[2]).stdout)
 
+    def test_a_file_of_games_with_findings(self):
+        page = self.page
+        games = [b'[White "One"]\n\n1. f3 e5 2. g4 Qh4# 1-0\n\n', b'[White "Two"]\n\n1. e4 1-0\n\n', b'[White "Three"]\n\n' + b"Nf3 Nf6 Ng1 Ng8 " * 5 + b"e4 *\n"]
+        with tempfile.NamedTemporaryFile(suffix=".pgn") as file:
+            file.write(b"".join(games))
+            file.flush()
+            page.at("file").send_keys(file.name)
+            page.until(lambda: page.text("howmany") == "3 games; 2 with a finding", "the games are listed")
+        rows = page.script("return [...document.querySelectorAll('#games li')].map((it) => it.textContent.trim())")
+        self.assertTrue(rows[0].endswith("— the board says 0-1"), rows)
+        self.assertNotIn("—", rows[1])
+        self.assertTrue(rows[2].endswith("— played on after the fifth repetition"), rows)
+
+    def test_games_are_dropped_and_pasted(self):
+        page = self.page
+        give = """
+            const [kind, text] = arguments;
+            const given = new DataTransfer();
+            if (kind === 'file') given.items.add(new File([text], 'game.pgn')); else given.setData('text', text);
+            document.body.dispatchEvent(kind === 'paste'
+              ? new ClipboardEvent('paste', { clipboardData: given, bubbles: true, cancelable: true })
+              : new DragEvent('drop', { dataTransfer: given, bubbles: true, cancelable: true }));
+        """
+        page.script(give, "file", "1. e4 c5 *")
+        page.until_moves("1. e4 c5")
+        page.script(give, "text", "1. d4 Nf6 *")
+        page.until_moves("1. d4 Nf6")
+        page.script(give, "paste", "1. c4 e5 *")
+        page.until_moves("1. c4 e5")
+        page.script(give, "file", "1. e4 e4 *")
+        page.until_told("names no legal move")
+        page.until_moves("1. c4 e5")
+
+    def test_text_stands_out_from_what_is_behind_it(self):
+        """WCAG 2.2, 1.4.3: a contrast of 4.5 at least, 3 for large text."""
+        faint = """
+            const light = (part) => part <= 0.03928 ? part / 12.92 : ((part + 0.055) / 1.055) ** 2.4;
+            const colour = (text) => text.match(/[\\d.]+/g).map(Number);
+            const bright = ([r, g, b]) => 0.2126 * light(r / 255) + 0.7152 * light(g / 255) + 0.0722 * light(b / 255);
+            const ground = (it) => { for (; it; it = it.parentElement) { const c = colour(getComputedStyle(it).backgroundColor); if (c.length < 4 || c[3] === 1) return c; } return [255, 255, 255]; };
+            return [...document.querySelectorAll('body *')].filter((it) => it.checkVisibility() && !it.closest('svg, option, :disabled')
+                && [...it.childNodes].some((node) => node.nodeType === 3 && node.data.trim())).flatMap((it) => {
+              const style = getComputedStyle(it);
+              const [a, b] = [bright(colour(style.color)), bright(ground(it))];
+              const contrast = (Math.max(a, b) + 0.05) / (Math.min(a, b) + 0.05);
+              const large = parseFloat(style.fontSize) >= 24 || (parseFloat(style.fontSize) >= 18.66 && style.fontWeight >= 700);
+              return contrast < (large ? 3 : 4.5) ? [`${it.outerHTML.slice(0, 90)} ${contrast.toFixed(2)}`] : [];
+            });
+        """
+        for scheme in ("light", "dark"):
+            self.browser.execute_cdp_cmd("Emulation.setEmulatedMedia", {"features": [{"name": "prefers-color-scheme", "value": scheme}]})
+            try:
+                self.page.open()
+                self.page.play("e4", "e5")
+                self.page.choose("heat", "counts w")
+                self.page.type("san", "e9")
+                self.page.until(lambda: self.page.text("told"), "it is refused")
+                self.assertEqual("\n".join(self.page.script(faint)), "", scheme)
+            finally:
+                self.browser.execute_cdp_cmd("Emulation.setEmulatedMedia", {"features": []})
+
     def test_the_engine_analyses_stops_and_plays(self):
         page = self.page
         page.choose("depth", "16")
@@ -503,7 +565,7 @@ class TheModule(unittest.TestCase):
 
     def test_the_same_bytes_as_the_program(self):
         rng = random.Random(42)
-        scripts = [self.script(rng) for _ in range(100)]
+        scripts = [self.script(rng) for _ in range(500)]
         given = [["new", *lines] for lines in scripts]
         whole = [line for lines in given for line in lines]
         self.assertEqual(self.answers(whole).encode("latin-1"), chess("board", given=("\n".join(whole) + "\n").encode("latin-1")).stdout)
@@ -561,6 +623,22 @@ class TheModule(unittest.TestCase):
         self.assertEqual(found[-1][2][:3], ["ok\n"] * 3)
         self.assertEqual(found[-1][3], 0)
 
+    def test_the_reports_of_games(self):
+        texts = ["1. f3 e5 2. g4 Qh4# 1-0", "1. f3 e5 2. g4 Qh4# 0-1", "Nf3 Nf6 Ng1 Ng8 " * 5 + "e4 *", '[FEN "7k/8/6Q1/8/8/8/8/K7 b - - 0 1"] 1-0', "1. e5 *", " "]
+        found = self.browser.execute_async_script("""
+            const [texts, done] = arguments;
+            import('./module.js').then(async (it) => {
+              const session = await it.open('jatshegi.wasm');
+              done(texts.map((text) => {
+                session.hold(it.toBytes(text));
+                return session.report(0);
+              }));
+            }).catch((error) => done('error: ' + error));
+        """, texts)
+        names = ("plies", "winner", "over", "why", "agrees")
+        wanted = [(4, 2, 4, 0, False), (4, 2, 4, 0, True), (21, 0, 16, 3, True), (0, 0, 0, 1, False), None, None]
+        self.assertEqual(found, [None if it is None else dict(zip(names, it)) for it in wanted])
+
     def test_the_games_of_a_text(self):
         given = b'[White "a"]\n\n1. e4 {x} e5 1-0\n\n[White "b"]\n\n1. e4 Qh9 *\n\n[White "c"]\n\n1. c4 (1. d4 d5) *\n' + b"   \n"
         found = self.browser.execute_async_script("""
@@ -595,6 +673,64 @@ class TheModule(unittest.TestCase):
             }).catch((error) => done('error: ' + error));
         """)
         self.assertEqual([it for it in found if it], ["info depth 1 score cp 18 pv b1c3\n", "info depth 2 score cp 0 pv b1c3\n", True, "bestmove b1c3\n"])
+
+
+DRIVER = """<!doctype html><meta charset=utf-8><iframe src=/index.html width=1200 height=900></iframe><script>
+const frame = document.querySelector('iframe');
+const until = async (ready) => { while (!ready()) await new Promise((go) => setTimeout(go, 50)); };
+frame.onload = async () => {
+  const page = frame.contentDocument;
+  const at = (name) => page.getElementById(name);
+  const play = async (text) => {
+    const before = at('fen').value;
+    at('san').value = text;
+    at('sanform').requestSubmit();
+    await until(() => at('fen').value !== before);
+  };
+  await until(() => at('fen').value);
+  const first = at('fen').value;
+  for (const text of ['f3', 'e5', 'g4', 'Qh4']) await play(text);
+  await fetch('/report', { method: 'POST', body: [first, at('fen').value, at('status').textContent].join('|') });
+};
+</script>"""
+
+
+class InFirefox(unittest.TestCase):
+    """The page in Firefox, which has no driver in Debian: a page around it plays a game and posts what is seen."""
+
+    @unittest.skipUnless(shutil.which("firefox-esr"), "the package firefox-esr is missing")
+    def test_a_game_to_mate(self):
+        reported = queue.Queue()
+
+        class Driven(Handler):
+            def do_GET(self):
+                if self.path != "/driver.html":
+                    return super().do_GET()
+                self.send_response(200)
+                self.send_header("Content-Type", "text/html")
+                self.end_headers()
+                self.wfile.write(DRIVER.encode())
+
+            def do_POST(self):
+                reported.put(self.rfile.read(int(self.headers["Content-Length"])).decode())
+                self.send_response(204)
+                self.end_headers()
+
+        around = http.server.ThreadingHTTPServer(("127.0.0.1", 0), functools.partial(Driven, directory=WEB))
+        threading.Thread(target=around.serve_forever, daemon=True).start()
+        with tempfile.TemporaryDirectory() as folder:
+            words = ["firefox-esr", "--headless", "--no-remote", "--profile", folder, f"http://127.0.0.1:{around.server_port}/driver.html"]
+            browser = subprocess.Popen(words, stdout=subprocess.DEVNULL, stderr=subprocess.DEVNULL, env={**os.environ, "HOME": folder})
+            try:
+                first, fen, status = reported.get(timeout=PATIENCE).split("|")
+            finally:
+                browser.terminate()
+                browser.wait()
+                around.shutdown()
+                around.server_close()
+        self.assertEqual(first, "rnbqkbnr/pppppppp/8/8/8/8/PPPPPPPP/RNBQKBNR w KQkq - 0 1")
+        self.assertEqual(fen, "rnb1kbnr/pppp1ppp/8/4p3/6Pq/5P2/PPPPP2P/RNBQKBNR w KQkq - 1 3")
+        self.assertIn("mate", status.lower())
 
 
 class TheFiles(unittest.TestCase):
@@ -636,8 +772,51 @@ def pictures():
     tearDownModule()
 
 
+SPEEDS = """
+const [done] = arguments;
+const timed = (times, call) => {
+  const begun = performance.now();
+  for (let i = 0; i < times; i++) call();
+  return (performance.now() - begun) / times;
+};
+import('./module.js').then(async (it) => {
+  const session = await it.open('jatshegi.wasm');
+  session.line('set r3k2r/p1ppqpb1/bn2pnp1/3PN3/1p2P3/2N2Q1p/PPPBBPPP/R3K2R w KQkq - 0 1');
+  const found = {};
+  for (const line of ['moves', 'status', 'counts w', 'eval', 'fen']) found[line] = timed(2000, () => session.line(line));
+  session.line('new');
+  found['best 6'] = timed(1, () => session.line('best 6'));
+  done(found);
+}).catch((error) => done('error: ' + error));
+"""
+
+
+def speeds():
+    """Prints how long the module takes for some lines in the page, in milliseconds, and how long until the page is ready."""
+    setUpModule()
+    with tempfile.TemporaryDirectory() as folder:
+        browser = new_browser(folder)
+        page = Page(browser)
+        page.open()
+        ready = []
+        for _ in range(9):
+            browser.get("about:blank")
+            page.open()
+            ready.append(page.script("return performance.getEntriesByName('ready')[0]?.startTime ?? performance.now()"))
+        for line, milliseconds in browser.execute_async_script(SPEEDS).items():
+            print(f"{line}: {milliseconds:.3f} ms")
+        begun = time.monotonic()
+        chess("board", given=b"new\nbest 6\n")
+        print(f"best 6 by the program: {1000 * (time.monotonic() - begun):.0f} ms")
+        print(f"the page is ready after {sorted(ready)[4]:.0f} ms")
+        browser.quit()
+    tearDownModule()
+
+
 if __name__ == "__main__":
     if sys.argv[1:] == ["pictures"]:
         pictures()
+    elif sys.argv[1:] == ["speeds"]:
+        speeds()
     else:
         unittest.main()

@@ -379,12 +379,12 @@ const load = async (bytes, path = '-') => {
   return true;
 };
 
-let collection = { bytes: null, found: [], bad: 0 };
+let collection = { bytes: null, found: [], bad: 0, wrong: 0 };
 
 const label = (it) => {
   if (it.fault !== undefined) return `${it.number}. Can\u2019t be read: ${it.fault < 0 ? 'no memory' : FAULTS[it.fault]}, at byte ${it.place}`;
   const tag = (name) => shown(it.tags.find(([is]) => is === name)?.[1] ?? '?');
-  return `${it.number}. ${tag('White')} \u2013 ${tag('Black')} ${tag('Result')} ${tag('Event')} ${tag('Date')}`;
+  return `${it.number}. ${tag('White')} \u2013 ${tag('Black')} ${tag('Result')} ${tag('Event')} ${tag('Date')}${it.finding ? ` \u2014 ${it.finding}` : ''}`;
 };
 
 const entry = (it) => {
@@ -397,6 +397,7 @@ const entry = (it) => {
   const button = document.createElement('button');
   button.textContent = it.label;
   button.onclick = () => load(collection.bytes.slice(it.at, it.at + it.used));
+  if (it.finding) row.className = 'finding';
   row.append(button);
   return row;
 };
@@ -405,10 +406,10 @@ const MOST_SHOWN = 500;
 
 const showCollection = () => {
   const words = by('find').value.toLowerCase();
-  const { found, bad } = collection;
+  const { found, bad, wrong } = collection;
   const matches = found.filter((it) => it.label.toLowerCase().includes(words));
   by('games').replaceChildren(...matches.slice(0, MOST_SHOWN).map(entry));
-  by('howmany').textContent = `${found.length - bad} games${bad ? `, and ${bad} that can\u2019t be read` : ''}${matches.length > MOST_SHOWN ? `; the first ${MOST_SHOWN} are shown` : ''}`;
+  by('howmany').textContent = `${found.length - bad} games${bad ? `, and ${bad} that can\u2019t be read` : ''}${wrong ? `; ${wrong} with a finding` : ''}${matches.length > MOST_SHOWN ? `; the first ${MOST_SHOWN} are shown` : ''}`;
 };
 
 const isFen = (text) => /^\s*[pnbrqkPNBRQK1-8]+(\/[pnbrqkPNBRQK1-8]+){7}\s+[wb]\s/.test(text) && text.trim().split('\n').length === 1;
@@ -419,7 +420,7 @@ const read = async (bytes) => {
     await begin(`set ${fromBytes(bytes).trim()}`);
     return;
   }
-  const mine = { bytes, found: [], bad: 0 };
+  const mine = { bytes, found: [], bad: 0, wrong: 0 };
   collection = mine;
   by('collection').hidden = true;
   const add = (found) => {
@@ -427,6 +428,7 @@ const read = async (bytes) => {
     for (const it of found) {
       mine.found.push({ ...it, label: label(it) });
       if (it.fault !== undefined) mine.bad++;
+      if (it.finding) mine.wrong++;
     }
     by('collection').hidden = mine.found.length < 2 && !mine.bad;
     showCollection();
@@ -604,6 +606,7 @@ const main = async () => {
   drawTags();
   if (!await fromLink()) draw();
   addEventListener('hashchange', fromLink);
+  performance.mark('ready');
   document.documentElement.dataset.ready = 'yes';
 };
 

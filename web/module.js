@@ -29,6 +29,7 @@ const USED = 72;
 const FLAG = 80;
 const FIRST = 128;
 const SECOND = 144;
+const REPORT = 192;
 
 /** The statuses of calls that the page tells apart; 41 to 49 are faults of a text. */
 export const OK = 0;
@@ -133,10 +134,18 @@ class Session {
     return { status, text: status === OK ? this.taken() : '', used: this.number(USED) };
   }
 
-  /** How many bytes to pass over from that place to what follows the game there. */
+  /** How many bytes to pass over from that place to what follows the game there; 0 where there is no memory. */
   pass(from) {
-    this.exports.jatshegi_pass(this.at(SLOT), ...this.rest(from), this.at(USED));
-    return this.number(USED);
+    const status = this.exports.jatshegi_pass(this.at(SLOT), ...this.rest(from), this.at(USED));
+    return status === OK ? this.number(USED) : 0;
+  }
+
+  /** What the Laws say of the game at that place, in part: numbers as `GameReport` of crates/chess_slots has them. Null where there is none, or no memory. */
+  report(from) {
+    const status = this.exports.jatshegi_report(this.at(SLOT), ...this.rest(from), this.at(REPORT), BigInt(this.answers), BigInt(this.room), this.at(COUNT), this.at(USED));
+    if (status !== OK) return null;
+    const number = (place) => this.view().getUint32(this.base + REPORT + 4 * place, true);
+    return { plies: number(0), winner: number(3), over: number(4), why: number(5), agrees: this.view().getUint8(this.base + REPORT + 40) !== 0 };
   }
 
   /** What the engine replies to a line, to a slice of time, and to a reading of the clock. */

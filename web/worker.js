@@ -15,7 +15,7 @@ const state = () => {
   return told;
 };
 
-// The game at the front of a text, in export form.
+// The game at the beginning of a text, in export form.
 const readOne = (bytes) => {
   session.hold(bytes);
   return session.game(0);
@@ -24,6 +24,16 @@ const readOne = (bytes) => {
 const heading = (text) => {
   const { tags, movetext } = parts(text);
   return { tags, length: movetext.length };
+};
+
+const ENDS = ['mate', 'stalemate', 'a dead position', 'the fifth repetition', '75 moves without a capture or a pawn\u2019s move'];
+const RESULTS = ['1/2-1/2', '1-0', '0-1'];
+
+// What is wrong with a game by the Laws: moves follow after it was over, or its marker disagrees with the board. Empty where nothing is.
+const finding = (report) => {
+  if (!report) return '';
+  const { plies, winner, over, why, agrees } = report;
+  return [over < plies ? `played on after ${ENDS[why]}` : '', agrees ? '' : `the board says ${RESULTS[winner]}`].filter(Boolean).join(', ');
 };
 
 const jobs = {
@@ -83,7 +93,7 @@ const jobs = {
       if (game.status === NONE) break;
       number++;
       if (game.status === OK) {
-        found.push({ number, at, used: game.used, ...heading(game.text) });
+        found.push({ number, at, used: game.used, finding: finding(session.report(at)), ...heading(game.text) });
         at += game.used;
       } else {
         found.push({ number, at, fault: game.status - 40, place: at + game.used });

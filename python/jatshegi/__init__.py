@@ -12,6 +12,7 @@ A `Board` answers what the Laws of Chess say of its position and of the moves th
 """
 from . import pgn
 from ._board import Board, Outcome, Status
+from ._engine import Engine
 from ._errors import AmbiguousMoveError, IllegalMoveError, InvalidFenError, InvalidGameError, InvalidMoveError, LimitError
 from ._moves import (
     BISHOP,
@@ -49,6 +50,7 @@ __all__ = [
     "WHITE",
     "AmbiguousMoveError",
     "Board",
+    "Engine",
     "IllegalMoveError",
     "InvalidFenError",
     "InvalidGameError",

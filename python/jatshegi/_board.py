@@ -3,12 +3,15 @@ from __future__ import annotations
 
 import ctypes
 import enum
-from ctypes import byref, c_int32, c_size_t, c_uint8, c_uint32, string_at
-from typing import Dict, List, NamedTuple, Optional, Tuple
+from ctypes import byref, c_int32, c_size_t, c_uint8, c_uint32, c_uint64, string_at
+from typing import TYPE_CHECKING, Dict, Iterator, List, NamedTuple, Optional, Tuple
 
 from . import _library as c
 from ._errors import AmbiguousMoveError, IllegalMoveError, InvalidFenError, InvalidMoveError, LimitError
 from ._moves import BLACK, SQUARE_NAMES, STARTING_FEN, WHITE, Move
+
+if TYPE_CHECKING:
+    from .pgn import Game
 
 _FAULTS = [
     "it has neither four nor six fields",
@@ -98,12 +101,30 @@ class Board:
         self._moves = (c.CMove * 1)()
         self._count = c_size_t()
         self._counted = byref(self._count)
+        self._searches = 0
         # The moves to the cursor; None for one that a line of the board led to.
         self._stack: List[Optional[Move]] = []
         if c.lib.jatshegi_board_new(c.KEYS, self._at):
             raise MemoryError("no memory for a board")
         if fen is not None:
             self.set_fen(fen)
+
+    @classmethod
+    def from_game(cls, game: Game) -> Board:
+        """A board with all of a game of `jatshegi.pgn`, its variations, comments and annotations, at the position in which it begins. A move that is made
+        goes along with the game where it has that move, and is a new variation where it hasn't; `pgn()` has them all.
+
+        >>> board = Board.from_game(jatshegi.pgn.read_game("1. e4 e5 (1... c5 {Sicilian}) 2. Nf3 *"))
+        >>> for san in ("e4", "c5", "Nf3"):
+        ...     move = board.push_san(san)
+        >>> print(board.pgn().splitlines()[-2])
+        1. e4 e5 (1... c5 {Sicilian} 2. Nf3) 2. Nf3 *
+        """
+        board = cls()
+        text = str(game).encode("utf-8", "surrogateescape")
+        if c.lib.jatshegi_board_load(board._at, text, len(text), board._counted):
+            raise MemoryError("no memory for a game")
+        return board
 
     def __del__(self) -> None:
         if c is not None and hasattr(self, "_at"):
@@ -307,6 +328,19 @@ class Board:
         c.lib.jatshegi_board_repetitions(self._at, byref(number))
         return number.value
 
+    def attackers(self, colour: bool, square: int) -> List[int]:
+        """The squares of the men of that colour that attack the square, whatever is on it: a king and pinned men too, but no man that another
+        is in the way of (FIDE Laws 3.1 to 3.8). Raises `ValueError` for a number that is no square's.
+
+        >>> [SQUARE_NAMES[square] for square in Board().attackers(WHITE, 21)]
+        ['g1', 'e2', 'g2']
+        """
+        if not 0 <= square < 64:
+            raise ValueError(f"no square: {square}")
+        found = c_uint64()
+        c.lib.jatshegi_board_attackers(self._at, 0 if colour else 1, square, byref(found))
+        return [at for at in range(64) if found.value >> at & 1]
+
     def attack_counts(self, colour: bool) -> List[int]:
         """For each square, a1 first, how many men of that colour attack it (FIDE Laws 3.1.2).
 
@@ -334,6 +368,34 @@ class Board:
         if c.lib.jatshegi_board_best(self._at, depth, self._moves, byref(value)):
             return None
         return _SHOWN[bytes(self._moves)[:3]], value.value
+
+    def search(self, depth: int) -> Iterator[Tuple[int, Move, int]]:
+        """The same search in slices: one legal move after another is searched, and after each come how many are left, the best so far and its value.
+        So a program may stop it when it likes. Once none is left it is what `best` answers. The position is the one at the time of the call, whatever
+        is made of the board meanwhile; a board has one search, and another ends it. Raises `ValueError` for a depth that isn't 1 to 16.
+
+        >>> for left, move, value in Board("7k/8/6K1/8/8/8/8/R7 w - - 0 1").search(1):
+        ...     if left == 0:
+        ...         print(move.uci(), value)
+        a1a8 29999
+        """
+        status = c.lib.jatshegi_search_start(self._at, depth) if 1 <= depth <= 16 else c.ARGUMENT
+        if status == c.ARGUMENT:
+            raise ValueError(f"a depth is 1 to 16 plies: {depth}")
+        if status == c.NO_MEMORY:
+            raise MemoryError("no memory for a search")
+        self._searches += 1
+        return iter(()) if status else self._slices(self._searches)
+
+    # The slices of the search with that number, while no other is begun.
+    def _slices(self, number: int) -> Iterator[Tuple[int, Move, int]]:
+        left, best, value = c_size_t(1), (c.CMove * 1)(), c_int32()
+        while left.value and number == self._searches:
+            c.lib.jatshegi_search_slice(self._at, byref(left))
+            c.lib.jatshegi_search_best(self._at, best, byref(value))
+            yield left.value, _SHOWN[bytes(best)], value.value
+        if number == self._searches:
+            c.lib.jatshegi_search_end(self._at)
 
     # ---- the game
 

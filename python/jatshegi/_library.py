@@ -11,7 +11,10 @@ NO_GAME = 16
 # The status of a FEN's fault is its number and this; so is that of a game's.
 FEN, PGN = 20, 40
 
-MOST_MOVES, MOST_FEN, MOST_SAN, MOST_ANSWER = 432, 128, 8, 2600
+# The ply of what never happens.
+NEVER = 0xFFFFFFFF
+
+MOST_MOVES, MOST_FEN, MOST_SAN, MOST_ANSWER, MOST_REPLIES = 432, 128, 8, 2600, 260
 
 
 class Slot(ctypes.Structure):
@@ -24,6 +27,15 @@ class CMove(ctypes.Structure):
     """A move as C sees it."""
 
     _fields_ = [("from_square", c_uint8), ("to_square", c_uint8), ("promotion", c_uint8)]
+
+
+class CReport(ctypes.Structure):
+    """A report of a game as C sees it."""
+
+    _fields_ = [
+        *((name, c_uint32) for name in ("plies", "marker", "status", "winner", "over", "why", "threefold", "fifty", "repetitions", "quiet")),
+        ("agrees", c_bool),
+    ]
 
 
 def _found() -> str:
@@ -43,6 +55,7 @@ _slot, _number = POINTER(Slot), POINTER(c_uint32)
 for _name, _types in {
     "new": [c_void_p, _slot],
     "set": [_slot, c_char_p, c_size_t],
+    "load": [_slot, c_char_p, c_size_t, POINTER(c_size_t)],
     "fen": [_slot, POINTER(c_char), c_size_t, POINTER(c_size_t)],
     "moves": [_slot, POINTER(CMove), c_size_t, POINTER(c_size_t)],
     "play": [_slot, CMove],
@@ -55,6 +68,7 @@ for _name, _types in {
     "claims_with": [_slot, CMove, _number],
     "repetitions": [_slot, _number],
     "checks": [_slot, POINTER(c_uint8)],
+    "attackers": [_slot, c_uint8, c_uint8, POINTER(c_uint64)],
     "counts": [_slot, POINTER(c_uint8), POINTER(c_uint8)],
     "evaluation": [_slot, POINTER(c_int32)],
     "best": [_slot, c_uint8, POINTER(CMove), POINTER(c_int32)],
@@ -69,8 +83,22 @@ for _name, _types in {
 }.items():
     _function = getattr(lib, f"jatshegi_board_{_name}")
     _function.argtypes, _function.restype = _types, c_uint32
+for _name, _types in {
+    "search_start": [_slot, c_uint8],
+    "search_slice": [_slot, POINTER(c_size_t)],
+    "search_best": [_slot, POINTER(CMove), POINTER(c_int32)],
+    "search_end": [_slot],
+    "engine_line": [_slot, c_char_p, c_size_t, POINTER(c_char), c_size_t, POINTER(c_size_t)],
+    "engine_slice": [_slot, POINTER(c_char), c_size_t, POINTER(c_size_t)],
+    "engine_moment": [_slot, c_uint64, POINTER(c_char), c_size_t, POINTER(c_size_t)],
+    "engine_searching": [_slot, POINTER(c_bool)],
+}.items():
+    _function = getattr(lib, f"jatshegi_{_name}")
+    _function.argtypes, _function.restype = _types, c_uint32
 lib.jatshegi_game_read.argtypes = [c_void_p, c_size_t, POINTER(c_char), c_size_t, POINTER(c_size_t), POINTER(c_size_t)]
 lib.jatshegi_game_read.restype = c_uint32
+lib.jatshegi_game_report.argtypes = [c_char_p, c_size_t, POINTER(CReport), POINTER(c_char), c_size_t, POINTER(c_size_t), POINTER(c_size_t)]
+lib.jatshegi_game_report.restype = c_uint32
 lib.jatshegi_game_pass.argtypes, lib.jatshegi_game_pass.restype = [c_void_p, c_size_t, POINTER(c_uint64)], c_uint32
 lib.jatshegi_board_free.argtypes, lib.jatshegi_board_free.restype = [_slot], None
 lib.jatshegi_keys_fill.argtypes, lib.jatshegi_keys_fill.restype = [c_void_p], None

@@ -19,11 +19,12 @@ import ctypes
 import os
 import re
 from ctypes import byref, c_size_t, c_uint64
-from typing import Callable, Dict, Iterator, List, Optional, Tuple, Union
+from typing import Callable, Dict, Iterator, List, NamedTuple, Optional, Tuple, Union
 
 from . import _library as c
-from ._board import Board
+from ._board import Board, Status
 from ._errors import InvalidGameError
+from ._moves import BLACK, WHITE
 
 _FAULTS = [
     "these bytes are no token",
@@ -36,6 +37,7 @@ _FAULTS = [
     "",
     "the game is larger than 1,048,576 bytes or 20,000 plies",
 ]
+_MARKERS = ("*", "1-0", "0-1", "1/2-1/2")
 _TAG = re.compile(r'\[(\w+) "((?:[^"\\]|\\.)*)"\]\n')
 _ESCAPED = re.compile(r"\\(.)")
 _WORD = re.compile(r"\{([^}]*)\}|([()])|\$(\d+)|(\d+)\.+|(1-0|0-1|1/2-1/2|\*)|([^\s(){}]+)")
@@ -85,6 +87,47 @@ class Node:
         return f"<Node {self.san or 'root'}, {len(self.children)} children>"
 
 
+class Report(NamedTuple):
+    """What the Laws say of a game's main line (FIDE Laws 5 and 9). A ply is a number of moves made, from 0 to `plies`."""
+
+    #: The moves of the main line.
+    plies: int
+    #: How the game ended, as its text says: '1-0', '0-1', '1/2-1/2' or '*'.
+    marker: str
+    #: How the last position stands.
+    status: Status
+    #: The side that has mated the other there: WHITE, BLACK or None.
+    winner: Optional[bool]
+    #: The first ply at which the game is over, and why; None where it never is.
+    over: Optional[int]
+    why: Optional[Status]
+    #: The first ply at which a draw may be claimed by repetition (9.2.2), and by fifty moves (9.3.2).
+    threefold: Optional[int]
+    fifty: Optional[int]
+    #: The most often a position has come up, at least 1.
+    repetitions: int
+    #: The most plies in a row without a pawn's move or a capture.
+    quiet: int
+    #: Whether the marker agrees with the board: after mate it is the winner's, after each other end a draw's, else any.
+    agrees: bool
+    #: The FEN of the last position.
+    fen: str
+
+    @property
+    def is_played_on(self) -> bool:
+        """Whether moves follow after the game was over."""
+        return self.over is not None and self.over < self.plies
+
+    @property
+    def has_finding(self) -> bool:
+        """Whether something is wrong: moves follow after the game was over, or its marker disagrees with the board."""
+        return self.is_played_on or not self.agrees
+
+
+def _ply(number: int) -> Optional[int]:
+    return None if number == c.NEVER else number
+
+
 class Game:
     """A game: its tags, its moves as a tree, how it ended, and its text in export form."""
 
@@ -119,6 +162,33 @@ class Game:
         for san in node.path() if node else []:
             board.push_san(san)
         return board
+
+    def report(self) -> Report:
+        """What the Laws say of the main line.
+
+        >>> report = jatshegi.pgn.read_game("1. f3 e5 2. g4 Qh4# 1-0").report()
+        >>> report.status, report.winner == jatshegi.BLACK, report.agrees, report.has_finding
+        (<Status.CHECKMATE: 0>, True, False, True)
+        """
+        text = self._text.encode("utf-8", "surrogateescape")
+        found, fen, count, used = c.CReport(), ctypes.create_string_buffer(c.MOST_FEN), c_size_t(), c_size_t()
+        if c.lib.jatshegi_game_report(text, len(text), byref(found), fen, c.MOST_FEN, byref(count), byref(used)):
+            raise MemoryError("no memory for a report")
+        over = _ply(found.over)
+        return Report(
+            plies=found.plies,
+            marker=_MARKERS[found.marker],
+            status=Status(found.status),
+            winner=(None, WHITE, BLACK)[found.winner],
+            over=over,
+            why=None if over is None else Status(found.why),
+            threefold=_ply(found.threefold),
+            fifty=_ply(found.fifty),
+            repetitions=found.repetitions,
+            quiet=found.quiet,
+            agrees=found.agrees,
+            fen=fen.raw[: count.value].decode(),
+        )
 
     def __str__(self) -> str:
         """The game in export form (PGN 3.2), as the program `chess pgn` writes it."""
@@ -182,7 +252,8 @@ def _texts(data: bytes, bad: Optional[Callable[[InvalidGameError], object]]) -> 
             raise fault
         bad(fault)
         passed = c_uint64()
-        c.lib.jatshegi_game_pass(address + at, len(data) - at, byref(passed))
+        if c.lib.jatshegi_game_pass(address + at, len(data) - at, byref(passed)):
+            raise MemoryError
         at += max(passed.value, 1)
 
 

@@ -59,6 +59,8 @@ static void without_a_board(void) {
     uint32_t number = 7;
     int32_t value = 7;
     size_t count = 7;
+    uint64_t bits = 7;
+    bool searching = false;
     char text[8];
     CHECK(set(&none, START) == JATSHEGI_EMPTY);
     CHECK(jatshegi_board_fen(&none, text, sizeof text, &count) == JATSHEGI_EMPTY);
@@ -74,9 +76,18 @@ static void without_a_board(void) {
     CHECK(jatshegi_board_repetitions(&none, &number) == JATSHEGI_EMPTY);
     CHECK(jatshegi_board_checks(&none, white) == JATSHEGI_EMPTY);
     CHECK(jatshegi_board_counts(&none, white, black) == JATSHEGI_EMPTY);
+    CHECK(jatshegi_board_attackers(&none, JATSHEGI_WHITE, 0, &bits) == JATSHEGI_EMPTY && bits == 7);
     CHECK(jatshegi_board_evaluation(&none, &value) == JATSHEGI_EMPTY);
     CHECK(jatshegi_board_best(&none, 1, &m, &value) == JATSHEGI_EMPTY);
+    CHECK(jatshegi_search_start(&none, 1) == JATSHEGI_EMPTY && jatshegi_search_slice(&none, &count) == JATSHEGI_EMPTY);
+    CHECK(jatshegi_search_best(&none, &m, &value) == JATSHEGI_EMPTY && jatshegi_search_end(&none) == JATSHEGI_EMPTY);
+    CHECK(jatshegi_engine_line(&none, "uci", 3, text, sizeof text, &count) == JATSHEGI_EMPTY);
+    CHECK(jatshegi_engine_slice(&none, text, sizeof text, &count) == JATSHEGI_EMPTY && jatshegi_engine_moment(&none, 1, text, sizeof text, &count) == JATSHEGI_EMPTY);
+    CHECK(jatshegi_engine_searching(&none, &searching) == JATSHEGI_EMPTY && !searching && count == 7);
+    CHECK(jatshegi_board_load(&none, "*", 1, &count) == JATSHEGI_EMPTY && count == 7);
     CHECK(jatshegi_board_step(&none, 0) == JATSHEGI_EMPTY);
+    CHECK(jatshegi_board_depth(&none, &number) == JATSHEGI_EMPTY && jatshegi_board_children(&none, &number) == JATSHEGI_EMPTY && jatshegi_board_move(&none, &m) == JATSHEGI_EMPTY);
+    CHECK(jatshegi_board_comment_of(&none, text, sizeof text, &count) == JATSHEGI_EMPTY && jatshegi_board_annotations_of(&none, white, sizeof white, &count) == JATSHEGI_EMPTY);
     CHECK(jatshegi_board_start(&none) == JATSHEGI_EMPTY);
     CHECK(jatshegi_board_end(&none) == JATSHEGI_EMPTY);
     CHECK(jatshegi_board_promote(&none) == JATSHEGI_EMPTY);
@@ -186,12 +197,18 @@ static void outcomes(struct jatshegi_board *b) {
 
 static void numbers(struct jatshegi_board *b) {
     uint8_t white[64], black[64];
+    uint64_t bits = 0;
     int32_t value = 5;
     struct jatshegi_move m = move_of(0, 0, 0);
     int sum = 0;
     CHECK(set(b, START) == JATSHEGI_OK);
     CHECK(jatshegi_board_counts(b, white, black) == JATSHEGI_OK);
     CHECK(white[0] == 0 && white[16] == 2 && white[18] == 3 && black[18] == 0 && black[42] == 3 && white[12] == 4);
+    CHECK(jatshegi_board_attackers(b, JATSHEGI_WHITE, 18, &bits) == JATSHEGI_OK && bits == (1u << 1 | 1u << 9 | 1u << 11));
+    CHECK(jatshegi_board_attackers(b, JATSHEGI_BLACK, 18, &bits) == JATSHEGI_OK && bits == 0);
+    CHECK(jatshegi_board_attackers(b, JATSHEGI_BLACK, 53, &bits) == JATSHEGI_OK && bits == UINT64_C(1) << 60);
+    bits = 7;
+    CHECK(jatshegi_board_attackers(b, 2, 18, &bits) == JATSHEGI_ARGUMENT && jatshegi_board_attackers(b, JATSHEGI_WHITE, 64, &bits) == JATSHEGI_ARGUMENT && bits == 7);
     CHECK(jatshegi_board_evaluation(b, &value) == JATSHEGI_OK && value == 0);
     CHECK(jatshegi_board_checks(b, white) == JATSHEGI_OK);
     for (int i = 0; i < 64; i++) sum += white[i];
@@ -225,6 +242,33 @@ static void trees(struct jatshegi_board *b) {
     CHECK(jatshegi_board_delete(b) == JATSHEGI_OK && answers(b, "path", "0\n"));
     CHECK(jatshegi_board_end(b) == JATSHEGI_OK && answers(b, "path", "0.0\n"));
     CHECK(fen_is(b, "rnbqkbnr/pppp1ppp/8/4p3/4P3/8/PPPP1PPP/RNBQKBNR w KQkq e6 0 2"));
+}
+
+/* The node at the cursor as `depth children move comment numbers`. */
+static int node_is(struct jatshegi_board *b, uint32_t depth, uint32_t children, struct jatshegi_move m, const char *comment, const char *numbers) {
+    struct jatshegi_move led = move_of(9, 9, 9);
+    uint32_t is_below = 7, has = 7, status;
+    uint8_t found[8];
+    char text[64];
+    size_t length = 0, count = 0;
+    if (jatshegi_board_depth(b, &is_below) != JATSHEGI_OK || jatshegi_board_children(b, &has) != JATSHEGI_OK || is_below != depth || has != children) return 0;
+    status = jatshegi_board_move(b, &led);
+    if (status != (depth ? JATSHEGI_OK : JATSHEGI_AT_ROOT) || led.from != m.from || led.to != m.to || led.promotion != m.promotion) return 0;
+    if (jatshegi_board_comment_of(b, text, sizeof text, &length) != JATSHEGI_OK || length != strlen(comment) || memcmp(text, comment, length) != 0) return 0;
+    return jatshegi_board_annotations_of(b, found, sizeof found, &count) == JATSHEGI_OK && count == strlen(numbers) && memcmp(found, numbers, count) == 0;
+}
+
+static void nodes(struct jatshegi_board *b) {
+    char text[4] = "xxx";
+    size_t length = 0;
+    CHECK(set(b, START) == JATSHEGI_OK && node_is(b, 0, 0, move_of(9, 9, 9), "", ""));
+    CHECK(jatshegi_board_comment(b, "the start", 9) == JATSHEGI_OK && play(b, "e4") == JATSHEGI_OK && jatshegi_board_back(b) == JATSHEGI_OK && play(b, "d4") == JATSHEGI_OK);
+    CHECK(jatshegi_board_annotate(b, 1) == JATSHEGI_OK && jatshegi_board_annotate(b, 14) == JATSHEGI_OK && jatshegi_board_comment(b, "good", 4) == JATSHEGI_OK);
+    CHECK(node_is(b, 1, 0, move_of(11, 27, 0), "good", "\001\016"));
+    CHECK(jatshegi_board_comment_of(b, text, 3, &length) == JATSHEGI_NO_ROOM && length == 4 && text[0] == 'x');
+    CHECK(jatshegi_board_annotations_of(b, (uint8_t *)text, 1, &length) == JATSHEGI_NO_ROOM && length == 2 && text[0] == 'x');
+    CHECK(jatshegi_board_back(b) == JATSHEGI_OK && node_is(b, 0, 2, move_of(9, 9, 9), "the start", ""));
+    CHECK(jatshegi_board_step(b, 0) == JATSHEGI_OK && node_is(b, 1, 0, move_of(12, 28, 0), "", ""));
 }
 
 static void lines(struct jatshegi_board *b) {
@@ -270,6 +314,102 @@ static void games(void) {
     CHECK(jatshegi_game_read("[FEN \"8\"] *", 11, game, sizeof game, &count, &used) == JATSHEGI_PGN_FEN);
 }
 
+/* A game of a text loaded into a board; what is no game changes nothing. */
+static void loads(struct jatshegi_board *b) {
+    static const char text[] = "[FEN \"4k3/8/8/8/8/8/4P3/4K3 w - - 0 1\"]\n\n{a study} 1.e4 $1 Kd7(1...Ke7{slower})2.e5 1/2-1/2 1.d4 *";
+    size_t used = 7;
+    uint32_t depth = 7;
+    CHECK(jatshegi_board_load(b, text, strlen(text), &used) == JATSHEGI_OK && used == strlen(text) - strlen(" 1.d4 *"));
+    CHECK(fen_is(b, "4k3/8/8/8/8/8/4P3/4K3 w - - 0 1") && jatshegi_board_depth(b, &depth) == JATSHEGI_OK && depth == 0);
+    CHECK(node_is(b, 0, 1, move_of(9, 9, 9), "a study", ""));
+    CHECK(jatshegi_board_step(b, 0) == JATSHEGI_OK && node_is(b, 1, 2, move_of(12, 28, 0), "", "\1"));
+    CHECK(jatshegi_board_step(b, 1) == JATSHEGI_OK && node_is(b, 2, 0, move_of(60, 52, 0), "slower", ""));
+    used = 7;
+    CHECK(jatshegi_board_load(b, "1. e5 *", 7, &used) == JATSHEGI_PGN_MOVE && used == 3 && node_is(b, 2, 0, move_of(60, 52, 0), "slower", ""));
+    used = 7;
+    CHECK(jatshegi_board_load(b, " \n", 2, &used) == JATSHEGI_NO_GAME && used == 7 && node_is(b, 2, 0, move_of(60, 52, 0), "slower", ""));
+    CHECK(play(b, "e5") == JATSHEGI_OK && node_is(b, 3, 0, move_of(28, 36, 0), "", ""));
+    CHECK(jatshegi_board_load(b, "1. e4 *", 7, &used) == JATSHEGI_OK && used == 7 && fen_is(b, START));
+    CHECK(jatshegi_board_end(b) == JATSHEGI_OK && jatshegi_board_depth(b, &depth) == JATSHEGI_OK && depth == 1);
+}
+
+/* The report of a text's first game; the FEN of its last position is in `fen`. */
+static struct jatshegi_report reported(const char *text, char *fen) {
+    struct jatshegi_report report;
+    size_t count = 0, used = 0;
+    memset(&report, 0, sizeof report);
+    CHECK(jatshegi_game_report(text, strlen(text), &report, fen, JATSHEGI_MOST_FEN, &count, &used) == JATSHEGI_OK && used == strlen(text) && count < JATSHEGI_MOST_FEN);
+    fen[count] = 0;
+    return report;
+}
+
+static void reports(void) {
+    char fen[JATSHEGI_MOST_FEN + 1];
+    struct jatshegi_report r = reported("1. f3 e5 2. g4 Qh4# 1-0", fen);
+    CHECK(r.plies == 4 && r.marker == JATSHEGI_WHITE_WINS && r.status == JATSHEGI_MATE && r.winner == 2 && r.over == 4 && r.why == JATSHEGI_MATE && !r.agrees);
+    CHECK(r.threefold == JATSHEGI_NEVER && r.fifty == JATSHEGI_NEVER && r.repetitions == 1 && r.quiet == 1);
+    CHECK(strcmp(fen, "rnb1kbnr/pppp1ppp/8/4p3/6Pq/5P2/PPPPP2P/RNBQKBNR w KQkq - 1 3") == 0);
+    r = reported("1. Nf3 Nf6 2. Ng1 Ng8 3. Nf3 Nf6 4. Ng1 Ng8 5. Nf3 *", fen);
+    CHECK(r.plies == 9 && r.marker == JATSHEGI_UNFINISHED && r.status == JATSHEGI_PLAY && r.winner == 0 && r.over == JATSHEGI_NEVER && r.why == JATSHEGI_PLAY && r.agrees);
+    CHECK(r.threefold == 8 && r.repetitions == 3 && r.quiet == 9);
+    r = reported("[FEN \"4k3/8/8/8/8/8/4r3/4K3 w - - 149 90\"]\n\n1. Kxe2 Kd7 2. Kd3 0-1", fen);
+    CHECK(r.plies == 3 && r.status == JATSHEGI_DEAD && r.over == 1 && r.why == JATSHEGI_DEAD && !r.agrees && r.fifty == 0 && r.quiet == 149);
+    r = reported("[FEN \"4k3/8/8/8/8/8/4P3/4K3 w - - 148 90\"]\n\n1. Kd2 Kd7 2. Ke3 1/2-1/2", fen);
+    CHECK(r.over == 2 && r.why == JATSHEGI_SEVENTYFIVE && r.marker == JATSHEGI_DRAW && r.status == JATSHEGI_SEVENTYFIVE && r.agrees && r.quiet == 151);
+    size_t count = 7, used = 7;
+    r.plies = 77;
+    CHECK(jatshegi_game_report("1. e5 *", 7, &r, fen, sizeof fen, &count, &used) == JATSHEGI_PGN_MOVE && used == 3 && count == 7 && r.plies == 77);
+    count = used = 7;
+    CHECK(jatshegi_game_report(" ", 1, &r, fen, sizeof fen, &count, &used) == JATSHEGI_NO_GAME && used == 7 && count == 7 && r.plies == 77);
+    fen[0] = 'x';
+    CHECK(jatshegi_game_report("1. e4 * ", 8, &r, fen, 20, &count, &used) == JATSHEGI_NO_ROOM && count == 59 && used == 7 && r.plies == 1 && fen[0] == 'x');
+}
+
+static void searches(struct jatshegi_board *b) {
+    struct jatshegi_move m = move_of(0, 0, 0), whole = m;
+    int32_t value = 7, worth = 7;
+    size_t left = 7;
+    CHECK(set(b, START) == JATSHEGI_OK && play(b, "e4") == JATSHEGI_OK && play(b, "e5") == JATSHEGI_OK);
+    CHECK(jatshegi_search_slice(b, &left) == JATSHEGI_NONE && left == 7);
+    CHECK(jatshegi_search_best(b, &m, &value) == JATSHEGI_NONE && value == 7 && jatshegi_search_end(b) == JATSHEGI_OK);
+    CHECK(jatshegi_search_start(b, 0) == JATSHEGI_ARGUMENT && jatshegi_search_start(b, 17) == JATSHEGI_ARGUMENT);
+    CHECK(jatshegi_search_start(b, 3) == JATSHEGI_OK && jatshegi_search_best(b, &m, &value) == JATSHEGI_NONE);
+    CHECK(jatshegi_board_best(b, 3, &whole, &worth) == JATSHEGI_OK);
+    CHECK(set(b, START) == JATSHEGI_OK);
+    CHECK(jatshegi_search_slice(b, &left) == JATSHEGI_OK && left == 28 && jatshegi_search_best(b, &m, &value) == JATSHEGI_OK);
+    while (left > 0) CHECK(jatshegi_search_slice(b, &left) == JATSHEGI_OK);
+    CHECK(jatshegi_search_slice(b, &left) == JATSHEGI_OK && left == 0);
+    CHECK(jatshegi_search_best(b, &m, &value) == JATSHEGI_OK && value == worth && m.from == whole.from && m.to == whole.to && m.promotion == whole.promotion);
+    CHECK(jatshegi_search_end(b) == JATSHEGI_OK && jatshegi_search_slice(b, &left) == JATSHEGI_NONE);
+    CHECK(set(b, "7k/8/6Q1/8/8/8/8/K7 b - - 0 1") == JATSHEGI_OK && jatshegi_search_start(b, 1) == JATSHEGI_NONE);
+}
+
+/* Whether the engine replies so to a line. */
+static int replies(struct jatshegi_board *b, const char *line, const char *wanted) {
+    char text[JATSHEGI_MOST_REPLIES];
+    size_t count = 0;
+    return jatshegi_engine_line(b, line, strlen(line), text, sizeof text, &count) == JATSHEGI_OK && count == strlen(wanted) && memcmp(text, wanted, count) == 0;
+}
+
+static void engines(struct jatshegi_board *b) {
+    char text[JATSHEGI_MOST_REPLIES], last[JATSHEGI_MOST_REPLIES] = "";
+    size_t count = 0, length = 0;
+    bool searching = true;
+    CHECK(set(b, START) == JATSHEGI_OK && replies(b, "isready", "readyok\n"));
+    CHECK(jatshegi_engine_searching(b, &searching) == JATSHEGI_OK && !searching);
+    CHECK(replies(b, "position startpos moves f2f3 e7e5 g2g4", "") && replies(b, "go depth 1", ""));
+    CHECK(jatshegi_engine_searching(b, &searching) == JATSHEGI_OK && searching);
+    for (int slices = 0; searching && slices < 100; slices++) {
+        CHECK(jatshegi_engine_slice(b, text, sizeof text, &count) == JATSHEGI_OK);
+        if (count) memcpy(last, text, length = count);
+        CHECK(jatshegi_engine_searching(b, &searching) == JATSHEGI_OK);
+    }
+    CHECK(length >= 14 && memcmp(last + length - 14, "bestmove d8h4\n", 14) == 0);
+    CHECK(replies(b, "go movetime 5", "") && jatshegi_engine_moment(b, 4, text, sizeof text, &count) == JATSHEGI_OK && count == 0);
+    CHECK(jatshegi_engine_moment(b, 6, text, 3, &count) == JATSHEGI_NO_ROOM && count == 14);
+    CHECK(jatshegi_engine_searching(b, &searching) == JATSHEGI_OK && !searching && fen_is(b, START));
+}
+
 int main(void) {
     struct jatshegi_board board = JATSHEGI_NO_BOARD, other = JATSHEGI_NO_BOARD;
     jatshegi_keys_fill(&keys);
@@ -281,8 +421,13 @@ int main(void) {
     outcomes(&board);
     numbers(&board);
     trees(&board);
+    nodes(&board);
     lines(&board);
     games();
+    loads(&board);
+    reports();
+    searches(&board);
+    engines(&board);
     CHECK(jatshegi_board_new(&keys, &board) == JATSHEGI_OK && fen_is(&board, START));
     CHECK(fen_is(&other, "rnbqkbnr/pppppppp/8/8/3P4/8/PPP1PPPP/RNBQKBNR b KQkq d3 0 1"));
     jatshegi_board_free(&board);

@@ -46,13 +46,21 @@ static const struct jatshegi_keys *keys;
 static uint32_t step(struct jatshegi_board *board, int number) {
     static const char *const texts[] = {"e4", "e5", "Nf3", "Nc6", "Bb5", "a6"};
     static const char fen[] = "4k3/8/8/8/8/8/4P3/4K3 w - - 0 1", comment[] = "a long comment that finds no room where the others are, however short they were";
+    static const char pgn[] = "1. e4 e5 2. Nf3 Nc6 {the first moves of many games} *", bad[] = "1. e4 e4 {no game} *\n\n[White \"?\"]\n\n*";
     char text[4096];
-    size_t count = 0;
+    size_t count = 0, used = 0;
+    uint64_t passed = 0;
+    struct jatshegi_report report;
     if (number == 0) return jatshegi_board_new(keys, board);
     if (number <= 6) return jatshegi_board_play_text(board, texts[number - 1], strlen(texts[number - 1]));
     if (number == 7) return jatshegi_board_comment(board, comment, strlen(comment));
     if (number == 8) return jatshegi_board_annotate(board, 1);
     if (number == 9) return jatshegi_board_answer(board, "pgn", 3, text, sizeof text, &count);
+    if (number == 14) return jatshegi_search_start(board, 2);
+    if (number == 15) return jatshegi_board_load(board, pgn, strlen(pgn), &used);
+    if (number == 11) return jatshegi_game_report(pgn, strlen(pgn), &report, text, sizeof text, &count, &used);
+    if (number == 12) return jatshegi_game_pass(pgn, strlen(pgn), &passed);
+    if (number == 13) return jatshegi_game_pass(bad, strlen(bad), &passed);
     return jatshegi_board_set(board, fen, strlen(fen));
 }
 
@@ -80,7 +88,7 @@ int main(void) {
     static struct jatshegi_keys filled;
     jatshegi_keys_fill(&filled);
     keys = &filled;
-    for (int number = 0; number <= 10; number++) {
+    for (int number = 0; number <= 15; number++) {
         int found = 1;
         for (long at = 0; found; at++) {
             found = try_at(number, at);

@@ -10,8 +10,9 @@ mod row;
 mod tests;
 mod words;
 
+use byte_streams::{FromRead, ToWrite};
+use chess_pgn::Games;
 use chess_programs::{FAILED, Progress, Refused, SOME_REFUSED, read_words};
-use chess_types::{FromRead, ToWrite};
 use judge::judge;
 use std::process::ExitCode;
 use words::{Words, parse_words};
@@ -28,9 +29,10 @@ fn main(rt: HostRuntime) -> ExitCode {
         Err(refused) => return refused.end(&rt),
     };
     let mut progress = Progress::new(&rt, words.progress);
-    let reader = FromRead::new(rt.stdin());
+    let alloc = rt.alloc();
+    let mut games = Games::new(&alloc, FromRead::new(rt.stdin()));
     let mut writer = ToWrite::new(rt.stdout());
-    match judge(rt.alloc(), words.asked, reader, &mut writer, &mut progress) {
+    match judge(&alloc, words.asked, &mut games, &mut writer, &mut progress) {
         Ok(0) => ExitCode::SUCCESS,
         Ok(_) => ExitCode::from(SOME_REFUSED),
         Err(failure) => {

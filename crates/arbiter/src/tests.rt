@@ -1,8 +1,9 @@
 use crate::judge::{Asked, judge};
 use crate::row::Format;
 use crate::words::{Words, parse_words};
+use byte_streams::{FromBytes, ToBytes};
+use chess_pgn::Games;
 use chess_programs::{Failure, Progress, Refused};
-use chess_types::{FromBytes, ToBytes};
 
 /// How many games of a text are refused, where the rows are as wanted in at most 4,096 bytes; else `None`.
 fn judged(
@@ -13,10 +14,12 @@ fn judged(
 ) -> Option<Result<u64, Failure>> {
     let mut room = [0; 4096];
     let mut writer = ToBytes::new(&mut room, 4096);
+    let alloc = rt.alloc();
+    let mut games = Games::new(&alloc, FromBytes::new(text.as_bytes(), 7));
     let refused = judge(
-        rt.alloc(),
+        &alloc,
         asked,
-        FromBytes::new(text.as_bytes(), 7),
+        &mut games,
         &mut writer,
         &mut Progress::new(rt, false),
     );

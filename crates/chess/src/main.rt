@@ -7,9 +7,9 @@ mod clock;
 mod tests;
 mod words;
 
+use byte_streams::{FromRead, ToWrite};
 use chess_cli::{board, pgn, uci};
 use chess_programs::{Refused, read_words};
-use chess_types::{FromRead, ToWrite};
 use clock::MachineClock;
 use std::process::ExitCode;
 use words::{Asked, parse_words};

@@ -5,7 +5,7 @@ use Rattle.chess_types.specs.declared.board.axis.Axis.{Axis}
 use Rattle.chess_types.specs.declared.board.axis.Axis.TheVariants.{Rank, File, Rising, Falling}
 use Rattle.chess_types.specs.declared.board.man.Colour.{Colour}
 use Rattle.chess_types.specs.declared.board.man.Man.{Man}
-use Rattle.chess_types.specs.board.Board.{Board, Look, man_at}
+use Rattle.chess_types.specs.board.Board.{Board, Men, man_at}
 use Rattle.chess_types.specs.board.Men.{same_colour}
 use Rattle.chess_types.specs.board.Squares.{line_of, is_between}
 use Rattle.chess_types.specs.board.Attack.{attacks_as, count}
@@ -24,7 +24,7 @@ use Rattle.chess_types.proofs.Sums.{bit_small, total, total-at}
 use Rattle.chess_types.proofs.Runs.{same_test}
 
 seen_to :
-    (A B : Look) (axis : Axis) (way : Way) (at : ℕ) (c : Colour) → is_attacked_along A axis way at c ≡ true →
+    (A B : Men) (axis : Axis) (way : Way) (at : ℕ) (c : Colour) → is_attacked_along A axis way at c ≡ true →
     ((t : ℕ) → t < 64 → t ≢ at → A t ≡ B t) → ((s : ℕ) → reaches A axis way at s ≡ reaches B axis way at s) → is_attacked_along B axis way at c ≡ true
 seen_to A B axis way at c h same reach =
     let (f, m, seen) : (f : ℕ) × (m : Man) × IsSeen A axis way at c f m = seen_parts A axis way at c h in
@@ -33,7 +33,7 @@ seen_to A B axis way at c h same reach =
     seen_from B axis way at c f seen.first.on_board (sym (reach f) ∙ and_from _ _ seen.first.half seen.first.clear)
     (rw holds (and_from _ _ seen.mine seen.moves))
 
-module _ (E F : Look) (at : ℕ) (man : Man) (adds : Adds E F at man) where
+module _ (E F : Men) (at : ℕ) (man : Man) (adds : Adds E F at man) where
   not_between : (s : ℕ) → is_between at s at ≡ false
   not_between s =
       elim (cases_Bool (is_between at s at)) [
@@ -65,15 +65,15 @@ module _ (E F : Look) (at : ℕ) (man : Man) (adds : Adds E F at man) where
       λ axis way. rw (seen_same axis (opposite way) c, reaches_same axis way s) refl in
       omega (arith, each Rank Up, each Rank Down, each File Up, each File Down, each Rising Up, each Rising Down, each Falling Up, each Falling Down)
 
-pub own_small : (man : Man) (look : Look) (at : ℕ) (c : Colour) (s : ℕ) → own man look at c s ≤ 1
-own_small man look at c s = bit_small (same_colour man.colour c && attacks_as man look at s)
+pub own_small : (man : Man) (man_on : Men) (at : ℕ) (c : Colour) (s : ℕ) → own man man_on at c s ≤ 1
+own_small man man_on at c s = bit_small (same_colour man.colour c && attacks_as man man_on at s)
 
 -- a man's own attack is counted
-pub own_counted : (look : Look) (at : ℕ) (man : Man) (c : Colour) (s : ℕ) → at < 64 → look at ≡ Some man → own man look at c s ≤ count look c s
-own_counted look at man c s h holds =
-    let e : weight look c s at ≡ own man look at c s = rw holds refl in
-    let one : weight look c s at ≤ total (weight look c s) 0 64 = total-at (weight look c s) at 0 64 (omega arith) h in
-    omega (arith, count_is_total look c s)
+pub own_counted : (man_on : Men) (at : ℕ) (man : Man) (c : Colour) (s : ℕ) → at < 64 → man_on at ≡ Some man → own man man_on at c s ≤ count man_on c s
+own_counted man_on at man c s h holds =
+    let e : weight man_on c s at ≡ own man man_on at c s = rw holds refl in
+    let one : weight man_on c s at ≤ total (weight man_on c s) 0 64 = total-at (weight man_on c s) at 0 64 (omega arith) h in
+    omega (arith, count_is_total man_on c s)
 
 -- a board without the man, and the board with it
 module _ (bare full : Board) (at : ℕ) (man : Man) (adds : Adds (man_at bare) (man_at full) at man) where

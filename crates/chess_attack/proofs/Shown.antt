@@ -2,7 +2,7 @@
 use Rattle.std.proofs.Common.{◌≡◌, ℕ, ◌+◌, ◌-◌, ◌<◌, ◌≤◌, ◌^◌, None, sym, ◌∙◌, arith}
 use Rattle.chess_types.specs.declared.board.man.Colour.{Colour}
 use Rattle.chess_types.specs.declared.board.man.Colour.TheVariants.{White, Black}
-use Rattle.chess_types.specs.board.Board.{Board, Look, man_at}
+use Rattle.chess_types.specs.board.Board.{Board, Men, man_at}
 use Rattle.chess_types.specs.board.Squares.{squares}
 use Rattle.chess_types.specs.board.Attack.{distance, count}
 use Rattle.chess_types.proofs.Sums.{total, total-zero, total-agree, total-le, total-add, sum_by-range}
@@ -11,23 +11,23 @@ use Rattle.chess_attack.proofs.Counting.{count_none}
 use Rattle.chess_attack.proofs.Work.{changed_is_total}
 
 -- by how much the two attack counts of a square differ
-abbrev gap_of : Look → Look → ℕ → ℕ
+abbrev gap_of : Men → Men → ℕ → ℕ
 gap_of before after s = distance (count before White s) (count after White s) + distance (count before Black s) (count after Black s)
 
-changed_of_is_total : (before after : Look) → changed_of before after ≡ total (gap_of before after) 0 64
+changed_of_is_total : (before after : Men) → changed_of before after ≡ total (gap_of before after) 0 64
 unfolding changed_of squares
 changed_of_is_total before after = sum_by-range (gap_of before after) 0 64
 
 -- two boards are no further apart than each is from a third
-pub changed_of-trans : (a b c : Look) → changed_of a c ≤ changed_of a b + changed_of b c
+pub changed_of-trans : (a b c : Men) → changed_of a c ≤ changed_of a b + changed_of b c
 changed_of-trans a b c =
     let both : total (gap_of a c) 0 64 ≤ total (λ s. gap_of a b s + gap_of b c s) 0 64 =
     total-le (gap_of a c) (λ s. gap_of a b s + gap_of b c s) 0 64 (λ s low high. omega arith) in
     omega (arith, total-add (gap_of a b) (gap_of b c) 0 64, changed_of_is_total a c, changed_of_is_total a b, changed_of_is_total b c)
 
 -- a board is no way from itself
-pub changed_of-same : (look : Look) → changed_of look look ≡ 0
-changed_of-same look = changed_of_is_total look look ∙ total-zero (gap_of look look) 0 64 (λ s. omega arith)
+pub changed_of-same : (man_on : Men) → changed_of man_on man_on ≡ 0
+changed_of-same man_on = changed_of_is_total man_on man_on ∙ total-zero (gap_of man_on man_on) 0 64 (λ s. omega arith)
 
 -- what changed in the kept counts is what changed between the boards
 pub changed_is :

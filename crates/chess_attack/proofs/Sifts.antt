@@ -8,7 +8,7 @@ use Rattle.std.proofs.lemmas.Bool.{cases_eq}
 use Rattle.std.proofs.lemmas.Bool.Decides.{nat_tests}
 use Rattle.chess_types.specs.declared.board.man.Colour.{Colour}
 use Rattle.chess_types.specs.declared.board.man.Man.{Man}
-use Rattle.chess_types.specs.board.Board.{Look}
+use Rattle.chess_types.specs.board.Board.{Men}
 use Rattle.chess_types.specs.board.Men.{is_of}
 use Rattle.chess_types.specs.board.Attack.{attacks_for}
 use Rattle.chess_attack.proofs.Reached.{inserted}
@@ -19,16 +19,16 @@ Sifted left found test = (s : ℕ) → s < 64 → (contains found s || (contains
 
 -- only the men of the colour attack for it
 attack_of :
-    (o : Option Man) (c : Colour) (look : Look) (a s : ℕ) → (is_of c o && attacks_for o c look a s) ≡ attacks_for o c look a s
-attack_of None c look a s = grind arith
-attack_of (Some man) c look a s = grind arith
+    (o : Option Man) (c : Colour) (man_on : Men) (a s : ℕ) → (is_of c o && attacks_for o c man_on a s) ≡ attacks_for o c man_on a s
+attack_of None c man_on a s = grind arith
+attack_of (Some man) c man_on a s = grind arith
 
 pub sifted_start :
-    (left found : FinSet nat_cmp) (look : Look) (c : Colour) (king : ℕ) → found ≡ empty →
-    ((s : ℕ) → contains left s ≡ is_of c (look s)) → Sifted left found (λ a. attacks_for (look a) c look a king)
-sifted_start left found look c king none all s hs =
+    (left found : FinSet nat_cmp) (man_on : Men) (c : Colour) (king : ℕ) → found ≡ empty →
+    ((s : ℕ) → contains left s ≡ is_of c (man_on s)) → Sifted left found (λ a. attacks_for (man_on a) c man_on a king)
+sifted_start left found man_on c king none all s hs =
     let out : contains found s ≡ false = ap (λ x. contains x s) none ∙ contains-empty nat_cmp s in
-    rw (out, all s) (attack_of (look s) c look s king)
+    rw (out, all s) (attack_of (man_on s) c man_on s king)
 
 gone_there : (left : FinSet nat_cmp) (t s : ℕ) → t ≡ s → contains (remove left t) s ≡ false
 gone_there left t s same = contains-remove nat_cmp_total left t s ∙ grind (arith, nat_tests, unsigned_tied s t)

@@ -3,7 +3,7 @@ use Rattle.std.proofs.Common.{◌≡◌, ℕ, ◌<◌, ◌≢◌, true, false, i
 use Rattle.std.proofs.lemmas.Bool.{cases_Bool, true≢false}
 use Rattle.chess_types.specs.declared.board.axis.Axis.{Axis}
 use Rattle.chess_types.specs.declared.board.man.Kind.{Kind}
-use Rattle.chess_types.specs.board.Board.{Look}
+use Rattle.chess_types.specs.board.Board.{Men}
 use Rattle.chess_types.specs.board.Squares.{line_of}
 use Rattle.chess_types.specs.board.Attack.{is_clear, slides, slides_to}
 use Rattle.chess_attack.specs.declared.way.Way.{Way}
@@ -26,22 +26,22 @@ still_ahead axis way here t to n hto other ahead =
 
 -- or a man stands before it
 pub barred :
-    (look : Look) (axis : Axis) (way : Way) (at here t to : ℕ) → Walked look axis way at here → IsNext axis way here t → to < 64 →
-    t ≢ to → on_half axis way here to ≡ true → is_some (look t) ≡ true → is_clear look at to ≡ false
-barred look axis way at here t to w n hto other ahead man =
-    elim (cases_Bool (is_clear look at to)) [
+    (man_on : Men) (axis : Axis) (way : Way) (at here t to : ℕ) → Walked man_on axis way at here → IsNext axis way here t → to < 64 →
+    t ≢ to → on_half axis way here to ≡ true → is_some (man_on t) ≡ true → is_clear man_on at to ≡ false
+barred man_on axis way at here t to w n hto other ahead man =
+    elim (cases_Bool (is_clear man_on at to)) [
       | inr e ↦ e
       | inl clear ↦
           let beyond : on_half axis way t to ≡ true = still_ahead axis way here t to n hto other ahead in
           let half : on_half axis way at t ≡ true = w.beyond t n.on_board n.next in
-          absurd (true≢false (sym man ∙ ap is_some (clear_at look at to t clear n.on_board (between_of axis way at t to half beyond))))
+          absurd (true≢false (sym man ∙ ap is_some (clear_at man_on at to t clear n.on_board (between_of axis way at t to half beyond))))
     ]
 
 -- between two squares on no common half there is no square
 pub clear_off :
-    (look : Look) (a b : ℕ) → ((axis : Axis) (way : Way) → on_half axis way a b ≡ false) → is_clear look a b ≡ true
-clear_off look a b off =
-    clear_from look a b (λ t ht between.
+    (man_on : Men) (a b : ℕ) → ((axis : Axis) (way : Way) → on_half axis way a b ≡ false) → is_clear man_on a b ≡ true
+clear_off man_on a b off =
+    clear_from man_on a b (λ t ht between.
     let (j, h) : (j : Axis) × BetweenOn j a b t = between_parts a b t between in
     let same : line_of j a ≡ line_of j b = h.from_a ∙ sym h.from_b in
     absurd (elim h.order [

@@ -7,7 +7,7 @@ use Rattle.chess_types.specs.declared.board.axis.Axis.TheVariants.{Rank, File, R
 use Rattle.chess_types.specs.declared.board.man.Colour.{Colour}
 use Rattle.chess_types.specs.declared.board.man.Kind.{Kind}
 use Rattle.chess_types.specs.declared.board.man.Man.{Man}
-use Rattle.chess_types.specs.board.Board.{Look}
+use Rattle.chess_types.specs.board.Board.{Men}
 use Rattle.chess_types.specs.board.Squares.{line_of}
 use Rattle.chess_types.specs.board.Attack.{leaps, slides, slides_on, slides_to, attacks_as}
 use Rattle.chess_attack.specs.declared.way.Way.{Way}
@@ -86,24 +86,24 @@ slides_off kind at s off =
 
 -- what a man without leaps attacks is what it slides to, half by half
 pub slide_is_own :
-    (man : Man) (look : Look) (at : ℕ) (c : Colour) (s : ℕ) → at < 64 → s < 64 → leaps man.colour man.kind at s ≡ false →
-    slide man look at c s ≡ own man look at c s
+    (man : Man) (man_on : Men) (at : ℕ) (c : Colour) (s : ℕ) → at < 64 → s < 64 → leaps man.colour man.kind at s ≡ false →
+    slide man man_on at c s ≡ own man man_on at c s
 unfolding attacks_as
-slide_is_own man look at c s hat hs still =
-    let g : Axis → Way → ℕ = λ axis way. slide_on man look axis way at c s in
+slide_is_own man man_on at c s hat hs still =
+    let g : Axis → Way → ℕ = λ axis way. slide_on man man_on axis way at c s in
     let off : (axis : Axis) (way : Way) → on_half axis way at s ≡ false → g axis way ≡ 0 =
     λ axis way h. rw (h, and-false, and-false) refl in
     elim (some_half at s) [
       | inl on ↦
           let (axis, (way, half)) : (axis : Axis) × ((way : Way) × (on_half axis way at s ≡ true)) = on in
-          let all : slide man look at c s ≡ slide_on man look axis way at c s = eight_on g at s off axis way hat hs half in
+          let all : slide man man_on at c s ≡ slide_on man man_on axis way at c s = eight_on g at s off axis way hat hs half in
           let p : (line_of axis at ≡ line_of axis s) × Towards way at s = half_parts axis way at s half in
           let same : slides_to man.kind at s ≡ slides man.kind axis =
           slides_to_on man.kind axis at s hat hs (apart_from way at s p.1) p.0 in
-          let here : slide_on man look axis way at c s ≡ own man look at c s = rw (half, still, same) refl in
+          let here : slide_on man man_on axis way at c s ≡ own man man_on at c s = rw (half, still, same) refl in
           all ∙ here
       | inr none ↦
-          let nothing : slide man look at c s ≡ 0 = eight_off g at s off none in
-          let never : own man look at c s ≡ 0 = rw (still, slides_off man.kind at s none, and-false) refl in
+          let nothing : slide man man_on at c s ≡ 0 = eight_off g at s off none in
+          let never : own man man_on at c s ≡ 0 = rw (still, slides_off man.kind at s none, and-false) refl in
           nothing ∙ sym never
     ]

@@ -8,7 +8,7 @@ use Rattle.std.proofs.lemmas.Bool.{and_parts, and_from, or_cases, or_left, or_ri
 use Rattle.chess_types.specs.declared.board.axis.Axis.{Axis}
 use Rattle.chess_types.specs.declared.board.man.Colour.{Colour}
 use Rattle.chess_types.specs.declared.board.man.Man.{Man}
-use Rattle.chess_types.specs.board.Board.{Look}
+use Rattle.chess_types.specs.board.Board.{Men}
 use Rattle.chess_types.specs.board.Men.{opponent}
 use Rattle.chess_types.specs.board.Squares.{is_between, line_of}
 use Rattle.chess_types.specs.board.Attack.{is_attacked, is_clear, slides_to, attacks_as}
@@ -104,26 +104,26 @@ stop_alone k a t off =
     ]
 
 -- the first man on a half, who moves along it, attacks the square
-seen_attacks : (look : Look) (c : Colour) (k : ℕ) (axis : Axis) (way : Way) → k < 64 → is_attacked_along look axis way k (opponent c) ≡ true →
-    is_attacked look (opponent c) k ≡ true
+seen_attacks : (man_on : Men) (c : Colour) (k : ℕ) (axis : Axis) (way : Way) → k < 64 → is_attacked_along man_on axis way k (opponent c) ≡ true →
+    is_attacked man_on (opponent c) k ≡ true
 unfolding attacks_as
-seen_attacks look c k axis way hk h =
-    let (f, m, seen) : (f : ℕ) × (m : Man) × IsSeen look axis way k (opponent c) f m = seen_parts look axis way k (opponent c) h in
+seen_attacks man_on c k axis way hk h =
+    let (f, m, seen) : (f : ℕ) × (m : Man) × IsSeen man_on axis way k (opponent c) f m = seen_parts man_on axis way k (opponent c) h in
     let p = half_parts axis way k f seen.first.half in
     let along : slides_to m.kind f k ≡ true =
     slides_to_on m.kind axis f k seen.first.on_board hk (λ e. apart_from way k f p.1 (sym e)) (sym p.0) ∙ seen.moves in
-    let clear : is_clear look f k ≡ true = clear_flip look f k ∙ seen.first.clear in
-    let attacks : attacks_as m look f k ≡ true = or_right _ (slides_to m.kind f k && is_clear look f k) (and_from _ _ along clear) in
-    attacked_from look (opponent c) k f seen.first.on_board (rw (seen.first.holds, seen.mine) attacks)
+    let clear : is_clear man_on f k ≡ true = clear_flip man_on f k ∙ seen.first.clear in
+    let attacks : attacks_as m man_on f k ≡ true = or_right _ (slides_to m.kind f k && is_clear man_on f k) (and_from _ _ along clear) in
+    attacked_from man_on (opponent c) k f seen.first.on_board (rw (seen.first.holds, seen.mine) attacks)
 
 -- a king who isn't attacked has no shade behind him
-pub no_shade : (look : Look) (c : Colour) (k s : ℕ) → k < 64 → is_attacked look (opponent c) k ≡ false → round (shaded_on look c k s) ≡ false
-no_shade look c k s hk quiet =
-    elim (cases_Bool (round (shaded_on look c k s))) [
+pub no_shade : (man_on : Men) (c : Colour) (k s : ℕ) → k < 64 → is_attacked man_on (opponent c) k ≡ false → round (shaded_on man_on c k s) ≡ false
+no_shade man_on c k s hk quiet =
+    elim (cases_Bool (round (shaded_on man_on c k s))) [
       | inr e ↦ e
       | inl h ↦
-          let (axis, (way, on)) : (axis : Axis) × ((way : Way) × (shaded_on look c k s axis way ≡ true)) = round_at (shaded_on look c k s) h in
-          absurd (true≢false (sym (seen_attacks look c k axis (opposite way) hk (and_parts _ _ on).0) ∙ quiet))
+          let (axis, (way, on)) : (axis : Axis) × ((way : Way) × (shaded_on man_on c k s axis way ≡ true)) = round_at (shaded_on man_on c k s) h in
+          absurd (true≢false (sym (seen_attacks man_on c k axis (opposite way) hk (and_parts _ _ on).0) ∙ quiet))
     ]
 
 -- one man more is stopped

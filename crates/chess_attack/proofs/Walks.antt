@@ -6,7 +6,7 @@ use Rattle.chess_attack.specs.declared.way.Way.TheVariants.{Up, Down}
 use Rattle.chess_types.specs.declared.board.axis.Axis.{Axis}
 use Rattle.chess_types.specs.declared.board.man.Man.{Man}
 use Rattle.chess_types.specs.board.Squares.{line_of, is_between}
-use Rattle.chess_types.specs.board.Board.{Look}
+use Rattle.chess_types.specs.board.Board.{Men}
 use Rattle.chess_attack.specs.steps.Halves.{on_half}
 use Rattle.chess_attack.proofs.Axes.{BetweenOn, between_parts, between_from, Towards, half_parts, half_from, on_the_axis}
 
@@ -71,8 +71,8 @@ none_since None h = refl
 none_since (Some m) h = cc
 
 -- a walk from `at` that stands on `here`
-pub record Walked (look : Look) (axis : Axis) (way : Way) (at here : ℕ) : Type 0 where
+pub record Walked (man_on : Men) (axis : Axis) (way : Way) (at here : ℕ) : Type 0 where
   pub from_board : at < 64
   pub on_board : here < 64
   pub beyond : (s : ℕ) → s < 64 → on_half axis way here s ≡ true → on_half axis way at s ≡ true
-  pub bare : (s : ℕ) → s < 64 → on_half axis way at s ≡ true → on_half axis way here s ≡ false → look s ≡ None
+  pub bare : (s : ℕ) → s < 64 → on_half axis way at s ≡ true → on_half axis way here s ≡ false → man_on s ≡ None

@@ -9,7 +9,7 @@
 use Rattle.std.specs.Prelude.{ℕ, ◌≡◌, ◌+◌, ◌-◌, ◌^◌, ◌<◌, ◌≤◌, List, slice_index, sum_by}
 use Rattle.chess_types.specs.declared.board.man.Colour.{Colour}
 use Rattle.chess_types.specs.declared.board.man.Colour.TheVariants.{White, Black}
-use Rattle.chess_types.specs.board.Board.{Board, Look, man_at}
+use Rattle.chess_types.specs.board.Board.{Board, Men, man_at}
 use Rattle.chess_types.specs.board.Squares.{squares}
 use Rattle.chess_types.specs.board.Attack.{count, distance}
 
@@ -33,7 +33,7 @@ pub record AreCounts (kept : KeptCounts) (board : Board) : Type 0 where
   pub each : (colour : Colour) (square : ℕ) → square < 64 → count_in kept colour square ≡ count (man_at board) colour square
 
 -- the sum, over both colours and all squares, of the difference of the attack counts of two boards
-unfoldable pub changed_of : Look → Look → ℕ
+unfoldable pub changed_of : Men → Men → ℕ
 changed_of before after =
     sum_by (λ s. distance (count before White s) (count after White s) + distance (count before Black s) (count after Black s)) squares
 

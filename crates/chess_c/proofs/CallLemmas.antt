@@ -1,19 +1,60 @@
 -- What is said of a call on a slot that is known to hold a board.
-use Rattle.std.proofs.Common.{◌≡◌, ℕ, List, sym, subst}
+use Rattle.std.proofs.Common.{◌≡◌, ◌∙◌, ℕ, List, ap, sym, subst}
 use Rattle.std.specs.Prelude.{Option, Some, Result}
 use Rattle.chess_tree.specs.GameTree.{TreeParts}
+use Rattle.chess_uci.specs.declared.event.Event.{Event}
+use Rattle.chess_uci.specs.Machine.{State}
 use Rattle.chess_cli.specs.declared.board_command.refusal.Refusal.{Refusal}
 use Rattle.chess_cli.specs.Answers.{Tells}
 use Rattle.chess_cli.specs.Requests.{request}
-use Rattle.chess_c.specs.Calls.{Acts, IsAnswered}
+use Rattle.chess_slots.specs.Answers.{IsReplied}
+use Rattle.chess_slots.specs.Handed.{IsToldBy}
+use Rattle.chess_c.specs.Calls.{Acts, IsAnswered, IsReplying}
 use Rattle.chess_c.specs.Codes.{ended_code}
-use Rattle.chess_c.specs.Handed.{IsToldBy}
+use Rattle.chess_c.specs.Held.{Held, Searching, with_board, with_engine, with_search}
+use Rattle.chess_c.specs.Loads.{Loads, LoadsFrom}
+use Rattle.chess_c.specs.Searches.{IsBegun, IsBegunFrom, IsSliced, SlicedFrom}
 
-pub acts_some : (ends : TreeParts → Result (Unit {0}) Refusal → TreeParts → Type 0) → (old new : Option TreeParts) → (board after : TreeParts)
-    → (ended : Result (Unit {0}) Refusal) → (code : ℕ) → old ≡ Some board → new ≡ Some after → code ≡ ended_code ended → ends board ended after → Acts ends old code new
-acts_some ends old new board after ended code is en ec end = subst (λ (o : Option TreeParts). Acts ends o code new) (sym is) (ended, after, end, ec, en)
+pub acts_some : (ends : TreeParts → Result (Unit {0}) Refusal → TreeParts → Type 0) → (old new : Option Held) → (held : Held) → (after : TreeParts)
+    → (ended : Result (Unit {0}) Refusal) → (code : ℕ) → old ≡ Some held → new ≡ Some (with_board after held) → code ≡ ended_code ended → ends held.board ended after → Acts ends old code new
+acts_some ends old new held after ended code is en ec end = subst (λ (o : Option Held). Acts ends o code new) (sym is) (ended, after, end, ec, en)
 
-pub answered_some : (line : List ℕ) → (old new : Option TreeParts) → (board after : TreeParts) → (text : List ℕ) → (code count count' : ℕ) → (room room' : List ℕ)
-    → old ≡ Some board → new ≡ Some after → Tells board (request line) text after → IsToldBy text code count count' room room' → IsAnswered old line code count count' room room' new
-answered_some line old new board after text code count count' room room' is en tells told =
-    subst (λ (o : Option TreeParts). IsAnswered o line code count count' room room' new) (sym is) (text, after, tells, told, en)
+-- the others are as they were
+same_but_board : (held after : Held) → after.search ≡ held.search → after.engine ≡ held.engine → after ≡ with_board after.board held
+same_but_board held after ks ke =
+    ap (λ (s : Option Searching). record { board = after.board; search = s; engine = after.engine }) ks ∙ ap (λ (e : State). record { board = after.board; search = held.search; engine = e }) ke
+
+same_but_search : (held after : Held) → after.board ≡ held.board → after.engine ≡ held.engine → after ≡ with_search after.search held
+same_but_search held after kb ke =
+    ap (λ (b : TreeParts). record { board = b; search = after.search; engine = after.engine }) kb ∙ ap (λ (e : State). record { board = held.board; search = after.search; engine = e }) ke
+
+same_but_engine : (held after : Held) → after.board ≡ held.board → after.search ≡ held.search → after ≡ with_engine after.engine held
+same_but_engine held after kb ks =
+    ap (λ (b : TreeParts). record { board = b; search = after.search; engine = after.engine }) kb ∙ ap (λ (s : Option Searching). record { board = held.board; search = s; engine = after.engine }) ks
+
+pub answered_some : (line : List ℕ) → (old new : Option Held) → (held after : Held) → (text : List ℕ) → (code count count' : ℕ) → (room room' : List ℕ)
+    → old ≡ Some held → new ≡ Some after → after.search ≡ held.search → after.engine ≡ held.engine → Tells held.board (request line) text after.board → IsToldBy text code count count' room room'
+    → IsAnswered old line code count count' room room' new
+answered_some line old new held after text code count count' room room' is en ks ke tells told =
+    subst (λ (o : Option Held). IsAnswered o line code count count' room room' new) (sym is) (text, after.board, tells, told, en ∙ ap (λ (h : Held). Some h) (same_but_board held after ks ke))
+
+pub replying_some : (event : Event) → (old new : Option Held) → (held after : Held) → (code count count' : ℕ) → (room room' : List ℕ)
+    → old ≡ Some held → new ≡ Some after → after.board ≡ held.board → after.search ≡ held.search → IsReplied event held.engine after.engine code count' room room'
+    → IsReplying event old code count count' room room' new
+replying_some event old new held after code count count' room room' is en kb ks replied =
+    subst (λ (o : Option Held). IsReplying event o code count count' room room' new) (sym is) (after.engine, replied, en ∙ ap (λ (h : Held). Some h) (same_but_engine held after kb ks))
+
+pub begun_some : (depth : ℕ) → (old new : Option Held) → (held after : Held) → (code : ℕ) → old ≡ Some held → new ≡ Some after → after.board ≡ held.board → after.engine ≡ held.engine
+    → IsBegunFrom depth held.board code held.search after.search → IsBegun depth old code new
+begun_some depth old new held after code is en kb ke begun =
+    subst (λ (o : Option Held). IsBegun depth o code new) (sym is) (after.search, begun, en ∙ ap (λ (h : Held). Some h) (same_but_search held after kb ke))
+
+pub sliced_some : (old new : Option Held) → (held after : Held) → (code said said' : ℕ) → old ≡ Some held → new ≡ Some after → after.board ≡ held.board → after.engine ≡ held.engine
+    → SlicedFrom held.search code said said' after.search → IsSliced old code said said' new
+sliced_some old new held after code said said' is en kb ke sliced =
+    subst (λ (o : Option Held). IsSliced o code said said' new) (sym is) (after.search, sliced, en ∙ ap (λ (h : Held). Some h) (same_but_search held after kb ke))
+
+pub loaded_some : (text : List ℕ) → (old new : Option Held) → (held after : Held) → (code used used' : ℕ) → old ≡ Some held → new ≡ Some after → after.search ≡ held.search → after.engine ≡ held.engine
+    → LoadsFrom text held.board code used used' after.board → Loads text old code used used' new
+loaded_some text old new held after code used used' is en ks ke loads =
+    subst (λ (o : Option Held). Loads text o code used used' new) (sym is) (after.board, loads, en ∙ ap (λ (h : Held). Some h) (same_but_board held after ks ke))

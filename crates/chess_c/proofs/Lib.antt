@@ -1,6 +1,5 @@
 pub mod CallLemmas
-pub mod GameLemmas
 pub mod PutLemmas
+pub mod SearchLemmas
 pub mod SlotValues
-pub mod TextLemmas
-pub mod Values
+pub mod WordLemmas

@@ -54,7 +54,7 @@ put_squares f old room i le ge e so_far =
     let at : i ≡ length (map f squares) = omega (arith, n) in
     put_full (map f squares) old room (omega (arith, n, e)) (subst (PutSoFar (map f squares) old room) at so_far)
 
-pub same_map : (f g : ℕ → ℕ) → ((s : ℕ) → s < 64 → f s ≡ g s) → map f squares ≡ map g squares
-same_map f g same =
-    ext_get_or 0 (map f squares) (map g squares) (many f ∙ sym (many g))
-    (λ i lt. let on_board : i < 64 = omega (arith, lt, many f) in at_square f i 0 on_board ∙ same i on_board ∙ sym (at_square g i 0 on_board))
+pub same_map : {X : Type 0} → X → (f g : ℕ → X) → ((s : ℕ) → s < 64 → f s ≡ g s) → map f squares ≡ map g squares
+same_map x f g same =
+    ext_get_or x (map f squares) (map g squares) (many f ∙ sym (many g))
+    (λ i lt. let on_board : i < 64 = omega (arith, lt, many f) in at_square f i x on_board ∙ same i on_board ∙ sym (at_square g i x on_board))

@@ -6,11 +6,20 @@
 --   IsWritten    the text of a move in standard algebraic notation
 --   IsBest       the best move and its value
 --   IsBestAt     the same for a depth of 1 to 16 plies
+--   IsMoveHere   the move that leads to a node, or that it is the root
 --   flag         1 for what holds
-use Rattle.std.specs.Prelude.{◌≡◌, ℕ, ℤ, nat_le, Bool, true, false, ◌&&◌, List, Option, Some, None, Result, Ok, Err}
+--   colour_in    a colour by its number: 0 for White, and 1 for Black
+--   attackers_of   the men of a colour that attack a square, as a word: the bit of each man's square is 1
+--   IsAttackedBy   that word, for numbers that are a colour and a square
+use Rattle.std.specs.Prelude.{◌≡◌, ◌==◌, ℕ, ℤ, nat_le, nat_lt, Bool, true, false, ◌&&◌, if◌then◌else◌, List, Option, Some, None, Result, Ok, Err}
+use Rattle.chess_types.specs.declared.board.man.Colour.{Colour}
+use Rattle.chess_types.specs.declared.board.man.Colour.TheVariants.{White, Black}
+use Rattle.chess_types.specs.declared.board.man.Man.{Man}
 use Rattle.chess_types.specs.declared.board.outcome.Claims.{Claims}
 use Rattle.chess_types.specs.board.MoveParts.{MoveParts}
-use Rattle.chess_types.specs.board.Position.{State}
+use Rattle.chess_types.specs.board.Position.{PositionParts}
+use Rattle.chess_types.specs.board.Attack.{attacks_for}
+use Rattle.chess_types.specs.board.Bits.{word_where}
 use Rattle.chess_types.specs.board.Legal.{is_legal, legal_moves}
 use Rattle.chess_types.specs.board.Lines.{Line, last}
 use Rattle.chess_types.specs.board.Outcome.{claims_with}
@@ -18,12 +27,13 @@ use Rattle.chess_san.specs.declared.fault.SanFault.{SanFault}
 use Rattle.chess_san.specs.Writing.{san}
 use Rattle.chess_search.specs.Best.{best}
 use Rattle.chess_tree.specs.GameTree.{TreeParts}
-use Rattle.chess_cli.specs.declared.board_command.refusal.Refusal.TheVariants.{Argument, Illegal}
+use Rattle.chess_cli.specs.declared.board_command.refusal.Refusal.TheVariants.{Argument, AtRoot, Illegal}
 use Rattle.chess_cli.specs.Refusals.{san_refusal}
 use Rattle.chess_cli.specs.Answers.{Effect, Refuses, move_effect}
 use Rattle.chess_c.specs.declared.moves.CMove.{CMove}
-use Rattle.chess_c.specs.Codes.{claims_code, none_best, ok, refusal_code}
-use Rattle.chess_c.specs.Handed.{IsHanded}
+use Rattle.chess_slots.specs.Codes.{ok}
+use Rattle.chess_slots.specs.Handed.{IsHanded}
+use Rattle.chess_c.specs.Codes.{claims_code, none_best, refusal_code}
 use Rattle.chess_c.specs.Moves.{shown}
 
 -- a move is made, if it is one
@@ -47,12 +57,12 @@ IsRead (Ok m) code said said' = (code ≡ ok) × (said' ≡ shown m)
 IsRead (Err fault) code said said' = (code ≡ refusal_code (san_refusal fault)) × (said' ≡ said)
 
 -- by whether the move is legal
-abbrev pub WrittenIf : Bool → State → MoveParts → (code count count' : ℕ) → (old new : List ℕ) → Type 0
+abbrev pub WrittenIf : Bool → PositionParts → MoveParts → (code count count' : ℕ) → (old new : List ℕ) → Type 0
 WrittenIf true p m code count count' old new = IsHanded (san p m) code count' old new
 WrittenIf false p m code count count' old new = (code ≡ refusal_code Illegal) × (count' ≡ count) × (new ≡ old)
 
 -- the text of a legal move is handed out
-abbrev pub IsWritten : Option MoveParts → State → (code count count' : ℕ) → (old new : List ℕ) → Type 0
+abbrev pub IsWritten : Option MoveParts → PositionParts → (code count count' : ℕ) → (old new : List ℕ) → Type 0
 IsWritten None p code count count' old new = (code ≡ refusal_code Illegal) × (count' ≡ count) × (new ≡ old)
 IsWritten (Some m) p code count count' old new = WrittenIf (is_legal p m) p m code count count' old new
 
@@ -69,6 +79,29 @@ BestIf false line depth code said said' value value' = (code ≡ refusal_code Ar
 -- the same for a depth from 1 to 16
 abbrev pub IsBestAt : Line → (depth code : ℕ) → (said said' : CMove) → (value value' : ℤ) → Type 0
 IsBestAt line depth code said said' value value' = BestIf (nat_le 1 depth && nat_le depth 16) line depth code said said' value value'
+
+-- the move that leads to a node is handed out; none leads to the root
+abbrev pub IsMoveHere : Option MoveParts → ℕ → (said said' : CMove) → Type 0
+IsMoveHere None code said said' = (code ≡ refusal_code AtRoot) × (said' ≡ said)
+IsMoveHere (Some m) code said said' = (code ≡ ok) × (said' ≡ shown m)
+
+-- a colour by its number
+abbrev pub colour_in : ℕ → Option Colour
+colour_in code = if code == 0 then Some White else if code == 1 then Some Black else None
+
+-- a bit for each square with a man of the colour that attacks the square (FIDE Laws 3.1 to 3.8)
+abbrev pub attackers_of : (ℕ → Option Man) → Colour → ℕ → ℕ
+attackers_of man_on colour square = word_where (λ a. attacks_for (man_on a) colour man_on a square)
+
+-- by whether the number is a square's
+abbrev pub AttackedIf : Bool → (ℕ → Option Man) → Colour → (square code said said' : ℕ) → Type 0
+AttackedIf true man_on colour square code said said' = (code ≡ ok) × (said' ≡ attackers_of man_on colour square)
+AttackedIf false man_on colour square code said said' = (code ≡ refusal_code Argument) × (said' ≡ said)
+
+-- the attackers of a square are handed out, where the numbers are a colour and a square
+abbrev pub IsAttackedBy : (ℕ → Option Man) → Option Colour → (square code said said' : ℕ) → Type 0
+IsAttackedBy man_on None square code said said' = (code ≡ refusal_code Argument) × (said' ≡ said)
+IsAttackedBy man_on (Some colour) square code said said' = AttackedIf (nat_lt square 64) man_on colour square code said said'
 
 -- 1 where it holds, else 0
 abbrev pub flag : Bool → ℕ

@@ -1,8 +1,8 @@
 pub mod Asked
 pub mod Calls
 pub mod Codes
-pub mod Games
-pub mod Handed
+pub mod Held
+pub mod Loads
 pub mod Moves
+pub mod Searches
 pub mod Slots
-pub mod Texts

@@ -1,29 +1,33 @@
-ghost use Rattle.std.specs.Prelude.{◌≡◌, map};
+ghost use Rattle.std.specs.Prelude.{◌≡◌, ◌<◌, ℕ, map};
+ghost use Rattle.std.specs.FinSet.{contains};
 ghost use Rattle.chess_types.specs.declared.board.man.Colour.TheVariants.{Black, White};
-ghost use Rattle.chess_types.specs.board.Attack.{checks_from, count};
+ghost use Rattle.chess_types.specs.board.Attack.{attacks_for, checks_from, count};
 ghost use Rattle.chess_types.specs.board.Legal.{legal_moves};
 ghost use Rattle.chess_types.specs.board.Lines.{last};
 ghost use Rattle.chess_types.specs.board.Outcome.{claims, status};
-ghost use Rattle.chess_types.specs.board.Position.{look};
+ghost use Rattle.chess_types.specs.board.Position.{man_on};
 ghost use Rattle.chess_types.specs.board.Repetition.{repetitions};
 ghost use Rattle.chess_types.specs.board.Squares.{squares};
 ghost use Rattle.chess_eval.specs.Evaluation.{evaluation};
 ghost use Rattle.chess_fen.specs.Writing.{written};
-ghost use Rattle.chess_san.specs.Naming.{reading};
+ghost use Rattle.chess_san.specs.Naming.{san_reading};
 ghost use Rattle.chess_tree.specs.GameTree.{line_to};
-ghost use Rattle.chess_c.specs.Asked.{IsBestAt, IsClaimed, IsRead, IsWritten, claims_in, flag};
+ghost use Rattle.chess_c.specs.Asked.{IsAttackedBy, IsBestAt, IsClaimed, IsRead, IsWritten, attackers_of, claims_in, colour_in, flag};
 ghost use Rattle.chess_c.specs.Calls.{Asks};
-ghost use Rattle.chess_c.specs.Codes.{claims_code, outcome_code};
-ghost use Rattle.chess_c.specs.Handed.{IsHanded};
+ghost use Rattle.chess_slots.specs.Codes.{outcome_code};
+ghost use Rattle.chess_slots.specs.Handed.{IsHanded};
+ghost use Rattle.chess_c.specs.Codes.{claims_code};
 ghost use Rattle.chess_c.specs.Moves.{move_in, shown};
 
-use crate::codes::{ARGUMENT, EMPTY, ILLEGAL, NONE, OK, claims_code, outcome_code, refusal_code};
+use crate::codes::{ARGUMENT, NONE, claims_code, refusal_code};
 use crate::moves::{CMove, hand_moves};
 use crate::slot::{Slot, put, take};
-use crate::squares::{put_counts, put_set};
-use crate::texts::hand;
+use crate::squares::{put_counts, put_set, word_of};
+use chess_attack::attackers;
 use chess_cli::{Board, Refusal};
-use chess_types::Colour;
+use chess_play::Live;
+use chess_slots::{EMPTY, ILLEGAL, OK, hand, outcome_code};
+use chess_types::{Colour, Square, SquareSet};
 use std::alloc::Global;
 
 /// How the game stands: 0 mate, 1 stalemate, 2 dead, 3 fivefold repetition, 4 the 75 moves, 5 play (FIDE Laws 5.1.1, 5.2.1, 5.2.2, 9.6).
@@ -101,7 +105,7 @@ pub extern "C" fn jatshegi_board_repetitions(alloc: Global, slot: &mut Slot, tim
 /// The evaluation, in centipawns for White.
 #[unsafe(no_mangle)]
 pub extern "C" fn jatshegi_board_evaluation(alloc: Global, slot: &mut Slot, value: &mut i32) -> u32
-    ensures { Asks (value.new ≡ value.old) (λ board code. (code ≡ 0) × (value.new ≡ evaluation (look (last (line_to board))))) slot.old.held result slot.new.held }
+    ensures { Asks (value.new ≡ value.old) (λ board code. (code ≡ 0) × (value.new ≡ evaluation (man_on (last (line_to board))))) slot.old.held result slot.new.held }
 {
     let Some(session) = take(slot, alloc) else {
         return EMPTY;
@@ -119,7 +123,7 @@ pub extern "C" fn jatshegi_board_counts(
     white: &mut [u8; 64],
     black: &mut [u8; 64],
 ) -> u32
-    ensures { Asks ((white.new ≡ white.old) × (black.new ≡ black.old)) (λ board code. (code ≡ 0) × (white.new ≡ map (count (look (last (line_to board))) White) squares) × (black.new ≡ map (count (look (last (line_to board))) Black) squares)) slot.old.held result slot.new.held }
+    ensures { Asks ((white.new ≡ white.old) × (black.new ≡ black.old)) (λ board code. (code ≡ 0) × (white.new ≡ map (count (man_on (last (line_to board))) White) squares) × (black.new ≡ map (count (man_on (last (line_to board))) Black) squares)) slot.old.held result slot.new.held }
 {
     let Some(session) = take(slot, alloc) else {
         return EMPTY;
@@ -132,7 +136,7 @@ pub extern "C" fn jatshegi_board_counts(
 
 // Which squares have a man that checks the side to move.
 fn put_checks(board: &Board<'static, Global>, checks: &mut [u8; 64])
-    ensures { checks.new ≡ map (λ square. flag (checks_from (look (last (line_to board.now))) (last (line_to board.now)).side square)) squares }
+    ensures { checks.new ≡ map (λ square. flag (checks_from (man_on (last (line_to board.now))) (last (line_to board.now)).side square)) squares }
 {
     put_set(board.checking(), checks);
 }
@@ -144,7 +148,7 @@ pub extern "C" fn jatshegi_board_checks(
     slot: &mut Slot,
     checks: &mut [u8; 64],
 ) -> u32
-    ensures { Asks (checks.new ≡ checks.old) (λ board code. (code ≡ 0) × (checks.new ≡ map (λ square. flag (checks_from (look (last (line_to board))) (last (line_to board)).side square)) squares)) slot.old.held result slot.new.held }
+    ensures { Asks (checks.new ≡ checks.old) (λ board code. (code ≡ 0) × (checks.new ≡ map (λ square. flag (checks_from (man_on (last (line_to board))) (last (line_to board)).side square)) squares)) slot.old.held result slot.new.held }
 {
     let Some(session) = take(slot, alloc) else {
         return EMPTY;
@@ -152,6 +156,66 @@ pub extern "C" fn jatshegi_board_checks(
     put_checks(&session.board, checks);
     put(slot, session, alloc);
     OK
+}
+
+// A colour by its number.
+fn colour_in(code: u8) -> Option<Colour>
+    ensures { result ≡ colour_in code }
+{
+    match code {
+        0 => Some(Colour::White),
+        1 => Some(Colour::Black),
+        _ => None,
+    }
+}
+
+// The men of a colour that attack a square.
+fn attackers_in(live: &Live<'_>, colour: Colour, square: Square) -> SquareSet
+    ensures { (a : ℕ) → a < 64 → contains result a ≡ attacks_for (man_on live.now.position a) colour (man_on live.now.position) a square }
+{
+    let setup = live.position();
+    attackers(&setup.placement, colour, square)
+}
+
+// The same as a word.
+fn attacking(live: &Live<'_>, colour: Colour, square: Square) -> u64
+    ensures { result ≡ attackers_of (man_on live.now.position) colour square }
+{
+    word_of(attackers_in(live, colour, square))
+}
+
+// That word, where the numbers are a colour and a square.
+fn put_attackers(live: &Live<'_>, colour: u8, square: u8, set: &mut u64) -> u32
+    ensures { IsAttackedBy (man_on live.now.position) (colour_in colour) square result set.old set.new }
+{
+    let Some(colour) = colour_in(colour) else {
+        return ARGUMENT;
+    };
+    if square >= 64 {
+        return ARGUMENT;
+    }
+    *set = attacking(live, colour, Square::from_index(square));
+    OK
+}
+
+/// The men of a colour, 0 for White and 1 for Black, that attack a square, whatever is on it: a word in which the bit of each man's square is 1, the lowest
+/// for a1. A king and pinned men attack too, a man that another is in the way of doesn't (FIDE Laws 3.1 to 3.8).
+#[unsafe(no_mangle)]
+pub extern "C" fn jatshegi_board_attackers(
+    alloc: Global,
+    slot: &mut Slot,
+    colour: u8,
+    square: u8,
+    set: &mut u64,
+) -> u32
+    ensures { Asks (set.new ≡ set.old) (λ board code. IsAttackedBy (man_on (last (line_to board))) (colour_in colour) square code set.old set.new) slot.old.held result slot.new.held }
+{
+    let Some(session) = take(slot, alloc) else {
+        return EMPTY;
+    };
+    let code = put_attackers(session.board.live(), colour, square, set);
+    put(slot, session, alloc);
+    code
 }
 
 /// The legal moves in order, and how many they are, at most 432 (FIDE Laws 3.1 to 3.10).
@@ -224,7 +288,7 @@ pub extern "C" fn jatshegi_board_write(
 
 // The move that a text names.
 fn read(board: &mut Board<'static, Global>, text: &[u8], m: &mut CMove) -> u32
-    ensures value { IsRead (reading (last (line_to board.old)) text.now) result m.old m.new }
+    ensures value { IsRead (san_reading (last (line_to board.old)) text.now) result m.old m.new }
     ensures as_before { board.new ≡ board.old }
 {
     match board.read_move(text) {
@@ -244,7 +308,7 @@ pub extern "C" fn jatshegi_board_read(
     text: &[u8],
     m: &mut CMove,
 ) -> u32
-    ensures { Asks (m.new ≡ m.old) (λ board code. IsRead (reading (last (line_to board)) text.now) code m.old m.new) slot.old.held result slot.new.held }
+    ensures { Asks (m.new ≡ m.old) (λ board code. IsRead (san_reading (last (line_to board)) text.now) code m.old m.new) slot.old.held result slot.new.held }
 {
     let Some(mut session) = take(slot, alloc) else {
         return EMPTY;

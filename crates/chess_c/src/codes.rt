@@ -1,32 +1,18 @@
 ghost use Rattle.std.specs.Prelude.{◌≡◌};
-ghost use Rattle.chess_c.specs.Codes.{claims_code, ended_code, outcome_code, refusal_code};
+ghost use Rattle.chess_c.specs.Codes.{claims_code, ended_code, refusal_code};
 
 use chess_cli::Refusal;
-use chess_types::{Claims, Status};
+use chess_slots::{ILLEGAL, MEMORY, OK};
+use chess_types::Claims;
 
-/// It is done.
-pub const OK: u32 = 0;
-
-/// There is no board in the slot.
-pub const EMPTY: u32 = 1;
-
-/// There is no memory.
-pub const MEMORY: u32 = 2;
-
-/// The move isn't legal.
-pub const ILLEGAL: u32 = 3;
+/// The cursor is at the root.
+pub const AT_ROOT: u32 = 8;
 
 /// A number is out of its range.
 pub const ARGUMENT: u32 = 9;
 
-/// The answer is longer than the room for it.
-pub const ROOM: u32 = 10;
-
 /// There is no legal move, so none is best.
 pub const NONE: u32 = 11;
-
-/// No game follows.
-pub const NO_GAME: u32 = 16;
 
 /// The status of a refusal.
 pub fn refusal_code(refusal: Refusal) -> u32
@@ -38,7 +24,7 @@ pub fn refusal_code(refusal: Refusal) -> u32
         Refusal::NoSuch => 12,
         Refusal::Illegal => ILLEGAL,
         Refusal::TooLong => 6,
-        Refusal::AtRoot => 8,
+        Refusal::AtRoot => AT_ROOT,
         Refusal::Ambiguous => 4,
         Refusal::Full => 7,
         Refusal::BadComment => 13,
@@ -56,20 +42,6 @@ pub fn ended_code(ended: Result<(), Refusal>) -> u32
     match ended {
         Ok(()) => OK,
         Err(refusal) => refusal_code(refusal),
-    }
-}
-
-/// How a game stands, as a number.
-pub fn outcome_code(outcome: Status) -> u32
-    ensures { result ≡ outcome_code outcome }
-{
-    match outcome {
-        Status::Mate => 0,
-        Status::Stalemate => 1,
-        Status::Dead => 2,
-        Status::Fivefold => 3,
-        Status::Seventyfive => 4,
-        Status::Play => 5,
     }
 }
 

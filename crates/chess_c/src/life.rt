@@ -1,12 +1,15 @@
 ghost use Rattle.std.specs.Prelude.{◌≡◌, ◌⊎◌, Some, None};
-ghost use Rattle.chess_fen.specs.Reading.{reading};
-ghost use Rattle.chess_cli.specs.Answers.{HasEffect, beginning, set_effect};
+ghost use Rattle.chess_fen.specs.Reading.{fen_reading};
+ghost use Rattle.chess_cli.specs.Answers.{HasEffect, set_effect};
 ghost use Rattle.chess_c.specs.Calls.{Acts};
+ghost use Rattle.chess_c.specs.Held.{beginning};
+ghost use Rattle.chess_c.specs.Loads.{Loads};
 
-use crate::codes::{EMPTY, MEMORY, OK, ended_code};
+use crate::codes::ended_code;
 use crate::keys::Keys;
 use crate::session::Session;
 use crate::slot::{Slot, put, take};
+use chess_slots::{EMPTY, MEMORY, OK};
 use std::alloc::Global;
 
 /// A board as a game begins, in the slot; what was there is freed. Where there is no memory the slot is as it was.
@@ -32,10 +35,10 @@ pub extern "C" fn jatshegi_board_free(alloc: Global, slot: &mut Slot)
     drop(take(slot, alloc));
 }
 
-/// Begins a tree from the position of a FEN, in place of the one that there was.
+/// Begins a tree from the position of a FEN; the one that was there is freed.
 #[unsafe(no_mangle)]
 pub extern "C" fn jatshegi_board_set(alloc: Global, slot: &mut Slot, fen: &[u8]) -> u32
-    ensures { Acts (λ board ended after. HasEffect (set_effect (reading fen.now)) board ended after) slot.old.held result slot.new.held }
+    ensures { Acts (λ board ended after. HasEffect (set_effect (fen_reading fen.now)) board ended after) slot.old.held result slot.new.held }
 {
     let Some(mut session) = take(slot, alloc) else {
         return EMPTY;
@@ -43,4 +46,24 @@ pub extern "C" fn jatshegi_board_set(alloc: Global, slot: &mut Slot, fen: &[u8])
     let ended = session.board.set(fen);
     put(slot, session, alloc);
     ended_code(ended)
+}
+
+/// Begins with the tree of the game at the start of a text (PGN), the cursor at its root, and says how many bytes of the text the game takes: 0. 16 where
+/// only whitespace follows. Where no game is there, the number of the text's first fault and 40, and the fault's place where else the bytes taken are. But
+/// for 0 the board is as it was.
+#[unsafe(no_mangle)]
+pub extern "C" fn jatshegi_board_load(
+    alloc: Global,
+    slot: &mut Slot,
+    text: &[u8],
+    used: &mut usize,
+) -> u32
+    ensures { Loads text.now slot.old.held result used.old used.new slot.new.held }
+{
+    let Some(mut session) = take(slot, alloc) else {
+        return EMPTY;
+    };
+    let code = session.load(text, used);
+    put(slot, session, alloc);
+    code
 }

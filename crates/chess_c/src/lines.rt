@@ -4,8 +4,8 @@ ghost use Rattle.chess_cli.specs.Answers.{Tells};
 ghost use Rattle.chess_cli.specs.Requests.{request};
 ghost use Rattle.chess_c.specs.Calls.{IsAnswered};
 
-use crate::codes::EMPTY;
 use crate::slot::{Slot, put, take};
+use chess_slots::EMPTY;
 use std::alloc::Global;
 
 /// Answers a line of the board, as the program does, and hands out the answer with the line feed at its end. Where the answer is longer than the room

@@ -1,8 +1,8 @@
 ghost use Rattle.std.specs.Prelude.{◌≡◌, ◌≤◌, ◌++◌, drop, length, map};
-ghost use Rattle.chess_c.specs.Handed.{IsHanded};
+ghost use Rattle.chess_slots.specs.Handed.{IsHanded};
 ghost use Rattle.chess_c.specs.Moves.{move_in, promotion_code, promotion_in, shown};
 
-use crate::codes::{OK, ROOM};
+use chess_slots::{OK, ROOM};
 use chess_types::{Kind, Move, Square};
 
 /// A move, as C sees it.

@@ -1,91 +1,165 @@
-//! A board that stays where C keeps it, with the page on which answers are written.
-ghost use Rattle.std.specs.Prelude.{◌≡◌, ℕ, List, [], ◌++◌, IfOk, MatchResult};
-ghost use Rattle.chess_cli.specs.Answers.{Tells, beginning};
+//! What stays where C keeps it: a board, a search, an engine, and the page on which answers are written.
+ghost use Rattle.std.specs.Prelude.{◌≡◌, ℕ, List, IfOk, is_some};
+ghost use Rattle.chess_cli.specs.Answers.{Tells};
 ghost use Rattle.chess_cli.specs.Requests.{request};
-ghost use Rattle.chess_c.specs.Handed.{IsHanded, IsToldBy};
+ghost use Rattle.chess_slots.specs.Answers.{IsReplied};
+ghost use Rattle.chess_slots.specs.Handed.{IsToldBy};
+ghost use Rattle.chess_c.specs.Asked.{IsBest};
+ghost use Rattle.chess_c.specs.Held.{beginning};
+ghost use Rattle.chess_c.specs.Loads.{LoadsFrom};
+ghost use Rattle.chess_c.specs.Searches.{IsBegunFrom, SlicedFrom, best_of};
 
-use crate::codes::MEMORY;
-use crate::gathered::{Gathered, Nowhere};
-use crate::texts::hand_both;
+use crate::codes::{ARGUMENT, NONE};
+use crate::moves::CMove;
+use crate::search::Search;
 use chess_cli::Board;
 use chess_key::KeyTable;
-use chess_loop::Page;
+use chess_loop::OutputBuffer;
+use chess_slots::{MEMORY, NO_GAME, OK, answer, fault_code, reply};
 use chess_tree::TreeFault;
-use chess_types::Failed;
+use chess_types::Move;
+use chess_uci::{Event, Session as Uci};
 use std::alloc::Global;
 use std::marker::Model;
 
-/// A board whose allocator and keys stay for good. Its page is empty between calls.
+/// A board, a search and an engine whose allocator and keys stay for good. The page is empty between calls.
 #[derive(Drop)]
 pub struct Session {
     pub board: Board<'static, Global>,
-    page: Page<Global>,
+    pub search: Option<Search>,
+    engine: Uci<'static, Global>,
+    page: OutputBuffer<Global>,
+    table: &'static KeyTable,
 }
 
 impl Model for Session {
     ghost use Rattle.std.specs.Prelude.{◌≡◌, []};
-    ghost use Rattle.chess_tree.specs.GameTree.{TreeParts};
-    ghost use Rattle.chess_tree.specs.steps.TreeCode.{coded_tree};
+    ghost use Rattle.chess_c.specs.Held.{Held, coded_held};
 
-    ghost Value = { TreeParts };
+    ghost Value = { Held };
 
-    ghost coded = { coded_tree };
+    ghost coded = { coded_held };
 
-    ghost view = { λ s. s.board };
+    ghost view = { λ s. record { board = s.board; search = s.search; engine = s.engine } };
 
     ghost invariant = { λ s. s.page ≡ [] };
 }
 
 impl Session {
-    /// A board as a game begins; `Memory` where there is none.
+    /// A board as a game begins, and an engine at its start; `Memory` where there is none.
     pub fn new(alloc: &'static Global, table: &'static KeyTable) -> Result<Session, TreeFault>
         ensures { IfOk result (λ s. s ≡ beginning) }
     {
-        let page = Page::new(*alloc)?;
+        let page = OutputBuffer::new(*alloc)?;
         let board = Board::new(alloc, table)?;
-        Ok(Session { board, page })
+        Ok(Session {
+            board,
+            search: None,
+            engine: Uci::new(alloc, table),
+            page,
+            table,
+        })
     }
 
     /// Answers a line, and hands out the text: 0, or `ROOM` where it is longer than the room for it, or `MEMORY` where there is none to gather it in.
     /// The line has been answered all the same.
-    pub fn answer(
-        &mut self,
-        alloc: Global,
-        line: &[u8],
-        answer: &mut [u8],
-        count: &mut usize,
-    ) -> u32
-        ensures { (text : List ℕ) × Tells self.old (request line.now) text self.new × IsToldBy text result count.old count.new answer.old answer.new }
+    pub fn answer(&mut self, alloc: Global, line: &[u8], room: &mut [u8], count: &mut usize) -> u32
+        ensures board { (text : List ℕ) × Tells self.old.board (request line.now) text self.new.board × IsToldBy text result count.old count.new room.old room.new }
+        ensures search { self.new.search ≡ self.old.search }
+        ensures engine { self.new.engine ≡ self.old.engine }
     {
-        let mut gathered = Gathered::new(alloc);
-        let told = self.board.tell_whole(line, &mut self.page, &mut gathered);
-        let code = handed(told, gathered.as_slice(), self.page.text(), answer, count);
-        clear(&mut self.page);
-        code
+        answer(&mut self.board, &mut self.page, alloc, line, room, count)
     }
-}
 
-// The two parts of an answer, where it was told.
-fn handed(
-    told: Result<(), Failed>,
-    first: &[u8],
-    second: &[u8],
-    room: &mut [u8],
-    count: &mut usize,
-) -> u32
-    ensures { MatchResult told (λ _. IsHanded (first.now ++ second.now) result count.new room.old room.new) (λ _. (result ≡ 2) × (count.new ≡ count.old) × (room.new ≡ room.old)) }
-{
-    match told {
-        Ok(()) => hand_both(first, second, room, count),
-        Err(_) => MEMORY,
+    /// What the event is replied, each reply on a line of its own.
+    pub fn event(&mut self, event: Event, room: &mut [u8], count: &mut usize) -> u32
+        ensures engine { IsReplied event.entry self.old.engine self.new.engine result count.new room.old room.new }
+        ensures board { self.new.board ≡ self.old.board }
+        ensures search { self.new.search ≡ self.old.search }
+    {
+        reply(&mut self.engine, &mut self.page, event, room, count)
     }
-}
 
-// Nothing stands on the page any more.
-fn clear(page: &mut Page<Global>)
-    ensures { page.new ≡ [] }
-{
-    let Ok(()) = page.flush(&mut Nowhere) else {
-        unreachable!();
-    };
+    /// Whether the engine searches.
+    pub fn searching(&self) -> bool
+        ensures { result ≡ is_some self.now.engine.search }
+    {
+        self.engine.searching()
+    }
+
+    /// Begins with the tree of the game at the start of a text, and says how many bytes of the text the game takes; else what `game` answers of the text.
+    pub fn load(&mut self, text: &[u8], used: &mut usize) -> u32
+        ensures board { LoadsFrom text.now self.old.board result used.old used.new self.new.board }
+        ensures search { self.new.search ≡ self.old.search }
+        ensures engine { self.new.engine ≡ self.old.engine }
+    {
+        match self.board.load(text) {
+            Ok(Some(taken)) => {
+                *used = taken;
+                OK
+            }
+            Ok(None) => NO_GAME,
+            Err(fault) => {
+                *used = fault.place as usize;
+                fault_code(fault.kind)
+            }
+        }
+    }
+
+    /// Begins a search of the position at the cursor; one that was there is ended.
+    pub fn begin(&mut self, alloc: Global, depth: u8) -> u32
+        ensures search { IsBegunFrom depth self.old.board result self.old.search self.new.search }
+        ensures board { self.new.board ≡ self.old.board }
+        ensures engine { self.new.engine ≡ self.old.engine }
+    {
+        if depth < 1 || depth > 16 {
+            return ARGUMENT;
+        }
+        match Search::start(alloc, self.table, self.board.tree(), depth) {
+            Ok(Some(search)) => {
+                self.search = Some(search);
+                OK
+            }
+            Ok(None) => NONE,
+            Err(_) => MEMORY,
+        }
+    }
+
+    /// Searches one root more, and says how many are left.
+    pub fn slice(&mut self, left: &mut usize) -> u32
+        ensures search { SlicedFrom self.old.search result left.old left.new self.new.search }
+        ensures board { self.new.board ≡ self.old.board }
+        ensures engine { self.new.engine ≡ self.old.engine }
+    {
+        let Some(search) = &mut self.search else {
+            return NONE;
+        };
+        search.next();
+        *left = search.left();
+        OK
+    }
+
+    /// The best root so far, and what it is worth.
+    pub fn so_far(&self, m: &mut CMove, value: &mut i32) -> u32
+        ensures { IsBest (best_of self.now.search) result m.old m.new value.old value.new }
+    {
+        match self.best() {
+            None => NONE,
+            Some((found, worth)) => {
+                *m = CMove::of(found);
+                *value = worth;
+                OK
+            }
+        }
+    }
+
+    // The best root so far, if a search was begun.
+    fn best(&self) -> Option<(Move, i32)>
+        ensures { result ≡ best_of self.now.search }
+    {
+        match &self.search {
+            None => None,
+            Some(search) => search.so_far(),
+        }
+    }
 }

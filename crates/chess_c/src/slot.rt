@@ -1,13 +1,13 @@
 //! Where C keeps a session: a pointer, or nothing.
 ghost use Rattle.std.specs.Prelude.{◌≡◌, Option, Some, None, is_some, MatchOption};
-ghost use Rattle.chess_c.specs.Slots.{slot_owns};
+ghost use Rattle.chess_slots.specs.Slots.{slot_owns};
+ghost use Rattle.chess_c.specs.Slots.{may_free};
 ghost use Rattle.chess_c.specs.contracts.session.Session.{the_row};
 ghost use Rattle.std.specs.Coded.{coded_option};
-ghost use Rattle.chess_tree.specs.GameTree.{TreeParts};
-ghost use Rattle.chess_tree.specs.steps.TreeCode.{coded_tree};
+ghost use Rattle.chess_c.specs.Held.{Held, coded_held};
 
-use crate::loose::Loose;
 use crate::session::Session;
+use chess_slots::Loose;
 use std::alloc::Global;
 use std::marker::Model;
 use std::mem::replace;
@@ -18,12 +18,12 @@ use std::ptr::null_mut;
 pub struct Slot {
     full: bool,
     at: *mut u8,
-    pub ghost held: { Option TreeParts } by { coded_option coded_tree },
+    pub ghost held: { Option Held } by { coded_option coded_held },
     ghost told: { full ≡ is_some held },
 }
 
 impl Model for Slot {
-    ghost also_owns = { λ s. slot_owns the_row s.held s.at };
+    ghost also_owns = { λ s. slot_owns may_free the_row s.held s.at };
 }
 
 impl Slot {

@@ -2,8 +2,8 @@
 use Rattle.std.proofs.Common.{◌≡◌, ◌⊎◌, ℕ, ◌+◌, ◌≤◌, Bool, true, false, List, [], ◌∷◌, ◌++◌, length, refl, sym, ap, subst, ◌∙◌, arith, append_assoc, append-nil, length-append, Err, inl, inr}
 use Rattle.std.proofs.lemmas.Bool.{false≢true}
 use Rattle.std.specs.Prelude.{Result, Ok, Option, Some, None, IfErr, IfOk, IfSome}
-use Rattle.chess_types.specs.bytes.Calls.{Carries, joined}
-use Rattle.chess_types.proofs.CallLemmas.{Calls-append, Carries-none, Carries-append, joined-append}
+use Rattle.byte_streams.specs.Calls.{Carries, joined}
+use Rattle.byte_streams.proofs.CallLemmas.{Calls-append, Carries-none, Carries-append, joined-append}
 use Rattle.chess_items.specs.Coming.{AtHand, Breaks, Came, unread}
 use Rattle.chess_items.specs.declared.fault.PgnFault.{PgnFault}
 use Rattle.chess_items.proofs.BreakLemmas.{came_append, came_none, each_append}

@@ -7,7 +7,7 @@ use Rattle.chess_uci.specs.Machine.{Event, Slice, Moment, State, step}
 use Rattle.chess_uci.specs.Laws.{replies, after_events}
 use Rattle.chess_uci.specs.Events.{Does}
 use Rattle.chess_uci.proofs.RunLemmas.{after-append}
-use Rattle.chess_cli.specs.Sittings.{AnsweredSoFar, IsLineEvent, Readings, WasFed, events_of, is_fed, parts_of, reply_lines, slice_parts, slices_of}
+use Rattle.chess_cli.specs.TimedSessions.{AnsweredSoFar, IsLineEvent, Readings, WasFed, events_of, is_fed, parts_of, reply_lines, slice_parts, slices_of}
 
 pub reply_lines-append : (xs ys : List Reply) → reply_lines (xs ++ ys) ≡ reply_lines xs ++ reply_lines ys
 reply_lines-append [] ys = refl

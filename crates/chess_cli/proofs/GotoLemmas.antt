@@ -7,7 +7,7 @@ use Rattle.chess_tree.proofs.EditLemmas.{path_le_height}
 use Rattle.chess_tree.proofs.WalkLemmas.{has_leads}
 use Rattle.chess_cli.specs.declared.board_command.refusal.Refusal.TheVariants.{NoSuch}
 use Rattle.chess_cli.specs.declared.board_command.numbers.PathWord.TheVariants.{TooLong}
-use Rattle.chess_cli.specs.Answers.{Refuses, if_there}
+use Rattle.chess_cli.specs.Answers.{Refuses, if_it_exists}
 use Rattle.chess_cli.specs.Numbers.{path_in, ReadsPath}
 use Rattle.chess_cli.specs.steps.Replies.{path_effect}
 
@@ -18,4 +18,4 @@ too_long t word path game reads =
       | inl there ↦ absurd (omega (arith, path_le_height reads.0 t.tree.below (has_leads reads.0 t.tree.below there), game.deep, reads.2))
       | inr out ↦ out
     ] in
-    ap (path_effect t) reads.1 ∙ ap (λ (b : Bool). if_there b (at_path reads.0 t)) nowhere
+    ap (path_effect t) reads.1 ∙ ap (λ (b : Bool). if_it_exists b (at_path reads.0 t)) nowhere

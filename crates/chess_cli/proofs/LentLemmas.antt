@@ -1,6 +1,6 @@
 -- A source that is lent: what it gives is what its owner's gives.
 use Rattle.std.proofs.Common.{◌≡◌, Bool, List, [], ◌∷◌, ℕ, sym, ap, subst, ◌∙◌, inl, inr}
-use Rattle.chess_types.specs.bytes.Calls.{Calls, Carries}
+use Rattle.byte_streams.specs.Calls.{Calls, Carries}
 use Rattle.chess_pgn.specs.Games.{Game}
 use Rattle.chess_cli.specs.Collections.{Collected, EndsAtFault, EndsInPart, EndsUnread, EndsWhole, EndsWritten}
 use Rattle.chess_cli.specs.Endings.{CollectionEnds}

@@ -10,7 +10,7 @@ pub mod PlaceLemmas
 pub mod GotoLemmas
 pub mod EventLemmas
 pub mod WorkLemmas
-pub mod SittingLemmas
+pub mod TimedSessionLemmas
 pub mod CollectionLemmas
 pub mod LentLemmas
 pub mod AgainLemmas

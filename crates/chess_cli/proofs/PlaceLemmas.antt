@@ -3,7 +3,7 @@ use Rattle.std.proofs.Common.{◌≡◌, ℕ, ◌+◌, ◌<◌, ◌≤◌, Bool,
 use Rattle.std.specs.Prelude.{codes, decimal, slice_get}
 use Rattle.std.proofs.lemmas.Option.{slice_get_within, get_or_from_slice_get}
 use Rattle.std.proofs.lemmas.List.{map-append, take_more, take-append-drop, length-take-le}
-use Rattle.chess_types.specs.declared.bytes.source.Failed.{Failed}
+use Rattle.byte_streams.specs.declared.source.Failed.{Failed}
 use Rattle.chess_cli.specs.Gaps.{gapped, parted_by}
 use Rattle.chess_cli.specs.Numbers.{path_text}
 use Rattle.chess_cli.specs.steps.Pieces.{next_place}

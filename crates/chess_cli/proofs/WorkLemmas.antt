@@ -9,7 +9,7 @@ use Rattle.chess_search.specs.Best.{best}
 use Rattle.chess_uci.specs.declared.reply.Reply.{Reply}
 use Rattle.chess_uci.specs.Machine.{Search, State, Slice, Moment, step, step_if, slice, slice_if, sliced, complete, slice_step, moment_step, end_if, is_reached, IsAhead}
 use Rattle.chess_uci.specs.Events.{Does}
-use Rattle.chess_cli.specs.Sittings.{is_fed, wants_slices}
+use Rattle.chess_cli.specs.TimedSessions.{is_fed, wants_slices}
 
 -- how many slices there may be
 abbrev pub work : Option Search → ℕ

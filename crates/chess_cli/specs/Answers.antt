@@ -10,17 +10,17 @@ use Rattle.chess_types.specs.board.Squares.{squares}
 use Rattle.chess_types.specs.board.Attack.{count, checks_from}
 use Rattle.chess_types.specs.board.Texts.{move_text, square_text}
 use Rattle.chess_types.specs.board.MoveParts.{MoveParts}
-use Rattle.chess_types.specs.board.Position.{State, look, start}
+use Rattle.chess_types.specs.board.Position.{PositionParts, man_on, start}
 use Rattle.chess_types.specs.board.Legal.{is_legal, legal_moves}
 use Rattle.chess_types.specs.board.Lines.{Line, last}
 use Rattle.chess_types.specs.board.Repetition.{repetitions}
 use Rattle.chess_types.specs.board.Outcome.{status, claims, claims_with}
 use Rattle.chess_eval.specs.Evaluation.{evaluation}
 use Rattle.chess_fen.specs.declared.fault.FenFault.{FenFault}
-use Rattle.chess_fen.specs.Reading.{reading}
+use Rattle.chess_fen.specs.Reading.{fen_reading}
 use Rattle.chess_fen.specs.Writing.{written}
 use Rattle.chess_san.specs.declared.fault.SanFault.{SanFault}
-use Rattle.chess_san.specs.Naming.{reading as move_reading}
+use Rattle.chess_san.specs.Naming.{san_reading}
 use Rattle.chess_search.specs.Best.{best}
 use Rattle.chess_search.specs.Scores.{score_text}
 use Rattle.chess_tree.specs.Forest.{Bare, count as count_children, moves_held}
@@ -73,7 +73,7 @@ abbrev pub no_memory : List ℕ
 no_memory = refused Memory
 
 -- a tree without a move, and the cursor at its root
-abbrev pub tree_from : State → TreeParts
+abbrev pub tree_from : PositionParts → TreeParts
 tree_from p = record { tree = record { start = p; comment = []; below = Bare }; path = [] }
 
 -- the board as it begins
@@ -91,7 +91,7 @@ abbrev pub says_line : List ℕ → Effect
 says_line text = Says (text ++ 10 ∷ [])
 
 -- `set`: a tree from the position, or the FEN's first fault
-abbrev pub set_effect : Result State FenFault → Effect
+abbrev pub set_effect : Result PositionParts FenFault → Effect
 set_effect (Ok position) = Does (tree_from position)
 set_effect (Err fault) = Refuses (BadFen fault)
 
@@ -113,14 +113,14 @@ play_effect t (Ok m) = move_effect t m
 play_effect t (Err fault) = Refuses (san_refusal fault)
 
 -- an effect that the root can't have, by the path to the cursor
-abbrev pub off_root : List ℕ → TreeParts → Effect
-off_root [] new = Refuses AtRoot
-off_root (place ∷ path) new = Does new
+abbrev pub not_at_root : List ℕ → TreeParts → Effect
+not_at_root [] new = Refuses AtRoot
+not_at_root (place ∷ path) new = Does new
 
 -- an effect that there is only where a node is
-abbrev pub if_there : Bool → TreeParts → Effect
-if_there true new = Does new
-if_there false new = Refuses NoSuch
+abbrev pub if_it_exists : Bool → TreeParts → Effect
+if_it_exists true new = Does new
+if_it_exists false new = Refuses NoSuch
 
 -- `comment`: the text with single spaces between its words, which may have no right brace
 abbrev pub comment_effect : TreeParts → List ℕ → Effect
@@ -137,12 +137,12 @@ claim_effect line (Ok m) = claimed (claims_with line m)
 claim_effect line (Err fault) = Refuses (san_refusal fault)
 
 -- what is asked of a position alone
-abbrev pub counts_of : State → Colour → List ℕ
-counts_of p colour = counts_text (count (look p) colour)
+abbrev pub counts_of : PositionParts → Colour → List ℕ
+counts_of p colour = counts_text (count (man_on p) colour)
 
 -- the squares of the men that give check to the side to move
-abbrev pub checks_of : State → List ℕ
-checks_of p = list_text (map square_text (filter (checks_from (look p) p.side) squares))
+abbrev pub checks_of : PositionParts → List ℕ
+checks_of p = list_text (map square_text (filter (checks_from (man_on p) p.side) squares))
 
 -- a move and its score, separated by one space
 abbrev pub best_text : Option (MoveParts × ℤ) → List ℕ
@@ -153,51 +153,51 @@ best_text (Some (m, value)) = move_text m ++ codes " " ++ score_text value
 abbrev pub effect : TreeParts → Request → Effect
 effect t Blank = Says []
 effect t New = Does beginning
-effect t (Set fen) = set_effect (reading fen)
+effect t (Set fen) = set_effect (fen_reading fen)
 effect t (Counts colour) = says_line (counts_of (last (line_to t)) colour)
-effect t Eval = says_line (signed_decimal (evaluation (look (last (line_to t)))))
+effect t Eval = says_line (signed_decimal (evaluation (man_on (last (line_to t)))))
 effect t Fen = says_line (written (last (line_to t)))
 effect t Moves = says_line (list_text (map move_text (legal_moves (last (line_to t)))))
 effect t Checks = says_line (checks_of (last (line_to t)))
-effect t (Play word) = play_effect t (move_reading (last (line_to t)) word)
-effect t Back = off_root t.path (at_path (parent t.path) t)
-effect t (Step place) = if_there (nat_lt place (count_children (nodes_here t))) (at_path (t.path ++ place ∷ []) t)
+effect t (Play word) = play_effect t (san_reading (last (line_to t)) word)
+effect t Back = not_at_root t.path (at_path (parent t.path) t)
+effect t (Step place) = if_it_exists (nat_lt place (count_children (nodes_here t))) (at_path (t.path ++ place ∷ []) t)
 effect t Start = Does (at_path [] t)
 effect t End = Does (at_path (t.path ++ main_line (nodes_here t)) t)
-effect t (Goto path) = if_there (has path t.tree.below) (at_path path t)
+effect t (Goto path) = if_it_exists (has path t.tree.below) (at_path path t)
 effect t Path = says_line (path_text t.path)
-effect t Promote = off_root t.path (promoted_here t)
-effect t Delete = off_root t.path (deleted t)
+effect t Promote = not_at_root t.path (promoted_here t)
+effect t Delete = not_at_root t.path (deleted t)
 effect t (Comment text) = comment_effect t text
-effect t (Nag nag) = off_root t.path (annotated_here nag t)
+effect t (Nag nag) = not_at_root t.path (annotated_here nag t)
 effect t Count = says_line (decimal (repetitions (line_to t)))
 effect t Status = says_line (status_text (status (line_to t)))
 effect t Claims = says_line (claims_text (claims (line_to t)))
-effect t (Claim word) = claim_effect (line_to t) (move_reading (last (line_to t)) word)
+effect t (Claim word) = claim_effect (line_to t) (san_reading (last (line_to t)) word)
 effect t (Best depth) = says_line (best_text (best false depth (line_to t) (legal_moves (last (line_to t)))))
 effect t Pgn = Says (game_text (untold t.tree))
 effect t Unknown = Refuses Command
 effect t Malformed = Refuses Argument
 
 -- what is answered
-abbrev pub told : Effect → List ℕ
-told (Says text) = text
-told (Does new) = ok
-told (Refuses refusal) = refused refusal
+abbrev pub reply : Effect → List ℕ
+reply (Says text) = text
+reply (Does new) = ok
+reply (Refuses refusal) = refused refusal
 
 -- the tree and the cursor afterwards
-abbrev pub left_by : TreeParts → Effect → TreeParts
-left_by old (Says text) = old
-left_by old (Does new) = new
-left_by old (Refuses refusal) = old
+abbrev pub tree_left_by : TreeParts → Effect → TreeParts
+tree_left_by old (Says text) = old
+tree_left_by old (Does new) = new
+tree_left_by old (Refuses refusal) = old
 
 -- what a request is answered
 abbrev pub answer : TreeParts → Request → List ℕ
-answer t request = told (effect t request)
+answer t request = reply (effect t request)
 
 -- the tree and its cursor after a request
 abbrev pub tree_after : TreeParts → Request → TreeParts
-tree_after t request = left_by t (effect t request)
+tree_after t request = tree_left_by t (effect t request)
 
 -- the requests that may ask for memory
 abbrev pub takes_memory : Request → Bool
@@ -228,14 +228,14 @@ HasEffectSurely effect old (Err refusal) new = (effect ≡ Refuses refusal) × (
 
 -- The board may answer the request with a text that this holds of, and go from the old tree and cursor to the new: as is asked, or, where that
 -- needs memory and there is none, with a refusal and everything kept.
-abbrev pub TellsBy : (List ℕ → Type 0) → TreeParts → Request → TreeParts → Type 0
-TellsBy answers old request new =
+abbrev pub MayAnswer : (List ℕ → Type 0) → TreeParts → Request → TreeParts → Type 0
+MayAnswer answers old request new =
     (answers (answer old request) × (new ≡ tree_after old request))
     ⊎ ((takes_memory request ≡ true) × IsGranted (effect old request) × answers no_memory × (new ≡ old))
 
 -- the text answers the request
 abbrev pub Tells : TreeParts → Request → List ℕ → TreeParts → Type 0
-Tells old request text new = TellsBy (λ answer. text ≡ answer) old request new
+Tells old request text new = MayAnswer (λ answer. text ≡ answer) old request new
 
 -- the refusal of a line over the limit
 abbrev pub long_line : List ℕ

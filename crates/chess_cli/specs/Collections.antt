@@ -10,7 +10,7 @@
 --   EndsInPart    a write failed or took no byte, and was the last call: a prefix of the games is written
 use Rattle.std.specs.Prelude.{◌≡◌, ◌⊎◌, ℕ, ◌<◌, Bool, true, false, List, [], ◌∷◌, ◌++◌, length}
 use Rattle.std.specs.List.{AllByRecursion}
-use Rattle.chess_types.specs.bytes.Calls.{Calls, Carries, joined}
+use Rattle.byte_streams.specs.Calls.{Calls, Carries, joined}
 use Rattle.chess_pgn.specs.Games.{Game}
 use Rattle.chess_pgn.specs.Reading.{HasNoGame, HasNoGameYet, IsAtFront, IsWhite}
 use Rattle.chess_pgn.specs.Written.{game_text}

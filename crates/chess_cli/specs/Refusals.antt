@@ -11,28 +11,28 @@ use Rattle.chess_cli.specs.declared.board_command.refusal.Refusal.{Refusal}
 use Rattle.chess_cli.specs.declared.board_command.refusal.Refusal.TheVariants.{Fen, Form, NoSuch, Illegal, TooLong, AtRoot, Ambiguous, Full, BadComment, Memory, Command, Argument, LongLine}
 
 -- a refusal's number and its name
-abbrev pub told : Refusal → ℕ × List ℕ
-told (Fen fault) = fen.told fault
-told Form = (1, codes "Form")
-told NoSuch = (1, codes "NoSuch")
-told Illegal = (2, codes "Illegal")
-told TooLong = (2, codes "TooLong")
-told AtRoot = (2, codes "AtRoot")
-told Ambiguous = (3, codes "Ambiguous")
-told Full = (3, codes "Full")
-told BadComment = (4, codes "BadComment")
-told Memory = (5, codes "Memory")
-told Command = (6, codes "Command")
-told Argument = (7, codes "Argument")
-told LongLine = (8, codes "LongLine")
+abbrev pub number_and_name : Refusal → ℕ × List ℕ
+number_and_name (Fen fault) = fen.number_and_name fault
+number_and_name Form = (1, codes "Form")
+number_and_name NoSuch = (1, codes "NoSuch")
+number_and_name Illegal = (2, codes "Illegal")
+number_and_name TooLong = (2, codes "TooLong")
+number_and_name AtRoot = (2, codes "AtRoot")
+number_and_name Ambiguous = (3, codes "Ambiguous")
+number_and_name Full = (3, codes "Full")
+number_and_name BadComment = (4, codes "BadComment")
+number_and_name Memory = (5, codes "Memory")
+number_and_name Command = (6, codes "Command")
+number_and_name Argument = (7, codes "Argument")
+number_and_name LongLine = (8, codes "LongLine")
 
 -- a refusal's number
 abbrev pub number_of : Refusal → ℕ
-number_of refusal = (told refusal).0
+number_of refusal = (number_and_name refusal).0
 
 -- a refusal's name
 abbrev pub name_of : Refusal → List ℕ
-name_of refusal = (told refusal).1
+name_of refusal = (number_and_name refusal).1
 
 -- a fault of a tree, as the board reports it
 abbrev pub tree_refusal : TreeFault → Refusal

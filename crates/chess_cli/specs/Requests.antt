@@ -3,7 +3,7 @@ use Rattle.std.specs.Prelude.{ℕ, ◌-◌, ◌==◌, nat_le, if◌then◌else�
 use Rattle.std.specs.Str.{bytes_eq}
 use Rattle.chess_types.specs.declared.board.man.Colour.{Colour}
 use Rattle.chess_types.specs.declared.board.man.Colour.TheVariants.{White, Black}
-use Rattle.chess_types.specs.bytes.Words.{words, skip_gaps, after_word, trimmed}
+use Rattle.byte_streams.specs.Words.{words, skip_gaps, after_word, trimmed}
 use Rattle.chess_cli.specs.Numbers.{number_in, depth_in, path_in}
 
 -- what a line asks of the board

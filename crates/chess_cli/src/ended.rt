@@ -6,7 +6,7 @@ use chess_loop::RunEnd;
 use chess_pgn::PgnFault;
 use itoa::Buffer;
 
-/// How a run of an engine ended.
+/// How a run of a command ended.
 #[derive(Clone, Copy, Debug, PartialEq, Eq)]
 pub enum Ended {
     /// The whole input was read, and all was written.

@@ -1,8 +1,8 @@
-//! The engines over a reader and a writer: lines in, answers out.
+//! The commands `board`, `uci` and `pgn` over a reader and a writer: bytes in, bytes out.
 //!
 //! `board` keeps a game tree by the Laws of Chess and answers a line of input at a time. Its contract is the whole of it, from bytes to
 //! bytes: what the writer takes is what the written machine of `specs/Answers.antt` answers to the lines read. `uci` keeps a session of the
-//! universal chess interface, by the written machine of `chess_uci` and the clock (`specs/Sittings.antt`), over the same loop.
+//! universal chess interface, by the written machine of `chess_uci` and the clock (`specs/TimedSessions.antt`), over the same loop.
 #![tactic(auto)]
 
 mod board_command;

@@ -8,9 +8,9 @@ ghost use Rattle.chess_loop.specs.RunEnds.{most_reads};
 ghost use Rattle.chess_cli.specs.steps.Collecting.{EndsBy, WritesAll, WritesOne};
 
 use super::ended::Ended;
+use byte_streams::{Failed, Sink, Source};
 use chess_loop::write_all;
-use chess_pgn::{FaultKind, Game, Games, GamesFault, PgnFault, write_game};
-use chess_types::{Failed, Sink, Source};
+use chess_pgn::{FaultKind, Game, Games, GamesFault, PgnFault, Texts, write_game_with};
 use std::alloc::Allocator;
 
 /// More games than all reads have bytes.
@@ -39,11 +39,12 @@ impl<'s, R: Source> Source for Lent<'s, R> {
 fn write_one<'a, A: Allocator, W: Sink>(
     alloc: &'a A,
     game: &Game<'a, A>,
+    texts: &Texts<'a, A>,
     writer: &mut W,
 ) -> Result<(), Ended>
     ensures { WritesOne W.takes W.failed (game_text (game_of game.now)) writer.old writer.new result }
 {
-    let Ok(text) = write_game(alloc, game) else {
+    let Ok(text) = write_game_with(alloc, game, texts) else {
         return Err(Ended::Memory);
     };
     match write_all(writer, text.as_slice()) {
@@ -76,11 +77,12 @@ fn write_games<'a, A: Allocator, R: Source, W: Sink>(
     requires writer { W.failed writer.old ≡ false }
     ensures { WritesAll R.gives R.failed R.ended W.takes W.failed games.old.text.source games.new.text.source writer.old writer.new result }
 {
+    let mut texts = Texts::new(alloc);
     for _game in 0..GAMES {
-        match games.next() {
+        match games.next_with(&mut texts) {
             Ok(None) => return Ended::Good,
             Ok(Some(game)) => {
-                if let Err(ended) = write_one(alloc, &game, writer) {
+                if let Err(ended) = write_one(alloc, &game, &texts, writer) {
                     return ended;
                 }
             }

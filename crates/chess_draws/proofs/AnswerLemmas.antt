@@ -4,7 +4,7 @@ use Rattle.chess_types.specs.declared.board.outcome.Status.{Status}
 use Rattle.chess_types.specs.board.MoveParts.{MoveParts}
 use Rattle.chess_types.specs.board.Attack.{in_check}
 use Rattle.chess_types.specs.board.Men.{opponent}
-use Rattle.chess_types.specs.board.Position.{State, look}
+use Rattle.chess_types.specs.board.Position.{PositionParts, man_on}
 use Rattle.chess_types.specs.board.Legal.{is_legal, legal_moves}
 use Rattle.chess_types.specs.board.Lines.{Line, last, extended}
 use Rattle.chess_types.specs.board.Repetition.{repetitions}
@@ -14,9 +14,9 @@ use Rattle.chess_draws.specs.Draws.{is_drawn_at, is_claimable_at, is_drawn, is_c
 use Rattle.chess_draws.specs.Pushes.{push_answer}
 
 -- how a line stands, from the position and the count
-pub status_is : (line : Line) (p : State) (count : ℕ) → p ≡ last line → count ≡ repetitions line → status_at p count ≡ status line
+pub status_is : (line : Line) (p : PositionParts) (count : ℕ) → p ≡ last line → count ≡ repetitions line → status_at p count ≡ status line
 unfolding status
-status_is line p count position is = ap (λ (s : State). status_at s count) position ∙ ap (status_at (last line)) is
+status_is line p count position is = ap (λ (s : PositionParts). status_at s count) position ∙ ap (status_at (last line)) is
 
 -- and what may be claimed
 pub claims_is : (line : Line) (now : Status) (count clock : ℕ) → now ≡ status line → count ≡ repetitions line → clock ≡ (last line).clock →
@@ -43,7 +43,7 @@ unfolding claims_with
 claims_with_none line m illegal = rw illegal refl
 
 -- whether it is a draw where there is a legal move
-pub drawn_is : (line : Line) (p : State) (count : ℕ) (claims : Bool) → p ≡ last line → count ≡ repetitions line →
+pub drawn_is : (line : Line) (p : PositionParts) (count : ℕ) (claims : Bool) → p ≡ last line → count ≡ repetitions line →
     (is_drawn_at p count || (claims && is_claimable_at p count)) ≡ (is_drawn line || (claims && is_claimable line))
 unfolding is_drawn is_claimable
 drawn_is line p count claims position is = λ i. is_drawn_at (position i) (is i) || (claims && is_claimable_at (position i) (is i))
@@ -63,6 +63,6 @@ without_any : (moves : List MoveParts) → nat_lt 0 (length moves) ≡ false →
 without_any [] none = refl
 without_any (m ∷ moves) none = absurd (grind (arith, none))
 
-pub winner_is : (p : State) (has checked : Bool) → has ≡ nat_lt 0 (length (legal_moves p)) → checked ≡ in_check (look p) p.side → has ≡ false → checked ≡ true →
+pub winner_is : (p : PositionParts) (has checked : Bool) → has ≡ nat_lt 0 (length (legal_moves p)) → checked ≡ in_check (man_on p) p.side → has ≡ false → checked ≡ true →
     winner p ≡ Some (opponent p.side)
 winner_is p has checked has_is checked_is none check = rw (without_any (legal_moves p) (sym has_is ∙ none), sym checked_is ∙ check) refl

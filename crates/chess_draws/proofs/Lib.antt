@@ -1,6 +1,6 @@
 -- Lemmas on lines: which positions are the same, which targets count, what the plies say, what holds of a line, and what is answered
 -- of it.
-pub mod StandLemmas
+pub mod RepetitionKeyLemmas
 pub mod SetLemmas
 pub mod SettleLemmas
 pub mod DeadLemmas
@@ -12,3 +12,4 @@ pub mod Weights
 pub mod Repeats
 pub mod LookBack
 pub mod AnswerLemmas
+pub mod FarLemmas

@@ -1,5 +1,5 @@
 -- How often a line has come to its last position, seen from its end: every second ply, as far back as the halfmove clock says.
-use Rattle.std.proofs.Common.{◌≡◌, ℕ, zero, suc, ◌+◌, ◌-◌, ◌*◌, ◌<◌, ◌≤◌, true, false, List, [], ◌∷◌, ◌++◌, length, get_or, map, take, drop, refl, sym, ap, ◌∙◌, arith}
+use Rattle.std.proofs.Common.{◌≡◌, ℕ, zero, suc, ◌+◌, ◌-◌, ◌*◌, ◌<◌, ◌≤◌, ◌/◌, min, Bool, true, false, List, [], ◌∷◌, ◌++◌, length, get_or, map, take, drop, refl, sym, ap, ◌∙◌, arith}
 use Rattle.std.specs.List.{count_by}
 use Rattle.std.proofs.lemmas.Bool.{false_from_ne_true, true≢false}
 use Rattle.std.proofs.Math.Seq.{drop-append-add}
@@ -9,7 +9,7 @@ use Rattle.chess_types.specs.declared.board.man.Colour.{Colour}
 use Rattle.chess_types.specs.declared.board.man.Colour.TheVariants.{White, Black}
 use Rattle.chess_types.specs.board.Men.{same_colour, opponent}
 use Rattle.chess_types.specs.board.MoveParts.{MoveParts}
-use Rattle.chess_types.specs.board.Position.{State, IsSetup}
+use Rattle.chess_types.specs.board.Position.{PositionParts, IsSetup}
 use Rattle.chess_types.specs.board.After.{after, after_by}
 use Rattle.chess_types.specs.board.Legal.{is_legal}
 use Rattle.chess_types.specs.board.Lines.{play, AreLegal, positions_from}
@@ -17,47 +17,51 @@ use Rattle.chess_types.specs.board.Repetition.{is_same}
 use Rattle.chess_types.proofs.MoveLemmas.{pseudo_man, legal_pseudo}
 use Rattle.chess_moves.proofs.LegalLaws.{legal_well_formed}
 use Rattle.chess_draws.specs.declared.ply.Ply.{Ply}
-use Rattle.chess_draws.specs.declared.stand.Stand.{Stand}
-use Rattle.chess_draws.specs.steps.Stands.{IsStandOf, same_ply}
+use Rattle.chess_draws.specs.declared.repetition_key.RepetitionKey.{RepetitionKey}
+use Rattle.chess_draws.specs.steps.RepetitionKeys.{IsKeyOf, same_ply}
 use Rattle.chess_draws.specs.steps.Plies.{ArePlies, move_of}
 use Rattle.chess_draws.specs.steps.LookBack.{first_same, came_back}
-use Rattle.chess_draws.proofs.StandLemmas.{same_plies}
+use Rattle.chess_draws.proofs.RepetitionKeyLemmas.{same_plies}
 use Rattle.chess_draws.proofs.SameLemmas.{is_same_self, other_side, sides_differ}
 use Rattle.chess_draws.proofs.PlyLemmas.{one_if}
 use Rattle.chess_draws.proofs.Repeats.{AreOnBoard, as_far_as_clock}
 
 -- how many positions from the k-th on are the same as q
-abbrev pub from_place : State → State → List MoveParts → ℕ → ℕ
+abbrev pub from_place : PositionParts → PositionParts → List MoveParts → ℕ → ℕ
 from_place q start ms k = count_by (is_same q) (positions_from (play start (take k ms)) (drop k ms))
 
+at_most_one : (b : Bool) → one_if b ≤ 1
+at_most_one true = omega arith
+at_most_one false = omega arith
+
 -- one place less
-one_back : (q start : State) (ms : List MoveParts) (k : ℕ) → k < length ms →
+one_back : (q start : PositionParts) (ms : List MoveParts) (k : ℕ) → k < length ms →
     from_place q start ms k ≡ one_if (is_same q (play start (take k ms))) + from_place q start ms (suc k)
 one_back q start [] k h = absurd (omega arith)
-one_back q start (m ∷ ms) zero h = sum_by-cons (λ (s : State). one_if (is_same q s)) start (positions_from (after start m) ms)
+one_back q start (m ∷ ms) zero h = sum_by-cons (λ (s : PositionParts). one_if (is_same q s)) start (positions_from (after start m) ms)
 one_back q start (m ∷ ms) (suc k) h = one_back q (after start m) ms k (omega arith)
 
 -- at the end the last position is left
-at_end : (q start : State) (ms : List MoveParts) → q ≡ play start ms → from_place q start ms (length ms) ≡ 1
+at_end : (q start : PositionParts) (ms : List MoveParts) → q ≡ play start ms → from_place q start ms (length ms) ≡ 1
 at_end q start [] is =
-    let one : one_if (is_same q start) ≡ 1 = ap (λ (s : State). one_if (is_same q s)) (sym is) ∙ ap one_if (is_same_self q) in
-    omega (arith, one, sum_by-cons (λ (s : State). one_if (is_same q s)) start [])
+    let one : one_if (is_same q start) ≡ 1 = ap (λ (s : PositionParts). one_if (is_same q s)) (sym is) ∙ ap one_if (is_same_self q) in
+    omega (arith, one, sum_by-cons (λ (s : PositionParts). one_if (is_same q s)) start [])
 at_end q start (m ∷ ms) is = at_end q (after start m) ms is
 
 -- a place divides the line
-rest_plays : (start : State) (ms : List MoveParts) (k : ℕ) → play (play start (take k ms)) (drop k ms) ≡ play start ms
+rest_plays : (start : PositionParts) (ms : List MoveParts) (k : ℕ) → play (play start (take k ms)) (drop k ms) ≡ play start ms
 rest_plays start ms zero = refl
 rest_plays start [] (suc k) = refl
 rest_plays start (m ∷ ms) (suc k) = rest_plays (after start m) ms k
 
 -- what holds from there on
-record Rest (p : State) (ms : List MoveParts) (n : ℕ) : Type 0 where
+record Rest (p : PositionParts) (ms : List MoveParts) (n : ℕ) : Type 0 where
   pub setup : IsSetup p
   pub legal : AreLegal p ms
   pub on_board : AreOnBoard ms
   pub many : length ms ≡ n
 
-rest_of : (start : State) (ms : List MoveParts) (k : ℕ) → IsSetup start → AreLegal start ms → AreOnBoard ms → k ≤ length ms →
+rest_of : (start : PositionParts) (ms : List MoveParts) (k : ℕ) → IsSetup start → AreLegal start ms → AreOnBoard ms → k ≤ length ms →
     Rest (play start (take k ms)) (drop k ms) (length ms - k)
 rest_of start ms zero setup legal on h = record { setup = setup; legal = legal; on_board = on; many = omega arith }
 rest_of start [] (suc k) setup legal on h = absurd (omega arith)
@@ -71,13 +75,13 @@ abbrev turned : ℕ → Colour → Colour
 turned zero c = c
 turned (suc n) c = turned n (opponent c)
 
-side_then : (p : State) (m : MoveParts) → is_legal p m ≡ true → (after p m).side ≡ opponent p.side
+side_then : (p : PositionParts) (m : MoveParts) → is_legal p m ≡ true → (after p m).side ≡ opponent p.side
 unfolding after
 side_then p m legal =
     let mover = pseudo_man p m (legal_pseudo p m legal) in
     ap (λ x. (after_by p x m).side) mover.1
 
-side_at : (p : State) (ms : List MoveParts) → AreLegal p ms → (play p ms).side ≡ turned (length ms) p.side
+side_at : (p : PositionParts) (ms : List MoveParts) → AreLegal p ms → (play p ms).side ≡ turned (length ms) p.side
 side_at p [] legal = refl
 side_at p (m ∷ ms) legal = side_at (after p m) ms legal.1 ∙ ap (turned (length ms)) (side_then p m legal.0)
 
@@ -92,17 +96,17 @@ turned_odd zero (suc (suc n)) c is = absurd (omega arith)
 turned_odd (suc half) (suc (suc n)) c is = ap (turned n) (twice c) ∙ turned_odd half n c (omega arith)
 
 -- an odd number of moves back the other side has the move
-odd_differs : (p : State) (ms : List MoveParts) (half : ℕ) → AreLegal p ms → length ms ≡ 2 * half + 1 → is_same (play p ms) p ≡ false
+odd_differs : (p : PositionParts) (ms : List MoveParts) (half : ℕ) → AreLegal p ms → length ms ≡ 2 * half + 1 → is_same (play p ms) p ≡ false
 odd_differs p ms half legal odd =
     sides_differ (play p ms) p
     (ap (λ c. same_colour c p.side) (side_at p ms legal ∙ turned_odd half (length ms) p.side odd) ∙ other_side p.side)
 
-module _ (start : State) (ms : List MoveParts) (setup : IsSetup start) (legal : AreLegal start ms) (on : AreOnBoard ms) where
+module _ (start : PositionParts) (ms : List MoveParts) (setup : IsSetup start) (legal : AreLegal start ms) (on : AreOnBoard ms) where
   -- a place an odd number of moves before the end
   odd_place : (k half : ℕ) → k ≤ length ms → length ms - k ≡ 2 * half + 1 → is_same (play start ms) (play start (take k ms)) ≡ false
   odd_place k half within odd =
       let rest = rest_of start ms k setup legal on within in
-      ap (λ (q : State). is_same q (play start (take k ms))) (sym (rest_plays start ms k))
+      ap (λ (q : PositionParts). is_same q (play start (take k ms))) (sym (rest_plays start ms k))
       ∙ odd_differs (play start (take k ms)) (drop k ms) half rest.legal (rest.many ∙ odd)
 
   -- a place where the position is the same is no further back than the clock says
@@ -110,9 +114,9 @@ module _ (start : State) (ms : List MoveParts) (setup : IsSetup start) (legal : 
   within_clock k within same =
       let rest = rest_of start ms k setup legal on within in
       let there : is_same (play (play start (take k ms)) (drop k ms)) (play start (take k ms)) ≡ true =
-      ap (λ (q : State). is_same q (play start (take k ms))) (rest_plays start ms k) ∙ same in
+      ap (λ (q : PositionParts). is_same q (play start (take k ms))) (rest_plays start ms k) ∙ same in
       let far = as_far_as_clock (play start (take k ms)) (drop k ms) rest.setup rest.legal rest.on_board there in
-      let clock : (play (play start (take k ms)) (drop k ms)).clock ≡ (play start ms).clock = ap (λ (q : State). q.clock) (rest_plays start ms k) in
+      let clock : (play (play start (take k ms)) (drop k ms)).clock ≡ (play start ms).clock = ap (λ (q : PositionParts). q.clock) (rest_plays start ms k) in
       omega (arith, far, clock, rest.many)
 
   -- two places less
@@ -148,31 +152,50 @@ module _ (start : State) (ms : List MoveParts) (setup : IsSetup start) (legal : 
       let near = reaches (length ms - j) far (omega arith) in
       true≢false (sym same ∙ odd_place j half (omega arith) (omega (arith, near, low)))))
 
+  -- so far back there are no more of them than every second place
+  few_from : (half : ℕ) → 2 * half ≤ length ms → from_place (play start ms) start ms (length ms - 2 * half) ≤ half + 1
+  few_from zero within =
+      let end : length ms - 2 * 0 ≡ length ms = omega arith in
+      omega (arith, ap (from_place (play start ms) start ms) end, at_end (play start ms) start ms refl)
+  few_from (suc half) within =
+      let two : length ms - 2 * suc half + 2 ≡ length ms - 2 * half = omega arith in
+      let next : from_place (play start ms) start ms (length ms - 2 * suc half + 2) ≡ from_place (play start ms) start ms (length ms - 2 * half) =
+      ap (from_place (play start ms) start ms) two in
+      let back = two_back (length ms - 2 * suc half) half (omega arith) (omega arith) in
+      omega (arith, next, back, at_most_one (is_same (play start ms) (play start (take (length ms - 2 * suc half) ms))), few_from half (omega arith))
+
+  -- the halfmove clock bounds how often the last position came up
+  pub few_same : count_by (is_same (play start ms)) (positions_from start ms) ≤ (play start ms).clock / 2 + 1
+  few_same =
+      let half = min (length ms) (play start ms).clock / 2 in
+      let all = far_enough half (play start ms).clock refl (omega arith) (λ n low high. omega arith) in
+      omega (arith, all, few_from half (omega arith))
+
 -- what is kept of the ply there shows whether the position there is the same
-first_is : (q start : State) (stand : Stand) (plies : List Ply) (k : ℕ) → IsStandOf stand q → ArePlies start plies → k < length plies →
-    first_same stand (drop k plies) ≡ is_same q (play start (take k (map move_of plies)))
-first_is q start stand [] k is are h = absurd (omega arith)
-first_is q start stand (ply ∷ plies) zero is are h = sym (same_plies q start stand ply is are.0)
-first_is q start stand (ply ∷ plies) (suc k) is are h = first_is q (after start ply.past.played) stand plies k is are.1 (omega arith)
+first_is : (q start : PositionParts) (key : RepetitionKey) (plies : List Ply) (k : ℕ) → IsKeyOf key q → ArePlies start plies → k < length plies →
+    first_same key (drop k plies) ≡ is_same q (play start (take k (map move_of plies)))
+first_is q start key [] k is are h = absurd (omega arith)
+first_is q start key (ply ∷ plies) zero is are h = sym (same_plies q start key ply is are.0)
+first_is q start key (ply ∷ plies) (suc k) is are h = first_is q (after start ply.past.played) key plies k is are.1 (omega arith)
 
 -- the plies' moves
-pub plies_on_board : (start : State) (plies : List Ply) → ArePlies start plies → AreOnBoard (map move_of plies)
+pub plies_on_board : (start : PositionParts) (plies : List Ply) → ArePlies start plies → AreOnBoard (map move_of plies)
 plies_on_board start [] are = tt
 plies_on_board start (ply ∷ plies) are = (are.0.from, are.0.to, plies_on_board (after start ply.past.played) plies are.1)
 
-module _ (start : State) (plies : List Ply) (stand : Stand) (setup : IsSetup start) (legal : AreLegal start (map move_of plies))
-    (are : ArePlies start plies) (is : IsStandOf stand (play start (map move_of plies))) where
+module _ (start : PositionParts) (plies : List Ply) (key : RepetitionKey) (setup : IsSetup start) (legal : AreLegal start (map move_of plies))
+    (are : ArePlies start plies) (is : IsKeyOf key (play start (map move_of plies))) where
   -- every second ply back
   came : (half : ℕ) → 2 * half ≤ length plies →
-      came_back stand plies half + 1 ≡ from_place (play start (map move_of plies)) start (map move_of plies) (length plies - 2 * half)
+      came_back key plies half + 1 ≡ from_place (play start (map move_of plies)) start (map move_of plies) (length plies - 2 * half)
   came zero within =
       let end : length plies - 2 * 0 ≡ length (map move_of plies) = omega (arith, length-map plies move_of) in
       sym (ap (from_place (play start (map move_of plies)) start (map move_of plies)) end ∙ at_end (play start (map move_of plies)) start (map move_of plies) refl)
   came (suc half) within =
       let long : length (map move_of plies) ≡ length plies = length-map plies move_of in
-      let q : State = play start (map move_of plies) in
-      let here : one_if (first_same stand (drop (length plies - 2 * suc half) plies)) ≡ one_if (is_same q (play start (take (length plies - 2 * suc half) (map move_of plies)))) =
-      ap one_if (first_is q start stand plies (length plies - 2 * suc half) is are (omega arith)) in
+      let q : PositionParts = play start (map move_of plies) in
+      let here : one_if (first_same key (drop (length plies - 2 * suc half) plies)) ≡ one_if (is_same q (play start (take (length plies - 2 * suc half) (map move_of plies)))) =
+      ap one_if (first_is q start key plies (length plies - 2 * suc half) is are (omega arith)) in
       let two : length plies - 2 * suc half + 2 ≡ length plies - 2 * half = omega arith in
       let next : from_place q start (map move_of plies) (length plies - 2 * suc half + 2) ≡ from_place q start (map move_of plies) (length plies - 2 * half) =
       ap (from_place q start (map move_of plies)) two in
@@ -181,7 +204,7 @@ module _ (start : State) (plies : List Ply) (stand : Stand) (setup : IsSetup sta
 
   pub looked_back : (clock half : ℕ) → clock ≡ (play start (map move_of plies)).clock → 2 * half ≤ length plies →
       ((n : ℕ) → n ≤ clock → n ≤ length plies → n ≤ 2 * half + 1) →
-      came_back stand plies half + 1 ≡ count_by (is_same (play start (map move_of plies))) (positions_from start (map move_of plies))
+      came_back key plies half + 1 ≡ count_by (is_same (play start (map move_of plies))) (positions_from start (map move_of plies))
   looked_back clock half clock_is within reaches =
       let long : length (map move_of plies) ≡ length plies = length-map plies move_of in
       let all = far_enough start (map move_of plies) setup legal (plies_on_board start plies are) half clock clock_is (omega (arith, long, within))
@@ -192,16 +215,16 @@ module _ (start : State) (plies : List Ply) (stand : Stand) (setup : IsSetup sta
       omega (arith, all, same, came half within)
 
 -- the first of the plies from a place on
-first_there : (stand : Stand) (plies : List Ply) (k : ℕ) (other : Ply) → k < length plies →
-    first_same stand (drop k plies) ≡ same_ply stand (get_or plies k other)
-first_there stand [] k other h = absurd (omega arith)
-first_there stand (ply ∷ plies) zero other h = refl
-first_there stand (ply ∷ plies) (suc k) other h = first_there stand plies k other (omega arith)
+first_there : (key : RepetitionKey) (plies : List Ply) (k : ℕ) (other : Ply) → k < length plies →
+    first_same key (drop k plies) ≡ same_ply key (get_or plies k other)
+first_there key [] k other h = absurd (omega arith)
+first_there key (ply ∷ plies) zero other h = refl
+first_there key (ply ∷ plies) (suc k) other h = first_there key plies k other (omega arith)
 
 -- that of those that are only looked at
-pub first_looked : (stand : Stand) (plies looked : List Ply) (at : ℕ) (there : Ply) → length plies ≤ at → at < length plies + length looked →
-    there ≡ get_or looked (at - length plies) there → same_ply stand there ≡ first_same stand (drop at (plies ++ looked))
-first_looked stand plies looked at there low high is =
+pub first_looked : (key : RepetitionKey) (plies looked : List Ply) (at : ℕ) (there : Ply) → length plies ≤ at → at < length plies + length looked →
+    there ≡ get_or looked (at - length plies) there → same_ply key there ≡ first_same key (drop at (plies ++ looked))
+first_looked key plies looked at there low high is =
     let place : length plies + (at - length plies) ≡ at = omega arith in
-    ap (same_ply stand) is ∙ sym (first_there stand looked (at - length plies) there (omega arith))
-    ∙ ap (first_same stand) (sym (drop-append-add plies looked (at - length plies)) ∙ ap (λ n. drop n (plies ++ looked)) place)
+    ap (same_ply key) is ∙ sym (first_there key looked (at - length plies) there (omega arith))
+    ∙ ap (first_same key) (sym (drop-append-add plies looked (at - length plies)) ∙ ap (λ n. drop n (plies ++ looked)) place)

@@ -8,7 +8,7 @@ use Rattle.chess_types.specs.declared.board.man.Man.{Man}
 use Rattle.chess_types.specs.board.Squares.{squares}
 use Rattle.chess_types.specs.board.Men.{is_pawn, same_colour}
 use Rattle.chess_types.specs.board.MoveParts.{MoveParts}
-use Rattle.chess_types.specs.board.Position.{State, IsSetup, look}
+use Rattle.chess_types.specs.board.Position.{PositionParts, IsSetup, man_on}
 use Rattle.chess_types.specs.board.Pseudo.{is_pseudo}
 use Rattle.chess_types.specs.board.After.{after, after_by, clock_after}
 use Rattle.chess_types.specs.board.Legal.{is_legal}
@@ -18,7 +18,7 @@ use Rattle.chess_types.proofs.SquareLemmas.{every_square}
 use Rattle.chess_types.proofs.MoveLemmas.{pseudo_man, legal_pseudo}
 use Rattle.chess_play.proofs.Facts.{Facts, facts}
 use Rattle.chess_play.proofs.Setups.{setup_by_facts}
-use Rattle.chess_draws.proofs.StandLemmas.{man_is}
+use Rattle.chess_draws.proofs.RepetitionKeyLemmas.{man_is}
 use Rattle.chess_draws.proofs.Weights.{weight, weight_same, Loses, loses}
 
 -- the moves are between squares of the board
@@ -27,12 +27,12 @@ AreOnBoard [] = ⊤
 AreOnBoard (m ∷ moves) = (m.from < 64) × (m.to < 64) × AreOnBoard moves
 
 -- one legal move: a setup after it; the weight doesn't rise, and falls where the clock doesn't rise
-record Stepped (p q : State) : Type 0 where
+record Stepped (p q : PositionParts) : Type 0 where
   pub setup : IsSetup q
-  pub never_more : weight (look q) ≤ weight (look p)
-  pub clock : (q.clock ≡ p.clock + 1) ⊎ (weight (look q) < weight (look p))
+  pub never_more : weight (man_on q) ≤ weight (man_on p)
+  pub clock : (q.clock ≡ p.clock + 1) ⊎ (weight (man_on q) < weight (man_on p))
 
-stepped_by : (p : State) (m : MoveParts) (man : Man) → look p m.from ≡ Some man → is_pseudo p m ≡ true → IsSetup p → m.from < 64 → m.to < 64 →
+stepped_by : (p : PositionParts) (m : MoveParts) (man : Man) → man_on p m.from ≡ Some man → is_pseudo p m ≡ true → IsSetup p → m.from < 64 → m.to < 64 →
     Stepped p (after p m)
 unfolding after
 stepped_by p m man here pseudo setup from to =
@@ -42,23 +42,23 @@ stepped_by p m man here pseudo setup from to =
       setup = setup_by_facts p man m setup from to f;
       never_more = l.never_more;
       clock =
-          elim (cases_Bool (is_pawn man.kind || is_some (look p m.to))) as (λ _. (clock_after p man m ≡ p.clock + 1) ⊎ (weight (look (after_by p (Some man) m)) < weight (look p))) [
+          elim (cases_Bool (is_pawn man.kind || is_some (man_on p m.to))) as (λ _. (clock_after p man m ≡ p.clock + 1) ⊎ (weight (man_on (after_by p (Some man) m)) < weight (man_on p))) [
             | inl loud ↦ inr (l.less loud)
             | inr quiet ↦ inl (rw quiet refl)
           ];
     })
 
-stepped : (p : State) (m : MoveParts) → is_legal p m ≡ true → IsSetup p → m.from < 64 → m.to < 64 → Stepped p (after p m)
+stepped : (p : PositionParts) (m : MoveParts) → is_legal p m ≡ true → IsSetup p → m.from < 64 → m.to < 64 → Stepped p (after p m)
 stepped p m legal setup from to =
     let pseudo = legal_pseudo p m legal in
     let mover = pseudo_man p m pseudo in
     stepped_by p m mover.0 mover.1 pseudo setup from to
 
-record Played (p : State) (moves : List MoveParts) : Type 0 where
-  pub never_more : weight (look (play p moves)) ≤ weight (look p)
-  pub clock : ((play p moves).clock ≡ p.clock + length moves) ⊎ (weight (look (play p moves)) < weight (look p))
+record Played (p : PositionParts) (moves : List MoveParts) : Type 0 where
+  pub never_more : weight (man_on (play p moves)) ≤ weight (man_on p)
+  pub clock : ((play p moves).clock ≡ p.clock + length moves) ⊎ (weight (man_on (play p moves)) < weight (man_on p))
 
-played : (p : State) (moves : List MoveParts) → IsSetup p → AreLegal p moves → AreOnBoard moves → Played p moves
+played : (p : PositionParts) (moves : List MoveParts) → IsSetup p → AreLegal p moves → AreOnBoard moves → Played p moves
 played p [] setup legal on = record { never_more = omega arith; clock = inl (omega arith) }
 played p (m ∷ moves) setup legal on =
     let one : Stepped p (after p m) = stepped p m legal.0 setup on.0 on.1 in
@@ -74,17 +74,17 @@ played p (m ∷ moves) setup legal on =
       ];
     }
 
-same_weight : (p q : State) → is_same p q ≡ true → weight (look p) ≡ weight (look q)
+same_weight : (p q : PositionParts) → is_same p q ≡ true → weight (man_on p) ≡ weight (man_on q)
 unfolding is_same
 same_weight p q h =
-    let a = and_parts (same_colour p.side q.side && list_all (λ s. same_man (look p s) (look q s)) squares && same_rights p.rights q.rights)
+    let a = and_parts (same_colour p.side q.side && list_all (λ s. same_man (man_on p s) (man_on q s)) squares && same_rights p.rights q.rights)
     (same_target (counting_target p) (counting_target q)) h in
-    let b = and_parts (same_colour p.side q.side && list_all (λ s. same_man (look p s) (look q s)) squares) (same_rights p.rights q.rights) a.0 in
-    let c = and_parts (same_colour p.side q.side) (list_all (λ s. same_man (look p s) (look q s)) squares) b.0 in
-    weight_same (look p) (look q) (λ s inside. man_is (look p s) (look q s) (every_square (λ x. same_man (look p x) (look q x)) c.1 s inside))
+    let b = and_parts (same_colour p.side q.side && list_all (λ s. same_man (man_on p s) (man_on q s)) squares) (same_rights p.rights q.rights) a.0 in
+    let c = and_parts (same_colour p.side q.side) (list_all (λ s. same_man (man_on p s) (man_on q s)) squares) b.0 in
+    weight_same (man_on p) (man_on q) (λ s inside. man_is (man_on p s) (man_on q s) (every_square (λ x. same_man (man_on p x) (man_on q x)) c.1 s inside))
 
 -- the law: a position that is the same as the last lies no further back than the clock says
-pub as_far_as_clock : (p : State) (moves : List MoveParts) → IsSetup p → AreLegal p moves → AreOnBoard moves → is_same (play p moves) p ≡ true →
+pub as_far_as_clock : (p : PositionParts) (moves : List MoveParts) → IsSetup p → AreLegal p moves → AreOnBoard moves → is_same (play p moves) p ≡ true →
     length moves ≤ (play p moves).clock
 as_far_as_clock p moves setup legal on same =
     let e = same_weight (play p moves) p same in

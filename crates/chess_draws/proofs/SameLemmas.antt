@@ -8,17 +8,17 @@ use Rattle.chess_types.specs.declared.board.man.Man.{Man}
 use Rattle.chess_types.specs.declared.board.position.Rights.{Rights}
 use Rattle.chess_types.specs.board.Squares.{squares}
 use Rattle.chess_types.specs.board.Men.{same_colour, opponent}
-use Rattle.chess_types.specs.board.Board.{Look}
+use Rattle.chess_types.specs.board.Board.{Men}
 use Rattle.chess_types.specs.board.MoveParts.{MoveParts}
-use Rattle.chess_types.specs.board.Position.{State, look}
+use Rattle.chess_types.specs.board.Position.{PositionParts, man_on}
 use Rattle.chess_types.specs.board.After.{after, after_by}
 use Rattle.chess_types.specs.board.Legal.{is_legal}
 use Rattle.chess_types.specs.board.Repetition.{same_man, same_rights, same_target, counting_target, is_same}
 use Rattle.chess_types.proofs.SameLemmas.{same_self}
 use Rattle.chess_types.proofs.MoveLemmas.{pseudo_man, legal_pseudo}
-use Rattle.chess_draws.proofs.StandLemmas.{man_self, bool_self}
+use Rattle.chess_draws.proofs.RepetitionKeyLemmas.{man_self, bool_self}
 
-men_self : (men : Look) (squares : List ℕ) → list_all (λ s. same_man (men s) (men s)) squares ≡ true
+men_self : (men : Men) (squares : List ℕ) → list_all (λ s. same_man (men s) (men s)) squares ≡ true
 men_self men [] = refl
 men_self men (s ∷ squares) = rw (man_self (men s), men_self men squares) refl
 
@@ -33,24 +33,24 @@ target_self None = refl
 target_self (Some t) = number_self t
 
 -- a position is the same as itself
-pub is_same_self : (p : State) → is_same p p ≡ true
+pub is_same_self : (p : PositionParts) → is_same p p ≡ true
 unfolding is_same
-is_same_self p = rw (same_self p.side, men_self (look p) squares, rights_self p.rights, target_self (counting_target p)) refl
+is_same_self p = rw (same_self p.side, men_self (man_on p) squares, rights_self p.rights, target_self (counting_target p)) refl
 
 pub other_side : (c : Colour) → same_colour (opponent c) c ≡ false
 other_side White = refl
 other_side Black = refl
 
-pub sides_differ : (p q : State) → same_colour p.side q.side ≡ false → is_same p q ≡ false
+pub sides_differ : (p q : PositionParts) → same_colour p.side q.side ≡ false → is_same p q ≡ false
 unfolding is_same
 sides_differ p q h = rw h refl
 
-side_on : (p : State) (there : Option Man) (m : MoveParts) (man : Man) → there ≡ Some man → same_colour (after_by p there m).side p.side ≡ false
+side_on : (p : PositionParts) (there : Option Man) (m : MoveParts) (man : Man) → there ≡ Some man → same_colour (after_by p there m).side p.side ≡ false
 side_on p there m man is = ap (λ x. same_colour (after_by p x m).side p.side) is ∙ other_side p.side
 
 -- after a legal move the other side has the move
-pub same_after : (p : State) (m : MoveParts) → is_legal p m ≡ true → is_same (after p m) p ≡ false
+pub same_after : (p : PositionParts) (m : MoveParts) → is_legal p m ≡ true → is_same (after p m) p ≡ false
 unfolding after
 same_after p m h =
-    let (man, here) : (man : Man) × (look p m.from ≡ Some man) = pseudo_man p m (legal_pseudo p m h) in
-    sides_differ (after p m) p (side_on p (look p m.from) m man here)
+    let (man, here) : (man : Man) × (man_on p m.from ≡ Some man) = pseudo_man p m (legal_pseudo p m h) in
+    sides_differ (after p m) p (side_on p (man_on p m.from) m man here)

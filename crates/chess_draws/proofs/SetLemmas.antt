@@ -16,12 +16,12 @@ use Rattle.chess_types.specs.declared.board.man.Man.{Man}
 use Rattle.chess_types.specs.declared.board.man.Kind.{Kind}
 use Rattle.chess_types.specs.declared.board.man.Kind.TheVariants.{Pawn}
 use Rattle.chess_types.specs.board.Squares.{squares}
-use Rattle.chess_types.specs.board.Board.{Look}
+use Rattle.chess_types.specs.board.Board.{Men}
 use Rattle.chess_types.specs.board.Men.{same_colour, is_king_of, is_pawn, is_king, holds_pawn}
 use Rattle.chess_types.specs.steps.KeptSets.{Gathers, is_straight, is_diagonal, holds_king, holds_straight, holds_diagonal}
 use Rattle.chess_types.specs.steps.SetWords.{squares-holds}
 use Rattle.chess_moves.proofs.LegalTargets.{inserted_if}
-use Rattle.chess_draws.specs.steps.Stands.{Settles, is_pawn_or_knight, holds_pawn_or_knight, holds_straight_or_king, holds_short}
+use Rattle.chess_draws.specs.steps.RepetitionKeys.{Settles, is_pawn_or_knight, holds_pawn_or_knight, holds_straight_or_king, holds_short}
 
 -- what a set's squares have is what it holds
 listed : (set : FinSet nat_cmp) (i : ℕ) → (contains set i ≡ true → i < 64) → list_any (λ y. y == i) (filter (contains set) squares) ≡ contains set i
@@ -41,16 +41,16 @@ left None = refl
 left (Some man) = kind_left man.kind
 
 -- who is neither rook, bishop, queen nor king
-pub others_left : (occupied straight diagonal kings rest : FinSet nat_cmp) (look : Look) → Gathers occupied is_some look →
-    Gathers straight holds_straight look → Gathers diagonal holds_diagonal look → Gathers kings holds_king look →
-    rest ≡ difference occupied (union (union straight diagonal) kings) → Gathers rest holds_pawn_or_knight look
-others_left occupied straight diagonal kings rest look are_occupied are_straight are_diagonal are_kings is s =
+pub others_left : (occupied straight diagonal kings rest : FinSet nat_cmp) (man_on : Men) → Gathers occupied is_some man_on →
+    Gathers straight holds_straight man_on → Gathers diagonal holds_diagonal man_on → Gathers kings holds_king man_on →
+    rest ≡ difference occupied (union (union straight diagonal) kings) → Gathers rest holds_pawn_or_knight man_on
+others_left occupied straight diagonal kings rest man_on are_occupied are_straight are_diagonal are_kings is s =
     ap (λ (x : FinSet nat_cmp). contains x s) is
     ∙ contains-difference nat_cmp_total occupied (union (union straight diagonal) kings) s
     ∙ ap (λ b. contains occupied s && not b) (contains-union nat_cmp_total (union straight diagonal) kings s)
     ∙ ap (λ b. contains occupied s && not (b || contains kings s)) (contains-union nat_cmp_total straight diagonal s)
     ∙ (λ i. are_occupied s i && not ((are_straight s i || are_diagonal s i) || are_kings s i))
-    ∙ left (look s)
+    ∙ left (man_on s)
 
 pawn_kind : (k : Kind) → (is_pawn_or_knight k && is_pawn k) ≡ is_pawn k
 pawn_kind Pawn = refl
@@ -61,10 +61,10 @@ pawn_there None = refl
 pawn_there (Some man) = pawn_kind man.kind
 
 -- all pawns are among them
-pub pawns_left : (rest : FinSet nat_cmp) (look : Look) → Gathers rest holds_pawn_or_knight look → ((q : ℕ) → contains rest q ≡ true → q < 64) →
-    (s : ℕ) → (list_any (λ t. t == s) (filter (contains rest) squares) && holds_pawn (look s)) ≡ holds_pawn (look s)
-pawns_left rest look are_rest below s =
-    ap (λ b. b && holds_pawn (look s)) (listed rest s (below s) ∙ are_rest s) ∙ pawn_there (look s)
+pub pawns_left : (rest : FinSet nat_cmp) (man_on : Men) → Gathers rest holds_pawn_or_knight man_on → ((q : ℕ) → contains rest q ≡ true → q < 64) →
+    (s : ℕ) → (list_any (λ t. t == s) (filter (contains rest) squares) && holds_pawn (man_on s)) ≡ holds_pawn (man_on s)
+pawns_left rest man_on are_rest below s =
+    ap (λ b. b && holds_pawn (man_on s)) (listed rest s (below s) ∙ are_rest s) ∙ pawn_there (man_on s)
 
 short_kind : (k : Kind) → ((is_pawn k || is_king k) && is_pawn_or_knight k) ≡ is_pawn k
 short_kind Pawn = refl
@@ -81,7 +81,7 @@ settled_there before after (inl same) = ap (λ x. holds_short x && holds_pawn_or
 settled_there before after (inr none) = grind (arith, none, pawn_there after)
 
 -- the pawns after a move
-pub pawns_settled : (short rest both less found : FinSet nat_cmp) (to : ℕ) (holds : Bool) (before after : Look) → Gathers short holds_short before →
+pub pawns_settled : (short rest both less found : FinSet nat_cmp) (to : ℕ) (holds : Bool) (before after : Men) → Gathers short holds_short before →
     Gathers rest holds_pawn_or_knight after → Settles to before after → both ≡ intersection short rest → less ≡ remove both to →
     found ≡ cond holds (insert less to) less → holds ≡ holds_pawn (after to) → Gathers found holds_pawn after
 pawns_settled short rest both less found to holds before after are_short are_rest settles is_both is_less is_found here s =
@@ -99,10 +99,10 @@ pawns_settled short rest both less found to holds before after are_short are_res
     ]
 
 -- two sets as one, by a test that holds where either does
-pub both_gather : (f g h : Option Man → Bool) (a b both : FinSet nat_cmp) (look : Look) → Gathers a f look → Gathers b g look →
-    ((there : Option Man) → (f there || g there) ≡ h there) → both ≡ union a b → Gathers both h look
-both_gather f g h a b both look are_a are_b either is s =
-    ap (λ (x : FinSet nat_cmp). contains x s) is ∙ contains-union nat_cmp_total a b s ∙ (λ i. are_a s i || are_b s i) ∙ either (look s)
+pub both_gather : (f g h : Option Man → Bool) (a b both : FinSet nat_cmp) (man_on : Men) → Gathers a f man_on → Gathers b g man_on →
+    ((there : Option Man) → (f there || g there) ≡ h there) → both ≡ union a b → Gathers both h man_on
+both_gather f g h a b both man_on are_a are_b either is s =
+    ap (λ (x : FinSet nat_cmp). contains x s) is ∙ contains-union nat_cmp_total a b s ∙ (λ i. are_a s i || are_b s i) ∙ either (man_on s)
 
 king_of_either : (c : Colour) (king : Bool) → ((same_colour c White && king) || (same_colour c Black && king)) ≡ king
 king_of_either White true = refl

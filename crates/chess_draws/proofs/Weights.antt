@@ -10,13 +10,13 @@ use Rattle.chess_types.specs.declared.board.man.Kind.TheVariants.{Pawn}
 use Rattle.chess_types.specs.declared.board.man.Man.{Man}
 use Rattle.chess_types.specs.declared.board.position.Wing.{Wing}
 use Rattle.chess_types.specs.declared.board.position.Wing.TheVariants.{KingSide, QueenSide}
-use Rattle.chess_types.specs.board.Board.{Board, Look, man_at}
+use Rattle.chess_types.specs.board.Board.{Board, Men, man_at}
 use Rattle.chess_types.specs.board.Squares.{rank_of}
 use Rattle.chess_types.specs.board.MoveParts.{MoveParts}
 use Rattle.chess_types.specs.board.Men.{is_pawn}
-use Rattle.chess_types.specs.board.Position.{State, IsSetup, look, rook_home}
+use Rattle.chess_types.specs.board.Position.{PositionParts, IsSetup, man_on, rook_home}
 use Rattle.chess_types.specs.board.Pseudo.{crossed}
-use Rattle.chess_types.specs.board.After.{captured_at, arriving, transferred, is_castling, with_rook, rook_of, placement_after}
+use Rattle.chess_types.specs.board.After.{captured_at, moved_man, moved_board, is_castling, with_rook, rook_of, placement_after}
 use Rattle.chess_types.proofs.Sums.{total, total-one, total-agree}
 use Rattle.chess_play.proofs.Census.{put_here, put_there, clear_here, clear_there}
 use Rattle.chess_play.proofs.Facts.{Facts}
@@ -39,11 +39,11 @@ abbrev pub weight_at : Option Man → ℕ → ℕ
 weight_at None s = 0
 weight_at (Some man) s = man_weight man.kind man.colour s
 
-unfoldable pub weight : Look → ℕ
+unfoldable pub weight : Men → ℕ
 weight men = total (λ s. weight_at (men s) s) 0 64
 
 -- boards with the same men weigh the same
-pub weight_same : (a b : Look) → ((s : ℕ) → s < 64 → a s ≡ b s) → weight a ≡ weight b
+pub weight_same : (a b : Men) → ((s : ℕ) → s < 64 → a s ≡ b s) → weight a ≡ weight b
 unfolding weight
 weight_same a b same = total-agree (λ s. weight_at (a s) s) (λ s. weight_at (b s) s) 0 64 (λ s low high. ap (λ o. weight_at o s) (same s high))
 
@@ -63,38 +63,38 @@ weight_clear board at inside =
     let n : weight_at (man_at (remove board at) at) at ≡ 0 = ap (λ o. weight_at o at) (clear_here board at) in
     omega arith
 
-module _ (p : State) (man : Man) (m : MoveParts) (setup : IsSetup p) (from : m.from < 64) (to : m.to < 64) (facts : Facts p man m) where
+module _ (p : PositionParts) (man : Man) (m : MoveParts) (setup : IsSetup p) (from : m.from < 64) (to : m.to < 64) (facts : Facts p man m) where
   cap : Captured p man m (captured_at p.target man m)
   cap = captured p man m to facts
 
-  carried_weight : weight (man_at (transferred p man m)) + weight_at (look p (captured_at p.target man m)) (captured_at p.target man m) + weight_at (Some man) m.from
-      ≡ weight (look p) + weight_at (Some (arriving man m.promo)) m.to
+  carried_weight : weight (man_at (moved_board p man m)) + weight_at (man_on p (captured_at p.target man m)) (captured_at p.target man m) + weight_at (Some man) m.from
+      ≡ weight (man_on p) + weight_at (Some (moved_man man m.promo)) m.to
   carried_weight =
       let a = weight_clear p.placement (captured_at p.target man m) cap.inside in
       let b = weight_clear (remove p.placement (captured_at p.target man m)) m.from from in
       let c : weight_at (man_at (remove p.placement (captured_at p.target man m)) m.from) m.from ≡ weight_at (Some man) m.from = ap (λ o. weight_at o m.from) (first_from p man m from to facts) in
-      let d = weight_put (remove (remove p.placement (captured_at p.target man m)) m.from) m.to (arriving man m.promo) to in
+      let d = weight_put (remove (remove p.placement (captured_at p.target man m)) m.from) m.to (moved_man man m.promo) to in
       let e : weight_at (man_at (remove (remove p.placement (captured_at p.target man m)) m.from) m.to) m.to ≡ 0 = ap (λ o. weight_at o m.to) (second_to p man m from to facts) in
       omega arith
 
-  rook_weight : (w : Wing) → is_castling man w m ≡ true → weight (man_at (with_rook p.side w (transferred p man m))) ≡ weight (man_at (transferred p man m))
+  rook_weight : (w : Wing) → is_castling man w m ≡ true → weight (man_at (with_rook p.side w (moved_board p man m))) ≡ weight (man_at (moved_board p man m))
   rook_weight w h =
       let r = ready p man m setup from to facts w h in
-      let a = weight_clear (transferred p man m) (rook_home p.side w) (rook_inside p.side w) in
-      let b = weight_put (remove (transferred p man m) (rook_home p.side w)) (crossed p.side w) (rook_of p.side) (crossed_inside p.side w) in
-      let x : weight_at (man_at (transferred p man m) (rook_home p.side w)) (rook_home p.side w) ≡ 1 = ap (λ o. weight_at o (rook_home p.side w)) r.rook in
-      let y : weight_at (man_at (remove (transferred p man m) (rook_home p.side w)) (crossed p.side w)) (crossed p.side w) ≡ 0 = ap (λ o. weight_at o (crossed p.side w)) r.free in
+      let a = weight_clear (moved_board p man m) (rook_home p.side w) (rook_inside p.side w) in
+      let b = weight_put (remove (moved_board p man m) (rook_home p.side w)) (crossed p.side w) (rook_of p.side) (crossed_inside p.side w) in
+      let x : weight_at (man_at (moved_board p man m) (rook_home p.side w)) (rook_home p.side w) ≡ 1 = ap (λ o. weight_at o (rook_home p.side w)) r.rook in
+      let y : weight_at (man_at (remove (moved_board p man m) (rook_home p.side w)) (crossed p.side w)) (crossed p.side w) ≡ 0 = ap (λ o. weight_at o (crossed p.side w)) r.free in
       omega arith
 
-  castled_weight : (w : Wing) → is_castling man w m ≡ true → weight (man_at (placement_after p man m)) ≡ weight (man_at (transferred p man m))
+  castled_weight : (w : Wing) → is_castling man w m ≡ true → weight (man_at (placement_after p man m)) ≡ weight (man_at (moved_board p man m))
   castled_weight w h =
-      ap (λ (b : Board). weight (man_at b)) (placement_castled p man m w h ∙ ap (λ (c : Colour). with_rook c w (transferred p man m)) facts.mine)
+      ap (λ (b : Board). weight (man_at b)) (placement_castled p man m w h ∙ ap (λ (c : Colour). with_rook c w (moved_board p man m)) facts.mine)
       ∙ rook_weight w h
 
-  pub weight_after : weight (man_at (placement_after p man m)) + weight_at (look p (captured_at p.target man m)) (captured_at p.target man m) + weight_at (Some man) m.from
-      ≡ weight (look p) + weight_at (Some (arriving man m.promo)) m.to
+  pub weight_after : weight (man_at (placement_after p man m)) + weight_at (man_on p (captured_at p.target man m)) (captured_at p.target man m) + weight_at (Some man) m.from
+      ≡ weight (man_on p) + weight_at (Some (moved_man man m.promo)) m.to
   weight_after =
-      let same : weight (man_at (placement_after p man m)) ≡ weight (man_at (transferred p man m)) =
+      let same : weight (man_at (placement_after p man m)) ≡ weight (man_at (moved_board p man m)) =
       elim (cases_Bool (is_castling man KingSide m)) [
         | inl x ↦ castled_weight KingSide x
         | inr x ↦ elim (cases_Bool (is_castling man QueenSide m)) [
@@ -128,30 +128,30 @@ fewer_left : (c : Colour) (a b : ℕ) → a < 64 → b < 64 → Further c a b �
 fewer_left White a b ha hb h = omega arith
 fewer_left Black a b ha hb h = omega arith
 
-pub record Loses (p : State) (man : Man) (m : MoveParts) : Type 0 where
-  pub never_more : weight (man_at (placement_after p man m)) ≤ weight (look p)
-  pub less : (is_pawn man.kind || is_some (look p m.to)) ≡ true → weight (man_at (placement_after p man m)) < weight (look p)
+pub record Loses (p : PositionParts) (man : Man) (m : MoveParts) : Type 0 where
+  pub never_more : weight (man_at (placement_after p man m)) ≤ weight (man_on p)
+  pub less : (is_pawn man.kind || is_some (man_on p m.to)) ≡ true → weight (man_at (placement_after p man m)) < weight (man_on p)
 
-pub loses : (p : State) (man : Man) (m : MoveParts) → IsSetup p → m.from < 64 → m.to < 64 → Facts p man m → Loses p man m
+pub loses : (p : PositionParts) (man : Man) (m : MoveParts) → IsSetup p → m.from < 64 → m.to < 64 → Facts p man m → Loses p man m
 loses p man m setup from to facts =
     let e = weight_after p man m setup from to facts in
     elim (cases_Bool (is_pawn man.kind)) [
       | inl yes_pawn ↦
           let f : steps_left man.colour m.to < steps_left man.colour m.from = fewer_left man.colour m.from m.to from to (subst (λ (c : Colour). Further c m.from m.to) (sym facts.mine) (facts.onward yes_pawn)) in
-          let g : weight_at (Some (arriving man m.promo)) m.to ≤ 2 + steps_left man.colour m.to =
-          subst (λ (c : Colour). man_weight (arriving man m.promo).kind (arriving man m.promo).colour m.to ≤ 2 + steps_left c m.to) (colour_kept man m.promo) (heaviest (arriving man m.promo).kind (arriving man m.promo).colour m.to) in
+          let g : weight_at (Some (moved_man man m.promo)) m.to ≤ 2 + steps_left man.colour m.to =
+          subst (λ (c : Colour). man_weight (moved_man man m.promo).kind (moved_man man m.promo).colour m.to ≤ 2 + steps_left c m.to) (colour_kept man m.promo) (heaviest (moved_man man m.promo).kind (moved_man man m.promo).colour m.to) in
           let h : weight_at (Some man) m.from ≡ 2 + steps_left man.colour m.from = pawn_weight man.kind man.colour m.from yes_pawn in
-          let lt : weight (man_at (placement_after p man m)) < weight (look p) = omega arith in
+          let lt : weight (man_at (placement_after p man m)) < weight (man_on p) = omega arith in
           record { never_more = omega arith; less = λ _. lt }
       | inr no_pawn ↦
-          let a : weight_at (Some (arriving man m.promo)) m.to ≡ 1 = ap (λ (x : Man). weight_at (Some x) m.to) (facts.same no_pawn) ∙ piece_weight man.kind man.colour m.to no_pawn in
+          let a : weight_at (Some (moved_man man m.promo)) m.to ≡ 1 = ap (λ (x : Man). weight_at (Some x) m.to) (facts.same no_pawn) ∙ piece_weight man.kind man.colour m.to no_pawn in
           let b : weight_at (Some man) m.from ≡ 1 = piece_weight man.kind man.colour m.from no_pawn in
           let at : captured_at p.target man m ≡ m.to = rw no_pawn refl in
-          let c : weight_at (look p (captured_at p.target man m)) (captured_at p.target man m) ≡ weight_at (look p m.to) m.to = ap (λ (s : ℕ). weight_at (look p s) s) at in
+          let c : weight_at (man_on p (captured_at p.target man m)) (captured_at p.target man m) ≡ weight_at (man_on p m.to) m.to = ap (λ (s : ℕ). weight_at (man_on p s) s) at in
           record {
             never_more = omega arith;
             less = λ h.
-                let d = positive (look p m.to) m.to (sym (rw no_pawn refl) ∙ h) in
+                let d = positive (man_on p m.to) m.to (sym (rw no_pawn refl) ∙ h) in
                 omega arith;
           }
     ]

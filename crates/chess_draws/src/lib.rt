@@ -11,7 +11,7 @@ mod line;
 mod look_back;
 mod men;
 mod ply;
-mod stand;
+mod repetition_key;
 mod status;
 mod step;
 mod target;

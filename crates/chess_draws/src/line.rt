@@ -1,7 +1,8 @@
-ghost use Rattle.std.specs.Prelude.{◌≡◌, ◌+◌, ◌++◌, ◌<◌, ◌≤◌, ◌&&◌, ◌||◌, [], true, IsOk, IsTrue, OnOk, IfErr, IfOk, IfSome, MatchOption, List, length, nat_lt};
+ghost use Rattle.std.specs.Prelude.{◌≡◌, ◌+◌, ◌++◌, ◌<◌, ◌≤◌, ◌&&◌, ◌||◌, if◌then◌else◌, [], true, IsOk, IsTrue, OnOk, IfErr, IfOk, IfSome, MatchOption, List, length, nat_lt};
 ghost use Rattle.std.specs.List.{slice_get};
 ghost use Rattle.chess_types.specs.board.MoveParts.{MoveParts};
-ghost use Rattle.chess_types.specs.board.Position.{IsWellFormed, look};
+ghost use Rattle.chess_types.specs.board.Dead.{is_dead};
+ghost use Rattle.chess_types.specs.board.Position.{IsWellFormed, man_on};
 ghost use Rattle.chess_types.specs.board.Attack.{in_check as in_check_of};
 ghost use Rattle.chess_types.specs.board.Legal.{is_legal as is_legal_in, legal_moves};
 ghost use Rattle.chess_types.specs.board.After.{after};
@@ -9,7 +10,7 @@ ghost use Rattle.chess_types.specs.board.Lines.{AreLegal, Line as LineOf, last, 
 ghost use Rattle.chess_types.specs.board.Repetition.{is_same, repetitions};
 ghost use Rattle.chess_types.specs.board.Outcome.{status, claims, claims_with, winner};
 ghost use Rattle.chess_attack.specs.KeptCounts.{changed_of};
-ghost use Rattle.chess_san.specs.Naming.{reading};
+ghost use Rattle.chess_san.specs.Naming.{san_reading};
 ghost use Rattle.chess_san.specs.Writing.{mark_text, san};
 ghost use Rattle.chess_draws.specs.declared.fault.LineFault.TheVariants.{Memory};
 ghost use Rattle.chess_draws.specs.Draws.{is_drawn, is_claimable};
@@ -19,13 +20,13 @@ ghost use Rattle.chess_draws.specs.Pushes.{AnswersPush, AnswersRoom, line_after}
 use crate::fault::LineFault;
 use crate::look_back::look_back;
 use crate::ply::Ply;
-use crate::stand::Stand;
+use crate::repetition_key::RepetitionKey;
 use crate::status::{claims_at, is_drawn_at, status_at};
 use crate::step::{step, step_back};
 use crate::target::begin;
 use arrayvec::{ArrayString, ArrayVec};
 use chess_key::KeyTable;
-use chess_moves::{has_legal, in_check, is_legal, moves};
+use chess_moves::{has_legal, in_check, is_legal, moves, moves_into};
 use chess_play::Live;
 use chess_san::SanFault;
 use chess_types::{Claims, Colour, Move, Position, Status};
@@ -43,7 +44,7 @@ pub struct Line<'k, A: Allocator> {
     // The plies after them that are only looked at.
     looked: ArrayVec<Ply, 16>,
     // What is kept of the last position.
-    here: Stand,
+    here: RepetitionKey,
     live: Live<'k>,
     // How many plies the last count compared.
     compared: u32,
@@ -81,7 +82,7 @@ impl<'k, A: Allocator> Line<'k, A> {
             unreachable!();
         };
         let (live, target) = begin(position, table);
-        let here = Stand::of(&live, target);
+        let here = RepetitionKey::of(&live, target);
         Line {
             root,
             plies: Vec::new(alloc),
@@ -107,7 +108,7 @@ impl<'k, A: Allocator> Line<'k, A> {
         ensures room { self.old.room ≤ self.new.room }
         ensures compared { self.new.compared ≡ self.old.compared }
         ensures at_most { OnOk result (self.new.ticks ≤ 216) }
-        ensures at_least { OnOk result (changed_of (look (last self.old.line)) (look (last self.new.line)) ≤ self.new.ticks) }
+        ensures at_least { OnOk result (changed_of (man_on (last self.old.line)) (man_on (last self.new.line)) ≤ self.new.ticks) }
     {
         self.prepare(m)?;
         self.push_prepared(m);
@@ -180,7 +181,7 @@ impl<'k, A: Allocator> Line<'k, A> {
         ensures room { self.old.room ≤ self.new.room }
         ensures compared { self.new.compared ≡ self.old.compared }
         ensures at_most { OnOk result (self.new.ticks ≤ 216) }
-        ensures at_least { OnOk result (changed_of (look (last self.old.line)) (look (last self.new.line)) ≤ self.new.ticks) }
+        ensures at_least { OnOk result (changed_of (man_on (last self.old.line)) (man_on (last self.new.line)) ≤ self.new.ticks) }
     {
         self.make_room()?;
         self.push_prepared(m);
@@ -200,7 +201,7 @@ impl<'k, A: Allocator> Line<'k, A> {
         ensures room { self.new.room ≡ self.old.room }
         ensures compared { self.new.compared ≡ self.old.compared }
         ensures at_most { self.new.ticks ≤ 216 }
-        ensures at_least { changed_of (look (last self.old.line)) (look (last self.new.line)) ≤ self.new.ticks }
+        ensures at_least { changed_of (man_on (last self.old.line)) (man_on (last self.new.line)) ≤ self.new.ticks }
     {
         let ply = step(&mut self.live, &mut self.here, m);
         self.plies.push_reserved(ply);
@@ -215,7 +216,7 @@ impl<'k, A: Allocator> Line<'k, A> {
         ensures room { self.new.room ≡ self.old.room }
         ensures compared { self.new.compared ≡ self.old.compared }
         ensures at_most { IfSome result (λ _. self.new.ticks ≤ 216) }
-        ensures at_least { IfSome result (λ _. changed_of (look (last self.old.line)) (look (last self.new.line)) ≤ self.new.ticks) }
+        ensures at_least { IfSome result (λ _. changed_of (man_on (last self.old.line)) (man_on (last self.new.line)) ≤ self.new.ticks) }
     {
         let ply = self.plies.pop()?;
         let m = ply.past.played();
@@ -234,7 +235,7 @@ impl<'k, A: Allocator> Line<'k, A> {
         ensures room { self.new.room ≡ self.old.room }
         ensures compared { self.new.compared ≡ self.old.compared }
         ensures at_most { self.new.ticks ≤ 216 }
-        ensures at_least { changed_of (look (last self.old.line)) (look (last self.new.line)) ≤ self.new.ticks }
+        ensures at_least { changed_of (man_on (last self.old.line)) (man_on (last self.new.line)) ≤ self.new.ticks }
     {
         let ply = step(&mut self.live, &mut self.here, m);
         self.looked.push(ply);
@@ -249,7 +250,7 @@ impl<'k, A: Allocator> Line<'k, A> {
         ensures room { self.new.room ≡ self.old.room }
         ensures compared { self.new.compared ≡ self.old.compared }
         ensures at_most { self.new.ticks ≤ 216 }
-        ensures at_least { changed_of (look (last self.old.line)) (look (last self.new.line)) ≤ self.new.ticks }
+        ensures at_least { changed_of (man_on (last self.old.line)) (man_on (last self.new.line)) ≤ self.new.ticks }
     {
         match self.looked.pop() {
             None => unreachable!(),
@@ -339,6 +340,15 @@ impl<'k, A: Allocator> Line<'k, A> {
         moves(&mut self.live)
     }
 
+    /// The same in a list of the caller's, instead of what it held.
+    pub fn moves_into(&mut self, list: &mut ArrayVec<Move, 432>)
+        ensures listed { list.new.items ≡ legal_moves (last self.old.line) }
+        ensures as_before { IsAsBefore self.old self.new }
+        ensures compared { self.new.compared ≡ self.old.compared }
+    {
+        moves_into(&mut self.live, list);
+    }
+
     /// Whether the side to move has a legal move.
     pub fn has_legal(&mut self) -> bool
         ensures value { result ≡ nat_lt 0 (length (legal_moves (last self.old.line))) }
@@ -350,7 +360,7 @@ impl<'k, A: Allocator> Line<'k, A> {
 
     /// Whether the king of the side to move is in check (FIDE Laws 3.9.1).
     pub fn in_check(&self) -> bool
-        ensures { result ≡ in_check_of (look (last self.now.line)) (last self.now.line).side }
+        ensures { result ≡ in_check_of (man_on (last self.now.line)) (last self.now.line).side }
     {
         in_check(&self.live)
     }
@@ -370,7 +380,7 @@ impl<'k, A: Allocator> Line<'k, A> {
     ///
     /// As `chess_san::read`: none of the forms, no legal move, or more than one.
     pub fn read_move(&mut self, text: &[u8]) -> Result<Move, SanFault>
-        ensures value { result ≡ reading (last self.old.line) text.now }
+        ensures value { result ≡ san_reading (last self.old.line) text.now }
         ensures legal { IfOk result (λ m. is_legal_in (last self.old.line) m ≡ true) }
         ensures as_before { IsAsBefore self.old self.new }
         ensures compared { self.new.compared ≡ self.old.compared }
@@ -468,6 +478,18 @@ impl<'k, A: Allocator> Line<'k, A> {
     {
         let count = self.count();
         is_drawn_at(self.live.position(), count, claims)
+    }
+
+    /// Whether by the halfmove clock alone no legal move leads to a draw by repetition or by moves without a capture or a pawn's move
+    /// (FIDE Laws 9.6); with `claims`, nor to a position where such a draw could be claimed (FIDE Laws 9.2, 9.3): the clock is below
+    /// 7, or 3. A position comes up again after four plies at the earliest. Nothing is compared.
+    pub fn is_far_from_draw(&self, claims: bool) -> bool
+        ensures value { result ≡ nat_lt (last self.now.line).clock (if claims then 3 else 7) }
+        // After a legal move the line counts as drawn only where its last position is dead.
+        ensures far { IsTrue result → (m : MoveParts) → m.from < 64 → m.to < 64 → is_legal_in (last self.now.line) m ≡ true → (is_drawn (extended self.now.line m) || (claims && is_claimable (extended self.now.line m))) ≡ is_dead (last (extended self.now.line m)) }
+    {
+        let clock = self.live.position().clock;
+        if claims { clock < 3 } else { clock < 7 }
     }
 
     /// What may be claimed in the last position (FIDE Laws 9.2.2, 9.3.2).

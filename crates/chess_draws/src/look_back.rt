@@ -2,11 +2,11 @@ ghost use Rattle.std.specs.Prelude.{◌≡◌, ℕ, ◌+◌, ◌*◌, ◌++◌, 
 ghost use Rattle.chess_draws.specs.steps.LookBack.{first_same, came_back};
 
 use crate::ply::Ply;
-use crate::stand::Stand;
+use crate::repetition_key::RepetitionKey;
 
 // Whether the ply at that place begins in the position. Those that are only looked at are after the others.
 #[inline(always)]
-fn begins_same(plies: &[Ply], looked: &[Ply], at: usize, here: &Stand) -> bool
+fn begins_same(plies: &[Ply], looked: &[Ply], at: usize, here: &RepetitionKey) -> bool
     requires { at < length plies.now + length looked.now }
     ensures { result ≡ first_same here.now (drop at (plies.now ++ looked.now)) }
 {
@@ -19,7 +19,12 @@ fn begins_same(plies: &[Ply], looked: &[Ply], at: usize, here: &Stand) -> bool
 
 /// How many of the plies begin in the position after the last of them, and how many were compared: those with the same side to
 /// move, as far back as the halfmove clock says, since each pawn move and each capture leaves other men than any position before.
-pub(crate) fn look_back(plies: &[Ply], looked: &[Ply], here: &Stand, clock: u32) -> (u32, u32)
+pub(crate) fn look_back(
+    plies: &[Ply],
+    looked: &[Ply],
+    here: &RepetitionKey,
+    clock: u32,
+) -> (u32, u32)
     requires few { length plies.now ≤ 20000 }
     requires ahead { length looked.now ≤ 16 }
     ensures compared { result.1 ≡ min (length plies.now + length looked.now) clock / 2 }

@@ -1,14 +1,14 @@
 ghost use Rattle.std.specs.Prelude.{◌≡◌, true, false};
-ghost use Rattle.chess_types.specs.board.Board.{Look, man_at};
+ghost use Rattle.chess_types.specs.board.Board.{Men, man_at};
 ghost use Rattle.chess_types.specs.board.Men.{holds_pawn};
 ghost use Rattle.chess_types.specs.steps.KeptSets.{Gathers, holds_king};
-ghost use Rattle.chess_draws.specs.steps.Stands.{IsMenOf, Settles, holds_pawn_or_knight, holds_short, same_men};
+ghost use Rattle.chess_draws.specs.steps.RepetitionKeys.{IsMenOf, Settles, holds_pawn_or_knight, holds_short, same_men};
 
 use chess_types::{Colour, Placement, Square, SquareSet, holds_pawn};
 
 /// The men of a position as five sets of squares, which say what is on each square.
 #[derive(Clone, Copy)]
-pub(crate) struct Men {
+pub(crate) struct MenSets {
     pub(crate) white: SquareSet,
     pub(crate) black: SquareSet,
     /// The rooks, the queens and the kings.
@@ -60,7 +60,7 @@ fn pawns(placement: &Placement, kings: SquareSet) -> SquareSet
 #[inline(always)]
 fn pawns_moved(short: SquareSet, placement: &Placement, kings: SquareSet, to: Square) -> SquareSet
     requires kings { Gathers kings holds_king (man_at placement.now) }
-    ensures { (before : Look) → Gathers short holds_short before → Settles to before (man_at placement.now) → Gathers result holds_pawn (man_at placement.now) }
+    ensures { (before : Men) → Gathers short holds_short before → Settles to before (man_at placement.now) → Gathers result holds_pawn (man_at placement.now) }
 {
     let mut found = short.intersection(pawns_and_knights(placement, kings));
     let holds = holds_pawn(placement.get(to));
@@ -69,14 +69,14 @@ fn pawns_moved(short: SquareSet, placement: &Placement, kings: SquareSet, to: Sq
     found
 }
 
-impl Men {
+impl MenSets {
     // Those of a placement, by its kings and its pawns.
     #[inline(always)]
-    fn with(placement: &Placement, kings: SquareSet, pawns: SquareSet) -> Men
+    fn with(placement: &Placement, kings: SquareSet, pawns: SquareSet) -> MenSets
         requires kings { Gathers kings holds_king (man_at placement.now) }
         ensures { Gathers pawns holds_pawn (man_at placement.now) → IsMenOf result (man_at placement.now) }
     {
-        Men {
+        MenSets {
             white: placement.of(Colour::White),
             black: placement.of(Colour::Black),
             straight: placement.straight().union(kings),
@@ -86,26 +86,26 @@ impl Men {
     }
 
     /// The men of a placement.
-    pub(crate) fn of(placement: &Placement) -> Men
+    pub(crate) fn of(placement: &Placement) -> MenSets
         ensures { IsMenOf result (man_at placement.now) }
     {
         let kings = both_kings(placement);
-        Men::with(placement, kings, pawns(placement, kings))
+        MenSets::with(placement, kings, pawns(placement, kings))
     }
 
     /// The men of the placement to which a move to that square has led. No square but that one is looked at.
     #[inline(always)]
-    pub(crate) fn moved(&self, placement: &Placement, to: Square) -> Men
-        ensures { (before : Look) → IsMenOf self.now before → Settles to before (man_at placement.now) → IsMenOf result (man_at placement.now) }
+    pub(crate) fn moved(&self, placement: &Placement, to: Square) -> MenSets
+        ensures { (before : Men) → IsMenOf self.now before → Settles to before (man_at placement.now) → IsMenOf result (man_at placement.now) }
     {
         let kings = both_kings(placement);
         let pawns = pawns_moved(self.short, placement, kings, to);
-        Men::with(placement, kings, pawns)
+        MenSets::with(placement, kings, pawns)
     }
 
     /// No men.
-    pub(crate) fn none() -> Men {
-        Men {
+    pub(crate) fn none() -> MenSets {
+        MenSets {
             white: SquareSet::empty(),
             black: SquareSet::empty(),
             straight: SquareSet::empty(),
@@ -116,8 +116,8 @@ impl Men {
 
     /// Whether the same men stand on the same squares.
     #[inline(always)]
-    #[tactic(auto, unfolding(crate::specs::steps::Stands::same_men))]
-    pub(crate) fn is_same(&self, other: &Men) -> bool
+    #[tactic(auto, unfolding(crate::specs::steps::RepetitionKeys::same_men))]
+    pub(crate) fn is_same(&self, other: &MenSets) -> bool
         ensures { result ≡ same_men self.now other.now }
     {
         self.white == other.white

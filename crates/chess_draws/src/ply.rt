@@ -1,4 +1,4 @@
-use crate::men::Men;
+use crate::men::MenSets;
 use chess_play::Record;
 use chess_types::{Colour, Square};
 
@@ -6,7 +6,7 @@ use chess_types::{Colour, Square};
 /// rights before it are the record's.
 #[derive(Clone, Copy)]
 pub(crate) struct Ply {
-    pub(crate) men: Men,
+    pub(crate) men: MenSets,
     pub(crate) side: Colour,
     /// The en passant target before it, where it counted.
     pub(crate) target: Option<Square>,
@@ -17,7 +17,7 @@ impl Default for Ply {
     /// That of no move: it fills the free places of a list of fixed capacity.
     fn default() -> Ply {
         Ply {
-            men: Men::none(),
+            men: MenSets::none(),
             side: Colour::White,
             target: None,
             past: Record::default(),

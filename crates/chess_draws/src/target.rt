@@ -1,7 +1,7 @@
 ghost use Rattle.std.specs.Prelude.{◌≡◌, ◌+◌, ◌<◌, ◌≤◌, ◌&&◌, IsTrue, None, false};
 ghost use Rattle.chess_types.specs.declared.board.man.Colour.TheVariants.{White, Black};
 ghost use Rattle.chess_types.specs.declared.board.man.Kind.TheVariants.{Pawn};
-ghost use Rattle.chess_types.specs.board.Position.{look, cell_of};
+ghost use Rattle.chess_types.specs.board.Position.{man_on, cell_of};
 ghost use Rattle.chess_types.specs.board.After.{after};
 ghost use Rattle.chess_types.specs.board.Legal.{is_legal as is_legal_in};
 ghost use Rattle.chess_types.specs.board.Repetition.{counting_target, same_man};
@@ -36,7 +36,7 @@ fn origins(side: Colour, target: Square) -> (Square, Square)
 
 // Whether a pawn of the side to move stands there.
 fn is_taker(setup: &Setup, from: Square) -> bool
-    ensures { result ≡ same_man (look setup.now from) (cell_of setup.now.side Pawn) }
+    ensures { result ≡ same_man (man_on setup.now from) (cell_of setup.now.side Pawn) }
 {
     let pawn = Man {
         colour: setup.side,
@@ -49,7 +49,7 @@ fn is_taker(setup: &Setup, from: Square) -> bool
 fn is_taken_from(live: &mut Live, from: Square, target: Square) -> bool
     requires clock { live.old.position.clock ≤ 1000000 }
     requires number { live.old.position.number ≤ 1000000 }
-    ensures value { result ≡ (same_man (look live.old.position from) (cell_of live.old.position.side Pawn) && is_legal_in live.old.position (move_to from target None)) }
+    ensures value { result ≡ (same_man (man_on live.old.position from) (cell_of live.old.position.side Pawn) && is_legal_in live.old.position (move_to from target None)) }
     ensures position { live.new.position ≡ live.old.position }
     ensures words { live.new.words ≡ live.old.words }
 {
@@ -123,7 +123,7 @@ pub(crate) fn advance(live: &mut Live, m: Move) -> (Record, Option<Square>)
     ensures past { result.0 ≡ record_of live.old.position m }
     ensures target { result.1 ≡ counting_target (after live.old.position m) }
     ensures at_most { live.new.ticks ≤ 216 }
-    ensures at_least { changed_of (look live.old.position) (look live.new.position) ≤ live.new.ticks }
+    ensures at_least { changed_of (man_on live.old.position) (man_on live.new.position) ≤ live.new.ticks }
 {
     let made = live.make(m);
     if !is_beside(live.position()) {

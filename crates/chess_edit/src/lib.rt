@@ -1,8 +1,10 @@
-//! The tags of a game edited by their rules (PGN 8.1): `set_tag` and `clear_tag`.
+//! A game edited: its tags by their rules (PGN 8.1), `set_tag` and `clear_tag`; and another game joined to it as a variation, `join`.
 #![tactic(auto)]
 
+mod joining;
 mod tags;
 #[cfg(test)]
 mod tests;
 
+pub use joining::{JoinFault, join};
 pub use tags::{TagFault, clear_tag, set_tag};

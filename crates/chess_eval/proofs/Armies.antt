@@ -9,7 +9,7 @@ use Rattle.std.proofs.lemmas.List.Sums.{sum_by-cons}
 use Rattle.chess_types.specs.declared.board.man.Colour.{Colour}
 use Rattle.chess_types.specs.declared.board.man.Colour.TheVariants.{White, Black}
 use Rattle.chess_types.specs.declared.board.man.Man.{Man}
-use Rattle.chess_types.specs.board.Board.{Board, Look, man_at}
+use Rattle.chess_types.specs.board.Board.{Board, Men, man_at}
 use Rattle.chess_types.specs.board.Squares.{squares}
 use Rattle.chess_types.specs.board.Men.{opponent, same_colour, is_king, is_of, is_king_of, count_squares}
 use Rattle.chess_types.proofs.Sums.{bit}
@@ -98,14 +98,14 @@ side_most : (number : Option Man → ℕ → ℤ) (us king_of : Colour) (each : 
     IsAtMost (for_white us (number there square)) (bit (is_of us there)) (bit (is_king_of us there)) (each * bit (is_king_of king_of there))) →
     for_white us (over_board number (man_at board)) ≤ℤ pos (13545 + each)
 side_most number us king_of each board armies small =
-    let look : Look = man_at board in
-    let most = run_most (λ t. for_white us (number (look t) t)) (λ s. is_of us (look s)) (λ s. is_king_of us (look s)) (λ s. is_king_of king_of (look s)) each 0 64 (λ t h. small (look t) t (omega arith)) in
+    let man_on : Men = man_at board in
+    let most = run_most (λ t. for_white us (number (man_on t) t)) (λ s. is_of us (man_on s)) (λ s. is_king_of us (man_on s)) (λ s. is_king_of king_of (man_on s)) each 0 64 (λ t h. small (man_on t) t (omega arith)) in
     let men = census_is_passing (is_of us) board in
     let king = census_is_passing (is_king_of us) board in
-    let other : passing (λ s. is_king_of king_of (look s)) 0 64 ≡ 1 = sym (census_is_passing (is_king_of king_of) board) ∙ armies.kings king_of in
-    let once : each * passing (λ s. is_king_of king_of (look s)) 0 64 ≡ each = ap (λ x. each * x) other ∙ omega arith in
-    let all : for_white us (over_board number look) ≡ run (λ t. for_white us (number (look t) t)) 0 64 =
-    ap (for_white us) (over_board_is_run number look) ∙ sym (run_for us (λ t. number (look t) t)) in
+    let other : passing (λ s. is_king_of king_of (man_on s)) 0 64 ≡ 1 = sym (census_is_passing (is_king_of king_of) board) ∙ armies.kings king_of in
+    let once : each * passing (λ s. is_king_of king_of (man_on s)) 0 64 ≡ each = ap (λ x. each * x) other ∙ omega arith in
+    let all : for_white us (over_board number man_on) ≡ run (λ t. for_white us (number (man_on t) t)) 0 64 =
+    ap (for_white us) (over_board_is_run number man_on) ∙ sym (run_for us (λ t. number (man_on t) t)) in
     omega (arith, ints, all, most, once, men, king, armies.few us, armies.kings us)
 
 pub armies_within : (board : Board) → HasArmies board → IsWithin 13605 (evaluation (man_at board))

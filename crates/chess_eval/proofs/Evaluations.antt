@@ -4,7 +4,7 @@ use Rattle.std.proofs.lemmas.Int.{ints}
 use Rattle.std.specs.Ordering.{nat_cmp}
 use Rattle.std.specs.FinMap.{get, insert, remove, empty, get-empty}
 use Rattle.chess_types.specs.declared.board.man.Man.{Man}
-use Rattle.chess_types.specs.board.Board.{Board, Look, man_at}
+use Rattle.chess_types.specs.board.Board.{Board, Men, man_at}
 use Rattle.chess_types.specs.board.Squares.{squares}
 use Rattle.chess_types.proofs.BoardLaws.{boards}
 use Rattle.chess_attack.proofs.Replaces.{put-again}
@@ -34,16 +34,16 @@ Number = Option Man → ℕ → ℤ
 abbrev IsNoneEmpty : Number → Type 0
 IsNoneEmpty number = (square : ℕ) → number None square ≡ pos 0
 
-abbrev on : Number → Look → ℕ → ℤ
-on number look square = number (look square) square
+abbrev on : Number → Men → ℕ → ℤ
+on number man_on square = number (man_on square) square
 
-pub over_board_is_run : (number : Number) (look : Look) → over_board number look ≡ run (λ s. number (look s) s) 0 64
+pub over_board_is_run : (number : Number) (man_on : Men) → over_board number man_on ≡ run (λ s. number (man_on s) s) 0 64
 unfolding over_board squares run
-over_board_is_run number look = refl
+over_board_is_run number man_on = refl
 
 -- two boards that differ on one square alone
 over_board-one :
-    (number : Number) (before after : Look) (at : ℕ) → at < 64 → ((t : ℕ) → t ≢ at → after t ≡ before t) →
+    (number : Number) (before after : Men) (at : ℕ) → at < 64 → ((t : ℕ) → t ≢ at → after t ≡ before t) →
     over_board number after +ℤ number (before at) at ≡ over_board number before +ℤ number (after at) at
 over_board-one number before after at h rest =
     let change : run (on number after) 0 64 +ℤ on number before at ≡ run (on number before) 0 64 +ℤ on number after at =
@@ -100,49 +100,49 @@ sums-replace board at other man h some =
     ∙ ap (λ (s : Sums). with_man s man at) (sums-clear board at other h some)
 
 -- the sums over the first squares
-abbrev pub sums_below : Look → ℕ → Sums
-sums_below look n =
+abbrev pub sums_below : Men → ℕ → Sums
+sums_below man_on n =
     record {
-      middle = run (on (balance_there middle_of) look) 0 n;
-      end = run (on (balance_there end_of) look) 0 n;
-      weights = run (on weight_there look) 0 n;
+      middle = run (on (balance_there middle_of) man_on) 0 n;
+      end = run (on (balance_there end_of) man_on) 0 n;
+      weights = run (on weight_there man_on) 0 n;
     }
 
-pub below_all : (look : Look) → sums_below look 64 ≡ sums_of look
+pub below_all : (man_on : Men) → sums_below man_on 64 ≡ sums_of man_on
 unfolding over_board squares run
-below_all look = refl
+below_all man_on = refl
 
-pub below_none : (look : Look) → sums_below look 0 ≡ record { middle = pos 0; end = pos 0; weights = pos 0 }
-below_none look = λ i.
+pub below_none : (man_on : Men) → sums_below man_on 0 ≡ record { middle = pos 0; end = pos 0; weights = pos 0 }
+below_none man_on = λ i.
     record {
-      middle = run-none (on (balance_there middle_of) look) 0 i;
-      end = run-none (on (balance_there end_of) look) 0 i;
-      weights = run-none (on weight_there look) 0 i;
+      middle = run-none (on (balance_there middle_of) man_on) 0 i;
+      end = run-none (on (balance_there end_of) man_on) 0 i;
+      weights = run-none (on weight_there man_on) 0 i;
     }
 
-next : (number : Number) (look : Look) (n : ℕ) (there : Option Man) → look n ≡ there →
-    run (on number look) 0 (n + 1) ≡ run (on number look) 0 n +ℤ number there n
-next number look n there is =
-    let here : on number look (0 + n) ≡ number there n = ap (on number look) (omega arith) ∙ ap (λ t. number t n) is in
-    ap (run (on number look) 0) (add-one n) ∙ omega (arith, ints, run-more (on number look) 0 n)
+next : (number : Number) (man_on : Men) (n : ℕ) (there : Option Man) → man_on n ≡ there →
+    run (on number man_on) 0 (n + 1) ≡ run (on number man_on) 0 n +ℤ number there n
+next number man_on n there is =
+    let here : on number man_on (0 + n) ≡ number there n = ap (on number man_on) (omega arith) ∙ ap (λ t. number t n) is in
+    ap (run (on number man_on) 0) (add-one n) ∙ omega (arith, ints, run-more (on number man_on) 0 n)
 
-pub below_man : (look : Look) (n : ℕ) (man : Man) → look n ≡ Some man → sums_below look (n + 1) ≡ with_man (sums_below look n) man n
-below_man look n man is = λ i.
+pub below_man : (man_on : Men) (n : ℕ) (man : Man) → man_on n ≡ Some man → sums_below man_on (n + 1) ≡ with_man (sums_below man_on n) man n
+below_man man_on n man is = λ i.
     record {
-      middle = next (balance_there middle_of) look n (Some man) is i;
-      end = next (balance_there end_of) look n (Some man) is i;
-      weights = next weight_there look n (Some man) is i;
+      middle = next (balance_there middle_of) man_on n (Some man) is i;
+      end = next (balance_there end_of) man_on n (Some man) is i;
+      weights = next weight_there man_on n (Some man) is i;
     }
 
-nothing_more : (number : Number) → IsNoneEmpty number → (look : Look) (n : ℕ) → look n ≡ None → run (on number look) 0 (n + 1) ≡ run (on number look) 0 n
-nothing_more number nothing look n is = omega (arith, ints, next number look n None is, nothing n)
+nothing_more : (number : Number) → IsNoneEmpty number → (man_on : Men) (n : ℕ) → man_on n ≡ None → run (on number man_on) 0 (n + 1) ≡ run (on number man_on) 0 n
+nothing_more number nothing man_on n is = omega (arith, ints, next number man_on n None is, nothing n)
 
-pub below_empty : (look : Look) (n : ℕ) → look n ≡ None → sums_below look (n + 1) ≡ sums_below look n
-below_empty look n is = λ i.
+pub below_empty : (man_on : Men) (n : ℕ) → man_on n ≡ None → sums_below man_on (n + 1) ≡ sums_below man_on n
+below_empty man_on n is = λ i.
     record {
-      middle = nothing_more (balance_there middle_of) (λ s. refl) look n is i;
-      end = nothing_more (balance_there end_of) (λ s. refl) look n is i;
-      weights = nothing_more weight_there (λ s. refl) look n is i;
+      middle = nothing_more (balance_there middle_of) (λ s. refl) man_on n is i;
+      end = nothing_more (balance_there end_of) (λ s. refl) man_on n is i;
+      weights = nothing_more weight_there (λ s. refl) man_on n is i;
     }
 
 run_within : (f : ℕ → ℤ) (n : ℕ) → n ≤ 64 → ((t : ℕ) → t < 64 → IsWithin 903 (f t)) → IsWithin 57792 (run f 0 n)
@@ -151,17 +151,17 @@ run_within f n h small =
     let high = run-high 903 f 0 n (λ t below. (small t (omega arith)).high) in
     record { low = omega (arith, ints, low); high = omega (arith, ints, high) }
 
-pub below_in_range : (look : Look) (n : ℕ) → n ≤ 64 → AreInRange (sums_below look n)
-below_in_range look n h =
+pub below_in_range : (man_on : Men) (n : ℕ) → n ≤ 64 → AreInRange (sums_below man_on n)
+below_in_range man_on n h =
     record {
-      middle = run_within (on (balance_there middle_of) look) n h (λ t below. middle_within (look t) t below);
-      end = run_within (on (balance_there end_of) look) n h (λ t below. end_within (look t) t below);
-      weights_low = omega (arith, ints, run-low 0 (on weight_there look) 0 n (λ t below. (weight_small (look t) t).low));
-      weights_high = omega (arith, ints, run-high 4 (on weight_there look) 0 n (λ t below. (weight_small (look t) t).high));
+      middle = run_within (on (balance_there middle_of) man_on) n h (λ t below. middle_within (man_on t) t below);
+      end = run_within (on (balance_there end_of) man_on) n h (λ t below. end_within (man_on t) t below);
+      weights_low = omega (arith, ints, run-low 0 (on weight_there man_on) 0 n (λ t below. (weight_small (man_on t) t).low));
+      weights_high = omega (arith, ints, run-high 4 (on weight_there man_on) 0 n (λ t below. (weight_small (man_on t) t).high));
     }
 
-pub sums_in_range : (look : Look) → AreInRange (sums_of look)
-sums_in_range look = subst AreInRange (below_all look) (below_in_range look 64 (omega arith))
+pub sums_in_range : (man_on : Men) → AreInRange (sums_of man_on)
+sums_in_range man_on = subst AreInRange (below_all man_on) (below_in_range man_on 64 (omega arith))
 
 -- none on the empty board
 no_men : (number : Number) → IsNoneEmpty number → over_board number (man_at (empty {R = nat_cmp})) ≡ pos 0

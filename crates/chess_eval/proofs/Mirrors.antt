@@ -4,7 +4,7 @@ use Rattle.std.proofs.lemmas.Int.{ints}
 use Rattle.chess_types.specs.declared.board.man.Colour.{Colour}
 use Rattle.chess_types.specs.declared.board.man.Colour.TheVariants.{White, Black}
 use Rattle.chess_types.specs.declared.board.man.Man.{Man}
-use Rattle.chess_types.specs.board.Board.{Look}
+use Rattle.chess_types.specs.board.Board.{Men}
 use Rattle.chess_types.specs.board.Men.{opponent}
 use Rattle.chess_types.specs.board.Squares.{file_of}
 use Rattle.chess_eval.specs.Worth.{own_rank, middle_of_kind, end_of_kind, middle_of, end_of}
@@ -78,33 +78,33 @@ turned f =
     ∙ reversed (run f 56 8) (run f 48 8) (run f 40 8) (run f 32 8) (run f 24 8) (run f 16 8) (run f 8 8) (run f 0 8) ∙ sym (eight_rows f)
 
 balance-mirrored : (worth : Man → ℕ → ℤ) → ((man : Man) (square : ℕ) → square < 64 → worth (other_man man) square ≡ worth man (across square)) →
-    (look other : Look) → ((square : ℕ) → square < 64 → other square ≡ mirrored look square) →
-    over_board (balance_there worth) other ≡ neg_ℤ (over_board (balance_there worth) look)
-balance-mirrored worth same look other mirror =
+    (man_on other : Men) → ((square : ℕ) → square < 64 → other square ≡ mirrored man_on square) →
+    over_board (balance_there worth) other ≡ neg_ℤ (over_board (balance_there worth) man_on)
+balance-mirrored worth same man_on other mirror =
     over_board_is_run (balance_there worth) other
-    ∙ run-neg (λ s. balance_there worth (other s) s) (λ s. balance_there worth (look (across s)) (across s)) 0 64
-    (λ t h. ap (λ there. balance_there worth there t) (mirror t h) ∙ balance_across worth same (look (across t)) t h)
-    ∙ ap neg_ℤ (turned (λ s. balance_there worth (look s) s) ∙ sym (over_board_is_run (balance_there worth) look))
+    ∙ run-neg (λ s. balance_there worth (other s) s) (λ s. balance_there worth (man_on (across s)) (across s)) 0 64
+    (λ t h. ap (λ there. balance_there worth there t) (mirror t h) ∙ balance_across worth same (man_on (across t)) t h)
+    ∙ ap neg_ℤ (turned (λ s. balance_there worth (man_on s) s) ∙ sym (over_board_is_run (balance_there worth) man_on))
 
-weights-mirrored : (look other : Look) → ((square : ℕ) → square < 64 → other square ≡ mirrored look square) →
-    over_board weight_there other ≡ over_board weight_there look
-weights-mirrored look other mirror =
+weights-mirrored : (man_on other : Men) → ((square : ℕ) → square < 64 → other square ≡ mirrored man_on square) →
+    over_board weight_there other ≡ over_board weight_there man_on
+weights-mirrored man_on other mirror =
     over_board_is_run weight_there other
-    ∙ run-same (λ s. weight_there (other s) s) (λ s. weight_there (look (across s)) (across s)) 0 64
-    (λ t low h. ap (λ there. weight_there there t) (mirror t h) ∙ weight_across (look (across t)) t)
-    ∙ turned (λ s. weight_there (look s) s)
-    ∙ sym (over_board_is_run weight_there look)
+    ∙ run-same (λ s. weight_there (other s) s) (λ s. weight_there (man_on (across s)) (across s)) 0 64
+    (λ t low h. ap (λ there. weight_there there t) (mirror t h) ∙ weight_across (man_on (across t)) t)
+    ∙ turned (λ s. weight_there (man_on s) s)
+    ∙ sym (over_board_is_run weight_there man_on)
 
 -- both balances the other way round, the same weights
-pub sums-mirrored : (look other : Look) → ((square : ℕ) → square < 64 → other square ≡ mirrored look square) →
-    sums_of other ≡ record { middle = neg_ℤ (sums_of look).middle; end = neg_ℤ (sums_of look).end; weights = (sums_of look).weights }
-sums-mirrored look other mirror = λ i.
+pub sums-mirrored : (man_on other : Men) → ((square : ℕ) → square < 64 → other square ≡ mirrored man_on square) →
+    sums_of other ≡ record { middle = neg_ℤ (sums_of man_on).middle; end = neg_ℤ (sums_of man_on).end; weights = (sums_of man_on).weights }
+sums-mirrored man_on other mirror = λ i.
     record {
-      middle = balance-mirrored middle_of middle_across look other mirror i;
-      end = balance-mirrored end_of end_across look other mirror i;
-      weights = weights-mirrored look other mirror i;
+      middle = balance-mirrored middle_of middle_across man_on other mirror i;
+      end = balance-mirrored end_of end_across man_on other mirror i;
+      weights = weights-mirrored man_on other mirror i;
     }
 
-pub evaluation-mirrored : (look : Look) → evaluation (mirrored look) ≡ neg_ℤ (evaluation look)
+pub evaluation-mirrored : (man_on : Men) → evaluation (mirrored man_on) ≡ neg_ℤ (evaluation man_on)
 unfolding evaluation
-evaluation-mirrored look = ap tapered (sums-mirrored look (mirrored look) (λ square h. refl)) ∙ tapered-neg (sums_of look) (sums_in_range look).weights_low
+evaluation-mirrored man_on = ap tapered (sums-mirrored man_on (mirrored man_on) (λ square h. refl)) ∙ tapered-neg (sums_of man_on) (sums_in_range man_on).weights_low

@@ -15,7 +15,7 @@ use Rattle.std.specs.Int.{int_min}
 use Rattle.chess_types.specs.declared.board.man.Colour.{Colour}
 use Rattle.chess_types.specs.declared.board.man.Colour.TheVariants.{White, Black}
 use Rattle.chess_types.specs.declared.board.man.Man.{Man}
-use Rattle.chess_types.specs.board.Board.{Board, Look, man_at}
+use Rattle.chess_types.specs.board.Board.{Board, Men, man_at}
 use Rattle.chess_types.specs.board.Men.{men_of, kings_of}
 use Rattle.chess_types.specs.board.Squares.{squares}
 use Rattle.chess_eval.specs.Worth.{middle_of, end_of, weight_of}
@@ -41,8 +41,8 @@ sum_over number [] = pos 0
 sum_over number (square ∷ others) = number square +ℤ sum_over number others
 
 -- the sum over all squares
-unfoldable pub over_board : (Option Man → ℕ → ℤ) → Look → ℤ
-over_board number look = sum_over (λ square. number (look square) square) squares
+unfoldable pub over_board : (Option Man → ℕ → ℤ) → Men → ℤ
+over_board number man_on = sum_over (λ square. number (man_on square) square) squares
 
 -- White's worths less Black's, in the middlegame and in the endgame; the weights of all men
 pub record Sums : Type 0 where
@@ -51,12 +51,12 @@ pub record Sums : Type 0 where
   pub weights : ℤ
 
 -- the three sums of a board
-abbrev pub sums_of : Look → Sums
-sums_of look =
+abbrev pub sums_of : Men → Sums
+sums_of man_on =
     record {
-      middle = over_board (balance_there middle_of) look;
-      end = over_board (balance_there end_of) look;
-      weights = over_board weight_there look;
+      middle = over_board (balance_there middle_of) man_on;
+      end = over_board (balance_there end_of) man_on;
+      weights = over_board weight_there man_on;
     }
 
 -- 24 while the men weigh that much or more, 0 once only pawns and kings are left
@@ -69,8 +69,8 @@ tapered sums =
     int_div (sums.middle *ℤ phase sums.weights +ℤ sums.end *ℤ (pos 24 -ℤ phase sums.weights)) (pos 24)
 
 -- for White, in centipawns
-unfoldable pub evaluation : Look → ℤ
-evaluation look = tapered (sums_of look)
+unfoldable pub evaluation : Men → ℤ
+evaluation man_on = tapered (sums_of man_on)
 
 -- they are the sums of the board
 abbrev pub AreSumsOf : Sums → Board → Type 0

@@ -5,7 +5,7 @@
 --   IsMirror   a board is another one so seen
 use Rattle.std.specs.Prelude.{◌≡◌, ℕ, ◌+◌, ◌-◌, ◌*◌, ◌<◌, Option, Some, None}
 use Rattle.chess_types.specs.declared.board.man.Man.{Man}
-use Rattle.chess_types.specs.board.Board.{Board, Look, man_at}
+use Rattle.chess_types.specs.board.Board.{Board, Men, man_at}
 use Rattle.chess_types.specs.board.Men.{opponent}
 use Rattle.chess_types.specs.board.Squares.{file_of, rank_of}
 
@@ -19,8 +19,8 @@ recoloured None = None
 recoloured (Some man) = Some (record man { colour = opponent man.colour })
 
 -- the board seen from the other side
-abbrev pub mirrored : Look → Look
-mirrored look square = recoloured (look (across square))
+abbrev pub mirrored : Men → Men
+mirrored man_on square = recoloured (man_on (across square))
 
 -- one board is the other seen from the other side
 abbrev pub IsMirror : Board → Board → Type 0

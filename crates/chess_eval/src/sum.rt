@@ -1,6 +1,6 @@
 ghost use Rattle.std.specs.Prelude.{◌≡◌, ◌≢◌, Some, pos, neg_ℤ, ◌≤ℤ◌, int_div};
 ghost use Rattle.std.specs.FinMap as map;
-ghost use Rattle.chess_types.specs.board.Board.{Board, Look, man_at};
+ghost use Rattle.chess_types.specs.board.Board.{Board, Men, man_at};
 ghost use Rattle.chess_eval.specs.Evaluation.{for_white as for_white_of, balance_there, AreSumsOf, tapered as tapered_of, evaluation, IsWithin, HasArmies};
 ghost use Rattle.chess_eval.specs.Worth.{middle_of, end_of};
 ghost use Rattle.chess_eval.specs.Mirror.{IsMirror, mirrored};
@@ -122,7 +122,7 @@ impl Sum {
         ensures value { result ≡ record { middle = neg_ℤ self.now.middle; end = neg_ℤ self.now.end; weights = self.now.weights } }
         ensures agrees { (board other : Board) → IsMirror board other → AreSumsOf self.now board → AreSumsOf result other }
         ensures negative { tapered_of result ≡ neg_ℤ (tapered_of self.now) }
-        ensures law { (look : Look) → evaluation (mirrored look) ≡ neg_ℤ (evaluation look) }
+        ensures law { (man_on : Men) → evaluation (mirrored man_on) ≡ neg_ℤ (evaluation man_on) }
     {
         Sum {
             middle: -self.middle,

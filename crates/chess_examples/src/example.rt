@@ -1,7 +1,7 @@
 ghost use Rattle.std.specs.Prelude.{◌≡◌, ◌++◌, ◌∷◌, [], OnOk};
 
+use byte_streams::{FromBytes, ToBytes};
 use chess_cli::{Ended, board_over_bytes};
-use chess_types::{FromBytes, ToBytes};
 use std::alloc::{AllocError, Global};
 use std::io;
 

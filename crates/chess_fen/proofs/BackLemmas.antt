@@ -16,16 +16,16 @@ use Rattle.chess_types.specs.declared.board.position.Rights.{Rights}
 use Rattle.chess_types.specs.declared.board.position.Wing.{Wing}
 use Rattle.chess_types.specs.declared.board.position.Wing.TheVariants.{KingSide, QueenSide}
 use Rattle.chess_types.specs.board.Squares.{squares}
-use Rattle.chess_types.specs.board.Board.{Board, Look, man_at}
+use Rattle.chess_types.specs.board.Board.{Board, Men, man_at}
 use Rattle.chess_types.specs.board.Cells.{board_of}
 use Rattle.chess_types.specs.board.Men.{holds_pawn, is_man}
-use Rattle.chess_types.specs.board.Position.{State, IsSetup, is_explained, IsWellFormed, look, holds}
+use Rattle.chess_types.specs.board.Position.{PositionParts, IsSetup, is_explained, IsWellFormed, man_on, holds}
 use Rattle.chess_types.specs.board.Texts.{square_text}
 use Rattle.chess_types.proofs.BoardLaws.{same_board}
 use Rattle.chess_types.proofs.CellLemmas.{get-board_of}
 use Rattle.chess_types.proofs.SameLemmas.{is_man-own}
 use Rattle.chess_types.proofs.TargetLemmas.{explained_inside}
-use Rattle.chess_fen.specs.Reading.{fields_in, board_in, has_one_king_each, has_at_most_16_each, has_pawn_on_edge, is_edge, side_in, castling_in, is_home, kept_rights, target_in, kept_target, reading}
+use Rattle.chess_fen.specs.Reading.{fields_in, board_in, has_one_king_each, has_at_most_16_each, has_pawn_on_edge, is_edge, side_in, castling_in, is_home, kept_rights, target_in, kept_target, fen_reading}
 use Rattle.chess_fen.specs.Writing.{placement_text, side_text, right_text, or_dash, rights_text, target_text, written}
 use Rattle.chess_fen.proofs.FieldLemmas.{square_named, counter_written}
 use Rattle.chess_fen.proofs.PartLemmas.{Above, Above-append, IsWord, words-joined}
@@ -35,10 +35,10 @@ use Rattle.chess_fen.proofs.PlacementLemmas.{board_cells-text, placement_text-wo
 abbrev pub IsOnBoard : Board → Type 0
 IsOnBoard board = (s : ℕ) → 64 ≤ s → man_at board s ≡ None
 
-read_at : (look : Look) (n q : ℕ) → ((s : ℕ) → n ≤ s → look s ≡ None) → get_or (map look (range_with_len 0 n)) q None ≡ look q
-read_at look n q off = elim (cases_lt q n) [
-  | inl low ↦ get_or-map-range_with_len look 0 n q q None low (omega arith)
-  | inr high ↦ get_or_past (map look (range_with_len 0 n)) q None (omega (arith, length-map-range_with_len look 0 n)) ∙ sym (off q high)
+read_at : (man_on : Men) (n q : ℕ) → ((s : ℕ) → n ≤ s → man_on s ≡ None) → get_or (map man_on (range_with_len 0 n)) q None ≡ man_on q
+read_at man_on n q off = elim (cases_lt q n) [
+  | inl low ↦ get_or-map-range_with_len man_on 0 n q q None low (omega arith)
+  | inr high ↦ get_or_past (map man_on (range_with_len 0 n)) q None (omega (arith, length-map-range_with_len man_on 0 n)) ∙ sym (off q high)
 ]
 
 board_of-squares : (board : Board) → IsOnBoard board → board_of (map (man_at board) squares) ≡ board
@@ -51,27 +51,27 @@ none_in p a (suc n) h =
     let here : p a ≡ false = h a (omega arith) (omega arith) in
     rw here (none_in p (a + 1) n (λ t low high. h t (omega arith) (omega arith)))
 
-module _ (p : State) (setup : IsSetup p) where
+module _ (p : PositionParts) (setup : IsSetup p) where
   one_king_each : has_one_king_each p.placement ≡ true
   one_king_each = and_from _ _ (eq-eqb _ _ (setup.kings White)) (eq-eqb _ _ (setup.kings Black))
 
   at_most_16_each : has_at_most_16_each p.placement ≡ true
   at_most_16_each = and_from _ _ (le-leb _ _ (setup.few White)) (le-leb _ _ (setup.few Black))
 
-  inner : (s : ℕ) → s < 64 → (is_edge s && holds_pawn (look p s)) ≡ false
-  inner s low = elim (cases_Bool (holds_pawn (look p s))) [
+  inner : (s : ℕ) → s < 64 → (is_edge s && holds_pawn (man_on p s)) ≡ false
+  inner s low = elim (cases_Bool (holds_pawn (man_on p s))) [
     | inl pawn ↦ let ranks = setup.pawns s low pawn in let other : is_edge s ≡ false = grind (arith, nat_tests, ranks) in and_left (is_edge s) _ other
     | inr other ↦ and_right (is_edge s) _ other
   ]
 
-  no_pawn_on_edge : has_pawn_on_edge (look p) ≡ false
+  no_pawn_on_edge : has_pawn_on_edge (man_on p) ≡ false
   unfolding squares
-  no_pawn_on_edge = none_in (λ s. is_edge s && holds_pawn (look p s)) 0 64 (λ s low high. inner s (omega arith))
+  no_pawn_on_edge = none_in (λ s. is_edge s && holds_pawn (man_on p s)) 0 64 (λ s low high. inner s (omega arith))
 
-  board_back : IsOnBoard p.placement → board_in (placement_text (look p)) ≡ Ok p.placement
+  board_back : IsOnBoard p.placement → board_in (placement_text (man_on p)) ≡ Ok p.placement
   unfolding board_in
   board_back on =
-      rw (board_cells-text (look p), board_of-squares p.placement on, one_king_each, no_pawn_on_edge, at_most_16_each) refl
+      rw (board_cells-text (man_on p), board_of-squares p.placement on, one_king_each, no_pawn_on_edge, at_most_16_each) refl
 
 side_back : (side : Colour) → side_in (side_text side) ≡ Ok side
 unfolding side_in
@@ -108,29 +108,29 @@ unfolding target_in target_text
 target_back None inside = refl
 target_back (Some t) inside = rw (no_dash t, square_named (square_text t) t (inside t refl) refl) refl
 
-target_kept : (side : Colour) (look : Look) (target : Option ℕ) → ((t : ℕ) → target ≡ Some t → is_explained side look t ≡ true) → kept_target side look target ≡ target
+target_kept : (side : Colour) (man_on : Men) (target : Option ℕ) → ((t : ℕ) → target ≡ Some t → is_explained side man_on t ≡ true) → kept_target side man_on target ≡ target
 unfolding kept_target
-target_kept side look None explained = refl
-target_kept side look (Some t) explained = rw (explained t refl) refl
+target_kept side man_on None explained = refl
+target_kept side man_on (Some t) explained = rw (explained t refl) refl
 
 -- a right that is held has its king and rook at home
 held_kept : (held home : Bool) → (held ≡ true → home ≡ true) → (held && home) ≡ held
 held_kept true home h = h refl
 held_kept false home h = refl
 
-module _ (p : State) (setup : IsSetup p) where
-  home : (colour : Colour) (wing : Wing) → holds p.rights colour wing ≡ true → is_home (look p) colour wing ≡ true
+module _ (p : PositionParts) (setup : IsSetup p) where
+  home : (colour : Colour) (wing : Wing) → holds p.rights colour wing ≡ true → is_home (man_on p) colour wing ≡ true
   home colour wing held =
       and_from _ _ (ap (λ cell. is_man cell colour King) (setup.king_at_home colour wing held) ∙ is_man-own colour King)
       (ap (λ cell. is_man cell colour Rook) (setup.rook_at_home colour wing held) ∙ is_man-own colour Rook)
 
-  rights_kept : kept_rights (look p) p.rights ≡ p.rights
+  rights_kept : kept_rights (man_on p) p.rights ≡ p.rights
   unfolding kept_rights
   rights_kept =
-      let white_king = held_kept p.rights.white_king (is_home (look p) White KingSide) (home White KingSide) in
-      let white_queen = held_kept p.rights.white_queen (is_home (look p) White QueenSide) (home White QueenSide) in
-      let black_king = held_kept p.rights.black_king (is_home (look p) Black KingSide) (home Black KingSide) in
-      let black_queen = held_kept p.rights.black_queen (is_home (look p) Black QueenSide) (home Black QueenSide) in
+      let white_king = held_kept p.rights.white_king (is_home (man_on p) White KingSide) (home White KingSide) in
+      let white_queen = held_kept p.rights.white_queen (is_home (man_on p) White QueenSide) (home White QueenSide) in
+      let black_king = held_kept p.rights.black_king (is_home (man_on p) Black KingSide) (home Black KingSide) in
+      let black_queen = held_kept p.rights.black_queen (is_home (man_on p) Black QueenSide) (home Black QueenSide) in
       λ i. record { white_king = white_king i; white_queen = white_queen i; black_king = black_king i; black_queen = black_queen i }
 
 -- the texts are words
@@ -167,9 +167,9 @@ digits-above (digit ∷ digits) all = let range = digit_from_value digit all.0 i
 decimal-word : (n : ℕ) → n ≤ 99999 → IsWord (decimal n)
 decimal-word n small = let numeral = decimal_is_IsNumeral n (omega arith) in (numeral.0.0, digits-above (decimal n) numeral.0.1)
 
-module _ (p : State) (clock : p.clock ≤ 99999) (number : p.number ≤ 99999) where
+module _ (p : PositionParts) (clock : p.clock ≤ 99999) (number : p.number ≤ 99999) where
   fields_back : fields_in (written p) ≡ Ok (record {
-    placement = placement_text (look p);
+    placement = placement_text (man_on p);
     side = side_text p.side;
     castling = rights_text p.rights;
     target = target_text p.target;
@@ -178,16 +178,16 @@ module _ (p : State) (clock : p.clock ≤ 99999) (number : p.number ≤ 99999) w
   })
   unfolding fields_in written
   fields_back =
-      let texts : List (List ℕ) = placement_text (look p) ∷ side_text p.side ∷ rights_text p.rights ∷ target_text p.target ∷ decimal p.clock ∷ decimal p.number ∷ [] in
+      let texts : List (List ℕ) = placement_text (man_on p) ∷ side_text p.side ∷ rights_text p.rights ∷ target_text p.target ∷ decimal p.clock ∷ decimal p.number ∷ [] in
       let are_words : AllByRecursion IsWord texts =
-      (placement_text-word (look p), (side_text-word p.side, (rights_text-word p.rights, (target_text-word p.target, (decimal-word p.clock clock, (decimal-word p.number number, tt)))))) in
+      (placement_text-word (man_on p), (side_text-word p.side, (rights_text-word p.rights, (target_text-word p.target, (decimal-word p.clock clock, (decimal-word p.number number, tt)))))) in
       rw (words-joined texts are_words) refl
 
-  pub read_back : IsWellFormed p → IsOnBoard p.placement → reading (written p) ≡ Ok p
-  unfolding reading
+  pub read_back : IsWellFormed p → IsOnBoard p.placement → fen_reading (written p) ≡ Ok p
+  unfolding fen_reading
   read_back well on =
-      let target = target_back p.target (λ t is. explained_inside p.side (look p) t (well.setup.target t is)) in
-      let kept = target_kept p.side (look p) p.target well.setup.target in
+      let target = target_back p.target (λ t is. explained_inside p.side (man_on p) t (well.setup.target t is)) in
+      let kept = target_kept p.side (man_on p) p.target well.setup.target in
       let counted : max p.number 1 ≡ p.number = omega (arith, well.setup.number) in
       rw (
         fields_back,

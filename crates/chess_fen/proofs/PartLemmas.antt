@@ -4,8 +4,8 @@ use Rattle.std.specs.List.{AllByRecursion, join_with_byte, slice_split}
 use Rattle.std.proofs.lemmas.Bool.Decides.{nat_tests}
 use Rattle.std.proofs.lemmas.List.Elements.{All-from_recursion}
 use Rattle.std.proofs.lemmas.List.Splits.{slice_split_none, slice_split_at}
-use Rattle.chess_types.specs.bytes.Words.{as_word, words, words_from}
-use Rattle.chess_types.proofs.WordLemmas.{word_of-some}
+use Rattle.byte_streams.specs.Words.{as_word, words, words_from}
+use Rattle.byte_streams.proofs.WordLemmas.{word_of-some}
 
 -- each byte is greater
 abbrev pub Above : ℕ → List ℕ → Type 0

@@ -8,7 +8,7 @@ use Rattle.chess_types.specs.declared.board.man.Colour.TheVariants.{White, Black
 use Rattle.chess_types.specs.declared.board.man.Kind.{Kind}
 use Rattle.chess_types.specs.declared.board.man.Kind.TheVariants.{Pawn}
 use Rattle.chess_types.specs.declared.board.man.Man.{Man}
-use Rattle.chess_types.specs.board.Board.{Look}
+use Rattle.chess_types.specs.board.Board.{Men}
 use Rattle.chess_types.specs.board.Squares.{squares}
 use Rattle.chess_types.specs.board.Texts.{man_letter, man_of_letter}
 use Rattle.chess_fen.specs.Ranks.{stands_for_empty, cells_of_byte, cells_of, starts_with_digit, has_adjacent_digits, rank_cells, cells_of_ranks, board_cells, ranks}
@@ -91,34 +91,34 @@ cells_text-above run (Some man ∷ cells) =
     Above-append 47 (run_text run) (man_letter man ∷ cells_text 0 cells) (run_text-above run) ((letter man).high, cells_text-above 0 cells)
 
 -- the ranks
-module _ (look : Look) where
-  rank_text-above : (rank : ℕ) → Above 47 (rank_text look rank)
+module _ (man_on : Men) where
+  rank_text-above : (rank : ℕ) → Above 47 (rank_text man_on rank)
   unfolding rank_text
-  rank_text-above rank = cells_text-above 0 (map look (rank_squares rank))
+  rank_text-above rank = cells_text-above 0 (map man_on (rank_squares rank))
 
-  rank_text-cells : (rank : ℕ) → rank_cells (rank_text look rank) ≡ Some (map look (rank_squares rank))
+  rank_text-cells : (rank : ℕ) → rank_cells (rank_text man_on rank) ≡ Some (map man_on (rank_squares rank))
   unfolding rank_text
-  rank_text-cells rank = rank_cells-text (map look (rank_squares rank)) (length-map-range_with_len look (8 * rank) 8)
+  rank_text-cells rank = rank_cells-text (map man_on (rank_squares rank)) (length-map-range_with_len man_on (8 * rank) 8)
 
-  above_all : (n : ℕ) → n ≤ 47 → (numbers : List ℕ) → AllByRecursion (Above n) (map (rank_text look) numbers)
+  above_all : (n : ℕ) → n ≤ 47 → (numbers : List ℕ) → AllByRecursion (Above n) (map (rank_text man_on) numbers)
   above_all n less [] = tt
-  above_all n less (rank ∷ others) = (Above-less n 47 (rank_text look rank) less (rank_text-above rank), above_all n less others)
+  above_all n less (rank ∷ others) = (Above-less n 47 (rank_text man_on rank) less (rank_text-above rank), above_all n less others)
 
-  ranks-text : ranks (placement_text look) ≡ map (rank_text look) (7 ∷ 6 ∷ 5 ∷ 4 ∷ 3 ∷ 2 ∷ 1 ∷ 0 ∷ [])
+  ranks-text : ranks (placement_text man_on) ≡ map (rank_text man_on) (7 ∷ 6 ∷ 5 ∷ 4 ∷ 3 ∷ 2 ∷ 1 ∷ 0 ∷ [])
   unfolding placement_text
-  ranks-text = slice_split-joined (rank_text look 7) (map (rank_text look) (6 ∷ 5 ∷ 4 ∷ 3 ∷ 2 ∷ 1 ∷ 0 ∷ [])) (above_all 47 (omega arith) (7 ∷ 6 ∷ 5 ∷ 4 ∷ 3 ∷ 2 ∷ 1 ∷ 0 ∷ []))
+  ranks-text = slice_split-joined (rank_text man_on 7) (map (rank_text man_on) (6 ∷ 5 ∷ 4 ∷ 3 ∷ 2 ∷ 1 ∷ 0 ∷ [])) (above_all 47 (omega arith) (7 ∷ 6 ∷ 5 ∷ 4 ∷ 3 ∷ 2 ∷ 1 ∷ 0 ∷ []))
 
-  all_ranks : cells_of_ranks (map (rank_text look) (7 ∷ 6 ∷ 5 ∷ 4 ∷ 3 ∷ 2 ∷ 1 ∷ 0 ∷ [])) ≡ Some (map look squares)
+  all_ranks : cells_of_ranks (map (rank_text man_on) (7 ∷ 6 ∷ 5 ∷ 4 ∷ 3 ∷ 2 ∷ 1 ∷ 0 ∷ [])) ≡ Some (map man_on squares)
   unfolding cells_of_ranks squares
   all_ranks =
       rw (rank_text-cells 0, rank_text-cells 1, rank_text-cells 2, rank_text-cells 3, rank_text-cells 4, rank_text-cells 5, rank_text-cells 6, rank_text-cells 7) refl
 
-  pub board_cells-text : board_cells (placement_text look) ≡ Some (map look squares)
+  pub board_cells-text : board_cells (placement_text man_on) ≡ Some (map man_on squares)
   unfolding board_cells
   board_cells-text = rw ranks-text all_ranks
 
-  pub placement_text-word : IsWord (placement_text look)
+  pub placement_text-word : IsWord (placement_text man_on)
   unfolding placement_text
   placement_text-word =
       let numbers : List ℕ = 7 ∷ 6 ∷ 5 ∷ 4 ∷ 3 ∷ 2 ∷ 1 ∷ 0 ∷ [] in
-      (simp length-append (omega arith), Above-joined 32 47 (map (rank_text look) numbers) (omega arith) (above_all 32 (omega arith) numbers))
+      (simp length-append (omega arith), Above-joined 32 47 (map (rank_text man_on) numbers) (omega arith) (above_all 32 (omega arith) numbers))

@@ -10,7 +10,7 @@ use Rattle.chess_types.specs.declared.board.man.Man.{Man}
 use Rattle.chess_types.specs.declared.board.position.Rights.{Rights}
 use Rattle.chess_types.specs.declared.board.position.Wing.{Wing}
 use Rattle.chess_types.specs.declared.board.position.Wing.TheVariants.{KingSide, QueenSide}
-use Rattle.chess_types.specs.board.Board.{Board, Look, man_at}
+use Rattle.chess_types.specs.board.Board.{Board, Men, man_at}
 use Rattle.chess_types.specs.board.Cells.{board_of}
 use Rattle.chess_types.specs.board.Position.{IsSetup, is_explained, holds}
 use Rattle.chess_fen.specs.declared.fault.FenFault.TheVariants.{Placement, Kings, PawnRank, TooManyMen}
@@ -78,19 +78,19 @@ pub good_men : (field : List ℕ) (board : Board) → Ok board ≡ board_in fiel
 unfolding board_in
 good_men field board h = good_men_if_read (board_cells field) board h
 
-kept_home : (look : Look) (rights : Rights) (c : Colour) (w : Wing) → holds (kept_rights look rights) c w ≡ true → is_home look c w ≡ true
+kept_home : (man_on : Men) (rights : Rights) (c : Colour) (w : Wing) → holds (kept_rights man_on rights) c w ≡ true → is_home man_on c w ≡ true
 unfolding kept_rights
-kept_home look rights White KingSide h = (and_parts _ _ h).1
-kept_home look rights White QueenSide h = (and_parts _ _ h).1
-kept_home look rights Black KingSide h = (and_parts _ _ h).1
-kept_home look rights Black QueenSide h = (and_parts _ _ h).1
+kept_home man_on rights White KingSide h = (and_parts _ _ h).1
+kept_home man_on rights White QueenSide h = (and_parts _ _ h).1
+kept_home man_on rights Black KingSide h = (and_parts _ _ h).1
+kept_home man_on rights Black QueenSide h = (and_parts _ _ h).1
 
-kept_explained : (side : Colour) (look : Look) (written : Option ℕ) (t : ℕ) → kept_target side look written ≡ Some t → is_explained side look t ≡ true
+kept_explained : (side : Colour) (man_on : Men) (written : Option ℕ) (t : ℕ) → kept_target side man_on written ≡ Some t → is_explained side man_on t ≡ true
 unfolding kept_target
-kept_explained side look None t h = absurd (cc)
-kept_explained side look (Some s) t h =
+kept_explained side man_on None t h = absurd (cc)
+kept_explained side man_on (Some s) t h =
     let kept = cond_some _ _ _ h in
-    ap (is_explained side look) (sym kept.1) ∙ kept.0
+    ap (is_explained side man_on) (sym kept.1) ∙ kept.0
 
 pub setup_read : (board : Board) (side : Colour) (rights : Rights) (target : Option ℕ) (clock number : ℕ) → HasGoodMen board → 1 ≤ number →
     IsSetup (record { placement = board; side = side; rights = kept_rights (man_at board) rights; target = kept_target side (man_at board) target; clock = clock; number = number })

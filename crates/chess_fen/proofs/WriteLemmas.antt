@@ -4,7 +4,7 @@ use Rattle.std.specs.List.{range_with_len, join_with_byte}
 use Rattle.std.proofs.lemmas.List.{drop_more}
 use Rattle.std.proofs.lemmas.Grind.{common_steps}
 use Rattle.chess_types.specs.declared.board.man.Man.{Man}
-use Rattle.chess_types.specs.board.Board.{Look, man_at}
+use Rattle.chess_types.specs.board.Board.{Men, man_at}
 use Rattle.chess_types.specs.board.Cells.{board_of}
 use Rattle.chess_types.proofs.CellLemmas.{get-board_of}
 use Rattle.chess_fen.specs.Writing.{cells_text, rank_text, placement_text}
@@ -14,9 +14,9 @@ abbrev pub below : (ℕ → List ℕ) → ℕ → List ℕ
 below text zero = []
 below text (suc rank) = 47 ∷ text rank ++ below text rank
 
-pub placement_text-ranks : (look : Look) → rank_text look 7 ++ below (rank_text look) 7 ≡ placement_text look
+pub placement_text-ranks : (man_on : Men) → rank_text man_on 7 ++ below (rank_text man_on) 7 ≡ placement_text man_on
 unfolding placement_text
-placement_text-ranks look = simp append-nil
+placement_text-ranks man_on = simp append-nil
 
 -- what stands on squares that follow one another
 map-board_of : (cells : List (Option Man)) (from n : ℕ) → from + n ≤ length cells → map (man_at (board_of cells)) (range_with_len from n) ≡ take n (drop from cells)

@@ -8,7 +8,7 @@
 --   target_in      the en passant target that is written (PGN 16.1.3.4)
 --   kept_target    that target, where a pawn's advance just made explains it
 --   counter_in     the halfmove clock or the fullmove number (PGN 16.1.3.5 and 16.1.3.6), at most 99,999
---   reading        the position, in which the side not to move isn't in check, or the fault
+--   fen_reading        the position, in which the side not to move isn't in check, or the fault
 use Rattle.std.specs.Prelude.{ℕ, ◌==◌, nat_le, max, Bool, true, false, not, ◌&&◌, if◌then◌else◌, List, [], ◌∷◌, length, count_by, Option, Some, None, option_map, Result, Ok, Err, ok_or, codes, bytes_eq}
 use Rattle.std.specs.List.{list_any, list_all, find}
 use Rattle.std.specs.Char.{is_ascii_digit}
@@ -19,14 +19,14 @@ use Rattle.chess_types.specs.declared.board.man.Colour.TheVariants.{White, Black
 use Rattle.chess_types.specs.declared.board.position.Rights.{Rights}
 use Rattle.chess_types.specs.declared.board.position.Wing.TheVariants.{KingSide, QueenSide}
 use Rattle.chess_types.specs.board.Squares.{squares}
-use Rattle.chess_types.specs.board.Board.{Board, Look, man_at}
+use Rattle.chess_types.specs.board.Board.{Board, Men, man_at}
 use Rattle.chess_types.specs.board.Cells.{board_of}
 use Rattle.chess_types.specs.board.Men.{opponent}
 use Rattle.chess_types.specs.board.Attack.{in_check}
-use Rattle.chess_types.specs.board.Position.{State, is_explained}
+use Rattle.chess_types.specs.board.Position.{PositionParts, is_explained}
 pub use Rattle.chess_types.specs.board.Faults.{has_one_king_each, is_edge, has_pawn_on_edge, has_at_most_16_each, is_home}
 use Rattle.chess_types.specs.board.Texts.{square_text}
-use Rattle.chess_types.specs.bytes.Words.{words}
+use Rattle.byte_streams.specs.Words.{words}
 use Rattle.chess_fen.specs.declared.fault.FenFault.{FenFault}
 use Rattle.chess_fen.specs.declared.fault.FenFault.TheVariants.{Fields, Placement, Kings, PawnRank, TooManyMen, Side, Castling, Target, Counter, InCheck}
 use Rattle.chess_fen.specs.Ranks.{board_cells}
@@ -113,12 +113,12 @@ castling_in field =
     if bytes_eq field (codes "-") then Ok no_rights else (if is_castling_field field then Ok (rights_of field) else Err Castling)
 
 -- the rights whose king and rook are at home
-unfoldable pub kept_rights : Look → Rights → Rights
-kept_rights look rights = record {
-  white_king = rights.white_king && is_home look White KingSide;
-  white_queen = rights.white_queen && is_home look White QueenSide;
-  black_king = rights.black_king && is_home look Black KingSide;
-  black_queen = rights.black_queen && is_home look Black QueenSide;
+unfoldable pub kept_rights : Men → Rights → Rights
+kept_rights man_on rights = record {
+  white_king = rights.white_king && is_home man_on White KingSide;
+  white_queen = rights.white_queen && is_home man_on White QueenSide;
+  black_king = rights.black_king && is_home man_on Black KingSide;
+  black_queen = rights.black_queen && is_home man_on Black QueenSide;
 }
 
 -- the square of that name
@@ -130,9 +130,9 @@ unfoldable pub target_in : List ℕ → Result (Option ℕ) FenFault
 target_in field = if bytes_eq field (codes "-") then Ok None else ok_or (option_map (λ s. Some s) (square_in field)) Target
 
 -- the target, where it is explained
-unfoldable pub kept_target : Colour → Look → Option ℕ → Option ℕ
-kept_target side look None = None
-kept_target side look (Some t) = if is_explained side look t then Some t else None
+unfoldable pub kept_target : Colour → Men → Option ℕ → Option ℕ
+kept_target side man_on None = None
+kept_target side man_on (Some t) = if is_explained side man_on t then Some t else None
 
 -- decimal digits, one or more, that write at most 99,999; zeros may stand first
 abbrev pub is_counter : List ℕ → Bool
@@ -143,8 +143,8 @@ unfoldable pub counter_in : List ℕ → Result ℕ FenFault
 counter_in field = if is_counter field then Ok (digits_value 10 field) else Err Counter
 
 -- a fullmove number of 0 is read as 1
-unfoldable pub reading : List ℕ → Result State FenFault
-reading text = do
+unfoldable pub fen_reading : List ℕ → Result PositionParts FenFault
+fen_reading text = do
   fields ← fields_in text
   placement ← board_in fields.placement
   side ← side_in fields.side

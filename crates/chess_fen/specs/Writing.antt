@@ -11,8 +11,8 @@ use Rattle.chess_types.specs.declared.board.man.Colour.{Colour}
 use Rattle.chess_types.specs.declared.board.man.Colour.TheVariants.{White, Black}
 use Rattle.chess_types.specs.declared.board.man.Man.{Man}
 use Rattle.chess_types.specs.declared.board.position.Rights.{Rights}
-use Rattle.chess_types.specs.board.Board.{Look}
-use Rattle.chess_types.specs.board.Position.{State, look}
+use Rattle.chess_types.specs.board.Board.{Men}
+use Rattle.chess_types.specs.board.Position.{PositionParts, man_on}
 use Rattle.chess_types.specs.board.Texts.{man_letter, square_text}
 
 -- the digit of so many empty squares, up to eight; nothing for none
@@ -30,12 +30,12 @@ abbrev pub rank_squares : ℕ → List ℕ
 rank_squares rank = range_with_len (8 * rank) 8
 
 -- the text of a rank
-unfoldable pub rank_text : Look → ℕ → List ℕ
-rank_text look rank = cells_text 0 (map look (rank_squares rank))
+unfoldable pub rank_text : Men → ℕ → List ℕ
+rank_text man_on rank = cells_text 0 (map man_on (rank_squares rank))
 
 -- the ranks, separated by slashes
-unfoldable pub placement_text : Look → List ℕ
-placement_text look = join_with_byte (byte "/") (map (rank_text look) (7 ∷ 6 ∷ 5 ∷ 4 ∷ 3 ∷ 2 ∷ 1 ∷ 0 ∷ []))
+unfoldable pub placement_text : Men → List ℕ
+placement_text man_on = join_with_byte (byte "/") (map (rank_text man_on) (7 ∷ 6 ∷ 5 ∷ 4 ∷ 3 ∷ 2 ∷ 1 ∷ 0 ∷ []))
 
 -- `w` or `b`
 abbrev pub side_text : Colour → List ℕ
@@ -63,6 +63,6 @@ target_text None = codes "-"
 target_text (Some square) = square_text square
 
 -- the FEN of a position
-unfoldable pub written : State → List ℕ
+unfoldable pub written : PositionParts → List ℕ
 written p =
-    join_with_byte (byte " ") (placement_text (look p) ∷ side_text p.side ∷ rights_text p.rights ∷ target_text p.target ∷ decimal p.clock ∷ decimal p.number ∷ [])
+    join_with_byte (byte " ") (placement_text (man_on p) ∷ side_text p.side ∷ rights_text p.rights ∷ target_text p.target ∷ decimal p.clock ∷ decimal p.number ∷ [])

@@ -1,9 +1,10 @@
 ghost use Rattle.std.specs.Prelude.{◌≡◌, ◌∷◌, [], IfOk, IfErr, OnErr};
-ghost use Rattle.chess_types.specs.bytes.Words.{words};
+ghost use Rattle.byte_streams.specs.Words.{words};
 ghost use Rattle.chess_fen.specs.Reading.{counters_in, fields_in, side_in};
 
 use super::fault::FenFault;
-use chess_types::{Colour, split_word};
+use byte_streams::split_word;
+use chess_types::Colour;
 
 /// The texts of the six fields.
 #[derive(Drop)]

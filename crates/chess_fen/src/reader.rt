@@ -1,6 +1,6 @@
 ghost use Rattle.std.specs.Prelude.{◌≡◌, ◌≤◌, IfOk};
 ghost use Rattle.chess_types.specs.board.Position.{IsWellFormed};
-ghost use Rattle.chess_fen.specs.Reading.{reading};
+ghost use Rattle.chess_fen.specs.Reading.{fen_reading};
 
 use super::counters::read_counter;
 use super::fault::FenFault;
@@ -19,9 +19,9 @@ use chess_types::{Position, Setup};
 /// # Errors
 ///
 /// The first fault of the text, in the order of `FenFault`.
-#[tactic(auto, unfolding(crate::specs::Reading::reading))]
+#[tactic(auto, unfolding(crate::specs::Reading::fen_reading))]
 pub fn read(text: &[u8]) -> Result<Position, FenFault>
-    ensures exact { result ≡ reading text.now }
+    ensures exact { result ≡ fen_reading text.now }
     ensures well_formed { IfOk result IsWellFormed }
     ensures counters { IfOk result (λ p. (p.clock ≤ 99999) × (p.number ≤ 99999)) }
 {

@@ -3,7 +3,7 @@ ghost use Rattle.arrayvec.specs.ArrayString.{array_string_len};
 ghost use Rattle.chess_types.specs.declared.board.man.Man.{Man};
 ghost use Rattle.chess_types.specs.board.Board.{man_at};
 ghost use Rattle.chess_types.specs.board.Cells.{board_of};
-ghost use Rattle.chess_fen.specs.Reading.{reading};
+ghost use Rattle.chess_fen.specs.Reading.{fen_reading};
 ghost use Rattle.chess_fen.specs.Writing.{run_text, cells_text, placement_text, side_text, rights_text, target_text, written};
 
 use arrayvec::ArrayString;
@@ -127,7 +127,7 @@ fn target_text(target: Option<Square>) -> ArrayString<2>
 #[tactic(auto, unfolding(crate::specs::Writing::written))]
 pub fn write(position: &Position) -> ArrayString<128>
     ensures bytes { result.bytes ≡ written position.now }
-    ensures read_back { position.now.clock ≤ 99999 → position.now.number ≤ 99999 → reading result.bytes ≡ Ok position.now }
+    ensures read_back { position.now.clock ≤ 99999 → position.now.number ≤ 99999 → fen_reading result.bytes ≡ Ok position.now }
 {
     let setup = position.setup();
     let mut text = ArrayString::new();

@@ -1,25 +1,56 @@
-ghost use Rattle.std.specs.Prelude.{◌≡◌, false};
+ghost use Rattle.std.specs.Prelude.{◌≡◌, ℕ, ◌≤◌, if◌then◌else◌, [], false, None, IfOk, OnOk};
+ghost use Rattle.byte_streams.specs.Calls.{Carries};
+ghost use Rattle.chess_items.specs.Sections.{PassesOver};
 ghost use Rattle.chess_pgn.specs.Sources.{IsSound};
+ghost use Rattle.chess_pgn.specs.Written.{game_text};
+ghost use Rattle.chess_pgn.specs.steps.GameCode.{game_of};
+ghost use Rattle.chess_games.specs.Filtered.{IsFiltered, IsGoneOver};
 
-use chess_loop::write_all;
-use chess_pgn::{Game, Games, PgnFault, write_game};
+use crate::part::Part;
+use crate::put::put;
+use byte_streams::{Sink, Source};
+use chess_pgn::{Game, Games, PgnFault, Texts, write_game_with};
 use chess_programs::{Failure, GAMES, Progress, fault_of};
-use chess_types::{Sink, Source};
 use std::alloc::Allocator;
+
+/// What is asked of a run over games.
+#[derive(Clone, Copy, Debug, PartialEq, Eq)]
+pub struct Wanted {
+    /// The games that are written or reported.
+    pub part: Part,
+    /// At the end a line with the number of games and of bytes, on the standard error.
+    pub totals: bool,
+}
 
 // Writes the export form of a game.
 fn write_one<'a, A: Allocator, W: Sink>(
     alloc: &'a A,
     game: &Game<'a, A>,
+    texts: &Texts<'a, A>,
     writer: &mut W,
-) -> Result<(), Failure> {
-    let Ok(text) = write_game(alloc, game) else {
+) -> Result<(), Failure>
+    ensures { OnOk result (Carries W.takes writer.old (game_text (game_of game.now)) writer.new) }
+{
+    let Ok(text) = write_game_with(alloc, game, texts) else {
         return Err(Failure::Memory);
     };
-    match write_all(writer, text.as_slice()) {
-        Ok(()) => Ok(()),
-        Err(_) => Err(Failure::Write),
+    put(writer, text.as_slice())
+}
+
+// The same, if the game is asked for.
+fn write_if<'a, A: Allocator, W: Sink>(
+    alloc: &'a A,
+    is_asked: bool,
+    game: &Game<'a, A>,
+    texts: &Texts<'a, A>,
+    writer: &mut W,
+) -> Result<(), Failure>
+    ensures { OnOk result (Carries W.takes writer.old (if is_asked then game_text (game_of game.now) else []) writer.new) }
+{
+    if !is_asked {
+        return Ok(());
     }
+    write_one(alloc, game, texts, writer)
 }
 
 // A line on the standard error with the number of a game, from 1, and its fault. A fault of the standard error is ignored.
@@ -28,37 +59,79 @@ fn report(rt: &HostRuntime, number: u64, fault: PgnFault) {
     let _ = eprintln!(rt; "game {number}: fault {place} {kind} {name}");
 }
 
-// Writes the good games, and goes on after the others; how many there were of those.
+// A line on the standard error with the number of all games and of their bytes. A fault of the standard error is ignored.
+fn report_totals(rt: &HostRuntime, games: u64, bytes: u64) {
+    let _ = eprintln!(rt; "games {games}, bytes {bytes}");
+}
+
+// The same of the game after so many others, if it is asked for; how many lines that were.
+fn report_if(rt: &HostRuntime, is_asked: bool, before: u64, fault: PgnFault) -> u64
+    ensures count { result ≡ (if is_asked then 1 else 0) }
+    ensures one { result ≤ 1 }
+{
+    if !is_asked {
+        return 0;
+    }
+    report(rt, before.saturating_add(1), fault);
+    1
+}
+
+// Passes over the rest of a bad game.
+fn pass<'a, A: Allocator, R: Source>(games: &mut Games<'a, R, A>) -> Result<(), Failure>
+    requires sound { IsSound R.ended games.old }
+    ensures sound { IsSound R.ended games.new }
+    ensures good { OnOk result (games.new.fault ≡ None) }
+    ensures passes { OnOk result ((count : ℕ) × PassesOver R.gives R.failed games.old.text games.new.text count) }
+{
+    match games.pass_over() {
+        Ok(_count) => Ok(()),
+        Err(fault) => {
+            let _fault = fault_of(fault)?;
+            Err(Failure::Read)
+        }
+    }
+}
+
+// Writes the good games of a part, and goes on after the others; how many there were of those in it.
 fn write_good<'a, A: Allocator, R: Source, W: Sink>(
     rt: &HostRuntime,
     alloc: &'a A,
+    wanted: &Wanted,
     games: &mut Games<'a, R, A>,
     writer: &mut W,
     progress: &mut Progress<'_>,
 ) -> Result<u64, Failure>
     requires sound { IsSound R.ended games.old }
+    requires none { games.old.fault ≡ None }
+    ensures { IfOk result (λ bad. IsGoneOver R.gives R.failed R.ended W.takes wanted.now.part games.old.text writer.old writer.new bad) }
 {
     let mut bad = 0u64;
+    let mut texts = Texts::new(alloc);
     for before in 0..GAMES {
         progress.show(games.used(), before);
-        match games.next() {
-            Ok(None) => return Ok(bad),
-            Ok(Some(game)) => write_one(alloc, &game, writer)?,
-            Err(fault) => {
-                report(rt, before.saturating_add(1), fault_of(fault)?);
-                bad = bad.saturating_add(1);
-                if let Err(fault) = games.pass_over() {
-                    let _fault = fault_of(fault)?;
-                    return Err(Failure::Read);
+        let is_asked = wanted.part.has(before);
+        match games.next_with(&mut texts) {
+            Ok(None) => {
+                if wanted.totals {
+                    report_totals(rt, before, games.used());
                 }
+                return Ok(bad);
+            }
+            Ok(Some(game)) => {
+                write_if(alloc, is_asked, &game, &texts, writer)?;
+            }
+            Err(fault) => {
+                let fault = fault_of(fault)?;
+                bad += report_if(rt, is_asked, before, fault);
+                pass(games)?;
             }
         }
     }
     Err(Failure::Read)
 }
 
-/// Writes the good games of the reader in export form (PGN 3.2), each before the next is read, and reports the others by number, place and fault on the
-/// standard error. Returns how many others there were.
+/// Writes the good games of a part of the reader's games in export form (PGN 3.2), each before the next is read, and reports the others of the part by
+/// number, place and fault on the standard error. Returns how many others there were in it.
 ///
 /// # Errors
 ///
@@ -66,13 +139,15 @@ fn write_good<'a, A: Allocator, R: Source, W: Sink>(
 pub fn filter<A: Allocator, R: Source + Drop, W: Sink>(
     rt: &HostRuntime,
     alloc: A,
+    wanted: Wanted,
     reader: R,
     writer: &mut W,
     progress: &mut Progress<'_>,
 ) -> Result<u64, Failure>
     requires reader { R.failed reader ≡ false }
     requires writer { W.failed writer.old ≡ false }
+    ensures { IfOk result (λ bad. IsFiltered R.gives R.failed R.ended W.takes wanted.part reader writer.old writer.new bad) }
 {
     let mut games = Games::new(&alloc, reader);
-    write_good(rt, &alloc, &mut games, writer, progress)
+    write_good(rt, &alloc, &wanted, &mut games, writer, progress)
 }

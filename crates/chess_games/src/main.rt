@@ -1,39 +1,68 @@
 //! The good games of a collection. Reads games from the standard input, one after another, and writes each in export form (PGN 3.2) on the standard
 //! output, as `chess pgn` does. At a game that can't be read it goes on: the standard error gets a line with the game's number, the place of
-//! the fault in bytes from the input's beginning, and its kind, and reading goes on at the next section of tags (`Games::pass_over`).
+//! the fault in bytes from the input's beginning, and its kind, and reading goes on at the next section of tags (`Games::pass_over`). With `--part K/N`
+//! only every N-th game is written or reported, from game K: N processes over the same input write all games together. With `--cut BYTES` the input is
+//! copied, with a zero byte between pieces of whole games, for as many processes.
 #![tactic(auto)]
 
+mod cut;
 mod filter;
+mod part;
+mod put;
 #[cfg(test)]
 mod tests;
 mod words;
 
+use byte_streams::{FromRead, ToWrite};
 use chess_programs::{FAILED, Progress, Refused, SOME_REFUSED, read_words};
-use chess_types::{FromRead, ToWrite};
-use filter::filter;
+use cut::{CutFault, cut};
+use filter::{Wanted, filter};
 use std::process::ExitCode;
-use words::parse_words;
+use words::{Words, parse_words};
 
-// Whether a line is asked for once a second.
-fn asked(rt: &HostRuntime) -> Result<bool, Refused> {
+// What is asked for.
+fn asked(rt: &HostRuntime) -> Result<Words, Refused> {
     let words = read_words(rt)?;
     parse_words(rt.alloc(), words.as_slice())
 }
 
-fn main(rt: HostRuntime) -> ExitCode {
-    let shows_progress = match asked(&rt) {
-        Ok(shows_progress) => shows_progress,
-        Err(refused) => return refused.end(&rt),
-    };
-    let mut progress = Progress::new(&rt, shows_progress);
+// Reads the games, and writes the good ones; the exit status.
+fn run_filter(rt: &HostRuntime, wanted: Wanted, progress: bool) -> u8 {
+    let mut progress = Progress::new(rt, progress);
     let reader = FromRead::new(rt.stdin());
     let mut writer = ToWrite::new(rt.stdout());
-    match filter(&rt, rt.alloc(), reader, &mut writer, &mut progress) {
-        Ok(0) => ExitCode::SUCCESS,
-        Ok(_) => ExitCode::from(SOME_REFUSED),
+    match filter(rt, rt.alloc(), wanted, reader, &mut writer, &mut progress) {
+        Ok(0) => 0,
+        Ok(_) => SOME_REFUSED,
         Err(failure) => {
             let _ = eprintln!(rt; "{failure}");
-            ExitCode::from(FAILED)
+            FAILED
         }
     }
+}
+
+// Cuts the input; the exit status.
+fn run_cut(rt: &HostRuntime, least: u64) -> u8 {
+    let reader = FromRead::new(rt.stdin());
+    let mut writer = ToWrite::new(rt.stdout());
+    match cut(rt.alloc(), least, reader, &mut writer) {
+        Ok(()) => 0,
+        Err(CutFault::Zero) => {
+            let _ = eprintln!(rt; "a zero byte in the input");
+            FAILED
+        }
+        Err(CutFault::Failure(failure)) => {
+            let _ = eprintln!(rt; "{failure}");
+            FAILED
+        }
+    }
+}
+
+fn main(rt: HostRuntime) -> ExitCode {
+    let status = match asked(&rt) {
+        Err(refused) => return refused.end(&rt),
+        Ok(Words::Filter { wanted, progress }) => run_filter(&rt, wanted, progress),
+        Ok(Words::Cut(least)) => run_cut(&rt, least),
+    };
+    ExitCode::from(status)
 }

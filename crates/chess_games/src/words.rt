@@ -1,17 +1,56 @@
+use crate::filter::Wanted;
+use crate::part::{Part, positive};
 use chess_programs::{Refused, VERSION, why_refused};
 use clap::{Arg, ArgAction, Command, Error};
 use std::alloc::Global;
 use std::convert::AsStr;
+
+/// What the program is to do.
+#[derive(Clone, Copy, Debug, PartialEq, Eq)]
+pub enum Words {
+    /// Games are read, with a line on the standard error once a second where that is asked for.
+    Filter { wanted: Wanted, progress: bool },
+    /// The input is cut into pieces of at least so many bytes.
+    Cut(u64),
+}
 
 const ABOUT: &str =
     "Jatshegi 0.2.0: the good games of the standard input, in export form, on the standard output.";
 
 const AFTER: &str = "\
 Of each game that can't be read the standard error has a line `game NUMBER: fault PLACE KIND NAME`; reading goes on
-at the next `[` after an empty line. The exit status is 0, 2 where a game was refused, 1 for wrong words, 3 where
-a stream or memory failed.";
+at the next `[` after an empty line. With `--part K/N` only the games K, K + N, K + 2 N .. are written or reported, so
+that N processes over one file write all of them. With `--cut BYTES` the input is copied, with a zero byte between
+pieces of whole games, at least so many bytes each; a process over each piece with `--totals` writes its games. The exit
+status is 0, 2 where a game was refused, 1 for wrong words, 3 where a stream or memory failed, or where the input to be
+cut has a zero byte.";
 
-fn matched<S: AsStr>(alloc: Global, words: &[S]) -> Result<bool, Error> {
+const NO_PART: &str = "\
+error: the value for '--part <part>' is K/N, two numbers from 1, K at most N
+
+For more information, try '--help'.
+";
+
+const NO_BYTES: &str = "\
+error: the value for '--cut <cut>' is a number from 1
+
+For more information, try '--help'.
+";
+
+// What the words ask for; the refusal where a value is none.
+fn matched<S: AsStr>(alloc: Global, words: &[S]) -> Result<Result<Words, &'static str>, Error> {
+    let part = Arg::new(alloc, "part")
+        .long("part")
+        .help("every N-th game alone, from game K, as 1/4")
+        .action(ArgAction::Set);
+    let cut = Arg::new(alloc, "cut")
+        .long("cut")
+        .help("copy the input, cut into pieces of at least so many bytes")
+        .action(ArgAction::Set);
+    let totals = Arg::new(alloc, "totals")
+        .long("totals")
+        .help("the number of games and bytes at the end, on the standard error")
+        .action(ArgAction::SetTrue);
     let progress = Arg::new(alloc, "progress")
         .long("progress")
         .help("bytes and games so far, once a second, on the standard error")
@@ -20,15 +59,34 @@ fn matched<S: AsStr>(alloc: Global, words: &[S]) -> Result<bool, Error> {
         .about(ABOUT)
         .version(VERSION)
         .after_help(AFTER)
+        .arg(part)?
+        .arg(cut)?
+        .arg(totals)?
         .arg(progress)?;
     let matches = command.try_get_matches_from(words)?;
-    Ok(matches.get_flag("progress"))
+    if let Some(text) = matches.get_str("cut") {
+        return Ok(positive(text).map(Words::Cut).ok_or(NO_BYTES));
+    }
+    let part = match matches.get_str("part") {
+        Some(text) => Part::parse(text),
+        None => Some(Part::whole()),
+    };
+    let Some(part) = part else {
+        return Ok(Err(NO_PART));
+    };
+    let totals = matches.get_flag("totals");
+    let progress = matches.get_flag("progress");
+    Ok(Ok(Words::Filter {
+        wanted: Wanted { part, totals },
+        progress,
+    }))
 }
 
-/// Whether the words ask for a line once a second. `--help` and `--version` are refused, too, with their text.
-pub fn parse_words<S: AsStr>(alloc: Global, words: &[S]) -> Result<bool, Refused> {
+/// What the words ask for. `--help` and `--version` are refused, too, with their text.
+pub fn parse_words<S: AsStr>(alloc: Global, words: &[S]) -> Result<Words, Refused> {
     match matched(alloc, words) {
-        Ok(shows_progress) => Ok(shows_progress),
+        Ok(Ok(words)) => Ok(words),
+        Ok(Err(wrong)) => Err(Refused::Words(format!(in alloc; "{wrong}")?)),
         Err(error) => Err(why_refused(alloc, error)),
     }
 }

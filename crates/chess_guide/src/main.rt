@@ -14,7 +14,9 @@ use chess_types::{Move, Position};
 use std::alloc::Allocator;
 use std::io;
 use std::process::ExitCode;
-use tasks::{built, game, legal_moves, main_line, moves_as_texts, search, tags, variations};
+use tasks::{
+    built, game, joined, legal_moves, main_line, moves_as_texts, search, tags, variations,
+};
 
 /// Plays a move on the line and in the tree, and returns whether it could. That the move is legal is asked once, of the line; the prover
 /// carries it over to the tree, since both have the same moves.
@@ -63,6 +65,7 @@ fn run(rt: &HostRuntime) -> io::Result<()> {
     game(rt, &["f3", "e5", "g4", "Qh4#"])?;
     main_line(rt, "1. e4 {best by test} e5 (1... c5) (1... e6) 2. Nf3 *")?;
     variations(rt, "1. e4 e5 (1... c5 {Sicilian} 2. Nf3 (2. c3)) 2. Nf3 *")?;
+    joined(rt, "1. e4 e5 2. Nf3 *", "1. e4 c5 2. Nf3 d6 *")?;
     tags(rt, "1. f3 e5 2. g4 Qh4# *")?;
     search(rt, "6k1/5ppp/8/8/8/8/8/R5K1 w - - 0 1")?;
     built(rt)?;

@@ -1,17 +1,22 @@
+ghost use Rattle.std.specs.Prelude.{◌≡◌, ℕ, [], IfSome};
+ghost use Rattle.chess_pgn.specs.Reading.{IsAtFront};
+ghost use Rattle.chess_pgn.specs.steps.GameCode.{game_of};
+
 use chess_attack::position;
 use chess_draws::Line;
-use chess_edit::set_tag;
+use chess_edit::{join, set_tag};
 use chess_fen::read;
 use chess_key::KeyTable;
 use chess_lines::{move_texts, outcome_by};
 use chess_moves::moves;
-use chess_pgn::{read_game, write_game};
+use chess_pgn::{Game, read_game, write_game};
 use chess_play::Live;
 use chess_report::Report;
 use chess_search::score_text;
 use chess_tree::Analysis;
 use chess_types::{Colour, Draft, Kind, Man, Position, Square};
 use chess_walk::Replay;
+use std::alloc::Allocator;
 use std::io;
 
 /// The legal moves of the position that a FEN spells.
@@ -92,6 +97,47 @@ pub fn variations(rt: &HostRuntime, text: &str) -> io::Result<()> {
         )?;
     }
     Ok(())
+}
+
+// The game at the start of a text.
+fn first_game<'a, A: Allocator>(alloc: &'a A, text: &str) -> Option<Game<'a, A>>
+    ensures { IfSome result (λ game. (used : ℕ) × IsAtFront text.now (game_of game) used) }
+{
+    match read_game(alloc, text.as_bytes()) {
+        Ok(Some((game, _))) => Some(game),
+        _ => None,
+    }
+}
+
+// The game of a text with the main line of another's as a variation where they part.
+fn joined_game<'a, A: Allocator>(alloc: &'a A, text: &str, other: &str) -> Option<Game<'a, A>>
+    ensures cursor { IfSome result (λ game. game.tree.path ≡ []) }
+{
+    let mut game = first_game(alloc, text)?;
+    let second = first_game(alloc, other)?;
+    match join(&mut game, &second) {
+        Ok(()) => Some(game),
+        Err(_) => None,
+    }
+}
+
+/// Two games as one, taken up to go on with it.
+pub fn joined(rt: &HostRuntime, text: &str, other: &str) -> io::Result<()> {
+    let (alloc, table) = (rt.alloc(), KeyTable::fixed());
+    let Some(game) = joined_game(&alloc, text, other) else {
+        return println!(rt; "no two games to join");
+    };
+    let Ok(mut analysis) = Analysis::of(game.tree, &table) else {
+        return println!(rt; "out of memory");
+    };
+    let _there = analysis.step(0);
+    let ways = analysis.tree().child_count();
+    analysis.end();
+    println!(rt;
+        "{ways} ways after the first move, {} plies, {:?}",
+        analysis.line().plies(),
+        analysis.status()
+    )
 }
 
 /// A game with tags set by their rules, and its outcome by the Laws; a game that ends in mate.

@@ -1,7 +1,7 @@
 -- White space and hidden lines, piece by piece.
 use Rattle.std.proofs.Common.{◌≡◌, ℕ, ◌+◌, ◌≤◌, true, false, List, [], ◌∷◌, ◌++◌, Option, Some, None, is_some, refl, sym, ap, ◌∙◌, append_assoc, append-nil, Ok}
-use Rattle.chess_types.specs.bytes.Calls.{Calls, joined}
-use Rattle.chess_types.proofs.CallLemmas.{Calls-more, joined-more}
+use Rattle.byte_streams.specs.Calls.{Calls, joined}
+use Rattle.byte_streams.proofs.CallLemmas.{Calls-more, joined-more}
 use Rattle.chess_items.specs.steps.Skipping.{white_next, white_after, column_at, Skips}
 use Rattle.chess_items.specs.steps.Texts.{BreaksOff, Refills}
 use Rattle.chess_items.specs.declared.at_hand.Fault.{Fault}

@@ -3,8 +3,8 @@ use Rattle.std.proofs.Common.{◌≡◌, ◌<◌, ℕ, ◌+◌, ◌*◌, inl, in
 use Rattle.std.specs.List.{AllByRecursion}
 use Rattle.std.proofs.lemmas.Bool.{false≢true}
 use Rattle.std.specs.Prelude.{Result}
-use Rattle.chess_types.specs.bytes.Calls.{Calls, joined}
-use Rattle.chess_types.proofs.CallLemmas.{Calls-append, joined-append}
+use Rattle.byte_streams.specs.Calls.{Calls, joined}
+use Rattle.byte_streams.proofs.CallLemmas.{Calls-append, joined-append}
 use Rattle.chess_items.specs.Coming.{AtHand, Breaks, Came, unread}
 use Rattle.chess_items.specs.steps.AtHands.{Reads, Tries}
 use Rattle.chess_items.specs.steps.Deciding.{Decides}

@@ -2,8 +2,8 @@
 use Rattle.std.proofs.Common.{◌<◌, take, drop, ◌+◌, ◌-◌, ◌≡◌, ◌≢◌, ℕ, length-append, ◌≤◌, ◌⊎◌, inl, inr, Bool, true, false, List, [], ◌∷◌, ◌++◌, length, Some, None, refl, sym, ap, subst, ◌∙◌, arith, append_assoc, append-nil, Ok}
 use Rattle.std.proofs.lemmas.List.{take-append-drop, take-append-le}
 use Rattle.std.specs.Str.{byte}
-use Rattle.chess_types.specs.bytes.Calls.{Calls, joined}
-use Rattle.chess_types.proofs.CallLemmas.{Calls-more, joined-more}
+use Rattle.byte_streams.specs.Calls.{Calls, joined}
+use Rattle.byte_streams.proofs.CallLemmas.{Calls-more, joined-more}
 use Rattle.chess_items.specs.Items.{Item, TagOpen, is_white, may_stand, place_after}
 use Rattle.chess_items.specs.steps.ItemAt.{Found, item_at}
 use Rattle.chess_items.specs.steps.Deciding.{longer, Decides, is_open}
@@ -117,8 +117,8 @@ found_decides place hand item rest found some = go (is_open place hand) refl
 
 -- what follows the item that is found is a part of the bytes
 pub found_within : (place : Place) {hand bytes again : List ℕ} {item : Item} {rest : List ℕ} → bytes ≡ hand → the item rest ≡ item_at place bytes → again ≡ hand → length rest ≤ length again
-found_within place {hand} {bytes} {again} {item} {rest} same look once_more =
-    let s = item_shorter place bytes item rest (sym look) in
+found_within place {hand} {bytes} {again} {item} {rest} same man_on once_more =
+    let s = item_shorter place bytes item rest (sym man_on) in
     let n = ap length once_more in
     let m = ap length same in
     omega (arith, s, n, m)
@@ -163,12 +163,12 @@ module _ {X : Type 0} {comes : X → List ℕ → X → Type 0} {at_hand : X →
 
   -- nothing came
   pub seen_at_once : {old : X} {bytes : List ℕ} {item : Item} {rest : List ℕ} → sound old → bytes ≡ at_hand old → the item rest ≡ item_at place bytes → 0 < length rest → Seen comes at_hand all sound size most place old old
-  seen_at_once {old = old} {item = item} {rest = rest} sure same look some = record {
+  seen_at_once {old = old} {item = item} {rest = rest} sure same man_on some = record {
     pieces = [];
     came = refl;
     after = record {
       longer = sym (append-nil (at_hand old));
-      decided = inl (found_decides place (at_hand old) item rest (ap (item_at place) (sym same) ∙ sym look) some);
+      decided = inl (found_decides place (at_hand old) item rest (ap (item_at place) (sym same) ∙ sym man_on) some);
       near = inl refl;
       asked = inl (refl, λ h. h);
       at_end = λ h. (refl, h);
@@ -198,33 +198,33 @@ module _ {X : Type 0} {comes : X → List ℕ → X → Type 0} {at_hand : X →
   -- what is found at the beginning is found whatever follows
   module _ {bytes : List ℕ} (same : bytes ≡ at_hand mid) where
     finds : (found : Found) → found ≡ item_at place bytes → (more : List ℕ) → (all mid → more ≡ []) → item_at place (at_hand mid ++ more) ≡ longer found more
-    finds found look more none = decided_item place (at_hand mid) more found (all mid) ready.after.decided none (ap (item_at place) (sym same) ∙ sym look)
+    finds found man_on more none = decided_item place (at_hand mid) more found (all mid) ready.after.decided none (ap (item_at place) (sym same) ∙ sym man_on)
 
     -- no item
-    module _ (look : None ≡ item_at place bytes) {seen : List ℕ} (as_seen : seen ≡ at_hand mid) {T : Type 0} {takes : TakesOne T} {at : ℕ} {t : T} where
+    module _ (man_on : None ≡ item_at place bytes) {seen : List ℕ} (as_seen : seen ≡ at_hand mid) {T : Type 0} {takes : TakesOne T} {at : ℕ} {t : T} where
       -- and too many bytes for its fault
       pub step_exceeds : (most < length seen) × (Decides place (take (most + 1) seen) → ⊥) → Steps comes at_hand all sound size takes at most place old mid t t (Ok (step.Stops stop.TooLarge))
       step_exceeds exceeds =
           let both = subst (λ (x : List ℕ). (most < length x) × (Decides place (take (most + 1) x) → ⊥)) as_seen exceeds in
           stops stop.TooLarge t (record {
-            over = λ more none. none_oversized most place (at_hand mid) more both.0 both.1 (finds None look more none);
-            bracket = λ more none rest found. absurd (none_is_some rest (sym (finds None look more none) ∙ found));
+            over = λ more none. none_oversized most place (at_hand mid) more both.0 both.1 (finds None man_on more none);
+            bracket = λ more none rest found. absurd (none_is_some rest (sym (finds None man_on more none) ∙ found));
           })
 
       pub step_none : at_hand mid ≢ [] → (most < length seen → Decides place (take (most + 1) seen)) → Steps comes at_hand all sound size takes at most place old mid t t (Ok (step.Stops stop.NoItem))
       step_none some within =
           stops stop.NoItem t
-          (record { none = finds None look; decided = ready.after.decided; within = subst (λ (x : List ℕ). most < length x → Decides place (take (most + 1) x)) as_seen within; some = some }, refl)
+          (record { none = finds None man_on; decided = ready.after.decided; within = subst (λ (x : List ℕ). most < length x → Decides place (take (most + 1) x)) as_seen within; some = some }, refl)
 
-    module _ {item : Item} {rest : List ℕ} (look : the item rest ≡ item_at place bytes) {again : List ℕ} (once_more : again ≡ at_hand mid) where
+    module _ {item : Item} {rest : List ℕ} (man_on : the item rest ≡ item_at place bytes) {again : List ℕ} (once_more : again ≡ at_hand mid) where
       found : item_at place (at_hand mid) ≡ the item rest
-      found = ap (item_at place) (sym same) ∙ sym look
+      found = ap (item_at place) (sym same) ∙ sym man_on
 
       found_on : (more : List ℕ) → (all mid → more ≡ []) → item_at place (at_hand mid ++ more) ≡ the item (rest ++ more)
-      found_on = finds (the item rest) look
+      found_on = finds (the item rest) man_on
 
       rest_within : length rest ≤ length again
-      rest_within = found_within place same look once_more
+      rest_within = found_within place same man_on once_more
 
       abbrev used : ℕ
       used = length again - length rest

@@ -1,7 +1,7 @@
 -- White items before the limit, and white space and hidden lines after it.
 use Rattle.std.proofs.Common.{◌≡◌, ℕ, ◌+◌, inl, inr, Bool, true, false, ◌&&◌, List, [], ◌∷◌, ◌++◌, length, refl, sym, ap, subst, ◌∙◌, arith, append-nil, length-append, Ok}
-use Rattle.chess_types.specs.bytes.Calls.{joined}
-use Rattle.chess_types.proofs.CallLemmas.{Calls-append, joined-append}
+use Rattle.byte_streams.specs.Calls.{joined}
+use Rattle.byte_streams.proofs.CallLemmas.{Calls-append, joined-append}
 use Rattle.chess_items.specs.Items.{Item, Mark, Blank, Hidden}
 use Rattle.chess_items.specs.Items.{is_outside, is_white, place_after}
 use Rattle.chess_items.specs.steps.Passing.{AreWhite, WasWhite, Passed, PassBreaks}

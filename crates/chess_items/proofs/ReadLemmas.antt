@@ -1,7 +1,7 @@
 -- Lemmas on bytes at hand and calls.
 use Rattle.std.proofs.Common.{◌≡◌, ℕ, ◌+◌, ◌*◌, ◌-◌, ◌≤◌, List, [], ◌∷◌, ◌++◌, length, take, drop, refl, sym, ap, subst, ◌∙◌, arith, append_assoc, append-nil, length-append}
 use Rattle.std.proofs.lemmas.List.{take-append-drop, drop_at, take_at}
-use Rattle.chess_types.specs.bytes.Calls.{joined}
+use Rattle.byte_streams.specs.Calls.{joined}
 use Rattle.chess_items.specs.steps.Deciding.{Decides}
 use Rattle.chess_items.specs.steps.AtHands.{Needed}
 use Rattle.chess_items.specs.declared.place.Place.{Place}

@@ -2,8 +2,8 @@
 use Rattle.std.proofs.Common.{◌≡◌, ◌<◌, ℕ, ◌+◌, ◌≤◌, Bool, true, false, List, [], ◌∷◌, ◌++◌, length, take, refl, sym, ap, subst, ◌∙◌, arith, append_assoc, append-nil, length-append, Ok}
 use Rattle.std.specs.List.{AllByRecursion}
 use Rattle.std.proofs.lemmas.Bool.{false≢true}
-use Rattle.chess_types.specs.bytes.Calls.{Calls, joined}
-use Rattle.chess_types.proofs.CallLemmas.{Calls-more, joined-more}
+use Rattle.byte_streams.specs.Calls.{Calls, joined}
+use Rattle.byte_streams.proofs.CallLemmas.{Calls-more, joined-more}
 use Rattle.chess_items.specs.steps.Deciding.{Decides}
 use Rattle.chess_items.specs.Coming.{AtHand, Came, unread}
 use Rattle.chess_items.specs.steps.AtHands.{Reads, Needed}

@@ -1,7 +1,7 @@
 -- All bytes at hand are used, and one read brings more.
 use Rattle.std.proofs.Common.{◌≡◌, ℕ, ◌+◌, ◌≤◌, Bool, true, false, not, List, [], ◌∷◌, ◌++◌, length, refl, sym, ap, subst, ◌∙◌, arith, append-nil, Result, Ok, Err}
 use Rattle.std.proofs.lemmas.Bool.{false≢true}
-use Rattle.chess_types.specs.bytes.Calls.{joined}
+use Rattle.byte_streams.specs.Calls.{joined}
 use Rattle.chess_items.specs.Coming.{AtHand, unread}
 use Rattle.chess_items.specs.steps.AtHands.{Reads, AfterReading, HasRefilled, Refilled}
 use Rattle.chess_items.specs.steps.Texts.{BreaksOff, Refills}

@@ -5,7 +5,7 @@
 --   Breaks  the next read failed, or there may be no more: of a new source, 2^40 were made
 use Rattle.std.specs.Prelude.{◌≡◌, ◌⊎◌, ◌<◌, ◌≤◌, ℕ, ◌+◌, ◌*◌, Bool, true, false, List, [], length}
 use Rattle.std.specs.List.{AllByRecursion}
-use Rattle.chess_types.specs.bytes.Calls.{Calls, joined}
+use Rattle.byte_streams.specs.Calls.{Calls, joined}
 
 pub record AtHand (R : Type 0) : Type 0 where
   pub source : R

@@ -6,7 +6,7 @@ ghost use Rattle.chess_items.specs.declared.at_hand.Fault.TheVariants.{Memory};
 use crate::cut::is_undecided;
 use crate::place::Place;
 use crate::sections::{Feeds, find_section};
-use chess_types::Source;
+use byte_streams::Source;
 use std::alloc::{AllocError, Allocator};
 use std::marker::Model;
 

@@ -5,7 +5,7 @@ ghost use Rattle.chess_items.specs.steps.Texts.{BreaksAt, BreaksOff, MadeReady, 
 
 use crate::at_hand::{AtHand, Fault};
 use crate::place::Place;
-use chess_types::Source;
+use byte_streams::Source;
 use std::alloc::Allocator;
 
 /// A text. Contracts know the bytes at hand, which bytes come, and whether all have come.

@@ -4,7 +4,7 @@ use Rattle.std.proofs.Math.Nat.{mod-add-mod, add-mod_right}
 use Rattle.std.specs.Ordering.{nat_cmp}
 use Rattle.std.specs.FinMap.{get, insert, remove, empty, get-empty}
 use Rattle.chess_types.specs.declared.board.man.Man.{Man}
-use Rattle.chess_types.specs.board.Board.{Board, Look, man_at}
+use Rattle.chess_types.specs.board.Board.{Board, Men, man_at}
 use Rattle.chess_types.specs.board.Squares.{squares}
 use Rattle.chess_types.proofs.BoardLaws.{boards}
 use Rattle.chess_attack.proofs.Replaces.{put-again}
@@ -12,36 +12,36 @@ use Rattle.chess_key.specs.Keys.{key_word, word_there, word_on, key_of}
 use Rattle.chess_key.proofs.Sums.{run, run-none, run-more, run-zero, run-one}
 
 -- the sum over the first squares
-abbrev pub sum_below : List ℕ → Look → ℕ → ℕ
-sum_below words look n = run (word_on words look) 0 n
+abbrev pub sum_below : List ℕ → Men → ℕ → ℕ
+sum_below words man_on n = run (word_on words man_on) 0 n
 
 -- the key of the men on the first squares
-unfoldable pub key_below : List ℕ → Look → ℕ → ℕ
-key_below words look n = sum_below words look n % 2 ^ 64
+unfoldable pub key_below : List ℕ → Men → ℕ → ℕ
+key_below words man_on n = sum_below words man_on n % 2 ^ 64
 
-key_is_sum : (words : List ℕ) (look : Look) → key_of words look ≡ sum_below words look 64 % 2 ^ 64
+key_is_sum : (words : List ℕ) (man_on : Men) → key_of words man_on ≡ sum_below words man_on 64 % 2 ^ 64
 unfolding key_of squares run
-key_is_sum words look = refl
+key_is_sum words man_on = refl
 
-pub key_below-all : (words : List ℕ) (look : Look) → key_below words look 64 ≡ key_of words look
+pub key_below-all : (words : List ℕ) (man_on : Men) → key_below words man_on 64 ≡ key_of words man_on
 unfolding key_below
-key_below-all words look = sym (key_is_sum words look)
+key_below-all words man_on = sym (key_is_sum words man_on)
 
-pub key_below-none : (words : List ℕ) (look : Look) → key_below words look 0 ≡ 0
+pub key_below-none : (words : List ℕ) (man_on : Men) → key_below words man_on 0 ≡ 0
 unfolding key_below
-key_below-none words look = ap (λ x. x % 2 ^ 64) (run-none (word_on words look) 0)
+key_below-none words man_on = ap (λ x. x % 2 ^ 64) (run-none (word_on words man_on) 0)
 
-pub key_below-more : (words : List ℕ) (look : Look) (n : ℕ) → (key_below words look n + word_on words look n) % 2 ^ 64 ≡ key_below words look (n + 1)
+pub key_below-more : (words : List ℕ) (man_on : Men) (n : ℕ) → (key_below words man_on n + word_on words man_on n) % 2 ^ 64 ≡ key_below words man_on (n + 1)
 unfolding key_below
-key_below-more words look n =
-    let here : word_on words look (0 + n) ≡ word_on words look n = ap (word_on words look) (omega arith) in
-    let more : sum_below words look n + word_on words look n ≡ sum_below words look (n + 1) =
-    omega (arith, run-more (word_on words look) 0 n, ap (sum_below words look) (add-one n)) in
-    mod-add-mod (sum_below words look n) (2 ^ 64) (word_on words look n) ∙ ap (λ x. x % 2 ^ 64) more
+key_below-more words man_on n =
+    let here : word_on words man_on (0 + n) ≡ word_on words man_on n = ap (word_on words man_on) (omega arith) in
+    let more : sum_below words man_on n + word_on words man_on n ≡ sum_below words man_on (n + 1) =
+    omega (arith, run-more (word_on words man_on) 0 n, ap (sum_below words man_on) (add-one n)) in
+    mod-add-mod (sum_below words man_on n) (2 ^ 64) (word_on words man_on n) ∙ ap (λ x. x % 2 ^ 64) more
 
 -- two boards that differ on one square alone
 sum-one :
-    (words : List ℕ) (before after : Look) (at : ℕ) → at < 64 → ((t : ℕ) → t ≢ at → after t ≡ before t) →
+    (words : List ℕ) (before after : Men) (at : ℕ) → at < 64 → ((t : ℕ) → t ≢ at → after t ≡ before t) →
     sum_below words after 64 + word_on words before at ≡ sum_below words before 64 + word_on words after at
 sum-one words before after at h rest =
     run-one (word_on words after) (word_on words before) 0 64 at (omega arith) (omega arith)

@@ -10,7 +10,7 @@
 use Rattle.std.specs.Prelude.{◌≡◌, ℕ, ◌+◌, ◌*◌, ◌%◌, ◌^◌, List, slice_index, Option, Some, None, sum_by}
 use Rattle.chess_types.specs.declared.board.man.Man.{Man}
 use Rattle.chess_types.specs.board.Men.{colour_number, kind_number}
-use Rattle.chess_types.specs.board.Board.{Board, Look, man_at}
+use Rattle.chess_types.specs.board.Board.{Board, Men, man_at}
 use Rattle.chess_types.specs.board.Squares.{squares}
 
 -- White's pawn on a1 to h8, then White's knight, bishop, rook, queen and king, then Black's men in that order
@@ -27,12 +27,12 @@ word_there words None square = 0
 word_there words (Some man) square = key_word words man square
 
 -- the word of what the board has on the square
-abbrev pub word_on : List ℕ → Look → ℕ → ℕ
-word_on words look square = word_there words (look square) square
+abbrev pub word_on : List ℕ → Men → ℕ → ℕ
+word_on words man_on square = word_there words (man_on square) square
 
 -- the words of all men on their squares
-unfoldable pub key_of : List ℕ → Look → ℕ
-key_of words look = sum_by (word_on words look) squares % 2 ^ 64
+unfoldable pub key_of : List ℕ → Men → ℕ
+key_of words man_on = sum_by (word_on words man_on) squares % 2 ^ 64
 
 -- the words that a key is made of, and its number
 pub record KeptKey : Type 0 where

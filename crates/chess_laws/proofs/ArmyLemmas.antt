@@ -11,8 +11,8 @@ use Rattle.chess_types.specs.declared.board.position.Wing.TheVariants.{KingSide,
 use Rattle.chess_types.specs.board.Texts.{names_promotion}
 use Rattle.chess_types.specs.board.Men.{count_squares, is_man, is_of, is_pawn, men_of, same_colour, same_kind}
 use Rattle.chess_types.specs.board.MoveParts.{MoveParts}
-use Rattle.chess_types.specs.board.Position.{State, IsSetup, IsWellFormed, look}
-use Rattle.chess_types.specs.board.After.{after, after_by, arriving, captured_at, is_castling, placement_after, transferred, with_rook}
+use Rattle.chess_types.specs.board.Position.{PositionParts, IsSetup, IsWellFormed, man_on}
+use Rattle.chess_types.specs.board.After.{after, after_by, moved_man, captured_at, is_castling, placement_after, moved_board, with_rook}
 use Rattle.chess_types.specs.board.Pseudo.{is_pseudo}
 use Rattle.chess_types.specs.board.Legal.{legal_moves}
 use Rattle.chess_types.specs.board.Lines.{play}
@@ -55,18 +55,18 @@ promotes Black Black Pawn King _ _ _ _ _ _ _ _ _ _ _ _ _ _ _ h i a b e f g befor
 promotes White White _ into _ _ _ _ _ _ _ _ _ _ _ _ _ _ _ h i a b e f g before = never i
 promotes Black Black _ into _ _ _ _ _ _ _ _ _ _ _ _ _ _ _ h i a b e f g before = never i
 
-module _ (p : State) (m : MoveParts) (man : Man) (setup : IsSetup p) (from : m.from < 64) (to : m.to < 64) (here : look p m.from ≡ Some man) (pseudo : is_pseudo p m ≡ true) where
+module _ (p : PositionParts) (m : MoveParts) (man : Man) (setup : IsSetup p) (from : m.from < 64) (to : m.to < 64) (here : man_on p m.from ≡ Some man) (pseudo : is_pseudo p m ≡ true) where
   its : Facts p man m
   its = facts p m setup from to man here pseudo
 
   -- the rook of castling comes back as it goes
-  placed : (test : Option Man → Bool) → test None ≡ false → count_squares test (placement_after p man m) ≡ count_squares test (transferred p man m)
+  placed : (test : Option Man → Bool) → test None ≡ false → count_squares test (placement_after p man m) ≡ count_squares test (moved_board p man m)
   placed test none =
       elim (cases_Bool (is_castling man KingSide m)) [
-        | inl x ↦ rw x (subst (λ c. count_squares test (with_rook c KingSide (transferred p man m)) ≡ count_squares test (transferred p man m)) (sym its.mine)
+        | inl x ↦ rw x (subst (λ c. count_squares test (with_rook c KingSide (moved_board p man m)) ≡ count_squares test (moved_board p man m)) (sym its.mine)
             (rook_census p man m test none KingSide (ready p man m setup from to its KingSide x)))
         | inr x ↦ elim (cases_Bool (is_castling man QueenSide m)) [
-          | inl y ↦ rw (x, y) (subst (λ c. count_squares test (with_rook c QueenSide (transferred p man m)) ≡ count_squares test (transferred p man m)) (sym its.mine)
+          | inl y ↦ rw (x, y) (subst (λ c. count_squares test (with_rook c QueenSide (moved_board p man m)) ≡ count_squares test (moved_board p man m)) (sym its.mine)
               (rook_census p man m test none QueenSide (ready p man m setup from to its QueenSide y)))
           | inr y ↦ rw (x, y) refl
         ]
@@ -74,11 +74,11 @@ module _ (p : State) (m : MoveParts) (man : Man) (setup : IsSetup p) (from : m.f
 
   -- after the move the captured man is gone, and the mover is what he has become
   census : (test : Option Man → Bool) → test None ≡ false →
-      count_squares test (after p m).placement + bit (test (look p (captured_at p.target man m))) + bit (test (Some man))
-      ≡ count_squares test p.placement + bit (test (Some (arriving man m.promo)))
+      count_squares test (after p m).placement + bit (test (man_on p (captured_at p.target man m))) + bit (test (Some man))
+      ≡ count_squares test p.placement + bit (test (Some (moved_man man m.promo)))
   unfolding after
   census test none =
-      let a : count_squares test (after_by p (look p m.from) m).placement ≡ count_squares test (placement_after p man m) =
+      let a : count_squares test (after_by p (man_on p m.from) m).placement ≡ count_squares test (placement_after p man m) =
       ap (λ o. count_squares test (after_by p o m).placement) here in
       let b = placed test none in
       let c = carried_census p man m from to its test none in
@@ -88,26 +88,26 @@ module _ (p : State) (m : MoveParts) (man : Man) (setup : IsSetup p) (from : m.f
   abbrev Becomes : Man → Type 0
   Becomes other = (other ≡ man) ⊎ ((kind : Kind) × (names_promotion (Some kind) ≡ true) × (is_pawn man.kind ≡ true) × (other ≡ record { colour = man.colour; kind = kind }))
 
-  becomes : (promo : Option Kind) → names_promotion promo ≡ true → (is_pawn man.kind ≡ false → arriving man promo ≡ man) → Becomes (arriving man promo)
+  becomes : (promo : Option Kind) → names_promotion promo ≡ true → (is_pawn man.kind ≡ false → moved_man man promo ≡ man) → Becomes (moved_man man promo)
   becomes None names same = inl refl
   becomes (Some kind) names same = elim (cases_Bool (is_pawn man.kind)) [ inl pawn ↦ inr (kind, names, pawn, refl) | inr other ↦ inl (same other) ]
 
-  his : Becomes (arriving man m.promo)
+  his : Becomes (moved_man man m.promo)
   his = becomes m.promo (pseudo_names p m pseudo) its.same
 
   -- no man comes onto the board
   men_fall : (c : Colour) → men_of (after p m).placement c ≤ men_of p.placement c
   men_fall c =
       let n = census (is_of c) refl in
-      let e : bit (is_of c (Some (arriving man m.promo))) ≡ bit (is_of c (Some man)) = ap (λ d. bit (same_colour d c)) (colour_kept man m.promo) in
+      let e : bit (is_of c (Some (moved_man man m.promo))) ≡ bit (is_of c (Some man)) = ap (λ d. bit (same_colour d c)) (colour_kept man m.promo) in
       omega arith
 
   abbrev Counted : Colour → Kind → Man → Type 0
   Counted c kind other =
-      how_many c kind (after p m).placement + bit (is_man (look p (captured_at p.target man m)) c kind) + bit (is_man (Some man) c kind)
+      how_many c kind (after p m).placement + bit (is_man (man_on p (captured_at p.target man m)) c kind) + bit (is_man (Some man) c kind)
       ≡ how_many c kind p.placement + bit (is_man (Some other) c kind)
 
-  counted : (c : Colour) (kind : Kind) → Counted c kind (arriving man m.promo)
+  counted : (c : Colour) (kind : Kind) → Counted c kind (moved_man man m.promo)
   counted c kind = census (λ there. is_man there c kind) refl
 
   fall : (c : Colour) (sort : Kind) → Counted c sort man → how_many c sort (after p m).placement ≤ how_many c sort p.placement
@@ -157,29 +157,29 @@ module _ (p : State) (m : MoveParts) (man : Man) (setup : IsSetup p) (from : m.f
       ]
 
 -- a listed move, with the man who makes it
-record Moved (p : State) (m : MoveParts) : Type 0 where
+record Moved (p : PositionParts) (m : MoveParts) : Type 0 where
   from : m.from < 64
   to : m.to < 64
   pseudo : is_pseudo p m ≡ true
   man : Man
-  here : look p m.from ≡ Some man
+  here : man_on p m.from ≡ Some man
 
-moved : (p : State) (m : MoveParts) → Contains (legal_moves p) m → Moved p m
+moved : (p : PositionParts) (m : MoveParts) → Contains (legal_moves p) m → Moved p m
 moved p m listed =
     let (on, legal) = listed_legal p m listed in
     let pseudo : is_pseudo p m ≡ true = legal_pseudo p m legal in
-    let (man, here) : (man : Man) × (look p m.from ≡ Some man) = pseudo_man p m pseudo in
+    let (man, here) : (man : Man) × (man_on p m.from ≡ Some man) = pseudo_man p m pseudo in
     record { from = on.from; to = on.to; pseudo = pseudo; man = man; here = here }
 
-pub men_never_rise : (p : State) (m : MoveParts) → IsWellFormed p → Contains (legal_moves p) m → (c : Colour) →
+pub men_never_rise : (p : PositionParts) (m : MoveParts) → IsWellFormed p → Contains (legal_moves p) m → (c : Colour) →
     men_of (after p m).placement c ≤ men_of p.placement c
 men_never_rise p m well listed = let x = moved p m listed in men_fall p m x.man well.setup x.from x.to x.here x.pseudo
 
-pub pawns_never_rise : (p : State) (m : MoveParts) → IsWellFormed p → Contains (legal_moves p) m → (c : Colour) →
+pub pawns_never_rise : (p : PositionParts) (m : MoveParts) → IsWellFormed p → Contains (legal_moves p) m → (c : Colour) →
     how_many c Pawn (after p m).placement ≤ how_many c Pawn p.placement
 pawns_never_rise p m well listed = let x = moved p m listed in pawns_fall p m x.man well.setup x.from x.to x.here x.pseudo
 
-pub armies_stay : (p : State) (moves : List MoveParts) → IsWellFormed p → AreListed p moves → (c : Colour) → IsArmy c p.placement →
+pub armies_stay : (p : PositionParts) (moves : List MoveParts) → IsWellFormed p → AreListed p moves → (c : Colour) → IsArmy c p.placement →
     IsArmy c (play p moves).placement
 armies_stay p [] well h c before = before
 armies_stay p (m ∷ moves) well h c before =

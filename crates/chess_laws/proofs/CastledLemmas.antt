@@ -11,9 +11,9 @@ use Rattle.chess_types.specs.board.Board.{Board, man_at}
 use Rattle.chess_types.specs.board.MoveParts.{MoveParts}
 use Rattle.chess_types.specs.board.Men.{opponent}
 use Rattle.chess_types.specs.board.Attack.{is_attacked}
-use Rattle.chess_types.specs.board.Position.{State, IsWellFormed, king_home, look, rook_home}
+use Rattle.chess_types.specs.board.Position.{PositionParts, IsWellFormed, king_home, man_on, rook_home}
 use Rattle.chess_types.specs.board.Pseudo.{castles, castles_to, crossed, reached}
-use Rattle.chess_types.specs.board.After.{after, after_by, is_castling, placement_after, rook_of, transferred, with_rook}
+use Rattle.chess_types.specs.board.After.{after, after_by, is_castling, placement_after, rook_of, moved_board, with_rook}
 use Rattle.chess_types.specs.board.Legal.{is_legal, legal_moves}
 use Rattle.chess_types.proofs.MoveLemmas.{legal_pseudo}
 use Rattle.chess_play.proofs.Census.{put_here, put_there, clear_here, clear_there}
@@ -33,24 +33,24 @@ unfolding is_king_side
 two_wings e = true≢false (ap is_king_side e)
 
 -- the rook goes on the wing to which the king castles
-with_its_rook : (p : State) (man : Man) (m : MoveParts) (w : Wing) → is_castling man w m ≡ true →
-    placement_after p man m ≡ with_rook man.colour w (transferred p man m)
+with_its_rook : (p : PositionParts) (man : Man) (m : MoveParts) (w : Wing) → is_castling man w m ≡ true →
+    placement_after p man m ≡ with_rook man.colour w (moved_board p man m)
 with_its_rook p man m KingSide h = rw h refl
 with_its_rook p man m QueenSide h =
     let other : is_castling man KingSide m ≡ false = false_from_ne_true _ (λ k. two_wings (one_wing man m KingSide QueenSide k h)) in
     rw (other, h) refl
 
 -- the tests of castling that speak of attacks
-unattacked : (p : State) (w : Wing) (m : MoveParts) → castles p w m ≡ true →
-    (is_attacked (look p) (opponent p.side) (king_home p.side) ≡ false) × (is_attacked (look p) (opponent p.side) (crossed p.side w) ≡ false)
+unattacked : (p : PositionParts) (w : Wing) (m : MoveParts) → castles p w m ≡ true →
+    (is_attacked (man_on p) (opponent p.side) (king_home p.side) ≡ false) × (is_attacked (man_on p) (opponent p.side) (crossed p.side w) ≡ false)
 unattacked p w m h =
     let a = and_parts _ _ h in
     let b = and_parts _ _ a.0 in
     let c = and_parts _ _ b.0 in
     (not-true _ c.1, not-true _ b.1)
 
-module _ (p : State) (m : MoveParts) (w : Wing) (well : IsWellFormed p) (from : m.from < 64) (to : m.to < 64) (legal : is_legal p m ≡ true)
-    (here : look p m.from ≡ Some (record { colour = p.side; kind = King })) (goes : castles_to p.side w m ≡ true) where
+module _ (p : PositionParts) (m : MoveParts) (w : Wing) (well : IsWellFormed p) (from : m.from < 64) (to : m.to < 64) (legal : is_legal p m ≡ true)
+    (here : man_on p m.from ≡ Some (record { colour = p.side; kind = King })) (goes : castles_to p.side w m ≡ true) where
   abbrev king : Man
   king = record { colour = p.side; kind = King }
 
@@ -60,14 +60,14 @@ module _ (p : State) (m : MoveParts) (w : Wing) (well : IsWellFormed p) (from : 
   castled : castles p w m ≡ true
   castled = its.castling w (and_from _ _ refl goes)
 
-  now : look (after p m) ≡ man_at (with_rook p.side w (transferred p (record { colour = p.side; kind = King }) m))
+  now : man_on (after p m) ≡ man_at (with_rook p.side w (moved_board p (record { colour = p.side; kind = King }) m))
   unfolding after
   now =
-      ap (λ o. look (after_by p o m)) here
+      ap (λ o. man_on (after_by p o m)) here
       ∙ ap man_at (with_its_rook p (record { colour = p.side; kind = King }) m w (and_from _ _ refl goes))
 
   carried : Board
-  carried = transferred p king m
+  carried = moved_board p king m
 
   pub sound : IsCastled p (after p m) w
   unfolding is_legal
@@ -75,7 +75,7 @@ module _ (p : State) (m : MoveParts) (w : Wing) (well : IsWellFormed p) (from : 
       let parts = castling_parts p w m castled in
       let four = apart p.side w in
       let safe = unattacked p w m castled in
-      let board : Board = transferred p king m in
+      let board : Board = moved_board p king m in
       let bare : Board = remove board (rook_home p.side w) in
       record {
         right = parts.right;
@@ -96,8 +96,8 @@ module _ (p : State) (m : MoveParts) (w : Wing) (well : IsWellFormed p) (from : 
             ∙ clear_here board (rook_home p.side w);
       }
 
-pub castling_is_sound : (p : State) (m : MoveParts) (w : Wing) → IsWellFormed p → Contains (legal_moves p) m →
-    look p m.from ≡ Some (record { colour = p.side; kind = King }) → castles_to p.side w m ≡ true → IsCastled p (after p m) w
+pub castling_is_sound : (p : PositionParts) (m : MoveParts) (w : Wing) → IsWellFormed p → Contains (legal_moves p) m →
+    man_on p m.from ≡ Some (record { colour = p.side; kind = King }) → castles_to p.side w m ≡ true → IsCastled p (after p m) w
 castling_is_sound p m w well listed here goes =
     let (on, legal) = listed_legal p m listed in
     sound p m w well on.from on.to legal here goes

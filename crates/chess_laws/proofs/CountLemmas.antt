@@ -9,7 +9,7 @@ use Rattle.chess_types.specs.declared.board.man.Man.{Man}
 use Rattle.chess_types.specs.declared.board.position.Wing.{Wing}
 use Rattle.chess_types.specs.board.Men.{holds_pawn, is_pawn, opponent}
 use Rattle.chess_types.specs.board.MoveParts.{MoveParts}
-use Rattle.chess_types.specs.board.Position.{State, IsWellFormed, holds, look}
+use Rattle.chess_types.specs.board.Position.{PositionParts, IsWellFormed, holds, man_on}
 use Rattle.chess_types.specs.board.Pseudo.{is_target, midway}
 use Rattle.chess_types.specs.board.After.{after, after_by, is_advance, number_after, target_after}
 use Rattle.chess_types.specs.board.Legal.{legal_moves}
@@ -24,22 +24,22 @@ use Rattle.chess_laws.specs.DeadLaws.{AreListed}
 use Rattle.chess_laws.specs.MoveLaws.{black_moves}
 
 -- the man who makes a listed move
-mover : (p : State) (m : MoveParts) → Contains (legal_moves p) m → (man : Man) × (look p m.from ≡ Some man)
+mover : (p : PositionParts) (m : MoveParts) → Contains (legal_moves p) m → (man : Man) × (man_on p m.from ≡ Some man)
 mover p m listed = pseudo_man p m (legal_pseudo p m (listed_legal p m listed).1)
 
 -- and the position after it
-then_by : (p : State) (m : MoveParts) (man : Man) → look p m.from ≡ Some man → after p m ≡ after_by p (Some man) m
+then_by : (p : PositionParts) (m : MoveParts) (man : Man) → man_on p m.from ≡ Some man → after p m ≡ after_by p (Some man) m
 unfolding after
 then_by p m man here = ap (λ o. after_by p o m) here
 
 -- a right that is held was held before
-pub rights_are_lost : (p : State) (moves : List MoveParts) → IsWellFormed p → AreListed p moves → (c : Colour) (w : Wing) →
+pub rights_are_lost : (p : PositionParts) (moves : List MoveParts) → IsWellFormed p → AreListed p moves → (c : Colour) (w : Wing) →
     holds (play p moves).rights c w ≡ true → holds p.rights c w ≡ true
 rights_are_lost p [] well h c w right = right
 rights_are_lost p (m ∷ moves) well h c w right =
     let (man, here) = mover p m h.0 in
     let held : holds (after p m).rights c w ≡ true = rights_are_lost (after p m) moves (stays_well p m well h.0) h.1 c w right in
-    (untouched p c w m (sym (ap (λ (q : State). holds q.rights c w) (then_by p m man here)) ∙ held)).right
+    (untouched p c w m (sym (ap (λ (q : PositionParts). holds q.rights c w) (then_by p m man here)) ∙ held)).right
 
 -- a target is the square that the move before passed over
 target_is : (man : Man) (m : MoveParts) (t : ℕ) → is_target (target_after man m) t ≡ true → (is_advance man m ≡ true) × (midway m ≡ t)
@@ -49,44 +49,44 @@ target_is man m t h =
       | inr other ↦ never (rw other at h)
     ]
 
-captures : (q : State) (there : Option Man) (n : MoveParts) → takes_target q there n ≡ true → is_target q.target n.to ≡ true
+captures : (q : PositionParts) (there : Option Man) (n : MoveParts) → takes_target q there n ≡ true → is_target q.target n.to ≡ true
 captures q None n h = never h
 captures q (Some man) n h =
     let a = and_parts _ _ h in
     (and_parts _ _ a.0).1
 
-pub taken_at_once : (p : State) (m n : MoveParts) → IsWellFormed p → Contains (legal_moves p) m → Contains (legal_moves (after p m)) n →
-    takes_target (after p m) (look (after p m) n.from) n ≡ true →
-    (holds_pawn (look p m.from) ≡ true) × ((m.to ≡ m.from + 16) ⊎ (m.from ≡ m.to + 16)) × (midway m ≡ n.to)
+pub taken_at_once : (p : PositionParts) (m n : MoveParts) → IsWellFormed p → Contains (legal_moves p) m → Contains (legal_moves (after p m)) n →
+    takes_target (after p m) (man_on (after p m) n.from) n ≡ true →
+    (holds_pawn (man_on p m.from) ≡ true) × ((m.to ≡ m.from + 16) ⊎ (m.from ≡ m.to + 16)) × (midway m ≡ n.to)
 taken_at_once p m n well listed next h =
     let (man, here) = mover p m listed in
     let t : is_target (target_after man m) n.to ≡ true =
-    sym (ap (λ (q : State). is_target q.target n.to) (then_by p m man here)) ∙ captures (after p m) (look (after p m) n.from) n h in
+    sym (ap (λ (q : PositionParts). is_target q.target n.to) (then_by p m man here)) ∙ captures (after p m) (man_on (after p m) n.from) n h in
     let (advance, over) = target_is man m n.to t in
     let a = and_parts _ _ advance in
     (ap holds_pawn here ∙ a.0, elim (or_cases _ _ a.1) [ inl up ↦ inl (eqb-true _ _ up) | inr down ↦ inr (eqb-true _ _ down) ], over)
 
 -- the clock
-pub clock_counts : (p : State) (m : MoveParts) → IsWellFormed p → Contains (legal_moves p) m →
-    ((after p m).clock == 0) ≡ (holds_pawn (look p m.from) || is_some (look p m.to))
+pub clock_counts : (p : PositionParts) (m : MoveParts) → IsWellFormed p → Contains (legal_moves p) m →
+    ((after p m).clock == 0) ≡ (holds_pawn (man_on p m.from) || is_some (man_on p m.to))
 clock_counts p m well listed =
     let (man, here) = mover p m listed in
-    ap (λ (q : State). q.clock == 0) (then_by p m man here) ∙ zero_or_more (is_pawn man.kind || is_some (look p m.to)) p.clock
-    ∙ ap (λ o. holds_pawn o || is_some (look p m.to)) (sym here)
+    ap (λ (q : PositionParts). q.clock == 0) (then_by p m man here) ∙ zero_or_more (is_pawn man.kind || is_some (man_on p m.to)) p.clock
+    ∙ ap (λ o. holds_pawn o || is_some (man_on p m.to)) (sym here)
   where
     zero_or_more : (b : Bool) (clock : ℕ) → ((if b then 0 else (clock + 1)) == 0) ≡ b
     zero_or_more true clock = refl
     zero_or_more false clock = grind (arith, nat_tests)
 
 -- the number
-pub number_counts : (p : State) (moves : List MoveParts) → IsWellFormed p → AreListed p moves →
+pub number_counts : (p : PositionParts) (moves : List MoveParts) → IsWellFormed p → AreListed p moves →
     (play p moves).number ≡ p.number + black_moves p.side moves
 number_counts p [] well h = omega arith
 number_counts p (m ∷ moves) well h =
     let (man, here) = mover p m h.0 in
     let rest : (play (after p m) moves).number ≡ (after p m).number + black_moves (after p m).side moves =
     number_counts (after p m) moves (stays_well p m well h.0) h.1 in
-    rest ∙ ap (λ (q : State). q.number + black_moves q.side moves) (then_by p m man here) ∙ one p.side p.number
+    rest ∙ ap (λ (q : PositionParts). q.number + black_moves q.side moves) (then_by p m man here) ∙ one p.side p.number
   where
     one : (c : Colour) (number : ℕ) → number_after c number + black_moves (opponent c) moves ≡ number + black_moves c (m ∷ moves)
     one White number = refl

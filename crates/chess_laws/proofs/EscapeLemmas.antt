@@ -10,12 +10,12 @@ use Rattle.chess_types.specs.declared.board.man.Colour.TheVariants.{White, Black
 use Rattle.chess_types.specs.declared.board.man.Kind.{Kind}
 use Rattle.chess_types.specs.declared.board.man.Kind.TheVariants.{Pawn, Knight, Bishop, Rook, Queen, King}
 use Rattle.chess_types.specs.declared.board.man.Man.{Man}
-use Rattle.chess_types.specs.board.Board.{Board, Look, man_at}
+use Rattle.chess_types.specs.board.Board.{Board, Men, man_at}
 use Rattle.chess_types.specs.board.Squares.{squares}
 use Rattle.chess_types.specs.board.Men.{opponent, same_colour, is_king, is_of, is_king_of, count_squares, kings_of, men_of}
 use Rattle.chess_types.specs.board.MoveParts.{MoveParts}
 use Rattle.chess_types.specs.board.Attack.{leaps, slides, slides_to, attacks_as, attacks_for, is_attacked, in_check}
-use Rattle.chess_types.specs.board.Position.{State, IsSetup, IsWellFormed, look}
+use Rattle.chess_types.specs.board.Position.{PositionParts, IsSetup, IsWellFormed, man_on}
 use Rattle.chess_types.specs.board.Pseudo.{moves_as, moves_man, is_pseudo}
 use Rattle.chess_types.specs.board.After.{after}
 use Rattle.chess_types.specs.board.Lines.{play}
@@ -58,7 +58,7 @@ king_of board c one =
     ]
 
 -- some man attacks an attacked square
-attacker : (men : Look) (c : Colour) (s : ℕ) → is_attacked men c s ≡ true → (a : ℕ) × (a < 64) × (attacks_for (men a) c men a s ≡ true)
+attacker : (men : Men) (c : Colour) (s : ℕ) → is_attacked men c s ≡ true → (a : ℕ) × (a < 64) × (attacks_for (men a) c men a s ≡ true)
 attacker men c s h =
     let test : ℕ → Bool = λ a. attacks_for (men a) c men a s in
     elim (cases_Bool (list_any test squares)) [
@@ -115,7 +115,7 @@ stands c (Some man) =
     ]
 
 -- a king attacks the squares beside it alone
-king_reach : (d : Colour) (f : Look) (a b : ℕ) → attacks_as (record { colour = d; kind = King }) f a b ≡ beside a b
+king_reach : (d : Colour) (f : Men) (a b : ℕ) → attacks_as (record { colour = d; kind = King }) f a b ≡ beside a b
 unfolding attacks_as leaps slides_to slides
 king_reach d f a b = grind (arith, nat_tests)
 
@@ -129,14 +129,14 @@ unfolding leaps
 knight_apart c a b h = grind (arith, nat_tests, h)
 
 -- a bishop attacks along diagonals alone, a knight by its leap
-bishop_reach : (man : Man) (f : Look) (a b : ℕ) → man.kind ≡ Bishop → attacks_as man f a b ≡ true → slides_to Bishop a b ≡ true
+bishop_reach : (man : Man) (f : Men) (a b : ℕ) → man.kind ≡ Bishop → attacks_as man f a b ≡ true → slides_to Bishop a b ≡ true
 unfolding attacks_as leaps
 bishop_reach man f a b kind h =
     let g : attacks_as (record { colour = man.colour; kind = Bishop }) f a b ≡ true =
     subst (λ (k : Kind). attacks_as (record { colour = man.colour; kind = k }) f a b ≡ true) kind h in
     (and_parts _ _ g).0
 
-knight_reach : (man : Man) (f : Look) (a b : ℕ) → man.kind ≡ Knight → attacks_as man f a b ≡ true → leaps man.colour Knight a b ≡ true
+knight_reach : (man : Man) (f : Men) (a b : ℕ) → man.kind ≡ Knight → attacks_as man f a b ≡ true → leaps man.colour Knight a b ≡ true
 unfolding attacks_as leaps slides_to slides
 knight_reach man f a b kind h =
     let g : attacks_as (record { colour = man.colour; kind = Knight }) f a b ≡ true =
@@ -162,7 +162,7 @@ alone test few a b ha hb at_a at_b =
     ]
 
 -- who attacks for a colour
-attacking : (there : Option Man) (c : Colour) (f : Look) (a s : ℕ) → attacks_for there c f a s ≡ true →
+attacking : (there : Option Man) (c : Colour) (f : Men) (a s : ℕ) → attacks_for there c f a s ≡ true →
     (man : Man) × (there ≡ Some man) × (man.colour ≡ c) × (attacks_as man f a s ≡ true)
 attacking None c f a s h = never h
 attacking (Some man) c f a s h = let x = and_parts _ _ h in (man, refl, same_is man.colour c x.0, x.1)
@@ -171,13 +171,13 @@ bishop_kind : (man : Man) → holds_bishop (Some man) ≡ true → man.kind ≡ 
 bishop_kind man h = kind_is man.kind Bishop h
 
 -- The other men leave a square alone: none is on it, and none attacks it, whatever is on the other squares.
-record Leave (men : Look) (e : ℕ) : Type 0 where
+record Leave (men : Men) (e : ℕ) : Type 0 where
   away : (a : ℕ) → a < 64 → is_other (men a) ≡ true → a ≢ e
-  harmless : (a : ℕ) → a < 64 → (man : Man) → men a ≡ Some man → is_other (Some man) ≡ true → (f : Look) → attacks_as man f a e ≡ false
+  harmless : (a : ℕ) → a < 64 → (man : Man) → men a ≡ Some man → is_other (Some man) ≡ true → (f : Men) → attacks_as man f a e ≡ false
 
 -- bishops on the squares of one colour leave those of the other alone
-bishops_leave : (men : Look) (shade e : ℕ) → e < 64 → IsBishops men shade → tone e ≢ shade → Leave men e
-bishops_leave men shade e inside one other = record {
+bishops_leave : (men : Men) (xray_squares e : ℕ) → e < 64 → IsBishops men xray_squares → tone e ≢ xray_squares → Leave men e
+bishops_leave men xray_squares e inside one other = record {
   away = λ a ha is same. other (ap tone (sym same) ∙ one.alike a ha is);
   harmless = λ a ha man here is f. false_from_ne_true _ (λ h.
       let there : is_other (men a) ≡ true = ap is_other here ∙ is in
@@ -186,7 +186,7 @@ bishops_leave men shade e inside one other = record {
 }
 
 -- so does a lone man who attacks a square beside it of the other colour
-lone_leaves : (men : Look) (k e a : ℕ) (man : Man) → k < 64 → e < 64 → a < 64 → IsLone men → men a ≡ Some man → is_other (Some man) ≡ true →
+lone_leaves : (men : Men) (k e a : ℕ) (man : Man) → k < 64 → e < 64 → a < 64 → IsLone men → men a ≡ Some man → is_other (Some man) ≡ true →
     attacks_as man men a k ≡ true → beside k e ≡ true → tone k + tone e ≡ 1 → Leave men e
 lone_leaves men k e a man hk he ha lone here is attacks near tones =
     let there : is_other (men a) ≡ true = ap is_other here ∙ is in
@@ -224,14 +224,14 @@ lone_leaves men k e a man hk he ha lone here is attacks near tones =
     ]
 
 -- A king in check on a dead position: where the two kings are, and where the one in check may go.
-record Flight (p : State) (k j e : ℕ) : Type 0 where
-  own : OnlyKing (look p) p.side k
-  theirs : OnlyKing (look p) (opponent p.side) j
+record Flight (p : PositionParts) (k j e : ℕ) : Type 0 where
+  own : OnlyKing (man_on p) p.side k
+  theirs : OnlyKing (man_on p) (opponent p.side) j
   inside : e < 64
   near : beside k e ≡ true
   far : beside j e ≡ false
   apart : j ≢ e
-  leave : Leave (look p) e
+  leave : Leave (man_on p) e
 
 -- two kings of different colours stand on two squares
 kings_apart : (c : Colour) (there : Option Man) → is_king_of c there ≡ true → is_king_of (opponent c) there ≡ true → ⊥
@@ -240,10 +240,10 @@ kings_apart c there h g =
     let x = and_parts _ _ (sym (ap (is_king_of (opponent c)) e) ∙ g) in
     true≢false (sym x.0 ∙ other_colour c)
 
-flight : (p : State) → IsWellFormed p → is_dead p ≡ true → in_check (look p) p.side ≡ true → (k : ℕ) × (j : ℕ) × (e : ℕ) × Flight p k j e
+flight : (p : PositionParts) → IsWellFormed p → is_dead p ≡ true → in_check (man_on p) p.side ≡ true → (k : ℕ) × (j : ℕ) × (e : ℕ) × Flight p k j e
 flight p well dead checked =
     let c : Colour = p.side in
-    let men : Look = look p in
+    let men : Men = man_on p in
     let (k, own) : (k : ℕ) × OnlyKing men c k = king_of p.placement c (well.setup.kings c) in
     let (j, theirs) : (j : ℕ) × OnlyKing men (opponent c) j = king_of p.placement (opponent c) (well.setup.kings (opponent c)) in
     let apart : k ≢ j = λ same. kings_apart c (men k) own.here (ap (λ s. is_king_of (opponent c) (men s)) same ∙ theirs.here) in
@@ -299,22 +299,22 @@ flight p well dead checked =
       },
     )
 
-module _ (p : State) (k j e : ℕ) (well : IsWellFormed p) (dead : is_dead p ≡ true) (way : Flight p k j e) where
+module _ (p : PositionParts) (k j e : ℕ) (well : IsWellFormed p) (dead : is_dead p ≡ true) (way : Flight p k j e) where
   abbrev king : Man
   king = record { colour = p.side; kind = King }
 
   abbrev go : MoveParts
   go = record { from = k; to = e; promo = None }
 
-  here : look p k ≡ Some (record { colour = p.side; kind = King })
-  here = king_is p.side (look p k) way.own.here
+  here : man_on p k ≡ Some (record { colour = p.side; kind = King })
+  here = king_is p.side (man_on p k) way.own.here
 
   leaves : e ≢ k
   leaves same = true≢false (sym way.near ∙ ap (beside k) same ∙ leaps_self White King k)
 
   -- nobody is on the square
-  free : look p e ≡ None
-  free = elim (stands p.side (look p e)) [
+  free : man_on p e ≡ None
+  free = elim (stands p.side (man_on p e)) [
     | Nothing none ↦ none
     | Own own ↦ absurd (leaves (way.own.only e way.inside own))
     | Theirs theirs ↦ absurd (way.apart (sym (way.theirs.only e way.inside theirs)))
@@ -323,7 +323,7 @@ module _ (p : State) (k j e : ℕ) (well : IsWellFormed p) (dead : is_dead p ≡
 
   goes : moves_as p King (record { from = k; to = e; promo = None }) ≡ true
   unfolding moves_as
-  goes = and_from _ _ (or_left _ _ (or_left _ _ (and_from _ _ (king_reach p.side (look p) k e ∙ way.near) (rw free refl)))) refl
+  goes = and_from _ _ (or_left _ _ (or_left _ _ (and_from _ _ (king_reach p.side (man_on p) k e ∙ way.near) (rw free refl)))) refl
 
   pseudo : is_pseudo p (record { from = k; to = e; promo = None }) ≡ true
   pseudo = ap (λ o. moves_man p o (record { from = k; to = e; promo = None })) here ∙ and_from _ _ (same_self p.side) goes
@@ -331,14 +331,14 @@ module _ (p : State) (k j e : ℕ) (well : IsWellFormed p) (dead : is_dead p ≡
   setup_then : IsSetup (after p (record { from = k; to = e; promo = None }))
   setup_then = setup_after_move p (record { from = k; to = e; promo = None }) well.setup way.own.on_board way.inside pseudo
 
-  king_then : look (after p (record { from = k; to = e; promo = None })) e ≡ Some (record { colour = p.side; kind = King })
+  king_then : man_on (after p (record { from = k; to = e; promo = None })) e ≡ Some (record { colour = p.side; kind = King })
   king_then =
       now_here p (record { from = k; to = e; promo = None }) (record { colour = p.side; kind = King }) well.setup way.own.on_board way.inside here pseudo dead
 
   -- no man of the other side attacks it afterwards
-  unattacked : (a : ℕ) → a < 64 → attacks_for (look (after p go) a) (opponent p.side) (look (after p go)) a e ≡ false
+  unattacked : (a : ℕ) → a < 64 → attacks_for (man_on (after p go) a) (opponent p.side) (man_on (after p go)) a e ≡ false
   unattacked a ha =
-      let men : Look = look (after p go) in
+      let men : Men = man_on (after p go) in
       elim (cases_eq a e) [
         | inl same ↦
             ap (λ o. attacks_for o (opponent p.side) men a e) (ap men same ∙ king_then) ∙ rw (other_colour p.side) refl
@@ -347,16 +347,16 @@ module _ (p : State) (k j e : ℕ) (well : IsWellFormed p) (dead : is_dead p ≡
               ap (λ o. attacks_for o (opponent p.side) men a e)
               (ap men same ∙ now_gone p go king well.setup way.own.on_board way.inside here pseudo dead)
           | inr away ↦
-              let as_before : men a ≡ look p a = now_there p go king well.setup way.own.on_board way.inside here pseudo dead a away other in
-              elim (stands p.side (look p a)) [
+              let as_before : men a ≡ man_on p a = now_there p go king well.setup way.own.on_board way.inside here pseudo dead a away other in
+              elim (stands p.side (man_on p a)) [
                 | Nothing none ↦ ap (λ o. attacks_for o (opponent p.side) men a e) (as_before ∙ none)
                 | Own own ↦ absurd (away (way.own.only a ha own))
                 | Theirs theirs ↦
-                    ap (λ o. attacks_for o (opponent p.side) men a e) (as_before ∙ king_is (opponent p.side) (look p a) theirs)
+                    ap (λ o. attacks_for o (opponent p.side) men a e) (as_before ∙ king_is (opponent p.side) (man_on p a) theirs)
                     ∙ rw (same_self (opponent p.side), king_reach (opponent p.side) men a e, ap (λ s. beside s e) (way.theirs.only a ha theirs), way.far) refl
                 | Another is ↦ false_from_ne_true _ (λ h.
                     let (man, at_a, colour, attacks) = attacking (men a) (opponent p.side) men a e h in
-                    let before : look p a ≡ Some man = sym as_before ∙ at_a in
+                    let before : man_on p a ≡ Some man = sym as_before ∙ at_a in
                     true≢false (sym attacks ∙ way.leave.harmless a ha man before (sym (ap is_other before) ∙ is) men))
               ]
         ]
@@ -365,19 +365,19 @@ module _ (p : State) (k j e : ℕ) (well : IsWellFormed p) (dead : is_dead p ≡
   legal : is_legal p go ≡ true
   unfolding is_legal
   legal =
-      let own : OnlyKing (look (after p go)) p.side e =
+      let own : OnlyKing (man_on (after p go)) p.side e =
       only_king (after p go).placement p.side e (setup_then.kings p.side) way.inside
       (ap (is_king_of p.side) king_then ∙ and_from _ _ (same_self p.side) refl) in
       and_from _ _ pseudo
-      (not_from_false _ (no_check (look (after p go)) p.side e own (not_attacked (look (after p go)) (opponent p.side) e unattacked)))
+      (not_from_false _ (no_check (man_on (after p go)) p.side e own (not_attacked (man_on (after p go)) (opponent p.side) e unattacked)))
 
   has_move : Contains (legal_moves p) go
   has_move = legal_listed p go (record { from = way.own.on_board; to = way.inside }) legal
 
 -- no dead position is mate
-pub dead_no_mate : (p : State) → IsWellFormed p → is_dead p ≡ true → is_mate p ≡ false
+pub dead_no_mate : (p : PositionParts) → IsWellFormed p → is_dead p ≡ true → is_mate p ≡ false
 dead_no_mate p well dead =
-    elim (cases_Bool (in_check (look p) p.side)) [
+    elim (cases_Bool (in_check (man_on p) p.side)) [
       | inr safe ↦ rw safe (and-false (is_without (legal_moves p)))
       | inl checked ↦
           let (k, j, e, way) = flight p well dead checked in
@@ -385,7 +385,7 @@ dead_no_mate p well dead =
     ]
 
 -- nor is any that legal moves lead to
-pub dead_forever : (p : State) (moves : List MoveParts) → IsWellFormed p → is_dead p ≡ true → AreListed p moves → is_mate (play p moves) ≡ false
+pub dead_forever : (p : PositionParts) (moves : List MoveParts) → IsWellFormed p → is_dead p ≡ true → AreListed p moves → is_mate (play p moves) ≡ false
 dead_forever p [] well dead h = dead_no_mate p well dead
 dead_forever p (m ∷ moves) well dead h =
     dead_forever (after p m) moves (stays_well p m well h.0) (dead_stays p m well h.0 dead) h.1
@@ -403,10 +403,10 @@ sorts (Some man) = sort man.colour man.kind
     sort White _ = refl
     sort Black _ = refl
 
-pub two_kings : (p : State) → IsWellFormed p → men_of p.placement White ≡ 1 → men_of p.placement Black ≡ 1 → is_dead p ≡ true
+pub two_kings : (p : PositionParts) → IsWellFormed p → men_of p.placement White ≡ 1 → men_of p.placement Black ≡ 1 → is_dead p ≡ true
 unfolding count_squares squares
 two_kings p well white black =
-    let men : Look = look p in
+    let men : Men = man_on p in
     let w : ℕ → ℕ = λ s. bit (is_of White (men s)) in
     let b : ℕ → ℕ = λ s. bit (is_of Black (men s)) in
     let kw : ℕ → ℕ = λ s. bit (is_king_of White (men s)) in

@@ -14,9 +14,9 @@ use Rattle.chess_types.specs.board.Board.{Board, man_at}
 use Rattle.chess_types.specs.board.Squares.{file_of, rank_of, is_between_on, is_between, squares}
 use Rattle.chess_types.specs.board.MoveParts.{MoveParts}
 use Rattle.chess_types.specs.board.Attack.{leaps, slides, slides_to, in_check}
-use Rattle.chess_types.specs.board.Position.{State, IsSetup, holds, look}
+use Rattle.chess_types.specs.board.Position.{PositionParts, IsSetup, holds, man_on}
 use Rattle.chess_types.specs.board.Pseudo.{castles, is_pseudo, last_rank}
-use Rattle.chess_types.specs.board.After.{after, after_by, is_castling, placement_after, transferred}
+use Rattle.chess_types.specs.board.After.{after, after_by, is_castling, placement_after, moved_board}
 use Rattle.chess_types.specs.board.Legal.{is_legal, legal_moves}
 use Rattle.chess_types.proofs.Sums.{total}
 use Rattle.chess_types.proofs.MoveLemmas.{legal_pseudo, pseudo_man}
@@ -125,48 +125,48 @@ same_man_seen : (there : Option Man) → there ≡ recolour own there
 same_man_seen None = refl
 same_man_seen (Some man) = refl
 
-pub seen : {p q : State} → IsFlipped p q → IsSeen flip own p q
+pub seen : {p q : PositionParts} → IsFlipped p q → IsSeen flip own p q
 seen {p} {q} both = record {
-  board = λ s h. both.board s h ∙ same_man_seen (look p (flip s));
+  board = λ s h. both.board s h ∙ same_man_seen (man_on p (flip s));
   side = both.side;
   target = both.target;
   clock = both.clock;
 }
 
 -- without a right nobody castles
-no_castles : (p : State) → ((c : Colour) (w : Wing) → holds p.rights c w ≡ false) → (w : Wing) (m : MoveParts) → castles p w m ≡ false
+no_castles : (p : PositionParts) → ((c : Colour) (w : Wing) → holds p.rights c w ≡ false) → (w : Wing) (m : MoveParts) → castles p w m ≡ false
 no_castles p none w m = false_from_ne_true _ (λ h. true≢false (sym (castling_parts p w m h).right ∙ none p.side w))
 
 -- so no king's move takes a rook along
-plain_move : (p : State) (man : Man) (m : MoveParts) → ((c : Colour) (w : Wing) → holds p.rights c w ≡ false) → Facts p man m →
-    placement_after p man m ≡ transferred p man m
+plain_move : (p : PositionParts) (man : Man) (m : MoveParts) → ((c : Colour) (w : Wing) → holds p.rights c w ≡ false) → Facts p man m →
+    placement_after p man m ≡ moved_board p man m
 plain_move p man m none its =
     let no : (w : Wing) → is_castling man w m ≡ false =
     λ w. false_from_ne_true _ (λ h. true≢false (sym (its.castling w h) ∙ no_castles p none w m)) in
     rw (no KingSide, no QueenSide) refl
 
 -- and no right is won
-none_after : (p : State) (man : Man) (m : MoveParts) → ((c : Colour) (w : Wing) → holds p.rights c w ≡ false) → (c : Colour) (w : Wing) →
+none_after : (p : PositionParts) (man : Man) (m : MoveParts) → ((c : Colour) (w : Wing) → holds p.rights c w ≡ false) → (c : Colour) (w : Wing) →
     holds (after_by p (Some man) m).rights c w ≡ false
 none_after p man m none c w = false_from_ne_true _ (λ h. true≢false (sym (untouched p c w m h).right ∙ none c w))
 
-module _ (p q : State) (setup : IsSetup p) (there : IsSetup q) (both : IsFlipped p q) (m : MoveParts) (from : m.from < 64) (to : m.to < 64) where
+module _ (p q : PositionParts) (setup : IsSetup p) (there : IsSetup q) (both : IsFlipped p q) (m : MoveParts) (from : m.from < 64) (to : m.to < 64) where
   pub pseudo_flips : is_pseudo q (flipped m) ≡ is_pseudo p m
   pseudo_flips =
       pseudo_seen flip own over_files p q setup (seen both) m from to
       (λ w. no_castles q both.none_there w (flipped m) ∙ sym (no_castles p both.none w m))
 
-  by_man : (man : Man) → look p m.from ≡ Some man → is_pseudo p m ≡ true → IsFlipped (after_by p (Some man) m) (after_by q (Some man) (flipped m))
+  by_man : (man : Man) → man_on p m.from ≡ Some man → is_pseudo p m ≡ true → IsFlipped (after_by p (Some man) m) (after_by q (Some man) (flipped m))
   by_man man here pseudo =
-      let here_too : look q (flip m.from) ≡ Some man =
-      there_across flip own over_files (look p) (look q) (seen both).board m.from from ∙ sym (same_man_seen (look p m.from)) ∙ here in
-      let ours : placement_after p man m ≡ transferred p man m = plain_move p man m both.none (facts p m setup from to man here pseudo) in
-      let theirs : placement_after q man (flipped m) ≡ transferred q man (flipped m) =
+      let here_too : man_on q (flip m.from) ≡ Some man =
+      there_across flip own over_files (man_on p) (man_on q) (seen both).board m.from from ∙ sym (same_man_seen (man_on p m.from)) ∙ here in
+      let ours : placement_after p man m ≡ moved_board p man m = plain_move p man m both.none (facts p m setup from to man here pseudo) in
+      let theirs : placement_after q man (flipped m) ≡ moved_board q man (flipped m) =
       plain_move q man (flipped m) both.none_there
       (facts q (flipped m) there (flip_inside m.from from) (flip_inside m.to to) man here_too (pseudo_flips ∙ pseudo)) in
       let placed : AreSeen flip own (placement_after p man m) (placement_after q man (flipped m)) =
       subst (λ (B : Board). AreSeen flip own B (placement_after q man (flipped m))) (sym ours)
-      (subst (λ (C : Board). AreSeen flip own (transferred p man m) C) (sym theirs) (moved flip own over_files p q setup (seen both) m from to man)) in
+      (subst (λ (C : Board). AreSeen flip own (moved_board p man m) C) (sym theirs) (moved flip own over_files p q setup (seen both) m from to man)) in
       let x = seen_by flip own over_files p q setup (seen both) m from to man placed in
       record {
         board = λ s h. x.board s h ∙ sym (same_man_seen (man_at (placement_after p man m) (flip s)));
@@ -180,28 +180,28 @@ module _ (p q : State) (setup : IsSetup p) (there : IsSetup q) (both : IsFlipped
   after_by_flips : is_pseudo p m ≡ true → IsFlipped (after p m) (after q (flipped m))
   unfolding after
   after_by_flips pseudo =
-      let (man, here) : (man : Man) × (look p m.from ≡ Some man) = pseudo_man p m pseudo in
-      let here_too : look q (flip m.from) ≡ Some man =
-      there_across flip own over_files (look p) (look q) (seen both).board m.from from ∙ sym (same_man_seen (look p m.from)) ∙ here in
-      subst (λ (o : Option Man). IsFlipped (after_by p o m) (after_by q (look q (flip m.from)) (flipped m))) (sym here)
+      let (man, here) : (man : Man) × (man_on p m.from ≡ Some man) = pseudo_man p m pseudo in
+      let here_too : man_on q (flip m.from) ≡ Some man =
+      there_across flip own over_files (man_on p) (man_on q) (seen both).board m.from from ∙ sym (same_man_seen (man_on p m.from)) ∙ here in
+      subst (λ (o : Option Man). IsFlipped (after_by p o m) (after_by q (man_on q (flip m.from)) (flipped m))) (sym here)
       (subst (λ (o : Option Man). IsFlipped (after_by p (Some man) m) (after_by q o (flipped m))) (sym here_too) (by_man man here pseudo))
 
   pub legal_flips : is_legal q (flipped m) ≡ is_legal p m
   unfolding is_legal
   legal_flips =
-      and_if (is_pseudo p m) (is_pseudo q (flipped m)) (not (in_check (look (after p m)) p.side)) (not (in_check (look (after q (flipped m))) q.side)) pseudo_flips
-      (λ pseudo i. not ((ap (in_check (look (after q (flipped m)))) both.side
-      ∙ check_across flip own over_files (look p_after) (look (after q (flipped m))) (seen (after_by_flips pseudo)).board p.side) i))
+      and_if (is_pseudo p m) (is_pseudo q (flipped m)) (not (in_check (man_on (after p m)) p.side)) (not (in_check (man_on (after q (flipped m))) q.side)) pseudo_flips
+      (λ pseudo i. not ((ap (in_check (man_on (after q (flipped m)))) both.side
+      ∙ check_across flip own over_files (man_on p_after) (man_on (after q (flipped m))) (seen (after_by_flips pseudo)).board p.side) i))
     where
-      p_after : State
+      p_after : PositionParts
       p_after = after p m
 
-pub after_flips : (p q : State) → IsSetup p → IsSetup q → IsFlipped p q → (m : MoveParts) → Contains (legal_moves p) m → IsFlipped (after p m) (after q (flipped m))
+pub after_flips : (p q : PositionParts) → IsSetup p → IsSetup q → IsFlipped p q → (m : MoveParts) → Contains (legal_moves p) m → IsFlipped (after p m) (after q (flipped m))
 after_flips p q setup there both m listed =
     let (on, legal) = listed_legal p m listed in
     after_by_flips p q setup there both m on.from on.to (legal_pseudo p m legal)
 
-pub mate_flips : (p q : State) → IsSetup p → IsSetup q → IsFlipped p q → is_mate q ≡ is_mate p
+pub mate_flips : (p q : PositionParts) → IsSetup p → IsSetup q → IsFlipped p q → is_mate q ≡ is_mate p
 mate_flips p q setup there both = λ i.
     none_seen flip own over_files p q (legal_flips p q setup there both) i
-    && (ap (in_check (look q)) both.side ∙ check_across flip own over_files (look p) (look q) (seen both).board p.side) i
+    && (ap (in_check (man_on q)) both.side ∙ check_across flip own over_files (man_on p) (man_on q) (seen both).board p.side) i

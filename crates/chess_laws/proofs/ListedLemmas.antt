@@ -6,7 +6,7 @@ use Rattle.chess_types.specs.declared.board.man.Colour.{Colour}
 use Rattle.chess_types.specs.declared.board.man.Colour.TheVariants.{White, Black}
 use Rattle.chess_types.specs.board.MoveParts.{MoveParts}
 use Rattle.chess_types.specs.board.Men.{opponent}
-use Rattle.chess_types.specs.board.Position.{State, IsWellFormed}
+use Rattle.chess_types.specs.board.Position.{PositionParts, IsWellFormed}
 use Rattle.chess_types.specs.board.After.{after}
 use Rattle.chess_types.specs.board.Legal.{legal_moves}
 use Rattle.chess_types.specs.board.Outcome.{is_without}
@@ -27,5 +27,5 @@ first_of [] h = absurd (true≢false h)
 first_of (m ∷ moves) h = (m, (0, omega arith, refl))
 
 -- the position after a listed move is well formed
-pub stays_well : (p : State) (m : MoveParts) → IsWellFormed p → Contains (legal_moves p) m → IsWellFormed (after p m)
+pub stays_well : (p : PositionParts) (m : MoveParts) → IsWellFormed p → Contains (legal_moves p) m → IsWellFormed (after p m)
 stays_well p m well listed = let (on, legal) = listed_legal p m listed in legal_well_formed p m well.setup on.from on.to legal

@@ -5,7 +5,7 @@ use Rattle.chess_types.specs.declared.board.outcome.Status.{Status}
 use Rattle.chess_types.specs.declared.board.outcome.Status.TheVariants.{Mate, Stalemate, Dead, Fivefold, Seventyfive, Play}
 use Rattle.chess_types.specs.board.MoveParts.{MoveParts}
 use Rattle.chess_types.specs.board.Attack.{in_check}
-use Rattle.chess_types.specs.board.Position.{look}
+use Rattle.chess_types.specs.board.Position.{man_on}
 use Rattle.chess_types.specs.board.Legal.{is_legal, legal_moves}
 use Rattle.chess_types.specs.board.Lines.{Line, last, extended}
 use Rattle.chess_types.specs.board.Outcome.{is_without, is_play, status_at, status, claims, claims_with}
@@ -26,7 +26,7 @@ with_a_move test a b c d false false false = d
 pub mate_is_mate : (line : Line) → shows_mate (status line) ≡ is_mate (last line)
 unfolding status status_at
 mate_is_mate line =
-    by_tests (is_without (legal_moves (last line))) (in_check (look (last line)) (last line).side) (is_dead (last line)) (nat_le 5 (repetitions line))
+    by_tests (is_without (legal_moves (last line))) (in_check (man_on (last line)) (last line).side) (is_dead (last line)) (nat_le 5 (repetitions line))
     (nat_le 150 (last line).clock)
   where
     by_tests : (none check dead five most : Bool) →
@@ -37,10 +37,10 @@ mate_is_mate line =
     by_tests false check dead five most = with_a_move shows_mate refl refl refl refl dead five most
 
 pub stalemate_is_none : (line : Line) →
-    shows_stalemate (status line) ≡ (is_without (legal_moves (last line)) && not (in_check (look (last line)) (last line).side))
+    shows_stalemate (status line) ≡ (is_without (legal_moves (last line)) && not (in_check (man_on (last line)) (last line).side))
 unfolding status status_at
 stalemate_is_none line =
-    by_tests (is_without (legal_moves (last line))) (in_check (look (last line)) (last line).side) (is_dead (last line)) (nat_le 5 (repetitions line))
+    by_tests (is_without (legal_moves (last line))) (in_check (man_on (last line)) (last line).side) (is_dead (last line)) (nat_le 5 (repetitions line))
     (nat_le 150 (last line).clock)
   where
     by_tests : (none check dead five most : Bool) →
@@ -61,12 +61,12 @@ unfolding status status_at
 draws_were_claimable line = (
   λ h. omega (
     arith,
-    leb-true 5 (repetitions line) (five (is_without (legal_moves (last line))) (in_check (look (last line)) (last line).side) (is_dead (last line))
+    leb-true 5 (repetitions line) (five (is_without (legal_moves (last line))) (in_check (man_on (last line)) (last line).side) (is_dead (last line))
         (nat_le 5 (repetitions line)) (nat_le 150 (last line).clock) h),
   ),
   λ h. omega (
     arith,
-    leb-true 150 (last line).clock (most (is_without (legal_moves (last line))) (in_check (look (last line)) (last line).side) (is_dead (last line))
+    leb-true 150 (last line).clock (most (is_without (legal_moves (last line))) (in_check (man_on (last line)) (last line).side) (is_dead (last line))
         (nat_le 5 (repetitions line)) (nat_le 150 (last line).clock) h),
   ),
 )

@@ -11,14 +11,14 @@ use Rattle.chess_types.specs.declared.board.man.Man.{Man}
 use Rattle.chess_types.specs.declared.board.position.Rights.{Rights}
 use Rattle.chess_types.specs.declared.board.position.Wing.{Wing}
 use Rattle.chess_types.specs.declared.board.position.Wing.TheVariants.{KingSide, QueenSide}
-use Rattle.chess_types.specs.board.Board.{Look, man_at}
+use Rattle.chess_types.specs.board.Board.{Men, man_at}
 use Rattle.chess_types.specs.board.Squares.{file_of, rank_of, is_between_on, is_between, squares}
 use Rattle.chess_types.specs.board.Men.{opponent, is_king, same_colour}
 use Rattle.chess_types.specs.board.MoveParts.{MoveParts}
 use Rattle.chess_types.specs.board.Attack.{leaps, slides, slides_to, is_clear, is_attacked, in_check}
-use Rattle.chess_types.specs.board.Position.{State, IsSetup, holds, king_home, look, rook_home}
+use Rattle.chess_types.specs.board.Position.{PositionParts, IsSetup, holds, king_home, man_on, rook_home}
 use Rattle.chess_types.specs.board.Pseudo.{crossed, reached, castles_to, castles, last_rank}
-use Rattle.chess_types.specs.board.After.{after, after_by, is_castling, keeps, placement_after, rights_after, rook_of, touches, transferred, with_rook}
+use Rattle.chess_types.specs.board.After.{after, after_by, is_castling, keeps, placement_after, rights_after, rook_of, touches, moved_board, with_rook}
 use Rattle.chess_types.specs.board.Legal.{is_legal}
 use Rattle.chess_types.proofs.Sums.{total}
 use Rattle.chess_play.proofs.CastlingSquares.{crossed_inside, rook_inside}
@@ -126,9 +126,9 @@ same_recolour : (there : Option Man) → recoloured there ≡ recolour opponent 
 same_recolour None = refl
 same_recolour (Some man) = refl
 
-pub seen : {p q : State} → IsTurned p q → IsSeen across opponent p q
+pub seen : {p q : PositionParts} → IsTurned p q → IsSeen across opponent p q
 seen {p} {q} both = record {
-  board = λ s h. both.board s h ∙ same_recolour (look p (across s));
+  board = λ s h. both.board s h ∙ same_recolour (man_on p (across s));
   side = both.side;
   target = both.target;
   clock = both.clock;
@@ -172,17 +172,17 @@ castles_to_across c w m from to = λ i.
     (ap (λ s. across m.from == s) (king_across c) ∙ squares_same across opponent over_ranks m.from (king_home c) from (king_inside c)) i
     && (ap (λ s. across m.to == s) (reached_across c w) ∙ squares_same across opponent over_ranks m.to (reached c w) to (reached_inside c w)) i
 
-module _ (p q : State) (both : IsTurned p q) (m : MoveParts) (from : m.from < 64) (to : m.to < 64) where
+module _ (p q : PositionParts) (both : IsTurned p q) (m : MoveParts) (from : m.from < 64) (to : m.to < 64) where
   abbrev c : Colour
   c = p.side
 
-  abbrev E : Look
-  E = look p
+  abbrev E : Men
+  E = man_on p
 
-  abbrev F : Look
-  F = look q
+  abbrev F : Men
+  F = man_on q
 
-  abbrev castle : State → Colour → Look → MoveParts → Wing → Bool
+  abbrev castle : PositionParts → Colour → Men → MoveParts → Wing → Bool
   castle x s f n w =
       castles_to s w n && holds x.rights s w && is_clear f (king_home s) (rook_home s w) && not (is_attacked f (opponent s) (king_home s))
       && not (is_attacked f (opponent s) (crossed s w)) && not (is_attacked f (opponent s) (reached s w))
@@ -210,15 +210,15 @@ touches_across : (m : MoveParts) (s t : ℕ) → m.from < 64 → m.to < 64 → s
 touches_across m s t from to hs is =
     ap (touches (turned m)) is ∙ (λ i. squares_same across opponent over_ranks m.from s from hs i || squares_same across opponent over_ranks m.to s to hs i)
 
-module _ (p q : State) (setup : IsSetup p) (both : IsTurned p q) (m : MoveParts) (from : m.from < 64) (to : m.to < 64) (man : Man) where
+module _ (p q : PositionParts) (setup : IsSetup p) (both : IsTurned p q) (m : MoveParts) (from : m.from < 64) (to : m.to < 64) (man : Man) where
   castling : (w : Wing) → is_castling (seen_man opponent man) w (turned m) ≡ is_castling man w m
   castling w = ap (λ b. is_king man.kind && b) (castles_to_across man.colour w m from to)
 
-  rook_moved : (w : Wing) → AreSeen across opponent (with_rook man.colour w (transferred p man m)) (with_rook (opponent man.colour) w (transferred q (seen_man opponent man) (turned m)))
+  rook_moved : (w : Wing) → AreSeen across opponent (with_rook man.colour w (moved_board p man m)) (with_rook (opponent man.colour) w (moved_board q (seen_man opponent man) (turned m)))
   rook_moved w =
-      seen_put across opponent over_ranks (remove (transferred p man m) (rook_home man.colour w)) (remove (transferred q (seen_man opponent man) (turned m)) (rook_home (opponent man.colour) w))
+      seen_put across opponent over_ranks (remove (moved_board p man m) (rook_home man.colour w)) (remove (moved_board q (seen_man opponent man) (turned m)) (rook_home (opponent man.colour) w))
       (crossed man.colour w) (crossed (opponent man.colour) w) (rook_of man.colour) (crossed_inside man.colour w) (crossed_across man.colour w)
-      (seen_clear across opponent over_ranks (transferred p man m) (transferred q (seen_man opponent man) (turned m)) (rook_home man.colour w) (rook_home (opponent man.colour) w)
+      (seen_clear across opponent over_ranks (moved_board p man m) (moved_board q (seen_man opponent man) (turned m)) (rook_home man.colour w) (rook_home (opponent man.colour) w)
       (rook_inside man.colour w) (rook_across man.colour w) (moved across opponent over_ranks p q setup (seen both) m from to man))
 
   placed : AreSeen across opponent (placement_after p man m) (placement_after q (seen_man opponent man) (turned m))
@@ -249,7 +249,7 @@ module _ (p q : State) (setup : IsSetup p) (both : IsTurned p q) (m : MoveParts)
         clock = x.clock;
       }
 
-module _ (p q : State) (setup : IsSetup p) (both : IsTurned p q) (m : MoveParts) (from : m.from < 64) (to : m.to < 64) where
+module _ (p q : PositionParts) (setup : IsSetup p) (both : IsTurned p q) (m : MoveParts) (from : m.from < 64) (to : m.to < 64) where
   by_man : (there : Option Man) → IsTurned (after_by p there m) (after_by q (recolour opponent there) (turned m))
   by_man None = both
   by_man (Some man) = turned_by p q setup both m from to man
@@ -257,20 +257,20 @@ module _ (p q : State) (setup : IsSetup p) (both : IsTurned p q) (m : MoveParts)
   pub after_turns : IsTurned (after p m) (after q (turned m))
   unfolding after
   after_turns =
-      subst (λ (there : Option Man). IsTurned (after_by p (look p m.from) m) (after_by q there (turned m)))
-      (sym (attacks.there_across across opponent over_ranks (look p) (look q) (seen both).board m.from from)) (by_man (look p m.from))
+      subst (λ (there : Option Man). IsTurned (after_by p (man_on p m.from) m) (after_by q there (turned m)))
+      (sym (attacks.there_across across opponent over_ranks (man_on p) (man_on q) (seen both).board m.from from)) (by_man (man_on p m.from))
 
   pub legal_turns : is_legal q (turned m) ≡ is_legal p m
   unfolding is_legal
   legal_turns = λ i.
       pseudo_seen across opponent over_ranks p q setup (seen both) m from to (castled p q both m from to) i
-      && not ((ap (in_check (look (after q (turned m)))) both.side
-      ∙ attacks.check_across across opponent over_ranks (look p_after) (look (after q (turned m))) (seen after_turns).board p.side) i)
+      && not ((ap (in_check (man_on (after q (turned m)))) both.side
+      ∙ attacks.check_across across opponent over_ranks (man_on p_after) (man_on (after q (turned m))) (seen after_turns).board p.side) i)
     where
-      p_after : State
+      p_after : PositionParts
       p_after = after p m
 
-pub mate_turns : (p q : State) → IsSetup p → IsTurned p q → is_mate q ≡ is_mate p
+pub mate_turns : (p q : PositionParts) → IsSetup p → IsTurned p q → is_mate q ≡ is_mate p
 mate_turns p q setup both = λ i.
     none_seen across opponent over_ranks p q (legal_turns p q setup both) i
-    && (ap (in_check (look q)) both.side ∙ attacks.check_across across opponent over_ranks (look p) (look q) (seen both).board p.side) i
+    && (ap (in_check (man_on q)) both.side ∙ attacks.check_across across opponent over_ranks (man_on p) (man_on q) (seen both).board p.side) i

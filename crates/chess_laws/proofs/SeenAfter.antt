@@ -10,9 +10,9 @@ use Rattle.chess_types.specs.board.Board.{Board, man_at}
 use Rattle.chess_types.specs.board.Squares.{file_of, rank_of}
 use Rattle.chess_types.specs.board.Men.{opponent, is_pawn}
 use Rattle.chess_types.specs.board.MoveParts.{MoveParts}
-use Rattle.chess_types.specs.board.Position.{State, IsSetup, look}
+use Rattle.chess_types.specs.board.Position.{PositionParts, IsSetup, man_on}
 use Rattle.chess_types.specs.board.Pseudo.{is_target, midway}
-use Rattle.chess_types.specs.board.After.{after_by, arriving, captured_at, clock_after, is_en_passant, placement_after, target_after, transferred}
+use Rattle.chess_types.specs.board.After.{after_by, moved_man, captured_at, clock_after, is_en_passant, placement_after, target_after, moved_board}
 use Rattle.chess_play.proofs.Census.{put_here, put_there, clear_here, clear_there}
 use Rattle.chess_laws.proofs.Symmetry.{Symmetry, IsSeen, recolour, seen_move}
 use Rattle.chess_laws.proofs.SeenAttacks.{there_across}
@@ -52,7 +52,7 @@ seen_clear σ κ law B C x y hx is mirror s hs =
           clear_there C y s other ∙ mirror s hs ∙ sym (ap (recolour κ) (clear_there B x (σ s) away))
     ]
 
-arriving_seen : (κ : Colour → Colour) (man : Man) (promo : Option Kind) → arriving (seen_man κ man) promo ≡ seen_man κ (arriving man promo)
+arriving_seen : (κ : Colour → Colour) (man : Man) (promo : Option Kind) → moved_man (seen_man κ man) promo ≡ seen_man κ (moved_man man promo)
 arriving_seen κ man None = refl
 arriving_seen κ man (Some into) = refl
 
@@ -60,7 +60,7 @@ some_recoloured : (κ : Colour → Colour) (there : Option Man) → is_some (rec
 some_recoloured κ None = refl
 some_recoloured κ (Some man) = refl
 
-module _ (σ : ℕ → ℕ) (κ : Colour → Colour) (law : Symmetry σ κ) (p q : State) (setup : IsSetup p) (both : IsSeen σ κ p q) (m : MoveParts) (from : m.from < 64) (to : m.to < 64) (man : Man) where
+module _ (σ : ℕ → ℕ) (κ : Colour → Colour) (law : Symmetry σ κ) (p q : PositionParts) (setup : IsSetup p) (both : IsSeen σ κ p q) (m : MoveParts) (from : m.from < 64) (to : m.to < 64) (man : Man) where
   pub seen_passing : is_en_passant q.target (seen_man κ man) (seen_move σ m) ≡ is_en_passant p.target man m
   seen_passing = λ i.
       is_pawn man.kind && (ap (λ t. is_target_at t) both.target ∙ target_across σ κ law p.target m.to (target_inside p setup) to) i && not (law.files m.from m.to from to i)
@@ -83,12 +83,12 @@ module _ (σ : ℕ → ℕ) (κ : Colour → Colour) (law : Symmetry σ κ) (p q
       by_test true = omega arith
       by_test false = to
 
-  pub moved : AreSeen σ κ (transferred p man m) (transferred q (seen_man κ man) (seen_move σ m))
+  pub moved : AreSeen σ κ (moved_board p man m) (moved_board q (seen_man κ man) (seen_move σ m))
   moved =
-      subst (λ (x : Man). AreSeen σ κ (transferred p man m) (insert (remove (remove q.placement (captured_at q.target (seen_man κ man) (seen_move σ m))) (σ m.from)) (σ m.to) x))
+      subst (λ (x : Man). AreSeen σ κ (moved_board p man m) (insert (remove (remove q.placement (captured_at q.target (seen_man κ man) (seen_move σ m))) (σ m.from)) (σ m.to) x))
       (sym (arriving_seen κ man m.promo))
       (seen_put σ κ law (remove (remove p.placement (captured_at p.target man m)) m.from)
-      (remove (remove q.placement (captured_at q.target (seen_man κ man) (seen_move σ m))) (σ m.from)) m.to (σ m.to) (arriving man m.promo) to refl
+      (remove (remove q.placement (captured_at q.target (seen_man κ man) (seen_move σ m))) (σ m.from)) m.to (σ m.to) (moved_man man m.promo) to refl
       (seen_clear σ κ law (remove p.placement (captured_at p.target man m)) (remove q.placement (captured_at q.target (seen_man κ man) (seen_move σ m))) m.from (σ m.from) from refl
       (seen_clear σ κ law p.placement q.placement (captured_at p.target man m) (captured_at q.target (seen_man κ man) (seen_move σ m)) captured_inside captured both.board)))
 
@@ -105,7 +105,7 @@ module _ (σ : ℕ → ℕ) (κ : Colour → Colour) (law : Symmetry σ κ) (p q
 
   clock_then : clock_after q (seen_man κ man) (seen_move σ m) ≡ clock_after p man m
   clock_then = λ i.
-      if is_pawn man.kind || (ap is_some (there_across σ κ law (look p) (look q) both.board m.to to) ∙ some_recoloured κ (look p m.to)) i then 0 else both.clock i + 1
+      if is_pawn man.kind || (ap is_some (there_across σ κ law (man_on p) (man_on q) both.board m.to to) ∙ some_recoloured κ (man_on p m.to)) i then 0 else both.clock i + 1
 
   -- so the position after the move is the one so seen, once the boards are
   pub seen_by : AreSeen σ κ (placement_after p man m) (placement_after q (seen_man κ man) (seen_move σ m)) →

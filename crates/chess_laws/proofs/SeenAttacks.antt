@@ -3,7 +3,7 @@ use Rattle.std.proofs.Common.{◌≡◌, ℕ, ◌+◌, ◌<◌, ◌≤◌, nat_l
 use Rattle.std.specs.List.{list_all, list_any}
 use Rattle.chess_types.specs.declared.board.man.Colour.{Colour}
 use Rattle.chess_types.specs.declared.board.man.Man.{Man}
-use Rattle.chess_types.specs.board.Board.{Look}
+use Rattle.chess_types.specs.board.Board.{Men}
 use Rattle.chess_types.specs.board.Squares.{is_between, squares}
 use Rattle.chess_types.specs.board.Men.{opponent, same_colour, is_king_of}
 use Rattle.chess_types.specs.board.Attack.{is_clear, attacks_as, attacks_for, count, is_attacked, in_check}
@@ -48,7 +48,7 @@ king_recoloured : (κ : Colour → Colour) → ((c d : Colour) → same_colour (
 king_recoloured κ same c None = refl
 king_recoloured κ same c (Some man) = rw (same man.colour c) refl
 
-module _ (σ : ℕ → ℕ) (κ : Colour → Colour) (law : Symmetry σ κ) (E F : Look) (mirror : (s : ℕ) → s < 64 → F s ≡ recolour κ (E (σ s))) where
+module _ (σ : ℕ → ℕ) (κ : Colour → Colour) (law : Symmetry σ κ) (E F : Men) (mirror : (s : ℕ) → s < 64 → F s ≡ recolour κ (E (σ s))) where
   -- what stands on the square so seen
   pub there_across : (s : ℕ) → s < 64 → F (σ s) ≡ recolour κ (E s)
   there_across s h = mirror (σ s) (law.inside s h) ∙ ap (λ t. recolour κ (E t)) (law.twice s h)

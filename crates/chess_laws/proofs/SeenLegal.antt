@@ -4,7 +4,7 @@ use Rattle.std.specs.List.{Contains}
 use Rattle.std.proofs.lemmas.Bool.{cases_Bool, true≢false}
 use Rattle.chess_types.specs.declared.board.man.Colour.{Colour}
 use Rattle.chess_types.specs.board.MoveParts.{MoveParts}
-use Rattle.chess_types.specs.board.Position.{State}
+use Rattle.chess_types.specs.board.Position.{PositionParts}
 use Rattle.chess_types.specs.board.Legal.{is_legal, legal_moves}
 use Rattle.chess_types.specs.board.Outcome.{is_without}
 use Rattle.chess_moves.proofs.LegalLaws.{legal_listed, listed_legal}
@@ -14,7 +14,7 @@ use Rattle.chess_laws.proofs.Symmetry.{Symmetry, seen_move}
 pub seen_twice : (σ : ℕ → ℕ) (κ : Colour → Colour) → Symmetry σ κ → (n : MoveParts) → n.from < 64 → n.to < 64 → seen_move σ (seen_move σ n) ≡ n
 seen_twice σ κ law n from to = λ i. record { from = law.twice n.from from i; to = law.twice n.to to i; promo = n.promo }
 
-module _ (σ : ℕ → ℕ) (κ : Colour → Colour) (law : Symmetry σ κ) (p q : State)
+module _ (σ : ℕ → ℕ) (κ : Colour → Colour) (law : Symmetry σ κ) (p q : PositionParts)
     (legal : (m : MoveParts) → m.from < 64 → m.to < 64 → is_legal q (seen_move σ m) ≡ is_legal p m) where
   -- a listed move is listed there, so seen, and back
   pub listed_seen : (m : MoveParts) → Contains (legal_moves p) m → Contains (legal_moves q) (seen_move σ m)

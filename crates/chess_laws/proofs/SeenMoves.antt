@@ -9,13 +9,13 @@ use Rattle.chess_types.specs.declared.board.man.Kind.TheVariants.{Pawn, Knight, 
 use Rattle.chess_types.specs.declared.board.man.Man.{Man}
 use Rattle.chess_types.specs.declared.board.position.Wing.{Wing}
 use Rattle.chess_types.specs.declared.board.position.Wing.TheVariants.{KingSide, QueenSide}
-use Rattle.chess_types.specs.board.Board.{Look}
+use Rattle.chess_types.specs.board.Board.{Men}
 use Rattle.chess_types.specs.board.Squares.{rank_of}
 use Rattle.chess_types.specs.board.Men.{same_colour, is_king}
 use Rattle.chess_types.specs.board.MoveParts.{MoveParts}
 use Rattle.chess_types.specs.board.Texts.{names_promotion}
 use Rattle.chess_types.specs.board.Attack.{leaps, attacks_as}
-use Rattle.chess_types.specs.board.Position.{State, IsSetup, is_explained, look}
+use Rattle.chess_types.specs.board.Position.{PositionParts, IsSetup, is_explained, man_on}
 use Rattle.chess_types.specs.board.Pseudo.{is_capturable, is_target, is_ahead, midway, steps_one, steps_two, pawn_takes, pawn_promotion_fits, castles, moves_as_it_attacks, moves_as, moves_man, is_pseudo}
 use Rattle.chess_laws.proofs.Symmetry.{Symmetry, IsSeen, advances, recolour, seen_move}
 use Rattle.chess_laws.proofs.SeenAttacks.{attacks_across, none_across, there_across}
@@ -47,10 +47,10 @@ target_across σ κ law None s inside h = refl
 target_across σ κ law (Some t) s inside h = squares_same σ κ law t s (inside t refl) h
 
 -- the target of a setup is on the board
-pub target_inside : (p : State) → IsSetup p → (t : ℕ) → p.target ≡ Some t → t < 64
+pub target_inside : (p : PositionParts) → IsSetup p → (t : ℕ) → p.target ≡ Some t → t < 64
 target_inside p setup t h = by_side p.side (setup.target t h)
   where
-    by_side : (c : Colour) → is_explained c (look p) t ≡ true → t < 64
+    by_side : (c : Colour) → is_explained c (man_on p) t ≡ true → t < 64
     by_side White e =
         let a = and_parts _ _ e in
         let b = and_parts _ _ a.0 in
@@ -62,16 +62,16 @@ target_inside p setup t h = by_side p.side (setup.target t h)
         let rank : rank_of t ≡ 2 = eqb-true (rank_of t) 2 (and_parts _ _ b.0).0 in
         omega (arith, rank)
 
-module _ (σ : ℕ → ℕ) (κ : Colour → Colour) (law : Symmetry σ κ) (p q : State) (setup : IsSetup p) (both : IsSeen σ κ p q) (m : MoveParts) (from : m.from < 64) (to : m.to < 64)
+module _ (σ : ℕ → ℕ) (κ : Colour → Colour) (law : Symmetry σ κ) (p q : PositionParts) (setup : IsSetup p) (both : IsSeen σ κ p q) (m : MoveParts) (from : m.from < 64) (to : m.to < 64)
     (castled : (w : Wing) → castles q w (seen_move σ m) ≡ castles p w m) where
   abbrev c : Colour
   c = p.side
 
-  abbrev E : Look
-  E = look p
+  abbrev E : Men
+  E = man_on p
 
-  abbrev F : Look
-  F = look q
+  abbrev F : Men
+  F = man_on q
 
   one : steps_one q (seen_move σ m) ≡ steps_one p m
   one = ap (λ s. is_ahead s (σ m.from) (σ m.to) && is_none (F (σ m.to))) both.side

@@ -8,7 +8,7 @@ use Rattle.chess_types.specs.board.Squares.{file_of, rank_of, is_between}
 use Rattle.chess_types.specs.board.MoveParts.{MoveParts}
 use Rattle.chess_types.specs.board.Men.{opponent, same_colour}
 use Rattle.chess_types.specs.board.Attack.{leaps, slides_to}
-use Rattle.chess_types.specs.board.Position.{State, look}
+use Rattle.chess_types.specs.board.Position.{PositionParts, man_on}
 use Rattle.chess_types.specs.board.Pseudo.{is_ahead, last_rank, pawn_rank}
 use Rattle.chess_types.proofs.Sums.{total}
 
@@ -47,8 +47,8 @@ abbrev pub seen_move : (ℕ → ℕ) → MoveParts → MoveParts
 seen_move σ m = record { from = σ m.from; to = σ m.to; promo = m.promo }
 
 -- a position so seen, but for its rights and its number
-pub record IsSeen (σ : ℕ → ℕ) (κ : Colour → Colour) (p q : State) : Type 0 where
-  pub board : (s : ℕ) → s < 64 → look q s ≡ recolour κ (look p (σ s))
+pub record IsSeen (σ : ℕ → ℕ) (κ : Colour → Colour) (p q : PositionParts) : Type 0 where
+  pub board : (s : ℕ) → s < 64 → man_on q s ≡ recolour κ (man_on p (σ s))
   pub side : q.side ≡ κ p.side
   pub target : q.target ≡ option_map σ p.target
   pub clock : q.clock ≡ p.clock

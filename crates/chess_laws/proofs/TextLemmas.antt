@@ -12,10 +12,10 @@ use Rattle.chess_types.specs.board.Texts.{square_text}
 use Rattle.chess_types.specs.board.Attack.{in_check}
 use Rattle.chess_types.specs.board.After.{after, is_castling}
 use Rattle.chess_types.specs.board.Outcome.{is_without}
-use Rattle.chess_types.specs.board.Position.{State, look}
+use Rattle.chess_types.specs.board.Position.{PositionParts, man_on}
 use Rattle.chess_types.specs.board.Legal.{legal_moves}
 use Rattle.chess_san.specs.declared.fault.SanFault.{SanFault}
-use Rattle.chess_san.specs.Naming.{reading}
+use Rattle.chess_san.specs.Naming.{san_reading}
 use Rattle.chess_san.specs.declared.form.Origin.{Origin}
 use Rattle.chess_san.specs.Writing.{bare_text, becoming_text, capture_text, captures, file_letter, mark_text, origin_of, pawn_text, piece_text, rank_digit, san, step_text}
 use Rattle.chess_moves.proofs.LegalLaws.{listed_legal}
@@ -32,11 +32,11 @@ same_ok : (m n : MoveParts) → (reading_m reading_n : Read) → reading_m ≡ O
 unfolding move_of
 same_ok m n a b is_m is_n same = sym (ap (move_of m) is_m) ∙ ap (move_of m) same ∙ ap (move_of m) is_n
 
-pub one_text_one_move : (p : State) (m n : MoveParts) → Contains (legal_moves p) m → Contains (legal_moves p) n → san p m ≡ san p n → m ≡ n
+pub one_text_one_move : (p : PositionParts) (m n : MoveParts) → Contains (legal_moves p) m → Contains (legal_moves p) n → san p m ≡ san p n → m ≡ n
 one_text_one_move p m n hm hn same =
     let a = listed_legal p m hm in
     let b = listed_legal p n hn in
-    same_ok m n (reading p (san p m)) (reading p (san p n)) (read_back p m a.0 a.1) (read_back p n b.0 b.1) (ap (reading p) same)
+    same_ok m n (san_reading p (san p m)) (san_reading p (san p n)) (read_back p m a.0 a.1) (read_back p n b.0 b.1) (ap (san_reading p) same)
 
 -- how long the parts of a text are
 file_short : (o : Option ℕ) → length (file_letter o) ≤ 1
@@ -82,7 +82,7 @@ piece_short sort origin taken to =
       taken_short taken,
     )
 
-step_short : (p : State) (kind : Kind) (man : Man) (m : MoveParts) → length (step_text p kind man m) ≤ 6
+step_short : (p : PositionParts) (kind : Kind) (man : Man) (m : MoveParts) → length (step_text p kind man m) ≤ 6
 step_short p Pawn man m = pawn_short (captures p man m) m
 step_short p Knight man m = piece_short Knight (origin_of p Knight m) (captures p man m) m.to
 step_short p Bishop man m = piece_short Bishop (origin_of p Bishop m) (captures p man m) m.to
@@ -95,7 +95,7 @@ by_castling true b text h = omega arith
 by_castling false true text h = omega arith
 by_castling false false text h = h
 
-bare_short : (p : State) (there : Option Man) (m : MoveParts) → length (bare_text p there m) ≤ 6
+bare_short : (p : PositionParts) (there : Option Man) (m : MoveParts) → length (bare_text p there m) ≤ 6
 bare_short p None m = omega arith
 bare_short p (Some man) m =
     by_castling (is_castling man KingSide m) (is_castling man QueenSide m) (step_text p man.kind man m) (step_short p man.kind man m)
@@ -105,13 +105,13 @@ mark_short true true = omega arith
 mark_short true false = omega arith
 mark_short false none = omega arith
 
-pub texts_are_short : (p : State) (m : MoveParts) → length (san p m) ≤ 7
+pub texts_are_short : (p : PositionParts) (m : MoveParts) → length (san p m) ≤ 7
 unfolding san mark_text
 texts_are_short p m =
-    let q : State = after p m in
+    let q : PositionParts = after p m in
     omega (
       arith,
-      length-append (bare_text p (look p m.from) m) (mark_text (after p m)),
-      bare_short p (look p m.from) m,
-      mark_short (in_check (look q) q.side) (is_without (legal_moves q)),
+      length-append (bare_text p (man_on p m.from) m) (mark_text (after p m)),
+      bare_short p (man_on p m.from) m,
+      mark_short (in_check (man_on q) q.side) (is_without (legal_moves q)),
     )

@@ -15,7 +15,7 @@ use Rattle.chess_types.specs.board.Squares.{squares}
 use Rattle.chess_types.specs.board.Men.{opponent, same_colour, same_kind}
 use Rattle.chess_types.specs.board.MoveParts.{MoveParts}
 use Rattle.chess_types.specs.board.Attack.{in_check}
-use Rattle.chess_types.specs.board.Position.{State, IsSetup, IsWellFormed, look}
+use Rattle.chess_types.specs.board.Position.{PositionParts, IsSetup, IsWellFormed, man_on}
 use Rattle.chess_types.specs.board.After.{after}
 use Rattle.chess_types.specs.board.Legal.{legal_moves}
 use Rattle.chess_types.specs.board.Lines.{Line, play, positions_from, positions, last}
@@ -75,20 +75,20 @@ meets f (n ∷ moves) m (suc k, inside, at_k) e =
     ]
 
 -- a capture on the target is one there, turned
-takes_turns : (p q : State) → IsSetup p → IsTurned p q → (m : MoveParts) → m.from < 64 → m.to < 64 →
-    takes_target q (look q (across m.from)) (turned m) ≡ takes_target p (look p m.from) m
+takes_turns : (p q : PositionParts) → IsSetup p → IsTurned p q → (m : MoveParts) → m.from < 64 → m.to < 64 →
+    takes_target q (man_on q (across m.from)) (turned m) ≡ takes_target p (man_on p m.from) m
 takes_turns p q setup both m from to =
-    ap (λ there. takes_target q there (turned m)) (there_across across opponent over_ranks (look p) (look q) (seen both).board m.from from) ∙ by_man (look p m.from)
+    ap (λ there. takes_target q there (turned m)) (there_across across opponent over_ranks (man_on p) (man_on q) (seen both).board m.from from) ∙ by_man (man_on p m.from)
   where
     by_man : (there : Option Man) → takes_target q (recolour opponent there) (turned m) ≡ takes_target p there m
     by_man None = refl
     by_man (Some man) = seen_passing across opponent over_ranks p q setup (seen both) m from to man
 
-counts_turn : (p q : State) → IsSetup p → IsTurned p q → target_counts q ≡ target_counts p
+counts_turn : (p q : PositionParts) → IsSetup p → IsTurned p q → target_counts q ≡ target_counts p
 unfolding target_counts
 counts_turn p q setup both =
-    let f : MoveParts → Bool = λ m. takes_target p (look p m.from) m in
-    let g : MoveParts → Bool = λ m. takes_target q (look q m.from) m in
+    let f : MoveParts → Bool = λ m. takes_target p (man_on p m.from) m in
+    let g : MoveParts → Bool = λ m. takes_target q (man_on q m.from) m in
     same_test _ _
     (λ h.
     let (n, listed, e) : (n : MoveParts) × Contains (legal_moves q) n × (g n ≡ true) = met g (legal_moves q) h in
@@ -100,7 +100,7 @@ counts_turn p q setup both =
     let on = (listed_legal p m listed).0 in
     meets g (legal_moves q) (turned m) (listed_seen across opponent over_ranks p q (legal_turns p q setup both) m listed) (takes_turns p q setup both m on.from on.to ∙ e))
 
-counting_turns : (p q : State) → IsSetup p → IsTurned p q → counting_target q ≡ option_map across (counting_target p)
+counting_turns : (p q : PositionParts) → IsSetup p → IsTurned p q → counting_target q ≡ option_map across (counting_target p)
 unfolding counting_target
 counting_turns p q setup both =
     (λ i. if counts_turn p q setup both i then both.target i else None) ∙ by_test (target_counts p)
@@ -109,7 +109,7 @@ counting_turns p q setup both =
     by_test true = refl
     by_test false = refl
 
-counting_inside : (p : State) → IsSetup p → (t : ℕ) → counting_target p ≡ Some t → t < 64
+counting_inside : (p : PositionParts) → IsSetup p → (t : ℕ) → counting_target p ≡ Some t → t < 64
 unfolding counting_target
 counting_inside p setup t h = by_test (target_counts p) h
   where
@@ -125,7 +125,7 @@ same_targets (Some s) None f g = refl
 same_targets (Some s) (Some t) f g = squares_same across opponent over_ranks s t (f s refl) (g t refl)
 
 -- two positions that are turned are the same where the two are
-module _ (p q r s : State) (setup : IsSetup p) (setup' : IsSetup r) (both : IsTurned p q) (both' : IsTurned r s) where
+module _ (p q r s : PositionParts) (setup : IsSetup p) (setup' : IsSetup r) (both : IsTurned p q) (both' : IsTurned r s) where
   rights_turn : same_rights q.rights s.rights ≡ same_rights p.rights r.rights
   rights_turn =
       (λ i. same_bool (both.rights Black KingSide i) (both'.rights Black KingSide i) && same_bool (both.rights Black QueenSide i) (both'.rights Black QueenSide i)
@@ -138,27 +138,27 @@ module _ (p q r s : State) (setup : IsSetup p) (setup' : IsSetup r) (both : IsTu
   unfolding is_same
   same_turns = λ i.
       ((λ j. same_colour (both.side j) (both'.side j)) ∙ over_ranks.colours p.side r.side) i
-      && all_across across opponent over_ranks (λ t. same_man (look p t) (look r t)) (λ t. same_man (look q t) (look s t))
-      (λ t h. (λ j. same_man (there_across across opponent over_ranks (look p) (look q) (seen both).board t h j) (there_across across opponent over_ranks (look r) (look s) (seen both').board t h j))
-      ∙ same_man_recoloured (look p t) (look r t)) i
+      && all_across across opponent over_ranks (λ t. same_man (man_on p t) (man_on r t)) (λ t. same_man (man_on q t) (man_on s t))
+      (λ t h. (λ j. same_man (there_across across opponent over_ranks (man_on p) (man_on q) (seen both).board t h j) (there_across across opponent over_ranks (man_on r) (man_on s) (seen both').board t h j))
+      ∙ same_man_recoloured (man_on p t) (man_on r t)) i
       && rights_turn i
       && ((λ j. same_target (counting_turns p q setup both j) (counting_turns r s setup' both' j))
       ∙ same_targets (counting_target p) (counting_target r) (counting_inside p setup) (counting_inside r setup')) i
 
 -- each move of a line leads from turned positions to turned positions
-next_turns : (p q : State) (m : MoveParts) → IsWellFormed p → IsTurned p q → Contains (legal_moves p) m → IsTurned (after p m) (after q (turned m))
+next_turns : (p q : PositionParts) (m : MoveParts) → IsWellFormed p → IsTurned p q → Contains (legal_moves p) m → IsTurned (after p m) (after q (turned m))
 next_turns p q m well both listed = let on = (listed_legal p m listed).0 in after_turns p q well.setup both m on.from on.to
 
-last_turns : (p q : State) (moves : List MoveParts) → IsWellFormed p → IsTurned p q → AreListed p moves → IsTurned (play p moves) (play q (map turned moves))
+last_turns : (p q : PositionParts) (moves : List MoveParts) → IsWellFormed p → IsTurned p q → AreListed p moves → IsTurned (play p moves) (play q (map turned moves))
 last_turns p q [] well both h = both
 last_turns p q (m ∷ moves) well both h = last_turns (after p m) (after q (turned m)) moves (stays_well p m well h.0) (next_turns p q m well both h.0) h.1
 
-last_well : (p : State) (moves : List MoveParts) → IsWellFormed p → AreListed p moves → IsWellFormed (play p moves)
+last_well : (p : PositionParts) (moves : List MoveParts) → IsWellFormed p → AreListed p moves → IsWellFormed (play p moves)
 last_well p [] well h = well
 last_well p (m ∷ moves) well h = last_well (after p m) moves (stays_well p m well h.0) h.1
 
 -- so as many positions are the same as a given one
-count_turns : (l k : State) → IsSetup l → IsTurned l k → (p q : State) (moves : List MoveParts) → IsWellFormed p → IsTurned p q → AreListed p moves →
+count_turns : (l k : PositionParts) → IsSetup l → IsTurned l k → (p q : PositionParts) (moves : List MoveParts) → IsWellFormed p → IsTurned p q → AreListed p moves →
     count_by (is_same k) (positions_from q (map turned moves)) ≡ count_by (is_same l) (positions_from p moves)
 count_turns l k setup last_both p q [] well both h = ap (λ b. 0 + bit b) (same_turns l k p q setup well.setup last_both both)
 count_turns l k setup last_both p q (m ∷ moves) well both h =
@@ -188,34 +188,34 @@ either_order true true = refl
 either_order true false = refl
 either_order false y = or-false y
 
-module _ (p q : State) (both : IsTurned p q) where
-  there : (s : ℕ) → s < 64 → look q (across s) ≡ recolour opponent (look p s)
-  there s h = there_across across opponent over_ranks (look p) (look q) (seen both).board s h
+module _ (p q : PositionParts) (both : IsTurned p q) where
+  there : (s : ℕ) → s < 64 → man_on q (across s) ≡ recolour opponent (man_on p s)
+  there s h = there_across across opponent over_ranks (man_on p) (man_on q) (seen both).board s h
 
-  others_turn : (f g : ℕ → Bool) → ((s : ℕ) → s < 64 → g (across s) ≡ f s) → list_all g (others (look q)) ≡ list_all f (others (look p))
+  others_turn : (f g : ℕ → Bool) → ((s : ℕ) → s < 64 → g (across s) ≡ f s) → list_all g (others (man_on q)) ≡ list_all f (others (man_on p))
   others_turn f g same =
-      list_all-filter g (λ s. is_other (look q s)) squares
-      ∙ all_across across opponent over_ranks (λ s. not (is_other (look p s)) || f s) (λ s. not (is_other (look q s)) || g s)
-      (λ s h i. not ((ap is_other (there s h) ∙ other_recoloured (look p s)) i) || same s h i)
-      ∙ sym (list_all-filter f (λ s. is_other (look p s)) squares)
+      list_all-filter g (λ s. is_other (man_on q s)) squares
+      ∙ all_across across opponent over_ranks (λ s. not (is_other (man_on p s)) || f s) (λ s. not (is_other (man_on q s)) || g s)
+      (λ s h i. not ((ap is_other (there s h) ∙ other_recoloured (man_on p s)) i) || same s h i)
+      ∙ sym (list_all-filter f (λ s. is_other (man_on p s)) squares)
 
-  as_many : length (others (look q)) ≡ length (others (look p))
+  as_many : length (others (man_on q)) ≡ length (others (man_on p))
   unfolding squares
   as_many =
-      length-filter (λ s. is_other (look q s)) squares ∙ sum_by-range (λ s. bit (is_other (look q s))) 0 64
-      ∙ sym (over_ranks.sums (λ s. bit (is_other (look q s))))
-      ∙ total-agree (λ s. bit (is_other (look q (across s)))) (λ s. bit (is_other (look p s))) 0 64 (λ s low high.
-      ap bit (ap is_other (there s (omega arith)) ∙ other_recoloured (look p s)))
-      ∙ sym (length-filter (λ s. is_other (look p s)) squares ∙ sum_by-range (λ s. bit (is_other (look p s))) 0 64)
+      length-filter (λ s. is_other (man_on q s)) squares ∙ sum_by-range (λ s. bit (is_other (man_on q s))) 0 64
+      ∙ sym (over_ranks.sums (λ s. bit (is_other (man_on q s))))
+      ∙ total-agree (λ s. bit (is_other (man_on q (across s)))) (λ s. bit (is_other (man_on p s))) 0 64 (λ s low high.
+      ap bit (ap is_other (there s (omega arith)) ∙ other_recoloured (man_on p s)))
+      ∙ sym (length-filter (λ s. is_other (man_on p s)) squares ∙ sum_by-range (λ s. bit (is_other (man_on p s))) 0 64)
 
   dead_turns : is_dead q ≡ is_dead p
   unfolding is_dead
   dead_turns = λ i.
-      (others_turn (λ s. holds_minor (look p s)) (λ s. holds_minor (look q s)) (λ s h. ap holds_minor (there s h) ∙ minor_recoloured (look p s)) i
+      (others_turn (λ s. holds_minor (man_on p s)) (λ s. holds_minor (man_on q s)) (λ s h. ap holds_minor (there s h) ∙ minor_recoloured (man_on p s)) i
       && nat_le (as_many i) 1)
-      || (others_turn (λ s. holds_bishop (look p s)) (λ s. holds_bishop (look q s)) (λ s h. ap holds_bishop (there s h) ∙ bishop_recoloured (look p s)) i
+      || (others_turn (λ s. holds_bishop (man_on p s)) (λ s. holds_bishop (man_on q s)) (λ s h. ap holds_bishop (there s h) ∙ bishop_recoloured (man_on p s)) i
       && ((λ j. others_turn (λ s. not (is_light s)) is_light light_across j || others_turn is_light (λ s. not (is_light s)) (λ s h. ap not (light_across s h) ∙ twice_not (is_light s)) j)
-      ∙ either_order (list_all is_light (others (look p))) (list_all (λ s. not (is_light s)) (others (look p)))) i)
+      ∙ either_order (list_all is_light (others (man_on p))) (list_all (λ s. not (is_light s)) (others (man_on p)))) i)
     where
       twice_not : (b : Bool) → not (not b) ≡ b
       twice_not true = refl
@@ -242,7 +242,7 @@ module _ (line other : Line) (well : IsWellFormed line.start) (both : IsTurned l
   unfolding status status_at
   status_turns = λ i.
       if none_seen across opponent over_ranks (last line) (last other) (legal_turns (last line) (last other) ends_well.setup ends) i
-      then (if (ap (in_check (look (last other))) ends.side ∙ check_across across opponent over_ranks (look (last line)) (look (last other)) (seen ends).board (last line).side) i then Mate else Stalemate)
+      then (if (ap (in_check (man_on (last other))) ends.side ∙ check_across across opponent over_ranks (man_on (last line)) (man_on (last other)) (seen ends).board (last line).side) i then Mate else Stalemate)
       else (if dead_turns (last line) (last other) ends i then Dead
       else (if nat_le 5 (repetitions_turn i) then Fivefold else (if nat_le 150 (ends.clock i) then Seventyfive else Play)))
 

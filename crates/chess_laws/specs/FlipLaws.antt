@@ -14,7 +14,7 @@ use Rattle.chess_types.specs.declared.board.position.Wing.{Wing}
 use Rattle.chess_types.specs.board.Squares.{file_of, rank_of}
 use Rattle.chess_types.specs.board.MoveParts.{MoveParts}
 use Rattle.chess_types.specs.board.Attack.{count, in_check}
-use Rattle.chess_types.specs.board.Position.{State, IsSetup, holds, look}
+use Rattle.chess_types.specs.board.Position.{PositionParts, IsSetup, holds, man_on}
 use Rattle.chess_types.specs.board.After.{after}
 use Rattle.chess_types.specs.board.Legal.{is_legal, legal_moves}
 use Rattle.chess_laws.specs.DeadLaws.{is_mate}
@@ -28,8 +28,8 @@ abbrev pub flipped : MoveParts → MoveParts
 flipped m = record { from = flip m.from; to = flip m.to; promo = m.promo }
 
 -- the files turned round; castling knows left from right, so nobody holds a right to it
-pub record IsFlipped (p q : State) : Type 0 where
-  pub board : (s : ℕ) → s < 64 → look q s ≡ look p (flip s)
+pub record IsFlipped (p q : PositionParts) : Type 0 where
+  pub board : (s : ℕ) → s < 64 → man_on q s ≡ man_on p (flip s)
   pub side : q.side ≡ p.side
   pub none : (c : Colour) (w : Wing) → holds p.rights c w ≡ false
   pub none_there : (c : Colour) (w : Wing) → holds q.rights c w ≡ false
@@ -38,22 +38,22 @@ pub record IsFlipped (p q : State) : Type 0 where
 
 -- each colour attacks each square as often as the turned one
 abbrev pub CountsFlip : Type 0
-CountsFlip = (p q : State) → IsFlipped p q → (c : Colour) (s : ℕ) → s < 64 → count (look q) c (flip s) ≡ count (look p) c s
+CountsFlip = (p q : PositionParts) → IsFlipped p q → (c : Colour) (s : ℕ) → s < 64 → count (man_on q) c (flip s) ≡ count (man_on p) c s
 
 -- a king is in check where it is in the other
 abbrev pub ChecksFlip : Type 0
-ChecksFlip = (p q : State) → IsFlipped p q → (c : Colour) → in_check (look q) c ≡ in_check (look p) c
+ChecksFlip = (p q : PositionParts) → IsFlipped p q → (c : Colour) → in_check (man_on q) c ≡ in_check (man_on p) c
 
 -- a move is legal where the turned one is
 abbrev pub LegalFlips : Type 0
 LegalFlips =
-    (p q : State) → IsSetup p → IsSetup q → IsFlipped p q → (m : MoveParts) → m.from < 64 → m.to < 64 → is_legal q (flipped m) ≡ is_legal p m
+    (p q : PositionParts) → IsSetup p → IsSetup q → IsFlipped p q → (m : MoveParts) → m.from < 64 → m.to < 64 → is_legal q (flipped m) ≡ is_legal p m
 
 -- and both lead to positions of which each is the other one turned
 abbrev pub AfterFlips : Type 0
 AfterFlips =
-    (p q : State) → IsSetup p → IsSetup q → IsFlipped p q → (m : MoveParts) → Contains (legal_moves p) m → IsFlipped (after p m) (after q (flipped m))
+    (p q : PositionParts) → IsSetup p → IsSetup q → IsFlipped p q → (m : MoveParts) → Contains (legal_moves p) m → IsFlipped (after p m) (after q (flipped m))
 
 -- mate is mate from left and right
 abbrev pub MateFlips : Type 0
-MateFlips = (p q : State) → IsSetup p → IsSetup q → IsFlipped p q → is_mate q ≡ is_mate p
+MateFlips = (p q : PositionParts) → IsSetup p → IsSetup q → IsFlipped p q → is_mate q ≡ is_mate p

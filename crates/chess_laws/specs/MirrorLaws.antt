@@ -13,7 +13,7 @@ use Rattle.chess_types.specs.declared.board.position.Wing.{Wing}
 use Rattle.chess_types.specs.board.MoveParts.{MoveParts}
 use Rattle.chess_types.specs.board.Men.{opponent}
 use Rattle.chess_types.specs.board.Attack.{count, in_check}
-use Rattle.chess_types.specs.board.Position.{State, IsSetup, IsWellFormed, holds, look}
+use Rattle.chess_types.specs.board.Position.{PositionParts, IsSetup, IsWellFormed, holds, man_on}
 use Rattle.chess_types.specs.board.After.{after}
 use Rattle.chess_types.specs.board.Legal.{is_legal}
 use Rattle.chess_eval.specs.Mirror.{across, IsMirror}
@@ -27,7 +27,7 @@ abbrev pub turned : MoveParts → MoveParts
 turned m = record { from = across m.from; to = across m.to; promo = m.promo }
 
 -- the ranks turned round and the colours exchanged; the number counts Black's moves, and has no mirror
-pub record IsTurned (p q : State) : Type 0 where
+pub record IsTurned (p q : PositionParts) : Type 0 where
   pub board : IsMirror p.placement q.placement
   pub side : q.side ≡ opponent p.side
   pub rights : (c : Colour) (w : Wing) → holds q.rights (opponent c) w ≡ holds p.rights c w
@@ -36,24 +36,24 @@ pub record IsTurned (p q : State) : Type 0 where
 
 -- each colour attacks each square as often as the other attacks the square across
 abbrev pub CountsTurn : Type 0
-CountsTurn = (p q : State) → IsTurned p q → (c : Colour) (s : ℕ) → s < 64 → count (look q) (opponent c) (across s) ≡ count (look p) c s
+CountsTurn = (p q : PositionParts) → IsTurned p q → (c : Colour) (s : ℕ) → s < 64 → count (man_on q) (opponent c) (across s) ≡ count (man_on p) c s
 
 -- one king is in check where the other is
 abbrev pub ChecksTurn : Type 0
-ChecksTurn = (p q : State) → IsTurned p q → (c : Colour) → in_check (look q) (opponent c) ≡ in_check (look p) c
+ChecksTurn = (p q : PositionParts) → IsTurned p q → (c : Colour) → in_check (man_on q) (opponent c) ≡ in_check (man_on p) c
 
 -- a move is legal where the turned one is
 abbrev pub LegalTurns : Type 0
 LegalTurns =
-    (p q : State) → IsSetup p → IsTurned p q → (m : MoveParts) → m.from < 64 → m.to < 64 → is_legal q (turned m) ≡ is_legal p m
+    (p q : PositionParts) → IsSetup p → IsTurned p q → (m : MoveParts) → m.from < 64 → m.to < 64 → is_legal q (turned m) ≡ is_legal p m
 
 -- and both lead to positions of which each is the other one turned
 abbrev pub AfterTurns : Type 0
-AfterTurns = (p q : State) → IsSetup p → IsTurned p q → (m : MoveParts) → m.from < 64 → m.to < 64 → IsTurned (after p m) (after q (turned m))
+AfterTurns = (p q : PositionParts) → IsSetup p → IsTurned p q → (m : MoveParts) → m.from < 64 → m.to < 64 → IsTurned (after p m) (after q (turned m))
 
 -- mate is mate from either side
 abbrev pub MateTurns : Type 0
-MateTurns = (p q : State) → IsSetup p → IsTurned p q → is_mate q ≡ is_mate p
+MateTurns = (p q : PositionParts) → IsSetup p → IsTurned p q → is_mate q ≡ is_mate p
 
 -- the same line from the other side ends as the line does (5.1, 5.2, 9.2, 9.3, 9.6)
 abbrev pub LinesTurn : Type 0

@@ -21,7 +21,7 @@ use Rattle.chess_types.specs.declared.board.position.Wing.{Wing}
 use Rattle.chess_types.specs.board.Board.{Board}
 use Rattle.chess_types.specs.board.MoveParts.{MoveParts}
 use Rattle.chess_types.specs.board.Men.{count_squares, holds_pawn, is_man, men_of, opponent}
-use Rattle.chess_types.specs.board.Position.{State, IsWellFormed, holds, king_home, look, rook_home}
+use Rattle.chess_types.specs.board.Position.{PositionParts, IsWellFormed, holds, king_home, man_on, rook_home}
 use Rattle.chess_types.specs.board.Attack.{in_check, is_attacked}
 use Rattle.chess_types.specs.board.Pseudo.{castles_to, crossed, midway, reached}
 use Rattle.chess_types.specs.board.After.{after}
@@ -44,55 +44,55 @@ IsArmy c board = how_many c Pawn board + promoted c board ≤ 8
 
 -- no man comes onto the board
 abbrev pub MenNeverRise : Type 0
-MenNeverRise = (p : State) (m : MoveParts) → IsWellFormed p → Contains (legal_moves p) m → (c : Colour) → men_of (after p m).placement c ≤ men_of p.placement c
+MenNeverRise = (p : PositionParts) (m : MoveParts) → IsWellFormed p → Contains (legal_moves p) m → (c : Colour) → men_of (after p m).placement c ≤ men_of p.placement c
 
 -- and no pawn
 abbrev pub PawnsNeverRise : Type 0
 PawnsNeverRise =
-    (p : State) (m : MoveParts) → IsWellFormed p → Contains (legal_moves p) m → (c : Colour) →
+    (p : PositionParts) (m : MoveParts) → IsWellFormed p → Contains (legal_moves p) m → (c : Colour) →
     how_many c Pawn (after p m).placement ≤ how_many c Pawn p.placement
 
 -- who promotes is a pawn no more
 abbrev pub ArmiesStay : Type 0
 ArmiesStay =
-    (p : State) (moves : List MoveParts) → IsWellFormed p → AreListed p moves → (c : Colour) → IsArmy c p.placement → IsArmy c (play p moves).placement
+    (p : PositionParts) (moves : List MoveParts) → IsWellFormed p → AreListed p moves → (c : Colour) → IsArmy c p.placement → IsArmy c (play p moves).placement
 
 -- a castling right isn't won back (3.8.2.1)
 abbrev pub RightsAreLost : Type 0
 RightsAreLost =
-    (p : State) (moves : List MoveParts) → IsWellFormed p → AreListed p moves → (c : Colour) (w : Wing) →
+    (p : PositionParts) (moves : List MoveParts) → IsWellFormed p → AreListed p moves → (c : Colour) (w : Wing) →
     holds (play p moves).rights c w ≡ true → holds p.rights c w ≡ true
 
 -- How castling leaves a position: the king came from its home with its right and passed no attacked square, it and the rook stand where castling
 -- takes them, and nothing stands where they came from (3.8.2).
-pub record IsCastled (p q : State) (w : Wing) : Type 0 where
+pub record IsCastled (p q : PositionParts) (w : Wing) : Type 0 where
   pub right : holds p.rights p.side w ≡ true
-  pub out_of_check : is_attacked (look p) (opponent p.side) (king_home p.side) ≡ false
-  pub over_safe : is_attacked (look p) (opponent p.side) (crossed p.side w) ≡ false
-  pub into_safe : in_check (look q) p.side ≡ false
-  pub king : look q (reached p.side w) ≡ Some (record { colour = p.side; kind = King })
-  pub rook : look q (crossed p.side w) ≡ Some (record { colour = p.side; kind = Rook })
-  pub king_left : look q (king_home p.side) ≡ None
-  pub rook_left : look q (rook_home p.side w) ≡ None
+  pub out_of_check : is_attacked (man_on p) (opponent p.side) (king_home p.side) ≡ false
+  pub over_safe : is_attacked (man_on p) (opponent p.side) (crossed p.side w) ≡ false
+  pub into_safe : in_check (man_on q) p.side ≡ false
+  pub king : man_on q (reached p.side w) ≡ Some (record { colour = p.side; kind = King })
+  pub rook : man_on q (crossed p.side w) ≡ Some (record { colour = p.side; kind = Rook })
+  pub king_left : man_on q (king_home p.side) ≡ None
+  pub rook_left : man_on q (rook_home p.side w) ≡ None
 
 -- a legal move of the king by two squares is such a castling
 abbrev pub CastlingIsSound : Type 0
 CastlingIsSound =
-    (p : State) (m : MoveParts) (w : Wing) → IsWellFormed p → Contains (legal_moves p) m →
-    look p m.from ≡ Some (record { colour = p.side; kind = King }) → castles_to p.side w m ≡ true → IsCastled p (after p m) w
+    (p : PositionParts) (m : MoveParts) (w : Wing) → IsWellFormed p → Contains (legal_moves p) m →
+    man_on p m.from ≡ Some (record { colour = p.side; kind = King }) → castles_to p.side w m ≡ true → IsCastled p (after p m) w
 
 -- the move before a capture en passant is the advance of the captured pawn over that square (3.7.3.1, 3.7.3.2)
 abbrev pub TakenAtOnce : Type 0
 TakenAtOnce =
-    (p : State) (m n : MoveParts) → IsWellFormed p → Contains (legal_moves p) m → Contains (legal_moves (after p m)) n →
-    takes_target (after p m) (look (after p m) n.from) n ≡ true →
-    (holds_pawn (look p m.from) ≡ true) × ((m.to ≡ m.from + 16) ⊎ (m.from ≡ m.to + 16)) × (midway m ≡ n.to)
+    (p : PositionParts) (m n : MoveParts) → IsWellFormed p → Contains (legal_moves p) m → Contains (legal_moves (after p m)) n →
+    takes_target (after p m) (man_on (after p m) n.from) n ≡ true →
+    (holds_pawn (man_on p m.from) ≡ true) × ((m.to ≡ m.from + 16) ⊎ (m.from ≡ m.to + 16)) × (midway m ≡ n.to)
 
 -- no pawn's move and no capture goes uncounted, and no other move sets the clock back (9.3)
 abbrev pub ClockCounts : Type 0
 ClockCounts =
-    (p : State) (m : MoveParts) → IsWellFormed p → Contains (legal_moves p) m →
-    ((after p m).clock == 0) ≡ (holds_pawn (look p m.from) || is_some (look p m.to))
+    (p : PositionParts) (m : MoveParts) → IsWellFormed p → Contains (legal_moves p) m →
+    ((after p m).clock == 0) ≡ (holds_pawn (man_on p m.from) || is_some (man_on p m.to))
 
 -- of moves from a position, those that Black makes
 abbrev pub black_moves : Colour → List MoveParts → ℕ
@@ -103,4 +103,4 @@ black_moves Black (m ∷ moves) = 1 + black_moves White moves
 -- the number counts them (PGN 16.1.3.6)
 abbrev pub NumberCounts : Type 0
 NumberCounts =
-    (p : State) (moves : List MoveParts) → IsWellFormed p → AreListed p moves → (play p moves).number ≡ p.number + black_moves p.side moves
+    (p : PositionParts) (moves : List MoveParts) → IsWellFormed p → AreListed p moves → (play p moves).number ≡ p.number + black_moves p.side moves

@@ -9,7 +9,7 @@ use Rattle.chess_types.specs.declared.board.outcome.Status.{Status}
 use Rattle.chess_types.specs.declared.board.outcome.Status.TheVariants.{Mate, Stalemate, Fivefold, Seventyfive}
 use Rattle.chess_types.specs.board.MoveParts.{MoveParts}
 use Rattle.chess_types.specs.board.Attack.{in_check}
-use Rattle.chess_types.specs.board.Position.{look}
+use Rattle.chess_types.specs.board.Position.{man_on}
 use Rattle.chess_types.specs.board.Legal.{is_legal, legal_moves}
 use Rattle.chess_types.specs.board.Lines.{Line, last, extended}
 use Rattle.chess_types.specs.board.Outcome.{is_without, is_play, status, claims, claims_with}
@@ -33,7 +33,7 @@ MateIsMate = (line : Line) → shows_mate (status line) ≡ is_mate (last line)
 -- no legal move and no check (5.2.1)
 abbrev pub StalemateIsNone : Type 0
 StalemateIsNone =
-    (line : Line) → shows_stalemate (status line) ≡ (is_without (legal_moves (last line)) && not (in_check (look (last line)) (last line).side))
+    (line : Line) → shows_stalemate (status line) ≡ (is_without (legal_moves (last line)) && not (in_check (man_on (last line)) (last line).side))
 
 -- the fifth repetition
 abbrev pub shows_fivefold : Status → Bool

@@ -4,14 +4,14 @@
 use Rattle.std.specs.Prelude.{◌≡◌, ◌≤◌, length}
 use Rattle.std.specs.List.{Contains}
 use Rattle.chess_types.specs.board.MoveParts.{MoveParts}
-use Rattle.chess_types.specs.board.Position.{State}
+use Rattle.chess_types.specs.board.Position.{PositionParts}
 use Rattle.chess_types.specs.board.Legal.{legal_moves}
 use Rattle.chess_san.specs.Writing.{san}
 
 -- no other legal move has the text of a move
 abbrev pub OneTextOneMove : Type 0
-OneTextOneMove = (p : State) (m n : MoveParts) → Contains (legal_moves p) m → Contains (legal_moves p) n → san p m ≡ san p n → m ≡ n
+OneTextOneMove = (p : PositionParts) (m n : MoveParts) → Contains (legal_moves p) m → Contains (legal_moves p) n → san p m ≡ san p n → m ≡ n
 
 -- as `Qh4xe1#`
 abbrev pub TextsAreShort : Type 0
-TextsAreShort = (p : State) (m : MoveParts) → length (san p m) ≤ 7
+TextsAreShort = (p : PositionParts) (m : MoveParts) → length (san p m) ≤ 7

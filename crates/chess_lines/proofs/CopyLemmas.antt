@@ -4,7 +4,7 @@ use Rattle.std.specs.List.{slice_get}
 use Rattle.std.specs.Prelude.{is_none, unwrap_or}
 use Rattle.std.proofs.lemmas.Bool.{true≢false}
 use Rattle.chess_types.specs.board.MoveParts.{MoveParts}
-use Rattle.chess_types.specs.board.Position.{State}
+use Rattle.chess_types.specs.board.Position.{PositionParts}
 use Rattle.chess_types.specs.board.After.{after}
 use Rattle.chess_types.specs.board.Legal.{is_legal, legal_moves}
 use Rattle.chess_types.specs.board.Lines.{AreLegal, Line, extended, last, play}
@@ -19,7 +19,7 @@ at_is x m at = ap (λ (o : Option MoveParts). unwrap_or o x) at
 none_there : (m : MoveParts) → None ≡ Some m → ⊥
 none_there m at = true≢false (ap is_none at)
 
-pub legal_at : (p : State) (ms : List MoveParts) (k : ℕ) (m : MoveParts) → AreLegal p ms → slice_get ms k ≡ Some m → is_legal (play p (take k ms)) m ≡ true
+pub legal_at : (p : PositionParts) (ms : List MoveParts) (k : ℕ) (m : MoveParts) → AreLegal p ms → slice_get ms k ≡ Some m → is_legal (play p (take k ms)) m ≡ true
 legal_at p [] k m legal at = absurd (none_there m at)
 legal_at p (x ∷ ms) zero m legal at = subst (λ (y : MoveParts). is_legal p y ≡ true) (at_is x m at) legal.0
 legal_at p (x ∷ ms) (suc k) m legal at = legal_at (after p x) ms k m legal.1 at

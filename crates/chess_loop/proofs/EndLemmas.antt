@@ -1,15 +1,15 @@
 -- A run goes on by reads, and ends.
 use Rattle.std.proofs.Common.{◌≡◌, ℕ, ◌+◌, ◌<◌, ◌≤◌, ◌⊎◌, Bool, true, false, ◌||◌, true≢false, inl, inr, List, [], ◌∷◌, ◌++◌, length, length-append, Ok, Err, refl, sym, ap, ◌∙◌, append-nil, arith}
 use Rattle.std.specs.List.{AllByRecursion}
-use Rattle.chess_types.specs.bytes.Calls.{Calls, Carries, joined}
-use Rattle.chess_types.specs.declared.bytes.source.Failed.{Failed}
-use Rattle.chess_types.proofs.CallLemmas.{Calls-more, joined-more, Carries-append}
+use Rattle.byte_streams.specs.Calls.{Calls, Carries, joined}
+use Rattle.byte_streams.specs.declared.source.Failed.{Failed}
+use Rattle.byte_streams.proofs.CallLemmas.{Calls-more, joined-more, Carries-append}
 use Rattle.chess_loop.specs.RunEnds.{EndsGood, EndsOver, EndsWriteFault}
-use Rattle.chess_loop.specs.InputLines.{ended_lines, unfinished, last_line}
+use Rattle.chess_loop.specs.InputLines.{ended_lines, line_buffer, last_line}
 use Rattle.chess_loop.specs.Runs.{Runs, Partly, Whole}
 use Rattle.chess_loop.specs.steps.Reads.{Holds, Feeds, Finishes}
 use Rattle.chess_loop.specs.steps.LineSoFar.{LineSoFar}
-use Rattle.chess_loop.proofs.LineLemmas.{ended_lines-append, unfinished-append}
+use Rattle.chess_loop.proofs.LineLemmas.{ended_lines-append, line_buffer-append}
 use Rattle.chess_loop.proofs.RunLemmas.{Runs-append, uncounted}
 use Rattle.chess_loop.proofs.SendingLemmas.{sent_whole}
 
@@ -35,10 +35,10 @@ pub record Underway {S R W : Type 0} (step : S → List ℕ → List (List ℕ) 
   pub writes : Carries takes w text w'
   pub reading : read_failed r' ≡ false
   pub writing : write_failed w' ≡ false
-  pub holds : Holds line (unfinished [] (joined pieces))
+  pub holds : Holds line (line_buffer [] (joined pieces))
 
 module _ {S R W : Type 0} (step cut : S → List ℕ → List (List ℕ) → S → Type 0) (over : S → Bool) (beginning : S) (gives : R → List ℕ → R → Type 0) (read_failed : R → Bool) (takes : W → List ℕ → W → Type 0) (write_failed : W → Bool) where
-  -- while the engine takes lines, all are answered
+  -- while the handler takes lines, all are answered
   kept : (next : S) (line : LineSoFar) (lines all : List (List ℕ)) (rest : List ℕ) → over next ≡ false
       → (over next ≡ true) ⊎ ((over next ≡ false) × (lines ≡ all) × Holds line rest) → (lines ≡ all) × Holds line rest
   kept next line lines all rest awake (inl is_over) = absurd (true≢false (sym is_over ∙ awake))
@@ -53,8 +53,8 @@ module _ {S R W : Type 0} (step cut : S → List ℕ → List (List ℕ) → S �
       → over next ≡ false
       → Underway step beginning gives read_failed takes write_failed (turns + 1) next line1 r r2 w w2
   underway_on turns now next line line1 r r1 r2 w w1 w2 piece page u call reading some feeds awake =
-      let fed = feeds (unfinished [] (joined u.pieces)) u.holds in
-      let rest = kept next line1 fed.1.lines (ended_lines (unfinished [] (joined u.pieces)) piece) (unfinished (unfinished [] (joined u.pieces)) piece) awake fed.1.rest in
+      let fed = feeds (line_buffer [] (joined u.pieces)) u.holds in
+      let rest = kept next line1 fed.1.lines (ended_lines (line_buffer [] (joined u.pieces)) piece) (line_buffer (line_buffer [] (joined u.pieces)) piece) awake fed.1.rest in
       record {
         pieces = u.pieces ++ piece ∷ [];
         text = u.text ++ fed.0;
@@ -67,10 +67,10 @@ module _ {S R W : Type 0} (step cut : S → List ℕ → List (List ℕ) → S �
         writes = Carries-append takes w w1 w2 u.text fed.0 u.writes (sent_whole takes write_failed w1 w2 fed.0 fed.2);
         reading = reading ∙ rw u.reading refl;
         writing = fed.2.well ∙ u.writing;
-        holds = rw (joined-more gives u.pieces piece, unfinished-append) rest.1;
+        holds = rw (joined-more gives u.pieces piece, line_buffer-append) rest.1;
       }
 
-  -- the engine takes no more lines
+  -- the handler takes no more lines
   pub ends_over : (turns : ℕ) (now next : S) (line line1 : LineSoFar) (r r1 r2 : R) (w w1 w2 : W) (piece : List ℕ)
       → Underway step beginning gives read_failed takes write_failed turns now line r r1 w w1
       → gives r1 piece r2
@@ -80,7 +80,7 @@ module _ {S R W : Type 0} (step cut : S → List ℕ → List (List ℕ) → S �
       → over next ≡ true
       → EndsOver (Runs (Whole step)) over beginning gives read_failed takes write_failed next r r2 w w2
   ends_over turns now next line line1 r r1 r2 w w1 w2 piece u call reading awake feeds is_over =
-      let fed = feeds (unfinished [] (joined u.pieces)) u.holds in
+      let fed = feeds (line_buffer [] (joined u.pieces)) u.holds in
       record {
         pieces = u.pieces;
         piece = piece;
@@ -108,7 +108,7 @@ module _ {S R W : Type 0} (step cut : S → List ℕ → List (List ℕ) → S �
       → ((begun : List ℕ) → Holds line begun → Feeds step cut takes write_failed {X = Unit {0}} {E = Failed} over begun piece now next line1 w1 page w2 (Err e))
       → EndsWriteFault (Runs (Whole step)) over beginning gives read_failed takes write_failed (Partly step cut) ended next r r2 w w2
   ends_unwritten ended turns now next line line1 r r1 r2 w w1 w2 piece page e u call reading awake feeds =
-      let fed = feeds (unfinished [] (joined u.pieces)) u.holds in
+      let fed = feeds (line_buffer [] (joined u.pieces)) u.holds in
       record {
         pieces = u.pieces;
         piece = piece;
@@ -128,7 +128,7 @@ module _ {S R W : Type 0} (step cut : S → List ℕ → List (List ℕ) → S �
         answers_last = fed.2.runs;
       }
 
-  -- where no line is left, the engine takes more lines as before
+  -- where no line is left, the handler takes more lines as before
   stays_awake : (now next : S) (bytes text : List ℕ) → over now ≡ false → Runs (Whole step) now (last_line bytes) text next → (over next ≡ false) ⊎ (0 < length bytes)
   stays_awake now next [] text awake runs = inl (ap over runs.1 ∙ awake)
   stays_awake now next (b ∷ bytes) text awake runs = inr (omega arith)
@@ -143,7 +143,7 @@ module _ {S R W : Type 0} (step cut : S → List ℕ → List (List ℕ) → S �
       → ((bytes : List ℕ) → Holds line bytes → Finishes step cut takes write_failed {X = Unit {0}} {E = Failed} bytes now next w1 w2 (Ok tt))
       → EndsGood (Runs (Whole step)) over beginning gives read_failed takes write_failed ended next r r2 w w2
   ends_good ended turns now next line r r1 r2 w w1 w2 u call reading end awake finishes =
-      let last = finishes (unfinished [] (joined u.pieces)) u.holds in
+      let last = finishes (line_buffer [] (joined u.pieces)) u.holds in
       record {
         pieces = u.pieces ++ [] ∷ [];
         text = u.text ++ last.0;
@@ -152,7 +152,7 @@ module _ {S R W : Type 0} (step cut : S → List ℕ → List (List ℕ) → S �
         all = end;
         answers = rw (joined-more gives u.pieces [], append-nil (joined u.pieces))
             (Runs-append (Whole step) beginning now next (ended_lines [] (joined u.pieces)) _ u.text last.0 u.runs last.1);
-        awake = rw (joined-more gives u.pieces [], append-nil (joined u.pieces)) (stays_awake now next (unfinished [] (joined u.pieces)) last.0 awake last.1);
+        awake = rw (joined-more gives u.pieces [], append-nil (joined u.pieces)) (stays_awake now next (line_buffer [] (joined u.pieces)) last.0 awake last.1);
         writes = Carries-append takes w w1 w2 u.text last.0 u.writes (sent_whole takes write_failed w1 w2 last.0 last.2);
         well_written = last.2.well ∙ u.writing;
       }
@@ -167,14 +167,14 @@ module _ {S R W : Type 0} (step cut : S → List ℕ → List (List ℕ) → S �
       → ((bytes : List ℕ) → Holds line bytes → Finishes step cut takes write_failed {X = Unit {0}} {E = Failed} bytes now next w1 w2 (Err e))
       → EndsWriteFault (Runs (Whole step)) over beginning gives read_failed takes write_failed (Partly step cut) ended next r r2 w w2
   ends_unfinished ended turns now next line r r1 r2 w w1 w2 e u call reading end awake finishes =
-      let last = finishes (unfinished [] (joined u.pieces)) u.holds in
+      let last = finishes (line_buffer [] (joined u.pieces)) u.holds in
       record {
         pieces = u.pieces;
         piece = [];
         text = u.text;
         middle = now;
         before = w1;
-        lines = last_line (unfinished [] (joined u.pieces));
+        lines = last_line (line_buffer [] (joined u.pieces));
         more = last.0;
         reads = Calls-more gives r r1 r2 u.pieces [] u.reads call;
         well_read = reading ∙ rw u.reading refl;

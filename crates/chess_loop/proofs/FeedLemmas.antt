@@ -2,15 +2,15 @@
 use Rattle.std.specs.Prelude.{OnOk}
 use Rattle.std.proofs.Common.{◌≡◌, ℕ, ◌+◌, ◌≤◌, ◌==◌, Bool, true, false, true≢false, length, List, [], ◌∷◌, ◌++◌, take, drop, Some, None, Result, Ok, Err, inl, inr, refl, sym, ap, ◌∙◌, append_assoc, append-nil, arith}
 use Rattle.memchr.specs.Find.{IsFirstByte, is_byte}
-use Rattle.chess_types.specs.bytes.Calls.{joined}
-use Rattle.chess_types.specs.declared.bytes.source.Failed.{Failed}
-use Rattle.chess_loop.specs.InputLines.{ended_lines, last_line, unfinished}
+use Rattle.byte_streams.specs.Calls.{joined}
+use Rattle.byte_streams.specs.declared.source.Failed.{Failed}
+use Rattle.chess_loop.specs.InputLines.{ended_lines, last_line, line_buffer}
 use Rattle.chess_loop.specs.RunEnds.{Broken, IsFront}
 use Rattle.chess_loop.specs.Runs.{Runs, Counted, unwritten}
 use Rattle.chess_loop.specs.steps.Reads.{Holds, AnswersLine, Feeds, Finishes}
 use Rattle.chess_loop.specs.steps.LineSoFar.{LineSoFar}
 use Rattle.chess_loop.specs.steps.Sending.{Sent, Flows}
-use Rattle.chess_loop.proofs.LineLemmas.{ended_lines-at, unfinished-at, ended_lines-free, unfinished-free}
+use Rattle.chess_loop.proofs.LineLemmas.{ended_lines-at, line_buffer-at, ended_lines-free, line_buffer-free}
 use Rattle.chess_loop.proofs.RunLemmas.{Runs-none, Runs-one, Runs-more, uncounted}
 use Rattle.chess_loop.proofs.SendingLemmas.{broken_parts, flows_broken, flows_shorter, sent_parts, sent_start, unwritten_most}
 
@@ -25,7 +25,7 @@ pub record Going {S W : Type 0} (step : S → List ℕ → List (List ℕ) → S
   pub sent : Sent takes failed before text page after
   pub holds : Holds line kept
   pub lines : ended_lines begun piece ≡ done ++ ended_lines kept rest
-  pub left : unfinished begun piece ≡ unfinished kept rest
+  pub left : line_buffer begun piece ≡ line_buffer kept rest
 
 module _ {S W : Type 0} (step cut : S → List ℕ → List (List ℕ) → S → Type 0) (over : S → Bool) (takes : W → List ℕ → W → Type 0) (failed : W → Bool) (begun piece : List ℕ) where
   pub going_start : (old : S) (line : LineSoFar) (w : W) (page : List ℕ) → page ≡ [] → Holds line begun → Going step over takes failed begun piece old old line w page w piece
@@ -123,7 +123,7 @@ module _ {S W : Type 0} (step cut : S → List ℕ → List (List ℕ) → S →
         sent = sent_parts takes failed w0 w1 w2 going.text page page1 answer.0 going.sent answer.2.0;
         holds = restarted;
         lines = rw others_is (line_next old now line w0 w1 page rest front at going first front_is);
-        left = going.left ∙ rw others_is (unfinished-at going.kept rest at first);
+        left = going.left ∙ rw others_is (line_buffer-at going.kept rest at first);
       }
 
   -- answering the line was broken off
@@ -160,7 +160,7 @@ module _ {S W : Type 0} (step cut : S → List ℕ → List (List ℕ) → S →
         },
       )
 
-  -- the engine takes no more lines
+  -- the handler takes no more lines
   pub going_over : (old now next : S) (line line1 line2 : LineSoFar) (w0 w1 w2 : W) (page page1 rest front : List ℕ) (at : ℕ)
       → (going : Going step over takes failed begun piece old now line w0 page w1 rest)
       → IsFirstByte (is_byte 10) rest (Some at)
@@ -199,7 +199,7 @@ module _ {S W : Type 0} (step cut : S → List ℕ → List (List ℕ) → S →
           front = record { others = []; whole = append-nil going.done ∙ all };
           runs = going.runs;
           late = going.late;
-          rest = inr (awake, all, rw (going.left, unfinished-free going.kept rest none) (adds going.kept going.holds));
+          rest = inr (awake, all, rw (going.left, line_buffer-free going.kept rest none) (adds going.kept going.holds));
         },
         going.sent,
       )

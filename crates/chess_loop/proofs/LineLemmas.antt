@@ -2,7 +2,7 @@
 use Rattle.std.proofs.Common.{◌≡◌, ℕ, suc, ◌+◌, ◌<◌, true, false, ◌==◌, List, [], ◌∷◌, ◌++◌, length, take, drop, get_or, Some, refl, ap, sym, ◌∙◌, append-nil, add-one, drop-cons, get_or-take, take-append-drop, length-take-le, eqb-true, arith}
 use Rattle.std.proofs.lemmas.Grind.{common_steps}
 use Rattle.memchr.specs.Find.{Nowhere, Passes, IsFirstByte, is_byte}
-use Rattle.chess_loop.specs.InputLines.{ended_lines, unfinished}
+use Rattle.chess_loop.specs.InputLines.{ended_lines, line_buffer}
 
 -- no byte is a line feed
 abbrev pub Free : List ℕ → Type 0
@@ -14,18 +14,18 @@ Free-tail b bs free = λ k low high hit. free (suc k) (omega arith) (omega arith
 Free-head : (b : ℕ) (bs : List ℕ) → Free (b ∷ bs) → (b == 10) ≡ false
 Free-head b bs free = let no : (b == 10) ≡ true → ⊥ = λ e. free 0 (omega arith) (omega arith) e in grind (arith, common_steps, no)
 
-pub ended_lines-append : (begun xs ys : List ℕ) → ended_lines begun (xs ++ ys) ≡ ended_lines begun xs ++ ended_lines (unfinished begun xs) ys
+pub ended_lines-append : (begun xs ys : List ℕ) → ended_lines begun (xs ++ ys) ≡ ended_lines begun xs ++ ended_lines (line_buffer begun xs) ys
 ended_lines-append begun [] ys = refl
 ended_lines-append begun (x ∷ xs) ys =
     let here = ended_lines-append [] xs ys in
     let on = ended_lines-append (begun ++ x ∷ []) xs ys in
     grind (arith, common_steps, here, on)
 
-pub unfinished-append : (begun xs ys : List ℕ) → unfinished begun (xs ++ ys) ≡ unfinished (unfinished begun xs) ys
-unfinished-append begun [] ys = refl
-unfinished-append begun (x ∷ xs) ys =
-    let here = unfinished-append [] xs ys in
-    let on = unfinished-append (begun ++ x ∷ []) xs ys in
+pub line_buffer-append : (begun xs ys : List ℕ) → line_buffer begun (xs ++ ys) ≡ line_buffer (line_buffer begun xs) ys
+line_buffer-append begun [] ys = refl
+line_buffer-append begun (x ∷ xs) ys =
+    let here = line_buffer-append [] xs ys in
+    let on = line_buffer-append (begun ++ x ∷ []) xs ys in
     grind (arith, common_steps, here, on)
 
 pub ended_lines-free : (begun xs : List ℕ) → Free xs → ended_lines begun xs ≡ []
@@ -35,11 +35,11 @@ ended_lines-free begun (x ∷ xs) free =
     let on = ended_lines-free (begun ++ x ∷ []) xs (Free-tail x xs free) in
     grind (arith, common_steps, no, on)
 
-pub unfinished-free : (begun xs : List ℕ) → Free xs → unfinished begun xs ≡ begun ++ xs
-unfinished-free begun [] free = sym (append-nil begun)
-unfinished-free begun (x ∷ xs) free =
+pub line_buffer-free : (begun xs : List ℕ) → Free xs → line_buffer begun xs ≡ begun ++ xs
+line_buffer-free begun [] free = sym (append-nil begun)
+line_buffer-free begun (x ∷ xs) free =
     let no = Free-head x xs free in
-    let on = unfinished-free (begun ++ x ∷ []) xs (Free-tail x xs free) in
+    let on = line_buffer-free (begun ++ x ∷ []) xs (Free-tail x xs free) in
     grind (arith, common_steps, no, on)
 
 -- at the first line feed
@@ -61,8 +61,8 @@ module _ (begun rest : List ℕ) (at : ℕ) (first : IsFirstByte (is_byte 10) re
   ended_lines-at =
       let split = ended_lines-append begun (take at rest) (10 ∷ drop (at + 1) rest) in
       let none = ended_lines-free begun (take at rest) front_free in
-      let kept = unfinished-free begun (take at rest) front_free in
+      let kept = line_buffer-free begun (take at rest) front_free in
       ap (ended_lines begun) at_feed ∙ split ∙ rw (none, kept) refl
 
-  pub unfinished-at : unfinished begun rest ≡ unfinished [] (drop (at + 1) rest)
-  unfinished-at = ap (unfinished begun) at_feed ∙ unfinished-append begun (take at rest) (10 ∷ drop (at + 1) rest)
+  pub line_buffer-at : line_buffer begun rest ≡ line_buffer [] (drop (at + 1) rest)
+  line_buffer-at = ap (line_buffer begun) at_feed ∙ line_buffer-append begun (take at rest) (10 ∷ drop (at + 1) rest)

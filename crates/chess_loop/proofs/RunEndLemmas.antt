@@ -1,10 +1,10 @@
--- How a run ends whose engine always takes lines, and answers a line whole even where its text isn't written whole.
+-- How a run ends whose handler always takes lines, and answers a line whole even where its text isn't written whole.
 use Rattle.std.specs.List.{AllByRecursion}
 use Rattle.std.proofs.Common.{◌≡◌, ℕ, ◌<◌, ◌≤◌, ◌⊎◌, Bool, true, true≢false, inl, inr, List, [], ◌∷◌, ◌++◌, length, sym, ap, ◌∙◌, append_assoc, append-nil, arith}
-use Rattle.chess_types.specs.bytes.Calls.{Calls, joined}
-use Rattle.chess_types.proofs.CallLemmas.{joined-append, Calls-left}
+use Rattle.byte_streams.specs.Calls.{Calls, joined}
+use Rattle.byte_streams.proofs.CallLemmas.{joined-append, Calls-left}
 use Rattle.chess_loop.specs.RunEnds.{Awaited, IsFront, EndsGood, EndsOver, EndsReadFault, EndsWriteFault, never}
-use Rattle.chess_loop.specs.InputLines.{ended_lines, last_line, lines_of, unfinished}
+use Rattle.chess_loop.specs.InputLines.{ended_lines, last_line, lines_of, line_buffer}
 use Rattle.chess_loop.proofs.EndLemmas.{length-joined}
 use Rattle.chess_loop.proofs.LineLemmas.{ended_lines-append}
 use Rattle.chess_loop.specs.Runs.{AnyRest, Counted, InOne, Partly, Runs, Whole}
@@ -77,16 +77,16 @@ module _ {S R W : Type 0} (step : S → List ℕ → List ℕ → S → Type 0) 
   }
 
 -- the lines that were answered before the last read and since are the first of all
-pub lines_first : {R : Type 0} (ended : R → Type 0) (pieces : List (List ℕ)) (piece : List ℕ) (lines : List (List ℕ)) (r : R) → Awaited ended (unfinished [] (joined pieces)) piece lines r
+pub lines_first : {R : Type 0} (ended : R → Type 0) (pieces : List (List ℕ)) (piece : List ℕ) (lines : List (List ℕ)) (r : R) → Awaited ended (line_buffer [] (joined pieces)) piece lines r
     → IsFront (ended_lines [] (joined pieces) ++ lines) (lines_of (joined (pieces ++ piece ∷ [])))
 lines_first ended pieces piece lines r (inl front) =
     let more : joined (pieces ++ piece ∷ []) ≡ joined pieces ++ piece = joined-append pieces (piece ∷ []) ∙ ap (λ (q : List ℕ). joined pieces ++ q) (append-nil piece) in
-    let last = last_line (unfinished [] (joined (pieces ++ piece ∷ []))) in
+    let last = last_line (line_buffer [] (joined (pieces ++ piece ∷ []))) in
     record {
       others = front.others ++ last;
       whole = append_assoc (ended_lines [] (joined pieces)) lines (front.others ++ last)
           ∙ ap (λ (ls : List (List ℕ)). ended_lines [] (joined pieces) ++ ls) (sym (append_assoc lines front.others last) ∙ ap (λ (ls : List (List ℕ)). ls ++ last) front.whole)
-          ∙ sym (append_assoc (ended_lines [] (joined pieces)) (ended_lines (unfinished [] (joined pieces)) piece) last)
+          ∙ sym (append_assoc (ended_lines [] (joined pieces)) (ended_lines (line_buffer [] (joined pieces)) piece) last)
           ∙ ap (λ (ls : List (List ℕ)). ls ++ last) (sym (ended_lines-append [] (joined pieces) piece) ∙ ap (ended_lines []) (sym more));
     }
 lines_first ended pieces piece lines r (inr end) =

@@ -1,6 +1,6 @@
 -- Runs go on by runs, and are given by other steps.
 use Rattle.std.proofs.Common.{ℕ, List, [], ◌∷◌, ◌++◌, refl, sym, ap, ◌∙◌, subst, append_assoc, append-nil}
-use Rattle.chess_types.specs.bytes.Calls.{joined}
+use Rattle.byte_streams.specs.Calls.{joined}
 use Rattle.chess_loop.specs.Runs.{Runs, InOne, Whole, Counted}
 
 module _ {S : Type 0} (step : S → List ℕ → List ℕ → S → Type 0) where

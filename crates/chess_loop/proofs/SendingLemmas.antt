@@ -1,8 +1,8 @@
 -- Texts that go out by way of a page.
 use Rattle.std.proofs.Common.{◌≡◌, ℕ, ◌+◌, ◌≤◌, Bool, List, [], ◌∷◌, ◌++◌, length, length-append, take, Result, Ok, Err, refl, sym, ap, subst, ◌∙◌, append_assoc, append-nil, arith}
-use Rattle.chess_types.specs.bytes.Calls.{Carries, joined}
-use Rattle.chess_types.specs.declared.bytes.source.Failed.{Failed}
-use Rattle.chess_types.proofs.CallLemmas.{Carries-none, Carries-append, Carries-more}
+use Rattle.byte_streams.specs.Calls.{Carries, joined}
+use Rattle.byte_streams.specs.declared.source.Failed.{Failed}
+use Rattle.byte_streams.proofs.CallLemmas.{Carries-none, Carries-append, Carries-more}
 use Rattle.chess_loop.specs.Runs.{last_length, unwritten}
 use Rattle.chess_loop.specs.steps.Sending.{Sent, SentOr, Flows, Sends, SendsParts}
 use Rattle.chess_loop.specs.RunEnds.{Broken}

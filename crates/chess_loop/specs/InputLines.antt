@@ -19,9 +19,9 @@ ended_lines begun [] = []
 ended_lines begun (b ∷ bs) = if b == 10 then begun ∷ ended_lines [] bs else ended_lines (begun ++ b ∷ []) bs
 
 -- the bytes after the last line feed
-abbrev pub unfinished : List ℕ → List ℕ → List ℕ
-unfinished begun [] = begun
-unfinished begun (b ∷ bs) = if b == 10 then unfinished [] bs else unfinished (begun ++ b ∷ []) bs
+abbrev pub line_buffer : List ℕ → List ℕ → List ℕ
+line_buffer begun [] = begun
+line_buffer begun (b ∷ bs) = if b == 10 then line_buffer [] bs else line_buffer (begun ++ b ∷ []) bs
 
 -- a last line without a line feed, if it has a byte
 abbrev pub last_line : List ℕ → List (List ℕ)
@@ -30,4 +30,4 @@ last_line (b ∷ bs) = (b ∷ bs) ∷ []
 
 -- the lines of an input; the last may lack its line feed
 abbrev pub lines_of : List ℕ → List (List ℕ)
-lines_of bytes = ended_lines [] bytes ++ last_line (unfinished [] bytes)
+lines_of bytes = ended_lines [] bytes ++ last_line (line_buffer [] bytes)

@@ -1,20 +1,20 @@
--- How a run over a source and a sink ends, for any engine: a state to begin with, a relation that says which lines may be answered by which
+-- How a run over a source and a sink ends, for any handler: a state to begin with, a relation that says which lines may be answered by which
 -- text, from which state to which, and the states in which it takes no more lines.
 --   most_reads       the most reads of a run
---   never            of an engine that takes lines to the end of the input
+--   never            of a handler that takes lines to the end of the input
 --   IsFront          these lines, and others after them, are those
 --   Awaited          which lines are answered from one read to the next: those that end in the piece, or at the end of the input the last
 --   Broken           a call failed, after a prefix of the text was written; it was the last
 --   EndsGood         the whole input was read, and the answers to its lines are written; no call failed
---   EndsOver         the engine takes no more lines: those up to then are answered, no call failed, and nothing was read after them
+--   EndsOver         the handler takes no more lines: those up to then are answered, no call failed, and nothing was read after them
 --   EndsReadFault    a read failed, and nothing was read after it, or there were as many reads as there may be: the lines that had ended are answered
 --   EndsWriteFault   a write failed or took no byte, and nothing was read or written after it: what was read before the last read is answered, and a
 --                    prefix of the answers to what came last is written
--- Nothing is read once the engine takes no more lines.
+-- Nothing is read once the handler takes no more lines.
 use Rattle.std.specs.Prelude.{◌≡◌, ℕ, ◌<◌, Bool, true, false, ◌⊎◌, List, [], ◌∷◌, ◌++◌, length}
 use Rattle.std.specs.List.{AllByRecursion}
-use Rattle.chess_types.specs.bytes.Calls.{Calls, Carries, joined}
-use Rattle.chess_loop.specs.InputLines.{lines_of, ended_lines, last_line, unfinished}
+use Rattle.byte_streams.specs.Calls.{Calls, Carries, joined}
+use Rattle.chess_loop.specs.InputLines.{lines_of, ended_lines, last_line, line_buffer}
 
 -- 2^40
 abbrev pub most_reads : ℕ
@@ -54,8 +54,8 @@ module _ {S R W : Type 0} (runs : S → List (List ℕ) → List ℕ → S → T
     pub well_read : read_failed r' ≡ false
     pub all : ended r'
     pub answers : runs beginning (lines_of (joined pieces)) text state
-    -- the engine takes more lines, or the last line, without a line feed, was the one after which it doesn't
-    pub awake : (over state ≡ false) ⊎ (0 < length (unfinished [] (joined pieces)))
+    -- the handler takes more lines, or the last line, without a line feed, was the one after which it doesn't
+    pub awake : (over state ≡ false) ⊎ (0 < length (line_buffer [] (joined pieces)))
     pub writes : Carries takes w text w'
     pub well_written : write_failed w' ≡ false
 
@@ -89,11 +89,11 @@ module _ {S R W : Type 0} (runs : S → List (List ℕ) → List ℕ → S → T
     pub awake : over middle ≡ false
     pub writes : Carries takes w text before
     pub well_written : write_failed before ≡ false
-    pub awaited : Awaited ended (unfinished [] (joined pieces)) piece lines r'
+    pub awaited : Awaited ended (line_buffer [] (joined pieces)) piece lines r'
     pub broken : Broken takes write_failed before more w'
     pub answers_last : partly middle lines more broken.rest state
 
-  -- The engine takes no more lines after one that ended in the last piece; writes took the answers up to that one.
+  -- The handler takes no more lines after one that ended in the last piece; writes took the answers up to that one.
   pub record EndsOver (state : S) (r r' : R) (w w' : W) : Type 0 where
     pub pieces : List (List ℕ)
     pub piece : List ℕ
@@ -105,7 +105,7 @@ module _ {S R W : Type 0} (runs : S → List (List ℕ) → List ℕ → S → T
     pub well_read : read_failed r' ≡ false
     pub answers : runs beginning (ended_lines [] (joined pieces)) text middle
     pub awake : over middle ≡ false
-    pub front : IsFront lines (ended_lines (unfinished [] (joined pieces)) piece)
+    pub front : IsFront lines (ended_lines (line_buffer [] (joined pieces)) piece)
     pub answers_last : runs middle lines more state
     pub is_over : over state ≡ true
     pub writes : Carries takes w (text ++ more) w'

@@ -8,7 +8,7 @@
 --   AnyRest     these lines may be answered by this text, and any rest of it may be unwritten
 --   Partly      these lines may be answered by this text, but that answering the last may have been broken off; this rest of the text may be unwritten
 use Rattle.std.specs.Prelude.{◌≡◌, ℕ, ◌+◌, ◌≤◌, ◌⊎◌, List, [], ◌∷◌, ◌++◌, length}
-use Rattle.chess_types.specs.bytes.Calls.{joined}
+use Rattle.byte_streams.specs.Calls.{joined}
 
 -- A step takes a state and a line to a text and a state. One after another, steps may take these lines to this text.
 abbrev pub Runs : {S : Type 0} → (S → List ℕ → List ℕ → S → Type 0) → S → List (List ℕ) → List ℕ → S → Type 0

@@ -1,4 +1,4 @@
-//! The loop over reads, lines and writes, for any engine: lines in, answers out.
+//! The loop over reads, lines and writes, for any handler: lines in, answers out.
 //!
 //! The answers to the lines of one read are written before the next, with as few calls as fit a page.
 ghost use Rattle.std.specs.Prelude.{◌≡◌, ◌⊎◌, ◌+◌, ◌≤◌, List, ℕ, [], ◌<◌, ◌≢◌, false, length, OnOk};
@@ -7,10 +7,10 @@ ghost use Rattle.chess_loop.specs.steps.Reads.{AnswersLine, Feeds, Finishes, Hol
 ghost use Rattle.chess_loop.specs.RunEnds.{EndsGood, EndsOver, EndsReadFault, EndsWriteFault};
 
 use super::buffers::filled;
-use super::engine::Engine;
-use super::page::Page;
-use super::unfinished::Unfinished;
-use chess_types::{Failed, Sink, Source};
+use super::handler::LineHandler;
+use super::line_buffer::LineBuffer;
+use super::output_buffer::OutputBuffer;
+use byte_streams::{Failed, Sink, Source};
 use memchr::memchr;
 use std::alloc::Allocator;
 
@@ -20,7 +20,7 @@ const PIECE: usize = 65_536;
 /// How a run ended.
 #[derive(Clone, Copy, Debug, PartialEq, Eq)]
 pub enum RunEnd {
-    /// The whole input was read, or the engine takes no more lines, and all was written.
+    /// The whole input was read, or the handler takes no more lines, and all was written.
     Good,
     /// A read failed, or there were as many as there may be.
     ReadFault,
@@ -31,10 +31,10 @@ pub enum RunEnd {
 }
 
 // Answers the line, and begins another.
-fn answer_line<E: Engine, A: Allocator, W: Sink>(
+fn answer_line<E: LineHandler, A: Allocator, W: Sink>(
     engine: &mut E,
-    line: &mut Unfinished<A>,
-    page: &mut Page<A>,
+    line: &mut LineBuffer<A>,
+    page: &mut OutputBuffer<A>,
     writer: &mut W,
 ) -> Result<(), Failed>
     requires awake { E.over engine.old ≡ false }
@@ -47,12 +47,12 @@ fn answer_line<E: Engine, A: Allocator, W: Sink>(
     answered
 }
 
-// Answers the lines that end in the piece, up to one after which the engine takes no more, and keeps the rest of the piece.
-fn answer_lines<E: Engine, A: Allocator, W: Sink>(
+// Answers the lines that end in the piece, up to one after which the handler takes no more, and keeps the rest of the piece.
+fn answer_lines<E: LineHandler, A: Allocator, W: Sink>(
     engine: &mut E,
-    line: &mut Unfinished<A>,
+    line: &mut LineBuffer<A>,
     piece: &[u8],
-    page: &mut Page<A>,
+    page: &mut OutputBuffer<A>,
     writer: &mut W,
 ) -> Result<(), Failed>
     requires awake { E.over engine.old ≡ false }
@@ -80,11 +80,11 @@ fn answer_lines<E: Engine, A: Allocator, W: Sink>(
 }
 
 // The same, and writes the answers.
-fn feed<E: Engine, A: Allocator, W: Sink>(
+fn feed<E: LineHandler, A: Allocator, W: Sink>(
     engine: &mut E,
-    line: &mut Unfinished<A>,
+    line: &mut LineBuffer<A>,
     piece: &[u8],
-    page: &mut Page<A>,
+    page: &mut OutputBuffer<A>,
     writer: &mut W,
 ) -> Result<(), Failed>
     requires awake { E.over engine.old ≡ false }
@@ -100,10 +100,10 @@ fn feed<E: Engine, A: Allocator, W: Sink>(
 }
 
 // Answers what comes after the last line feed, and writes the answer.
-fn finish<E: Engine, A: Allocator, W: Sink>(
+fn finish<E: LineHandler, A: Allocator, W: Sink>(
     engine: &mut E,
-    line: &mut Unfinished<A>,
-    page: &mut Page<A>,
+    line: &mut LineBuffer<A>,
+    page: &mut OutputBuffer<A>,
     writer: &mut W,
 ) -> Result<(), Failed>
     requires awake { E.over engine.old ≡ false }
@@ -121,10 +121,10 @@ fn finish<E: Engine, A: Allocator, W: Sink>(
 }
 
 // Reads and answers to the end.
-fn answer_all<E: Engine, A: Allocator, R: Source, W: Sink>(
+fn answer_all<E: LineHandler, A: Allocator, R: Source, W: Sink>(
     engine: &mut E,
-    line: &mut Unfinished<A>,
-    page: &mut Page<A>,
+    line: &mut LineBuffer<A>,
+    page: &mut OutputBuffer<A>,
     reader: &mut R,
     buffer: &mut [u8],
     writer: &mut W,
@@ -167,9 +167,9 @@ fn answer_all<E: Engine, A: Allocator, R: Source, W: Sink>(
     RunEnd::ReadFault
 }
 
-/// Lets the engine answer the lines of the reader on the writer, until the input ends or the engine takes no more lines, with at most so
+/// Lets the handler answer the lines of the reader on the writer, until the input ends or the handler takes no more lines, with at most so
 /// many reads. `Memory` where there is none to begin with: then nothing was read or written.
-pub fn run<E: Engine, A: Allocator, R: Source, W: Sink>(
+pub fn run<E: LineHandler, A: Allocator, R: Source, W: Sink>(
     alloc: &A,
     engine: &mut E,
     reader: &mut R,
@@ -190,8 +190,8 @@ pub fn run<E: Engine, A: Allocator, R: Source, W: Sink>(
 {
     let (Ok(mut buffer), Ok(mut line), Ok(mut page)) = (
         filled(alloc, 0u8, PIECE),
-        Unfinished::new(alloc),
-        Page::new(alloc),
+        LineBuffer::new(alloc),
+        OutputBuffer::new(alloc),
     ) else {
         return RunEnd::Memory;
     };

@@ -1,7 +1,7 @@
 ghost use Rattle.std.specs.Prelude.{[]};
 ghost use Rattle.chess_loop.specs.steps.Sending.{SentOr};
 
-use chess_types::{Failed, Sink};
+use byte_streams::{Failed, Sink};
 
 /// Writes all of the text, call by call, until one fails or takes no byte.
 pub fn write_all<W: Sink>(writer: &mut W, text: &[u8]) -> Result<(), Failed>

@@ -11,12 +11,12 @@ use Rattle.chess_types.specs.declared.board.man.Kind.{Kind}
 use Rattle.chess_types.specs.declared.board.man.Kind.TheVariants.{Pawn, King}
 use Rattle.chess_types.specs.declared.board.man.Man.{Man}
 use Rattle.chess_types.specs.declared.board.position.Wing.TheVariants.{KingSide, QueenSide}
-use Rattle.chess_types.specs.board.Board.{Look}
+use Rattle.chess_types.specs.board.Board.{Men}
 use Rattle.chess_types.specs.board.Squares.{squares}
 use Rattle.chess_types.specs.board.Men.{same_colour, is_of, count_squares, men_of}
 use Rattle.chess_types.specs.board.Attack.{leaps, slides, slides_to, attacks_as, is_clear}
 use Rattle.chess_types.specs.board.MoveParts.{MoveParts}
-use Rattle.chess_types.specs.board.Position.{State, look, cell_of}
+use Rattle.chess_types.specs.board.Position.{PositionParts, man_on, cell_of}
 use Rattle.chess_types.specs.board.Pseudo.{reached}
 use Rattle.chess_types.specs.board.Legal.{is_legal, moves_between, moves_from, legal_moves}
 use Rattle.chess_types.proofs.Runs.{list_all_at}
@@ -49,7 +49,7 @@ few_everywhere _ c = refl
 shape_few : (k : Kind) (c : Colour) (a : ℕ) → a < 64 → total (λ b. weight k * bit (shape k c a b)) 0 64 ≤ 27
 shape_few k c a h = leb-true _ 27 (list_all_at (is_few k c) 0 64 a (few_everywhere k c) (omega arith) h)
 
-reach_is : (man : Man) (men : Look) (a b : ℕ) → attacks_as man men a b ≡ true → (leaps man.colour man.kind a b || slides_to man.kind a b) ≡ true
+reach_is : (man : Man) (men : Men) (a b : ℕ) → attacks_as man men a b ≡ true → (leaps man.colour man.kind a b || slides_to man.kind a b) ≡ true
 unfolding attacks_as
 reach_is man men a b h =
     elim (or_cases (leaps man.colour man.kind a b) (slides_to man.kind a b && is_clear men a b) h) [
@@ -63,12 +63,12 @@ more_reach false a' true c h e = or_left (a' || true) c (or_right a' true refl)
 more_reach false a' false c h e = or_right (a' || false) c e
 
 -- a man goes only where its shape allows
-reach_shape : (p : State) (kind : Kind) (a b : ℕ) → is_candidate p kind a b ≡ true → shape kind p.side a b ≡ true
+reach_shape : (p : PositionParts) (kind : Kind) (a b : ℕ) → is_candidate p kind a b ≡ true → shape kind p.side a b ≡ true
 unfolding is_candidate shape
-reach_shape p Pawn a b h = more_reach _ _ (is_forward p.side 8 a b) (is_forward p.side 16 a b) (reach_is (record { colour = p.side; kind = Pawn }) (look p) a b) h
+reach_shape p Pawn a b h = more_reach _ _ (is_forward p.side 8 a b) (is_forward p.side 16 a b) (reach_is (record { colour = p.side; kind = Pawn }) (man_on p) a b) h
 reach_shape p King a b h =
-    more_reach _ _ (reached p.side KingSide == b) (reached p.side QueenSide == b) (reach_is (record { colour = p.side; kind = King }) (look p) a b) h
-reach_shape p k a b h = reach_is (record { colour = p.side; kind = k }) (look p) a b h
+    more_reach _ _ (reached p.side KingSide == b) (reached p.side QueenSide == b) (reach_is (record { colour = p.side; kind = King }) (man_on p) a b) h
+reach_shape p k a b h = reach_is (record { colour = p.side; kind = k }) (man_on p) a b h
 
 filter_few : (test : MoveParts → Bool) (xs : List MoveParts) → length (filter test xs) ≤ length xs
 filter_few test xs = omega (arith, length-filter test xs, count_by-le-length test xs)
@@ -87,7 +87,7 @@ promotions_size : (a b : ℕ) → length (promotions_between a b) ≡ 4
 unfolding promotion_kinds
 promotions_size a b = refl
 
-module _ (p : State) (kind : Kind) (a b : ℕ) (here : look p a ≡ cell_of p.side kind) where
+module _ (p : PositionParts) (kind : Kind) (a b : ℕ) (here : man_on p a ≡ cell_of p.side kind) where
   go_few : length (filter (is_legal p) (moves_between a b)) ≤ weight kind
   go_few =
       elim (cases_Bool (promotes p.side kind b)) [
@@ -124,17 +124,17 @@ from_size : (test : MoveParts → Bool) (a : ℕ) → length (filter test (moves
 unfolding squares
 from_size test a = ap length (from_pieces test a) ∙ size_total test (moves_between a) 0 64
 
-all_size : (p : State) → length (legal_moves p) ≡ total (λ a. length (filter (is_legal p) (moves_from a))) 0 64
+all_size : (p : PositionParts) → length (legal_moves p) ≡ total (λ a. length (filter (is_legal p) (moves_from a))) 0 64
 unfolding legal_moves squares
 all_size p = ap length (all_pieces (is_legal p)) ∙ size_total (is_legal p) moves_from 0 64
 
-own_few : (p : State) (a : ℕ) (kind : Kind) → a < 64 → look p a ≡ cell_of p.side kind → length (filter (is_legal p) (moves_from a)) ≤ 27
+own_few : (p : PositionParts) (a : ℕ) (kind : Kind) → a < 64 → man_on p a ≡ cell_of p.side kind → length (filter (is_legal p) (moves_from a)) ≤ 27
 own_few p a kind inside here =
     let each = total-le (λ b. length (filter (is_legal p) (moves_between a b))) (λ b. weight kind * bit (shape kind p.side a b)) 0 64 (λ b low high.
     between_few p kind a b here) in
     omega (arith, shape_few kind p.side a inside, from_size (is_legal p) a)
 
-from_few : (p : State) (a : ℕ) (o : Option Man) → a < 64 → look p a ≡ o → length (filter (is_legal p) (moves_from a)) ≤ 27 * bit (is_of p.side o)
+from_few : (p : PositionParts) (a : ℕ) (o : Option Man) → a < 64 → man_on p a ≡ o → length (filter (is_legal p) (moves_from a)) ≤ 27 * bit (is_of p.side o)
 from_few p a None inside here =
     let none : length (filter (is_legal p) (moves_from a)) ≡ 0 = ap length (from_other p a (ap (is_of p.side) here)) in
     omega arith
@@ -154,12 +154,12 @@ unfolding total
 total_times f a zero = refl
 total_times f a (suc n) = omega (arith, total_times f (a + 1) n)
 
-men_total : (p : State) → men_of p.placement p.side ≡ total (λ a. bit (is_of p.side (look p a))) 0 64
+men_total : (p : PositionParts) → men_of p.placement p.side ≡ total (λ a. bit (is_of p.side (man_on p a))) 0 64
 unfolding count_squares squares
-men_total p = sum_by-range (λ s. bit (is_of p.side (look p s))) 0 64
+men_total p = sum_by-range (λ s. bit (is_of p.side (man_on p s))) 0 64
 
 -- at most 432 legal moves
-pub legal_few : (p : State) → men_of p.placement p.side ≤ 16 → length (legal_moves p) ≤ 432
+pub legal_few : (p : PositionParts) → men_of p.placement p.side ≤ 16 → length (legal_moves p) ≤ 432
 legal_few p men =
-    let each = total-le (λ a. length (filter (is_legal p) (moves_from a))) (λ a. 27 * bit (is_of p.side (look p a))) 0 64 (λ a low high. from_few p a (look p a) high refl) in
-    omega (arith, all_size p, total_times (λ a. bit (is_of p.side (look p a))) 0 64, men_total p)
+    let each = total-le (λ a. length (filter (is_legal p) (moves_from a))) (λ a. 27 * bit (is_of p.side (man_on p a))) 0 64 (λ a low high. from_few p a (man_on p a) high refl) in
+    omega (arith, all_size p, total_times (λ a. bit (is_of p.side (man_on p a))) 0 64, men_total p)

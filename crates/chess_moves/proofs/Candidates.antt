@@ -12,7 +12,7 @@ use Rattle.chess_types.specs.board.Men.{same_colour, is_of}
 use Rattle.chess_types.specs.board.Attack.{leaps, attacks_as, slides_to, is_clear}
 use Rattle.chess_types.specs.board.MoveParts.{MoveParts}
 use Rattle.chess_types.specs.board.Texts.{names_promotion}
-use Rattle.chess_types.specs.board.Position.{State, look, cell_of}
+use Rattle.chess_types.specs.board.Position.{PositionParts, man_on, cell_of}
 use Rattle.chess_types.specs.board.Pseudo.{is_ahead, reached, castles, moves_as_it_attacks, steps_one, steps_two, pawn_takes, moves_as, moves_man, is_pseudo}
 use Rattle.chess_types.specs.board.Legal.{is_legal, promotions, moves_between, moves_from}
 use Rattle.chess_types.proofs.SameLemmas.{same_self, same_is, none_is}
@@ -21,13 +21,13 @@ use Rattle.chess_moves.specs.steps.Targets.{move_to, is_forward, attacks_from, i
 use Rattle.chess_moves.proofs.Pieces.{Splits, pieces_none, from_pieces}
 
 -- a man of the side moves so where it goes so, and the move names what fits
-moves_as_is : (p : State) (kind : Kind) (m : MoveParts) → moves_as p kind m ≡ (is_pseudo_target p kind m.from m.to && promotion_fits p.side kind m)
+moves_as_is : (p : PositionParts) (kind : Kind) (m : MoveParts) → moves_as p kind m ≡ (is_pseudo_target p kind m.from m.to && promotion_fits p.side kind m)
 unfolding moves_as is_pseudo_target
 moves_as_is p Pawn m = refl
 moves_as_is p _ m = refl
 
 -- so its moves are pseudo-legal
-pub pseudo_is : (p : State) (kind : Kind) (m : MoveParts) → look p m.from ≡ cell_of p.side kind → is_pseudo p m ≡ (is_pseudo_target p kind m.from m.to && promotion_fits p.side kind m)
+pub pseudo_is : (p : PositionParts) (kind : Kind) (m : MoveParts) → man_on p m.from ≡ cell_of p.side kind → is_pseudo p m ≡ (is_pseudo_target p kind m.from m.to && promotion_fits p.side kind m)
 pseudo_is p kind m here = rw (here, same_self p.side) (moves_as_is p kind m)
 
 single : (c : Colour) (a b : ℕ) → is_ahead c a b ≡ true → is_forward c 8 a b ≡ true
@@ -41,24 +41,24 @@ named_kind side kind m h =
       | inr stays ↦ ap names_promotion (none_is m.promo (rw stays at h))
     ]
 
-named_by : (p : State) (there : Option Man) (m : MoveParts) → moves_man p there m ≡ true → names_promotion m.promo ≡ true
+named_by : (p : PositionParts) (there : Option Man) (m : MoveParts) → moves_man p there m ≡ true → names_promotion m.promo ≡ true
 named_by p None m h = absurd (true≢false (sym h))
 named_by p (Some man) m h = named_kind p.side man.kind m (and_parts _ _ (sym (moves_as_is p man.kind m) ∙ (and_parts _ _ h).1)).1
 
 -- a pseudo-legal move names nothing, or what a pawn may become
-pub pseudo_names : (p : State) (m : MoveParts) → is_pseudo p m ≡ true → names_promotion m.promo ≡ true
-pseudo_names p m h = named_by p (look p m.from) m h
+pub pseudo_names : (p : PositionParts) (m : MoveParts) → is_pseudo p m ≡ true → names_promotion m.promo ≡ true
+pseudo_names p m h = named_by p (man_on p m.from) m h
 
 double : (c : Colour) (a b : ℕ) → is_ahead c a ((a + b) / 2) ≡ true → is_ahead c ((a + b) / 2) b ≡ true → is_forward c 16 a b ≡ true
 double White a b g h = eq-eqb b (a + 16) (omega (arith, eqb-true ((a + b) / 2) (a + 8) g, eqb-true b ((a + b) / 2 + 8) h))
 double Black a b g h = eq-eqb a (b + 16) (omega (arith, eqb-true a ((a + b) / 2 + 8) g, eqb-true ((a + b) / 2) (b + 8) h))
 
-pawn_attacks : (p : State) (a b : ℕ) → leaps p.side Pawn a b ≡ true → attacks_from p Pawn a b ≡ true
+pawn_attacks : (p : PositionParts) (a b : ℕ) → leaps p.side Pawn a b ≡ true → attacks_from p Pawn a b ≡ true
 unfolding attacks_as
-pawn_attacks p a b h = or_left _ (slides_to Pawn a b && is_clear (look p) a b) h
+pawn_attacks p a b h = or_left _ (slides_to Pawn a b && is_clear (man_on p) a b) h
 
 -- a man goes only where it might
-pub go_reach : (p : State) (kind : Kind) (a b : ℕ) → is_pseudo_target p kind a b ≡ true → is_candidate p kind a b ≡ true
+pub go_reach : (p : PositionParts) (kind : Kind) (a b : ℕ) → is_pseudo_target p kind a b ≡ true → is_candidate p kind a b ≡ true
 unfolding is_pseudo_target is_candidate
 go_reach p Pawn a b h =
     elim (or_cases (steps_one p (move_to a b None) || steps_two p (move_to a b None)) (pawn_takes p (move_to a b None)) h) [
@@ -84,7 +84,7 @@ go_reach p King a b h =
 go_reach p _ a b h = (and_parts _ _ h).0
 
 -- what is not pseudo-legal is not legal
-pub not_pseudo : (p : State) (m : MoveParts) → is_pseudo p m ≡ false → is_legal p m ≡ false
+pub not_pseudo : (p : PositionParts) (m : MoveParts) → is_pseudo p m ≡ false → is_legal p m ≡ false
 unfolding is_legal
 not_pseudo p m h = rw h refl
 
@@ -107,7 +107,7 @@ promoted_of : (test : MoveParts → Bool) (a b : ℕ) → test (move_to a b None
 unfolding promotions promotion_kinds
 promoted_of test a b none = rw none refl
 
-module _ (p : State) (kind : Kind) (a b : ℕ) (here : look p a ≡ cell_of p.side kind) where
+module _ (p : PositionParts) (kind : Kind) (a b : ℕ) (here : man_on p a ≡ cell_of p.side kind) where
   -- and a move that names what doesn't fit is not legal
   misnamed : (promo : Option Kind) → promotion_fits p.side kind (move_to a b promo) ≡ false → is_legal p (move_to a b promo) ≡ false
   misnamed promo named = not_pseudo p _ (pseudo_is p kind (move_to a b promo) here ∙ rw named (never_and (is_pseudo_target p kind a b)))
@@ -124,15 +124,15 @@ module _ (p : State) (kind : Kind) (a b : ℕ) (here : look p a ≡ cell_of p.si
   pub between_promoted : promotes p.side kind b ≡ true → filter (is_legal p) (moves_between a b) ≡ filter (is_legal p) (promotions_between a b)
   between_promoted last = promoted_of (is_legal p) a b (misnamed None (rw last refl))
 
-not_own : (p : State) (there : Option Man) (m : MoveParts) → is_of p.side there ≡ false → moves_man p there m ≡ false
+not_own : (p : PositionParts) (there : Option Man) (m : MoveParts) → is_of p.side there ≡ false → moves_man p there m ≡ false
 not_own p None m h = refl
 not_own p (Some man) m h = rw h refl
 
 -- where no man of the side to move stands, no move is legal
-pub from_other : (p : State) (a : ℕ) → is_of p.side (look p a) ≡ false → filter (is_legal p) (moves_from a) ≡ []
+pub from_other : (p : PositionParts) (a : ℕ) → is_of p.side (man_on p a) ≡ false → filter (is_legal p) (moves_from a) ≡ []
 from_other p a other =
     from_pieces (is_legal p) a
-    ∙ pieces_none (is_legal p) (moves_between a) squares (λ b. none_of (is_legal p) a b (λ promo. not_pseudo p _ (not_own p (look p a) (move_to a b promo) other)))
+    ∙ pieces_none (is_legal p) (moves_between a) squares (λ b. none_of (is_legal p) a b (λ promo. not_pseudo p _ (not_own p (man_on p a) (move_to a b promo) other)))
 
 -- a man of the side to move, by its kind
 pub own_cell : (side : Colour) (man : Man) → same_colour man.colour side ≡ true → Some man ≡ cell_of side man.kind

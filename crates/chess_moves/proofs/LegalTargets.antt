@@ -15,7 +15,7 @@ use Rattle.chess_types.specs.board.Squares.{file_of, rank_of}
 use Rattle.chess_types.specs.board.Men.{is_pawn, is_king}
 use Rattle.chess_types.specs.board.Attack.{in_check}
 use Rattle.chess_types.specs.board.MoveParts.{MoveParts}
-use Rattle.chess_types.specs.board.Position.{State, IsSetup, look, cell_of, king_home}
+use Rattle.chess_types.specs.board.Position.{PositionParts, IsSetup, man_on, cell_of, king_home}
 use Rattle.chess_types.specs.board.Pseudo.{is_capturable, is_target, last_rank, moves_as_it_attacks, castles_to, castles, reached, steps_one, steps_two, pawn_takes, is_pseudo}
 use Rattle.chess_types.specs.board.Legal.{is_legal, moves_between}
 use Rattle.chess_types.specs.board.After.{after, is_en_passant, is_castling}
@@ -49,7 +49,7 @@ inserted_if old new t s true is = ap (λ x. contains x s) is ∙ inserted old t 
 inserted_if old new t s false is = ap (λ x. contains x s) is ∙ sym (or_false (contains old s) false refl)
 
 -- the man of the side to move
-abbrev pub mine : State → Kind → Man
+abbrev pub mine : PositionParts → Kind → Man
 mine p kind = record { colour = p.side; kind = kind }
 
 -- what the move of `lands` names
@@ -64,7 +64,7 @@ named_well side kind a b =
     ]
 
 -- a pawn that steps stays on its file
-steps_file : (p : State) (a b : ℕ) → (steps_one p (move_to a b None) || steps_two p (move_to a b None)) ≡ true → file_of a ≡ file_of b
+steps_file : (p : PositionParts) (a b : ℕ) → (steps_one p (move_to a b None) || steps_two p (move_to a b None)) ≡ true → file_of a ≡ file_of b
 steps_file p a b h =
     elim (or_cases (steps_one p (move_to a b None)) (steps_two p (move_to a b None)) h) [
       | inl x ↦ ahead_file p.side a b (and_parts _ _ x).0
@@ -82,11 +82,11 @@ or_join false true p t = refl
 or_join false false p t = refl
 
 -- a pawn goes plainly, or en passant
-pawn_go : (p : State) (a b : ℕ) → is_pseudo_target p Pawn a b ≡ (is_plain_target p Pawn a b || is_passing_target p a b)
+pawn_go : (p : PositionParts) (a b : ℕ) → is_pseudo_target p Pawn a b ≡ (is_plain_target p Pawn a b || is_passing_target p a b)
 unfolding is_pseudo_target is_plain_target
-pawn_go p a b = or_join (steps_one p (move_to a b None) || steps_two p (move_to a b None)) (leaps p.side Pawn a b) (is_capturable p.side (look p b)) (is_target p.target b)
+pawn_go p a b = or_join (steps_one p (move_to a b None) || steps_two p (move_to a b None)) (leaps p.side Pawn a b) (is_capturable p.side (man_on p b)) (is_target p.target b)
 
-module _ (p : State) (setup : IsSetup p) (a b : ℕ) (ha : a < 64) (hb : b < 64) where
+module _ (p : PositionParts) (setup : IsSetup p) (a b : ℕ) (ha : a < 64) (hb : b < 64) where
   -- where no pawn passes there is no capture en passant
   pub no_passing : (promo : Option Kind) → is_passing_target p a b ≡ false → is_pseudo_target p Pawn a b ≡ true → is_en_passant p.target (mine p Pawn) (move_to a b promo) ≡ false
   unfolding is_pseudo_target
@@ -103,14 +103,14 @@ module _ (p : State) (setup : IsSetup p) (a b : ℕ) (ha : a < 64) (hb : b < 64)
 
   -- the target lies on no last rank
   pub passing_stays : is_target p.target b ≡ true → promotes p.side Pawn b ≡ false
-  passing_stays h = target_not_last p.side (look p) b (setup.target b (target_is p.target b h))
+  passing_stays h = target_not_last p.side (man_on p) b (setup.target b (target_is p.target b h))
 
-  module _ (kind : Kind) (here : look p a ≡ cell_of p.side kind) (k : ℕ) (king : OnlyKing (look p) p.side k) where
+  module _ (kind : Kind) (here : man_on p a ≡ cell_of p.side kind) (k : ℕ) (king : OnlyKing (man_on p) p.side k) where
     -- a move of a man other than the king that isn't en passant
     pub man_legal :
         (promo : Option Kind) → is_king kind ≡ false → (is_pseudo_target p kind a b ≡ true → is_en_passant p.target (mine p kind) (move_to a b promo) ≡ false) →
         promotion_fits p.side kind (move_to a b promo) ≡ true →
-        is_legal p (move_to a b promo) ≡ (is_pseudo_target p kind a b && (permits (look p) p.side k b && keeps_line (look p) p.side a k b))
+        is_legal p (move_to a b promo) ≡ (is_pseudo_target p kind a b && (permits (man_on p) p.side k b && keeps_line (man_on p) p.side a k b))
     unfolding is_legal
     man_legal promo other plain fits =
         elim (cases_Bool (is_pseudo_target p kind a b)) [
@@ -125,35 +125,35 @@ module _ (p : State) (setup : IsSetup p) (a b : ℕ) (ha : a < 64) (hb : b < 64)
 
   -- a pawn, where it doesn't pass
   pub pawn_lands :
-      (k : ℕ) → look p a ≡ cell_of p.side Pawn → OnlyKing (look p) p.side k → is_passing_target p a b ≡ false →
-      is_legal_target p Pawn a b ≡ (is_plain_target p Pawn a b && (permits (look p) p.side k b && keeps_line (look p) p.side a k b))
+      (k : ℕ) → man_on p a ≡ cell_of p.side Pawn → OnlyKing (man_on p) p.side k → is_passing_target p a b ≡ false →
+      is_legal_target p Pawn a b ≡ (is_plain_target p Pawn a b && (permits (man_on p) p.side k b && keeps_line (man_on p) p.side a k b))
   unfolding is_legal_target
   pawn_lands k here king plain =
       man_legal Pawn here k king (named p.side Pawn b) refl (no_passing (named p.side Pawn b) plain) (named_well p.side Pawn a b)
-      ∙ ap (λ x. x && (permits (look p) p.side k b && keeps_line (look p) p.side a k b)) (pawn_go p a b ∙ or_false (is_plain_target p Pawn a b) (is_passing_target p a b) plain)
+      ∙ ap (λ x. x && (permits (man_on p) p.side k b && keeps_line (man_on p) p.side a k b)) (pawn_go p a b ∙ or_false (is_plain_target p Pawn a b) (is_passing_target p a b) plain)
 
   -- and where it does
-  pub passing_pseudo : look p a ≡ cell_of p.side Pawn → is_passing_target p a b ≡ true → is_pseudo p (move_to a b None) ≡ true
+  pub passing_pseudo : man_on p a ≡ cell_of p.side Pawn → is_passing_target p a b ≡ true → is_pseudo p (move_to a b None) ≡ true
   passing_pseudo here pass =
       let stays : promotes p.side Pawn b ≡ false = passing_stays (and_parts _ _ pass).1 in
       let go : is_pseudo_target p Pawn a b ≡ true = pawn_go p a b ∙ or_right (is_plain_target p Pawn a b) (is_passing_target p a b) pass in
       pseudo_is p Pawn (move_to a b None) here ∙ rw (go, stays) refl
 
-  pub passing_lands : look p a ≡ cell_of p.side Pawn → is_passing_target p a b ≡ true → is_legal_target p Pawn a b ≡ not (in_check (look (after p (move_to a b None))) p.side)
+  pub passing_lands : man_on p a ≡ cell_of p.side Pawn → is_passing_target p a b ≡ true → is_legal_target p Pawn a b ≡ not (in_check (man_on (after p (move_to a b None))) p.side)
   unfolding is_legal_target is_legal
   passing_lands here pass =
       let stays : promotes p.side Pawn b ≡ false = passing_stays (and_parts _ _ pass).1 in
-      rw stays (ap (λ x. x && not (in_check (look (after p (move_to a b None))) p.side)) (passing_pseudo here pass))
+      rw stays (ap (λ x. x && not (in_check (man_on (after p (move_to a b None))) p.side)) (passing_pseudo here pass))
 
   -- a knight, a bishop, a rook or a queen
   pub man_lands :
-      (kind : Kind) (k : ℕ) → look p a ≡ cell_of p.side kind → OnlyKing (look p) p.side k → is_king kind ≡ false → is_pawn kind ≡ false →
+      (kind : Kind) (k : ℕ) → man_on p a ≡ cell_of p.side kind → OnlyKing (man_on p) p.side k → is_king kind ≡ false → is_pawn kind ≡ false →
       is_pseudo_target p kind a b ≡ is_plain_target p kind a b →
-      is_legal_target p kind a b ≡ (is_plain_target p kind a b && (permits (look p) p.side k b && keeps_line (look p) p.side a k b))
+      is_legal_target p kind a b ≡ (is_plain_target p kind a b && (permits (man_on p) p.side k b && keeps_line (man_on p) p.side a k b))
   unfolding is_legal_target
   man_lands kind k here king not_king not_pawn same =
       man_legal kind here k king (named p.side kind b) not_king (λ go. rw not_pawn refl) (named_well p.side kind a b)
-      ∙ ap (λ x. x && (permits (look p) p.side k b && keeps_line (look p) p.side a k b)) same
+      ∙ ap (λ x. x && (permits (man_on p) p.side k b && keeps_line (man_on p) p.side a k b)) same
 
   -- no pawn passes where the target isn't a square that it attacks
   pub no_target : p.target ≡ None → is_passing_target p a b ≡ false
@@ -178,7 +178,7 @@ module _ (p : State) (setup : IsSetup p) (a b : ℕ) (ha : a < 64) (hb : b < 64)
 
   -- the king
   pub king_lands :
-      look p a ≡ cell_of p.side King → OnlyKing (look p) p.side a →
+      man_on p a ≡ cell_of p.side King → OnlyKing (man_on p) p.side a →
       is_legal_target p King a b
       ≡ (((is_plain_target p King a b && is_safe_step p a b) || castles p KingSide (move_to a b None)) || castles p QueenSide (move_to a b None))
   unfolding is_legal_target is_legal is_pseudo_target is_plain_target
@@ -228,7 +228,7 @@ module _ (p : State) (setup : IsSetup p) (a b : ℕ) (ha : a < 64) (hb : b < 64)
 
 -- the squares of castling beside the king's steps
 pub king_set :
-    (p : State) (a to k q : ℕ) (steps : Bool) (f g : Bool) (set one two : FinSet nat_cmp) → contains set to ≡ steps →
+    (p : PositionParts) (a to k q : ℕ) (steps : Bool) (f g : Bool) (set one two : FinSet nat_cmp) → contains set to ≡ steps →
     k ≡ reached p.side KingSide → q ≡ reached p.side QueenSide → f ≡ ((a == king_home p.side) && may_castle p KingSide) →
     g ≡ ((a == king_home p.side) && may_castle p QueenSide) → one ≡ cond f (insert set k) set → two ≡ cond g (insert one q) one →
     contains two to ≡ ((steps || castles p KingSide (move_to a to None)) || castles p QueenSide (move_to a to None))
@@ -247,8 +247,8 @@ king_set p a to k q steps f g set one two has k_is q_is f_is g_is first second =
 
 -- ---- what the moves to a square name
 
-module _ (p : State) (setup : IsSetup p) (kind : Kind) (a b k : ℕ) (ha : a < 64) (hb : b < 64) (here : look p a ≡ cell_of p.side kind)
-    (king : OnlyKing (look p) p.side k) where
+module _ (p : PositionParts) (setup : IsSetup p) (kind : Kind) (a b k : ℕ) (ha : a < 64) (hb : b < 64) (here : man_on p a ≡ cell_of p.side kind)
+    (king : OnlyKing (man_on p) p.side k) where
   -- each promotion there is legal where one is
   same_promotion : promotes p.side kind b ≡ true → (one : Kind) → promotion_fits p.side kind (move_to a b (Some one)) ≡ true →
       is_legal p (move_to a b (Some one)) ≡ is_legal_target p kind a b

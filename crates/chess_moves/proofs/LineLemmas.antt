@@ -5,7 +5,7 @@ use Rattle.std.proofs.lemmas.Bool.Decides.{nat_tests}
 use Rattle.chess_types.specs.declared.board.axis.Axis.{Axis}
 use Rattle.chess_types.specs.declared.board.axis.Axis.TheVariants.{Rank, File, Rising, Falling}
 use Rattle.chess_types.specs.declared.board.man.Colour.{Colour}
-use Rattle.chess_types.specs.board.Board.{Look}
+use Rattle.chess_types.specs.board.Board.{Men}
 use Rattle.chess_types.specs.board.Squares.{on_axis, squares}
 use Rattle.chess_types.specs.board.Bits.{word_where, table_of}
 use Rattle.chess_attack.specs.declared.way.Way.{Way}
@@ -32,14 +32,14 @@ on_one Falling a b h = grind (arith, h)
 pub in_line_here : (a : ℕ) → in_line a a ≡ true
 in_line_here a = on_one Rank a a (grind (arith, nat_tests))
 
-pub unpinned_aside : (look : Look) (c : Colour) (k s : ℕ) → OnlyKing look c k → s < 64 → in_line k s ≡ false → is_pinned look c s ≡ false
+pub unpinned_aside : (man_on : Men) (c : Colour) (k s : ℕ) → OnlyKing man_on c k → s < 64 → in_line k s ≡ false → is_pinned man_on c s ≡ false
 unfolding on_half
-unpinned_aside look c k s king hs aside =
-    elim (cases_Bool (is_pinned look c s)) [
+unpinned_aside man_on c k s king hs aside =
+    elim (cases_Bool (is_pinned man_on c s)) [
       | inr e ↦ e
       | inl e ↦
-          let (axis, (way, on)) : (axis : Axis) × ((way : Way) × (pinned_on look c k s axis way ≡ true)) =
-          round_at (pinned_on look c k s) (sym (pinned_is look c k s king hs) ∙ e) in
+          let (axis, (way, on)) : (axis : Axis) × ((way : Way) × (pinned_on man_on c k s axis way ≡ true)) =
+          round_at (pinned_on man_on c k s) (sym (pinned_is man_on c k s king hs) ∙ e) in
           let half : on_half axis way k s ≡ true = (and_parts _ _ (and_parts _ _ on).0).0 in
           absurd (true≢false (sym (on_one axis k s (and_parts _ _ half).0) ∙ aside))
     ]

@@ -8,7 +8,7 @@ use Rattle.chess_types.specs.declared.board.man.Kind.{Kind}
 use Rattle.chess_types.specs.declared.board.man.Kind.TheVariants.{Pawn, Knight, Bishop, Rook, Queen, King}
 use Rattle.chess_types.specs.board.Squares.{squares}
 use Rattle.chess_types.specs.board.MoveParts.{MoveParts}
-use Rattle.chess_types.specs.board.Position.{State}
+use Rattle.chess_types.specs.board.Position.{PositionParts}
 use Rattle.chess_types.specs.board.Legal.{is_legal, promotions, moves_between, moves_from, all_moves, legal_moves}
 
 abbrev promotion_number : Option Kind → ℕ
@@ -66,7 +66,7 @@ from_rises a =
     (subst (λ (x : ℕ). Rises (320 * a + 5 * 0) (flat_map (moves_between a) (range_with_len 0 64)) x) high
     (rises_pieces (moves_between a) (λ b. 320 * a + 5 * b) 0 64 (between_rises a)))
 
-legal_rises : (p : State) → Rises 0 (legal_moves p) 20480
+legal_rises : (p : PositionParts) → Rises 0 (legal_moves p) 20480
 unfolding legal_moves all_moves squares
 legal_rises p = rises_filter (is_legal p) 0 (flat_map moves_from (range_with_len 0 64)) 20480 (rises_pieces moves_from (λ a. 320 * a) 0 64 from_rises)
 
@@ -83,5 +83,5 @@ rises_apart low (m ∷ ms) high zero (suc j) d h order within = omega (arith, ri
 rises_apart low (m ∷ ms) high (suc i) (suc j) d h order within = rises_apart (place m + 1) ms high i j d h.1 (omega arith) (omega arith)
 
 -- no move stands in the list twice
-pub moves_apart : (p : State) (i j : ℕ) (d : MoveParts) → i < j → j < length (legal_moves p) → get_or (legal_moves p) i d ≢ get_or (legal_moves p) j d
+pub moves_apart : (p : PositionParts) (i j : ℕ) (d : MoveParts) → i < j → j < length (legal_moves p) → get_or (legal_moves p) i d ≢ get_or (legal_moves p) j d
 moves_apart p i j d order within = λ same. let e = ap place same in omega (arith, rises_apart 0 (legal_moves p) 20480 i j d (legal_rises p) order within)

@@ -12,7 +12,7 @@ use Rattle.chess_types.specs.declared.board.man.Man.{Man}
 use Rattle.chess_types.specs.board.Squares.{rank_of}
 use Rattle.chess_types.specs.steps.KeptSets.{Gathers}
 use Rattle.chess_types.specs.board.Men.{same_colour, opponent, is_of, is_king, is_king_of}
-use Rattle.chess_types.specs.board.Position.{State, look}
+use Rattle.chess_types.specs.board.Position.{PositionParts, man_on}
 use Rattle.chess_types.specs.board.Pseudo.{is_ahead, is_capturable, may_enter, pawn_rank, steps_one, steps_two}
 use Rattle.chess_types.proofs.Runs.{same_test}
 use Rattle.chess_moves.specs.steps.Targets.{move_to}
@@ -44,29 +44,29 @@ and_join false b c = refl
 
 -- so for sets: those attacked, the men of one's own side, and the other side's king
 pub enter_set :
-    (p : State) (attacked : ℕ → Bool) (other : Colour) (all own kings : FinSet nat_cmp) (to : ℕ) → other ≡ opponent p.side → to < 64 →
-    contains all to ≡ attacked to → Gathers own (is_of p.side) (look p) → Gathers kings (is_king_of other) (look p) →
-    contains (difference (difference all own) kings) to ≡ (attacked to && may_enter p.side (look p to))
+    (p : PositionParts) (attacked : ℕ → Bool) (other : Colour) (all own kings : FinSet nat_cmp) (to : ℕ) → other ≡ opponent p.side → to < 64 →
+    contains all to ≡ attacked to → Gathers own (is_of p.side) (man_on p) → Gathers kings (is_king_of other) (man_on p) →
+    contains (difference (difference all own) kings) to ≡ (attacked to && may_enter p.side (man_on p to))
 enter_set p attacked other all own kings to is ht of_all of_own of_kings =
     contains-difference nat_cmp_total (difference all own) kings to
     ∙ ap (λ b. b && not (contains kings to)) (contains-difference nat_cmp_total all own to)
     ∙ (λ i. (of_all i && not (of_own to i)) && not (of_kings to i))
-    ∙ ap (λ c. (attacked to && not (is_of p.side (look p to))) && not (is_king_of c (look p to))) is
-    ∙ and_join (attacked to) (not (is_of p.side (look p to))) (not (is_king_of (opponent p.side) (look p to)))
-    ∙ ap (λ b. attacked to && b) (enter_is p.side (look p to))
+    ∙ ap (λ c. (attacked to && not (is_of p.side (man_on p to))) && not (is_king_of c (man_on p to))) is
+    ∙ and_join (attacked to) (not (is_of p.side (man_on p to))) (not (is_king_of (opponent p.side) (man_on p to)))
+    ∙ ap (λ b. attacked to && b) (enter_is p.side (man_on p to))
 
 pub prey_set :
-    (p : State) (aside : ℕ → Bool) (other : Colour) (all men kings : FinSet nat_cmp) (to : ℕ) → other ≡ opponent p.side → to < 64 →
-    contains all to ≡ (ltb to 64 && aside to) → Gathers men (is_of other) (look p) → Gathers kings (is_king_of other) (look p) →
-    contains (difference (intersection all men) kings) to ≡ (aside to && is_capturable p.side (look p to))
+    (p : PositionParts) (aside : ℕ → Bool) (other : Colour) (all men kings : FinSet nat_cmp) (to : ℕ) → other ≡ opponent p.side → to < 64 →
+    contains all to ≡ (ltb to 64 && aside to) → Gathers men (is_of other) (man_on p) → Gathers kings (is_king_of other) (man_on p) →
+    contains (difference (intersection all men) kings) to ≡ (aside to && is_capturable p.side (man_on p to))
 prey_set p aside other all men kings to is ht of_all of_men of_kings =
     contains-difference nat_cmp_total (intersection all men) kings to
     ∙ ap (λ b. b && not (contains kings to)) (contains-intersection nat_cmp_total all men to)
     ∙ (λ i. (of_all i && of_men to i) && not (of_kings to i))
-    ∙ ap (λ l. ((l && aside to) && is_of other (look p to)) && not (is_king_of other (look p to))) (lt-ltb to 64 ht)
-    ∙ ap (λ c. (aside to && is_of c (look p to)) && not (is_king_of c (look p to))) is
-    ∙ and_join (aside to) (is_of (opponent p.side) (look p to)) (not (is_king_of (opponent p.side) (look p to)))
-    ∙ ap (λ b. aside to && b) (prey_is p.side (look p to))
+    ∙ ap (λ l. ((l && aside to) && is_of other (man_on p to)) && not (is_king_of other (man_on p to))) (lt-ltb to 64 ht)
+    ∙ ap (λ c. (aside to && is_of c (man_on p to)) && not (is_king_of c (man_on p to))) is
+    ∙ and_join (aside to) (is_of (opponent p.side) (man_on p to)) (not (is_king_of (opponent p.side) (man_on p to)))
+    ∙ ap (λ b. aside to && b) (prey_is p.side (man_on p to))
 
 -- ---- a pawn's steps
 
@@ -123,9 +123,9 @@ five_on r true false n m h = absurd (true≢false (sym h))
 five_on r false b n m h = absurd (true≢false (sym h))
 
 pub steps_are :
-    (p : State) (a one to : ℕ) → is_ahead p.side a one ≡ true →
+    (p : PositionParts) (a one to : ℕ) → is_ahead p.side a one ≡ true →
     (steps_one p (move_to a to None) || steps_two p (move_to a to None))
-    ≡ (is_none (look p one) && ((one == to) || (rank_of a == pawn_rank p.side && (is_ahead p.side one to && is_none (look p to)))))
+    ≡ (is_none (man_on p one) && ((one == to) || (rank_of a == pawn_rank p.side && (is_ahead p.side one to && is_none (man_on p to)))))
 steps_are p a one to h =
     let mid : ℕ = (a + to) / 2 in
     let single : is_ahead p.side a to ≡ (one == to) = ahead_one p.side a one to h in
@@ -136,22 +136,22 @@ steps_are p a one to h =
           let e : one ≡ to = eqb-true one to same in
           let far : is_ahead p.side one to ≡ false = ap (is_ahead p.side one) (sym e) ∙ not_itself p.side one in
           let two : steps_two p (move_to a to None) ≡ false =
-          five_off r (is_ahead p.side a mid) (is_ahead p.side mid to) (is_none (look p mid)) (is_none (look p to)) (twice ∙ far) in
-          let one' : steps_one p (move_to a to None) ≡ is_none (look p one) =
-          ap (λ b. b && is_none (look p to)) (single ∙ same) ∙ ap (λ s. is_none (look p s)) (sym e) in
-          (λ i. one' i || two i) ∙ last_off (is_none (look p one)) ∙ rw same (sym (kept (is_none (look p one))))
+          five_off r (is_ahead p.side a mid) (is_ahead p.side mid to) (is_none (man_on p mid)) (is_none (man_on p to)) (twice ∙ far) in
+          let one' : steps_one p (move_to a to None) ≡ is_none (man_on p one) =
+          ap (λ b. b && is_none (man_on p to)) (single ∙ same) ∙ ap (λ s. is_none (man_on p s)) (sym e) in
+          (λ i. one' i || two i) ∙ last_off (is_none (man_on p one)) ∙ rw same (sym (kept (is_none (man_on p one))))
       | inr other ↦
-          let one' : steps_one p (move_to a to None) ≡ false = ap (λ b. b && is_none (look p to)) (single ∙ other) in
+          let one' : steps_one p (move_to a to None) ≡ false = ap (λ b. b && is_none (man_on p to)) (single ∙ other) in
           elim (cases_Bool (is_ahead p.side one to)) [
             | inr far ↦
                 let two : steps_two p (move_to a to None) ≡ false =
-                five_off r (is_ahead p.side a mid) (is_ahead p.side mid to) (is_none (look p mid)) (is_none (look p to)) (twice ∙ far) in
-                (λ i. one' i || two i) ∙ rw (other, far, and-false (rank_of a == pawn_rank p.side)) (sym (and-false (is_none (look p one))))
+                five_off r (is_ahead p.side a mid) (is_ahead p.side mid to) (is_none (man_on p mid)) (is_none (man_on p to)) (twice ∙ far) in
+                (λ i. one' i || two i) ∙ rw (other, far, and-false (rank_of a == pawn_rank p.side)) (sym (and-false (is_none (man_on p one))))
             | inl on ↦
                 let e : mid ≡ one = halfway p.side a one to h on in
-                let two : steps_two p (move_to a to None) ≡ (is_none (look p mid) && (r && is_none (look p to))) =
-                five_on r (is_ahead p.side a mid) (is_ahead p.side mid to) (is_none (look p mid)) (is_none (look p to)) (twice ∙ on) in
-                (λ i. one' i || two i) ∙ ap (λ s. is_none (look p s) && (r && is_none (look p to))) e ∙ rw (other, on) refl
+                let two : steps_two p (move_to a to None) ≡ (is_none (man_on p mid) && (r && is_none (man_on p to))) =
+                five_on r (is_ahead p.side a mid) (is_ahead p.side mid to) (is_none (man_on p mid)) (is_none (man_on p to)) (twice ∙ on) in
+                (λ i. one' i || two i) ∙ ap (λ s. is_none (man_on p s) && (r && is_none (man_on p to))) e ∙ rw (other, on) refl
           ]
     ]
   where
@@ -165,21 +165,21 @@ steps_are p a one to h =
 
 -- where no square lies ahead
 pub steps_nowhere :
-    (p : State) (a to : ℕ) → a < 64 → to < 64 → ((s : ℕ) → s < 64 → is_ahead p.side a s ≡ false) →
+    (p : PositionParts) (a to : ℕ) → a < 64 → to < 64 → ((s : ℕ) → s < 64 → is_ahead p.side a s ≡ false) →
     (steps_one p (move_to a to None) || steps_two p (move_to a to None)) ≡ false
 steps_nowhere p a to ha ht none =
-    let one' : steps_one p (move_to a to None) ≡ false = ap (λ b. b && is_none (look p to)) (none to ht) in
+    let one' : steps_one p (move_to a to None) ≡ false = ap (λ b. b && is_none (man_on p to)) (none to ht) in
     let two : steps_two p (move_to a to None) ≡ false =
-    five_off (rank_of a == pawn_rank p.side) (is_ahead p.side a ((a + to) / 2)) (is_ahead p.side ((a + to) / 2) to) (is_none (look p ((a + to) / 2))) (is_none (look p to))
+    five_off (rank_of a == pawn_rank p.side) (is_ahead p.side a ((a + to) / 2)) (is_ahead p.side ((a + to) / 2) to) (is_none (man_on p ((a + to) / 2))) (is_none (man_on p to))
     (ap (λ b. b && is_ahead p.side ((a + to) / 2) to) (none ((a + to) / 2) (omega arith))) in
     (λ i. one' i || two i)
 
 -- the second step
 pub second_step :
-    (p : State) (one two to : ℕ) → is_ahead p.side one two ≡ true → (is_ahead p.side one to && is_none (look p to)) ≡ ((two == to) && is_none (look p two))
+    (p : PositionParts) (one two to : ℕ) → is_ahead p.side one two ≡ true → (is_ahead p.side one to && is_none (man_on p to)) ≡ ((two == to) && is_none (man_on p two))
 second_step p one two to h =
-    ap (λ b. b && is_none (look p to)) (ahead_one p.side one two to h)
+    ap (λ b. b && is_none (man_on p to)) (ahead_one p.side one two to h)
     ∙ (elim (cases_Bool (two == to)) [
-      | inl same ↦ rw same (ap (λ s. is_none (look p s)) (sym (eqb-true two to same)))
+      | inl same ↦ rw same (ap (λ s. is_none (man_on p s)) (sym (eqb-true two to same)))
       | inr other ↦ rw other refl
     ])

@@ -7,7 +7,7 @@ use Rattle.std.proofs.lemmas.List.Elements.{filter-append}
 use Rattle.std.proofs.lemmas.Bool.{cases_Bool}
 use Rattle.chess_types.specs.board.MoveParts.{MoveParts}
 use Rattle.chess_types.specs.board.Squares.{squares}
-use Rattle.chess_types.specs.board.Position.{State}
+use Rattle.chess_types.specs.board.Position.{PositionParts}
 use Rattle.chess_types.specs.board.Legal.{is_legal, moves_between, moves_from, all_moves}
 
 abbrev pub pieces : (MoveParts → Bool) → (ℕ → List MoveParts) → List ℕ → List MoveParts
@@ -60,18 +60,18 @@ pub next_piece : (f : ℕ → List MoveParts) {xs ys : List ℕ} {x : ℕ} → x
 next_piece f is = record { is = ap (flat_map f) is }
 
 -- the legal ones of all are added to the old list: they are in the list, or among those that are still to come
-pub record Listed (p : State) (old list all rest : List MoveParts) : Type 0 where
+pub record Listed (p : PositionParts) (old list all rest : List MoveParts) : Type 0 where
   pub is : list ++ filter (is_legal p) rest ≡ old ++ filter (is_legal p) all
 
-splits_legal : {p now : State} {whole part more : List MoveParts} → now ≡ p → Splits whole part more →
+splits_legal : {p now : PositionParts} {whole part more : List MoveParts} → now ≡ p → Splits whole part more →
     filter (is_legal p) whole ≡ filter (is_legal now) part ++ filter (is_legal p) more
 splits_legal {p} {now} {whole} {part} {more} same splits =
     ap (filter (is_legal p)) splits.is
     ∙ filter-append (is_legal p) part more
-    ∙ ap (λ (x : State). filter (is_legal x) part ++ filter (is_legal p) more) (sym same)
+    ∙ ap (λ (x : PositionParts). filter (is_legal x) part ++ filter (is_legal p) more) (sym same)
 
 -- so it is when the next part has been added; the position is known under two names
-pub listed_next : {p now : State} {old list new all rest part more : List MoveParts} → now ≡ p → Listed p old list all rest → Splits rest part more →
+pub listed_next : {p now : PositionParts} {old list new all rest part more : List MoveParts} → now ≡ p → Listed p old list all rest → Splits rest part more →
     new ≡ list ++ filter (is_legal now) part → Listed p old new all more
 listed_next {p} {now} {old} {list} {new} {all} {rest} {part} {more} same listed splits is = record {
   is = ap (λ xs. xs ++ filter (is_legal p) more) is
@@ -81,7 +81,7 @@ listed_next {p} {now} {old} {list} {new} {all} {rest} {part} {more} same listed 
 }
 
 -- and there is room for it where there is room for all
-pub room_next : {p now : State} {old list all rest part more : List MoveParts} → now ≡ p → Listed p old list all rest → Splits rest part more →
+pub room_next : {p now : PositionParts} {old list all rest part more : List MoveParts} → now ≡ p → Listed p old list all rest → Splits rest part more →
     length old + length (filter (is_legal p) all) ≤ 432 → length list + length (filter (is_legal now) part) ≤ 432
 room_next {p} {now} {old} {list} {all} {rest} {part} {more} same listed splits room =
     omega (
@@ -94,5 +94,5 @@ room_next {p} {now} {old} {list} {all} {rest} {part} {more} same listed splits r
     )
 
 -- in the end nothing is still to come
-pub listed_end : {p : State} {old list all rest : List MoveParts} → Listed p old list all rest → rest ≡ [] → list ≡ old ++ filter (is_legal p) all
+pub listed_end : {p : PositionParts} {old list all rest : List MoveParts} → Listed p old list all rest → rest ≡ [] → list ≡ old ++ filter (is_legal p) all
 listed_end {p} {old} {list} {all} {rest} listed none = sym (append-nil list) ∙ ap (λ xs. list ++ filter (is_legal p) xs) (sym none) ∙ listed.is

@@ -7,7 +7,7 @@ use Rattle.std.specs.Ordering.{nat_cmp}
 use Rattle.chess_types.specs.declared.board.man.Kind.{Kind}
 use Rattle.chess_types.specs.steps.KeptSets.{Gathers}
 use Rattle.chess_types.specs.board.Men.{is_of}
-use Rattle.chess_types.specs.board.Position.{State, IsSetup, look, cell_of}
+use Rattle.chess_types.specs.board.Position.{PositionParts, IsSetup, man_on, cell_of}
 use Rattle.chess_types.specs.board.Squares.{squares}
 use Rattle.chess_types.specs.board.Legal.{is_legal, moves_between, moves_from, all_moves}
 use Rattle.chess_types.specs.board.MoveParts.{MoveParts}
@@ -23,8 +23,8 @@ all_in test keep a (suc n) h =
     let rest : list_all test (filter keep (range_with_len (a + 1) n)) ≡ true = all_in test keep (a + 1) n (λ x within in_set. h x (omega arith) in_set) in
     elim (cases_Bool (keep a)) [ inl kept ↦ rw (kept, h a (omega arith) kept) rest | inr out ↦ rw out rest ]
 
-module _ (p : State) (setup : IsSetup p) (kind : Kind) (from k : ℕ) (hf : from < 64) (here : look p from ≡ cell_of p.side kind)
-    (king : OnlyKing (look p) p.side k) (set : FinSet nat_cmp) (has : (to : ℕ) → to < 64 → contains set to ≡ is_legal_target p kind from to) where
+module _ (p : PositionParts) (setup : IsSetup p) (kind : Kind) (from k : ℕ) (hf : from < 64) (here : man_on p from ≡ cell_of p.side kind)
+    (king : OnlyKing (man_on p) p.side k) (set : FinSet nat_cmp) (has : (to : ℕ) → to < 64 → contains set to ≡ is_legal_target p kind from to) where
   module _ (xs : List ℕ) (xs_is : xs ≡ filter (contains set) squares) where
     -- the man's move to each square of the set is legal
     pub lands_each : list_all (is_legal_target p kind from) xs ≡ true
@@ -40,11 +40,11 @@ module _ (p : State) (setup : IsSetup p) (kind : Kind) (from k : ℕ) (hf : from
         (λ to within out. lands_none p setup kind from to k hf (omega arith) here king (sym (has to (omega arith)) ∙ out)) in
         record { is = ap (λ ys. old ++ filter (is_legal p) (flat_map (moves_between from) ys)) xs_is ∙ ap (λ ys. old ++ ys) kept }
 
-module _ (p : State) (own : FinSet nat_cmp) (of_own : Gathers own (is_of p.side) (look p)) (xs : List ℕ) (xs_is : xs ≡ filter (contains own) squares) where
+module _ (p : PositionParts) (own : FinSet nat_cmp) (of_own : Gathers own (is_of p.side) (man_on p)) (xs : List ℕ) (xs_is : xs ≡ filter (contains own) squares) where
   -- a man of the side to move stands on each square
-  pub own_each : list_all (λ s. is_of p.side (look p s)) xs ≡ true
+  pub own_each : list_all (λ s. is_of p.side (man_on p s)) xs ≡ true
   unfolding squares
-  own_each = ap (list_all (λ s. is_of p.side (look p s))) xs_is ∙ all_in (λ s. is_of p.side (look p s)) (contains own) 0 64 (λ s within in_set. sym (of_own s) ∙ in_set)
+  own_each = ap (list_all (λ s. is_of p.side (man_on p s))) xs_is ∙ all_in (λ s. is_of p.side (man_on p s)) (contains own) 0 64 (λ s within in_set. sym (of_own s) ∙ in_set)
 
   -- and all legal moves are from them
   pub own_listed : {list : List MoveParts} → list ≡ [] → Listed p [] list all_moves (flat_map moves_from xs)

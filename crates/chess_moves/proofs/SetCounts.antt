@@ -10,7 +10,7 @@ use Rattle.std.proofs.lemmas.Bool.{cases_Bool, lt-ltb}
 use Rattle.std.proofs.lemmas.Bool.Decides.{nat_tests}
 use Rattle.chess_types.specs.declared.board.man.Kind.{Kind}
 use Rattle.chess_types.specs.board.Men.{is_pawn}
-use Rattle.chess_types.specs.board.Position.{State, IsSetup, look, cell_of}
+use Rattle.chess_types.specs.board.Position.{PositionParts, IsSetup, man_on, cell_of}
 use Rattle.chess_types.specs.board.Pseudo.{last_rank}
 use Rattle.chess_types.specs.board.Squares.{rank_of, squares}
 use Rattle.chess_types.specs.board.Legal.{is_legal, moves_between, moves_from}
@@ -39,7 +39,7 @@ unfolding total
 total_three f g a zero = refl
 total_three f g a (suc n) = omega (arith, total_three f g (a + 1) n)
 
-named_length : (p : State) (kind : Kind) (a b : ℕ) → length (moves_named p.side kind a b) ≡ 1 + 3 * bit (promotes p.side kind b)
+named_length : (p : PositionParts) (kind : Kind) (a b : ℕ) → length (moves_named p.side kind a b) ≡ 1 + 3 * bit (promotes p.side kind b)
 unfolding promotion_kinds
 named_length p kind a b =
     elim (cases_Bool (promotes p.side kind b)) [
@@ -52,8 +52,8 @@ pub counted_total : (set : FinSet nat_cmp) (n : ℕ) → n ≡ count_by (contain
 unfolding squares
 counted_total set n is = is ∙ sum_by-range (λ s. bit (contains set s)) 0 64
 
-module _ (p : State) (setup : IsSetup p) (kind : Kind) (from k : ℕ) (hf : from < 64) (here : look p from ≡ cell_of p.side kind)
-    (king : OnlyKing (look p) p.side k) (set : FinSet nat_cmp) (has : (to : ℕ) → to < 64 → contains set to ≡ is_legal_target p kind from to) where
+module _ (p : PositionParts) (setup : IsSetup p) (kind : Kind) (from k : ℕ) (hf : from < 64) (here : man_on p from ≡ cell_of p.side kind)
+    (king : OnlyKing (man_on p) p.side k) (set : FinSet nat_cmp) (has : (to : ℕ) → to < 64 → contains set to ≡ is_legal_target p kind from to) where
   between_count : (to : ℕ) → to < 64 → length (filter (is_legal p) (moves_between from to)) ≡ bit (contains set to) + 3 * bit (contains set to && promotes p.side kind to)
   between_count to ht =
       elim (cases_Bool (contains set to)) [
@@ -96,13 +96,13 @@ module _ (p : State) (setup : IsSetup p) (kind : Kind) (from k : ℕ) (hf : from
 
 -- the moves from one square more
 pub count_split :
-    (p now : State) (x : ℕ) (xs ys : List ℕ) → now ≡ p → xs ≡ x ∷ ys →
+    (p now : PositionParts) (x : ℕ) (xs ys : List ℕ) → now ≡ p → xs ≡ x ∷ ys →
     length (filter (is_legal p) (flat_map moves_from xs)) ≡ length (filter (is_legal now) (moves_from x)) + length (filter (is_legal p) (flat_map moves_from ys))
 count_split p now x xs ys same is =
     ap (λ zs. length (filter (is_legal p) (flat_map moves_from zs))) is
     ∙ ap length (pieces_first (is_legal p) moves_from x ys)
     ∙ length-append (filter (is_legal p) (moves_from x)) (filter (is_legal p) (flat_map moves_from ys))
-    ∙ ap (λ (q : State). length (filter (is_legal q) (moves_from x)) + length (filter (is_legal p) (flat_map moves_from ys))) (sym same)
+    ∙ ap (λ (q : PositionParts). length (filter (is_legal q) (moves_from x)) + length (filter (is_legal p) (flat_map moves_from ys))) (sym same)
 
 pub some_left : (n m k : ℕ) → 0 < n → k ≡ n + m → true ≡ nat_lt 0 k
 some_left n m k h e = grind (arith, nat_tests)

@@ -2,7 +2,7 @@ ghost use Rattle.std.specs.Prelude.{◌≡◌, ◌≤◌, IsTrue};
 ghost use Rattle.chess_types.specs.board.After.{after};
 ghost use Rattle.chess_types.specs.board.Pseudo.{is_pseudo};
 ghost use Rattle.chess_types.specs.board.Attack.{in_check as in_check_of};
-ghost use Rattle.chess_types.specs.board.Position.{look};
+ghost use Rattle.chess_types.specs.board.Position.{man_on};
 
 use chess_attack::in_check_by;
 use chess_play::Live;
@@ -10,7 +10,7 @@ use chess_types::{Colour, Move};
 
 /// Whether the king of the colour is in check, by the kept counts (FIDE Laws 3.9.1).
 pub(crate) fn is_checked(live: &Live, colour: Colour) -> bool
-    ensures { result ≡ in_check_of (look live.now.position) colour }
+    ensures { result ≡ in_check_of (man_on live.now.position) colour }
 {
     in_check_by(live.counts(), &live.position().placement, colour)
 }
@@ -18,7 +18,7 @@ pub(crate) fn is_checked(live: &Live, colour: Colour) -> bool
 /// Whether the king of the side to move is in check: the other side attacks its square (FIDE Laws 3.9.1). By the kept counts;
 /// nothing is counted anew.
 pub fn in_check(live: &Live) -> bool
-    ensures { result ≡ in_check_of (look live.now.position) live.now.position.side }
+    ensures { result ≡ in_check_of (man_on live.now.position) live.now.position.side }
 {
     is_checked(live, live.position().side)
 }
@@ -29,7 +29,7 @@ pub fn gives_check(live: &mut Live, m: Move) -> bool
     requires pseudo { IsTrue (is_pseudo live.old.position m) }
     requires clock { live.old.position.clock ≤ 1000000 }
     requires number { live.old.position.number ≤ 1000000 }
-    ensures value { result ≡ in_check_of (look (after live.old.position m)) (after live.old.position m).side }
+    ensures value { result ≡ in_check_of (man_on (after live.old.position m)) (after live.old.position m).side }
     ensures position { live.new.position ≡ live.old.position }
     ensures words { live.new.words ≡ live.old.words }
 {

@@ -2,12 +2,12 @@ ghost use Rattle.std.specs.Prelude.{◌≡◌, ◌<◌, ◌≤◌, ◌&&◌, ◌
 ghost use Rattle.std.specs.FinSet.{contains};
 ghost use Rattle.chess_types.specs.board.Squares.{rank_of};
 ghost use Rattle.chess_types.specs.board.Men.{is_of};
-ghost use Rattle.chess_types.specs.board.Position.{look};
+ghost use Rattle.chess_types.specs.board.Position.{man_on};
 ghost use Rattle.chess_types.specs.board.Pseudo.{last_rank};
 ghost use Rattle.chess_types.specs.board.Legal.{is_legal, legal_moves, moves_from};
 ghost use Rattle.chess_moves.specs.steps.Guarded.{IsGuard};
 
-use crate::guard::{Guard, guard_of};
+use crate::guard::{CheckInfo, check_info};
 use crate::own::{own_kind, own_men};
 use crate::targets::targets;
 use chess_play::Live;
@@ -26,8 +26,8 @@ fn last_squares(side: Colour) -> SquareSet
 
 /// How many legal moves start on a square on which a man of the side to move stands.
 #[inline(always)]
-fn count_from(live: &mut Live, guard: &Guard, from: Square) -> usize
-    requires own { is_of live.old.position.side (look live.old.position from) ≡ true }
+fn count_from(live: &mut Live, guard: &CheckInfo, from: Square) -> usize
+    requires own { is_of live.old.position.side (man_on live.old.position from) ≡ true }
     requires guard { IsGuard guard.now live.old.position }
     requires clock { live.old.position.clock ≤ 1000000 }
     requires number { live.old.position.number ≤ 1000000 }
@@ -57,7 +57,7 @@ fn count_up_to(live: &mut Live, enough: usize) -> usize
     ensures position { live.new.position ≡ live.old.position }
     ensures words { live.new.words ≡ live.old.words }
 {
-    let guard = guard_of(live);
+    let guard = check_info(live);
     let own = own_men(live);
     let mut count = 0;
     for from in own.iter() {

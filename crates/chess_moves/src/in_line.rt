@@ -16,9 +16,9 @@ static IN_LINE: [u64; 64] = [
     0xff03050911214181, 0xff070a1222428202, 0xff0e152444840404, 0xff1c2a4988080808, 0xff38549211101010, 0xff70a82422212020, 0xffe0504844424140, 0xffc0a09088848281,
 ];
 
-/// Whether both squares are on one rank, one file or one diagonal.
+/// Whether both squares are on one rank, one file or one diagonal (FIDE Laws 2.4): a man on the one may be pinned to a king on the other.
 #[inline(always)]
-pub(crate) fn are_in_line(a: Square, b: Square) -> bool
+pub fn are_in_line(a: Square, b: Square) -> bool
     ensures { result ≡ in_line a b }
 {
     SquareSet::from_bits(IN_LINE[a.index()]).contains(b)

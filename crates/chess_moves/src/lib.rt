@@ -16,5 +16,6 @@ mod targets;
 
 pub use check::{gives_check, in_check};
 pub use counting::{count_legal, has_legal};
+pub use in_line::are_in_line;
 pub use legal::is_legal;
 pub use listing::{moves, moves_into};

@@ -3,13 +3,13 @@ ghost use Rattle.std.specs.FinSet.{contains};
 ghost use Rattle.chess_types.specs.declared.board.man.Kind.TheVariants.{Pawn, King};
 ghost use Rattle.chess_types.specs.board.Board.{man_at};
 ghost use Rattle.chess_types.specs.board.Attack.{leaps as leaps_of};
-ghost use Rattle.chess_types.specs.board.Position.{look, cell_of, king_home};
+ghost use Rattle.chess_types.specs.board.Position.{man_on, cell_of, king_home};
 ghost use Rattle.chess_types.specs.board.Pseudo.{moves_as_it_attacks, is_ahead, is_capturable, steps_one, steps_two};
 ghost use Rattle.chess_play.specs.Castling.{may_castle};
 ghost use Rattle.chess_moves.specs.steps.Guarded.{IsGuard, is_safe_step};
 ghost use Rattle.chess_moves.specs.steps.Targets.{is_plain_target, is_legal_target, move_to, promotes};
 
-use crate::guard::{Guard, guarded};
+use crate::guard::{CheckInfo, guarded};
 use crate::legal::{is_safe_tried, king_is_safe};
 use chess_attack::{attacks, leap_squares, leaps};
 use chess_play::{Live, last_rank, pawn_rank};
@@ -67,7 +67,7 @@ fn pawn_steps(setup: &Setup, from: Square) -> SquareSet
 /// The squares on which a pawn captures a man (FIDE Laws 3.7.3).
 #[inline(always)]
 fn pawn_captures(setup: &Setup, from: Square) -> SquareSet
-    ensures { (to : ℕ) → to < 64 → contains result to ≡ (leaps_of setup.now.side Pawn from to && is_capturable setup.now.side (look setup.now to)) }
+    ensures { (to : ℕ) → to < 64 → contains result to ≡ (leaps_of setup.now.side Pawn from to && is_capturable setup.now.side (man_on setup.now to)) }
 {
     let side = setup.side;
     let other = side.opponent();
@@ -112,8 +112,8 @@ pub(crate) fn promotes(side: Colour, kind: Kind, to: Square) -> bool
 
 /// The squares to which a pawn's legal moves go. Only en passant, which takes two men from one line, is made and taken back.
 #[inline(always)]
-fn pawn_targets(live: &mut Live, guard: &Guard, from: Square) -> SquareSet
-    requires here { look live.old.position from ≡ cell_of live.old.position.side Pawn }
+fn pawn_targets(live: &mut Live, guard: &CheckInfo, from: Square) -> SquareSet
+    requires here { man_on live.old.position from ≡ cell_of live.old.position.side Pawn }
     requires guard { IsGuard guard.now live.old.position }
     requires clock { live.old.position.clock ≤ 1000000 }
     requires number { live.old.position.number ≤ 1000000 }
@@ -146,7 +146,7 @@ fn pawn_targets(live: &mut Live, guard: &Guard, from: Square) -> SquareSet
 
 /// Those of the squares on which the king isn't attacked.
 #[inline(always)]
-fn safe_steps(live: &Live, guard: &Guard, steps: SquareSet) -> SquareSet
+fn safe_steps(live: &Live, guard: &CheckInfo, steps: SquareSet) -> SquareSet
     requires { IsGuard guard.now live.now.position }
     ensures { (to : ℕ) → to < 64 → contains result to ≡ (contains steps to && is_safe_step live.now.position guard.now.king to) }
 {
@@ -176,8 +176,8 @@ fn is_home(side: Colour, at: Square) -> bool
 
 /// The squares to which the king's legal moves go.
 #[inline(always)]
-fn king_targets(live: &Live, guard: &Guard, from: Square) -> SquareSet
-    requires here { look live.now.position from ≡ cell_of live.now.position.side King }
+fn king_targets(live: &Live, guard: &CheckInfo, from: Square) -> SquareSet
+    requires here { man_on live.now.position from ≡ cell_of live.now.position.side King }
     requires guard { IsGuard guard.now live.now.position }
     requires clock { live.now.position.clock ≤ 1000000 }
     requires number { live.now.position.number ≤ 1000000 }
@@ -196,8 +196,8 @@ fn king_targets(live: &Live, guard: &Guard, from: Square) -> SquareSet
 
 /// The squares to which the legal moves of a man of the side to move go; a pawn's to its last rank name what it becomes.
 #[inline(always)]
-pub(crate) fn targets(live: &mut Live, guard: &Guard, kind: Kind, from: Square) -> SquareSet
-    requires here { look live.old.position from ≡ cell_of live.old.position.side kind }
+pub(crate) fn targets(live: &mut Live, guard: &CheckInfo, kind: Kind, from: Square) -> SquareSet
+    requires here { man_on live.old.position from ≡ cell_of live.old.position.side kind }
     requires guard { IsGuard guard.now live.old.position }
     requires clock { live.old.position.clock ≤ 1000000 }
     requires number { live.old.position.number ≤ 1000000 }

@@ -3,8 +3,8 @@ use Rattle.std.proofs.Common.{◌≡◌, ◌≢◌, inl, ℕ, ◌≤◌, ◌<◌
 use Rattle.std.specs.List.{list_all}
 use Rattle.std.specs.List.Sorted.{IsStrictlySortedBy}
 use Rattle.std.proofs.lemmas.Bool.{and_parts}
-use Rattle.chess_types.specs.bytes.Words.{words}
-use Rattle.chess_types.specs.board.Position.{State}
+use Rattle.byte_streams.specs.Words.{words}
+use Rattle.chess_types.specs.board.Position.{PositionParts}
 use Rattle.chess_items.specs.Items as items
 use Rattle.chess_items.specs.Items.{Each, Item, Spells, in_line, is_outside, is_white}
 use Rattle.chess_items.specs.declared.outcome.Outcome.{Outcome}
@@ -48,7 +48,7 @@ movetext_single tree o is w =
 abbrev BeginsWithSpace : List ℕ → Type 0
 BeginsWithSpace text = (rest : List ℕ) × (text ≡ 32 ∷ rest)
 
-moves_space : (p : State) (f : Forest) (rest : List ℕ) → BeginsWithSpace rest → BeginsWithSpace (moves_text false true p f ++ rest)
+moves_space : (p : PositionParts) (f : Forest) (rest : List ℕ) → BeginsWithSpace rest → BeginsWithSpace (moves_text false true p f ++ rest)
 moves_space p Bare rest h = h
 moves_space p (Node m nags comment b next) rest h = (_, refl)
 

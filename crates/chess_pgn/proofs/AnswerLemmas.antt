@@ -2,7 +2,7 @@
 use Rattle.std.proofs.Common.{◌≡◌, ◌⊎◌, ℕ, Bool, true, false, List, [], ◌++◌, refl, sym, subst, ap, ◌∙◌, append-nil}
 use Rattle.std.specs.Prelude.{Ok, Option, Some, None}
 use mathlib.Core.Logic.{inl, inr}
-use Rattle.chess_types.specs.bytes.Calls.{joined}
+use Rattle.byte_streams.specs.Calls.{joined}
 use Rattle.chess_items.specs.Coming.{AtHand, unread}
 use Rattle.chess_items.specs.declared.fault.FaultKind.TheVariants.{Memory}
 use Rattle.chess_items.specs.declared.fault.PgnFault.{PgnFault}

@@ -3,7 +3,7 @@ use Rattle.std.proofs.Common.{◌≡◌, ◌⊎◌, ℕ, Bool, true, false, ◌&
 use Rattle.std.specs.Prelude.{Ok, Some}
 use Rattle.std.specs.List.{list_all}
 use mathlib.Core.Logic.{inl, inr}
-use Rattle.chess_types.specs.board.Position.{State, start}
+use Rattle.chess_types.specs.board.Position.{PositionParts, start}
 use Rattle.chess_items.specs.Items.{Item}
 use Rattle.chess_items.specs.steps.Taking.{Takes}
 use Rattle.chess_items.specs.declared.outcome.Outcome.TheVariants.{Unfinished}
@@ -35,7 +35,7 @@ pub record InMovetext {A : Type 0} (head movetext : List Item) (r : Reader A) : 
   pub are_tags : AreTags head tags
   pub finds : Finds tags r.header.found.tags
   pub outside : is_begun r.header.part ≡ false
-  pub first : State
+  pub first : PositionParts
   pub told : start_in tags ≡ Some first
   pub stands : list_all is_movetext movetext ≡ true
   pub reading : Reading

@@ -2,7 +2,7 @@
 use Rattle.std.proofs.Common.{◌≡◌, ◌≤◌, ℕ, suc, ◌+◌, ◌*◌, List, [], ◌∷◌, ◌++◌, length, Option, Some, None, refl, sym, ap, subst, ◌∙◌, arith}
 use Rattle.std.proofs.lemmas.Bool.{false≢true}
 use Rattle.chess_types.specs.board.After.{after}
-use Rattle.chess_types.specs.board.Position.{State}
+use Rattle.chess_types.specs.board.Position.{PositionParts}
 use Rattle.chess_items.specs.Items as items
 use Rattle.chess_items.specs.Items.{EndsRun, Item, IsRun, Spells, is_word_byte, place_after}
 use Rattle.chess_items.specs.declared.place.Place.{Place}
@@ -77,7 +77,7 @@ varied_held : (f : Forest) (text : List ℕ) (r : Part) → held (varied f text 
 varied_held Bare text r = omega arith
 varied_held (Node m nags c below next) text r = (let h = held_append next r.beside in omega (arith, h))
 
-meaning_held : (line : Line) (before : Option State) (here : State) (r : Part) → meaning line before here ≡ Some r → held r ≤ texts (elements_of line)
+meaning_held : (line : Line) (before : Option PositionParts) (here : PositionParts) (r : Part) → meaning line before here ≡ Some r → held r ≤ texts (elements_of line)
 meaning_held End before here r e = subst (λ (x : Part). held x ≤ 0) (some_is nothing r e) (omega arith)
 meaning_held (Skip line) before here r e = meaning_held line before here r e
 meaning_held (Annotate n line) before here r e =

@@ -3,7 +3,7 @@ use Rattle.std.proofs.Common.{◌≡◌, ◌⊎◌, ℕ, zero, suc, ◌+◌, ◌
 use Rattle.std.specs.Prelude.{IfOk, Option, Result, Ok, Err, OnOk, if◌then◌else◌}
 use mathlib.Core.Logic.{inl, inr}
 use Rattle.chess_types.specs.board.MoveParts.{MoveParts}
-use Rattle.chess_types.specs.board.Position.{State}
+use Rattle.chess_types.specs.board.Position.{PositionParts}
 use Rattle.chess_types.specs.board.After.{after}
 use Rattle.chess_types.specs.board.Legal.{is_legal}
 use Rattle.chess_types.specs.board.Lines.{Line, last}
@@ -47,7 +47,7 @@ bound None next x e = absurd cc
 bound (Some m) next x e = (m, e)
 
 module _ (P : Forest → Type 0) (kept : (p : List ℕ) (r : Part) (f : Forest) → P f → P (hang p r f)) where
-  run_keeps : (es : List Element) (c : List ℕ) (f : Forest) (up : List ℕ) (l : Last) (here : State) (lead : List ℕ) (st : List Frame) (d : List ℕ) (g : Forest)
+  run_keeps : (es : List Element) (c : List ℕ) (f : Forest) (up : List ℕ) (l : Last) (here : PositionParts) (lead : List ℕ) (st : List Frame) (d : List ℕ) (g : Forest)
       → run es c f up l here lead st ≡ Some (d, g) → P f → P g
   run_keeps [] c f up None here lead [] d g e h = subst P (second_is (comments_joined c lead) d f g e) h
   run_keeps [] c f up (Some x) here lead [] d g e h =
@@ -142,7 +142,7 @@ larger n k p i g le h = (
 )
 
 -- after a move of a line, the tree is larger at the end than before it
-text_grows : (w : List ℕ) (es : List Element) (start : State) (c : List ℕ) (f : Forest) (up : List ℕ) (l : Last) (here : State) (lead : List ℕ) (st : List Frame) (d : List ℕ) (g : Forest)
+text_grows : (w : List ℕ) (es : List Element) (start : PositionParts) (c : List ℕ) (f : Forest) (up : List ℕ) (l : Last) (here : PositionParts) (lead : List ℕ) (st : List Frame) (d : List ℕ) (g : Forest)
     → Leads (end_of up l) f → goes_on (Text w ∷ es) (state start c f up l here lead st) ≡ Some (d, g) → Larger (moves_held f) (length (end_of up l)) g
 text_grows w es start c f up None here lead [] d g at e =
     let b = bound (move_in here w) _ (d, g) e in

@@ -10,11 +10,11 @@ use Rattle.chess_types.specs.declared.board.man.Colour.{Colour}
 use Rattle.chess_types.specs.declared.board.man.Colour.TheVariants.{White, Black}
 use Rattle.chess_types.specs.declared.board.position.Rights.{Rights}
 use Rattle.chess_types.specs.board.Board.{man_at}
-use Rattle.chess_types.specs.board.Position.{State, look, start, start_cells}
+use Rattle.chess_types.specs.board.Position.{PositionParts, man_on, start, start_cells}
 use Rattle.chess_types.proofs.CellLemmas.{get-board_of}
 use Rattle.chess_types.proofs.StartLemmas.{start_quiet, start_setup}
 use Rattle.chess_items.specs.Items.{in_line}
-use Rattle.chess_fen.specs.Reading.{reading}
+use Rattle.chess_fen.specs.Reading.{fen_reading}
 use Rattle.chess_fen.specs.Writing.{or_dash, placement_text, right_text, rights_text, side_text, target_text, written}
 use Rattle.chess_fen.specs.declared.fault.FenFault.{FenFault}
 use Rattle.chess_fen.proofs.BackLemmas.{read_back}
@@ -57,11 +57,11 @@ digits_above (digit ∷ digits) all = let range = digit_from_value digit all.0 i
 decimal_above : (n : ℕ) → n ≤ 99999 → Above 31 (decimal n)
 decimal_above n small = digits_above (decimal n) (decimal_is_IsNumeral n (omega arith)).0.1
 
-written_above : (p : State) → p.clock ≤ 99999 → p.number ≤ 99999 → Above 31 (written p)
+written_above : (p : PositionParts) → p.clock ≤ 99999 → p.number ≤ 99999 → Above 31 (written p)
 unfolding written
 written_above p clock number =
-    Above-joined 31 32 (placement_text (look p) ∷ side_text p.side ∷ rights_text p.rights ∷ target_text p.target ∷ decimal p.clock ∷ decimal p.number ∷ []) (omega arith) (
-      Above-less 31 32 (placement_text (look p)) (omega arith) (placement_text-word (look p)).1,
+    Above-joined 31 32 (placement_text (man_on p) ∷ side_text p.side ∷ rights_text p.rights ∷ target_text p.target ∷ decimal p.clock ∷ decimal p.number ∷ []) (omega arith) (
+      Above-less 31 32 (placement_text (man_on p)) (omega arith) (placement_text-word (man_on p)).1,
       (side_above p.side, (rights_above p.rights, (target_above p.target, (decimal_above p.clock clock, (decimal_above p.number number, tt))))),
     )
 
@@ -72,7 +72,7 @@ above_value : (text : List ℕ) → Above 31 text → IsValue text
 above_value [] high = tt
 above_value (b ∷ text) high = (above_in_line b high.0, above_value text high.1)
 
-pub fen_value : (p : State) → p.clock ≤ 99999 → p.number ≤ 99999 → IsValue (written p)
+pub fen_value : (p : PositionParts) → p.clock ≤ 99999 → p.number ≤ 99999 → IsValue (written p)
 fen_value p clock number = above_value (written p) (written_above p clock number)
 
 -- ---- it is read again
@@ -81,12 +81,12 @@ pub start_on_board : (s : ℕ) → 64 ≤ s → man_at start.placement s ≡ Non
 unfolding start
 start_on_board s high = get-board_of start_cells s ∙ get_or_past start_cells s None (unfold start_cells in omega (arith, high))
 
-start_read : reading (written start) ≡ Ok start
+start_read : fen_reading (written start) ≡ Ok start
 start_read = read_back start (unfold start in omega arith) (unfold start in omega arith) (record { setup = start_setup; quiet = start_quiet }) start_on_board
 
-ok_is : (p q : State) → ◌≡◌ {A = Result State FenFault} (Ok p) (Ok q) → p ≡ q
+ok_is : (p q : PositionParts) → ◌≡◌ {A = Result PositionParts FenFault} (Ok p) (Ok q) → p ≡ q
 ok_is p q e = cc
 
 -- where the usual position's FEN is written, it is the usual position
-pub usual : (p : State) → reading (written p) ≡ Ok p → written p ≡ written start → p ≡ start
-usual p r e = ok_is p start (sym r ∙ ap reading e ∙ start_read)
+pub usual : (p : PositionParts) → fen_reading (written p) ≡ Ok p → written p ≡ written start → p ≡ start
+usual p r e = ok_is p start (sym r ∙ ap fen_reading e ∙ start_read)

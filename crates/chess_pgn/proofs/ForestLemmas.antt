@@ -3,11 +3,11 @@ use Rattle.std.proofs.Common.{◌≡◌, ◌≢◌, inl, inr, ℕ, ◌<◌, ◌^
 use Rattle.std.specs.Prelude.{is_none}
 use Rattle.std.specs.List.{AllByRecursion, join_with_byte}
 use Rattle.std.proofs.lemmas.Bool.{false≢true}
-use Rattle.chess_types.specs.bytes.Words.{as_word, is_gap, words, words_from}
+use Rattle.byte_streams.specs.Words.{as_word, is_gap, words, words_from}
 use Rattle.chess_types.specs.declared.board.man.Colour.{Colour}
 use Rattle.chess_types.specs.declared.board.man.Colour.TheVariants.{White, Black}
 use Rattle.chess_types.specs.board.MoveParts.{MoveParts}
-use Rattle.chess_types.specs.board.Position.{State}
+use Rattle.chess_types.specs.board.Position.{PositionParts}
 use Rattle.chess_types.specs.board.After.{after}
 use Rattle.chess_items.specs.Items as items
 use Rattle.chess_items.specs.Items.{Each, Item, in_braces, is_outside}
@@ -154,11 +154,11 @@ numbered_words true Black n text es small f =
     (dotted (46 ∷ 46 ∷ 32 ∷ text) (Number ∷ Number ∷ es) (dotted (46 ∷ 32 ∷ text) (Number ∷ es) (dotted (32 ∷ text) es (piece_tail (32 ∷ text) es (spaced text es f))))))
 numbered_words false Black n text es small f = f
 
-abbrev pub node_elements : Bool → State → MoveParts → List ℕ → List ℕ → List Element
+abbrev pub node_elements : Bool → PositionParts → MoveParts → List ℕ → List ℕ → List Element
 node_elements due p m nags comment = numbers_of due p.side ++ (Text (san p m) ∷ (annotations_of nags ++ remark_of comment))
 
 -- what is written of a node after its space or parenthesis
-pub node_words : (due : Bool) (p : State) (m : MoveParts) (nags comment : List ℕ) → p.number < 2 ^ 64 → IsText (san p m) → AreSmall nags → IsComment comment
+pub node_words : (due : Bool) (p : PositionParts) (m : MoveParts) (nags comment : List ℕ) → p.number < 2 ^ 64 → IsText (san p m) → AreSmall nags → IsComment comment
     → Words (node_text [] due p m nags comment) (node_elements due p m nags comment)
 node_words due p m nags comment small text are is =
     numbered_words due p.side p.number (san p m ++ (nags_text nags ++ comment_text comment)) (Text (san p m) ∷ (annotations_of nags ++ remark_of comment)) small
@@ -168,11 +168,11 @@ node_words due p m nags comment small text are is =
 -- ---- forests
 
 -- what each move's text and notes have to be
-abbrev pub AreWritable : State → Forest → Type 0
+abbrev pub AreWritable : PositionParts → Forest → Type 0
 AreWritable p Bare = Unit {0}
 AreWritable p (Node m nags comment below next) = (p.number < 2 ^ 64) × IsText (san p m) × AreSmall nags × IsComment comment × AreWritable (after p m) below × AreWritable p next
 
-abbrev pub forest_elements : Bool → Bool → State → Forest → List Element
+abbrev pub forest_elements : Bool → Bool → PositionParts → Forest → List Element
 forest_elements as_variations due p Bare = []
 forest_elements false due p (Node m nags comment below next) =
     node_elements due p m nags comment
@@ -181,7 +181,7 @@ forest_elements true due p (Node m nags comment below next) =
     (Open ∷ node_elements true p m nags comment)
     ++ (forest_elements false (is_noted nags comment) (after p m) below ++ (Close ∷ [] ++ forest_elements true true p next))
 
-pub forest_piece : (as_variations due : Bool) (p : State) (f : Forest) → AreWritable p f → Piece (moves_text as_variations due p f) (forest_elements as_variations due p f)
+pub forest_piece : (as_variations due : Bool) (p : PositionParts) (f : Forest) → AreWritable p f → Piece (moves_text as_variations due p f) (forest_elements as_variations due p f)
 forest_piece as_variations due p Bare w = piece_none
 forest_piece false due p (Node m nags comment below next) w =
     piece_on (node_text (codes " ") due p m nags comment) _ (node_elements due p m nags comment) _

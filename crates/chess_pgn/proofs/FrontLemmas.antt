@@ -4,8 +4,8 @@ use Rattle.std.specs.Prelude.{Option, None, Result, Ok}
 use Rattle.std.specs.List.{list_all}
 use Rattle.std.specs.Str.{byte}
 use mathlib.Core.Logic.{inl, inr}
-use Rattle.chess_types.specs.board.Position.{State}
-use Rattle.chess_types.specs.bytes.Calls.{Calls, joined}
+use Rattle.chess_types.specs.board.Position.{PositionParts}
+use Rattle.byte_streams.specs.Calls.{Calls, joined}
 use Rattle.chess_items.specs.Items as items
 use Rattle.chess_items.specs.Items.{IsSpelled, Item, Spells, is_white, place_after}
 use Rattle.chess_items.specs.steps.Passing.{Passed, Passes, WasWhite}
@@ -94,12 +94,12 @@ gives_game head movetext ending is rest game r parts starts ends h closed found 
         given = h.tags;
         are_tags = h.are_tags;
         has_tags = found h.tags h.finds;
-        start = h.told ∙ ap (λ (s : State). Some s) (sym (x.1 ∙ h.from));
+        start = h.told ∙ ap (λ (s : PositionParts). Some s) (sym (x.1 ∙ h.from));
         starts = starts;
         moving = h.stands;
         ends = ends;
         few = ap (few_are_open 0) (sym whole) ∙ h.few [];
-        derives = subst (λ (s : State). Derives es s (remarks [] head) t.tree.comment t.tree.below) (sym (x.1 ∙ h.from)) (derived es h.first (remarks [] head) t.tree.comment t.tree.below end);
+        derives = subst (λ (s : PositionParts). Derives es s (remarks [] head) t.tree.comment t.tree.below) (sym (x.1 ∙ h.from)) (derived es h.first (remarks [] head) t.tree.comment t.tree.below end);
       },
       x.2,
     )

@@ -2,8 +2,8 @@
 use Rattle.std.proofs.Common.{◌≡◌, ◌≢◌, ◌<◌, ℕ, ◌+◌, Bool, true, false, cond, List, [], ◌∷◌, ◌++◌, length, take, get_or, refl, sym, ap, ◌∙◌, append_assoc, append-nil, codes}
 use Rattle.std.specs.Prelude.{Result, Ok, Err, OnOk, Option, Vec}
 use Rattle.std.proofs.lemmas.List.{take_more}
-use Rattle.chess_types.specs.bytes.Words.{after_word, as_word, first_word, is_gap, words, words_from}
-use Rattle.chess_types.proofs.WordLemmas.{words_from-first}
+use Rattle.byte_streams.specs.Words.{after_word, as_word, first_word, is_gap, words, words_from}
+use Rattle.byte_streams.proofs.WordLemmas.{words_from-first}
 use Rattle.chess_items.specs.Items.{is_escapable}
 use Rattle.chess_items.specs.declared.outcome.Outcome.{Outcome}
 use Rattle.chess_items.specs.declared.outcome.Outcome.TheVariants.{WhiteWins, BlackWins, Draw, Unfinished}

@@ -4,11 +4,11 @@ use Rattle.std.specs.Prelude.{Option, Some, None, Ok}
 use Rattle.std.specs.Cmp.Lexicographic.{bytes_decides}
 use Rattle.std.specs.List.{AllByRecursion, list_all}
 use Rattle.std.proofs.lemmas.Bool.{false≢true}
-use Rattle.chess_types.specs.board.Position.{State, start}
+use Rattle.chess_types.specs.board.Position.{PositionParts, start}
 use Rattle.chess_items.specs.Items.{Each, is_digit, is_name_byte}
 use Rattle.chess_items.specs.declared.outcome.Outcome.{Outcome}
 use Rattle.chess_items.specs.declared.outcome.Outcome.TheVariants.{WhiteWins, BlackWins, Draw, Unfinished}
-use Rattle.chess_fen.specs.Reading.{reading}
+use Rattle.chess_fen.specs.Reading.{fen_reading}
 use Rattle.chess_fen.specs.Writing.{written}
 use Rattle.chess_pgn.specs.Games.{Tags, tag_in}
 use Rattle.chess_pgn.specs.Laws.{HasTagTexts, IsOther, IsValue}
@@ -147,12 +147,12 @@ behind_good others fen are in_it =
 abbrev pub event_tag : Tags → List ℕ × List ℕ
 event_tag tags = (codes "Event", tags.event)
 
-abbrev pub given_of : Tags → Outcome → State → Given
+abbrev pub given_of : Tags → Outcome → PositionParts → Given
 given_of tags outcome p =
     (codes "Site", tags.site) ∷ (codes "Date", tags.date) ∷ (codes "Round", tags.round) ∷ (codes "White", tags.white) ∷ (codes "Black", tags.black) ∷ (codes "Result", outcome_text outcome)
     ∷ behind_given tags.others (written p)
 
-pub given_is : (tags : Tags) (outcome : Outcome) (p : State) → given_text (event_tag tags ∷ given_of tags outcome p) ≡ tags_text tags outcome p
+pub given_is : (tags : Tags) (outcome : Outcome) (p : PositionParts) → given_text (event_tag tags ∷ given_of tags outcome p) ≡ tags_text tags outcome p
 given_is tags outcome p =
     ap (λ (x : List ℕ).
     tag_text (codes "Event") tags.event ++ (tag_text (codes "Site") tags.site ++ (tag_text (codes "Date") tags.date ++ (tag_text (codes "Round") tags.round ++ (tag_text (codes "White") tags.white ++ (tag_text (codes "Black") tags.black ++ (tag_text (codes "Result") (outcome_text outcome) ++ x)))))))
@@ -168,7 +168,7 @@ pub event_good : (tags : Tags) → HasTagTexts tags → IsGood (event_tag tags)
 unfolding is_name_byte is_digit
 event_good tags has = (is_name _ _ refl, has.event)
 
-pub given_good : (tags : Tags) (outcome : Outcome) (p : State) → HasTagTexts tags → IsValue (written p) → AreGood (given_of tags outcome p)
+pub given_good : (tags : Tags) (outcome : Outcome) (p : PositionParts) → HasTagTexts tags → IsValue (written p) → AreGood (given_of tags outcome p)
 unfolding is_name_byte is_digit
 given_good tags outcome p has in_it =
     ((is_name _ _ refl, has.site), ((is_name _ _ refl, has.date), ((is_name _ _ refl, has.round), ((is_name _ _ refl, has.white), ((is_name _ _ refl, has.black), ((is_name _ _ refl, outcome_value outcome), behind_good tags.others (written p) has.others in_it))))))
@@ -222,7 +222,7 @@ or_parts true b e = absurd (false≢true (sym e))
 or_parts false b e = (refl, e)
 
 -- a name that isn't the game's own is looked up among the others
-found_given : (name : List ℕ) (tags : Tags) (outcome : Outcome) (p : State) → is_own name ≡ false → tag_in name (event_tag tags ∷ given_of tags outcome p) ≡ tag_in name tags.others
+found_given : (name : List ℕ) (tags : Tags) (outcome : Outcome) (p : PositionParts) → is_own name ≡ false → tag_in name (event_tag tags ∷ given_of tags outcome p) ≡ tag_in name tags.others
 found_given name tags outcome p other =
     let a = or_parts _ (bytes_eq name (codes "Black")) other in
     let b = or_parts _ (bytes_eq name (codes "White")) a.0 in
@@ -234,11 +234,11 @@ found_given name tags outcome p other =
     let h = or_parts (bytes_eq name (codes "Result")) (bytes_eq name (codes "FEN")) g.0 in
     rw (a.1, b.1, c.1, d.1, e.1, f.1, h.0) (found_other name tags.others (written p) h.1 g.1)
 
-none_or : (name : List ℕ) (tags : Tags) (outcome : Outcome) (p : State) → HasTagTexts tags → (v : Bool) → is_own name ≡ v → tag_in name tags.others ≡ (if v then None else tag_in name (event_tag tags ∷ given_of tags outcome p))
+none_or : (name : List ℕ) (tags : Tags) (outcome : Outcome) (p : PositionParts) → HasTagTexts tags → (v : Bool) → is_own name ≡ v → tag_in name tags.others ≡ (if v then None else tag_in name (event_tag tags ∷ given_of tags outcome p))
 none_or name tags outcome p has true e = own_not_other name tags.others e has.others
 none_or name tags outcome p has false e = sym (found_given name tags outcome p e)
 
-pub given_tags : (tags : Tags) (outcome : Outcome) (p : State) → HasTagTexts tags → HasTags (event_tag tags ∷ given_of tags outcome p) tags
+pub given_tags : (tags : Tags) (outcome : Outcome) (p : PositionParts) → HasTagTexts tags → HasTags (event_tag tags ∷ given_of tags outcome p) tags
 given_tags tags outcome p has = record {
   event = refl;
   site = refl;
@@ -252,12 +252,12 @@ given_tags tags outcome p has = record {
 
 -- ---- the start
 
-started : (tags : Tags) (outcome : Outcome) (p : State) (v : Bool) → HasTagTexts tags → reading (written p) ≡ Ok p → bytes_eq (written p) (written start) ≡ v → start_in (event_tag tags ∷ given_of tags outcome p) ≡ Some p
+started : (tags : Tags) (outcome : Outcome) (p : PositionParts) (v : Bool) → HasTagTexts tags → fen_reading (written p) ≡ Ok p → bytes_eq (written p) (written start) ≡ v → start_in (event_tag tags ∷ given_of tags outcome p) ≡ Some p
 started tags outcome p true has r e =
     rw (found_own (codes "SetUp") tags.others (written p) refl has.others true e, found_own (codes "FEN") tags.others (written p) refl has.others true e)
-    (ap (λ (q : State). Some q) (sym (usual p r ((bytes_decides (written p) (written start)).0 e))))
+    (ap (λ (q : PositionParts). Some q) (sym (usual p r ((bytes_decides (written p) (written start)).0 e))))
 started tags outcome p false has r e =
     rw (found_own (codes "SetUp") tags.others (written p) refl has.others false e, found_own (codes "FEN") tags.others (written p) refl has.others false e, r) refl
 
-pub given_start : (tags : Tags) (outcome : Outcome) (p : State) → HasTagTexts tags → reading (written p) ≡ Ok p → start_in (event_tag tags ∷ given_of tags outcome p) ≡ Some p
+pub given_start : (tags : Tags) (outcome : Outcome) (p : PositionParts) → HasTagTexts tags → fen_reading (written p) ≡ Ok p → start_in (event_tag tags ∷ given_of tags outcome p) ≡ Some p
 given_start tags outcome p has r = started tags outcome p (bytes_eq (written p) (written start)) has r refl

@@ -3,7 +3,7 @@ use Rattle.std.proofs.Common.{◌≡◌, ◌≢◌, ◌<◌, ◌≤◌, ℕ, zer
 use Rattle.std.specs.Prelude.{Result, Ok, Err, OnOk}
 use Rattle.std.proofs.lemmas.Bool.{le-leb, lt-leb}
 use Rattle.std.proofs.lemmas.Bool.Decides.{nat_tests}
-use Rattle.chess_types.specs.bytes.Words.{words_from}
+use Rattle.byte_streams.specs.Words.{words_from}
 use Rattle.chess_pgn.specs.Layout.{lay, laid, in_lines}
 use Rattle.chess_pgn.specs.steps.Laying.{Lays}
 

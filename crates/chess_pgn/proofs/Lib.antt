@@ -48,3 +48,5 @@ pub mod SoundItemLemmas
 pub mod SoundMoveLemmas
 pub mod AgainLemmas
 pub mod UsualLemmas
+pub mod PlainLemmas
+pub mod KnownLemmas

@@ -1,7 +1,7 @@
 -- Going over elements from left to right, with a place in the tree and the lines that are open, gives what the grammar says.
 use Rattle.std.proofs.Common.{◌≡◌, ℕ, List, [], ◌∷◌, ◌++◌, Option, Some, None, refl, sym, ap, ◌∙◌}
 use Rattle.chess_types.specs.board.MoveParts.{MoveParts}
-use Rattle.chess_types.specs.board.Position.{State}
+use Rattle.chess_types.specs.board.Position.{PositionParts}
 use Rattle.chess_types.specs.board.After.{after}
 use Rattle.chess_tree.specs.Forest.{Forest, Bare, Node, count, below_at, below_child}
 use Rattle.chess_tree.specs.WellFormed.{Leads}
@@ -42,7 +42,7 @@ abbrev pub lead_left : Last → List ℕ → Frame → Part → List ℕ
 lead_left None lead x r = dropped x.lead (comments_joined lead r.comment) r.below
 lead_left (Some y) lead x r = x.lead
 
-abbrev pub finish : Lines → List ℕ → Forest → List ℕ → Last → State → List ℕ → List Frame → Answer
+abbrev pub finish : Lines → List ℕ → Forest → List ℕ → Last → PositionParts → List ℕ → List Frame → Answer
 finish (LastLine l) c f up last here lead [] = meaning l (before_of last) here >>= λ r. Some (ended c f up last lead r)
 finish (LastLine l) c f up last here lead (x ∷ xs) = None
 finish (More l ls) c f up last here lead [] = None
@@ -66,10 +66,10 @@ bind-two (Some s) (Some r) g k j e = e s r
 
 -- ---- an element that opens and closes nothing
 
-abbrev Goes : (Line → Line) → (Part → Part) → Option State → State → Option State → State → Type 0
+abbrev Goes : (Line → Line) → (Part → Part) → Option PositionParts → PositionParts → Option PositionParts → PositionParts → Type 0
 Goes F g b here b' here' = (l : Line) → meaning (F l) b here ≡ (meaning l b' here' >>= λ r. Some (g r))
 
-at-root : (F : Line → Line) (g : Part → Part) (ls : Lines) (c c' : List ℕ) (f f' : Forest) (up up' : List ℕ) (last last' : Last) (here here' : State) (lead lead' : List ℕ)
+at-root : (F : Line → Line) (g : Part → Part) (ls : Lines) (c c' : List ℕ) (f f' : Forest) (up up' : List ℕ) (last last' : Last) (here here' : PositionParts) (lead lead' : List ℕ)
     → Goes F g (before_of last) here (before_of last') here' → ((r : Part) → ended c f up last lead (g r) ≡ ended c' f' up' last' lead' r)
     → finish ls c' f' up' last' here' lead' [] ≡ finish (first F ls) c f up last here lead []
 at-root F g (LastLine l) c c' f f' up up' last last' here here' lead lead' goes same =
@@ -77,7 +77,7 @@ at-root F g (LastLine l) c c' f f' up up' last last' here here' lead lead' goes 
 at-root F g (More l ls) c c' f f' up up' last last' here here' lead lead' goes same = refl
 at-root F g Bad c c' f f' up up' last last' here here' lead lead' goes same = refl
 
-in-frame : (F : Line → Line) (g : Part → Part) (ls : Lines) (c : List ℕ) (f f' : Forest) (up up' : List ℕ) (last last' : Last) (here here' : State) (lead lead' : List ℕ) (x : Frame) (xs : List Frame)
+in-frame : (F : Line → Line) (g : Part → Part) (ls : Lines) (c : List ℕ) (f f' : Forest) (up up' : List ℕ) (last last' : Last) (here here' : PositionParts) (lead lead' : List ℕ) (x : Frame) (xs : List Frame)
     → Goes F g (before_of last) here (before_of last') here'
     → ((r : Part) → (left f up last lead (g r) ≡ left f' up' last' lead' r) × (lead_left last lead x (g r) ≡ lead_left last' lead' x r))
     → finish ls c f' up' last' here' lead' (x ∷ xs) ≡ finish (first F ls) c f up last here lead (x ∷ xs)
@@ -87,14 +87,14 @@ in-frame F g (More l ls) c f f' up up' last last' here here' lead lead' x xs goe
     (λ r. ap (λ (y : Forest). finish ls c y x.up (last_of x) x.here (lead_left last lead x (g r)) xs) (same r).0 ∙ ap (λ (y : List ℕ). finish ls c (left f' up' last' lead' r) x.up (last_of x) x.here y xs) (same r).1)))
 in-frame F g Bad c f f' up up' last last' here here' lead lead' x xs goes same = refl
 
-goes-skip : (b : Option State) (here : State) → Goes Skip (λ r. r) b here b here
+goes-skip : (b : Option PositionParts) (here : PositionParts) → Goes Skip (λ r. r) b here b here
 goes-skip b here l = same (meaning l b here)
   where
     same : (o : Option Part) → o ≡ (o >>= λ r. Some r)
     same None = refl
     same (Some r) = refl
 
-goes-play : (w : List ℕ) (m : MoveParts) (b : Option State) (here : State) → move_in here w ≡ Some m → Goes (Play w) (with_move_first m) b here (Some here) (after here m)
+goes-play : (w : List ℕ) (m : MoveParts) (b : Option PositionParts) (here : PositionParts) → move_in here w ≡ Some m → Goes (Play w) (with_move_first m) b here (Some here) (after here m)
 goes-play w m b here e l = rw e refl
 
 -- ---- comments
@@ -114,7 +114,7 @@ vary-hang (Node m n c b next) t r f x at =
     let g : Forest = with_opening_comment t (Node m n c b next) in
     ap (hang (path_of x) (said x.lead r)) (hang-up x.up x.place g f) ∙ hang-twice (path_of x) (beside g) (said x.lead r) f at
 
-opened : (ls : Lines) (c : List ℕ) (f : Forest) (up : List ℕ) (i : ℕ) (before here : State) (lead : List ℕ) (st : List Frame) → Leads (up ++ i ∷ []) f
+opened : (ls : Lines) (c : List ℕ) (f : Forest) (up : List ℕ) (i : ℕ) (before here : PositionParts) (lead : List ℕ) (st : List Frame) → Leads (up ++ i ∷ []) f
     → finish ls c f up None before [] (record { up = up; place = i; before = before; here = here; lead = lead } ∷ st) ≡ finish (open_one ls) c f up (Some (i, before)) here lead st
 opened (LastLine v) c f up i before here lead st at = refl
 opened Bad c f up i before here lead st at = refl
@@ -133,13 +133,13 @@ opened (More v (More l ls)) c f up i before here lead (y ∷ ys) at =
     (λ s r. finish ls c (left (left f up None [] s) up (Some (i, before)) (lead_left None [] x s) r) y.up (last_of y) y.here (lead_left (Some (i, before)) (lead_left None [] x s) y r) ys)
     (λ s r. ap (λ (z : Forest). finish ls c z y.up (last_of y) y.here y.lead ys) (sym (vary-hang s.below s.comment r f x at))))
 
-closed : (ls : Lines) (c : List ℕ) (f : Forest) (up : List ℕ) (last : Last) (here : State) (lead : List ℕ) (x : Frame) (xs : List Frame)
+closed : (ls : Lines) (c : List ℕ) (f : Forest) (up : List ℕ) (last : Last) (here : PositionParts) (lead : List ℕ) (x : Frame) (xs : List Frame)
     → finish ls c (left f up last lead nothing) x.up (last_of x) x.here (lead_left last lead x nothing) xs ≡ finish (close_one ls) c f up last here lead (x ∷ xs)
 closed (LastLine l) c f up last here lead x xs = refl
 closed (More l ls) c f up last here lead x xs = refl
 closed Bad c f up last here lead x xs = refl
 
-not-opened : (ls : Lines) (c : List ℕ) (f : Forest) (up : List ℕ) (here : State) (lead : List ℕ) (st : List Frame) → finish (open_one ls) c f up None here lead st ≡ None
+not-opened : (ls : Lines) (c : List ℕ) (f : Forest) (up : List ℕ) (here : PositionParts) (lead : List ℕ) (st : List Frame) → finish (open_one ls) c f up None here lead st ≡ None
 not-opened (LastLine v) c f up here lead st = refl
 not-opened Bad c f up here lead st = refl
 not-opened (More v Bad) c f up here lead st = refl
@@ -148,12 +148,12 @@ not-opened (More v (LastLine l)) c f up here lead (x ∷ xs) = refl
 not-opened (More v (More l ls)) c f up here lead [] = refl
 not-opened (More v (More l ls)) c f up here lead (x ∷ xs) = refl
 
-not-closed : (ls : Lines) (c : List ℕ) (f : Forest) (up : List ℕ) (last : Last) (here : State) (lead : List ℕ) → finish (close_one ls) c f up last here lead [] ≡ None
+not-closed : (ls : Lines) (c : List ℕ) (f : Forest) (up : List ℕ) (last : Last) (here : PositionParts) (lead : List ℕ) → finish (close_one ls) c f up last here lead [] ≡ None
 not-closed (LastLine l) c f up last here lead = refl
 not-closed (More l ls) c f up last here lead = refl
 not-closed Bad c f up last here lead = refl
 
-not-played : (w : List ℕ) (ls : Lines) (c : List ℕ) (f : Forest) (up : List ℕ) (last : Last) (here : State) (lead : List ℕ) (st : List Frame) → move_in here w ≡ None → finish (first (Play w) ls) c f up last here lead st ≡ None
+not-played : (w : List ℕ) (ls : Lines) (c : List ℕ) (f : Forest) (up : List ℕ) (last : Last) (here : PositionParts) (lead : List ℕ) (st : List Frame) → move_in here w ≡ None → finish (first (Play w) ls) c f up last here lead st ≡ None
 not-played w (LastLine l) c f up last here lead [] e = rw e refl
 not-played w (LastLine l) c f up last here lead (x ∷ xs) e = refl
 not-played w (More l ls) c f up last here lead [] e = refl
@@ -173,13 +173,13 @@ keeps-all p r (x ∷ xs) f all = (keeps p (path_of x) r f all.0, keeps-all p r x
 -- ---- a move
 
 -- the first move of the game, of a variation, and another
-first-done : (w : List ℕ) (m : MoveParts) (ls : Lines) (c : List ℕ) (f : Forest) (up : List ℕ) (here : State) (lead : List ℕ) → move_in here w ≡ Some m → Leads up f
+first-done : (w : List ℕ) (m : MoveParts) (ls : Lines) (c : List ℕ) (f : Forest) (up : List ℕ) (here : PositionParts) (lead : List ℕ) → move_in here w ≡ Some m → Leads up f
     → finish ls (comments_joined c lead) (hang up (leaf m) f) up (Some (count (below_at up f), here)) (after here m) [] [] ≡ finish (first (Play w) ls) c f up None here lead []
 first-done w m ls c f up here lead e at =
     at-root (Play w) (with_move_first m) ls c (comments_joined c lead) f (hang up (leaf m) f) up up None (Some (count (below_at up f), here)) here (after here m) lead [] (goes-play w m None here e)
     (λ r. rw (joined-nil lead) (ap (λ (z : Forest). (comments_joined c lead, z)) (sym (hang-down up m r f at))))
 
-inner-done : (w : List ℕ) (m : MoveParts) (ls : Lines) (c : List ℕ) (f : Forest) (up : List ℕ) (here : State) (lead : List ℕ) (x : Frame) (xs : List Frame) → move_in here w ≡ Some m → Leads up f
+inner-done : (w : List ℕ) (m : MoveParts) (ls : Lines) (c : List ℕ) (f : Forest) (up : List ℕ) (here : PositionParts) (lead : List ℕ) (x : Frame) (xs : List Frame) → move_in here w ≡ Some m → Leads up f
     → finish ls c (hang up (leaf m) f) up (Some (count (below_at up f), here)) (after here m) lead (x ∷ xs) ≡ finish (first (Play w) ls) c f up None here lead (x ∷ xs)
 inner-done w m ls c f up here lead x xs e at =
     in-frame (Play w) (with_move_first m) ls c f (hang up (leaf m) f) up up None (Some (count (below_at up f), here)) here (after here m) lead lead x xs (goes-play w m None here e)
@@ -191,7 +191,7 @@ then-hang p m lead r f at =
     let g : Forest = hang p (say lead) f in
     sym (hang-down p m r g (keeps p p (say lead) f at) ∙ hang-twice p (say lead) (grown m r) f at)
 
-next-root : (w : List ℕ) (m : MoveParts) (ls : Lines) (c : List ℕ) (f : Forest) (up : List ℕ) (y : ℕ × State) (here : State) (lead : List ℕ) → move_in here w ≡ Some m → Leads (up ++ y.0 ∷ []) f
+next-root : (w : List ℕ) (m : MoveParts) (ls : Lines) (c : List ℕ) (f : Forest) (up : List ℕ) (y : ℕ × PositionParts) (here : PositionParts) (lead : List ℕ) → move_in here w ≡ Some m → Leads (up ++ y.0 ∷ []) f
     → finish ls c (hang (up ++ y.0 ∷ []) (leaf m) (hang (up ++ y.0 ∷ []) (say lead) f)) (up ++ y.0 ∷ []) (Some (count (below_at (up ++ y.0 ∷ []) (hang (up ++ y.0 ∷ []) (say lead) f)), here)) (after here m) [] []
     ≡ finish (first (Play w) ls) c f up (Some y) here lead []
 next-root w m ls c f up y here lead e at =
@@ -200,7 +200,7 @@ next-root w m ls c f up y here lead e at =
     at-root (Play w) (with_move_first m) ls c c f (hang p (leaf m) g) up p (Some y) (Some (count (below_at p g), here)) here (after here m) lead [] (goes-play w m (Some y.1) here e)
     (λ r. ap (λ (z : Forest). (c, z)) (then-hang p m lead r f at))
 
-next-inner : (w : List ℕ) (m : MoveParts) (ls : Lines) (c : List ℕ) (f : Forest) (up : List ℕ) (y : ℕ × State) (here : State) (lead : List ℕ) (x : Frame) (xs : List Frame) → move_in here w ≡ Some m → Leads (up ++ y.0 ∷ []) f
+next-inner : (w : List ℕ) (m : MoveParts) (ls : Lines) (c : List ℕ) (f : Forest) (up : List ℕ) (y : ℕ × PositionParts) (here : PositionParts) (lead : List ℕ) (x : Frame) (xs : List Frame) → move_in here w ≡ Some m → Leads (up ++ y.0 ∷ []) f
     → finish ls c (hang (up ++ y.0 ∷ []) (leaf m) (hang (up ++ y.0 ∷ []) (say lead) f)) (up ++ y.0 ∷ []) (Some (count (below_at (up ++ y.0 ∷ []) (hang (up ++ y.0 ∷ []) (say lead) f)), here)) (after here m) [] (x ∷ xs)
     ≡ finish (first (Play w) ls) c f up (Some y) here lead (x ∷ xs)
 next-inner w m ls c f up y here lead x xs e at =
@@ -214,7 +214,7 @@ by-move : (o : Option MoveParts) (k : MoveParts → Answer) (z : Answer) → (o 
 by-move None k z bad good = sym (bad refl)
 by-move (Some m) k z bad good = good m refl
 
-pub meets : (ts : List Element) (c : List ℕ) (f : Forest) (up : List ℕ) (last : Last) (here : State) (lead : List ℕ) (st : List Frame)
+pub meets : (ts : List Element) (c : List ℕ) (f : Forest) (up : List ℕ) (last : Last) (here : PositionParts) (lead : List ℕ) (st : List Frame)
     → Leads (end_of up last) f → AllThere st f → run ts c f up last here lead st ≡ finish (parse ts) c f up last here lead st
 meets [] c f up None here lead [] at all = rw (joined-nil lead, hang-nothing up f) refl
 meets [] c f up (Some x) here lead [] at all = rw (joined-nil lead) refl

@@ -11,7 +11,7 @@ use Rattle.chess_types.specs.board.Attack.{in_check}
 use Rattle.chess_types.specs.board.Legal.{is_legal, legal_moves}
 use Rattle.chess_types.specs.board.MoveParts.{MoveParts}
 use Rattle.chess_types.specs.board.Outcome.{is_without}
-use Rattle.chess_types.specs.board.Position.{State, look}
+use Rattle.chess_types.specs.board.Position.{PositionParts, man_on}
 use Rattle.chess_types.specs.board.Squares.{file_of, rank_of}
 use Rattle.chess_types.specs.board.Texts.{square_text}
 use Rattle.chess_types.proofs.AllMoves.{IsMove}
@@ -110,11 +110,11 @@ man_word kind origin taken to small low =
     lettered_on (piece_letter kind ∷ []) _ (piece_word kind)
     (each_append is_word_byte (file_letter origin.file) _ small.0 (each_append is_word_byte (rank_digit origin.rank) _ small.1 (each_append is_word_byte (capture_text taken) _ (capture_word taken) (square_word to low).each)))
 
-own_word : (p : State) (kind : Kind) (m : MoveParts) → IsMove m → IsSmallOrigin (origin_of p kind m)
+own_word : (p : PositionParts) (kind : Kind) (m : MoveParts) → IsMove m → IsSmallOrigin (origin_of p kind m)
 unfolding origin_among
 own_word p kind m on = origin_word (is_without (rivals p kind m.from m.to)) (share_file (rivals p kind m.from m.to) m.from) (share_rank (rivals p kind m.from m.to) m.from) m.from on.from
 
-step_word : (p : State) (kind : Kind) (man : Man) (m : MoveParts) → IsMove m → IsLettered (step_text p kind man m)
+step_word : (p : PositionParts) (kind : Kind) (man : Man) (m : MoveParts) → IsMove m → IsLettered (step_text p kind man m)
 step_word p Pawn man m on = pawn_word (captures p man m) m on
 step_word p Knight man m on = man_word Knight (origin_of p Knight m) (captures p man m) m.to (own_word p Knight m on) on.to
 step_word p Bishop man m on = man_word Bishop (origin_of p Bishop m) (captures p man m) m.to (own_word p Bishop m on) on.to
@@ -140,17 +140,17 @@ mark_word true true = (refl, tt)
 mark_word true false = (refl, tt)
 mark_word false over = tt
 
-bare_word : (p : State) (man : Man) (m : MoveParts) → IsMove m → IsLettered (bare_text p (Some man) m)
+bare_word : (p : PositionParts) (man : Man) (m : MoveParts) → IsMove m → IsLettered (bare_text p (Some man) m)
 bare_word p man m on =
     either_word (is_castling man KingSide m) _ _ short_word (either_word (is_castling man QueenSide m) _ _ long_word (step_word p man.kind man m on))
 
 -- what is written of a legal move
-pub move_word : (p : State) (m : MoveParts) → IsMove m → is_legal p m ≡ true → IsText (san p m)
+pub move_word : (p : PositionParts) (m : MoveParts) → IsMove m → is_legal p m ≡ true → IsText (san p m)
 unfolding san mark_text
 move_word p m on legal =
     let a = mover p m legal in
-    let q : State = after p m in
-    lettered_text (bare_text p (look p m.from) m ++ mark_text q)
-    (lettered_on (bare_text p (look p m.from) m) (mark_text q)
+    let q : PositionParts = after p m in
+    lettered_text (bare_text p (man_on p m.from) m ++ mark_text q)
+    (lettered_on (bare_text p (man_on p m.from) m) (mark_text q)
     (subst (λ (o : Option Man). IsLettered (bare_text p o m)) (sym a.here) (bare_word p a.man m on))
-    (mark_word (in_check (look q) q.side) (is_without (legal_moves q))))
+    (mark_word (in_check (man_on q) q.side) (is_without (legal_moves q))))

@@ -2,7 +2,7 @@
 use Rattle.std.proofs.Common.{◌≡◌, inl, inr, ℕ, ◌<◌, ◌≤◌, ◌+◌, ◌^◌, Bool, true, false, ◌||◌, not, List, [], ◌∷◌, ◌++◌, codes, refl, sym, ap, ◌∙◌, append_assoc, append-nil, arith}
 use Rattle.std.specs.Prelude.{is_none}
 use Rattle.std.specs.List.{list_all}
-use Rattle.chess_types.specs.board.Position.{State}
+use Rattle.chess_types.specs.board.Position.{PositionParts}
 use Rattle.chess_types.specs.board.After.{after}
 use Rattle.chess_types.proofs.AllMoves.{IsMove}
 use Rattle.chess_types.proofs.Counters.{number_more}
@@ -32,7 +32,7 @@ use Rattle.chess_pgn.proofs.SyntaxLemmas.{AreNamed, line_elements, line_means, l
 
 -- ---- what a game's moves are
 
-pub noted_writable : (p : State) (f : Forest) → AreSound p f → AreNoted f → p.number + height f < 2 ^ 64 → AreWritable p f
+pub noted_writable : (p : PositionParts) (f : Forest) → AreSound p f → AreNoted f → p.number + height f < 2 ^ 64 → AreWritable p f
 noted_writable p Bare sound noted low = tt
 noted_writable p (Node m nags comment b next) sound noted low =
     let on : IsMove m = record { from = noted.0; to = noted.1 } in (
@@ -44,7 +44,7 @@ noted_writable p (Node m nags comment b next) sound noted low =
       noted_writable p next sound.3 noted.4 (omega arith),
     )
 
-noted_named : (p : State) (f : Forest) → AreSound p f → AreNoted f → AreNamed p f
+noted_named : (p : PositionParts) (f : Forest) → AreSound p f → AreNoted f → AreNamed p f
 noted_named p Bare sound noted = tt
 noted_named p (Node m nags comment b next) sound noted =
     (read_back p m (record { from = noted.0; to = noted.1 }) sound.0, noted_named (after p m) b sound.2 noted.3, noted_named p next sound.3 noted.4)
@@ -102,7 +102,7 @@ body_of_words o text es (y ∷ t) f p =
     spread : (t a b : List ℕ) (es : List Element) (next : List ℕ) (place : Place) → t ≡ a ++ b → Begins place (a ++ (b ++ 10 ∷ next)) (items.Marker o ∷ []) (10 ∷ next) (es ++ []) → Begins place (t ++ 10 ∷ next) (items.Marker o ∷ []) (10 ∷ next) es
     spread t a b es next place e h = rw (e, append_assoc a b (10 ∷ next), ← append-nil es) h
 
-body_of : (p : State) (f : Forest) (o : Outcome) (s : List ℕ) → AreWritable p f → Respaced (moves_text false true p f ++ 32 ∷ outcome_text o) s → Body o s (forest_elements false true p f)
+body_of : (p : PositionParts) (f : Forest) (o : Outcome) (s : List ℕ) → AreWritable p f → Respaced (moves_text false true p f ++ 32 ∷ outcome_text o) s → Body o s (forest_elements false true p f)
 body_of p Bare o [] w q = absurd q
 body_of p Bare o (y ∷ t) w q = record {
   space = y;

@@ -5,7 +5,7 @@ use Rattle.std.proofs.lemmas.Bool.{lt-ltb}
 use Rattle.chess_types.specs.declared.board.man.Colour.{Colour}
 use Rattle.chess_types.specs.declared.board.man.Colour.TheVariants.{White, Black}
 use Rattle.chess_types.specs.board.MoveParts.{MoveParts}
-use Rattle.chess_types.specs.board.Position.{State}
+use Rattle.chess_types.specs.board.Position.{PositionParts}
 use Rattle.chess_types.specs.board.After.{after}
 use Rattle.chess_tree.specs.Forest.{Forest, Bare, Node, child}
 use Rattle.chess_san.specs.Writing.{san}
@@ -27,13 +27,13 @@ remark_few : (n : ℕ) (c : List ℕ) (us : List Element) → few_are_open n (re
 remark_few n [] us = refl
 remark_few n (b ∷ c) us = refl
 
-node_few : (n : ℕ) (due : Bool) (p : State) (m : MoveParts) (nags comment : List ℕ) (us : List Element) → few_are_open n (node_elements due p m nags comment ++ us) ≡ few_are_open n us
+node_few : (n : ℕ) (due : Bool) (p : PositionParts) (m : MoveParts) (nags comment : List ℕ) (us : List Element) → few_are_open n (node_elements due p m nags comment ++ us) ≡ few_are_open n us
 node_few n due p m nags comment us =
     ap (few_are_open n) (append_assoc (numbers_of due p.side) (Text (san p m) ∷ (annotations_of nags ++ remark_of comment)) us)
     ∙ numbers_few n due p.side (Text (san p m) ∷ ((annotations_of nags ++ remark_of comment) ++ us))
     ∙ ap (few_are_open n) (append_assoc (annotations_of nags) (remark_of comment) us) ∙ annotations_few n nags (remark_of comment ++ us) ∙ remark_few n comment us
 
-pub forest_few : (n : ℕ) (as_variations due : Bool) (p : State) (f : Forest) (us : List Element) → n + nesting as_variations f ≤ 128 → few_are_open n us ≡ true
+pub forest_few : (n : ℕ) (as_variations due : Bool) (p : PositionParts) (f : Forest) (us : List Element) → n + nesting as_variations f ≤ 128 → few_are_open n us ≡ true
     → few_are_open n (forest_elements as_variations due p f ++ us) ≡ true
 forest_few n as_variations due p Bare us few e = e
 forest_few n false due p (Node m nags comment b next) us few e =

@@ -2,7 +2,7 @@
 use Rattle.std.proofs.Common.{◌≡◌, ◌≤◌, ◌⊎◌, ℕ, ◌-◌, eq-zero-or-pos, Bool, true, false, ◌&&◌, List, [], ◌∷◌, ◌++◌, length, Some, refl, sym, ap, subst, ◌∙◌, arith, append_assoc, append-nil}
 use Rattle.std.specs.List.{list_all}
 use mathlib.Core.Logic.{inl, inr}
-use Rattle.chess_types.specs.board.Position.{State}
+use Rattle.chess_types.specs.board.Position.{PositionParts}
 use Rattle.chess_items.specs.Items as items
 use Rattle.chess_items.specs.Items.{Item, Spells, is_outside, is_white}
 use Rattle.chess_items.specs.declared.outcome.Outcome.{Outcome}
@@ -29,7 +29,7 @@ one_outcome m n e f a b r q same (inl x) (inr y) = absurd (let z : items.Marker 
 one_outcome m n e f a b r q same (inr x) (inl y) = absurd (let z : [] ≡ items.Marker b ∷ [] = sym x.0 ∙ same ∙ y in cc)
 one_outcome m n e f a b r q same (inr x) (inr y) = x.1 ∙ sym y.1
 
-start_is : (a b : State) → Some a ≡ Some b → a ≡ b
+start_is : (a b : PositionParts) → Some a ≡ Some b → a ≡ b
 start_is a b e = cc
 
 tree_is : (a b : GameTree) → a.start ≡ b.start → a.comment ≡ b.comment → a.below ≡ b.below → a ≡ b
@@ -41,7 +41,7 @@ game_is g h e f t = λ i. record { tags = e i; outcome = f i; tree = t i }
 one_tree : (es fs : List Item) (a b : GameTree) (lead more : List ℕ) → es ≡ fs → lead ≡ more → a.start ≡ b.start → Derives (elements es) a.start lead a.comment a.below → Derives (elements fs) b.start more b.comment b.below → a ≡ b
 one_tree es fs a b lead more same leads start x y =
     let z : Derives (elements es) a.start lead b.comment b.below =
-    subst (λ (s : State). Derives (elements es) s lead b.comment b.below) (sym start)
+    subst (λ (s : PositionParts). Derives (elements es) s lead b.comment b.below) (sym start)
     (subst (λ (l : List ℕ). Derives (elements es) b.start l b.comment b.below) (sym leads) (subst (λ (is : List Item). Derives (elements is) b.start more b.comment b.below) (sym same) y))
     in
     let two = only_one (elements es) a.start lead a.comment b.comment a.below b.below x z in

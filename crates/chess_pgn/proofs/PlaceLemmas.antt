@@ -3,7 +3,7 @@ use Rattle.std.proofs.Common.{◌≡◌, ℕ, zero, suc, ◌<◌, List, [], ◌�
 use Rattle.std.proofs.lemmas.List.{append-nil}
 use Rattle.std.specs.Option.{option_to_list}
 use Rattle.chess_types.specs.board.MoveParts.{MoveParts}
-use Rattle.chess_types.specs.board.Position.{State}
+use Rattle.chess_types.specs.board.Position.{PositionParts}
 use Rattle.chess_types.specs.board.After.{after}
 use Rattle.chess_tree.specs.Comments.{IsComment}
 use Rattle.chess_tree.specs.Forest.{Forest, Bare, Node, NodeParts, append, count, child, below_child}
@@ -59,10 +59,10 @@ commented_is k (j ∷ p) t n at =
 
 pub record IsSoundNode (n : NodeParts) : Type 0 where
   pub comment : IsComment n.comment
-  pub from : State
+  pub from : PositionParts
   pub below : AreSound from n.below
 
-child_sound : (k : ℕ) (f : Forest) (n : NodeParts) (q : State) → AreSound q f → k < count f → IsSoundNode (unwrap_or (child k f) n)
+child_sound : (k : ℕ) (f : Forest) (n : NodeParts) (q : PositionParts) → AreSound q f → k < count f → IsSoundNode (unwrap_or (child k f) n)
 child_sound k Bare n q sound h = absurd (omega arith)
 child_sound zero (Node m nags c b next) n q sound h = record { comment = sound.1; from = after q m; below = sound.2 }
 child_sound (suc k) (Node m nags c b next) n q sound h = child_sound k next n q sound.3 (omega arith)

@@ -4,12 +4,12 @@ use Rattle.std.specs.Prelude.{Result, Ok, Err, nat_lt}
 use Rattle.std.proofs.lemmas.List.{length-reverse}
 use mathlib.Core.Logic.{inl, inr}
 use Rattle.chess_types.specs.board.MoveParts.{MoveParts}
-use Rattle.chess_types.specs.board.Position.{State}
+use Rattle.chess_types.specs.board.Position.{PositionParts}
 use Rattle.chess_types.specs.board.Lines.{last}
 use Rattle.chess_items.specs.declared.fault.FaultKind.{FaultKind}
 use Rattle.chess_items.specs.declared.fault.FaultKind.TheVariants.{Memory, TooLarge}
 use Rattle.chess_san.specs.declared.fault.SanFault.{SanFault}
-use Rattle.chess_san.specs.Naming.{reading}
+use Rattle.chess_san.specs.Naming.{san_reading}
 use Rattle.chess_tree.specs.Forest.{Forest}
 use Rattle.chess_tree.specs.GameTree.{TreeParts, line_to}
 use Rattle.chess_pgn.specs.Grammar.{Element, Open, Close, Text, few_are_open, move_in, ok_move}
@@ -21,7 +21,7 @@ use Rattle.chess_pgn.proofs.StepLemmas.{frames_long, no_frames, no_lines, state}
 
 -- ---- a text that names no move
 
-text_none : (w : List ℕ) (es : List Element) (start : State) (c : List ℕ) (f : Forest) (up : List ℕ) (l : Last) (here : State) (lead : List ℕ) (st : List Frame)
+text_none : (w : List ℕ) (es : List Element) (start : PositionParts) (c : List ℕ) (f : Forest) (up : List ℕ) (l : Last) (here : PositionParts) (lead : List ℕ) (st : List Frame)
     → move_in here w ≡ None → goes_on (Text w ∷ es) (state start c f up l here lead st) ≡ None
 text_none w es start c f up None here lead [] e = rw e refl
 text_none w es start c f up None here lead (x ∷ xs) e = rw e refl
@@ -31,15 +31,15 @@ none_read : (r : Result MoveParts SanFault) → ((m : MoveParts) → r ≡ Ok m 
 none_read (Ok m) e = absurd (e m refl)
 none_read (Err fault) e = refl
 
-pub text_fails : (t : TreeParts) (lines : List Interrupted) (played : Bool) (comments : List ℕ) (from : ℕ) (w : List ℕ) → ((m : MoveParts) → reading (last (line_to t)) w ≡ Ok m → ⊥)
+pub text_fails : (t : TreeParts) (lines : List Interrupted) (played : Bool) (comments : List ℕ) (from : ℕ) (w : List ℕ) → ((m : MoveParts) → san_reading (last (line_to t)) w ≡ Ok m → ⊥)
     → (s : Reading) → HoldsReading t lines played comments from s → (es : List Element) → goes_on (Text w ∷ es) s ≡ None
 text_fails t lines played comments from w e s h es =
     text_none w es s.start s.comment s.forest s.up s.last_move s.here s.lead s.interrupted
-    (ap (λ (z : State). move_in z w) (h.here ∙ rw (h.start, h.forest, h.path) refl) ∙ none_read (reading (last (line_to t)) w) e)
+    (ap (λ (z : PositionParts). move_in z w) (h.here ∙ rw (h.start, h.forest, h.path) refl) ∙ none_read (san_reading (last (line_to t)) w) e)
 
 -- ---- a variation that begins
 
-open_none : (t : TreeParts) (lines : List Interrupted) (played : Bool) (comments : List ℕ) (from : ℕ) (es : List Element) (start : State) (c : List ℕ) (f : Forest) (up : List ℕ) (l : Last) (here : State) (lead : List ℕ) (st : List Frame)
+open_none : (t : TreeParts) (lines : List Interrupted) (played : Bool) (comments : List ℕ) (from : ℕ) (es : List Element) (start : PositionParts) (c : List ℕ) (f : Forest) (up : List ℕ) (l : Last) (here : PositionParts) (lead : List ℕ) (st : List Frame)
     → played ≡ false → HoldsReading t lines played comments from (state start c f up l here lead st) → goes_on (Open ∷ es) (state start c f up l here lead st) ≡ None
 open_none t lines played comments from es start c f up None here lead st e h = refl
 open_none t lines played comments from es start c f up (Some y) here lead st e h = absurd (let k : false ≡ true = sym e ∙ h.played in cc)
@@ -62,7 +62,7 @@ too_deep t lines played comments from many s h es =
 
 -- ---- a variation that ends
 
-close_none : (es : List Element) (start : State) (c : List ℕ) (f : Forest) (up : List ℕ) (l : Last) (here : State) (lead : List ℕ) (st : List Frame) → st ≡ [] → goes_on (Close ∷ es) (state start c f up l here lead st) ≡ None
+close_none : (es : List Element) (start : PositionParts) (c : List ℕ) (f : Forest) (up : List ℕ) (l : Last) (here : PositionParts) (lead : List ℕ) (st : List Frame) → st ≡ [] → goes_on (Close ∷ es) (state start c f up l here lead st) ≡ None
 close_none es start c f up l here lead [] e = refl
 close_none es start c f up l here lead (x ∷ xs) e = absurd cc
 
@@ -80,7 +80,7 @@ close_fails t lines played comments from e s h es =
 
 -- ---- an end where a variation is open
 
-end_none : (outer : List ℕ) (lines : List Interrupted) (start : State) (c : List ℕ) (f : Forest) (up : List ℕ) (l : Last) (here : State) (lead : List ℕ) (st : List Frame)
+end_none : (outer : List ℕ) (lines : List Interrupted) (start : PositionParts) (c : List ℕ) (f : Forest) (up : List ℕ) (l : Last) (here : PositionParts) (lead : List ℕ) (st : List Frame)
     → is_nil lines ≡ false → Pends outer st (reverse lines) → goes_on [] (state start c f up l here lead st) ≡ None
 end_none outer lines start c f up l here lead [] e h = absurd (let k : true ≡ false = sym (ap is_nil (no_lines outer lines h)) ∙ e in cc)
 end_none outer lines start c f up l here lead (x ∷ xs) e h = refl

@@ -3,7 +3,7 @@ use Rattle.std.proofs.Common.{◌≡◌, ◌⊎◌, ◌≢◌, ℕ, Bool, true, 
 use Rattle.std.specs.Prelude.{Option, Err, if◌then◌else◌}
 use Rattle.std.specs.Str.{byte}
 use mathlib.Core.Logic.{inl, inr}
-use Rattle.chess_types.specs.board.Position.{State}
+use Rattle.chess_types.specs.board.Position.{PositionParts}
 use Rattle.chess_items.specs.Items as items
 use Rattle.chess_items.specs.Items.{Item}
 use Rattle.chess_items.specs.declared.fault.FaultKind.{FaultKind}
@@ -116,7 +116,7 @@ module _ {A : Type 0} (head0 m0 is : List Item) (r : Reader A) (h : InMovetext h
   goes_to es e = (
     sym (h.given es)
         ∙ ap (λ (z : List Element). goes_on z (fresh h.first (remarks [] head0))) (sym e)
-        ∙ ap (λ (z : State). goes_on (elements g.movetext) (fresh z (remarks [] head0))) one_start
+        ∙ ap (λ (z : PositionParts). goes_on (elements g.movetext) (fresh z (remarks [] head0))) one_start
         ∙ ap (λ (z : List Item). goes_on (elements g.movetext) (fresh game.tree.start (remarks [] z))) same
         ∙ read_again (elements g.movetext) game.tree.start (remarks [] g.head) game.tree.comment game.tree.below g.derives,
     sym (h.few es) ∙ ap (few_are_open 0) (sym e) ∙ g.few,

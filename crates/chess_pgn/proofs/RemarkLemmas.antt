@@ -3,7 +3,7 @@ use Rattle.std.proofs.Common.{◌≡◌, ℕ, ◌<◌, Bool, true, false, List, 
 use Rattle.std.specs.Prelude.{if◌then◌else◌}
 use Rattle.std.specs.List.{AllByRecursion, join_with_byte}
 use Rattle.std.proofs.lemmas.List.{append-nil}
-use Rattle.chess_types.specs.bytes.Words.{is_gap, as_word, words, words_from}
+use Rattle.byte_streams.specs.Words.{is_gap, as_word, words, words_from}
 use Rattle.chess_tree.specs.Comments.{blanks, normalised}
 use Rattle.chess_pgn.specs.Grammar.{comments_joined}
 use Rattle.chess_pgn.specs.steps.Readings.{IsSpaced}

@@ -3,7 +3,7 @@ use Rattle.std.proofs.Common.{◌≡◌, ◌≢◌, ◌⊎◌, inl, inr, ℕ, �
 use Rattle.std.specs.List.{AllByRecursion}
 use Rattle.std.proofs.lemmas.Bool.{false≢true, lt-leb}
 use Rattle.std.proofs.lemmas.Bool.Decides.{nat_tests}
-use Rattle.chess_types.specs.bytes.Words.{is_gap, words, words_from}
+use Rattle.byte_streams.specs.Words.{is_gap, words, words_from}
 use Rattle.chess_tree.specs.Comments.{blanks, normalised}
 use Rattle.std.specs.List.{join_with_byte}
 use Rattle.chess_pgn.specs.Layout.{lay, laid, in_lines}

@@ -8,7 +8,7 @@ use Rattle.std.proofs.lemmas.Bool.{and_parts, ltb-true}
 use Rattle.chess_types.specs.board.After.{after}
 use Rattle.chess_types.specs.board.Legal.{is_legal, legal_moves}
 use Rattle.chess_types.specs.board.MoveParts.{MoveParts}
-use Rattle.chess_types.specs.board.Position.{State}
+use Rattle.chess_types.specs.board.Position.{PositionParts}
 use Rattle.chess_types.proofs.AllMoves.{IsMove}
 use Rattle.chess_items.specs.Items as items
 use Rattle.chess_items.specs.Items.{Item}
@@ -20,7 +20,7 @@ use Rattle.chess_tree.proofs.CommentLemmas.{is_comment}
 use Rattle.chess_san.specs.declared.fault.SanFault.{SanFault}
 use Rattle.chess_san.specs.declared.form.Form.{Form}
 use Rattle.chess_san.specs.Forms.{form_in}
-use Rattle.chess_san.specs.Naming.{names, reading, reading_by, the_one}
+use Rattle.chess_san.specs.Naming.{names, san_reading, reading_by, the_one}
 use Rattle.chess_san.proofs.GoesLemmas.{read_legal}
 use Rattle.chess_pgn.specs.Grammar.{Derives, Element, Annotation, Remark, Close, Line, End, Skip, Annotate, Say, Play, Vary, Part, with_annotation, element, elements, elements_of, few_are_open, with_opening_comment, comments_joined, meaning, ok_move, nothing, with_move_first, said, varied, ◌>>=◌}
 use Rattle.chess_pgn.specs.Laws.{AreNoted, nesting}
@@ -93,32 +93,32 @@ one_in [] m h = absurd cc
 one_in (x ∷ []) m h = let e : x ≡ m = cc in (0, omega arith, e)
 one_in (x ∷ y ∷ rest) m h = absurd cc
 
-one_on : (p : State) (f : Option Form) (m : MoveParts) → reading_by p f ≡ Ok m → IsMove m
+one_on : (p : PositionParts) (f : Option Form) (m : MoveParts) → reading_by p f ≡ Ok m → IsMove m
 one_on p None m h = absurd cc
 one_on p (Some form) m h =
     All-contains IsMove (filter (names p form) (legal_moves p)) m (All-filter (names p form) IsMove (legal_moves p) (moves_on_board p)) (one_in (filter (names p form) (legal_moves p)) m h)
 
 -- a text that names a move names one between two squares
-read_on : (p : State) (text : List ℕ) (m : MoveParts) → reading p text ≡ Ok m → IsMove m
-unfolding reading
+read_on : (p : PositionParts) (text : List ℕ) (m : MoveParts) → san_reading p text ≡ Ok m → IsMove m
+unfolding san_reading
 read_on p text m h = one_on p (form_in text) m h
 
 if_ok : {E : Type 0} (P : MoveParts → Type 0) (r : Result MoveParts E) (m : MoveParts) → r ≡ Ok m → IfOk r P → P m
 if_ok P r m e h = subst (λ (x : Result MoveParts _). IfOk x P) e h
 
 -- what a stretch of a line adds: beside the move before it, and below it
-abbrev BesideSound : Option State → Forest → Type 0
+abbrev BesideSound : Option PositionParts → Forest → Type 0
 BesideSound None f = f ≡ Bare
 BesideSound (Some p) f = AreSound p f × AreNoted f
 
-record IsSoundPart (before : Option State) (here : State) (r : Part) : Type 0 where
+record IsSoundPart (before : Option PositionParts) (here : PositionParts) (r : Part) : Type 0 where
   nags : AllByRecursion (λ n. n < 256) r.nags
   comment : IsComment r.comment
   beside : BesideSound before r.beside
   below : AreSound here r.below
   noted : AreNoted r.below
 
-none_beside : (before : Option State) → BesideSound before Bare
+none_beside : (before : Option PositionParts) → BesideSound before Bare
 none_beside None = refl
 none_beside (Some p) = (tt, tt)
 
@@ -137,7 +137,7 @@ move_of : (o : Result MoveParts SanFault) (next : MoveParts → Option Part) (r 
 move_of (Ok m) next r e = (m, refl, e)
 move_of (Err fault) next r e = absurd cc
 
-sound_append : (p : State) (f g : Forest) → AreSound p f → AreSound p g → AreSound p (append f g)
+sound_append : (p : PositionParts) (f g : Forest) → AreSound p f → AreSound p g → AreSound p (append f g)
 sound_append p Bare g h k = k
 sound_append p (Node m nags comment b next) g h k = (h.0, h.1, h.2, sound_append p next g h.3 k)
 
@@ -145,7 +145,7 @@ noted_append : (f g : Forest) → AreNoted f → AreNoted g → AreNoted (append
 noted_append Bare g h k = k
 noted_append (Node m nags comment b next) g h k = (h.0, h.1, h.2, h.3, noted_append next g h.4 k)
 
-varied_sound : (p here : State) (f : Forest) (text : List ℕ) (x : Part) → AreSound p f → AreNoted f → IsComment text → IsSoundPart (Some p) here x → IsSoundPart (Some p) here (varied f text x)
+varied_sound : (p here : PositionParts) (f : Forest) (text : List ℕ) (x : Part) → AreSound p f → AreNoted f → IsComment text → IsSoundPart (Some p) here x → IsSoundPart (Some p) here (varied f text x)
 varied_sound p here Bare text x sound noted is s = record { nags = s.nags; comment = joined_comment text x.comment is s.comment; beside = s.beside; below = s.below; noted = s.noted }
 varied_sound p here (Node m nags comment b next) text x sound noted is s = record {
   nags = s.nags;
@@ -158,7 +158,7 @@ varied_sound p here (Node m nags comment b next) text x sound noted is s = recor
   noted = s.noted;
 }
 
-line_sound : (l : Line) (before : Option State) (here : State) (r : Part) → AreSoundElements (elements_of l) → meaning l before here ≡ Some r → IsSoundPart before here r
+line_sound : (l : Line) (before : Option PositionParts) (here : PositionParts) (r : Part) → AreSoundElements (elements_of l) → meaning l before here ≡ Some r → IsSoundPart before here r
 line_sound End before here r sound e = subst (IsSoundPart before here) (some_is nothing r e) (record { nags = tt; comment = no_comment; beside = none_beside before; below = tt; noted = tt })
   where
     some_is : (x y : Part) → Some x ≡ Some y → x ≡ y
@@ -173,12 +173,12 @@ line_sound (Say text l) before here r sound e =
     let s = line_sound l before here x.0 sound.1 x.1 in
     subst (IsSoundPart before here) x.2 (record { nags = s.nags; comment = joined_comment text x.0.comment sound.0 s.comment; beside = s.beside; below = s.below; noted = s.noted })
 line_sound (Play word l) before here r sound e =
-    let a = move_of (reading here word) (λ m. meaning l (Some here) (after here m) >>= λ (x : Part). Some (with_move_first m x)) r e in
+    let a = move_of (san_reading here word) (λ m. meaning l (Some here) (after here m) >>= λ (x : Part). Some (with_move_first m x)) r e in
     let m : MoveParts = a.0 in
     let x = part_of (meaning l (Some here) (after here m)) (with_move_first m) r a.2 in
     let s = line_sound l (Some here) (after here m) x.0 sound.1 x.1 in
     let on = read_on here word m a.1 in
-    let legal : is_legal here m ≡ true = if_ok (λ n. is_legal here n ≡ true) (reading here word) m a.1 (read_legal here word (reading here word) refl) in
+    let legal : is_legal here m ≡ true = if_ok (λ n. is_legal here n ≡ true) (san_reading here word) m a.1 (read_legal here word (san_reading here word) refl) in
     subst (IsSoundPart before here) x.2 (record {
       nags = tt;
       comment = no_comment;
@@ -217,7 +217,7 @@ varied_within n Bare text x few w = w
 varied_within n (Node m nags comment b next) text x few w =
     (w.0, omega (arith, w.1, few, nesting_append (Node m nags (comments_joined text comment) b next) x.beside, as_variations (Node m nags comment b next), front_nesting text (Node m nags comment b next)))
 
-line_within : (l : Line) (before : Option State) (here : State) (r : Part) (n : ℕ) (us : List Element) → n ≤ 128 → few_are_open n (elements_of l ++ us) ≡ true → meaning l before here ≡ Some r → Within n r × (few_are_open n us ≡ true)
+line_within : (l : Line) (before : Option PositionParts) (here : PositionParts) (r : Part) (n : ℕ) (us : List Element) → n ≤ 128 → few_are_open n (elements_of l ++ us) ≡ true → meaning l before here ≡ Some r → Within n r × (few_are_open n us ≡ true)
 line_within End before here r n us low few e = (subst (Within n) (some_is nothing r e) (omega (arith, low), omega (arith, low)), few)
   where
     some_is : (x y : Part) → Some x ≡ Some y → x ≡ y
@@ -232,7 +232,7 @@ line_within (Say text l) before here r n us low few e =
     let w = line_within l before here x.0 n us low few x.1 in
     (subst (Within n) x.2 w.0, w.1)
 line_within (Play word l) before here r n us low few e =
-    let a = move_of (reading here word) (λ m. meaning l (Some here) (after here m) >>= λ (x : Part). Some (with_move_first m x)) r e in
+    let a = move_of (san_reading here word) (λ m. meaning l (Some here) (after here m) >>= λ (x : Part). Some (with_move_first m x)) r e in
     let x = part_of (meaning l (Some here) (after here a.0)) (with_move_first a.0) r a.2 in
     let w = line_within l (Some here) (after here a.0) x.0 n us low few x.1 in
     (subst (Within n) x.2 (omega (arith, w.0.0, w.0.1), omega (arith, low)), w.1)
@@ -248,13 +248,13 @@ line_within (Vary v l) (Some p) here r n us low few e =
 
 -- ---- a game's moves
 
-pub record AreMoves (start : State) (comment : List ℕ) (moves : Forest) : Type 0 where
+pub record AreMoves (start : PositionParts) (comment : List ℕ) (moves : Forest) : Type 0 where
   pub is_comment : IsComment comment
   pub sound : AreSound start moves
   pub noted : AreNoted moves
   pub few : nesting false moves ≤ 128
 
-pub derived_moves : (is : List Item) (start : State) (before comment : List ℕ) (moves : Forest) → AreSoundItems is → IsComment before → few_are_open 0 (elements is) ≡ true → Derives (elements is) start before comment moves
+pub derived_moves : (is : List Item) (start : PositionParts) (before comment : List ℕ) (moves : Forest) → AreSoundItems is → IsComment before → few_are_open 0 (elements is) ≡ true → Derives (elements is) start before comment moves
     → AreMoves start comment moves
 derived_moves is start before comment moves sound said few d =
     let all = subst AreSoundElements d.spelled (sound_elements is sound) in

@@ -3,7 +3,7 @@ use Rattle.std.proofs.Common.{◌≡◌, ℕ, ◌≤◌, ◌<◌, Bool, true, fa
 use Rattle.std.specs.List.{list_all}
 use mathlib.Core.Logic.{inl, inr}
 use Rattle.std.specs.Prelude.{Result, Ok, Option, Some, None, IfSome}
-use Rattle.chess_types.specs.bytes.Calls.{Calls, joined}
+use Rattle.byte_streams.specs.Calls.{Calls, joined}
 use Rattle.chess_items.specs.Items.{Item, Spells, is_white, place_after}
 use Rattle.chess_items.specs.Coming.{AtHand, unread}
 use Rattle.chess_items.specs.declared.place.Place.{Place}

@@ -8,13 +8,13 @@ use Rattle.chess_types.specs.board.Attack.{in_check}
 use Rattle.chess_types.specs.board.Board.{Board, man_at}
 use Rattle.chess_types.specs.board.Cells.{board_of}
 use Rattle.chess_types.specs.board.Men.{opponent}
-use Rattle.chess_types.specs.board.Position.{State, IsWellFormed, start}
+use Rattle.chess_types.specs.board.Position.{PositionParts, IsWellFormed, start}
 use Rattle.chess_types.proofs.CellLemmas.{get-board_of}
 use Rattle.chess_types.proofs.StartLemmas.{start_quiet, start_setup}
 use Rattle.chess_fen.specs.declared.fault.FenFault.{FenFault}
 use Rattle.chess_fen.specs.declared.fault.FenFault.TheVariants.{InCheck, Kings, PawnRank, Placement, TooManyMen}
 use Rattle.chess_fen.specs.Ranks.{board_cells, both_cells, cells_of, cells_of_ranks, has_adjacent_digits, of_length, rank_cells, ranks}
-use Rattle.chess_fen.specs.Reading.{◌>>=◌, FieldTexts, board_in, castling_in, counter_in, demand, fields_in, has_at_most_16_each, has_one_king_each, has_pawn_on_edge, reading, side_in, target_in}
+use Rattle.chess_fen.specs.Reading.{◌>>=◌, FieldTexts, board_in, castling_in, counter_in, demand, fields_in, has_at_most_16_each, has_one_king_each, has_pawn_on_edge, fen_reading, side_in, target_in}
 use Rattle.chess_fen.proofs.FieldLemmas.{counter_small}
 use Rattle.chess_fen.proofs.SetupLemmas.{good_men, setup_read}
 use Rattle.chess_pgn.specs.Tags.{position_in, start_by}
@@ -96,7 +96,7 @@ board_on field board e s high =
     board_is x y h = cc
 
 -- what is true of the position in which a game begins
-pub record IsStart (p : State) : Type 0 where
+pub record IsStart (p : PositionParts) : Type 0 where
   pub well : IsWellFormed p
   pub on_board : (s : ℕ) → 64 ≤ s → man_at p.placement s ≡ None
   pub clock : p.clock ≤ 99999
@@ -106,7 +106,7 @@ not_false : (v : Bool) (x : Unit {0}) → demand (not v) InCheck ≡ Ok x → v 
 not_false true x e = absurd cc
 not_false false x e = refl
 
-state_is : (x y : State) → ◌≡◌ {A = Result State FenFault} (Ok x) (Ok y) → x ≡ y
+state_is : (x y : PositionParts) → ◌≡◌ {A = Result PositionParts FenFault} (Ok x) (Ok y) → x ≡ y
 state_is x y h = cc
 
 one_at_least : (n : ℕ) → 1 ≤ max n 1
@@ -115,8 +115,8 @@ one_at_least n = omega arith
 still_small : (n : ℕ) → n ≤ 99999 → max n 1 ≤ 99999
 still_small n small = omega (arith, small)
 
-read_start : (text : List ℕ) (p : State) → reading text ≡ Ok p → IsStart p
-unfolding reading
+read_start : (text : List ℕ) (p : PositionParts) → fen_reading text ≡ Ok p → IsStart p
+unfolding fen_reading
 read_start text p e =
     let a = bound (fields_in text) _ p e in
     let fields : FieldTexts = a.0 in
@@ -139,16 +139,16 @@ usual_start : IsStart start
 unfolding start
 usual_start = record { well = record { setup = start_setup; quiet = start_quiet }; on_board = start_on_board; clock = omega arith; number = omega arith }
 
-by_reading : (r : Result State FenFault) (p : State) → position_in r ≡ Some p → r ≡ Ok p
-by_reading (Ok q) p e = ap (λ (x : State). Ok x) (some_is q p e)
+by_reading : (r : Result PositionParts FenFault) (p : PositionParts) → position_in r ≡ Some p → r ≡ Ok p
+by_reading (Ok q) p e = ap (λ (x : PositionParts). Ok x) (some_is q p e)
   where
-    some_is : (x y : State) → Some x ≡ Some y → x ≡ y
+    some_is : (x y : PositionParts) → Some x ≡ Some y → x ≡ y
     some_is x y h = cc
 by_reading (Err fault) p e = absurd cc
 
-pub told_start : (fen : Option (List ℕ)) (p : State) → start_by fen ≡ Some p → IsStart p
+pub told_start : (fen : Option (List ℕ)) (p : PositionParts) → start_by fen ≡ Some p → IsStart p
 told_start None p e = subst IsStart (some_is start p e) usual_start
   where
-    some_is : (x y : State) → Some x ≡ Some y → x ≡ y
+    some_is : (x y : PositionParts) → Some x ≡ Some y → x ≡ y
     some_is x y h = cc
-told_start (Some fen) p e = read_start fen p (by_reading (reading fen) p e)
+told_start (Some fen) p e = read_start fen p (by_reading (fen_reading fen) p e)

@@ -4,11 +4,11 @@ use Rattle.std.specs.Prelude.{Result, Ok, Err, OnOk, MatchResult, if◌then◌el
 use Rattle.std.proofs.lemmas.List.{append-nil, length-append, take_at, drop_at, length-reverse, reverse-append, reverse-reverse}
 use mathlib.Core.Logic.{inl, inr}
 use Rattle.chess_types.specs.board.MoveParts.{MoveParts}
-use Rattle.chess_types.specs.board.Position.{State}
+use Rattle.chess_types.specs.board.Position.{PositionParts}
 use Rattle.chess_types.specs.board.After.{after}
 use Rattle.chess_types.specs.board.Lines.{extended, last}
 use Rattle.chess_types.proofs.PlayLaws.{last_extended}
-use Rattle.chess_san.specs.Naming.{reading}
+use Rattle.chess_san.specs.Naming.{san_reading}
 use Rattle.chess_tree.specs.Comments.{normalised}
 use Rattle.chess_tree.specs.Forest.{Forest, Bare, count, below_at, below_child}
 use Rattle.chess_tree.specs.GameTree.{TreeParts, added, annotated_here, at_path, line_to}
@@ -33,13 +33,13 @@ Next e t lines played comments from s =
 
 -- ---- what stays
 
-position_kept : (start : State) (p q : List ℕ) (r : Part) (f : Forest) → Leads q f → position_at start (hang p r f) q ≡ position_at start f q
+position_kept : (start : PositionParts) (p q : List ℕ) (r : Part) (f : Forest) → Leads q f → position_at start (hang p r f) q ≡ position_at start f q
 position_kept start p q r f at = ap (λ (ms : List MoveParts). last (record { start = start; moves = ms })) (moves_kept p q r f at)
 
 leads_front : (q : List ℕ) (i : ℕ) (f : Forest) → Leads (q ++ i ∷ []) f → Leads q f
 leads_front = at-front
 
-pub frames_kept : (start : State) (p : List ℕ) (r : Part) (f : Forest) (st : List Frame) → AreFrames start f st → AreFrames start (hang p r f) st
+pub frames_kept : (start : PositionParts) (p : List ℕ) (r : Part) (f : Forest) (st : List Frame) → AreFrames start f st → AreFrames start (hang p r f) st
 frames_kept start p r f [] all = tt
 frames_kept start p r f (x ∷ xs) all = (
   record {
@@ -105,7 +105,7 @@ no_lines texts lines h = by (reverse lines) refl h
     by [] e h = sym (reverse-reverse lines) ∙ ap reverse e
     by (i ∷ is) e h = absurd h
 
-abbrev pub state : State → List ℕ → Forest → List ℕ → Last → State → List ℕ → List Frame → Reading
+abbrev pub state : PositionParts → List ℕ → Forest → List ℕ → Last → PositionParts → List ℕ → List Frame → Reading
 state start c f up last_move here lead st = record { start = start; comment = c; forest = f; up = up; last_move = last_move; here = here; lead = lead; interrupted = st }
 
 -- a path that ends with a place isn't empty
@@ -119,7 +119,7 @@ annotated_path : (up : List ℕ) (i n : ℕ) (f : Forest) → change_node (annot
 annotated_path [] i n f = annotated_is i [] n f
 annotated_path (j ∷ up) i n f = annotated_is j (up ++ i ∷ []) n f
 
-pub nag_goes : (t t' : TreeParts) (lines : List Interrupted) (played : Bool) (comments : List ℕ) (from n : ℕ) (start : State) (c : List ℕ) (f : Forest) (up : List ℕ) (l : Last) (here : State) (lead : List ℕ) (st : List Frame)
+pub nag_goes : (t t' : TreeParts) (lines : List Interrupted) (played : Bool) (comments : List ℕ) (from n : ℕ) (start : PositionParts) (c : List ℕ) (f : Forest) (up : List ℕ) (l : Last) (here : PositionParts) (lead : List ℕ) (st : List Frame)
     → played ≡ true → t' ≡ annotated_here n t → HoldsReading t lines played comments from (state start c f up l here lead st) → Next (Annotation n) t' lines played comments from (state start c f up l here lead st)
 nag_goes t t' lines played comments from n start c f up None here lead st some e h = absurd (let k : true ≡ false = sym some ∙ h.played in cc)
 nag_goes t t' lines played comments from n start c f up (Some x) here lead st some e h =
@@ -148,18 +148,18 @@ nag_goes t t' lines played comments from n start c f up (Some x) here lead st so
       record { start = refl; given = λ es. refl; few = λ es. refl },
     )
 
-pub nag_ignored : (t : TreeParts) (lines : List Interrupted) (played : Bool) (comments : List ℕ) (from n : ℕ) (start : State) (c : List ℕ) (f : Forest) (up : List ℕ) (l : Last) (here : State) (lead : List ℕ) (st : List Frame)
+pub nag_ignored : (t : TreeParts) (lines : List Interrupted) (played : Bool) (comments : List ℕ) (from n : ℕ) (start : PositionParts) (c : List ℕ) (f : Forest) (up : List ℕ) (l : Last) (here : PositionParts) (lead : List ℕ) (st : List Frame)
     → played ≡ false → HoldsReading t lines played comments from (state start c f up l here lead st) → Next (Annotation n) t lines played comments from (state start c f up l here lead st)
 nag_ignored t lines played comments from n start c f up None here lead st none h = (state start c f up None here lead st, h, record { start = refl; given = λ es. refl; few = λ es. refl })
 nag_ignored t lines played comments from n start c f up (Some x) here lead st none h = absurd (let k : false ≡ true = sym none ∙ h.played in cc)
 
 -- ---- moves
 
-moved : (p : State) (w : List ℕ) (m : MoveParts) → reading p w ≡ Ok m → move_in p w ≡ Some m
+moved : (p : PositionParts) (w : List ℕ) (m : MoveParts) → san_reading p w ≡ Ok m → move_in p w ≡ Some m
 moved p w m e = ap ok_move e
 
 -- a move after the place to which a path leads
-module _ (t t' : TreeParts) (m : MoveParts) (start : State) (f : Forest) (p : List ℕ) (es : t.tree.start ≡ start) (ef : t.tree.below ≡ f) (ep : t.path ≡ p) (e : t' ≡ added m t) (el : line_to t' ≡ extended (line_to t) m) where
+module _ (t t' : TreeParts) (m : MoveParts) (start : PositionParts) (f : Forest) (p : List ℕ) (es : t.tree.start ≡ start) (ef : t.tree.below ≡ f) (ep : t.path ≡ p) (e : t' ≡ added m t) (el : line_to t' ≡ extended (line_to t) m) where
   added_forest : t'.tree.below ≡ hang p (leaf m) f
   added_forest = ap (λ (z : TreeParts). z.tree.below) e ∙ rw (ep, ef) (added_is p m f)
 
@@ -169,14 +169,14 @@ module _ (t t' : TreeParts) (m : MoveParts) (start : State) (f : Forest) (p : Li
   added_start : t'.tree.start ≡ start
   added_start = ap (λ (z : TreeParts). z.tree.start) e ∙ es
 
-  added_here : (here : State) → here ≡ position_at start f p → after here m ≡ position_at start (hang p (leaf m) f) (p ++ count (below_at p f) ∷ [])
+  added_here : (here : PositionParts) → here ≡ position_at start f p → after here m ≡ position_at start (hang p (leaf m) f) (p ++ count (below_at p f) ∷ [])
   added_here here eh =
       let at_t : position_at start f p ≡ last (line_to t) = rw (es, ef, ep) refl in
       let at_t' : last (line_to t') ≡ position_at start (hang p (leaf m) f) (p ++ count (below_at p f) ∷ []) = rw (added_start, added_forest, added_path) refl in
-      ap (λ (z : State). after z m) (eh ∙ at_t) ∙ sym (last_extended (line_to t) m) ∙ sym (ap last el) ∙ at_t'
+      ap (λ (z : PositionParts). after z m) (eh ∙ at_t) ∙ sym (last_extended (line_to t) m) ∙ sym (ap last el) ∙ at_t'
 
   -- what is held after the move
-  pub move_held : (lines : List Interrupted) (comments : List ℕ) (from : ℕ) (c : List ℕ) (here : State) (lead : List ℕ) (st : List Frame) (outer text : List ℕ)
+  pub move_held : (lines : List Interrupted) (comments : List ℕ) (from : ℕ) (c : List ℕ) (here : PositionParts) (lead : List ℕ) (st : List Frame) (outer text : List ℕ)
       → t.tree.comment ≡ c → here ≡ position_at start f p → Leads p f → Nested p st → AreFrames start f st
       → comments ≡ outer ++ text → from ≡ length outer → IsSpaced text → lead ≡ normalised text → Pends outer st (reverse lines)
       → HoldsReading t' lines true comments from (state start c (hang p (leaf m) f) p (Some (count (below_at p f), here)) (after here m) lead st)
@@ -232,11 +232,11 @@ no_frames texts x xs lines e h = rw e at h
 
 -- a move of a line that has one, or of the game's own line
 pub word_goes : (t t1 t2 : TreeParts) (lines : List Interrupted) (played : Bool) (comments comments' : List ℕ) (from : ℕ) (w : List ℕ) (m : MoveParts)
-    → reading (last (line_to t)) w ≡ Ok m
+    → san_reading (last (line_to t)) w ≡ Ok m
     → t1 ≡ said_here (normalised (drop (min from (length comments)) comments)) t → comments' ≡ take (min from (length comments)) comments
     → t2 ≡ added m t1 → line_to t2 ≡ extended (line_to t1) m
     → (played ≡ true) ⊎ (lines ≡ [])
-    → (start : State) (c : List ℕ) (f : Forest) (up : List ℕ) (l : Last) (here : State) (lead : List ℕ) (st : List Frame)
+    → (start : PositionParts) (c : List ℕ) (f : Forest) (up : List ℕ) (l : Last) (here : PositionParts) (lead : List ℕ) (st : List Frame)
     → HoldsReading t lines played comments from (state start c f up l here lead st) → Next (Text w) t2 lines true comments' from (state start c f up l here lead st)
 word_goes t t1 t2 lines played comments comments' from w m er e1 ec e2 el which start c f up (Some x) here lead st h =
     let p : List ℕ = up ++ x.0 ∷ [] in
@@ -247,7 +247,7 @@ word_goes t t1 t2 lines played comments comments' from w m er e1 ec e2 el which 
     let ef : t1.tree.below ≡ g = said.2 ∙ ap (hang p (say lead)) h.forest in
     let es : t1.tree.start ≡ start = said.0 ∙ h.start in
     let eh : here ≡ position_at start g p = h.here ∙ sym (position_kept start p p (say lead) f h.there) in
-    let er' : move_in here w ≡ Some m = ap (λ (z : State). move_in z w) (h.here ∙ rw (h.start, h.forest, h.path) refl) ∙ moved (last (line_to t)) w m er in (
+    let er' : move_in here w ≡ Some m = ap (λ (z : PositionParts). move_in z w) (h.here ∙ rw (h.start, h.forest, h.path) refl) ∙ moved (last (line_to t)) w m er in (
       state start c (hang p (leaf m) g) p (Some (count (below_at p g), here)) (after here m) [] st,
       move_held t1 t2 m start g p es ef said.3 e2 el lines comments' from c here [] st h.outer [] (said.1 ∙ h.comment) eh (keeps p p (say lead) f h.there) (nested-more up (x.0 ∷ []) st h.nested)
           (frames_kept start p (say lead) f st h.frames) (ec ∙ cut.1 ∙ sym (append-nil h.outer)) h.from tt (sym normalised_none) h.pends,
@@ -263,7 +263,7 @@ word_goes t t1 t2 lines played comments comments' from w m er e1 ec e2 el which 
     let ef : t1.tree.below ≡ f = said.2 ∙ h.forest in
     let es : t1.tree.start ≡ start = said.0 ∙ h.start in
     let ep : t1.path ≡ up = said.3 ∙ sym root in
-    let er' : move_in here w ≡ Some m = ap (λ (z : State). move_in z w) (h.here ∙ rw (h.start, h.forest, h.path) refl) ∙ moved (last (line_to t)) w m er in (
+    let er' : move_in here w ≡ Some m = ap (λ (z : PositionParts). move_in z w) (h.here ∙ rw (h.start, h.forest, h.path) refl) ∙ moved (last (line_to t)) w m er in (
       state start (comments_joined c lead) (hang up (leaf m) f) up (Some (count (below_at up f), here)) (after here m) [] [],
       move_held t1 t2 m start f up es ef ep e2 el lines comments' from (comments_joined c lead) here [] [] h.outer [] (said.1 ∙ ap (λ (z : List ℕ). comments_joined z lead) h.comment) h.here h.there tt tt
           (ec ∙ cut.1 ∙ sym (append-nil h.outer)) h.from tt (sym normalised_none) h.pends,
@@ -272,13 +272,13 @@ word_goes t t1 t2 lines played comments comments' from w m er e1 ec e2 el which 
 
 -- the first move of a variation
 pub first_goes : (t t' : TreeParts) (lines : List Interrupted) (played : Bool) (comments : List ℕ) (from : ℕ) (w : List ℕ) (m : MoveParts)
-    → reading (last (line_to t)) w ≡ Ok m → t' ≡ added m t → line_to t' ≡ extended (line_to t) m → played ≡ false → lines ≢ []
-    → (start : State) (c : List ℕ) (f : Forest) (up : List ℕ) (l : Last) (here : State) (lead : List ℕ) (st : List Frame)
+    → san_reading (last (line_to t)) w ≡ Ok m → t' ≡ added m t → line_to t' ≡ extended (line_to t) m → played ≡ false → lines ≢ []
+    → (start : PositionParts) (c : List ℕ) (f : Forest) (up : List ℕ) (l : Last) (here : PositionParts) (lead : List ℕ) (st : List Frame)
     → HoldsReading t lines played comments from (state start c f up l here lead st) → Next (Text w) t' lines true comments from (state start c f up l here lead st)
 first_goes t t' lines played comments from w m er e el none some start c f up (Some x) here lead st h = absurd (let k : false ≡ true = sym none ∙ h.played in cc)
 first_goes t t' lines played comments from w m er e el none some start c f up None here lead [] h = absurd (some (no_lines h.outer lines h.pends))
 first_goes t t' lines played comments from w m er e el none some start c f up None here lead (y ∷ ys) h =
-    let er' : move_in here w ≡ Some m = ap (λ (z : State). move_in z w) (h.here ∙ rw (h.start, h.forest, h.path) refl) ∙ moved (last (line_to t)) w m er in (
+    let er' : move_in here w ≡ Some m = ap (λ (z : PositionParts). move_in z w) (h.here ∙ rw (h.start, h.forest, h.path) refl) ∙ moved (last (line_to t)) w m er in (
       state start c (hang up (leaf m) f) up (Some (count (below_at up f), here)) (after here m) lead (y ∷ ys),
       move_held t t' m start f up h.start h.forest h.path e el lines comments from c here lead (y ∷ ys) h.outer h.text h.comment h.here h.there h.nested h.frames h.parts h.from h.spaced h.lead h.pends,
       record { start = refl; given = λ es. rw er' refl; few = λ es. refl },
@@ -286,7 +286,7 @@ first_goes t t' lines played comments from w m er e el none some start c f up No
 
 -- a move, whose line has one, or is the game's own, or is a variation without one so far
 pub text_goes : (t t1 t2 : TreeParts) (lines : List Interrupted) (played due : Bool) (comments comments' : List ℕ) (from : ℕ) (w : List ℕ) (m : MoveParts)
-    → reading (last (line_to t)) w ≡ Ok m → due ≡ (played || is_nil lines)
+    → san_reading (last (line_to t)) w ≡ Ok m → due ≡ (played || is_nil lines)
     → t1 ≡ (if due then said_here (normalised (drop (min from (length comments)) comments)) t else t)
     → comments' ≡ (if due then take (min from (length comments)) comments else comments)
     → t2 ≡ added m t1 → line_to t2 ≡ extended (line_to t1) m
@@ -346,7 +346,7 @@ less_one n = omega arith
 pub open_goes : (t t' : TreeParts) (lines lines' : List Interrupted) (played : Bool) (comments : List ℕ) (from from' depth place : ℕ)
     → length lines < 128 → played ≡ true → depth ≡ length t.path - 1 → place ≡ unwrap_or (slice_get t.path depth) 0
     → lines' ≡ lines ++ record { depth = depth; place = place; from = from } ∷ [] → (t.path ≢ [] → t' ≡ at_path (parent t.path) t) → from' ≡ length comments
-    → (start : State) (c : List ℕ) (f : Forest) (up : List ℕ) (l : Last) (here : State) (lead : List ℕ) (st : List Frame)
+    → (start : PositionParts) (c : List ℕ) (f : Forest) (up : List ℕ) (l : Last) (here : PositionParts) (lead : List ℕ) (st : List Frame)
     → HoldsReading t lines played comments from (state start c f up l here lead st) → Next Open t' lines' false comments from' (state start c f up l here lead st)
 open_goes t t' lines lines' played comments from from' depth place few some ed epl el back ef start c f up None here lead st h = absurd (let k : true ≡ false = sym some ∙ h.played in cc)
 open_goes t t' lines lines' played comments from from' depth place few some ed epl el back ef start c f up (Some x) here lead st h =
@@ -409,7 +409,7 @@ pub close_goes : (t t1 t2 : TreeParts) (lines rest : List Interrupted) (line : I
     → comments' ≡ (if played then take (min from (length comments)) comments else comments)
     → (line.place < count (below_at (take line.depth t1.path) t1.tree.below) → t2 ≡ at_path (take line.depth t1.path ++ line.place ∷ []) t1)
     → from' ≡ line.from
-    → (start : State) (c : List ℕ) (f : Forest) (up : List ℕ) (l : Last) (here : State) (lead : List ℕ) (st : List Frame)
+    → (start : PositionParts) (c : List ℕ) (f : Forest) (up : List ℕ) (l : Last) (here : PositionParts) (lead : List ℕ) (st : List Frame)
     → HoldsReading t lines played comments from (state start c f up l here lead st) → Next Close t2 rest true comments' from' (state start c f up l here lead st)
 close_goes t t1 t2 lines rest line played comments comments' from from' el e1 ec e2 ef start c f up l here lead [] h =
     absurd (subst (λ (z : List Interrupted). Pends h.outer [] z) (ap reverse el ∙ reverse-append rest (line ∷ [])) h.pends)
@@ -479,7 +479,7 @@ close_goes t t1 t2 lines rest line played comments comments' from from' el e1 ec
 
 pub ends_read : (t t1 t2 : TreeParts) (lines : List Interrupted) (played : Bool) (comments : List ℕ) (from : ℕ)
     → t1 ≡ said_here (normalised (drop (min from (length comments)) comments)) t → t2 ≡ at_path [] t1 → lines ≡ []
-    → (start : State) (c : List ℕ) (f : Forest) (up : List ℕ) (l : Last) (here : State) (lead : List ℕ) (st : List Frame)
+    → (start : PositionParts) (c : List ℕ) (f : Forest) (up : List ℕ) (l : Last) (here : PositionParts) (lead : List ℕ) (st : List Frame)
     → HoldsReading t lines played comments from (state start c f up l here lead st)
     → (goes_on [] (state start c f up l here lead st) ≡ Some (t2.tree.comment, t2.tree.below)) × (t2.tree.start ≡ start) × (t2.path ≡ [])
 ends_read t t1 t2 lines played comments from e1 e2 el start c f up l here lead (x ∷ xs) h = absurd (no_frames h.outer x xs lines el h.pends)
@@ -496,16 +496,16 @@ ends_read t t1 t2 lines played comments from e1 e2 el start c f up (Some y) here
 
 -- ---- before any movetext
 
-pub remark_leads : (t : TreeParts) (lines : List Interrupted) (played : Bool) (comments comments' text : List ℕ) (from : ℕ) (start : State) (before : List ℕ)
+pub remark_leads : (t : TreeParts) (lines : List Interrupted) (played : Bool) (comments comments' text : List ℕ) (from : ℕ) (start : PositionParts) (before : List ℕ)
     → comments' ≡ comments ++ 32 ∷ text → HoldsReading t lines played comments from (fresh start before) → HoldsReading t lines played comments' from (fresh start (comments_joined before (normalised text)))
 remark_leads t lines played comments comments' text from start before e h = remark_held t lines played comments comments' text from (fresh start before) e h
 
-starts_there : (start : State) → start ≡ position_at start Bare []
+starts_there : (start : PositionParts) → start ≡ position_at start Bare []
 unfolding last
 starts_there start = refl
 
 -- a tree without moves, and the comments before them
-fresh_held : (t : TreeParts) (lines : List Interrupted) (played : Bool) (comments outer text : List ℕ) (from : ℕ) (start : State) (before : List ℕ)
+fresh_held : (t : TreeParts) (lines : List Interrupted) (played : Bool) (comments outer text : List ℕ) (from : ℕ) (start : PositionParts) (before : List ℕ)
     → t ≡ record { tree = record { start = start; comment = []; below = Bare }; path = [] } → played ≡ false → comments ≡ outer ++ text → from ≡ length outer → IsSpaced text → before ≡ normalised text
     → Pends outer [] (reverse lines) → HoldsReading t lines played comments from (fresh start before)
 fresh_held t lines played comments outer text from start before e none parts behind spaced lead pends = record {
@@ -529,12 +529,12 @@ fresh_held t lines played comments outer text from start before e none parts beh
   pends = pends;
 }
 
-pub begins_in : (t t' : TreeParts) (lines : List Interrupted) (played : Bool) (comments : List ℕ) (from : ℕ) (first start : State) (before : List ℕ)
+pub begins_in : (t t' : TreeParts) (lines : List Interrupted) (played : Bool) (comments : List ℕ) (from : ℕ) (first start : PositionParts) (before : List ℕ)
     → t' ≡ record { tree = record { start = start; comment = []; below = Bare }; path = [] } → HoldsReading t lines played comments from (fresh first before) → HoldsReading t' lines played comments from (fresh start before)
 begins_in t t' lines played comments from first start before e h =
     fresh_held t' lines played comments h.outer h.text from start before e h.played h.parts h.from h.spaced h.lead h.pends
 
-pub starts : (t : TreeParts) (lines : List Interrupted) (comments : List ℕ) (start : State)
+pub starts : (t : TreeParts) (lines : List Interrupted) (comments : List ℕ) (start : PositionParts)
     → t ≡ record { tree = record { start = start; comment = []; below = Bare }; path = [] } → lines ≡ [] → comments ≡ [] → HoldsReading t lines false comments 0 (fresh start [])
 starts t lines comments start e el ec =
     fresh_held t lines false comments [] [] 0 start [] e refl ec refl tt (sym normalised_none) (subst (λ (z : List Interrupted). Pends [] [] z) (sym (ap reverse el)) tt)

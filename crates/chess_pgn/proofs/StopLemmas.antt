@@ -2,8 +2,8 @@
 use Rattle.std.proofs.Common.{◌≡◌, ◌⊎◌, ℕ, ◌+◌, ◌-◌, Bool, false, List, [], ◌∷◌, ◌++◌, length, Option, Some, None, Ok, Err, refl, sym, ap, subst, ◌∙◌, arith, append_assoc, append-nil, length-append}
 use Rattle.std.specs.Prelude.{Result}
 use mathlib.Core.Logic.{inl, inr}
-use Rattle.chess_types.specs.bytes.Calls.{Calls, joined}
-use Rattle.chess_types.proofs.CallLemmas.{Calls-append, joined-append}
+use Rattle.byte_streams.specs.Calls.{Calls, joined}
+use Rattle.byte_streams.proofs.CallLemmas.{Calls-append, joined-append}
 use Rattle.chess_items.specs.Items as items
 use Rattle.chess_items.specs.Items.{IsItem, Item, Spells, is_outside, place_after}
 use Rattle.chess_items.specs.steps.ItemAt.{item_at}

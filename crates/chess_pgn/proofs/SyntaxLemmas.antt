@@ -4,10 +4,10 @@ use Rattle.std.specs.Prelude.{Ok, is_none}
 use Rattle.chess_types.specs.declared.board.man.Colour.{Colour}
 use Rattle.chess_types.specs.declared.board.man.Colour.TheVariants.{White, Black}
 use Rattle.chess_types.specs.board.MoveParts.{MoveParts}
-use Rattle.chess_types.specs.board.Position.{State}
+use Rattle.chess_types.specs.board.Position.{PositionParts}
 use Rattle.chess_types.specs.board.After.{after}
 use Rattle.chess_tree.specs.Forest.{Forest, Bare, Node, child}
-use Rattle.chess_san.specs.Naming.{reading}
+use Rattle.chess_san.specs.Naming.{san_reading}
 use Rattle.chess_san.specs.Writing.{san}
 use Rattle.chess_pgn.specs.Grammar.{Element, Open, Close, Text, Line, End, Skip, Annotate, Say, Play, Vary, Part, elements_of, comments_joined, meaning, with_move_first, varied}
 use Rattle.chess_pgn.specs.Written.{is_noted}
@@ -30,10 +30,10 @@ abbrev pub remark_line : List ℕ → Line → Line
 remark_line [] l = l
 remark_line (b ∷ c) l = Say (b ∷ c) l
 
-abbrev pub node_line : Bool → State → MoveParts → List ℕ → List ℕ → Line → Line
+abbrev pub node_line : Bool → PositionParts → MoveParts → List ℕ → List ℕ → Line → Line
 node_line due p m nags comment l = skipped due p.side (Play (san p m) (annotations_line nags (remark_line comment l)))
 
-abbrev pub line_of : Bool → Bool → State → Forest → Line → Line
+abbrev pub line_of : Bool → Bool → PositionParts → Forest → Line → Line
 line_of as_variations due p Bare rest = rest
 line_of false due p (Node m nags comment below next) rest =
     node_line due p m nags comment (line_of true true p next (line_of false (is_noted nags comment || not (is_none (child 0 next))) (after p m) below rest))
@@ -53,7 +53,7 @@ pub remark_elements : (c : List ℕ) (l : Line) → elements_of (remark_line c l
 remark_elements [] l = refl
 remark_elements (b ∷ c) l = refl
 
-node_line_elements : (due : Bool) (p : State) (m : MoveParts) (nags comment : List ℕ) (l : Line) → elements_of (node_line due p m nags comment l) ≡ node_elements due p m nags comment ++ elements_of l
+node_line_elements : (due : Bool) (p : PositionParts) (m : MoveParts) (nags comment : List ℕ) (l : Line) → elements_of (node_line due p m nags comment l) ≡ node_elements due p m nags comment ++ elements_of l
 node_line_elements due p m nags comment l =
     skipped_elements due p.side (Play (san p m) (annotations_line nags (remark_line comment l)))
     ∙ rw (annotations_elements nags (remark_line comment l), remark_elements comment l) (shift (numbers_of due p.side) (annotations_of nags) (remark_of comment) (elements_of l))
@@ -61,7 +61,7 @@ node_line_elements due p m nags comment l =
     shift : (a b c d : List Element) → a ++ (Text (san p m) ∷ (b ++ (c ++ d))) ≡ (a ++ (Text (san p m) ∷ (b ++ c))) ++ d
     shift a b c d = rw (append_assoc a (Text (san p m) ∷ (b ++ c)) d, append_assoc b c d) refl
 
-pub line_elements : (as_variations due : Bool) (p : State) (f : Forest) (rest : Line) → elements_of (line_of as_variations due p f rest) ≡ forest_elements as_variations due p f ++ elements_of rest
+pub line_elements : (as_variations due : Bool) (p : PositionParts) (f : Forest) (rest : Line) → elements_of (line_of as_variations due p f rest) ≡ forest_elements as_variations due p f ++ elements_of rest
 line_elements as_variations due p Bare rest = refl
 line_elements false due p (Node m nags comment b next) rest =
     let d : Bool = is_noted nags comment || not (is_none (child 0 next)) in
@@ -87,40 +87,40 @@ some r = Some r
 abbrev annotated_part : List ℕ → Part
 annotated_part nags = record { nags = nags; comment = []; beside = Bare; below = Bare }
 
-skipped_mean : (due : Bool) (side : Colour) (l : Line) (before : Option State) (here : State) → meaning (skipped due side l) before here ≡ meaning l before here
+skipped_mean : (due : Bool) (side : Colour) (l : Line) (before : Option PositionParts) (here : PositionParts) → meaning (skipped due side l) before here ≡ meaning l before here
 skipped_mean due White l before here = refl
 skipped_mean true Black l before here = refl
 skipped_mean false Black l before here = refl
 
-annotations_mean : (nags : List ℕ) (l : Line) (before : Option State) (here : State) (r : Part) → meaning l before here ≡ Some r → meaning (annotations_line nags l) before here ≡ Some (plus (annotated_part nags) r)
+annotations_mean : (nags : List ℕ) (l : Line) (before : Option PositionParts) (here : PositionParts) (r : Part) → meaning l before here ≡ Some r → meaning (annotations_line nags l) before here ≡ Some (plus (annotated_part nags) r)
 annotations_mean [] l before here r e = e
 annotations_mean (n ∷ nags) l before here r e = rw (annotations_mean nags l before here r e) refl
 
-pub remark_means : (c : List ℕ) (l : Line) (before : Option State) (here : State) (r : Part) → meaning l before here ≡ Some r → meaning (remark_line c l) before here ≡ Some (plus (say c) r)
+pub remark_means : (c : List ℕ) (l : Line) (before : Option PositionParts) (here : PositionParts) (r : Part) → meaning l before here ≡ Some r → meaning (remark_line c l) before here ≡ Some (plus (say c) r)
 remark_means [] l before here r e = e
 remark_means (b ∷ c) l before here r e = rw e refl
 
 -- each move's text reads as the move
-abbrev pub AreNamed : State → Forest → Type 0
+abbrev pub AreNamed : PositionParts → Forest → Type 0
 AreNamed p Bare = Unit {0}
-AreNamed p (Node m nags comment below next) = (reading p (san p m) ≡ Ok m) × AreNamed (after p m) below × AreNamed p next
+AreNamed p (Node m nags comment below next) = (san_reading p (san p m) ≡ Ok m) × AreNamed (after p m) below × AreNamed p next
 
-node_means : (due : Bool) (p : State) (m : MoveParts) (nags comment : List ℕ) (l : Line) (before : Option State) (r : Part) → reading p (san p m) ≡ Ok m → meaning l (Some p) (after p m) ≡ Some r
+node_means : (due : Bool) (p : PositionParts) (m : MoveParts) (nags comment : List ℕ) (l : Line) (before : Option PositionParts) (r : Part) → san_reading p (san p m) ≡ Ok m → meaning l (Some p) (after p m) ≡ Some r
     → meaning (node_line due p m nags comment l) before p ≡ Some (with_move_first m (plus (annotated_part nags) (plus (say comment) r)))
 node_means due p m nags comment l before r named e =
     skipped_mean due p.side (Play (san p m) (annotations_line nags (remark_line comment l))) before p
     ∙ rw (named, annotations_mean nags (remark_line comment l) (Some p) (after p m) (plus (say comment) r) (remark_means comment l (Some p) (after p m) r e)) refl
 
 -- as a line, and as variations before a line
-abbrev Means : Forest → State → Type 0
+abbrev Means : Forest → PositionParts → Type 0
 Means f p =
-    ((due : Bool) (before : Option State) → meaning (line_of false due p f End) before p ≡ Some (below f))
-    × ((due : Bool) (rest : Line) (here : State) (r : Part) → meaning rest (Some p) here ≡ Some r → meaning (line_of true due p f rest) (Some p) here ≡ Some (plus (beside f) r))
+    ((due : Bool) (before : Option PositionParts) → meaning (line_of false due p f End) before p ≡ Some (below f))
+    × ((due : Bool) (rest : Line) (here : PositionParts) (r : Part) → meaning rest (Some p) here ≡ Some r → meaning (line_of true due p f rest) (Some p) here ≡ Some (plus (beside f) r))
 
-both : (f : Forest) (p : State) → AreNamed p f → Means f p
+both : (f : Forest) (p : PositionParts) → AreNamed p f → Means f p
 both Bare p named = (λ due before. refl, λ due rest here r e. e)
 both (Node m nags comment b next) p named =
-    let q : State = after p m in
+    let q : PositionParts = after p m in
     let under = both b q named.1 in
     let others = both next p named.2 in
     let d : Bool = is_noted nags comment || not (is_none (child 0 next)) in (
@@ -138,5 +138,5 @@ both (Node m nags comment b next) p named =
     half : (r : Part) → some (varied (Node m (nags ++ []) (comments_joined comment []) b Bare) [] (plus (beside next) r)) ≡ some (plus (beside (Node m nags comment b next)) r)
     half r = rw (append-nil nags, joined-nil comment) refl
 
-pub line_means : (f : Forest) (p : State) → AreNamed p f → (due : Bool) → meaning (line_of false due p f End) None p ≡ Some (below f)
+pub line_means : (f : Forest) (p : PositionParts) → AreNamed p f → (due : Bool) → meaning (line_of false due p f End) None p ≡ Some (below f)
 line_means f p named due = (both f p named).0 due None

@@ -3,7 +3,7 @@ use Rattle.std.proofs.Common.{◌≡◌, ◌≤◌, ℕ, Bool, true, false, not,
 use Rattle.std.specs.Prelude.{Result, Ok, Err, OnOk, MatchOption, is_none}
 use Rattle.std.proofs.lemmas.List.{reverse-append}
 use Rattle.chess_types.specs.board.MoveParts.{MoveParts}
-use Rattle.chess_types.specs.board.Position.{State}
+use Rattle.chess_types.specs.board.Position.{PositionParts}
 use Rattle.chess_types.specs.board.After.{after}
 use Rattle.chess_types.specs.board.Legal.{is_legal}
 use Rattle.chess_types.specs.board.Lines.{Line, extended, last}
@@ -85,7 +85,7 @@ first_node {f} {rest} {below} {n = n} {m = m} {nags = nags} {comment = comment} 
         let km : m ≡ k = some_move m k (h ∙ ap (λ (x : NodeParts). x.move) s) in
         record { is = parts k m nags a comment c below b next rest (sym km) (sym (e1 ∙ ap (λ (x : NodeParts). x.nags) s)) (sym (e2 ∙ ap (λ (x : NodeParts). x.comment) s)) (sym (e3 ∙ ap (λ (x : NodeParts). x.below) s)) (sym r) }
 
-pub first_legal : (p : State) (f : Forest) (m : MoveParts) (nags comment : List ℕ) (below rest : Forest) → First f m nags comment below rest → AreSound p f → is_legal p m ≡ true
+pub first_legal : (p : PositionParts) (f : Forest) (m : MoveParts) (nags comment : List ℕ) (below rest : Forest) → First f m nags comment below rest → AreSound p f → is_legal p m ≡ true
 first_legal p f m nags comment below rest first are =
     let a : AreSound p (Node m nags comment below rest) = subst (λ (x : Forest). AreSound p x) first.is are in
     a.0
@@ -107,7 +107,7 @@ step_below lines line ts m nodes due are adds =
       more = [];
       adds = adds;
       text = rw (here, back) refl;
-      tasks = (subst (λ (x : State). AreSound x nodes) (sym here) are.1, omega (arith, are.2, length-append line.moves (m ∷ [])), subst (λ (x : Line). AreTasks x ts) (sym back) are.3);
+      tasks = (subst (λ (x : PositionParts). AreSound x nodes) (sym here) are.1, omega (arith, are.2, length-append line.moves (m ∷ [])), subst (λ (x : Line). AreTasks x ts) (sym back) are.3);
       smaller = omega arith;
     }
 
@@ -120,7 +120,7 @@ step_last lines line m nodes due are adds =
       more = [];
       adds = adds;
       text = rw here refl;
-      tasks = (subst (λ (x : State). AreSound x nodes) (sym here) are.1, omega (arith, are.2, length-append line.moves (m ∷ [])), tt);
+      tasks = (subst (λ (x : PositionParts). AreSound x nodes) (sym here) are.1, omega (arith, are.2, length-append line.moves (m ∷ [])), tt);
       smaller = omega arith;
     }
 
@@ -206,7 +206,7 @@ module _ {A : Type 0} {old new : Lines A} {line : Line} {f : Forest} {m : MovePa
         text = ap (λ (x : Forest). moves_text true true p x ++ tasks_text line ts) first.is
             ∙ four (node_text (codes " (") true p m nags comment) (moves_text false (is_noted nags comment) (after p m) below) (codes ")") (moves_text true true p rest) (tasks_text line ts)
             ∙ rw (e, here, back) refl;
-        tasks = (subst (λ (x : State). AreSound x below) (sym here) a.0.2, omega (arith, a.1, length-append line.moves (m ∷ [])), subst (λ (x : Line). AreTasks x (Close ∷ Variations rest ∷ ts)) (sym back) b);
+        tasks = (subst (λ (x : PositionParts). AreSound x below) (sym here) a.0.2, omega (arith, a.1, length-append line.moves (m ∷ [])), subst (λ (x : Line). AreTasks x (Close ∷ Variations rest ∷ ts)) (sym back) b);
         smaller = rw first.is (omega arith);
       }
 
@@ -253,7 +253,7 @@ done_all old new line line' ts ts' d e = adds_same old new d.more (tasks_text li
 
 -- ---- where a game begins
 
-module _ (line : Line) (p start : State) (f below : Forest) (ts : List Todo) (e : line ≡ record { start = p; moves = [] }) (h : p ≡ start) (k : f ≡ below) (t : ts ≡ Moves f true ∷ []) where
+module _ (line : Line) (p start : PositionParts) (f below : Forest) (ts : List Todo) (e : line ≡ record { start = p; moves = [] }) (h : p ≡ start) (k : f ≡ below) (t : ts ≡ Moves f true ∷ []) where
   first_last : last line ≡ start
   unfolding last
   first_last = ap last e ∙ h

@@ -4,8 +4,8 @@ use Rattle.std.specs.Prelude.{codes, decimal}
 use Rattle.std.specs.Fmt.{digits}
 use Rattle.std.specs.List.{join_with_byte}
 use Rattle.std.specs.Str.{byte}
-use Rattle.chess_types.specs.board.Board.{Look}
-use Rattle.chess_types.specs.board.Position.{State, look, start, start_cells}
+use Rattle.chess_types.specs.board.Board.{Men}
+use Rattle.chess_types.specs.board.Position.{PositionParts, man_on, start, start_cells}
 use Rattle.chess_types.specs.declared.board.man.Colour.TheVariants.{White}
 use Rattle.chess_types.proofs.CellLemmas.{get-board_of}
 use Rattle.chess_tree.specs.Forest.{Forest, Bare, Node, count}
@@ -13,17 +13,17 @@ use Rattle.chess_fen.specs.Writing.{placement_text, rank_text, rights_text, side
 use Rattle.chess_pgn.specs.Written.{moves_text}
 
 -- what stands on the squares, as a list gives it
-start_look : Look
+start_look : Men
 start_look s = get_or start_cells s None
 
-start_look-is : look start ≡ start_look
+start_look-is : man_on start ≡ start_look
 unfolding start start_look
 start_look-is i s = get-board_of start_cells s i
 
-start_text : Look → List ℕ
+start_text : Men → List ℕ
 start_text l = join_with_byte (byte " ") (placement_text l ∷ side_text White ∷ rights_text start.rights ∷ target_text None ∷ decimal 0 ∷ decimal 1 ∷ [])
 
-written_start : written start ≡ start_text (look start)
+written_start : written start ≡ start_text (man_on start)
 unfolding written start start_text
 written_start = refl
 
@@ -34,6 +34,6 @@ computed = refl
 pub start_written : written start ≡ codes "rnbqkbnr/pppppppp/8/8/8/8/PPPPPPPP/RNBQKBNR w KQkq - 0 1"
 start_written = written_start ∙ ap start_text start_look-is ∙ computed
 
-pub no_moves : (p : State) (f : Forest) → count f ≡ 0 → moves_text false true p f ≡ []
+pub no_moves : (p : PositionParts) (f : Forest) → count f ≡ 0 → moves_text false true p f ≡ []
 no_moves p Bare e = refl
 no_moves p (Node m nags comment below next) e = absurd (omega (arith, e))

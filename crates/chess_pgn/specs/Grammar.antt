@@ -11,12 +11,12 @@
 use Rattle.std.specs.Prelude.{◌≡◌, ℕ, suc, ◌-◌, nat_lt, ◌&&◌, Bool, true, List, [], ◌∷◌, ◌++◌, Option, Some, None, Result, Ok, Err}
 use Rattle.std.specs.List.{flat_map}
 use Rattle.chess_types.specs.board.MoveParts.{MoveParts}
-use Rattle.chess_types.specs.board.Position.{State}
+use Rattle.chess_types.specs.board.Position.{PositionParts}
 use Rattle.chess_types.specs.board.After.{after}
 use Rattle.chess_items.specs.Items as items
 use Rattle.chess_items.specs.Items.{Item}
 use Rattle.chess_san.specs.declared.fault.SanFault.{SanFault}
-use Rattle.chess_san.specs.Naming.{reading}
+use Rattle.chess_san.specs.Naming.{san_reading}
 use Rattle.chess_tree.specs.Forest.{Forest, Bare, Node, append}
 use Rattle.chess_tree.specs.Comments.{normalised}
 
@@ -126,11 +126,11 @@ ok_move (Ok m) = Some m
 ok_move (Err fault) = None
 
 -- the move that a text names (PGN 8.2.3)
-abbrev pub move_in : State → List ℕ → Option MoveParts
-move_in p word = ok_move (reading p word)
+abbrev pub move_in : PositionParts → List ℕ → Option MoveParts
+move_in p word = ok_move (san_reading p word)
 
 -- There is no position before the last move where the line has none so far; no variation may stand there.
-abbrev pub meaning : Line → Option State → State → Option Part
+abbrev pub meaning : Line → Option PositionParts → PositionParts → Option Part
 meaning End before here = Some nothing
 meaning (Skip line) before here = meaning line before here
 meaning (Annotate n line) before here = meaning line before here >>= λ r. Some (with_annotation n r)
@@ -143,7 +143,7 @@ meaning (Vary variation line) (Some p) here =
 
 -- The game's own line, in the position in which it begins and after the comments before its movetext, gives the comment before the first move
 -- and the moves.
-pub record Derives (es : List Element) (start : State) (before comment : List ℕ) (moves : Forest) : Type 0 where
+pub record Derives (es : List Element) (start : PositionParts) (before comment : List ℕ) (moves : Forest) : Type 0 where
   pub line : Line
   pub spelled : es ≡ elements_of line
   pub part : Part

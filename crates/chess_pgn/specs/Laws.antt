@@ -10,7 +10,7 @@
 use Rattle.std.specs.Prelude.{◌≡◌, ◌≢◌, ℕ, ◌<◌, ◌≤◌, ◌+◌, max, Bool, true, false, List, [], ◌++◌, length, None, ⊤}
 use Rattle.std.specs.List.{AllByRecursion}
 use Rattle.chess_types.specs.board.Board.{man_at}
-use Rattle.chess_types.specs.board.Position.{IsWellFormed, State}
+use Rattle.chess_types.specs.board.Position.{IsWellFormed, PositionParts}
 use Rattle.chess_items.specs.Items.{Each, in_line, is_blank, is_name_byte}
 use Rattle.chess_tree.specs.Comments.{IsComment}
 use Rattle.chess_tree.specs.Forest.{Forest, Bare, Node, height, moves_held}
@@ -72,7 +72,7 @@ WrittenIsRead =
 -- A game of which nothing is known yet, not even a move, is one.
 abbrev pub NewIsGame : Type 0
 NewIsGame =
-    (p : State) → IsWellFormed p → ((s : ℕ) → 64 ≤ s → man_at p.placement s ≡ None) → p.clock ≤ 99999 → p.number ≤ 99999
+    (p : PositionParts) → IsWellFormed p → ((s : ℕ) → 64 ≤ s → man_at p.placement s ≡ None) → p.clock ≤ 99999 → p.number ≤ 99999
     → IsGame (untold (record { start = p; comment = []; below = Bare }))
 
 -- What is read is a game, and no more variations are open at once than may be: so it is read again where it is written, unless its text is too

@@ -3,7 +3,7 @@
 --   in_lines  the words of a text, separated by spaces, in such lines; a longer word stands alone
 use Rattle.std.specs.Prelude.{ℕ, ◌+◌, nat_le, if◌then◌else◌, List, [], ◌∷◌, ◌++◌, length, codes}
 use Rattle.std.specs.Str.{byte}
-use Rattle.chess_types.specs.bytes.Words.{words}
+use Rattle.byte_streams.specs.Words.{words}
 
 abbrev pub lay : ℕ → List (List ℕ) → List ℕ
 lay column [] = []

@@ -10,9 +10,9 @@ use Rattle.std.specs.Cmp.Lexicographic.{slice_cmp}
 use Rattle.std.specs.List.{AllByRecursion}
 use Rattle.std.specs.List.Sorted.{IsStrictlySortedBy}
 use Rattle.std.specs.Ordering.{nat_cmp}
-use Rattle.chess_types.specs.board.Position.{State, start}
+use Rattle.chess_types.specs.board.Position.{PositionParts, start}
 use Rattle.chess_items.specs.Items.{Item, Blank, Hidden, Comment, TagOpen, TagClose, Name, Quote, Stretch, Escaped, is_white}
-use Rattle.chess_fen.specs.Reading.{reading}
+use Rattle.chess_fen.specs.Reading.{fen_reading}
 use Rattle.chess_fen.specs.declared.fault.FenFault.{FenFault}
 use Rattle.chess_pgn.specs.Games.{Tags, tag_in}
 
@@ -109,14 +109,14 @@ is_usual (Some value) = bytes_eq value (codes "0")
 abbrev pub fen_in : List (List ℕ × List ℕ) → Option (List ℕ)
 fen_in given = if is_usual (tag_in (codes "SetUp") given) then None else tag_in (codes "FEN") given
 
-abbrev pub position_in : Result State FenFault → Option State
+abbrev pub position_in : Result PositionParts FenFault → Option PositionParts
 position_in (Ok p) = Some p
 position_in (Err fault) = None
 
 -- the position that a FEN spells, or else the usual one; none where it spells none
-abbrev pub start_by : Option (List ℕ) → Option State
+abbrev pub start_by : Option (List ℕ) → Option PositionParts
 start_by None = Some start
-start_by (Some fen) = position_in (reading fen)
+start_by (Some fen) = position_in (fen_reading fen)
 
-abbrev pub start_in : List (List ℕ × List ℕ) → Option State
+abbrev pub start_in : List (List ℕ × List ℕ) → Option PositionParts
 start_in given = start_by (fen_in given)

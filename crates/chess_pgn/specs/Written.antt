@@ -14,7 +14,7 @@ use Rattle.std.specs.Str.{byte}
 use Rattle.chess_types.specs.declared.board.man.Colour.{Colour}
 use Rattle.chess_types.specs.declared.board.man.Colour.TheVariants.{White, Black}
 use Rattle.chess_types.specs.board.MoveParts.{MoveParts}
-use Rattle.chess_types.specs.board.Position.{State, start}
+use Rattle.chess_types.specs.board.Position.{PositionParts, start}
 use Rattle.chess_types.specs.board.After.{after}
 use Rattle.chess_items.specs.Items.{is_escapable}
 use Rattle.chess_items.specs.declared.outcome.Outcome.{Outcome}
@@ -69,7 +69,7 @@ behind_text others fen =
     ++ others_text (codes "SetUp") None others)))
 
 -- in the order of PGN 8.1.1, the others after them
-abbrev pub tags_text : Tags → Outcome → State → List ℕ
+abbrev pub tags_text : Tags → Outcome → PositionParts → List ℕ
 tags_text tags outcome p =
     tag_text (codes "Event") tags.event
     ++ (tag_text (codes "Site") tags.site
@@ -98,7 +98,7 @@ comment_text [] = []
 comment_text (b ∷ text) = codes " {" ++ ((b ∷ text) ++ codes "}")
 
 -- after a space, or a space and a parenthesis
-abbrev pub node_text : List ℕ → Bool → State → MoveParts → List ℕ → List ℕ → List ℕ
+abbrev pub node_text : List ℕ → Bool → PositionParts → MoveParts → List ℕ → List ℕ → List ℕ
 node_text opening due p m nags comment = opening ++ (number_text due p.side p.number ++ (san p m ++ (nags_text nags ++ comment_text comment)))
 
 abbrev pub is_some_text : List ℕ → Bool
@@ -110,7 +110,7 @@ is_noted nags comment = is_some_text nags || is_some_text comment
 
 -- Nodes side by side: the main continuation, the others as variations, and what follows the main continuation; or all of them as
 -- variations. A number is due at the beginning, and where something is between two moves.
-abbrev pub moves_text : (as_variations : Bool) → (due : Bool) → State → Forest → List ℕ
+abbrev pub moves_text : (as_variations : Bool) → (due : Bool) → PositionParts → Forest → List ℕ
 moves_text as_variations due p Bare = []
 moves_text false due p (Node m nags comment below next) =
     node_text (codes " ") due p m nags comment

@@ -13,3 +13,5 @@ pub mod HeaderCode
 pub mod Next
 pub mod GameAt
 pub mod Unmoved
+pub mod KnownTexts
+pub mod PlainTexts

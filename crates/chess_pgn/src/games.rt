@@ -16,10 +16,11 @@ ghost use Rattle.chess_pgn.specs.steps.ReaderCode.{Answered, EndsReading, Unansw
 use crate::basis::Basis;
 use crate::game::Game;
 use crate::reader::Reader;
+use crate::texts::Texts;
+use byte_streams::Source;
 use chess_items::{
     AtHand, Fault, FaultKind, PgnFault, Place, Stop, Stopped, Text, Whole, at_place, pass,
 };
-use chess_types::Source;
 use std::alloc::Allocator;
 use std::marker::Model;
 use thiserror::Error;
@@ -76,33 +77,36 @@ fn stopped_game<'a, 'k, A: Allocator>(
     reader: Reader<'a, 'k, A>,
     stopped: Stopped,
     unread: &[u8],
+    texts: &mut Texts<'a, A>,
 ) -> Result<Game<'a, A>, PgnFault>
     ensures game { IfOk result (λ game. Answered stopped.why reader.entry game) }
     ensures refused { IfErr result (λ fault. Unanswered stopped.why reader.entry fault) }
 {
     let mut reader = reader;
     end_reading(&mut reader, stopped, unread)?;
+    *texts = reader.take_texts();
     reader.into_game()
 }
 
-// The game at the start of a text, and how many bytes it took.
+// The game at the start of a text, and how many bytes it took; and what is known of its moves' texts.
 fn take_game<'a, X: Text, A: Allocator>(
     alloc: &'a A,
     basis: &Basis,
     text: &mut X,
+    texts: &mut Texts<'a, A>,
 ) -> Result<Option<(Game<'a, A>, usize)>, GamesFault>
     requires { X.sound text.old }
     ensures sound { IfOk result (λ _. X.sound text.new) }
     ensures game { TakesGame X.comes X.at_hand X.all X.sound X.breaks text.old text.new result }
 {
-    let mut reader = Reader::new(alloc, basis);
+    let mut reader = Reader::new(alloc, basis, texts.are_wanted());
     let stopped = match pass(text, &mut reader, LIMIT) {
         Ok(Some(stopped)) => stopped,
         Ok(None) => return Ok(None),
         Err(Fault::Memory) => return Err(GamesFault::Pgn(at_place(0, FaultKind::Memory))),
         Err(Fault::Read) => return Err(GamesFault::Read),
     };
-    match stopped_game(reader, stopped, text.unread()) {
+    match stopped_game(reader, stopped, text.unread(), texts) {
         Ok(game) => Ok(Some((game, stopped.at))),
         Err(fault) => Err(GamesFault::Pgn(fault)),
     }
@@ -125,7 +129,8 @@ pub fn read_game<'a, A: Allocator>(
     ensures memory { IfErr result (λ fault. fault.kind ≡ Memory → fault.place ≡ 0) }
     ensures only { (game : games.Game) (used : ℕ) → IsAtFront input.now game used → IsAnswered game used result }
 {
-    match take_game(alloc, &Basis::new(), &mut Whole { left: input }) {
+    let mut texts = Texts::unwanted(alloc);
+    match take_game(alloc, &Basis::new(), &mut Whole { left: input }, &mut texts) {
         Ok(game) => Ok(game),
         Err(GamesFault::Pgn(fault)) => Err(placed_after(fault, 0)),
         // Nothing is read of a whole text.
@@ -241,14 +246,14 @@ impl<'a, R: Source, A: Allocator> Games<'a, R, A> {
     }
 
     // The same with the bytes it took, and a fault's place from the game's beginning.
-    fn take(&mut self) -> Result<Option<(Game<'a, A>, usize)>, GamesFault>
+    fn take(&mut self, texts: &mut Texts<'a, A>) -> Result<Option<(Game<'a, A>, usize)>, GamesFault>
         requires sound { IsSound R.ended self.old }
         requires none { self.old.fault ≡ None }
         ensures sound { IfOk result (λ _. self.new.text.has_ended ≡ true → R.ended self.new.text.source) }
         ensures none { self.new.fault ≡ None }
         ensures game { TakesGame (λ s bytes t. Came R.gives R.failed s bytes t) unread (λ s. s.has_ended ≡ true) (λ s. s.has_ended ≡ true → R.ended s.source) (λ s t. Breaks R.gives R.failed s t) self.old.text self.new.text result }
     {
-        take_game(self.alloc, &self.basis, &mut self.text)
+        take_game(self.alloc, &self.basis, &mut self.text, texts)
     }
 
     // Passes over bytes, and forgets the fault where that goes well.
@@ -283,6 +288,36 @@ impl<'a, R: Source, A: Allocator> Games<'a, R, A> {
         placed
     }
 
+    /// The same as `next`, and what is found out on the way of the texts of the game's moves is put into `texts`, so that
+    /// `write_game_with` need not make the moves again.
+    ///
+    /// # Errors
+    ///
+    /// Those of `next`.
+    pub fn next_with(&mut self, texts: &mut Texts<'a, A>) -> Result<Option<Game<'a, A>>, GamesFault>
+        requires { IsSound R.ended self.old }
+        ensures sound { IsSound R.ended self.new }
+        ensures again { (fault : GamesFault) → self.old.fault ≡ Some fault → result ≡ Err fault }
+        ensures untouched { (fault : GamesFault) → self.old.fault ≡ Some fault → self.new ≡ self.old }
+        ensures sticky { IfErr result (λ fault. self.new.fault ≡ Some fault) }
+        ensures good { IfOk result (λ _. self.new.fault ≡ None) }
+        ensures game { IfOk result (λ found. IfSome found (λ game. NextGame R.gives R.failed self.old self.new (game_of game))) }
+        ensures cursor { IfOk result (λ found. IfSome found (λ game. game.tree.path ≡ [])) }
+        ensures none { result ≡ Ok None → HasNone R.gives R.failed self.old.text self.new.text }
+        ensures fault { self.old.fault ≡ None → IfErr result (λ fault. HasFault R.gives R.failed R.ended self.old.text self.new.text fault) }
+        ensures place { self.old.fault ≡ None → IfErr result (λ fault. IsPlaced self.old.text.used fault) }
+    {
+        if let Some(fault) = self.told() {
+            return Err(fault);
+        }
+        let used = self.used();
+        match self.take(texts) {
+            Ok(Some((game, _))) => Ok(Some(game)),
+            Ok(None) => Ok(None),
+            Err(fault) => Err(self.keep(fault, used)),
+        }
+    }
+
     /// The next game; `None` where there are only white space and hidden lines. It is read before the next: the source is asked for more,
     /// at most 65,536 bytes at a time, only where no one game is at the start of the bytes at hand, whatever follows them.
     ///
@@ -304,15 +339,8 @@ impl<'a, R: Source, A: Allocator> Games<'a, R, A> {
         ensures fault { self.old.fault ≡ None → IfErr result (λ fault. HasFault R.gives R.failed R.ended self.old.text self.new.text fault) }
         ensures place { self.old.fault ≡ None → IfErr result (λ fault. IsPlaced self.old.text.used fault) }
     {
-        if let Some(fault) = self.told() {
-            return Err(fault);
-        }
-        let used = self.used();
-        match self.take() {
-            Ok(Some((game, _))) => Ok(Some(game)),
-            Ok(None) => Ok(None),
-            Err(fault) => Err(self.keep(fault, used)),
-        }
+        let mut texts = Texts::unwanted(self.alloc);
+        self.next_with(&mut texts)
     }
 
     /// Passes over bytes, from where reading stopped to the next section of tags, and returns how many: `next` goes on there, as if the input

@@ -8,12 +8,16 @@
 mod basis;
 mod game;
 mod games;
+mod known_moves;
 mod laws;
 mod lines;
 mod movetext;
 mod others;
+mod plain;
 mod reader;
 mod tags;
+mod texts;
+mod usual;
 mod writer;
 
 pub use chess_items::{FaultKind, Outcome, PgnFault};
@@ -21,4 +25,5 @@ pub use game::Game;
 pub use games::{Games, GamesFault, read_game};
 pub use laws::game_laws;
 pub use tags::Tags;
-pub use writer::{write_game, write_tree};
+pub use texts::Texts;
+pub use writer::{write_game, write_game_with, write_tree};

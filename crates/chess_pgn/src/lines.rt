@@ -1,5 +1,5 @@
 ghost use Rattle.std.specs.Prelude.{◌≡◌, ◌<◌, ◌++◌, ◌∷◌, [], List, ℕ, length, codes, ◌≢◌, slice_set, vec_len, ◌+◌, ◌≤◌, IfOk, OnOk};
-ghost use Rattle.chess_types.specs.bytes.Words.{words};
+ghost use Rattle.byte_streams.specs.Words.{words};
 ghost use Rattle.chess_pgn.specs.Layout.{in_lines};
 
 use std::alloc::{AllocError, Allocator};

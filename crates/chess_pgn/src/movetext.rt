@@ -16,7 +16,7 @@ use itoa::Buffer;
 use std::alloc::{AllocError, Allocator};
 
 // The number of a move and its periods, where it is due.
-fn push_number<'a, A: Allocator>(
+pub fn push_number<'a, A: Allocator>(
     lines: &mut Lines<'a, A>,
     due: bool,
     side: Colour,
@@ -34,7 +34,7 @@ fn push_number<'a, A: Allocator>(
 }
 
 // Annotation numbers.
-fn push_nags<'a, A: Allocator>(lines: &mut Lines<'a, A>, nags: &[u8]) -> Result<(), AllocError>
+pub fn push_nags<'a, A: Allocator>(lines: &mut Lines<'a, A>, nags: &[u8]) -> Result<(), AllocError>
     ensures { OnOk result (Adds lines.old lines.new (nags_text nags.now)) }
 {
     for nag in nags {
@@ -45,7 +45,7 @@ fn push_nags<'a, A: Allocator>(lines: &mut Lines<'a, A>, nags: &[u8]) -> Result<
 }
 
 // A comment, unless it is empty.
-fn push_comment<'a, A: Allocator>(
+pub fn push_comment<'a, A: Allocator>(
     lines: &mut Lines<'a, A>,
     comment: &[u8],
 ) -> Result<(), AllocError>
@@ -67,7 +67,7 @@ fn is_noted(notes: &Notes<'_>) -> bool
 }
 
 // Whether something is between a node's move and the next.
-fn is_parted<A: Allocator>(notes: &Notes<'_>, others: &Children<'_, '_, A>) -> bool
+pub fn is_parted<A: Allocator>(notes: &Notes<'_>, others: &Children<'_, '_, A>) -> bool
     ensures { result ≡ (is_noted notes.now.nags.now notes.now.comment.now || not (is_none (child 0 others.now))) }
 {
     is_noted(notes) || !others.is_empty()
@@ -316,7 +316,7 @@ fn push_moves<'a, A: Allocator>(
 }
 
 // The moves of a tree, if it has any.
-fn push_any_moves<'a, A: Allocator>(
+pub fn push_any_moves<'a, A: Allocator>(
     lines: Lines<'a, A>,
     alloc: &'a A,
     tree: &Tree<'a, A>,

@@ -11,6 +11,7 @@ mod moves;
 
 use crate::basis::Basis;
 use crate::game::Game;
+use crate::texts::Texts;
 use chess_items::{FaultKind, Outcome, PgnFault, Taken, Taker, Token, at_place};
 use header::Header;
 use moves::Moves;
@@ -28,15 +29,15 @@ pub struct Reader<'a, 'k, A: Allocator> {
 }
 
 impl<'a, 'k, A: Allocator> Reader<'a, 'k, A> {
-    /// Nothing read. Takes no memory.
+    /// Nothing read, and whether the texts of moves are wanted. Takes no memory.
     #[tactic(auto, unfolding(chess_types::specs::board::Position::start))]
-    pub fn new(alloc: &'a A, basis: &'k Basis) -> Reader<'a, 'k, A>
+    pub fn new(alloc: &'a A, basis: &'k Basis, wanted: bool) -> Reader<'a, 'k, A>
         ensures { IsNew result }
     {
         Reader {
             alloc,
             header: Header::new(alloc),
-            moves: Moves::new(alloc, basis.start(), basis.table()),
+            moves: Moves::new(alloc, basis.start(), basis.table(), wanted),
             outcome: Outcome::Unfinished,
             moving: false,
         }
@@ -134,6 +135,13 @@ impl<'a, 'k, A: Allocator> Reader<'a, 'k, A> {
         } else {
             at_place(at, FaultKind::Token)
         }
+    }
+
+    /// The texts of the moves of the line that was read, as far as they are known. They are forgotten.
+    pub fn take_texts(&mut self) -> Texts<'a, A>
+        ensures { self.new ≡ self.old }
+    {
+        self.moves.take_texts()
     }
 
     /// The game that was read.

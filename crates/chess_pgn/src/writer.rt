@@ -7,14 +7,20 @@ ghost use Rattle.chess_pgn.specs.Written.{behind_text, escaped, game_text, is_be
 ghost use Rattle.chess_pgn.specs.steps.GameCode.{game_of, tags_of};
 
 use crate::game::Game;
+use crate::known_moves::push_movetext_with;
 use crate::lines::Lines;
 use crate::movetext::{outcome_text, push_movetext};
 use crate::others::OtherTags;
 use crate::tags::Tags;
-use chess_items::{Outcome, PgnFault, is, is_escapable};
+use crate::texts::Texts;
+use crate::usual::is_usual;
+use chess_items::{Outcome, PgnFault, is_escapable};
 use chess_tree::Tree;
 use chess_types::Position;
 use std::alloc::{AllocError, Allocator};
+
+/// The bytes for which a text has room before it is written, so that a short game's grows once.
+const ROOM: usize = 1024;
 
 // A byte of a value.
 fn push_byte<'a, A: Allocator>(text: &mut Vec<u8, &'a A>, b: u8) -> Result<(), AllocError>
@@ -105,16 +111,6 @@ fn push_others<'a, A: Allocator>(
     Ok(())
 }
 
-// Whether that is the FEN of the position in which a game begins where no tag says otherwise.
-fn is_usual(fen: &[u8]) -> bool
-    ensures { result ≡ bytes_eq fen.now (written start) }
-{
-    is(
-        fen,
-        b"rnbqkbnr/pppppppp/8/8/8/8/PPPPPPPP/RNBQKBNR w KQkq - 0 1",
-    )
-}
-
 // The other tags, and among them the position in which a game begins, unless it is the usual one.
 fn push_behind<'a, A: Allocator>(
     text: &mut Vec<u8, &'a A>,
@@ -164,9 +160,45 @@ fn write_parts<'a, A: Allocator>(
     ensures memory { IfErr result (λ fault. fault ≡ record { place = 0; kind = Memory }) }
 {
     let mut text = Vec::new(alloc);
+    text.reserve(ROOM)?;
     push_tags(&mut text, tags, outcome, tree.position())?;
     let lines = push_movetext(Lines::new(text)?, alloc, tree, outcome)?;
     Ok(lines.finish()?)
+}
+
+// The same, by the texts of moves that are known.
+fn write_parts_with<'a, A: Allocator>(
+    alloc: &'a A,
+    tags: &Tags<'a, A>,
+    outcome: Outcome,
+    tree: &Tree<'a, A>,
+    texts: &Texts<'a, A>,
+) -> Result<Vec<u8, &'a A>, PgnFault>
+    ensures ok { IfOk result (λ text. text.items ≡ game_text (record { tags = tags_of tags.now; outcome = outcome; tree = tree.now.tree })) }
+    ensures memory { IfErr result (λ fault. fault ≡ record { place = 0; kind = Memory }) }
+{
+    let mut text = Vec::new(alloc);
+    text.reserve(ROOM)?;
+    push_tags(&mut text, tags, outcome, tree.position())?;
+    let lines = push_movetext_with(Lines::new(text)?, alloc, tree, outcome, texts)?;
+    Ok(lines.finish()?)
+}
+
+/// The same as `write_game`, by the texts of moves that `Games::next_with` has found out, whichever they are: where they are those of
+/// the game's moves, these need not be made.
+///
+/// # Errors
+///
+/// `Memory` at place 0, where there is none.
+pub fn write_game_with<'a, A: Allocator>(
+    alloc: &'a A,
+    game: &Game<'a, A>,
+    texts: &Texts<'a, A>,
+) -> Result<Vec<u8, &'a A>, PgnFault>
+    ensures ok { IfOk result (λ text. text.items ≡ game_text (game_of game.now)) }
+    ensures memory { IfErr result (λ fault. fault ≡ record { place = 0; kind = Memory }) }
+{
+    write_parts_with(alloc, &game.tags, game.result, &game.tree, texts)
 }
 
 /// The export form of a game (PGN 3.2): its tags, an empty line, the movetext in lines of at most 79 bytes, and an empty line.

@@ -6,10 +6,10 @@ use Rattle.chess_types.specs.declared.board.man.Colour.TheVariants.{White, Black
 use Rattle.chess_types.specs.declared.board.position.Wing.{Wing}
 use Rattle.chess_types.specs.declared.board.position.Wing.TheVariants.{KingSide, QueenSide}
 use Rattle.chess_types.specs.board.Squares.{rank_of, is_between, squares}
-use Rattle.chess_types.specs.board.Board.{Look}
+use Rattle.chess_types.specs.board.Board.{Men}
 use Rattle.chess_types.specs.board.MoveParts.{MoveParts}
 use Rattle.chess_types.specs.board.Attack.{is_clear}
-use Rattle.chess_types.specs.board.Position.{State, look, king_home, rook_home, holds}
+use Rattle.chess_types.specs.board.Position.{PositionParts, man_on, king_home, rook_home, holds}
 use Rattle.chess_types.specs.board.Pseudo.{crossed, reached, castles_to, castles}
 use Rattle.chess_play.specs.Castling.{is_way_free, may_castle}
 use Rattle.chess_attack.proofs.Clear.{clear_at}
@@ -152,14 +152,14 @@ pub castles_where : (c : Colour) (w : Wing) (m : MoveParts) → castles_to c w m
 castles_where c w m h = let q = and_parts _ _ h in (eqb-true _ _ q.0, eqb-true _ _ q.1)
 
 -- what a move that castles says of the board
-pub record IsCastling (p : State) (w : Wing) (m : MoveParts) : Type 0 where
+pub record IsCastling (p : PositionParts) (w : Wing) (m : MoveParts) : Type 0 where
   pub from : m.from ≡ king_home p.side
   pub to : m.to ≡ reached p.side w
   pub right : holds p.rights p.side w ≡ true
-  pub clear : is_clear (look p) (king_home p.side) (rook_home p.side w) ≡ true
+  pub clear : is_clear (man_on p) (king_home p.side) (rook_home p.side w) ≡ true
 
 -- the tests of castling, read
-pub castling_parts : (p : State) (w : Wing) (m : MoveParts) → castles p w m ≡ true → IsCastling p w m
+pub castling_parts : (p : PositionParts) (w : Wing) (m : MoveParts) → castles p w m ≡ true → IsCastling p w m
 castling_parts p w m h =
     let a = and_parts _ _ h in
     let b = and_parts _ _ a.0 in
@@ -170,14 +170,14 @@ castling_parts p w m h =
     record { from = f.0; to = f.1; right = e.1; clear = d.1 }
 
 -- the square that the king crosses is empty
-pub crossed_free : (p : State) (w : Wing) (m : MoveParts) → IsCastling p w m → look p (crossed p.side w) ≡ None
+pub crossed_free : (p : PositionParts) (w : Wing) (m : MoveParts) → IsCastling p w m → man_on p (crossed p.side w) ≡ None
 crossed_free p w m h =
-    clear_at (look p) (king_home p.side) (rook_home p.side w) (crossed p.side w) h.clear (crossed_inside p.side w) (crossed_between p.side w)
+    clear_at (man_on p) (king_home p.side) (rook_home p.side w) (crossed p.side w) h.clear (crossed_inside p.side w) (crossed_between p.side w)
 
 -- and the one that it reaches
-pub reached_free : (p : State) (w : Wing) (m : MoveParts) → IsCastling p w m → look p (reached p.side w) ≡ None
+pub reached_free : (p : PositionParts) (w : Wing) (m : MoveParts) → IsCastling p w m → man_on p (reached p.side w) ≡ None
 reached_free p w m h =
-    clear_at (look p) (king_home p.side) (rook_home p.side w) (reached p.side w) h.clear (reached_inside p.side w) (reached_between p.side w)
+    clear_at (man_on p) (king_home p.side) (rook_home p.side w) (reached p.side w) h.clear (reached_inside p.side w) (reached_between p.side w)
 
 two : (a b : Bool) → (a && (b && true)) ≡ (a && b)
 two true true = refl
@@ -191,7 +191,7 @@ three true false c = refl
 three false b c = refl
 
 -- the squares between the king's home and the rook's are these
-pub way_is : (men : Look) (c : Colour) (w : Wing) → is_clear men (king_home c) (rook_home c w) ≡ is_way_free men c w
+pub way_is : (men : Men) (c : Colour) (w : Wing) → is_clear men (king_home c) (rook_home c w) ≡ is_way_free men c w
 unfolding is_clear is_between squares
 way_is men White KingSide = two (is_none (men 5)) (is_none (men 6))
 way_is men White QueenSide = three (is_none (men 1)) (is_none (men 2)) (is_none (men 3))
@@ -199,8 +199,8 @@ way_is men Black KingSide = two (is_none (men 61)) (is_none (men 62))
 way_is men Black QueenSide = three (is_none (men 57)) (is_none (men 58)) (is_none (men 59))
 
 -- castling by its squares, and by all else
-pub castles_is : (p : State) (w : Wing) (m : MoveParts) → castles p w m ≡ (castles_to p.side w m && may_castle p w)
-castles_is p w m = rw (way_is (look p) p.side w) (join (castles_to p.side w m) _ _ _ _ _)
+pub castles_is : (p : PositionParts) (w : Wing) (m : MoveParts) → castles p w m ≡ (castles_to p.side w m && may_castle p w)
+castles_is p w m = rw (way_is (man_on p) p.side w) (join (castles_to p.side w m) _ _ _ _ _)
   where
     join : (a b c d e f : Bool) → (((((a && b) && c) && d) && e) && f) ≡ (a && ((((b && c) && d) && e) && f))
     join true b c d e f = refl

@@ -10,8 +10,8 @@ use Rattle.chess_types.specs.declared.board.position.Wing.TheVariants.{KingSide,
 use Rattle.chess_types.specs.board.Board.{Board, man_at}
 use Rattle.chess_types.specs.board.MoveParts.{MoveParts}
 use Rattle.chess_types.specs.board.Men.{men_of, opponent, is_pawn}
-use Rattle.chess_types.specs.board.Position.{State, IsSetup, look}
-use Rattle.chess_types.specs.board.After.{captured_at, arriving, transferred, is_castling, placement_after, rights_after, target_after, clock_after, number_after, after_by, rook_of}
+use Rattle.chess_types.specs.board.Position.{PositionParts, IsSetup, man_on}
+use Rattle.chess_types.specs.board.After.{captured_at, moved_man, moved_board, is_castling, placement_after, rights_after, target_after, clock_after, number_after, after_by, rook_of}
 use Rattle.chess_types.proofs.SameLemmas.{king_no_pawn}
 use Rattle.chess_play.specs.steps.Boards.{CanShift, CanMake, CanTakeBack, carried_back, restored, moved, with_castled_back, without_rook}
 use Rattle.chess_play.proofs.CastlingSquares.{castling_parts, reached_free}
@@ -34,7 +34,7 @@ plain_back : (man : Man) (m : MoveParts) (board : Board) → is_castling man Kin
     with_castled_back man m board ≡ board
 plain_back man m board h k = rw (h, k) refl
 
-module _ (p : State) (man : Man) (m : MoveParts) (setup : IsSetup p) (from : m.from < 64) (to : m.to < 64) (facts : Facts p man m) where
+module _ (p : PositionParts) (man : Man) (m : MoveParts) (setup : IsSetup p) (from : m.from < 64) (to : m.to < 64) (facts : Facts p man m) where
   abbrev at : ℕ
   at = captured_at p.target man m
 
@@ -48,13 +48,13 @@ module _ (p : State) (man : Man) (m : MoveParts) (setup : IsSetup p) (from : m.f
   back = back_by_facts p man m setup from to facts
 
   -- castling captures nothing
-  castling_takes_none : (wing : Wing) → is_castling man wing m ≡ true → look p at ≡ None
+  castling_takes_none : (wing : Wing) → is_castling man wing m ≡ true → man_on p at ≡ None
   castling_takes_none wing h =
       let a = and_parts _ _ h in
       let no_pawn : is_pawn man.kind ≡ false = king_no_pawn man.kind a.0 in
       let c = castling_parts p wing m (facts.castling wing h) in
       let on : at ≡ m.to = rw no_pawn refl in
-      ap (look p) (on ∙ c.to) ∙ reached_free p wing m c
+      ap (man_on p) (on ∙ c.to) ∙ reached_free p wing m c
 
   pub can_make : CanMake p.target man m p.placement
   can_make = record {
@@ -68,7 +68,7 @@ module _ (p : State) (man : Man) (m : MoveParts) (setup : IsSetup p) (from : m.f
   }
 
   -- the rook goes back, where it castled
-  rook_is_back : with_castled_back man m there ≡ transferred p man m
+  rook_is_back : with_castled_back man m there ≡ moved_board p man m
   rook_is_back =
       elim (cases_Bool (is_castling man KingSide m)) [
         | inl x ↦ king_side_back man m there x ∙ back.rook_back KingSide x
@@ -82,11 +82,11 @@ module _ (p : State) (man : Man) (m : MoveParts) (setup : IsSetup p) (from : m.f
   man_is_back : moved m.to m.from man (with_castled_back man m there) ≡ remove p.placement at
   man_is_back = ap (λ (b : Board). moved m.to m.from man b) rook_is_back ∙ back.man_back
 
-  room_for : (taken : Option Man) → look p at ≡ taken → IfSome taken (λ other. men_of (remove p.placement at) other.colour < 16)
+  room_for : (taken : Option Man) → man_on p at ≡ taken → IfSome taken (λ other. men_of (remove p.placement at) other.colour < 16)
   room_for None h = tt
   room_for (Some other) h = back.taken_room other h
 
-  pub can_take_back : CanTakeBack p.target man m (look p at) there
+  pub can_take_back : CanTakeBack p.target man m (man_on p at) there
   can_take_back = record {
     rook_goes = λ wing h. record {
       here = some_is _ (rook_of man.colour) (back.rook wing h);
@@ -94,23 +94,23 @@ module _ (p : State) (man : Man) (m : MoveParts) (setup : IsSetup p) (from : m.f
       room = back.home_room wing h;
     };
     man_goes = subst (λ (b : Board). CanShift b m.to m.from man) (sym rook_is_back)
-        (record { here = some_is _ (arriving man m.promo) back.arrived; free = back.from_free; room = back.from_room });
+        (record { here = some_is _ (moved_man man m.promo) back.arrived; free = back.from_free; room = back.from_room });
     free = ap (λ (b : Board). man_at b at) man_is_back ∙ back.taken_free;
-    room = subst (λ (b : Board). IfSome (look p at) (λ other. men_of b other.colour < 16)) (sym man_is_back) (room_for (look p at) refl);
+    room = subst (λ (b : Board). IfSome (man_on p at) (λ other. men_of b other.colour < 16)) (sym man_is_back) (room_for (man_on p at) refl);
     either = castling_takes_none;
   }
 
-  given_back : (taken : Option Man) → look p at ≡ taken → restored at taken (remove p.placement at) ≡ p.placement
+  given_back : (taken : Option Man) → man_on p at ≡ taken → restored at taken (remove p.placement at) ≡ p.placement
   given_back None h = back.none_back h
   given_back (Some other) h = back.taken_back other h
 
   -- the board is that before the move again
-  pub all_is_back : carried_back p.target man m (look p at) there ≡ p.placement
-  all_is_back = ap (λ (b : Board). restored at (look p at) b) man_is_back ∙ given_back (look p at) refl
+  pub all_is_back : carried_back p.target man m (man_on p at) there ≡ p.placement
+  all_is_back = ap (λ (b : Board). restored at (man_on p at) b) man_is_back ∙ given_back (man_on p at) refl
 
 -- the position after the move, field by field
 pub after_is :
-    (p : State) (man : Man) (m : MoveParts) (placement : Board) (side : Colour) (rights : Rights) (target : Option ℕ) (clock number : ℕ) →
+    (p : PositionParts) (man : Man) (m : MoveParts) (placement : Board) (side : Colour) (rights : Rights) (target : Option ℕ) (clock number : ℕ) →
     placement ≡ placement_after p man m → side ≡ opponent p.side → rights ≡ rights_after p.rights m → target ≡ target_after man m →
     clock ≡ clock_after p man m → number ≡ number_after p.side p.number →
     after_by p (Some man) m

@@ -6,7 +6,7 @@ use Rattle.chess_types.specs.declared.board.man.Colour.{Colour}
 use Rattle.chess_types.specs.declared.board.man.Colour.TheVariants.{White, Black}
 use Rattle.chess_types.specs.declared.board.man.Kind.TheVariants.{Pawn}
 use Rattle.chess_types.specs.declared.board.man.Man.{Man}
-use Rattle.chess_types.specs.board.Board.{Look}
+use Rattle.chess_types.specs.board.Board.{Men}
 use Rattle.chess_types.specs.board.Squares.{file_of, rank_of}
 use Rattle.chess_types.specs.board.MoveParts.{MoveParts}
 use Rattle.chess_types.specs.board.Men.{opponent}
@@ -41,37 +41,37 @@ aside_is White a b h = let p = and_parts (distance (file_of a) (file_of b) == 1)
 aside_is Black a b h = let p = and_parts (distance (file_of a) (file_of b) == 1) (rank_of a == rank_of b + 1) h in (grind (arith, nat_tests), eqb-true _ _ p.1)
 
 -- one square forward, to an empty square
-pub record One (c : Colour) (look : Look) (a b : ℕ) : Type 0 where
+pub record One (c : Colour) (man_on : Men) (a b : ℕ) : Type 0 where
   pub ahead : Ahead c a b
-  pub free : look b ≡ None
+  pub free : man_on b ≡ None
 
 -- two squares forward from the rank where it began, over an empty square to another
-pub record Two (c : Colour) (look : Look) (a b : ℕ) : Type 0 where
+pub record Two (c : Colour) (man_on : Men) (a b : ℕ) : Type 0 where
   pub first : rank_of a ≡ pawn_rank c
   pub over : Ahead c a ((a + b) / 2)
   pub on : Ahead c ((a + b) / 2) b
-  pub free_over : look ((a + b) / 2) ≡ None
-  pub free : look b ≡ None
+  pub free_over : man_on ((a + b) / 2) ≡ None
+  pub free : man_on b ≡ None
 
 -- diagonally forward, to a man that may be captured there or to the en passant target
-pub record Takes (c : Colour) (look : Look) (target : Option ℕ) (a b : ℕ) : Type 0 where
+pub record Takes (c : Colour) (man_on : Men) (target : Option ℕ) (a b : ℕ) : Type 0 where
   pub aside : Aside c a b
-  pub prey : (is_capturable c (look b) ≡ true) ⊎ (target ≡ Some b)
+  pub prey : (is_capturable c (man_on b) ≡ true) ⊎ (target ≡ Some b)
 
-module _ (c : Colour) (look : Look) (target : Option ℕ) (m : MoveParts) where
+module _ (c : Colour) (man_on : Men) (target : Option ℕ) (m : MoveParts) where
   abbrev one : Bool
-  one = is_ahead c m.from m.to && is_none (look m.to)
+  one = is_ahead c m.from m.to && is_none (man_on m.to)
 
   abbrev two : Bool
   two =
-      rank_of m.from == pawn_rank c && is_ahead c m.from (midway m) && is_ahead c (midway m) m.to && is_none (look (midway m))
-      && is_none (look m.to)
+      rank_of m.from == pawn_rank c && is_ahead c m.from (midway m) && is_ahead c (midway m) m.to && is_none (man_on (midway m))
+      && is_none (man_on m.to)
 
   abbrev takes : Bool
-  takes = leaps c Pawn m.from m.to && (is_capturable c (look m.to) || is_target target m.to)
+  takes = leaps c Pawn m.from m.to && (is_capturable c (man_on m.to) || is_target target m.to)
 
   -- the tests of a pawn's moves, read
-  pub pawn_moves : ((one || two) || takes) ≡ true → One c look m.from m.to ⊎ (Two c look m.from m.to ⊎ Takes c look target m.from m.to)
+  pub pawn_moves : ((one || two) || takes) ≡ true → One c man_on m.from m.to ⊎ (Two c man_on m.from m.to ⊎ Takes c man_on target m.from m.to)
   pawn_moves h =
       elim (or_cases (one || two) takes h) [
         | inl steps ↦ elim (or_cases one two steps) [
@@ -100,32 +100,32 @@ module _ (c : Colour) (look : Look) (target : Option ℕ) (m : MoveParts) where
       ]
 
 -- one of the three
-abbrev pub PawnMove : Colour → Look → Option ℕ → ℕ → ℕ → Type 0
-PawnMove c look target a b = One c look a b ⊎ (Two c look a b ⊎ Takes c look target a b)
+abbrev pub PawnMove : Colour → Men → Option ℕ → ℕ → ℕ → Type 0
+PawnMove c man_on target a b = One c man_on a b ⊎ (Two c man_on a b ⊎ Takes c man_on target a b)
 
 -- b lies further on than a
 abbrev pub Further : Colour → ℕ → ℕ → Type 0
 Further White a b = rank_of a < rank_of b
 Further Black a b = rank_of b < rank_of a
 
-one_further : (c : Colour) (look : Look) (a b : ℕ) → One c look a b → Further c a b
-one_further White look a b x = omega arith
-one_further Black look a b x = omega arith
+one_further : (c : Colour) (man_on : Men) (a b : ℕ) → One c man_on a b → Further c a b
+one_further White man_on a b x = omega arith
+one_further Black man_on a b x = omega arith
 
-two_further : (c : Colour) (look : Look) (a b : ℕ) → Two c look a b → Further c a b
-two_further White look a b x = omega arith
-two_further Black look a b x = omega arith
+two_further : (c : Colour) (man_on : Men) (a b : ℕ) → Two c man_on a b → Further c a b
+two_further White man_on a b x = omega arith
+two_further Black man_on a b x = omega arith
 
 aside_further : (c : Colour) (a b : ℕ) → Aside c a b → Further c a b
 aside_further White a b x = omega arith
 aside_further Black a b x = omega arith
 
 -- a pawn only goes further on
-pub further : (c : Colour) (look : Look) (target : Option ℕ) (a b : ℕ) → PawnMove c look target a b → Further c a b
-further c look target a b moves =
+pub further : (c : Colour) (man_on : Men) (target : Option ℕ) (a b : ℕ) → PawnMove c man_on target a b → Further c a b
+further c man_on target a b moves =
     elim moves [
-      | inl x ↦ one_further c look a b x
-      | inr y ↦ elim y [ inl x ↦ two_further c look a b x | inr x ↦ aside_further c a b x.aside ]
+      | inl x ↦ one_further c man_on a b x
+      | inr y ↦ elim y [ inl x ↦ two_further c man_on a b x | inr x ↦ aside_further c a b x.aside ]
     ]
 
 -- so it does not stay where it stood
@@ -140,66 +140,66 @@ prey_enters : (c : Colour) (o : Option Man) → is_capturable c o ≡ true → m
 prey_enters c None h = refl
 prey_enters c (Some man) h = h
 
-module _ (c : Colour) (look : Look) (target : Option ℕ) (explained : (t : ℕ) → target ≡ Some t → is_explained c look t ≡ true) where
+module _ (c : Colour) (man_on : Men) (target : Option ℕ) (explained : (t : ℕ) → target ≡ Some t → is_explained c man_on t ≡ true) where
   -- it comes to an empty square, or to a man that may be captured
-  pub pawn_enters : (a b : ℕ) → PawnMove c look target a b → may_enter c (look b) ≡ true
+  pub pawn_enters : (a b : ℕ) → PawnMove c man_on target a b → may_enter c (man_on b) ≡ true
   pawn_enters a b moves =
       elim moves [
-        | inl x ↦ free_enters c (look b) x.free
+        | inl x ↦ free_enters c (man_on b) x.free
         | inr y ↦ elim y [
-          | inl x ↦ free_enters c (look b) x.free
+          | inl x ↦ free_enters c (man_on b) x.free
           | inr x ↦ elim x.prey [
-            | inl p ↦ prey_enters c (look b) p
-            | inr e ↦ free_enters c (look b) (explained_free c look b (explained b e))
+            | inl p ↦ prey_enters c (man_on b) p
+            | inr e ↦ free_enters c (man_on b) (explained_free c man_on b (explained b e))
           ]
         ]
       ]
 
 -- The pawn that is captured en passant stands on s: on an inner rank, on neither of the mover's squares, and the mover comes to
 -- an empty square.
-pub record Passed (c : Colour) (look : Look) (a b s : ℕ) : Type 0 where
+pub record Passed (c : Colour) (man_on : Men) (a b s : ℕ) : Type 0 where
   pub inside : (0 < rank_of s) × (rank_of s < 7)
   pub away : s ≢ a
   pub aside : s ≢ b
-  pub free : look b ≡ None
-  pub man : look s ≡ Some (record { colour = opponent c; kind = Pawn })
+  pub free : man_on b ≡ None
+  pub man : man_on s ≡ Some (record { colour = opponent c; kind = Pawn })
 
 ahead_file : (c : Colour) (a b : ℕ) → Ahead c a b → file_of a ≡ file_of b
 ahead_file White a b h = omega arith
 ahead_file Black a b h = omega arith
 
-passed_at : (c : Colour) (look : Look) (a b : ℕ) → Explained c look b → Aside c a b → b < 64 → Passed c look a b (8 * rank_of a + file_of b)
-passed_at White look a b e h inside =
+passed_at : (c : Colour) (man_on : Men) (a b : ℕ) → Explained c man_on b → Aside c a b → b < 64 → Passed c man_on a b (8 * rank_of a + file_of b)
+passed_at White man_on a b e h inside =
     let at : 8 * rank_of a + file_of b ≡ b - 8 = omega arith in
     record { inside = (omega arith, omega arith); away = λ s. omega arith; aside = λ s. omega arith; free = e.1; man = rw at e.3 }
-passed_at Black look a b e h inside =
+passed_at Black man_on a b e h inside =
     let at : 8 * rank_of a + file_of b ≡ b + 8 = omega arith in
     record { inside = (omega arith, omega arith); away = λ s. omega arith; aside = λ s. omega arith; free = e.1; man = rw at e.3 }
 
-two_file : (c : Colour) (look : Look) (a b : ℕ) → Two c look a b → file_of a ≡ file_of b
-two_file c look a b x = ahead_file c a ((a + b) / 2) x.over ∙ ahead_file c ((a + b) / 2) b x.on
+two_file : (c : Colour) (man_on : Men) (a b : ℕ) → Two c man_on a b → file_of a ≡ file_of b
+two_file c man_on a b x = ahead_file c a ((a + b) / 2) x.over ∙ ahead_file c ((a + b) / 2) b x.on
 
 -- where a pawn goes to another file and the target, the pawn that it captures stands beside it
-pub passes : (c : Colour) (look : Look) (target : Option ℕ) (a b : ℕ) → b < 64 → PawnMove c look target a b → is_explained c look b ≡ true →
-    file_of a ≢ file_of b → Passed c look a b (8 * rank_of a + file_of b)
-passes c look target a b inside moves e other =
+pub passes : (c : Colour) (man_on : Men) (target : Option ℕ) (a b : ℕ) → b < 64 → PawnMove c man_on target a b → is_explained c man_on b ≡ true →
+    file_of a ≢ file_of b → Passed c man_on a b (8 * rank_of a + file_of b)
+passes c man_on target a b inside moves e other =
     elim moves [
       | inl x ↦ absurd (other (ahead_file c a b x.ahead))
-      | inr y ↦ elim y [ inl x ↦ absurd (other (two_file c look a b x)) | inr x ↦ passed_at c look a b (explained_parts c look b e) x.aside inside ]
+      | inr y ↦ elim y [ inl x ↦ absurd (other (two_file c man_on a b x)) | inr x ↦ passed_at c man_on a b (explained_parts c man_on b e) x.aside inside ]
     ]
 
-one_short : (c : Colour) (look : Look) (a b : ℕ) → One c look a b → (b ≡ a + 16) ⊎ (a ≡ b + 16) → ⊥
-one_short White look a b x far = elim far [ inl e ↦ omega arith | inr e ↦ omega arith ]
-one_short Black look a b x far = elim far [ inl e ↦ omega arith | inr e ↦ omega arith ]
+one_short : (c : Colour) (man_on : Men) (a b : ℕ) → One c man_on a b → (b ≡ a + 16) ⊎ (a ≡ b + 16) → ⊥
+one_short White man_on a b x far = elim far [ inl e ↦ omega arith | inr e ↦ omega arith ]
+one_short Black man_on a b x far = elim far [ inl e ↦ omega arith | inr e ↦ omega arith ]
 
 aside_short : (c : Colour) (a b : ℕ) → Aside c a b → (b ≡ a + 16) ⊎ (a ≡ b + 16) → ⊥
 aside_short White a b x far = elim far [ inl e ↦ omega arith | inr e ↦ omega arith ]
 aside_short Black a b x far = elim far [ inl e ↦ omega arith | inr e ↦ omega arith ]
 
 -- a pawn that goes 16 squares on or back advances by two squares
-pub advances : (c : Colour) (look : Look) (target : Option ℕ) (a b : ℕ) → PawnMove c look target a b → (b ≡ a + 16) ⊎ (a ≡ b + 16) → Two c look a b
-advances c look target a b moves far =
+pub advances : (c : Colour) (man_on : Men) (target : Option ℕ) (a b : ℕ) → PawnMove c man_on target a b → (b ≡ a + 16) ⊎ (a ≡ b + 16) → Two c man_on a b
+advances c man_on target a b moves far =
     elim moves [
-      | inl x ↦ absurd (one_short c look a b x far)
+      | inl x ↦ absurd (one_short c man_on a b x far)
       | inr y ↦ elim y [ inl x ↦ x | inr x ↦ absurd (aside_short c a b x.aside far) ]
     ]

@@ -7,7 +7,7 @@ use Rattle.std.specs.Prelude.{◌≡◌, ℕ, true, Option, Some, None}
 use Rattle.chess_types.specs.declared.board.man.Man.{Man}
 use Rattle.chess_types.specs.declared.board.position.Rights.{Rights}
 use Rattle.chess_types.specs.board.MoveParts.{MoveParts}
-use Rattle.chess_types.specs.board.Position.{State, IsSetup, look}
+use Rattle.chess_types.specs.board.Position.{PositionParts, IsSetup, man_on}
 use Rattle.chess_types.specs.board.Pseudo.{is_pseudo}
 use Rattle.chess_types.specs.board.After.{captured_at, after}
 
@@ -20,28 +20,28 @@ pub record RecordParts : Type 0 where
   pub clock : ℕ
 
 -- the man that the move captures
-abbrev pub captured_by : State → Option Man → MoveParts → Option Man
+abbrev pub captured_by : PositionParts → Option Man → MoveParts → Option Man
 captured_by p None m = None
-captured_by p (Some man) m = look p (captured_at p.target man m)
+captured_by p (Some man) m = man_on p (captured_at p.target man m)
 
 -- the record of a move that is about to be made
-abbrev pub record_of : State → MoveParts → RecordParts
+abbrev pub record_of : PositionParts → MoveParts → RecordParts
 record_of p m = record {
   played = m;
-  captured = captured_by p (look p m.from) m;
+  captured = captured_by p (man_on p m.from) m;
   rights = p.rights;
   target = p.target;
   clock = p.clock;
 }
 
 -- The position p, in which the record's move is pseudo-legal, is the one before it, and what the record keeps is p's.
-pub record IsBefore (now : State) (kept : RecordParts) (p : State) : Type 0 where
+pub record IsBefore (now : PositionParts) (kept : RecordParts) (p : PositionParts) : Type 0 where
   pub setup : IsSetup p
   pub pseudo : is_pseudo p kept.played ≡ true
   pub kept_is : kept ≡ record_of p kept.played
   pub now_is : now ≡ after p kept.played
 
 -- the record fits the position: it is that of a move that led to it
-pub record Fits (now : State) (kept : RecordParts) : Type 0 where
-  pub before : State
+pub record Fits (now : PositionParts) (kept : RecordParts) : Type 0 where
+  pub before : PositionParts
   pub is_before : IsBefore now kept before

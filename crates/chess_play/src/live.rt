@@ -1,5 +1,5 @@
 ghost use Rattle.std.specs.Prelude.{◌≡◌, ◌≤◌, IsTrue};
-ghost use Rattle.chess_types.specs.board.Position.{State, IsSetup, look};
+ghost use Rattle.chess_types.specs.board.Position.{PositionParts, IsSetup, man_on};
 ghost use Rattle.chess_types.specs.board.Pseudo.{is_pseudo};
 ghost use Rattle.chess_types.specs.board.After.{after};
 ghost use Rattle.chess_attack.specs.KeptCounts.{AreCounts, changed_of};
@@ -72,7 +72,7 @@ impl<'k> Live<'k> {
 
     /// Its evaluation, in centipawns for White: at most 13,605 either way.
     pub fn white(&self) -> i32
-        ensures value { result ≡ evaluation (look self.now.position) }
+        ensures value { result ≡ evaluation (man_on self.now.position) }
         ensures in_range { IsWithin 13605 result }
     {
         self.kept.sum.white()
@@ -105,7 +105,7 @@ impl<'k> Live<'k> {
         ensures record { result ≡ record_of self.old.position m }
         ensures is_before { IsBefore self.new.position result self.old.position }
         ensures at_most { self.new.ticks ≤ 216 }
-        ensures at_least { changed_of (look self.old.position) (look self.new.position) ≤ self.new.ticks }
+        ensures at_least { changed_of (man_on self.old.position) (man_on self.new.position) ≤ self.new.ticks }
     {
         self.kept.begin();
         match self.setup.placement.get(m.from) {
@@ -119,10 +119,10 @@ impl<'k> Live<'k> {
     /// Takes back the move just made, or the last one not yet taken back: all is as before that `make`, but for the ticks.
     pub fn undo(&mut self, made: Made)
         requires fits { Fits self.old.position made }
-        ensures position { (p : State) → IsBefore self.old.position made p → self.new.position ≡ p }
+        ensures position { (p : PositionParts) → IsBefore self.old.position made p → self.new.position ≡ p }
         ensures words { self.new.words ≡ self.old.words }
         ensures at_most { self.new.ticks ≤ 216 }
-        ensures at_least { changed_of (look self.old.position) (look self.new.position) ≤ self.new.ticks }
+        ensures at_least { changed_of (man_on self.old.position) (man_on self.new.position) ≤ self.new.ticks }
     {
         self.take_back(made.keep());
     }
@@ -130,10 +130,10 @@ impl<'k> Live<'k> {
     /// Takes back the move of the record: all is as before that `make`, but for the ticks.
     pub fn take_back(&mut self, past: Record)
         requires fits { Fits self.old.position past }
-        ensures position { (p : State) → IsBefore self.old.position past p → self.new.position ≡ p }
+        ensures position { (p : PositionParts) → IsBefore self.old.position past p → self.new.position ≡ p }
         ensures words { self.new.words ≡ self.old.words }
         ensures at_most { self.new.ticks ≤ 216 }
-        ensures at_least { changed_of (look self.old.position) (look self.new.position) ≤ self.new.ticks }
+        ensures at_least { changed_of (man_on self.old.position) (man_on self.new.position) ≤ self.new.ticks }
     {
         self.kept.begin();
         take_back(&mut self.setup, &mut self.kept, past);

@@ -1,5 +1,5 @@
 ghost use Rattle.std.specs.Prelude.{◌≡◌, ◌≤◌, Some, IsTrue};
-ghost use Rattle.chess_types.specs.board.Position.{IsSetup, look};
+ghost use Rattle.chess_types.specs.board.Position.{IsSetup, man_on};
 ghost use Rattle.chess_types.specs.board.Pseudo.{is_pseudo};
 ghost use Rattle.chess_types.specs.board.After.{after};
 ghost use Rattle.chess_play.specs.steps.Followed.{AreKept, Follows};
@@ -13,7 +13,7 @@ use chess_types::{Man, Move, Setup};
 
 /// Makes the move of the man that stands on its first square, and answers its record.
 pub fn make(setup: &mut Setup, kept: &mut Followers, man: Man, m: Move) -> Record
-    requires here { look setup.old m.from ≡ Some man }
+    requires here { man_on setup.old m.from ≡ Some man }
     requires pseudo { IsTrue (is_pseudo setup.old m) }
     requires clock { setup.old.clock ≤ 1000000 }
     requires number { setup.old.number ≤ 1000000 }

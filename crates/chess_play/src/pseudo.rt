@@ -1,6 +1,6 @@
 ghost use Rattle.std.specs.Prelude.{◌≡◌, ◌&&◌, ◌<◌, is_none};
 ghost use Rattle.chess_types.specs.board.Attack.{is_attacked, leaps};
-ghost use Rattle.chess_types.specs.board.Position.{look};
+ghost use Rattle.chess_types.specs.board.Position.{man_on};
 ghost use Rattle.chess_play.specs.Castling.{is_way_free, may_castle};
 ghost use Rattle.chess_types.specs.board.Pseudo.{castles, moves_as_it_attacks, is_ahead, is_pseudo, is_target, last_rank, midway, moves_as, pawn_promotion_fits, pawn_rank, pawn_takes, steps_one, steps_two};
 ghost use Rattle.chess_types.specs.declared.board.man.Kind.TheVariants.{Pawn};
@@ -102,7 +102,7 @@ fn pawn_promotion_fits(side: Colour, m: Move) -> bool
 #[inline(always)]
 fn is_free(setup: &Setup, number: u8) -> bool
     requires { number < 64 }
-    ensures { result ≡ is_none (look setup.now number) }
+    ensures { result ≡ is_none (man_on setup.now number) }
 {
     setup.placement.get(Square::from_index(number)).is_none()
 }
@@ -110,7 +110,7 @@ fn is_free(setup: &Setup, number: u8) -> bool
 /// Whether no man stands between the king's home and the rook's.
 #[inline(always)]
 fn is_way_free(setup: &Setup, side: Colour, wing: Wing) -> bool
-    ensures { result ≡ is_way_free (look setup.now) side wing }
+    ensures { result ≡ is_way_free (man_on setup.now) side wing }
 {
     match (side, wing) {
         (Colour::White, Wing::KingSide) => is_free(setup, 5) && is_free(setup, 6),

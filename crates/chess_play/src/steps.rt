@@ -5,7 +5,7 @@ ghost use Rattle.chess_types.specs.board.After.{captured_at, rook_of};
 ghost use Rattle.chess_play.specs.steps.Followed.{AreKept, Follows};
 ghost use Rattle.chess_play.specs.steps.Boards.{CanCastle, CanCastleBack, CanMake, CanShift, CanTakeBack, carried_back, carried_on, castling_ticks, restored, moved, ticks_of, with_castled, with_castled_back};
 
-use crate::after::{arriving, captured_at, castled};
+use crate::after::{captured_at, castled, moved_man};
 use crate::followers::Followers;
 use chess_attack::Follower;
 use chess_types::{Colour, Kind, Man, Move, Placement, Square};
@@ -224,7 +224,7 @@ pub fn carry_on(
     let to = m.to;
     let promo = m.promo;
     let at = captured_at(target, man, m);
-    let taken = go(placement, kept, at, from, to, arriving(man, promo));
+    let taken = go(placement, kept, at, from, to, moved_man(man, promo));
     castle(placement, kept, man, m);
     taken
 }

@@ -1,5 +1,5 @@
 ghost use Rattle.std.specs.Prelude.{◌≡◌, ◌≤◌, Some};
-ghost use Rattle.chess_types.specs.board.Position.{State, look};
+ghost use Rattle.chess_types.specs.board.Position.{PositionParts, man_on};
 ghost use Rattle.chess_play.specs.steps.Followed.{AreKept, Follows};
 ghost use Rattle.chess_play.specs.Records.{Fits, IsBefore};
 ghost use Rattle.chess_play.specs.steps.Undo.{mover, number_before};
@@ -35,10 +35,10 @@ fn number_before(side: Colour, number: u32) -> u32
 
 // Takes the record's move back, by the man that stands on its last square.
 fn take_back_by(setup: &mut Setup, kept: &mut Followers, there: Man, past: Record)
-    requires there { look setup.old past.played.to ≡ Some there }
+    requires there { man_on setup.old past.played.to ≡ Some there }
     requires fits { Fits setup.old past }
     requires agrees { AreKept kept.old setup.old.placement }
-    ensures position { (p : State) → IsBefore setup.old past p → setup.new ≡ p }
+    ensures position { (p : PositionParts) → IsBefore setup.old past p → setup.new ≡ p }
     ensures follows { Follows kept.old kept.new setup.old.placement setup.new.placement 216 }
 {
     let m = past.played;
@@ -60,7 +60,7 @@ fn take_back_by(setup: &mut Setup, kept: &mut Followers, there: Man, past: Recor
 
 // What stands on the square.
 fn man_on(setup: &Setup, at: Square) -> Option<Man>
-    ensures { result ≡ look setup.now at }
+    ensures { result ≡ man_on setup.now at }
 {
     setup.placement.get(at)
 }
@@ -69,7 +69,7 @@ fn man_on(setup: &Setup, at: Square) -> Option<Man>
 pub fn take_back(setup: &mut Setup, kept: &mut Followers, past: Record)
     requires fits { Fits setup.old past }
     requires agrees { AreKept kept.old setup.old.placement }
-    ensures position { (p : State) → IsBefore setup.old past p → setup.new ≡ p }
+    ensures position { (p : PositionParts) → IsBefore setup.old past p → setup.new ≡ p }
     ensures follows { Follows kept.old kept.new setup.old.placement setup.new.placement 216 }
 {
     let m = past.played;

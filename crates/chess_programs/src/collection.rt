@@ -1,5 +1,8 @@
+ghost use Rattle.std.specs.Prelude.{◌≡◌, IfOk};
+ghost use Rattle.chess_pgn.specs.declared.games.GamesFault.TheVariants.{Pgn};
+
+use byte_streams::Failed;
 use chess_pgn::{FaultKind, GamesFault, PgnFault};
-use chess_types::Failed;
 use std::alloc::AllocError;
 use thiserror::Error;
 
@@ -42,7 +45,9 @@ pub struct Place {
 }
 
 /// The fault of a game, from which reading may go on; else why it can't.
-pub fn fault_of(fault: GamesFault) -> Result<PgnFault, Failure> {
+pub fn fault_of(fault: GamesFault) -> Result<PgnFault, Failure>
+    ensures { IfOk result (λ found. fault ≡ Pgn found) }
+{
     match fault {
         GamesFault::Read => Err(Failure::Read),
         GamesFault::Pgn(fault) if fault.kind == FaultKind::Memory => Err(Failure::Memory),

@@ -2,7 +2,7 @@
 use Rattle.std.proofs.Common.{◌≡◌, ℕ, ◌+◌, ◌<◌, ◌≤◌, true, List, [], ◌∷◌, ◌++◌, length, Some, None, refl, sym, ap, subst, ◌∙◌, arith, append_assoc, append-nil, length-append}
 use Rattle.std.proofs.Math.Seq.{take-append_seam}
 use Rattle.chess_types.specs.board.MoveParts.{MoveParts}
-use Rattle.chess_types.specs.board.Position.{State}
+use Rattle.chess_types.specs.board.Position.{PositionParts}
 use Rattle.chess_types.specs.board.Legal.{is_legal}
 use Rattle.chess_types.specs.board.Lines.{Line, extended, last}
 use Rattle.chess_types.proofs.PlayLaws.{last_extended}
@@ -35,7 +35,7 @@ next_is whole line k nags comment below next f = record {
   few = omega (arith, f.deep);
   follows = record {
     rest = f.rest ∙ ap (λ (x : List MoveParts). record { start = line.start; moves = x }) (sym (append_assoc line.moves (k ∷ []) (moves_along (main_line below) below)));
-    sound = subst (λ (p : State). AreSound p below) (sym (last_extended line k)) f.sound.2;
+    sound = subst (λ (p : PositionParts). AreSound p below) (sym (last_extended line k)) f.sound.2;
     deep = omega (arith, f.deep, length-append line.moves (k ∷ []));
   };
   smaller = omega arith;

@@ -2,7 +2,7 @@
 use Rattle.std.proofs.Common.{◌≡◌, ℕ, Bool, true, false, cond, List, [], ◌∷◌, ◌++◌, reverse, refl, sym, ap, ◌∙◌}
 use Rattle.std.specs.Prelude.{codes}
 use Rattle.std.proofs.lemmas.List.{reverse-append, reverse-reverse}
-use Rattle.chess_types.specs.bytes.Words.{is_gap, skip_gaps, without_last_gaps}
+use Rattle.byte_streams.specs.Words.{is_gap, skip_gaps, without_last_gaps}
 use Rattle.chess_san.specs.Forms.{marks}
 
 -- the text ends in a byte that is no mark

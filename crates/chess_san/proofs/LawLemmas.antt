@@ -13,7 +13,7 @@ use Rattle.chess_types.specs.board.Squares.{file_of, rank_of}
 use Rattle.chess_types.specs.board.Men.{is_pawn, kind_number}
 use Rattle.chess_types.specs.board.Attack.{in_check}
 use Rattle.chess_types.specs.board.MoveParts.{MoveParts}
-use Rattle.chess_types.specs.board.Position.{State, look}
+use Rattle.chess_types.specs.board.Position.{PositionParts, man_on}
 use Rattle.chess_types.specs.board.Pseudo.{moves_as}
 use Rattle.chess_types.specs.board.After.{after, is_castling}
 use Rattle.chess_types.specs.board.Legal.{is_legal, legal_moves}
@@ -26,7 +26,7 @@ use Rattle.chess_san.specs.declared.form.Origin.{Origin}
 use Rattle.chess_san.specs.declared.form.Form.{Form}
 use Rattle.chess_san.specs.declared.form.Form.TheVariants.{Castles, Piece, Plain}
 use Rattle.chess_san.specs.Forms.{wing_in, bare_form, form_in}
-use Rattle.chess_san.specs.Naming.{is_kind, castles_by, is_castles, fits, names, named_by, named, the_one, reading_by, reading}
+use Rattle.chess_san.specs.Naming.{is_kind, castles_by, is_castles, fits, names, named_by, named, the_one, reading_by, san_reading}
 use Rattle.chess_san.specs.Writing.{captures, share_file, share_rank, origin_by, origin_among, rivals, origin_of, piece_text, pawn_text, step_text, bare_text, mark_text, san}
 use Rattle.chess_san.proofs.OnlyLemmas.{only_one}
 use Rattle.chess_san.proofs.EndLemmas.{Unmarked, mark_dropped}
@@ -35,7 +35,7 @@ use Rattle.chess_san.proofs.SameLemmas.{same_move, Mover, mover, plain_promo, ca
 use Rattle.chess_san.proofs.PawnLemmas.{pawn_names, pawn_same}
 
 -- The text reads as a form, which names the move and no other; no mark ends it.
-record Told (p : State) (m : MoveParts) (text : List ℕ) : Type 0 where
+record Told (p : PositionParts) (m : MoveParts) (text : List ℕ) : Type 0 where
   form : Form
   reads : bare_form text ≡ Some form
   ends : Unmarked text
@@ -59,11 +59,11 @@ own_origin : (others : List MoveParts) (from : ℕ) → from < 64 → IsOwn (ori
 unfolding origin_among
 own_origin others from on = own_by (is_without others) (share_file others from) (share_rank others from) from on
 
-module _ (p : State) (m : MoveParts) (on : IsMove m) (legal : is_legal p m ≡ true) (a : Mover p m) where
+module _ (p : PositionParts) (m : MoveParts) (on : IsMove m) (legal : is_legal p m ≡ true) (a : Mover p m) where
   castling_told : (wing : Wing) (text : List ℕ) → bare_form text ≡ Some (Castles wing) → Unmarked text → is_castling a.man wing m ≡ true → Told p m text
   unfolding names
   castling_told wing text reads ends h =
-      let own : castles_by (look p m.from) wing m ≡ true = ap (λ (o : Option Man). castles_by o wing m) a.here ∙ h in
+      let own : castles_by (man_on p m.from) wing m ≡ true = ap (λ (o : Option Man). castles_by o wing m) a.here ∙ h in
       record {
         form = Castles wing;
         reads = reads;
@@ -92,8 +92,8 @@ module _ (p : State) (m : MoveParts) (on : IsMove m) (legal : is_legal p m ≡ t
       let told : IsOwn origin m.from = own_origin (rivals p kind m.from m.to) m.from on.from in
       let promo : m.promo ≡ None = plain_promo p kind m plain (ap (λ (k : Kind). moves_as p k m) (sym is) ∙ a.moves) in
       let course = follows_own (step_course origin m.to) m refl told.fits_file told.fits_rank promo in
-      let there : is_kind kind (look p m.from) ≡ true = ap (is_kind kind) a.here ∙ eq-eqb _ _ (ap kind_number is) in
-      let castles : is_castles (look p m.from) m ≡ false = ap (λ (o : Option Man). is_castles o m) a.here ∙ or_from _ _ king queen in
+      let there : is_kind kind (man_on p m.from) ≡ true = ap (is_kind kind) a.here ∙ eq-eqb _ _ (ap kind_number is) in
+      let castles : is_castles (man_on p m.from) m ≡ false = ap (λ (o : Option Man). is_castles o m) a.here ∙ or_from _ _ king queen in
       record {
         form = Piece kind (step_course origin m.to);
         reads = piece_read origin (captures p a.man m) m.to told.file told.rank on.to kind plain;
@@ -120,17 +120,17 @@ module _ (p : State) (m : MoveParts) (on : IsMove m) (legal : is_legal p m ≡ t
       cond_both (is_castling a.man KingSide m) _ _ (Told p m) (castling_told KingSide (79 ∷ 45 ∷ 79 ∷ []) refl refl)
       (λ king. cond_both (is_castling a.man QueenSide m) _ _ (Told p m) (castling_told QueenSide (79 ∷ 45 ∷ 79 ∷ 45 ∷ 79 ∷ []) refl refl) (λ queen. step_told a.man.kind refl king queen))
 
-  told : Told p m (bare_text p (look p m.from) m)
+  told : Told p m (bare_text p (man_on p m.from) m)
   told = subst (λ (o : Option Man). Told p m (bare_text p o m)) (sym a.here) man_told
 
 -- the law
-pub named_back : (p : State) (m : MoveParts) → IsMove m → is_legal p m ≡ true → named p (san p m) ≡ m ∷ []
+pub named_back : (p : PositionParts) (m : MoveParts) → IsMove m → is_legal p m ≡ true → named p (san p m) ≡ m ∷ []
 unfolding named form_in san mark_text
 named_back p m on legal =
     let t = told p m on legal (mover p m legal) in
-    let q : State = after p m in
+    let q : PositionParts = after p m in
     let listed = legal_listed p m on legal in
-    ap (λ (text : List ℕ). named_by p (bare_form text)) (mark_dropped (bare_text p (look p m.from) m) t.ends (in_check (look q) q.side) (is_without (legal_moves q)))
+    ap (λ (text : List ℕ). named_by p (bare_form text)) (mark_dropped (bare_text p (man_on p m.from) m) t.ends (in_check (man_on q) q.side) (is_without (legal_moves q)))
     ∙ ap (named_by p) t.reads
     ∙ only_one (names p t.form) m (legal_moves p) (moves_apart p)
     (λ k d within passes.
@@ -138,11 +138,11 @@ named_back p m on legal =
     t.only (get_or (legal_moves p) k d) at.0 at.1 passes)
     listed.0 listed.1 listed.2 t.own
 
-one_read : (p : State) (f : Option Form) (m : MoveParts) → named_by p f ≡ m ∷ [] → reading_by p f ≡ Ok m
+one_read : (p : PositionParts) (f : Option Form) (m : MoveParts) → named_by p f ≡ m ∷ [] → reading_by p f ≡ Ok m
 one_read p None m h = cc
 one_read p (Some form) m h = ap the_one h
 
 -- and is read as it
-pub read_back : (p : State) (m : MoveParts) → IsMove m → is_legal p m ≡ true → reading p (san p m) ≡ Ok m
-unfolding named reading
+pub read_back : (p : PositionParts) (m : MoveParts) → IsMove m → is_legal p m ≡ true → san_reading p (san p m) ≡ Ok m
+unfolding named san_reading
 read_back p m on legal = one_read p (form_in (san p m)) m (named_back p m on legal)

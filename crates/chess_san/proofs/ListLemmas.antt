@@ -11,7 +11,7 @@ use Rattle.chess_types.specs.board.Squares.{squares}
 use Rattle.chess_types.specs.board.Texts.{names_promotion}
 use Rattle.chess_types.specs.board.MoveParts.{MoveParts}
 use Rattle.chess_types.specs.board.Outcome.{is_without}
-use Rattle.chess_types.specs.board.Position.{State}
+use Rattle.chess_types.specs.board.Position.{PositionParts}
 use Rattle.chess_types.specs.board.Legal.{is_legal, legal_moves, promotions, moves_between, moves_from, all_moves}
 use Rattle.chess_moves.specs.steps.Targets.{move_to}
 use Rattle.chess_san.specs.declared.form.Form.{Form}
@@ -115,7 +115,7 @@ module _ (test : MoveParts → Bool) (to : ℕ) (promo : Option Kind)
   all_by_origin on = by_origin on squares
 
 -- of the legal moves those that pass a test that fixes where they go and what they become
-pub legal_by_origin : (p : State) (t : MoveParts → Bool) (to : ℕ) (promo : Option Kind) → to < 64 →
+pub legal_by_origin : (p : PositionParts) (t : MoveParts → Bool) (to : ℕ) (promo : Option Kind) → to < 64 →
     ((m : MoveParts) → t m ≡ true → is_legal p m ≡ true → (m.to ≡ to) × (m.promo ≡ promo)) →
     filter t (legal_moves p) ≡ filter (λ m. t m && is_legal p m) (map (λ a. move_to a to promo) squares)
 unfolding legal_moves
@@ -139,7 +139,7 @@ map_kept test f keep a (suc n) h =
     ]
 
 -- so they are the moves from the squares where such moves begin
-pub begun : (p : State) (t : MoveParts → Bool) (to : ℕ) (promo : Option Kind) (set : FinSet nat_cmp) → to < 64 → Begins set t p to promo →
+pub begun : (p : PositionParts) (t : MoveParts → Bool) (to : ℕ) (promo : Option Kind) (set : FinSet nat_cmp) → to < 64 → Begins set t p to promo →
     ((m : MoveParts) → t m ≡ true → is_legal p m ≡ true → (m.to ≡ to) × (m.promo ≡ promo)) →
     from_each to promo (filter (contains set) squares) ≡ filter t (legal_moves p)
 unfolding squares
@@ -152,13 +152,13 @@ implied true false h = refl
 implied false false h = refl
 
 -- of the squares that a form's moves may begin on, those where one does
-pub begins_named : (p : State) (form : Form) (to : ℕ) (promo : Option Kind) (all set : FinSet nat_cmp) → ComesBy all p form →
+pub begins_named : (p : PositionParts) (form : Form) (to : ℕ) (promo : Option Kind) (all set : FinSet nat_cmp) → ComesBy all p form →
     BeginsAmong all set (names p form) p to promo → Begins set (names p form) p to promo
 begins_named p form to promo all set comes is s on =
     is s on ∙ implied _ _ (λ h. let q = and_parts _ _ h in comes (move_to s to promo) on q.1 q.0)
 
 -- the same of a man's rivals
-pub begins_rival : (p : State) (k : Kind) (from to : ℕ) (all set : FinSet nat_cmp) → Comes all p k to →
+pub begins_rival : (p : PositionParts) (k : Kind) (from to : ℕ) (all set : FinSet nat_cmp) → Comes all p k to →
     BeginsAmong all set (is_rival p k from to) p to None → Begins set (is_rival p k from to) p to None
 begins_rival p k from to all set comes is s on =
     is s on ∙ implied _ _ (λ h. let q = and_parts _ _ h in comes (move_to s to None) on refl q.1 (and_parts _ _ q.0).1)

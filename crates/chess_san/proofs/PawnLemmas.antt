@@ -6,11 +6,11 @@ use Rattle.chess_types.specs.declared.board.man.Colour.TheVariants.{White, Black
 use Rattle.chess_types.specs.declared.board.man.Kind.{Kind}
 use Rattle.chess_types.specs.declared.board.man.Kind.TheVariants.{Pawn}
 use Rattle.chess_types.specs.declared.board.man.Man.{Man}
-use Rattle.chess_types.specs.board.Board.{Look}
+use Rattle.chess_types.specs.board.Board.{Men}
 use Rattle.chess_types.specs.board.Squares.{file_of}
 use Rattle.chess_types.specs.board.Men.{is_pawn, holds_pawn}
 use Rattle.chess_types.specs.board.MoveParts.{MoveParts}
-use Rattle.chess_types.specs.board.Position.{State, look}
+use Rattle.chess_types.specs.board.Position.{PositionParts, man_on}
 use Rattle.chess_types.specs.board.Pseudo.{is_capturable, is_target, moves_as}
 use Rattle.chess_play.proofs.Pawns.{One, Two, Takes, Ahead, Aside, pawn_moves, PawnMove}
 use Rattle.chess_san.specs.Naming.{follows, may_be_plain}
@@ -19,19 +19,19 @@ use Rattle.chess_san.proofs.ReadLemmas.{pawn_course}
 use Rattle.chess_san.proofs.SameLemmas.{same_move, Mover, followed, follows_own}
 
 -- straight forward, by one square or two
-abbrev pub Straight : Colour → Look → ℕ → ℕ → Type 0
-Straight c look a b = One c look a b ⊎ Two c look a b
+abbrev pub Straight : Colour → Men → ℕ → ℕ → Type 0
+Straight c man_on a b = One c man_on a b ⊎ Two c man_on a b
 
 ahead_file : (c : Colour) (a b : ℕ) → Ahead c a b → file_of a ≡ file_of b
 ahead_file White a b h = omega arith
 ahead_file Black a b h = omega arith
 
-straight_file : (c : Colour) (look : Look) (a b : ℕ) → Straight c look a b → file_of a ≡ file_of b
-straight_file c look a b h =
+straight_file : (c : Colour) (man_on : Men) (a b : ℕ) → Straight c man_on a b → file_of a ≡ file_of b
+straight_file c man_on a b h =
     elim h [ inl x ↦ ahead_file c a b x.ahead | inr x ↦ ahead_file c a ((a + b) / 2) x.over ∙ ahead_file c ((a + b) / 2) b x.on ]
 
-straight_free : (c : Colour) (look : Look) (a b : ℕ) → Straight c look a b → look b ≡ None
-straight_free c look a b h = elim h [ inl x ↦ x.free | inr x ↦ x.free ]
+straight_free : (c : Colour) (man_on : Men) (a b : ℕ) → Straight c man_on a b → man_on b ≡ None
+straight_free c man_on a b h = elim h [ inl x ↦ x.free | inr x ↦ x.free ]
 
 ahead_back : (c : Colour) (a d b : ℕ) → Ahead c a b → Ahead c d b → d ≡ a
 ahead_back White a d b h g = omega arith
@@ -42,20 +42,20 @@ two_back White a d b h g x y = omega arith
 two_back Black a d b h g x y = omega arith
 
 -- no pawn passes over another
-barred : (look : Look) (a d : ℕ) (man : Man) → look a ≡ Some man → d ≡ a → look d ≡ None → ⊥
-barred look a d man here same free =
-    let e : None ≡ Some man = sym free ∙ ap look same ∙ here in
+barred : (man_on : Men) (a d : ℕ) (man : Man) → man_on a ≡ Some man → d ≡ a → man_on d ≡ None → ⊥
+barred man_on a d man here same free =
+    let e : None ≡ Some man = sym free ∙ ap man_on same ∙ here in
     cc
 
-straight_back : (c : Colour) (look : Look) (a d b : ℕ) (man other : Man) → look a ≡ Some man → look d ≡ Some other → Straight c look a b → Straight c look d b → d ≡ a
-straight_back c look a d b man other here there h g =
+straight_back : (c : Colour) (man_on : Men) (a d b : ℕ) (man other : Man) → man_on a ≡ Some man → man_on d ≡ Some other → Straight c man_on a b → Straight c man_on d b → d ≡ a
+straight_back c man_on a d b man other here there h g =
     elim h [
       | inl x ↦ elim g [
         | inl y ↦ ahead_back c a d b x.ahead y.ahead
-        | inr y ↦ absurd (barred look a ((d + b) / 2) man here (ahead_back c a ((d + b) / 2) b x.ahead y.on) y.free_over)
+        | inr y ↦ absurd (barred man_on a ((d + b) / 2) man here (ahead_back c a ((d + b) / 2) b x.ahead y.on) y.free_over)
       ]
       | inr x ↦ elim g [
-        | inl y ↦ absurd (barred look d ((a + b) / 2) other there (ahead_back c d ((a + b) / 2) b y.ahead x.on) x.free_over)
+        | inl y ↦ absurd (barred man_on d ((a + b) / 2) other there (ahead_back c d ((a + b) / 2) b y.ahead x.on) x.free_over)
         | inr y ↦ two_back c a d b x.over x.on y.over y.on
       ]
     ]
@@ -69,7 +69,7 @@ aside_back White a d b h g e = omega (arith, h.1, g.1)
 aside_back Black a d b h g e = omega (arith, h.1, g.1)
 
 -- what captures
-no_capture : (p : State) (man : Man) (m : MoveParts) → look p m.to ≡ None → file_of m.from ≡ file_of m.to → captures p man m ≡ false
+no_capture : (p : PositionParts) (man : Man) (m : MoveParts) → man_on p m.to ≡ None → file_of m.from ≡ file_of m.to → captures p man m ≡ false
 no_capture p man m free file = or_from _ _ (ap is_some free) (and_right _ _ (ap not (eq-eqb _ _ file)))
 
 prey_there : (c : Colour) (there : Option Man) → is_capturable c there ≡ true → is_some there ≡ true
@@ -79,10 +79,10 @@ prey_there c (Some man) h = refl
 at_target : (target : Option ℕ) (s : ℕ) → target ≡ Some s → is_target target s ≡ true
 at_target target s h = ap (λ (t : Option ℕ). is_target t s) h ∙ eq-eqb s s refl
 
-takes_captures : (p : State) (man : Man) (m : MoveParts) → is_pawn man.kind ≡ true → Takes p.side (look p) p.target m.from m.to → captures p man m ≡ true
+takes_captures : (p : PositionParts) (man : Man) (m : MoveParts) → is_pawn man.kind ≡ true → Takes p.side (man_on p) p.target m.from m.to → captures p man m ≡ true
 takes_captures p man m pawn takes =
     elim takes.prey [
-      | inl x ↦ or_left _ _ (prey_there p.side (look p m.to) x)
+      | inl x ↦ or_left _ _ (prey_there p.side (man_on p m.to) x)
       | inr x ↦ or_right _ _ (and_from _ _ (and_from _ _ pawn (at_target p.target m.to x)) (not_from_false _ (ne_eqb _ _ (aside_file p.side m.from m.to takes.aside))))
     ]
 
@@ -90,22 +90,22 @@ pub pawn_is : (kind : Kind) → is_pawn kind ≡ true → kind ≡ Pawn
 pawn_is Pawn h = refl
 pawn_is _ h = absurd (true≢false (sym h))
 
-pawn_move : (p : State) (m : MoveParts) (a : Mover p m) → a.man.kind ≡ Pawn → PawnMove p.side (look p) p.target m.from m.to
+pawn_move : (p : PositionParts) (m : MoveParts) (a : Mover p m) → a.man.kind ≡ Pawn → PawnMove p.side (man_on p) p.target m.from m.to
 unfolding moves_as
 pawn_move p m a is =
     let moves : moves_as p Pawn m ≡ true = ap (λ (k : Kind). moves_as p k m) (sym is) ∙ a.moves in
-    pawn_moves p.side (look p) p.target m (and_parts _ _ moves).0
+    pawn_moves p.side (man_on p) p.target m (and_parts _ _ moves).0
 
 -- it captures, or goes straight
-abbrev Moved : State → Man → MoveParts → Type 0
+abbrev Moved : PositionParts → Man → MoveParts → Type 0
 Moved p man m =
-    (Takes p.side (look p) p.target m.from m.to × (captures p man m ≡ true)) ⊎ (Straight p.side (look p) m.from m.to × (captures p man m ≡ false))
+    (Takes p.side (man_on p) p.target m.from m.to × (captures p man m ≡ true)) ⊎ (Straight p.side (man_on p) m.from m.to × (captures p man m ≡ false))
 
-moved_straight : (p : State) (man : Man) (m : MoveParts) → Straight p.side (look p) m.from m.to → Moved p man m
+moved_straight : (p : PositionParts) (man : Man) (m : MoveParts) → Straight p.side (man_on p) m.from m.to → Moved p man m
 moved_straight p man m h =
-    inr (h, no_capture p man m (straight_free p.side (look p) m.from m.to h) (straight_file p.side (look p) m.from m.to h))
+    inr (h, no_capture p man m (straight_free p.side (man_on p) m.from m.to h) (straight_file p.side (man_on p) m.from m.to h))
 
-moved : (p : State) (m : MoveParts) (a : Mover p m) → a.man.kind ≡ Pawn → Moved p a.man m
+moved : (p : PositionParts) (m : MoveParts) (a : Mover p m) → a.man.kind ≡ Pawn → Moved p a.man m
 moved p m a is =
     elim (pawn_move p m a is) [
       | inl x ↦ moved_straight p a.man m (inl x)
@@ -115,35 +115,35 @@ moved p m a is =
       ]
     ]
 
-holds_own : (p : State) (m : MoveParts) (a : Mover p m) → a.man.kind ≡ Pawn → holds_pawn (look p m.from) ≡ true
+holds_own : (p : PositionParts) (m : MoveParts) (a : Mover p m) → a.man.kind ≡ Pawn → holds_pawn (man_on p m.from) ≡ true
 holds_own p m a is = ap holds_pawn a.here ∙ ap is_pawn is
 
-own_kind : (p : State) (m : MoveParts) (a : Mover p m) → holds_pawn (look p m.from) ≡ true → a.man.kind ≡ Pawn
+own_kind : (p : PositionParts) (m : MoveParts) (a : Mover p m) → holds_pawn (man_on p m.from) ≡ true → a.man.kind ≡ Pawn
 own_kind p m a h = pawn_is a.man.kind (sym (ap holds_pawn a.here) ∙ h)
 
 -- the pawn's form names its move
-pub pawn_names : (p : State) (m : MoveParts) (a : Mover p m) → a.man.kind ≡ Pawn → (taken : Bool) → captures p a.man m ≡ taken →
-    (follows (pawn_course taken m) m && may_be_plain (pawn_course taken m).origin (look p m.from) m) ≡ true
+pub pawn_names : (p : PositionParts) (m : MoveParts) (a : Mover p m) → a.man.kind ≡ Pawn → (taken : Bool) → captures p a.man m ≡ taken →
+    (follows (pawn_course taken m) m && may_be_plain (pawn_course taken m).origin (man_on p m.from) m) ≡ true
 pawn_names p m a is true e =
     and_from _ _ (follows_own (pawn_course true m) m refl (eq-eqb _ _ refl) refl refl) (and_from _ _ (holds_own p m a is) refl)
 pawn_names p m a is false e =
     let file : file_of m.from ≡ file_of m.to = elim (moved p m a is) [
       | inl x ↦ absurd (true≢false (sym x.1 ∙ e))
-      | inr x ↦ straight_file p.side (look p) m.from m.to x.0
+      | inr x ↦ straight_file p.side (man_on p) m.from m.to x.0
     ] in
     and_from _ _ (follows_own (pawn_course false m) m refl refl refl refl) (and_from _ _ (holds_own p m a is) (eq-eqb _ _ file))
 
-straight_move : (p : State) (n : MoveParts) (b : Mover p n) → b.man.kind ≡ Pawn → file_of n.from ≡ file_of n.to → Straight p.side (look p) n.from n.to
+straight_move : (p : PositionParts) (n : MoveParts) (b : Mover p n) → b.man.kind ≡ Pawn → file_of n.from ≡ file_of n.to → Straight p.side (man_on p) n.from n.to
 straight_move p n b is file =
     elim (moved p n b is) [ inl x ↦ absurd (aside_file p.side n.from n.to x.0.aside file) | inr x ↦ x.0 ]
 
-takes_move : (p : State) (n : MoveParts) (b : Mover p n) → b.man.kind ≡ Pawn → file_of n.from ≢ file_of n.to → Aside p.side n.from n.to
+takes_move : (p : PositionParts) (n : MoveParts) (b : Mover p n) → b.man.kind ≡ Pawn → file_of n.from ≢ file_of n.to → Aside p.side n.from n.to
 takes_move p n b is file =
-    elim (moved p n b is) [ inl x ↦ x.0.aside | inr x ↦ absurd (file (straight_file p.side (look p) n.from n.to x.0)) ]
+    elim (moved p n b is) [ inl x ↦ x.0.aside | inr x ↦ absurd (file (straight_file p.side (man_on p) n.from n.to x.0)) ]
 
 -- and no other
-pub pawn_same : (p : State) (m n : MoveParts) (a : Mover p m) (b : Mover p n) → a.man.kind ≡ Pawn → (taken : Bool) → captures p a.man m ≡ taken →
-    (follows (pawn_course taken m) n && may_be_plain (pawn_course taken m).origin (look p n.from) n) ≡ true → n ≡ m
+pub pawn_same : (p : PositionParts) (m n : MoveParts) (a : Mover p m) (b : Mover p n) → a.man.kind ≡ Pawn → (taken : Bool) → captures p a.man m ≡ taken →
+    (follows (pawn_course taken m) n && may_be_plain (pawn_course taken m).origin (man_on p n.from) n) ≡ true → n ≡ m
 pawn_same p m n a b is true e h =
     let q = and_parts _ _ h in
     let f = followed (pawn_course true m) n q.0 in
@@ -160,7 +160,7 @@ pawn_same p m n a b is false e h =
     let r = and_parts _ _ q.1 in
     let kind : b.man.kind ≡ Pawn = own_kind p n b r.0 in
     let to : n.to ≡ m.to = f.to in
-    let own : Straight p.side (look p) m.from m.to = elim (moved p m a is) [ inl x ↦ absurd (true≢false (sym x.1 ∙ e)) | inr x ↦ x.0 ] in
-    let other : Straight p.side (look p) n.from m.to =
-    subst (λ (s : ℕ). Straight p.side (look p) n.from s) to (straight_move p n b kind (eqb-true _ _ r.1)) in
-    same_move n m (straight_back p.side (look p) m.from n.from m.to a.man b.man a.here b.here own other) to f.promo
+    let own : Straight p.side (man_on p) m.from m.to = elim (moved p m a is) [ inl x ↦ absurd (true≢false (sym x.1 ∙ e)) | inr x ↦ x.0 ] in
+    let other : Straight p.side (man_on p) n.from m.to =
+    subst (λ (s : ℕ). Straight p.side (man_on p) n.from s) to (straight_move p n b kind (eqb-true _ _ r.1)) in
+    same_move n m (straight_back p.side (man_on p) m.from n.from m.to a.man b.man a.here b.here own other) to f.promo

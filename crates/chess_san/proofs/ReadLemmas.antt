@@ -8,7 +8,7 @@ use Rattle.chess_types.specs.board.Squares.{file_of, rank_of}
 use Rattle.chess_types.specs.board.MoveParts.{MoveParts}
 use Rattle.chess_types.specs.board.Men.{is_pawn}
 use Rattle.chess_types.specs.board.Texts.{square_text, names_promotion}
-use Rattle.chess_types.specs.bytes.Words.{is_gap}
+use Rattle.byte_streams.specs.Words.{is_gap}
 use Rattle.chess_san.specs.declared.form.Origin.{Origin}
 use Rattle.chess_san.specs.declared.form.Course.{Course}
 use Rattle.chess_san.specs.declared.form.Form.TheVariants.{Piece, Plain}

@@ -12,7 +12,7 @@ use Rattle.chess_types.specs.steps.ManCode.{kind_of, kind_of-number}
 use Rattle.chess_types.specs.board.Squares.{file_of, rank_of}
 use Rattle.chess_types.specs.board.Men.{is_pawn, kind_number}
 use Rattle.chess_types.specs.board.MoveParts.{MoveParts}
-use Rattle.chess_types.specs.board.Position.{State, look, king_home}
+use Rattle.chess_types.specs.board.Position.{PositionParts, man_on, king_home}
 use Rattle.chess_types.specs.board.Pseudo.{reached, moves_as, is_pseudo}
 use Rattle.chess_types.specs.board.Legal.{is_legal, legal_moves}
 use Rattle.chess_types.specs.board.Outcome.{is_without}
@@ -29,21 +29,21 @@ pub same_move : (m n : MoveParts) → m.from ≡ n.from → m.to ≡ n.to → m.
 same_move m n a b c = λ i. record { from = a i; to = b i; promo = c i }
 
 -- the man that makes a legal move
-pub record Mover (p : State) (m : MoveParts) : Type 0 where
+pub record Mover (p : PositionParts) (m : MoveParts) : Type 0 where
   pub man : Man
-  pub here : look p m.from ≡ Some man
+  pub here : man_on p m.from ≡ Some man
   pub mine : man.colour ≡ p.side
   pub moves : moves_as p man.kind m ≡ true
 
-pub mover : (p : State) (m : MoveParts) → is_legal p m ≡ true → Mover p m
+pub mover : (p : PositionParts) (m : MoveParts) → is_legal p m ≡ true → Mover p m
 mover p m h =
     let pseudo : is_pseudo p m ≡ true = legal_pseudo p m h in
-    let (man, here) : (man : Man) × (look p m.from ≡ Some man) = pseudo_man p m pseudo in
+    let (man, here) : (man : Man) × (man_on p m.from ≡ Some man) = pseudo_man p m pseudo in
     let a = and_parts _ _ (rw here at pseudo) in
     record { man = man; here = here; mine = same_is man.colour p.side a.0; moves = a.1 }
 
 -- a man that isn't a pawn becomes nothing
-pub plain_promo : (p : State) (kind : Kind) (m : MoveParts) → is_pawn kind ≡ false → moves_as p kind m ≡ true → m.promo ≡ None
+pub plain_promo : (p : PositionParts) (kind : Kind) (m : MoveParts) → is_pawn kind ≡ false → moves_as p kind m ≡ true → m.promo ≡ None
 unfolding moves_as
 plain_promo p Pawn m h moves = absurd (true≢false h)
 plain_promo p _ m h moves = none_is _ (and_parts _ _ moves).1
@@ -52,14 +52,14 @@ pub kind_is : (a b : Kind) → (kind_number a == kind_number b) ≡ true → a �
 kind_is a b h = sym (kind_of-number a) ∙ ap kind_of (eqb-true _ _ h) ∙ kind_of-number b
 
 -- castling
-pub record Castled (p : State) (wing : Wing) (m : MoveParts) : Type 0 where
+pub record Castled (p : PositionParts) (wing : Wing) (m : MoveParts) : Type 0 where
   pub from : m.from ≡ king_home p.side
   pub to : m.to ≡ reached p.side wing
   pub promo : m.promo ≡ None
 
-pub castled : (p : State) (wing : Wing) (m : MoveParts) → Mover p m → castles_by (look p m.from) wing m ≡ true → Castled p wing m
+pub castled : (p : PositionParts) (wing : Wing) (m : MoveParts) → Mover p m → castles_by (man_on p m.from) wing m ≡ true → Castled p wing m
 castled p wing m a h =
-    let here : look p m.from ≡ Some a.man = a.here in
+    let here : man_on p m.from ≡ Some a.man = a.here in
     let q = and_parts _ _ (rw here at h) in
     let w = castles_where a.man.colour wing m q.1 in
     record {
@@ -68,8 +68,8 @@ castled p wing m a h =
       promo = plain_promo p a.man.kind m (king_no_pawn a.man.kind q.0) a.moves;
     }
 
-pub castled_same : (p : State) (wing : Wing) (m n : MoveParts) → Mover p m → Mover p n → castles_by (look p m.from) wing m ≡ true →
-    castles_by (look p n.from) wing n ≡ true → n ≡ m
+pub castled_same : (p : PositionParts) (wing : Wing) (m n : MoveParts) → Mover p m → Mover p n → castles_by (man_on p m.from) wing m ≡ true →
+    castles_by (man_on p n.from) wing n ≡ true → n ≡ m
 castled_same p wing m n a b h g =
     let x = castled p wing m a h in
     let y = castled p wing n b g in
@@ -140,7 +140,7 @@ passing test (n ∷ ms) (suc k) m within is h =
       | inr out ↦ rw out c
     ]
 
-pub piece_from : (p : State) (kind : Kind) (m n : MoveParts) → IsMove n → is_legal p n ≡ true → n.to ≡ m.to → is_kind kind (look p n.from) ≡ true →
+pub piece_from : (p : PositionParts) (kind : Kind) (m n : MoveParts) → IsMove n → is_legal p n ≡ true → n.to ≡ m.to → is_kind kind (man_on p n.from) ≡ true →
     fits (origin_of p kind m).file (file_of n.from) ≡ true → fits (origin_of p kind m).rank (rank_of n.from) ≡ true → n.from ≡ m.from
 unfolding rivals
 piece_from p kind m n on legal to is file rank =

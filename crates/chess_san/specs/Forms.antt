@@ -10,7 +10,7 @@ use Rattle.chess_types.specs.declared.board.position.Wing.{Wing}
 use Rattle.chess_types.specs.declared.board.position.Wing.TheVariants.{KingSide, QueenSide}
 use Rattle.chess_types.specs.board.Men.{is_pawn}
 use Rattle.chess_types.specs.board.Texts.{kind_of_letter}
-use Rattle.chess_types.specs.bytes.Words.{without_last_gaps}
+use Rattle.byte_streams.specs.Words.{without_last_gaps}
 use Rattle.chess_san.specs.declared.form.Origin.{Origin}
 use Rattle.chess_san.specs.declared.form.Course.{Course}
 use Rattle.chess_san.specs.declared.form.Form.{Form}

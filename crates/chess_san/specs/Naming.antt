@@ -1,7 +1,7 @@
 -- Which legal moves a text names.
 --   names    a form names the legal move
 --   named    the legal moves that the text names, in order
---   reading  the one move that is named, or why there is none
+--   san_reading  the one move that is named, or why there is none
 use Rattle.std.specs.Prelude.{ℕ, ◌==◌, Bool, true, false, not, ◌&&◌, ◌||◌, List, [], ◌∷◌, filter, Option, Some, None, is_some, Result, Ok, Err}
 use Rattle.chess_types.specs.declared.board.man.Kind.{Kind}
 use Rattle.chess_types.specs.declared.board.man.Man.{Man}
@@ -10,7 +10,7 @@ use Rattle.chess_types.specs.declared.board.position.Wing.TheVariants.{KingSide,
 use Rattle.chess_types.specs.board.Squares.{file_of, rank_of}
 use Rattle.chess_types.specs.board.Men.{holds_pawn, kind_number}
 use Rattle.chess_types.specs.board.MoveParts.{MoveParts}
-use Rattle.chess_types.specs.board.Position.{State, look}
+use Rattle.chess_types.specs.board.Position.{PositionParts, man_on}
 use Rattle.chess_types.specs.board.After.{is_castling}
 use Rattle.chess_types.specs.board.Legal.{legal_moves}
 use Rattle.chess_san.specs.declared.form.Origin.{Origin}
@@ -59,18 +59,18 @@ may_be_plain origin there m =
     || (holds_pawn there && (is_some origin.file || is_some origin.rank || file_of m.from == file_of m.to))
 
 -- a text of this form names the move
-unfoldable pub names : State → Form → MoveParts → Bool
-names p (Castles wing) m = castles_by (look p m.from) wing m
-names p (Piece kind course) m = follows course m && is_kind kind (look p m.from) && not (is_castles (look p m.from) m)
-names p (Plain course) m = follows course m && may_be_plain course.origin (look p m.from) m
+unfoldable pub names : PositionParts → Form → MoveParts → Bool
+names p (Castles wing) m = castles_by (man_on p m.from) wing m
+names p (Piece kind course) m = follows course m && is_kind kind (man_on p m.from) && not (is_castles (man_on p m.from) m)
+names p (Plain course) m = follows course m && may_be_plain course.origin (man_on p m.from) m
 
 -- the legal moves that a text of this form names
-abbrev pub named_by : State → Option Form → List MoveParts
+abbrev pub named_by : PositionParts → Option Form → List MoveParts
 named_by p None = []
 named_by p (Some form) = filter (names p form) (legal_moves p)
 
 -- the legal moves that the text names
-unfoldable pub named : State → List ℕ → List MoveParts
+unfoldable pub named : PositionParts → List ℕ → List MoveParts
 named p text = named_by p (form_in text)
 
 -- the only one of these moves, or why there is none
@@ -80,10 +80,10 @@ the_one (m ∷ []) = Ok m
 the_one (m ∷ n ∷ rest) = Err Ambiguous
 
 -- the legal move that a text of this form names
-abbrev pub reading_by : State → Option Form → Result MoveParts SanFault
+abbrev pub reading_by : PositionParts → Option Form → Result MoveParts SanFault
 reading_by p None = Err NoForm
 reading_by p (Some form) = the_one (filter (names p form) (legal_moves p))
 
 -- the move, where the text names one alone
-unfoldable pub reading : State → List ℕ → Result MoveParts SanFault
-reading p text = reading_by p (form_in text)
+unfoldable pub san_reading : PositionParts → List ℕ → Result MoveParts SanFault
+san_reading p text = reading_by p (form_in text)

@@ -15,7 +15,7 @@ use Rattle.chess_types.specs.board.Squares.{file_of, rank_of}
 use Rattle.chess_types.specs.board.Attack.{in_check}
 use Rattle.chess_types.specs.board.MoveParts.{MoveParts}
 use Rattle.chess_types.specs.board.Texts.{kind_letter, square_text}
-use Rattle.chess_types.specs.board.Position.{State, look}
+use Rattle.chess_types.specs.board.Position.{PositionParts, man_on}
 use Rattle.chess_types.specs.board.After.{after, is_castling, is_en_passant}
 use Rattle.chess_types.specs.board.Legal.{legal_moves}
 use Rattle.chess_types.specs.board.Outcome.{is_without}
@@ -37,11 +37,11 @@ rank_digit None = []
 rank_digit (Some rank) = (byte "1" + rank) ∷ []
 
 -- a man of the kind on another square goes to the target
-abbrev pub is_rival : State → Kind → ℕ → ℕ → MoveParts → Bool
-is_rival p kind from to n = n.to == to && not (n.from == from) && is_kind kind (look p n.from)
+abbrev pub is_rival : PositionParts → Kind → ℕ → ℕ → MoveParts → Bool
+is_rival p kind from to n = n.to == to && not (n.from == from) && is_kind kind (man_on p n.from)
 
 -- the moves of other men of the kind and colour that may go to the target
-unfoldable pub rivals : State → Kind → ℕ → ℕ → List MoveParts
+unfoldable pub rivals : PositionParts → Kind → ℕ → ℕ → List MoveParts
 rivals p kind from to = filter (is_rival p kind from to) (legal_moves p)
 
 -- one of them comes from the file, or from the rank
@@ -65,12 +65,12 @@ unfoldable pub origin_among : List MoveParts → ℕ → Origin
 origin_among others from = origin_by (is_without others) (share_file others from) (share_rank others from) from
 
 -- the file, the rank or both, where rivals need it
-abbrev pub origin_of : State → Kind → MoveParts → Origin
+abbrev pub origin_of : PositionParts → Kind → MoveParts → Origin
 origin_of p kind m = origin_among (rivals p kind m.from m.to) m.from
 
 -- a man stands on the target, or a pawn captures en passant
-abbrev pub captures : State → Man → MoveParts → Bool
-captures p man m = is_some (look p m.to) || is_en_passant p.target man m
+abbrev pub captures : PositionParts → Man → MoveParts → Bool
+captures p man m = is_some (man_on p m.to) || is_en_passant p.target man m
 
 -- `x` for a capture
 abbrev pub capture_text : Bool → List ℕ
@@ -90,7 +90,7 @@ unfoldable pub piece_text : Kind → Origin → Bool → ℕ → List ℕ
 piece_text kind origin taken to = piece_letter kind ∷ (file_letter origin.file ++ (rank_digit origin.rank ++ (capture_text taken ++ square_text to)))
 
 -- a man that doesn't castle
-abbrev pub step_text : State → Kind → Man → MoveParts → List ℕ
+abbrev pub step_text : PositionParts → Kind → Man → MoveParts → List ℕ
 step_text p Pawn man m = pawn_text (captures p man m) m
 step_text p Knight man m = piece_text Knight (origin_of p Knight m) (captures p man m) m.to
 step_text p Bishop man m = piece_text Bishop (origin_of p Bishop m) (captures p man m) m.to
@@ -99,16 +99,16 @@ step_text p Queen man m = piece_text Queen (origin_of p Queen m) (captures p man
 step_text p King man m = piece_text King (origin_of p King m) (captures p man m) m.to
 
 -- the text of a move without its mark of check or mate
-abbrev pub bare_text : State → Option Man → MoveParts → List ℕ
+abbrev pub bare_text : PositionParts → Option Man → MoveParts → List ℕ
 bare_text p None m = []
 bare_text p (Some man) m =
     if is_castling man KingSide m then codes "O-O"
     else (if is_castling man QueenSide m then codes "O-O-O" else step_text p man.kind man m)
 
 -- # where the side to move is mated, else + where it is in check
-unfoldable pub mark_text : State → List ℕ
-mark_text p = if in_check (look p) p.side then (if is_without (legal_moves p) then codes "#" else codes "+") else []
+unfoldable pub mark_text : PositionParts → List ℕ
+mark_text p = if in_check (man_on p) p.side then (if is_without (legal_moves p) then codes "#" else codes "+") else []
 
 -- the text of a move (PGN 8.2.3)
-unfoldable pub san : State → MoveParts → List ℕ
-san p m = bare_text p (look p m.from) m ++ mark_text (after p m)
+unfoldable pub san : PositionParts → MoveParts → List ℕ
+san p m = bare_text p (man_on p m.from) m ++ mark_text (after p m)

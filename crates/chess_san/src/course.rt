@@ -1,5 +1,5 @@
 ghost use Rattle.std.specs.Prelude.{◌≡◌, ◌<◌, IfSome};
-ghost use Rattle.chess_types.specs.bytes.Words.{without_last_gaps};
+ghost use Rattle.byte_streams.specs.Words.{without_last_gaps};
 ghost use Rattle.chess_san.specs.Forms.{file_in, rank_in, square_at, piece_in, promotion_in, ending_in, arrival_square_in, arrival_in, ranked_in, rank_or_not, filed_in, course_in, man_in, wing_in, form_in, marks};
 
 use crate::form::{Course, Form, Origin};

@@ -4,7 +4,7 @@ ghost use Rattle.chess_types.specs.board.MoveParts.{MoveParts};
 ghost use Rattle.chess_types.specs.board.Squares.{file_of, rank_of, squares};
 ghost use Rattle.chess_types.specs.board.Legal.{is_legal, legal_moves};
 ghost use Rattle.chess_san.specs.declared.form.Form.TheVariants.{Plain};
-ghost use Rattle.chess_san.specs.Naming.{reading, the_one, names};
+ghost use Rattle.chess_san.specs.Naming.{san_reading, the_one, names};
 ghost use Rattle.chess_san.specs.steps.Origins.{Begins, BeginsAmong, ComesBy, from_each, legal_and};
 
 use crate::course::form_in;
@@ -152,11 +152,11 @@ fn named(live: &mut Live, form: &Form) -> Result<Move, SanFault>
 /// # Errors
 ///
 /// `Form` where the text has none of the forms, `Illegal` where it names no legal move, `Ambiguous` where it names more than one.
-#[tactic(auto, unfolding(crate::specs::Naming::reading))]
+#[tactic(auto, unfolding(crate::specs::Naming::san_reading))]
 pub fn read(live: &mut Live, text: &[u8]) -> Result<Move, SanFault>
     requires clock { live.old.position.clock ≤ 1000000 }
     requires number { live.old.position.number ≤ 1000000 }
-    ensures value { result ≡ reading live.old.position text.now }
+    ensures value { result ≡ san_reading live.old.position text.now }
     ensures legal { IfOk result (λ m. is_legal live.old.position m ≡ true) }
     ensures position { live.new.position ≡ live.old.position }
     ensures words { live.new.words ≡ live.old.words }

@@ -5,11 +5,11 @@ ghost use Rattle.chess_types.specs.board.Squares.{file_of, rank_of, squares};
 ghost use Rattle.arrayvec.specs.ArrayString.{array_string_len};
 ghost use Rattle.chess_types.specs.board.Men.{is_pawn};
 ghost use Rattle.chess_types.specs.board.Texts.{square_text};
-ghost use Rattle.chess_types.specs.board.Position.{look};
+ghost use Rattle.chess_types.specs.board.Position.{man_on};
 ghost use Rattle.chess_types.specs.board.After.{after};
 ghost use Rattle.chess_types.specs.board.Legal.{is_legal};
 ghost use Rattle.chess_san.specs.steps.Origins.{Begins, BeginsAmong, legal_and};
-ghost use Rattle.chess_san.specs.Naming.{named, reading};
+ghost use Rattle.chess_san.specs.Naming.{named, san_reading};
 ghost use Rattle.chess_san.specs.Writing.{piece_letter, captures, capture_text, file_letter, rank_digit, becoming_text, pawn_text, piece_text, rivals, is_rival, origin_by, origin_among, mark_text, bare_text, san};
 
 use crate::form::Origin;
@@ -246,7 +246,7 @@ fn piece_text(kind: Kind, origin: Origin, taken: bool, to: Square) -> ArrayStrin
 
 // The text of a man's move without the mark of check or mate.
 fn bare_text(live: &mut Live, man: Man, m: Move) -> ArrayString<8>
-    requires here { look live.old.position m.from ≡ Some man }
+    requires here { man_on live.old.position m.from ≡ Some man }
     requires clock { live.old.position.clock ≤ 1000000 }
     requires number { live.old.position.number ≤ 1000000 }
     ensures bytes { result.bytes ≡ bare_text live.old.position (Some man) m }
@@ -295,7 +295,7 @@ pub fn write_mark(live: &mut Live) -> &'static str
 }
 
 fn man_at(setup: &Setup, square: Square) -> Option<Man>
-    ensures { result ≡ look setup.now square }
+    ensures { result ≡ man_on setup.now square }
 {
     setup.placement.get(square)
 }
@@ -326,7 +326,7 @@ pub fn write(live: &mut Live, m: Move) -> ArrayString<8>
     requires number { live.old.position.number < 1000000 }
     ensures bytes { result.bytes ≡ san live.old.position m }
     ensures named { named live.old.position result.bytes ≡ m ∷ [] }
-    ensures read_back { reading live.old.position result.bytes ≡ Ok m }
+    ensures read_back { san_reading live.old.position result.bytes ≡ Ok m }
     ensures position { live.new.position ≡ live.old.position }
     ensures words { live.new.words ≡ live.old.words }
 {

@@ -7,5 +7,6 @@ pub mod BorderLemmas
 pub mod OrderLemmas
 pub mod SliceLemmas
 pub mod QuietLemmas
+pub mod FreeLemmas
 pub mod FrontierLemmas
 pub mod MateLemmas

@@ -10,7 +10,7 @@ use Rattle.chess_types.specs.declared.board.man.Colour.TheVariants.{White, Black
 use Rattle.chess_types.specs.board.MoveParts.{MoveParts}
 use Rattle.chess_types.specs.board.After.{after}
 use Rattle.chess_types.specs.board.Attack.{in_check}
-use Rattle.chess_types.specs.board.Position.{State, IsSetup, IsWellFormed, look}
+use Rattle.chess_types.specs.board.Position.{PositionParts, IsSetup, IsWellFormed, man_on}
 use Rattle.chess_types.specs.board.Legal.{legal_moves}
 use Rattle.chess_types.specs.board.Lines.{Line, last, extended}
 use Rattle.chess_types.proofs.AllMoves.{IsMove}
@@ -153,7 +153,7 @@ mates_none : (claims : Bool) (n : ℕ) (line : Line) → legal_moves (last line)
 mates_none claims zero line none = refl
 mates_none claims (suc n) line none = rw none (and_false (not (counts_drawn claims line)))
 
-mated_none : (claims : Bool) (n : ℕ) (line : Line) → legal_moves (last line) ≡ [] → is_mated_in claims n line ≡ in_check (look (last line)) (last line).side
+mated_none : (claims : Bool) (n : ℕ) (line : Line) → legal_moves (last line) ≡ [] → is_mated_in claims n line ≡ in_check (man_on (last line)) (last line).side
 mated_none claims n line none = rw none refl
 
 -- a drawn line goes no further
@@ -189,7 +189,7 @@ counted_far claims depth line distance v near far wins loses = record {
 }
 
 counted_mated : (claims : Bool) (depth : ℕ) (line : Line) (distance : ℕ) (v : ℤ) → distance + depth ≤ 16 → v ≡ (pos distance -ℤ pos 30000) →
-    legal_moves (last line) ≡ [] → in_check (look (last line)) (last line).side ≡ true → Counted claims depth line distance v
+    legal_moves (last line) ≡ [] → in_check (man_on (last line)) (last line).side ≡ true → Counted claims depth line distance v
 counted_mated claims depth line distance v near is none check = record {
   low = omega (arith, ints, is);
   high = omega (arith, ints, is, near);
@@ -267,10 +267,10 @@ setups_after line setup k d lt =
     let sound : IsWellFormed (after (last line) m) = legal_well_formed (last line) m setup on.from on.to (moves_legal (last line) k d lt) in
     subst IsSetup (sym (last_extended line m)) sound.setup
 
-evaluated : (p : State) → IsSetup p → IsWithin 13605 (evaluation_for p)
+evaluated : (p : PositionParts) → IsSetup p → IsWithin 13605 (evaluation_for p)
 evaluated p setup =
-    let all : IsWithin 13605 (evaluation (look p)) = armies_within p.placement (record { few = setup.few; kings = setup.kings }) in
-    elim p.side as (λ side. IsWithin 13605 (for_white side (evaluation (look p)))) [
+    let all : IsWithin 13605 (evaluation (man_on p)) = armies_within p.placement (record { few = setup.few; kings = setup.kings }) in
+    elim p.side as (λ side. IsWithin 13605 (for_white side (evaluation (man_on p)))) [
       | White ↦ all
       | Black ↦ record { low = omega (arith, ints, all.high); high = omega (arith, ints, all.low) }
     ]
@@ -288,9 +288,9 @@ none_lost claims (suc n) line m ms some playing deep = absurd (omega (arith, dee
 -- at the end of the line, whatever the depth
 counted_end : (claims : Bool) (depth : ℕ) (line : Line) (distance : ℕ) → distance + depth ≤ 16 → legal_moves (last line) ≡ [] →
     Counted claims depth line distance (value claims depth line distance)
-counted_end claims depth line distance near none = by (in_check (look (last line)) (last line).side) refl
+counted_end claims depth line distance near none = by (in_check (man_on (last line)) (last line).side) refl
   where
-    by : (t : Bool) → in_check (look (last line)) (last line).side ≡ t → Counted claims depth line distance (value claims depth line distance)
+    by : (t : Bool) → in_check (man_on (last line)) (last line).side ≡ t → Counted claims depth line distance (value claims depth line distance)
     by true check =
         let is : value claims depth line distance ≡ (pos distance -ℤ pos 30000) =
         value-ended claims depth line distance (pos distance -ℤ pos 30000) (unfold ended in rw (none, check) refl) in

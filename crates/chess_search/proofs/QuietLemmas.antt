@@ -6,7 +6,7 @@ use Rattle.chess_types.specs.declared.board.axis.Axis.{Axis}
 use Rattle.chess_types.specs.declared.board.man.Colour.{Colour}
 use Rattle.chess_types.specs.declared.board.man.Kind.TheVariants.{Queen}
 use Rattle.chess_types.specs.declared.board.man.Man.{Man}
-use Rattle.chess_types.specs.board.Board.{Look}
+use Rattle.chess_types.specs.board.Board.{Men}
 use Rattle.chess_types.specs.board.Men.{opponent, same_colour}
 use Rattle.chess_types.specs.board.Squares.{line_of, is_between}
 use Rattle.chess_types.specs.board.Attack.{is_clear, leaps, slides, slides_to, attacks_as, attacks_for, in_check}
@@ -21,7 +21,7 @@ unfolding slides_to slides
 queen_slides axis k f apart same = grind (arith, nat_tests, ne_eqb k f apart, eq-eqb (line_of axis k) (line_of axis f) same)
 
 -- between a square and the king there is nobody but a man on f: then a queen on the king's square sees f
-module _ (E : Look) (c : Colour) (f k : ℕ) (on_board : f < 64) (there : k < 64) where
+module _ (E : Men) (c : Colour) (f k : ℕ) (on_board : f < 64) (there : k < 64) where
   clear_to : (a : ℕ) → a < 64 → is_between a k f ≡ true → is_clear (without E f) a k ≡ true → is_clear E k f ≡ true
   clear_to a ha between clear =
       let (axis, on) : (axis : Axis) × BetweenOn axis a k f = between_parts a k f between in
@@ -65,7 +65,7 @@ module _ (E : Look) (c : Colour) (f k : ℕ) (on_board : f < 64) (there : k < 64
         | inr ne ↦ sym (without_there E f t ne) ∙ clear_at (without E f) a k t clear ht inside
       ])
 
-module _ (E F : Look) (from to : ℕ) (c : Colour) (moved : Shifts E F from to c) where
+module _ (E F : Men) (from to : ℕ) (c : Colour) (moved : Shifts E F from to c) where
   -- a line that is clear afterwards is clear without the man
   clear_before : (a k : ℕ) → is_clear F a k ≡ true → is_clear (without E from) a k ≡ true
   clear_before a k clear =

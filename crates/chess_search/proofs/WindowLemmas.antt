@@ -11,7 +11,7 @@ use Rattle.std.specs.List.{All, AllByRecursion}
 use Rattle.std.specs.List.Sorted.{IsPermutation}
 use Rattle.chess_types.specs.board.MoveParts.{MoveParts}
 use Rattle.chess_types.specs.board.Attack.{in_check}
-use Rattle.chess_types.specs.board.Position.{State, look}
+use Rattle.chess_types.specs.board.Position.{PositionParts, man_on}
 use Rattle.chess_types.specs.board.Lines.{Line, last}
 use Rattle.chess_types.specs.board.Legal.{is_legal, legal_moves}
 use Rattle.chess_types.specs.board.Outcome.{is_without}
@@ -164,12 +164,12 @@ FitsWindow-negated alpha beta low high v a b e f h w = record {
 }
 
 -- mated, or stalemate
-pub ended-check : (claims : Bool) (line : Line) (distance : ℕ) → legal_moves (last line) ≡ [] → in_check (look (last line)) (last line).side ≡ true →
+pub ended-check : (claims : Bool) (line : Line) (distance : ℕ) → legal_moves (last line) ≡ [] → in_check (man_on (last line)) (last line).side ≡ true →
     ended claims line distance ≡ Some (pos distance -ℤ pos 30000)
 unfolding ended
 ended-check claims line distance none check = rw (none, check) refl
 
-pub ended-stalemate : (claims : Bool) (line : Line) (distance : ℕ) → legal_moves (last line) ≡ [] → in_check (look (last line)) (last line).side ≡ false →
+pub ended-stalemate : (claims : Bool) (line : Line) (distance : ℕ) → legal_moves (last line) ≡ [] → in_check (man_on (last line)) (last line).side ≡ false →
     ended claims line distance ≡ Some (pos 0)
 unfolding ended
 ended-stalemate claims line distance none check = rw (none, check) refl
@@ -182,13 +182,13 @@ ended-drawn claims line distance some drawn = rw (some_move (legal_moves (last l
 
 -- a line whose side to move isn't in check, looked at no deeper, is worth nothing or its evaluation
 unchecked : (claims : Bool) (line : Line) (distance : ℕ) (moves : List MoveParts) (drawn : Bool) → legal_moves (last line) ≡ moves → counts_drawn claims line ≡ drawn →
-    in_check (look (last line)) (last line).side ≡ false → (value claims 0 line distance ≡ pos 0) ⊎ (value claims 0 line distance ≡ evaluation_for (last line))
+    in_check (man_on (last line)) (last line).side ≡ false → (value claims 0 line distance ≡ pos 0) ⊎ (value claims 0 line distance ≡ evaluation_for (last line))
 unfolding ended
 unchecked claims line distance [] drawn listed is quiet = inl (rw (listed, quiet) refl)
 unchecked claims line distance (m ∷ ms) true listed is quiet = inl (rw (listed, is) refl)
 unchecked claims line distance (m ∷ ms) false listed is quiet = inr (rw (listed, is) refl)
 
-pub value-unchecked : (claims : Bool) (line : Line) (distance : ℕ) → in_check (look (last line)) (last line).side ≡ false →
+pub value-unchecked : (claims : Bool) (line : Line) (distance : ℕ) → in_check (man_on (last line)) (last line).side ≡ false →
     (value claims 0 line distance ≡ pos 0) ⊎ (value claims 0 line distance ≡ evaluation_for (last line))
 value-unchecked claims line distance quiet = unchecked claims line distance (legal_moves (last line)) (counts_drawn claims line) refl refl quiet
 
@@ -197,7 +197,7 @@ pub drawn_at : (claims answer is : Bool) (old new : Line) → new ≡ old → an
 drawn_at claims answer is old new line value told = ap (counts_drawn claims) (sym line) ∙ sym value ∙ told
 
 -- the evaluation of the line as it was
-pub evaluated_at : (p : State) (later new old : Line) → p ≡ last later → later ≡ new → new ≡ old → evaluation_for p ≡ evaluation_for (last old)
+pub evaluated_at : (p : PositionParts) (later new old : Line) → p ≡ last later → later ≡ new → new ≡ old → evaluation_for p ≡ evaluation_for (last old)
 evaluated_at p later new old position drawn line = ap evaluation_for (position ∙ ap last (drawn ∙ line))
 
 -- each move of the list, in whatever order, is legal in the line as it was

@@ -9,7 +9,7 @@ use Rattle.std.specs.Prelude.{◌≡◌, ℕ, zero, suc, ◌+◌, ◌-◌, ◌�
 use Rattle.std.specs.List.{list_any, list_all}
 use Rattle.std.specs.Fmt.{signed_decimal}
 use Rattle.chess_types.specs.board.Attack.{in_check}
-use Rattle.chess_types.specs.board.Position.{IsSetup, look}
+use Rattle.chess_types.specs.board.Position.{IsSetup, man_on}
 use Rattle.chess_types.specs.board.Legal.{legal_moves}
 use Rattle.chess_types.specs.board.Lines.{Line, last, extended}
 use Rattle.chess_types.specs.board.Outcome.{is_without}
@@ -20,7 +20,7 @@ use Rattle.chess_search.specs.Value.{counts_drawn, value}
 abbrev pub is_mated_by : Bool → (Line → Bool) → Line → Bool
 is_mated_by claims wins line =
     if is_without (legal_moves (last line))
-    then in_check (look (last line)) (last line).side
+    then in_check (man_on (last line)) (last line).side
     else (not (counts_drawn claims line) && list_all (λ m. wins (extended line m)) (legal_moves (last line)))
 
 -- the side to move mates with its n-th move at the latest

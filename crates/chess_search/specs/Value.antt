@@ -10,7 +10,7 @@ use Rattle.std.specs.Prelude.{ℕ, zero, suc, ◌+◌, Bool, ◌&&◌, ◌||◌,
 use Rattle.std.specs.Int.{int_max}
 use Rattle.chess_types.specs.board.Attack.{in_check}
 use Rattle.chess_types.specs.board.MoveParts.{MoveParts}
-use Rattle.chess_types.specs.board.Position.{State, look}
+use Rattle.chess_types.specs.board.Position.{PositionParts, man_on}
 use Rattle.chess_types.specs.board.Legal.{legal_moves}
 use Rattle.chess_types.specs.board.Lines.{Line, last, extended}
 use Rattle.chess_types.specs.board.Outcome.{is_without}
@@ -18,8 +18,8 @@ use Rattle.chess_eval.specs.Evaluation.{for_white, evaluation}
 use Rattle.chess_draws.specs.Draws.{is_drawn, is_claimable}
 
 -- White's centipawns where White has the move, else Black's
-abbrev pub evaluation_for : State → ℤ
-evaluation_for p = for_white p.side (evaluation (look p))
+abbrev pub evaluation_for : PositionParts → ℤ
+evaluation_for p = for_white p.side (evaluation (man_on p))
 
 -- dead, five times there or 75 moves without a capture or a pawn's move (5.2.2, 9.6); and, where draws that may be claimed count,
 -- three times there or 50 such moves (9.2, 9.3)
@@ -30,7 +30,7 @@ counts_drawn claims line = is_drawn line || (claims && is_claimable line)
 unfoldable pub ended : Bool → Line → ℕ → Option ℤ
 ended claims line distance =
     if is_without (legal_moves (last line))
-    then Some (if in_check (look (last line)) (last line).side then pos distance -ℤ pos 30000 else pos 0)
+    then Some (if in_check (man_on (last line)) (last line).side then pos distance -ℤ pos 30000 else pos 0)
     else (if counts_drawn claims line then Some (pos 0) else None)
 
 -- the greatest of some values, 0 of none

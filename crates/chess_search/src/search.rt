@@ -1,19 +1,21 @@
 ghost use Rattle.std.specs.Prelude.{◌≡◌, ◌+◌, ◌-◌, ◌≤◌, ◌<◌, Bool, [], IfSome, IsTrue, Some, pos, neg_ℤ, ◌<ℤ◌, ◌≤ℤ◌, ◌^◌, min};
 ghost use Rattle.chess_types.specs.board.Legal.{is_legal, legal_moves};
 ghost use Rattle.chess_types.specs.board.Lines.{last};
-ghost use Rattle.chess_eval.specs.Evaluation.{IsWithin, for_white};
+ghost use Rattle.chess_eval.specs.Evaluation.{AreSumsOf, IsWithin, for_white};
 ghost use Rattle.chess_draws.specs.LineParts.{IsAsBefore};
 ghost use Rattle.chess_search.specs.Scores.{IsValue, IsApart};
 ghost use Rattle.chess_search.specs.Value.{ended, evaluation_for, value, worth};
 ghost use Rattle.chess_search.specs.Slices.{IsInRange, HasBorder};
 ghost use Rattle.chess_search.specs.Asked.{tree_below, tree_size};
-ghost use Rattle.chess_search.specs.steps.Frontiers.{IsFrontier};
+ghost use Rattle.chess_search.specs.steps.Frontiers.{AreSumsAt, IsFarWhereFree, IsFrontier};
 ghost use Rattle.chess_search.specs.steps.Windows.{FitsWindow, IsDecided, better};
 
-use crate::frontier::{Frontier, answer_by, frontier_of};
+use crate::frontier::{Frontier, answer_by, frontier_of, sums_after, sums_of};
 use crate::nodes::Nodes;
 use crate::order::{Experience, put_in_order};
+use arrayvec::ArrayVec;
 use chess_draws::Line;
+use chess_eval::Sum;
 use chess_play::Live;
 use chess_types::{Colour, Move};
 use std::alloc::Allocator;
@@ -156,16 +158,18 @@ impl Searcher {
         self.nodes.tick();
     }
 
-    /// An answer for the line's value in the window from alpha to beta (fail-soft alpha-beta).
+    /// An answer for the line's value in the window from alpha to beta (fail-soft alpha-beta). The sums of its last position may be known.
     #[cycle(search)]
     fn search<A: Allocator>(
         &mut self,
         line: &mut Line<'_, A>,
+        sums: Option<Sum>,
         depth: u8,
         distance: u8,
         alpha: i32,
         beta: i32,
     ) -> i32
+        requires sums { AreSumsAt sums (last line.old.line) }
         requires room { line.old.looked + depth ≤ 16 }
         requires distance { distance + depth ≤ 16 }
         requires alpha { neg_ℤ (pos 30001) ≤ℤ alpha }
@@ -183,7 +187,8 @@ impl Searcher {
         if depth == 0 {
             return leaf_answer(line, distance, self.claims, alpha, beta);
         }
-        let mut moves = line.moves();
+        let mut moves = ArrayVec::new();
+        line.moves_into(&mut moves);
         if moves.is_empty() {
             return end_value(line, distance);
         }
@@ -191,11 +196,12 @@ impl Searcher {
             return DRAW;
         }
         put_in_order(line.live(), &self.experience, distance, depth, &mut moves);
-        let frontier = frontier_of(line.live(), depth);
+        let frontier = frontier_of(line, depth, self.claims);
+        let here = sums_of(sums, line.live());
         let mut best: i32 = -30001;
         for m in moves.as_slice() {
             let floor = best.max(alpha);
-            let answer = self.judge(line, &frontier, *m, depth - 1, distance, floor, beta);
+            let answer = self.judge(line, &frontier, &here, *m, depth - 1, distance, floor, beta);
             best = best.max(answer);
             if best >= beta {
                 self.experience.learn(line.live(), distance, depth, *m);
@@ -205,12 +211,13 @@ impl Searcher {
         best
     }
 
-    /// The same as `score`; where the move is the last one that is looked at and the frontier knows enough, it isn't made.
+    /// The same as `score_with`; where the move is the last one that is looked at and the frontier knows enough, it isn't made.
     #[cycle(search)]
     fn judge<A: Allocator>(
         &mut self,
         line: &mut Line<'_, A>,
         frontier: &Option<Frontier>,
+        sums: &Sum,
         m: Move,
         depth: u8,
         distance: u8,
@@ -219,6 +226,8 @@ impl Searcher {
     ) -> i32
         requires legal { IsTrue (is_legal (last line.old.line) m) }
         requires frontier { IfSome frontier.now (λ f. IsFrontier f (last line.old.line)) }
+        requires sums { AreSumsOf sums.now (last line.old.line).placement }
+        requires far { IfSome frontier.now (λ f. IsFarWhereFree self.old.claims f line.old.line) }
         requires room { line.old.looked + depth < 16 }
         requires distance { distance + depth < 16 }
         requires alpha { neg_ℤ (pos 30001) ≤ℤ alpha }
@@ -233,17 +242,50 @@ impl Searcher {
         ensures line { IsAsBefore line.old line.new }
     {
         if depth == 0 {
-            if let Some(answer) = answer_by(frontier, line.live(), m, alpha, beta) {
+            if let Some(answer) = answer_by(frontier, sums, line.live(), m, alpha, beta) {
                 self.nodes.tick();
                 return answer;
             }
         }
-        self.score(line, m, depth, distance, alpha, beta)
+        self.score_with(line, sums, m, depth, distance, alpha, beta)
+    }
+
+    /// The same as `score`, with the sums before the move.
+    #[cycle(search)]
+    fn score_with<A: Allocator>(
+        &mut self,
+        line: &mut Line<'_, A>,
+        sums: &Sum,
+        m: Move,
+        depth: u8,
+        distance: u8,
+        alpha: i32,
+        beta: i32,
+    ) -> i32
+        requires legal { IsTrue (is_legal (last line.old.line) m) }
+        requires sums { AreSumsOf sums.now (last line.old.line).placement }
+        requires room { line.old.looked + depth < 16 }
+        requires distance { distance + depth < 16 }
+        requires alpha { neg_ℤ (pos 30001) ≤ℤ alpha }
+        requires window { alpha <ℤ beta }
+        requires beta { beta ≤ℤ pos 30001 }
+        ensures answer { FitsWindow alpha beta (worth self.old.claims depth line.old.line distance m) result }
+        ensures in_range { IsValue result }
+        ensures border { IsApart result }
+        ensures at_least { min (self.old.nodes + 1) (2 ^ 64 - 1) ≤ self.new.nodes }
+        ensures at_most { self.new.nodes ≤ self.old.nodes + tree_below self.old.claims depth line.old.line m }
+        ensures claims { self.new.claims ≡ self.old.claims }
+        ensures line { IsAsBefore line.old line.new }
+    {
+        let next = sums_after(sums, line.live(), m, depth);
+        line.look(m);
+        let answer = -self.search(line, next, depth, distance + 1, -beta, -alpha);
+        line.unlook();
+        answer
     }
 
     /// An answer, in the window from alpha to beta, for what a legal move is worth to the side that makes it.
-    #[cycle(search)]
-    pub(crate) fn score<A: Allocator>(
+    fn score<A: Allocator>(
         &mut self,
         line: &mut Line<'_, A>,
         m: Move,
@@ -266,10 +308,8 @@ impl Searcher {
         ensures claims { self.new.claims ≡ self.old.claims }
         ensures line { IsAsBefore line.old line.new }
     {
-        line.look(m);
-        let answer = -self.search(line, depth, distance + 1, -beta, -alpha);
-        line.unlook();
-        answer
+        let sums = sums_of(None, line.live());
+        self.score_with(line, &sums, m, depth, distance, alpha, beta)
     }
 
     /// The better of what is kept and one root more.

@@ -9,7 +9,7 @@ use Rattle.chess_tree.specs.Edits.{annotated, change_below, change_node, comment
 use Rattle.chess_tree.specs.GameTree.{find}
 use Rattle.chess_tree.specs.WellFormed.{Leads}
 use Rattle.chess_tree.specs.steps.Rooted.{Held, Noted, Rooted, added_root, annotated_root, commented_at, commented_root, deleted_root, no_notes, path_root, promoted_root, with_below}
-use Rattle.chess_tree.specs.steps.Entries.{Entry, leaf_entry, look, with_children, with_parent}
+use Rattle.chess_tree.specs.steps.Entries.{Entry, leaf_entry, entry_at, with_children, with_parent}
 use Rattle.chess_tree.specs.steps.Grove.{Grove, no_move, Empty, Tree, tally, times, size, wide, first_of, node_number, under, under_at, number_at, trail_at, plain, Ways}
 use Rattle.chess_tree.specs.steps.Laid.{IsArena, seen, standing, uses, Same}
 use Rattle.chess_tree.specs.steps.Freed.{IsPool, IsPut}
@@ -137,10 +137,10 @@ pub record Hangs (nodes : List Entry) (here : ℕ) (game : Grove) (path trail : 
   pub parent_path : init ≡ parent path
   pub ways : Ways init game
   pub short : place < wide (under_at init game)
-  pub parent_is : (look nodes here).parent ≡ number_at init 0 game
-  pub place_is : (look nodes here).place ≡ place
+  pub parent_is : (entry_at nodes here).parent ≡ number_at init 0 game
+  pub place_is : (entry_at nodes here).place ≡ place
   pub is : here ≡ node_number 0 place (under_at init game)
-  pub owner : Owner nodes (look nodes here).parent (under_at init game)
+  pub owner : Owner nodes (entry_at nodes here).parent (under_at init game)
   pub trail_is : trail ≡ trail_at init 0 game ++ here ∷ []
 
 module _ (nodes : List Entry) (noted : ℕ → Noted) (free here : ℕ) (trail : List ℕ) (room : ℕ) (z : Rooted) (a : IsArena nodes noted free here trail room) (v : seen nodes noted here ≡ z) where
@@ -164,6 +164,10 @@ module _ (nodes : List Entry) (noted : ℕ → Noted) (free here : ℕ) (trail :
   -- with one, there is room
   pub room_left : 0 < free → moves_held z.root.below < 1000000
   room_left h = omega (arith, held_seen, a.laid.all, a.few, some_head a.freed (omega (arith, a.laid.free_is, h)))
+
+  -- there is room for the way down to each node
+  pub room_seen : height z.root.below ≤ room
+  room_seen = subst (λ (y : Rooted). height y.root.below ≤ room) (sym z_is) a.deep
 
   pub few_held : moves_held z.root.below ≤ 1000000
   few_held = omega (arith, held_seen, a.laid.all, a.few)
@@ -198,7 +202,7 @@ module _ (nodes : List Entry) (noted : ℕ → Noted) (free here : ℕ) (trail :
   pub here_range : here < length nodes
   here_range = owner_here.there
 
-  pub here_few : length (look nodes here).children ≤ 1000001
+  pub here_few : length (entry_at nodes here).children ≤ 1000001
   here_few = omega (arith, few_children nodes here (under_at a.path a.game) owner_here, a.few)
 
   here_below : below_at z.path z.root.below ≡ plain noted (under_at a.path a.game)
@@ -207,21 +211,21 @@ module _ (nodes : List Entry) (noted : ℕ → Noted) (free here : ℕ) (trail :
   here_wide : count (below_at z.path z.root.below) ≡ wide (under_at a.path a.game)
   here_wide = ap count here_below ∙ wide_plain noted (under_at a.path a.game)
 
-  pub counted : length (look nodes here).children ≡ count (below_at z.path z.root.below)
+  pub counted : length (entry_at nodes here).children ≡ count (below_at z.path z.root.below)
   counted = count_is nodes here (under_at a.path a.game) owner_here ∙ sym here_wide
 
   pub finds : {o : Option ℕ} (m : MoveParts) → IsFind nodes here m o → o ≡ find m (below_at z.path z.root.below)
   finds m h = h (under_at a.path a.game) owner_here noted ∙ ap (find m) (sym here_below)
 
   -- the way down has room
-  pub step_room : (place child : ℕ) → Some child ≡ slice_get (look nodes here).children place → length trail < room
+  pub step_room : (place child : ℕ) → Some child ≡ slice_get (entry_at nodes here).children place → length trail < room
   step_room place child at =
       let short = child_in nodes here place child (under_at a.path a.game) owner_here at in
       let f = plain noted a.game in
       let some : 0 < count (below_at a.path f) = omega (arith, short, ap count (plain_under_at noted a.path a.game), wide_plain noted (under_at a.path a.game)) in
       omega (arith, path_le_height a.path f (ways_leads noted a.path a.game a.ways), deeper (below_at a.path f) some, a.deep, ap length a.trail_is, trail_length a.path 0 a.game)
 
-  pub stepped : (place child : ℕ) (new : List ℕ) (more : ℕ) → Some child ≡ slice_get (look nodes here).children place → new ≡ trail ++ child ∷ [] → room ≤ more
+  pub stepped : (place child : ℕ) (new : List ℕ) (more : ℕ) → Some child ≡ slice_get (entry_at nodes here).children place → new ≡ trail ++ child ∷ [] → room ≤ more
       → IsArena nodes noted free child new more × (seen nodes noted child ≡ path_root (z.path ++ place ∷ []) z) × (place < count (below_at z.path z.root.below))
   stepped place child new more at e wider =
       let b = under_at a.path a.game in
@@ -244,7 +248,7 @@ module _ (nodes : List Entry) (noted : ℕ → Noted) (free here : ℕ) (trail :
         omega (arith, short, here_wide),
       )
 
-  pub no_step : (place : ℕ) → None ≡ slice_get (look nodes here).children place → count (below_at z.path z.root.below) ≤ place
+  pub no_step : (place : ℕ) → None ≡ slice_get (entry_at nodes here).children place → count (below_at z.path z.root.below) ≤ place
   no_step place at = omega (arith, here_wide, child_past nodes here place (under_at a.path a.game) owner_here at)
 
   -- ---- the parent
@@ -260,8 +264,8 @@ module _ (nodes : List Entry) (noted : ℕ → Noted) (free here : ℕ) (trail :
       let o = owner_at nodes free a.game a.freed Empty init a.laid ways.0 in
       let at : here ≡ node_number p k b = a.here_is ∙ ap (λ (x : List ℕ). number_at x 0 a.game) last.2 ∙ number_on init k 0 a.game in
       let is : here ≡ node_number 0 k b = at ∙ number_any p k b ways.1 in
-      let one = (linked_one Same (look nodes) p 0 0 k b ways.1 o.linked).0 in
-      let parent_of : (look nodes here).parent ≡ p = ap (λ (x : ℕ). (look nodes x).parent) is ∙ one.owned.parent_is in
+      let one = (linked_one Same (entry_at nodes) p 0 0 k b ways.1 o.linked).0 in
+      let parent_of : (entry_at nodes here).parent ≡ p = ap (λ (x : ℕ). (entry_at nodes x).parent) is ∙ one.owned.parent_is in
       record {
         init = init;
         place = k;
@@ -270,7 +274,7 @@ module _ (nodes : List Entry) (noted : ℕ → Noted) (free here : ℕ) (trail :
         ways = ways.0;
         short = ways.1;
         parent_is = parent_of;
-        place_is = ap (λ (x : ℕ). (look nodes x).place) is ∙ one.place_is ∙ omega arith;
+        place_is = ap (λ (x : ℕ). (entry_at nodes x).place) is ∙ one.place_is ∙ omega arith;
         is = is;
         owner = subst (λ (x : ℕ). Owner nodes x b) (sym parent_of) o;
         trail_is = a.trail_is ∙ ap (λ (x : List ℕ). trail_at x 0 a.game) last.2 ∙ trail_on init k 0 a.game ∙ ap (λ (x : ℕ). trail_at init 0 a.game ++ x ∷ []) (sym at);
@@ -282,7 +286,7 @@ module _ (nodes : List Entry) (noted : ℕ → Noted) (free here : ℕ) (trail :
   pub depth_is : length trail ≡ length z.path
   depth_is = ap length a.trail_is ∙ trail_length a.path 0 a.game ∙ ap length (sym long)
 
-  pub backed : (at : ℕ) (new : List ℕ) (gone more : ℕ) → 0 < length z.path → at ≡ (look nodes here).parent → trail ≡ new ++ gone ∷ [] → more ≡ room
+  pub backed : (at : ℕ) (new : List ℕ) (gone more : ℕ) → 0 < length z.path → at ≡ (entry_at nodes here).parent → trail ≡ new ++ gone ∷ [] → more ≡ room
       → IsArena nodes noted free at new more × (seen nodes noted at ≡ path_root (parent z.path) z)
   backed at new gone more h e t r =
       let w = hangs h in
@@ -302,20 +306,20 @@ module _ (nodes : List Entry) (noted : ℕ → Noted) (free here : ℕ) (trail :
       )
 
   -- the parent's children
-  pub parent_there : (at place : ℕ) → 0 < length z.path → at ≡ (look nodes here).parent → place ≡ (look nodes here).place
-      → (at < length nodes) × (place < length (look nodes at).children) × (length (look nodes at).children ≤ 1000001)
+  pub parent_there : (at place : ℕ) → 0 < length z.path → at ≡ (entry_at nodes here).parent → place ≡ (entry_at nodes here).place
+      → (at < length nodes) × (place < length (entry_at nodes at).children) × (length (entry_at nodes at).children ≤ 1000001)
   parent_there at place h ea ep =
       let w = hangs h in
       let b = under_at w.init a.game in
       let o = subst (λ (x : ℕ). Owner nodes x b) (sym ea) w.owner in
       (o.there, omega (arith, ep, w.place_is, w.short, count_is nodes at b o), omega (arith, few_children nodes at b o, a.few))
 
-  pub parent_children : (at : ℕ) → 0 < length z.path → at ≡ (look nodes here).parent → AreThere nodes at
+  pub parent_children : (at : ℕ) → 0 < length z.path → at ≡ (entry_at nodes here).parent → AreThere nodes at
   parent_children at h ea = let w = hangs h in are_there nodes at (under_at w.init a.game) (subst (λ (x : ℕ). Owner nodes x (under_at w.init a.game)) (sym ea) w.owner)
 
   -- ---- places
 
-  pub place_at_depth : (depth : ℕ) → depth < length z.path → (get_or trail depth 0 < length nodes) × ((look nodes (get_or trail depth 0)).place ≡ get_or z.path depth 0)
+  pub place_at_depth : (depth : ℕ) → depth < length z.path → (get_or trail depth 0 < length nodes) × ((entry_at nodes (get_or trail depth 0)).place ≡ get_or z.path depth 0)
   place_at_depth depth h =
       let within : depth < length a.path = omega (arith, h, ap length long) in
       let ways = ways_take a.path a.game depth a.ways within in
@@ -325,15 +329,15 @@ module _ (nodes : List Entry) (noted : ℕ → Noted) (free here : ℕ) (trail :
       let o = owner_at nodes free a.game a.freed Empty (take depth a.path) a.laid ways.0 in
       let is : get_or trail depth 0 ≡ node_number 0 k b =
       ap (λ (t : List ℕ). get_or t depth 0) a.trail_is ∙ trail_take a.path 0 a.game depth within ∙ number_take a.path 0 a.game depth within ∙ number_any p k b ways.1 in
-      let one = (linked_one Same (look nodes) p 0 0 k b ways.1 o.linked).0 in (
+      let one = (linked_one Same (entry_at nodes) p 0 0 k b ways.1 o.linked).0 in (
         omega (arith, is, number_range nodes p k b o ways.1),
-        ap (λ (x : ℕ). (look nodes x).place) is ∙ one.place_is ∙ omega arith ∙ ap (λ (x : List ℕ). get_or x depth 0) (sym long),
+        ap (λ (x : ℕ). (entry_at nodes x).place) is ∙ one.place_is ∙ omega arith ∙ ap (λ (x : List ℕ). get_or x depth 0) (sym long),
       )
 
   -- ---- delete and promote
 
   pub deleted_now : (at place : ℕ) (left : List ℕ) (gone more : ℕ) → 0 < length z.path
-      → at ≡ (look nodes here).parent → place ≡ (look nodes here).place
+      → at ≡ (entry_at nodes here).parent → place ≡ (entry_at nodes here).place
       → trail ≡ left ++ gone ∷ [] → more ≡ room
       → IsArena (with_parent here free (detached at place nodes)) noted here at left more × (seen (with_parent here free (detached at place nodes)) noted at ≡ deleted_root z)
   deleted_now at place left gone more h ea ep t r =
@@ -347,7 +351,7 @@ module _ (nodes : List Entry) (noted : ℕ → Noted) (free here : ℕ) (trail :
       (sym (ep ∙ w.place_is))
       (on.0, on.1 ∙ (λ j. record { root = with_below (λ _. below j) (standing noted a.game a.path).root; path = w.parent_path j }) ∙ ap deleted_root (sym z_is))
 
-  pub promoted_now : (at place : ℕ) → 0 < length z.path → at ≡ (look nodes here).parent → place ≡ (look nodes here).place
+  pub promoted_now : (at place : ℕ) → 0 < length z.path → at ≡ (entry_at nodes here).parent → place ≡ (entry_at nodes here).place
       → IsArena (lifted at place nodes) noted free here trail room × (seen (lifted at place nodes) noted here ≡ promoted_root z)
   promoted_now at place h ea ep =
       let w = hangs h in
@@ -391,17 +395,17 @@ module _ (nodes : List Entry) (noted : ℕ → Noted) (free here : ℕ) (trail :
   put_room few h = omega (arith, all_held h, few)
 
   pub put_now : (mid : List Entry) (later : ℕ → Noted) (m : MoveParts) (place next number : ℕ) (way : List ℕ) (more : ℕ) → length mid ≤ 1000001
-      → place ≡ length (look nodes here).children → IsPut nodes free (leaf_entry m here place) mid next number → IsNotedAt noted later number no_notes
+      → place ≡ length (entry_at nodes here).children → IsPut nodes free (leaf_entry m here place) mid next number → IsNotedAt noted later number no_notes
       → way ≡ trail ++ number ∷ [] → room ≤ more → length trail + 1 ≤ more
-      → IsArena (with_children here ((look mid here).children ++ number ∷ []) mid) later next number way more
-      × (seen (with_children here ((look mid here).children ++ number ∷ []) mid) later number ≡ added_root m z)
+      → IsArena (with_children here ((entry_at mid here).children ++ number ∷ []) mid) later next number way more
+      × (seen (with_children here ((entry_at mid here).children ++ number ∷ []) mid) later number ≡ added_root m z)
   put_now mid later m place next number way more few ep put notes e wider space =
       let on = put a.game a.freed a.laid in
       let wide_is : place ≡ wide (under_at a.path a.game) = ep ∙ count_is nodes here (under_at a.path a.game) owner_here in
       let all = added_from mid noted later next number m here a.game on.later a.path trail room more on.laid a.ways a.here_is a.trail_is
       (on.is ∙ ap (leaf_entry m here) wide_is) few notes a.deep wider space in
-      subst (λ (x : List ℕ). IsArena (with_children here ((look mid here).children ++ number ∷ []) mid) later next number x more
-      × (seen (with_children here ((look mid here).children ++ number ∷ []) mid) later number ≡ added_root m z)) (sym e)
+      subst (λ (x : List ℕ). IsArena (with_children here ((entry_at mid here).children ++ number ∷ []) mid) later next number x more
+      × (seen (with_children here ((entry_at mid here).children ++ number ∷ []) mid) later number ≡ added_root m z)) (sym e)
       (all.0, all.1 ∙ ap (added_root m) (sym z_is))
 
   -- or let go again
@@ -421,7 +425,7 @@ module _ (nodes : List Entry) (noted : ℕ → Noted) (free here : ℕ) (trail :
         here_is = a.here_is;
         trail_is = a.trail_is;
         deep = omega (arith, a.deep, wider);
-        few = omega (arith, length-set mid number (record (look mid number) { parent = next }), few);
+        few = omega (arith, length-set mid number (record (entry_at mid number) { parent = next }), few);
       } in
       (now, seen_is new noted number here trail more now ∙ sym z_is)
 

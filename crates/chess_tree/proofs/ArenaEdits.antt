@@ -5,7 +5,7 @@ use Rattle.chess_types.specs.board.MoveParts.{MoveParts}
 use Rattle.chess_tree.specs.Forest.{Forest, Bare, Node, append, below_at, count, height}
 use Rattle.chess_tree.specs.Edits.{change_below, promoted, with_move, without_node}
 use Rattle.chess_tree.specs.steps.Rooted.{Noted, Rooted, added_root, no_notes, with_below}
-use Rattle.chess_tree.specs.steps.Entries.{Entry, leaf_entry, look, with_children, with_parent}
+use Rattle.chess_tree.specs.steps.Entries.{Entry, leaf_entry, entry_at, with_children, with_parent}
 use Rattle.chess_tree.specs.steps.Grove.{Grove, Empty, Tree, tally, times, wide, join, node_number, grove_move, no_move, under, under_at, change_at, number_at, trail_at, plain, Ways}
 use Rattle.chess_tree.specs.steps.Linked.{IsLinked}
 use Rattle.chess_tree.specs.steps.Laid.{Laid, IsArena, seen, standing, Same}
@@ -30,17 +30,17 @@ apart_from_game nodes free n m game freed k j h q =
 -- ADDED: a node in hand is after the children of the node at the cursor
 pub added_from : (nodes : List Entry) (old new : ℕ → Noted) (free n : ℕ) (m : MoveParts) (here : ℕ) (game freed : Grove) (path trail : List ℕ) (room more : ℕ)
     → Laid nodes free game freed (Tree n m Empty Empty) → Ways path game
-    → here ≡ number_at path 0 game → trail ≡ trail_at path 0 game → look nodes n ≡ leaf_entry m here (wide (under_at path game)) → length nodes ≤ 1000001
+    → here ≡ number_at path 0 game → trail ≡ trail_at path 0 game → entry_at nodes n ≡ leaf_entry m here (wide (under_at path game)) → length nodes ≤ 1000001
     → IsNotedAt old new n no_notes → height (plain old game) ≤ room → room ≤ more → length trail + 1 ≤ more
-    → IsArena (with_children here ((look nodes here).children ++ n ∷ []) nodes) new free n (trail ++ n ∷ []) more
-    × (seen (with_children here ((look nodes here).children ++ n ∷ []) nodes) new n ≡ added_root m (standing old game path))
+    → IsArena (with_children here ((entry_at nodes here).children ++ n ∷ []) nodes) new free n (trail ++ n ∷ []) more
+    × (seen (with_children here ((entry_at nodes here).children ++ n ∷ []) nodes) new n ≡ added_root m (standing old game path))
 added_from nodes old new free n m here game freed path trail room more k ways e te written few notes deep wider space =
     let c = λ (g : Grove). join g (Tree n m Empty Empty) in
     let p = number_at path 0 game in
     let b = under_at path game in
-    let after = with_children p ((look nodes p).children ++ n ∷ []) nodes in
-    let w : look nodes n ≡ leaf_entry m p (wide b) = written ∙ ap (λ (x : ℕ). leaf_entry m x (wide b)) e in
-    let leaf : IsLinked Same (look nodes n) p (wide b) m [] =
+    let after = with_children p ((entry_at nodes p).children ++ n ∷ []) nodes in
+    let w : entry_at nodes n ≡ leaf_entry m p (wide b) = written ∙ ap (λ (x : ℕ). leaf_entry m x (wide b)) e in
+    let leaf : IsLinked Same (entry_at nodes n) p (wide b) m [] =
     record {
       owned = record { move_is = ap (λ (s : Entry). s.played) w; parent_is = ap (λ (s : Entry). s.parent) w; children_is = ap (λ (s : Entry). s.children) w };
       place_is = ap (λ (s : Entry). s.place) w;
@@ -74,8 +74,8 @@ added_from nodes old new free n m here game freed path trail room more k ways e 
     let sight : seen after new n ≡ added_root m (standing old game path) =
     seen_is after new free n (trail ++ n ∷ []) more a
     ∙ (λ j. record { root = record { move = no_move; nags = (zeroth j).nags; comment = (zeroth j).comment; below = below j }; path = path ++ count_is j ∷ [] }) in
-    subst (λ (h : ℕ). IsArena (with_children h ((look nodes h).children ++ n ∷ []) nodes) new free n (trail ++ n ∷ []) more
-    × (seen (with_children h ((look nodes h).children ++ n ∷ []) nodes) new n ≡ added_root m (standing old game path))) (sym e) (a, sight)
+    subst (λ (h : ℕ). IsArena (with_children h ((entry_at nodes h).children ++ n ∷ []) nodes) new free n (trail ++ n ∷ []) more
+    × (seen (with_children h ((entry_at nodes h).children ++ n ∷ []) nodes) new n ≡ added_root m (standing old game path))) (sym e) (a, sight)
 
 -- a path that isn't empty: all but its last place, and that
 pub last_place : (path : List ℕ) → 0 < length path → (init : List ℕ) × (k : ℕ) × (path ≡ init ++ k ∷ [])
@@ -116,7 +116,7 @@ deleted_from nodes noted free k game freed path trail room laid ways one few dee
       here_is = sym now.1;
       trail_is = te ∙ sym (trail_change (others k) path 0 game ways);
       deep = omega (arith, deep, ap height below, lower without_node path k (plain noted game) height_without);
-      few = omega (arith, few, length-set mid h0 (record (look mid h0) { parent = free }), detached_length p0 k nodes);
+      few = omega (arith, few, length-set mid h0 (record (entry_at mid h0) { parent = free }), detached_length p0 k nodes);
     } in
     let sight = seen_is new noted h0 p0 trail room a ∙ (λ j. record { root = record { move = no_move; nags = (noted 0).nags; comment = (noted 0).comment; below = below j }; path = path }) in
     let goal = λ (x z : ℕ). IsArena (with_parent z free (detached x k nodes)) noted z x trail room × (seen (with_parent z free (detached x k nodes)) noted x ≡ edited (without_node k) noted game path path) in

@@ -3,8 +3,8 @@ use Rattle.std.proofs.Common.{◌≡◌, ℕ, ◌<◌, ◌==◌, ◌||◌, Bool,
 use Rattle.std.proofs.lemmas.Bool.{false≢true}
 use Rattle.std.specs.Prelude.{if◌then◌else◌}
 use Rattle.std.specs.List.{AllByRecursion, join_with_byte}
-use Rattle.chess_types.specs.bytes.Words.{is_gap, as_word, words, words_from}
-use Rattle.chess_types.proofs.WordLemmas.{word_of-some}
+use Rattle.byte_streams.specs.Words.{is_gap, as_word, words, words_from}
+use Rattle.byte_streams.proofs.WordLemmas.{word_of-some}
 use Rattle.chess_tree.specs.Comments.{IsComment, blanks, has_brace, normalised, with_next_word}
 
 -- ---- bytes of a list, each with a property

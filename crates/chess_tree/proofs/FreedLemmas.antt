@@ -6,7 +6,7 @@ use Rattle.std.proofs.lemmas.Bool.{cases_lt}
 use Rattle.std.proofs.lemmas.List.{set-get_or}
 use Rattle.std.proofs.lemmas.Option.{none-some, slice_get-get_or}
 use Rattle.chess_types.specs.board.MoveParts.{MoveParts}
-use Rattle.chess_tree.specs.steps.Entries.{Entry, look, no_entry, with_children, with_parent}
+use Rattle.chess_tree.specs.steps.Entries.{Entry, entry_at, no_entry, with_children, with_parent}
 use Rattle.chess_tree.specs.steps.Grove.{Grove, Empty, Tree, tally, times, size, wide, numbers, join, node_number, grove_move, under, those_before, those_after}
 use Rattle.chess_tree.specs.steps.Linked.{Any, Linked}
 use Rattle.chess_tree.specs.steps.Laid.{Laid, Same}
@@ -97,31 +97,31 @@ stepped_tree nodes n m game below next c laid l =
     let new = with_parent c n mid in
     let range_n = in_range nodes n game (Tree n m below next) Empty laid n (omega (arith, tally_same n)) in
     let range_c = in_range nodes n game (Tree n m below next) Empty laid c (omega (arith, tally_same c, sum c)) in
-    let l1 : length mid ≡ length nodes = length-set nodes n (record (look nodes n) { children = numbers f }) in
-    let l2 : length new ≡ length mid = length-set mid c (record (look mid c) { parent = n }) in
+    let l1 : length mid ≡ length nodes = length-set nodes n (record (entry_at nodes n) { children = numbers f }) in
+    let l2 : length new ≡ length mid = length-set mid c (record (entry_at mid c) { parent = n }) in
     let ne : tally c n ≡ 0 = omega (arith, most c, tally_same c, sum c) in
     let en : tally n c ≡ 0 = omega (arith, most n, tally_same n, sum n) in
-    let off_mid : (j : ℕ) → tally j n ≡ 0 → look mid j ≡ look nodes j = λ j w. look_set_other nodes n j (record (look nodes n) { children = numbers f }) (apart j n w) in
-    let off_new : (j : ℕ) → tally j c ≡ 0 → look new j ≡ look mid j = λ j w. look_set_other mid c j (record (look mid c) { parent = n }) (apart j c w) in
-    let off : (j : ℕ) → tally j n ≡ 0 → tally j c ≡ 0 → look new j ≡ look nodes j = λ j w v. off_new j v ∙ off_mid j w in
-    let at_n : look new n ≡ record (look nodes n) { children = numbers f } = off_new n en ∙ look_set nodes n (record (look nodes n) { children = numbers f }) range_n in
-    let at_c : look new c ≡ record (look nodes c) { parent = n } =
-    look_set mid c (record (look mid c) { parent = n }) (omega (arith, l1, range_c)) ∙ ap (λ (s : Entry). record s { parent = n }) (off_mid c ne) in
-    let parts = linked_parts Any (look nodes) n 0 f (Tree c mc uc Empty) (subst (λ (g : Grove). Linked Any (look nodes) n 0 g) split laid.loose.2) in
+    let off_mid : (j : ℕ) → tally j n ≡ 0 → entry_at mid j ≡ entry_at nodes j = λ j w. look_set_other nodes n j (record (entry_at nodes n) { children = numbers f }) (apart j n w) in
+    let off_new : (j : ℕ) → tally j c ≡ 0 → entry_at new j ≡ entry_at mid j = λ j w. look_set_other mid c j (record (entry_at mid c) { parent = n }) (apart j c w) in
+    let off : (j : ℕ) → tally j n ≡ 0 → tally j c ≡ 0 → entry_at new j ≡ entry_at nodes j = λ j w v. off_new j v ∙ off_mid j w in
+    let at_n : entry_at new n ≡ record (entry_at nodes n) { children = numbers f } = off_new n en ∙ look_set nodes n (record (entry_at nodes n) { children = numbers f }) range_n in
+    let at_c : entry_at new c ≡ record (entry_at nodes c) { parent = n } =
+    look_set mid c (record (entry_at mid c) { parent = n }) (omega (arith, l1, range_c)) ∙ ap (λ (s : Entry). record s { parent = n }) (off_mid c ne) in
+    let parts = linked_parts Any (entry_at nodes) n 0 f (Tree c mc uc Empty) (subst (λ (g : Grove). Linked Any (entry_at nodes) n 0 g) split laid.loose.2) in
     record {
       later = Tree c mc uc (Tree n m f next);
       laid = record {
         root = ap (λ (s : Entry). s.children) (off 0 (omega (arith, most 0, tally_same 0)) (omega (arith, most 0, tally_same 0, sum 0))) ∙ laid.root;
-        linked = linked_frame Same (look nodes) (look new) 0 0 game (λ j w. off j (omega (arith, most j, w)) (omega (arith, most j, w, sum j))) laid.linked;
+        linked = linked_frame Same (entry_at nodes) (entry_at new) 0 0 game (λ j w. off j (omega (arith, most j, w)) (omega (arith, most j, w, sum j))) laid.linked;
         loose = (
           ap (λ (s : Entry). s.parent) at_c,
           ap (λ (s : Entry). s.children) at_c ∙ parts.1.0.owned.children_is,
-          linked_frame Any (look nodes) (look new) c 0 uc (λ j w. off j (omega (arith, most j, w, sum j)) (omega (arith, most j, w, sum j))) parts.1.1,
+          linked_frame Any (entry_at nodes) (entry_at new) c 0 uc (λ j w. off j (omega (arith, most j, w, sum j)) (omega (arith, most j, w, sum j))) parts.1.1,
           (
             ap (λ (s : Entry). s.parent) at_n ∙ laid.loose.0,
             ap (λ (s : Entry). s.children) at_n,
-            linked_frame Any (look nodes) (look new) n 0 f (λ j w. off j (omega (arith, most j, w, sum j)) (omega (arith, most j, w, sum j))) parts.0,
-            chained_frame (look nodes) (look new) next (λ j w. off j (omega (arith, most j, w)) (omega (arith, most j, w, sum j))) laid.loose.3,
+            linked_frame Any (entry_at nodes) (entry_at new) n 0 f (λ j w. off j (omega (arith, most j, w, sum j)) (omega (arith, most j, w, sum j))) parts.0,
+            chained_frame (entry_at nodes) (entry_at new) next (λ j w. off j (omega (arith, most j, w)) (omega (arith, most j, w, sum j))) laid.loose.3,
           ),
         );
         free_is = refl;
@@ -133,29 +133,29 @@ stepped_tree nodes n m game below next c laid l =
       some = some_of c (omega (arith, most 0, tally_same 0, sum 0));
     }
 
-pub stepped : (nodes : List Entry) (free : ℕ) (game freed : Grove) (c : ℕ) → Laid nodes free game freed Empty → 0 < free → Some c ≡ last_number (look nodes free).children
-    → Stepped (with_parent c free (with_children free (take (length (look nodes free).children - 1) (look nodes free).children) nodes)) c game freed
+pub stepped : (nodes : List Entry) (free : ℕ) (game freed : Grove) (c : ℕ) → Laid nodes free game freed Empty → 0 < free → Some c ≡ last_number (entry_at nodes free).children
+    → Stepped (with_parent c free (with_children free (take (length (entry_at nodes free).children - 1) (entry_at nodes free).children) nodes)) c game freed
 stepped nodes free game Empty c laid some e = absurd (omega (arith, laid.free_is, some))
 stepped nodes free game (Tree n m below next) c laid some e =
-    let own : (look nodes free).children ≡ numbers below = ap (λ (x : ℕ). (look nodes x).children) laid.free_is ∙ laid.loose.1 in
+    let own : (entry_at nodes free).children ≡ numbers below = ap (λ (x : ℕ). (entry_at nodes x).children) laid.free_is ∙ laid.loose.1 in
     let laid2 = subst (λ (x : ℕ). Laid nodes x game (Tree n m below next) Empty) laid.free_is laid in
     let last = some_last below c (e ∙ ap last_number own) in
     let on = stepped_tree nodes n m game below next c laid2 last in
     let place : length (numbers below) - 1 ≡ last.place = omega (arith, length_numbers below, last.is_last) in
-    let cs : take (length (look nodes free).children - 1) (look nodes free).children ≡ numbers (those_before last.place below) =
+    let cs : take (length (entry_at nodes free).children - 1) (entry_at nodes free).children ≡ numbers (those_before last.place below) =
     ap (λ (x : List ℕ). take (length x - 1) x) own ∙ ap (λ (x : ℕ). take x (numbers below)) place ∙ take_before last.place below in
     subst (λ (x : List Entry). Stepped x c game (Tree n m below next))
     (λ j. with_parent c (sym laid.free_is j) (with_children (sym laid.free_is j) (sym cs j) nodes)) on
 
 -- a freed node without children is taken
-pub taken : (nodes : List Entry) (n : ℕ) (game later : Grove) (m : MoveParts) → Laid nodes n game later Empty → 0 < n → (look nodes n).children ≡ []
-    → (rest : Grove) × Laid nodes (look nodes n).parent game rest (Tree n m Empty Empty)
+pub taken : (nodes : List Entry) (n : ℕ) (game later : Grove) (m : MoveParts) → Laid nodes n game later Empty → 0 < n → (entry_at nodes n).children ≡ []
+    → (rest : Grove) × Laid nodes (entry_at nodes n).parent game rest (Tree n m Empty Empty)
 taken nodes n game Empty m laid some bare = absurd (omega (arith, laid.free_is, some))
 taken nodes n game (Tree i o below next) m laid some bare =
-    let none : below ≡ Empty = no_numbers below (sym laid.loose.1 ∙ ap (λ (x : ℕ). (look nodes x).children) (sym laid.free_is) ∙ bare) in
+    let none : below ≡ Empty = no_numbers below (sym laid.loose.1 ∙ ap (λ (x : ℕ). (entry_at nodes x).children) (sym laid.free_is) ∙ bare) in
     let alone = subst (λ (g : Grove). Laid nodes n game (Tree i o g next) Empty) none laid in (
       next,
-      subst (λ (x : ℕ). Laid nodes (look nodes x).parent game next (Tree x m Empty Empty)) (sym laid.free_is)
+      subst (λ (x : ℕ). Laid nodes (entry_at nodes x).parent game next (Tree x m Empty Empty)) (sym laid.free_is)
           (record {
             root = laid.root;
             linked = laid.linked;
@@ -169,15 +169,15 @@ taken nodes n game (Tree i o below next) m laid some bare =
 
 -- the number in hand has another node
 pub written_laid : (nodes : List Entry) (free n : ℕ) (m : MoveParts) (game freed : Grove) (s : Entry) → Laid nodes free game freed (Tree n m Empty Empty)
-    → Laid (set nodes n s) free game freed (Tree n m Empty Empty) × (look (set nodes n s) n ≡ s)
+    → Laid (set nodes n s) free game freed (Tree n m Empty Empty) × (entry_at (set nodes n s) n ≡ s)
 written_laid nodes free n m game freed s k =
     let most = once_at_most nodes free game freed (Tree n m Empty Empty) k in
     let l : length (set nodes n s) ≡ length nodes = length-set nodes n s in
-    let off : (j : ℕ) → tally j n ≡ 0 → look (set nodes n s) j ≡ look nodes j = λ j w. look_set_other nodes n j s (apart j n w) in (
+    let off : (j : ℕ) → tally j n ≡ 0 → entry_at (set nodes n s) j ≡ entry_at nodes j = λ j w. look_set_other nodes n j s (apart j n w) in (
       record {
         root = ap (λ (x : Entry). x.children) (off 0 (omega (arith, most 0, tally_same 0))) ∙ k.root;
-        linked = linked_frame Same (look nodes) (look (set nodes n s)) 0 0 game (λ j w. off j (omega (arith, most j, w))) k.linked;
-        loose = chained_frame (look nodes) (look (set nodes n s)) freed (λ j w. off j (omega (arith, most j, w))) k.loose;
+        linked = linked_frame Same (entry_at nodes) (entry_at (set nodes n s)) 0 0 game (λ j w. off j (omega (arith, most j, w))) k.linked;
+        loose = chained_frame (entry_at nodes) (entry_at (set nodes n s)) freed (λ j w. off j (omega (arith, most j, w))) k.loose;
         free_is = k.free_is;
         once = λ j h. omega (arith, k.once j (omega (arith, h, l)));
         none = λ j h. omega (arith, k.none j (omega (arith, h, l)));
@@ -188,16 +188,16 @@ written_laid nodes free n m game freed s k =
 
 -- a new number
 pub grown_laid : (nodes : List Entry) (free : ℕ) (m : MoveParts) (game freed : Grove) (s : Entry) → Laid nodes free game freed Empty
-    → Laid (nodes ++ s ∷ []) free game freed (Tree (length nodes) m Empty Empty) × (look (nodes ++ s ∷ []) (length nodes) ≡ s)
+    → Laid (nodes ++ s ∷ []) free game freed (Tree (length nodes) m Empty Empty) × (entry_at (nodes ++ s ∷ []) (length nodes) ≡ s)
 grown_laid nodes free m game freed s k =
     let n = length nodes in
     let l : length (nodes ++ s ∷ []) ≡ n + 1 = length-append nodes (s ∷ []) in
     let range = in_range nodes free game freed Empty k in
-    let stays : (j : ℕ) → j < n → look (nodes ++ s ∷ []) j ≡ look nodes j = λ j w. get_or-append nodes (s ∷ []) no_entry j w in (
+    let stays : (j : ℕ) → j < n → entry_at (nodes ++ s ∷ []) j ≡ entry_at nodes j = λ j w. get_or-append nodes (s ∷ []) no_entry j w in (
       record {
         root = ap (λ (x : Entry). x.children) (stays 0 (omega (arith, k.all))) ∙ k.root;
-        linked = linked_frame Same (look nodes) (look (nodes ++ s ∷ [])) 0 0 game (λ j w. stays j (range j (omega (arith, w)))) k.linked;
-        loose = chained_frame (look nodes) (look (nodes ++ s ∷ [])) freed (λ j w. stays j (range j (omega (arith, w)))) k.loose;
+        linked = linked_frame Same (entry_at nodes) (entry_at (nodes ++ s ∷ [])) 0 0 game (λ j w. stays j (range j (omega (arith, w)))) k.linked;
+        loose = chained_frame (entry_at nodes) (entry_at (nodes ++ s ∷ [])) freed (λ j w. stays j (range j (omega (arith, w)))) k.loose;
         free_is = k.free_is;
         once = λ j h. elim (cases_lt j n) [
           | inl w ↦ (let ne : j ≢ n = omega (arith, w) in omega (arith, k.once j w, tally_other j n ne))
@@ -214,14 +214,14 @@ grown_laid nodes free m game freed s k =
 pub put_grown : (old : List Entry) (s : Entry) (game freed : Grove) → Laid old 0 game freed Empty → Put s (old ++ s ∷ []) 0 (length old) game
 put_grown old s game freed laid = let on = grown_laid old 0 s.played game freed s laid in record { later = freed; laid = on.0; is = on.1 }
 
-pub put_taken : (nodes : List Entry) (n : ℕ) (s : Entry) (game : Grove) → Loosened nodes n game → Put s (set nodes n s) (look nodes n).parent n game
+pub put_taken : (nodes : List Entry) (n : ℕ) (s : Entry) (game : Grove) → Loosened nodes n game → Put s (set nodes n s) (entry_at nodes n).parent n game
 put_taken nodes n s game l =
     let took = taken nodes n game l.later s.played l.laid l.some l.bare in
-    let on = written_laid nodes (look nodes n).parent n s.played game took.0 s took.1 in
+    let on = written_laid nodes (entry_at nodes n).parent n s.played game took.0 s took.1 in
     record { later = took.0; laid = on.0; is = on.1 }
 
 -- a node without children from which the last was to be taken stays
-pub none_taken : (nodes : List Entry) (i : ℕ) → (look nodes i).children ≡ [] → with_children i (take (length (look nodes i).children - 1) (look nodes i).children) nodes ≡ nodes
+pub none_taken : (nodes : List Entry) (i : ℕ) → (entry_at nodes i).children ≡ [] → with_children i (take (length (entry_at nodes i).children - 1) (entry_at nodes i).children) nodes ≡ nodes
 none_taken nodes i bare =
     ap (λ (x : List ℕ). with_children i x nodes) (ap (λ (x : List ℕ). take (length x - 1) x) bare ∙ sym bare) ∙ set-get_or nodes i no_entry
 
@@ -245,22 +245,22 @@ loosening_range old first nodes free passed pool l =
     free_range nodes free pool.0 now.0 now.1 l.some
 
 pub loosening_child : (old : List Entry) (first : ℕ) (nodes : List Entry) (free passed : ℕ) (c : ℕ) → IsPool old first → Loosening old first nodes free passed
-    → Some c ≡ last_number (look nodes free).children → c < length nodes
+    → Some c ≡ last_number (entry_at nodes free).children → c < length nodes
 loosening_child old first nodes free passed c pool l e =
     let now = l.each pool.0 pool.1 pool.2 in
-    let left = take (length (look nodes free).children - 1) (look nodes free).children in
+    let left = take (length (entry_at nodes free).children - 1) (entry_at nodes free).children in
     let mid = with_children free left nodes in
     let on = stepped nodes free pool.0 now.0 c now.1 l.some e in
     omega (
       arith,
       free_range (with_parent c free mid) c pool.0 on.later on.laid on.some,
-      length-set mid c (record (look mid c) { parent = free }),
-      length-set nodes free (record (look nodes free) { children = left }),
+      length-set mid c (record (entry_at mid c) { parent = free }),
+      length-set nodes free (record (entry_at nodes free) { children = left }),
     )
 
 pub loosening_on : (old : List Entry) (first : ℕ) (nodes : List Entry) (free passed : ℕ) (c : ℕ) → IsPool old first → Loosening old first nodes free passed
-    → Some c ≡ last_number (look nodes free).children
-    → Loosening old first (with_parent c free (with_children free (take (length (look nodes free).children - 1) (look nodes free).children) nodes)) c (passed + 1)
+    → Some c ≡ last_number (entry_at nodes free).children
+    → Loosening old first (with_parent c free (with_children free (take (length (entry_at nodes free).children - 1) (entry_at nodes free).children) nodes)) c (passed + 1)
 loosening_on old first nodes free passed c pool l e =
     let now = l.each pool.0 pool.1 pool.2 in
     record {
@@ -271,7 +271,7 @@ loosening_on old first nodes free passed c pool l e =
           (on.later, on.laid, omega (arith, was.2, on.fewer));
     }
 
-pub loosened : (old : List Entry) (first : ℕ) (nodes : List Entry) (free passed : ℕ) → Loosening old first nodes free passed → (look nodes free).children ≡ []
+pub loosened : (old : List Entry) (first : ℕ) (nodes : List Entry) (free passed : ℕ) → Loosening old first nodes free passed → (entry_at nodes free).children ≡ []
     → (game freed : Grove) → Laid old first game freed Empty → Loosened nodes free game
 loosened old first nodes free passed l bare game freed laid =
     let now = l.each game freed laid in

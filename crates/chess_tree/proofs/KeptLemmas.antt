@@ -2,7 +2,7 @@
 use Rattle.std.proofs.Common.{◌≡◌, ℕ, ◌<◌, ◌≤◌, Bool, nat_le, nat_lt, true, false, List, [], ◌∷◌, ◌++◌, length, refl, sym, subst, ap, ◌∙◌, arith}
 use Rattle.std.proofs.lemmas.Bool.Decides.{nat_tests}
 use Rattle.chess_types.specs.board.MoveParts.{MoveParts}
-use Rattle.chess_types.specs.board.Position.{State, IsSetup, IsQuiet}
+use Rattle.chess_types.specs.board.Position.{PositionParts, IsSetup, OpponentNotInCheck}
 use Rattle.chess_types.specs.board.Legal.{is_legal}
 use Rattle.chess_types.specs.board.Lines.{extended, last}
 use Rattle.chess_tree.specs.Forest.{below_at, count, moves_held}
@@ -20,7 +20,7 @@ use Rattle.chess_tree.proofs.LineLemmas.{line_added, line_annotated, line_commen
 use Rattle.chess_tree.proofs.StepLemmas.{goes_down, goes_out, goes_up}
 
 -- a tree with no move
-pub kept_new : (start : State) (z : Rooted) → z ≡ record { root = leaf no_move; path = [] } → IsSetup start → IsQuiet start
+pub kept_new : (start : PositionParts) (z : Rooted) → z ≡ record { root = leaf no_move; path = [] } → IsSetup start → OpponentNotInCheck start
     → start.clock ≤ 99999 → start.number ≤ 99999 → IsGameTree (parts_of start z)
 kept_new start z e setup quiet clock number =
     subst (λ (x : Rooted). IsGameTree (parts_of start x)) (sym e)
@@ -35,11 +35,11 @@ kept_new start z e setup quiet clock number =
       cursor = tt;
     })
 
-comment_parts : (start : State) (text path : List ℕ) (n : Held) → parts_of start (record { root = commented_at text path n; path = path }) ≡ commented_here text (parts_of start (record { root = n; path = path }))
+comment_parts : (start : PositionParts) (text path : List ℕ) (n : Held) → parts_of start (record { root = commented_at text path n; path = path }) ≡ commented_here text (parts_of start (record { root = n; path = path }))
 comment_parts start text [] n = refl
 comment_parts start text (k ∷ path) n = refl
 
-module _ (start : State) (z : Rooted) (game : IsGameTree (parts_of start z)) (w : Rooted) where
+module _ (start : PositionParts) (z : Rooted) (game : IsGameTree (parts_of start z)) (w : Rooted) where
   -- ---- steps
 
   pub kept_down : (place : ℕ) (there : Bool) → there ≡ nat_lt place (count (below_at z.path z.root.below)) → there ≡ true → w ≡ path_root (z.path ++ place ∷ []) z
@@ -85,7 +85,7 @@ module _ (start : State) (z : Rooted) (game : IsGameTree (parts_of start z)) (w 
       subst (λ (x : TreeParts). IsGameTree x × (line_to x ≡ line_to (parts_of start z))) (sym (comment_is text e))
       (game_commented text (parts_of start z) is game, line_commented text (parts_of start z) game)
 
-pub shallow : (start : State) (z : Rooted) → IsGameTree (parts_of start z) → length z.path ≤ 20000
+pub shallow : (start : PositionParts) (z : Rooted) → IsGameTree (parts_of start z) → length z.path ≤ 20000
 shallow start z game = omega (arith, path_le_height z.path z.root.below game.cursor, game.deep)
 
 pub not_full_less : (held : ℕ) (full : Bool) → full ≡ nat_le 1000000 held → full ≡ false → held < 1000000

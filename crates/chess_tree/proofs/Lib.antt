@@ -8,6 +8,7 @@ pub mod KeptLemmas
 pub mod WalkLemmas
 pub mod AnalysisLemmas
 pub mod FindLemmas
+pub mod CloneLemmas
 pub mod CommentLemmas
 pub mod TimesLemmas
 pub mod LinkLemmas

@@ -9,7 +9,7 @@ use Rattle.chess_types.specs.declared.board.man.Kind.{Kind}
 use Rattle.chess_types.specs.board.Men.{kind_number}
 use Rattle.chess_types.specs.steps.ManCode.{kind_of, kind_of-number}
 use Rattle.chess_types.specs.board.MoveParts.{MoveParts}
-use Rattle.chess_types.specs.board.Position.{State}
+use Rattle.chess_types.specs.board.Position.{PositionParts}
 use Rattle.chess_types.specs.board.After.{after}
 use Rattle.chess_types.specs.board.Legal.{is_legal}
 use Rattle.chess_types.specs.board.Lines.{AreLegal, Line, extended, last, play}
@@ -71,7 +71,7 @@ move_annotated nag zero (Node m nags comment below next) = refl
 move_annotated nag (suc k) (Node m nags comment below next) = move_annotated nag k next
 
 -- a line from there
-abbrev from : State → List MoveParts → Line
+abbrev from : PositionParts → List MoveParts → Line
 from start moves = record { start = start; moves = moves }
 
 pub line_promoted : (t : TreeParts) → IsGameTree t → 0 < length t.path → line_to (promoted_here t) ≡ line_to t
@@ -191,7 +191,7 @@ line_back t line m game some e =
 
 -- ---- moves of the tree
 
-legal_end : (p : State) (moves : List MoveParts) (m : MoveParts) → AreLegal p (moves ++ m ∷ []) → is_legal (play p moves) m ≡ true
+legal_end : (p : PositionParts) (moves : List MoveParts) (m : MoveParts) → AreLegal p (moves ++ m ∷ []) → is_legal (play p moves) m ≡ true
 legal_end p [] m legal = legal.0
 legal_end p (n ∷ moves) m legal = legal_end (after p n) moves m legal.1
 

@@ -2,7 +2,7 @@
 use Rattle.std.proofs.Common.{◌≡◌, ◌≢◌, ℕ, zero, suc, ◌+◌, ◌<◌, ◌≤◌, ◌==◌, Bool, true, false, refl, ap, ◌∙◌, subst, List, [], ◌∷◌, length, inl, inr, arith}
 use Rattle.std.proofs.lemmas.Bool.{cases_lt}
 use Rattle.std.specs.Prelude.{if◌then◌else◌, nat_lt}
-use Rattle.chess_tree.specs.steps.Entries.{Entry, look}
+use Rattle.chess_tree.specs.steps.Entries.{Entry, entry_at}
 use Rattle.chess_tree.specs.steps.Grove.{Grove, Empty, Tree, tally, times, size, numbers, number_at, Ways}
 use Rattle.chess_tree.specs.steps.Linked.{Linked}
 use Rattle.chess_tree.specs.steps.Laid.{Laid, IsArena, all_of, bump, grove_from, path_to, seen, standing, uses, Same}
@@ -75,7 +75,7 @@ once_at_most nodes free game freed spare k j =
 
 pub all_is : (nodes : List Entry) (free : ℕ) (game freed spare : Grove) → Laid nodes free game freed spare → all_of nodes ≡ game
 all_is nodes free game freed spare k =
-    ap (λ (is : List ℕ). grove_from (length nodes) (look nodes) is) k.root ∙ grove_is Same (look nodes) 0 0 (length nodes) game (omega (arith, k.all)) k.linked
+    ap (λ (is : List ℕ). grove_from (length nodes) (entry_at nodes) is) k.root ∙ grove_is Same (entry_at nodes) 0 0 (length nodes) game (omega (arith, k.all)) k.linked
 
 pub seen_is : (nodes : List Entry) (noted : ℕ → Noted) (free here : ℕ) (trail : List ℕ) (room : ℕ) (a : IsArena nodes noted free here trail room) → seen nodes noted here ≡ standing noted a.game a.path
 seen_is nodes noted free here trail room a =

@@ -7,7 +7,7 @@ use Rattle.chess_types.specs.board.MoveParts.{MoveParts}
 use Rattle.chess_tree.specs.Forest.{child}
 use Rattle.chess_tree.specs.GameTree.{find, is_move}
 use Rattle.chess_tree.specs.steps.Rooted.{Held, Noted, shown}
-use Rattle.chess_tree.specs.steps.Entries.{Entry, look}
+use Rattle.chess_tree.specs.steps.Entries.{Entry, entry_at}
 use Rattle.chess_tree.specs.steps.Grove.{Grove, Empty, Tree, tally, times, size, wide, node_number, under, grove_move, plain, under_at, number_at, Ways}
 use Rattle.chess_tree.specs.steps.Laid.{Laid, Same}
 use Rattle.chess_tree.specs.steps.Siblings.{AreThere, Owner}
@@ -32,7 +32,7 @@ pub owner_at : (nodes : List Entry) (free : ℕ) (game freed spare : Grove) (pat
     → Owner nodes (number_at path 0 game) (under_at path game)
 owner_at nodes free game freed spare path k ways =
     let most = once_at_most nodes free game freed spare k in
-    let on = linked_at (look nodes) path 0 game ways k.root k.linked in
+    let on = linked_at (entry_at nodes) path 0 game ways k.root k.linked in
     record {
       own = on.0;
       linked = on.1;
@@ -48,38 +48,38 @@ owner_at nodes free game freed spare path k ways =
 some_number : (a b : ℕ) → Some a ≡ Some b → a ≡ b
 some_number a b e = cc
 
-pub count_is : (nodes : List Entry) (at : ℕ) (g : Grove) → Owner nodes at g → length (look nodes at).children ≡ wide g
+pub count_is : (nodes : List Entry) (at : ℕ) (g : Grove) → Owner nodes at g → length (entry_at nodes at).children ≡ wide g
 count_is nodes at g o = ap length o.own ∙ length_numbers g
 
-pub few_children : (nodes : List Entry) (at : ℕ) (g : Grove) → Owner nodes at g → length (look nodes at).children < length nodes
+pub few_children : (nodes : List Entry) (at : ℕ) (g : Grove) → Owner nodes at g → length (entry_at nodes at).children < length nodes
 few_children nodes at g o = omega (arith, count_is nodes at g o, wide_le g, o.few)
 
-pub child_in : (nodes : List Entry) (at k c : ℕ) (g : Grove) → Owner nodes at g → Some c ≡ slice_get (look nodes at).children k → k < wide g
+pub child_in : (nodes : List Entry) (at k c : ℕ) (g : Grove) → Owner nodes at g → Some c ≡ slice_get (entry_at nodes at).children k → k < wide g
 child_in nodes at k c g o e =
-    elim (cases_lt k (wide g)) [ inl w ↦ w | inr w ↦ absurd (none-some c (sym (e ∙ slice_get_past (look nodes at).children k (omega (arith, w, count_is nodes at g o))))) ]
+    elim (cases_lt k (wide g)) [ inl w ↦ w | inr w ↦ absurd (none-some c (sym (e ∙ slice_get_past (entry_at nodes at).children k (omega (arith, w, count_is nodes at g o))))) ]
 
-pub child_number : (nodes : List Entry) (at k c : ℕ) (g : Grove) → Owner nodes at g → Some c ≡ slice_get (look nodes at).children k → c ≡ node_number 0 k g
+pub child_number : (nodes : List Entry) (at k c : ℕ) (g : Grove) → Owner nodes at g → Some c ≡ slice_get (entry_at nodes at).children k → c ≡ node_number 0 k g
 child_number nodes at k c g o e =
     let short = child_in nodes at k c g o e in
     some_number c (node_number 0 k g)
-    (e ∙ slice_get-get_or (look nodes at).children k 0 (omega (arith, short, count_is nodes at g o)) ∙ ap (λ (x : List ℕ). Some (get_or x k 0)) o.own ∙ ap (λ (x : ℕ). Some x) (number_get 0 k g))
+    (e ∙ slice_get-get_or (entry_at nodes at).children k 0 (omega (arith, short, count_is nodes at g o)) ∙ ap (λ (x : List ℕ). Some (get_or x k 0)) o.own ∙ ap (λ (x : ℕ). Some x) (number_get 0 k g))
 
-pub child_past : (nodes : List Entry) (at k : ℕ) (g : Grove) → Owner nodes at g → None ≡ slice_get (look nodes at).children k → wide g ≤ k
+pub child_past : (nodes : List Entry) (at k : ℕ) (g : Grove) → Owner nodes at g → None ≡ slice_get (entry_at nodes at).children k → wide g ≤ k
 child_past nodes at k g o e =
     elim (cases_lt k (wide g)) [
-      | inl w ↦ absurd (none-some (get_or (look nodes at).children k 0) (e ∙ slice_get-get_or (look nodes at).children k 0 (omega (arith, w, count_is nodes at g o))))
+      | inl w ↦ absurd (none-some (get_or (entry_at nodes at).children k 0) (e ∙ slice_get-get_or (entry_at nodes at).children k 0 (omega (arith, w, count_is nodes at g o))))
       | inr w ↦ w
     ]
 
 pub number_range : (nodes : List Entry) (at k : ℕ) (g : Grove) → Owner nodes at g → k < wide g → node_number 0 k g < length nodes
 number_range nodes at k g o h = o.range (node_number 0 k g) (omega (arith, tally_same (node_number 0 k g), times_number 0 k g (node_number 0 k g) h))
 
-pub child_range : (nodes : List Entry) (at k c : ℕ) (g : Grove) → Owner nodes at g → Some c ≡ slice_get (look nodes at).children k → c < length nodes
+pub child_range : (nodes : List Entry) (at k c : ℕ) (g : Grove) → Owner nodes at g → Some c ≡ slice_get (entry_at nodes at).children k → c < length nodes
 child_range nodes at k c g o e = omega (arith, child_number nodes at k c g o e, number_range nodes at k g o (child_in nodes at k c g o e))
 
 pub are_there : (nodes : List Entry) (at : ℕ) (g : Grove) → Owner nodes at g → AreThere nodes at
 are_there nodes at g o k h =
-    let is : get_or (look nodes at).children k 0 ≡ node_number 0 k g = ap (λ (x : List ℕ). get_or x k 0) o.own ∙ number_get 0 k g in
+    let is : get_or (entry_at nodes at).children k 0 ≡ node_number 0 k g = ap (λ (x : List ℕ). get_or x k 0) o.own ∙ number_get 0 k g in
     omega (arith, is, number_range nodes at k g o (omega (arith, h, count_is nodes at g o)))
 
 -- and isn't the root
@@ -90,13 +90,13 @@ number_some k g none h =
       | inr w ↦ (let is : node_number 0 k g ≡ 0 = omega (arith, w) in let one : tally 0 (node_number 0 k g) ≡ 1 = subst (λ (y : ℕ). tally 0 y ≡ 1) (sym is) (tally_same 0) in absurd (omega (arith, one, none, times_number 0 k g 0 h)))
     ]
 
-pub child_some : (nodes : List Entry) (at k c : ℕ) (g : Grove) → Owner nodes at g → Some c ≡ slice_get (look nodes at).children k → 0 < c
+pub child_some : (nodes : List Entry) (at k c : ℕ) (g : Grove) → Owner nodes at g → Some c ≡ slice_get (entry_at nodes at).children k → 0 < c
 child_some nodes at k c g o e = omega (arith, child_number nodes at k c g o e, number_some k g o.no_root (child_in nodes at k c g o e))
 
 -- its move
-pub child_move : (nodes : List Entry) (at k c : ℕ) (g : Grove) → Owner nodes at g → Some c ≡ slice_get (look nodes at).children k → (look nodes c).played ≡ grove_move k g
+pub child_move : (nodes : List Entry) (at k c : ℕ) (g : Grove) → Owner nodes at g → Some c ≡ slice_get (entry_at nodes at).children k → (entry_at nodes c).played ≡ grove_move k g
 child_move nodes at k c g o e =
-    ap (λ (x : ℕ). (look nodes x).played) (child_number nodes at k c g o e) ∙ (linked_one Same (look nodes) at 0 0 k g (child_in nodes at k c g o e) o.linked).0.owned.move_is
+    ap (λ (x : ℕ). (entry_at nodes x).played) (child_number nodes at k c g o e) ∙ (linked_one Same (entry_at nodes) at 0 0 k g (child_in nodes at k c g o e) o.linked).0.owned.move_is
 
 -- ---- a child as the forest shows it
 
@@ -123,13 +123,13 @@ Without m k g noted = find m (plain noted g) ≡ option_map (λ x. k + x) (find 
 same_test : (m n p : MoveParts) (b : Bool) → is_move m p ≡ b → m ≡ n → is_move n p ≡ b
 same_test m n p b is e = ap (λ (x : MoveParts). is_move x p) (sym e) ∙ is
 
-pub found_here : (nodes : List Entry) (at k c : ℕ) (m : MoveParts) (g : Grove) (noted : ℕ → Noted) → Owner nodes at g → Some c ≡ slice_get (look nodes at).children k → Without m k g noted
-    → is_move (look nodes c).played m ≡ true → Some k ≡ find m (plain noted g)
+pub found_here : (nodes : List Entry) (at k c : ℕ) (m : MoveParts) (g : Grove) (noted : ℕ → Noted) → Owner nodes at g → Some c ≡ slice_get (entry_at nodes at).children k → Without m k g noted
+    → is_move (entry_at nodes c).played m ≡ true → Some k ≡ find m (plain noted g)
 found_here nodes at k c m g noted o e w is =
     find_here m (plain noted g) k (held_in noted k g) w (child_plain noted k g (child_in nodes at k c g o e)) (same_test _ _ m true is (child_move nodes at k c g o e))
 
-pub found_on : (nodes : List Entry) (at k c : ℕ) (m : MoveParts) (g : Grove) (noted : ℕ → Noted) → Owner nodes at g → Some c ≡ slice_get (look nodes at).children k → Without m k g noted
-    → is_move (look nodes c).played m ≡ false → Without m (k + 1) g noted
+pub found_on : (nodes : List Entry) (at k c : ℕ) (m : MoveParts) (g : Grove) (noted : ℕ → Noted) → Owner nodes at g → Some c ≡ slice_get (entry_at nodes at).children k → Without m k g noted
+    → is_move (entry_at nodes c).played m ≡ false → Without m (k + 1) g noted
 found_on nodes at k c m g noted o e w is =
     find_on m (plain noted g) k (held_in noted k g) w (child_plain noted k g (child_in nodes at k c g o e)) (same_test _ _ m false is (child_move nodes at k c g o e))
 

@@ -9,12 +9,12 @@ use Rattle.smallvec.specs.SmallVec.{SmallVec}
 use Rattle.chess_tree.specs.declared.arena.slot.Slot.{Slot}
 use Rattle.chess_tree.specs.declared.arena.slot.Below.{Below}
 use Rattle.chess_tree.specs.declared.arena.slot.Below.TheVariants.{Nothing, One, Listed}
-use Rattle.chess_tree.specs.steps.Entries.{Entry, leaf_entry, look, with_children, with_parent, with_place}
+use Rattle.chess_tree.specs.steps.Entries.{Entry, leaf_entry, entry_at, with_children, with_parent, with_place}
 use Rattle.chess_tree.specs.steps.Slots.{IsKept, blank, children_in, has_list, listed, lists_had, no_list, entry_of, entries_of, slot_at}
 
 -- ---- looks
 
-pub look_is : (lists : List (SmallVec ℕ)) (slots : List Slot) (i : ℕ) → look (entries_of lists slots) i ≡ entry_of lists (slot_at slots i)
+pub look_is : (lists : List (SmallVec ℕ)) (slots : List Slot) (i : ℕ) → entry_at (entries_of lists slots) i ≡ entry_of lists (slot_at slots i)
 look_is lists slots i = get_or-map (entry_of lists) slots i blank
 
 pub length_is : (lists : List (SmallVec ℕ)) (slots : List Slot) → length (entries_of lists slots) ≡ length slots
@@ -188,11 +188,11 @@ module _ {slots : List Slot} {lists : List (SmallVec ℕ)} {nodes : List Entry} 
   slot_is : (i : ℕ) (r : Slot) → IsRead i r → r ≡ slot_at slots at
   slot_is i r e = e.0 ∙ get_or_default slots i r blank (omega (arith, range, e.1)) ∙ ap (slot_at slots) e.1
 
-  pub node_is : (i : ℕ) (r : Slot) → IsRead i r → look nodes at ≡ entry_of lists r
-  node_is i r e = ap (λ (ns : List Entry). look ns at) (sym v) ∙ look_is lists slots at ∙ ap (entry_of lists) (sym (slot_is i r e))
+  pub node_is : (i : ℕ) (r : Slot) → IsRead i r → entry_at nodes at ≡ entry_of lists r
+  node_is i r e = ap (λ (ns : List Entry). entry_at ns at) (sym v) ∙ look_is lists slots at ∙ ap (entry_of lists) (sym (slot_is i r e))
 
   -- its children, by where they are
-  pub children_are : (i : ℕ) (r : Slot) (b : Below) → IsRead i r → r.below ≡ b → (look nodes at).children ≡ children_in lists b
+  pub children_are : (i : ℕ) (r : Slot) (b : Below) → IsRead i r → r.below ≡ b → (entry_at nodes at).children ≡ children_in lists b
   children_are i r b e is = ap (λ (n : Entry). n.children) (node_is i r e) ∙ ap (children_in lists) is
 
   -- its list is there, and no other node's
@@ -200,7 +200,7 @@ module _ {slots : List Slot} {lists : List (SmallVec ℕ)} {nodes : List Entry} 
   list_there i t r e is = k.there at t (ap (λ (s : Slot). s.below) (sym (slot_is i r e)) ∙ is)
 
   -- what was read of it
-  pub list_read : (i t : ℕ) (r : Slot) (l : SmallVec ℕ) → IsRead i r → r.below ≡ Listed t → l ≡ slice_index_or lists t l → l.items ≡ (look nodes at).children
+  pub list_read : (i t : ℕ) (r : Slot) (l : SmallVec ℕ) → IsRead i r → r.below ≡ Listed t → l ≡ slice_index_or lists t l → l.items ≡ (entry_at nodes at).children
   list_read i t r l e is read =
       ap (λ (x : SmallVec ℕ). x.items) (read ∙ get_or_default lists t l no_list (list_there i t r e is)) ∙ sym (children_are i r (Listed t) e is)
 
@@ -221,12 +221,12 @@ module _ {slots : List Slot} {lists : List (SmallVec ℕ)} {nodes : List Entry} 
       (kept_set slots lists at s k range (bare ∙ sym none ∙ ap has_list here) (λ t is. (let one = ap has_list is in absurd (omega (arith, one, bare)))))
 
   pub place_now : (i j : ℕ) (r : Slot) (place : ℕ) → IsRead i r → j ≡ at → entries_of lists (set slots j (record r { place = place })) ≡ with_place at place nodes
-  place_now i j r place e at_j = written j (record r { place = place }) (record (look nodes at) { place = place }) at_j (ap (λ (n : Entry). record n { place = place }) (sym (node_is i r e)))
+  place_now i j r place e at_j = written j (record r { place = place }) (record (entry_at nodes at) { place = place }) at_j (ap (λ (n : Entry). record n { place = place }) (sym (node_is i r e)))
 
   pub parent_now : (i j : ℕ) (r : Slot) (parent : ℕ) → IsRead i r → j ≡ at → entries_of lists (set slots j (record r { parent = parent })) ≡ with_parent at parent nodes
-  parent_now i j r parent e at_j = written j (record r { parent = parent }) (record (look nodes at) { parent = parent }) at_j (ap (λ (n : Entry). record n { parent = parent }) (sym (node_is i r e)))
+  parent_now i j r parent e at_j = written j (record r { parent = parent }) (record (entry_at nodes at) { parent = parent }) at_j (ap (λ (n : Entry). record n { parent = parent }) (sym (node_is i r e)))
 
-  pub leaf_now : (i j : ℕ) (r : Slot) (played : MoveParts) (parent place : ℕ) → IsRead i r → j ≡ at → (look nodes at).children ≡ []
+  pub leaf_now : (i j : ℕ) (r : Slot) (played : MoveParts) (parent place : ℕ) → IsRead i r → j ≡ at → (entry_at nodes at).children ≡ []
       → entries_of lists (set slots j (record { played = played; parent = parent; place = place; below = r.below })) ≡ set nodes at (leaf_entry played parent place)
   leaf_now i j r played parent place e at_j bare =
       let none = sym (children_are i r r.below e refl) ∙ bare in
@@ -236,7 +236,7 @@ module _ {slots : List Slot} {lists : List (SmallVec ℕ)} {nodes : List Entry} 
   pub children_now : (i j : ℕ) (r : Slot) (b : Below) (children : List ℕ) → IsRead i r → j ≡ at → children_in lists b ≡ children
       → entries_of lists (set slots j (record r { below = b })) ≡ with_children at children nodes
   children_now i j r b children e at_j is =
-      written j (record r { below = b }) (record (look nodes at) { children = children }) at_j
+      written j (record r { below = b }) (record (entry_at nodes at) { children = children }) at_j
       ((λ x. record { played = r.played; parent = r.parent; place = r.place; children = is x }) ∙ ap (λ (n : Entry). record n { children = children }) (sym (node_is i r e)))
 
   -- another list

@@ -6,7 +6,7 @@ use Rattle.chess_tree.specs.Forest.{Forest, NodeParts, child, count}
 use Rattle.chess_tree.specs.Edits.{without_node}
 use Rattle.chess_tree.specs.GameTree.{node_of}
 use Rattle.chess_tree.specs.steps.Rooted.{Noted, Rooted, root_shown}
-use Rattle.chess_tree.specs.steps.Entries.{Entry, look}
+use Rattle.chess_tree.specs.steps.Entries.{Entry, entry_at}
 use Rattle.chess_tree.specs.steps.Grove.{Grove, Empty, Tree, times, size, wide, numbers, node_number, grove_move, under, under_at, number_at, plain, Ways}
 use Rattle.chess_tree.specs.steps.Linked.{Linked}
 use Rattle.chess_tree.specs.steps.Laid.{IsArena, grove_from, seen, Same}
@@ -31,11 +31,11 @@ viewed_range nodes i v = (owner nodes i v).there
 pub viewed_few : (nodes : List Entry) (i : ℕ) → IsViewed nodes i → length nodes ≤ 1000001
 viewed_few nodes i v = v.few
 
-pub viewed_children : (nodes : List Entry) (i : ℕ) → IsViewed nodes i → length (look nodes i).children ≤ 1000001
+pub viewed_children : (nodes : List Entry) (i : ℕ) → IsViewed nodes i → length (entry_at nodes i).children ≤ 1000001
 viewed_children nodes i v = omega (arith, few_children nodes i (under_at v.path v.game) (owner nodes i v), v.few)
 
-below_is : (nodes : List Entry) (i : ℕ) (g : Grove) → Owner nodes i g → grove_from (length nodes) (look nodes) (look nodes i).children ≡ g
-below_is nodes i g o = ap (λ (x : List ℕ). grove_from (length nodes) (look nodes) x) o.own ∙ grove_is Same (look nodes) i 0 (length nodes) g (omega (arith, o.few)) o.linked
+below_is : (nodes : List Entry) (i : ℕ) (g : Grove) → Owner nodes i g → grove_from (length nodes) (entry_at nodes) (entry_at nodes i).children ≡ g
+below_is nodes i g o = ap (λ (x : List ℕ). grove_from (length nodes) (entry_at nodes) x) o.own ∙ grove_is Same (entry_at nodes) i 0 (length nodes) g (omega (arith, o.few)) o.linked
 
 if_none : {T : Type 0} (t : ℕ) (x y : T) → t ≡ 0 → (if t == 0 then x else y) ≡ x
 if_none t x y h = let test : (t == 0) ≡ true = grind arith in rw test
@@ -48,7 +48,7 @@ if_some t x y h = let test : (t == 0) ≡ false = grind arith in rw test
 -- a node with that number, above that grove
 abbrev node_with : List Entry → (ℕ → Noted) → ℕ → Grove → NodeParts
 node_with nodes noted i g = record {
-  move = if i == 0 then None else Some (look nodes i).played;
+  move = if i == 0 then None else Some (entry_at nodes i).played;
   nags = if i == 0 then [] else (noted i).nags;
   comment = (noted i).comment;
   below = plain noted g;
@@ -58,12 +58,12 @@ with_below_is : (nodes : List Entry) (noted : ℕ → Noted) (i : ℕ) (g : Grov
 with_below_is nodes noted i g o = ap (node_with nodes noted i) (below_is nodes i g o)
 
 -- a child is the node with its number
-child_is : (nodes : List Entry) (noted : ℕ → Noted) (at k n : ℕ) (g : Grove) → Owner nodes at g → Some n ≡ slice_get (look nodes at).children k
+child_is : (nodes : List Entry) (noted : ℕ → Noted) (at k n : ℕ) (g : Grove) → Owner nodes at g → Some n ≡ slice_get (entry_at nodes at).children k
     → Some (node_with nodes noted n (under k g)) ≡ child k (plain noted g)
 child_is nodes noted at k n g o e =
     let is = child_number nodes at k n g o e in
     let some = child_some nodes at k n g o e in
-    let move = if_some n None (Some (look nodes n).played) some ∙ ap (λ (m : MoveParts). Some m) (child_move nodes at k n g o e) in
+    let move = if_some n None (Some (entry_at nodes n).played) some ∙ ap (λ (m : MoveParts). Some m) (child_move nodes at k n g o e) in
     let nags = if_some n [] (noted n).nags some ∙ ap (λ (x : ℕ). (noted x).nags) is in
     let comment = ap (λ (x : ℕ). (noted x).comment) is in
     (λ j. Some (record { move = move j; nags = nags j; comment = comment j; below = plain noted (under k g) })) ∙ sym (child_plain noted k g (child_in nodes at k n g o e))
@@ -71,18 +71,18 @@ child_is nodes noted at k n g o e =
 below_seen : (nodes : List Entry) (noted : ℕ → Noted) (i : ℕ) (n : NodeParts) (v : IsViewed nodes i) → node_seen nodes noted i ≡ n → n.below ≡ plain noted (under_at v.path v.game)
 below_seen nodes noted i n v e = ap (λ (x : NodeParts). x.below) (sym e) ∙ ap (plain noted) (below_is nodes i (under_at v.path v.game) (owner nodes i v))
 
-pub children_seen : (nodes : List Entry) (noted : ℕ → Noted) (i : ℕ) (n : NodeParts) → IsViewed nodes i → node_seen nodes noted i ≡ n → length (look nodes i).children ≡ count n.below
+pub children_seen : (nodes : List Entry) (noted : ℕ → Noted) (i : ℕ) (n : NodeParts) → IsViewed nodes i → node_seen nodes noted i ≡ n → length (entry_at nodes i).children ≡ count n.below
 children_seen nodes noted i n v e =
     count_is nodes i (under_at v.path v.game) (owner nodes i v) ∙ sym (wide_plain noted (under_at v.path v.game)) ∙ ap count (sym (below_seen nodes noted i n v e))
 
-pub no_child : (nodes : List Entry) (noted : ℕ → Noted) (i place : ℕ) (n : NodeParts) → IsViewed nodes i → node_seen nodes noted i ≡ n → None ≡ slice_get (look nodes i).children place → None ≡ child place n.below
+pub no_child : (nodes : List Entry) (noted : ℕ → Noted) (i place : ℕ) (n : NodeParts) → IsViewed nodes i → node_seen nodes noted i ≡ n → None ≡ slice_get (entry_at nodes i).children place → None ≡ child place n.below
 no_child nodes noted i place n v e at =
     let b = under_at v.path v.game in
     let o = owner nodes i v in
     sym (child_none noted place b (child_past nodes i place b o at)) ∙ ap (child place) (sym (below_seen nodes noted i n v e))
 
 -- the child at a place is one of the game too
-child_there : (nodes : List Entry) (i place found : ℕ) (v : IsViewed nodes i) → Some found ≡ slice_get (look nodes i).children place → IsViewed nodes found
+child_there : (nodes : List Entry) (i place found : ℕ) (v : IsViewed nodes i) → Some found ≡ slice_get (entry_at nodes i).children place → IsViewed nodes found
 child_there nodes i place found v e =
     let b = under_at v.path v.game in
     let o = owner nodes i v in
@@ -98,12 +98,12 @@ child_there nodes i place found v e =
       few = v.few;
     }
 
-child_owner : (nodes : List Entry) (i place found : ℕ) (v : IsViewed nodes i) → Some found ≡ slice_get (look nodes i).children place → Owner nodes found (under place (under_at v.path v.game))
+child_owner : (nodes : List Entry) (i place found : ℕ) (v : IsViewed nodes i) → Some found ≡ slice_get (entry_at nodes i).children place → Owner nodes found (under place (under_at v.path v.game))
 unfolding child_there
 child_owner nodes i place found v e =
     subst (Owner nodes found) (under_on v.path place v.game) (owner nodes found (child_there nodes i place found v e))
 
-pub child_viewed : (nodes : List Entry) (noted : ℕ → Noted) (i place found : ℕ) (n : NodeParts) → IsViewed nodes i → node_seen nodes noted i ≡ n → Some found ≡ slice_get (look nodes i).children place
+pub child_viewed : (nodes : List Entry) (noted : ℕ → Noted) (i place found : ℕ) (n : NodeParts) → IsViewed nodes i → node_seen nodes noted i ≡ n → Some found ≡ slice_get (entry_at nodes i).children place
     → IsViewed nodes found × (Some (node_seen nodes noted found) ≡ child place n.below)
 child_viewed nodes noted i place found n v e at =
     let b = under_at v.path v.game in
@@ -114,10 +114,10 @@ child_viewed nodes noted i place found n v e at =
     )
 
 pub move_root : (nodes : List Entry) (noted : ℕ → Noted) (i : ℕ) (n : NodeParts) → node_seen nodes noted i ≡ n → i ≡ 0 → None ≡ n.move
-move_root nodes noted i n e h = sym (if_none i None (Some (look nodes i).played) h) ∙ ap (λ (x : NodeParts). x.move) e
+move_root nodes noted i n e h = sym (if_none i None (Some (entry_at nodes i).played) h) ∙ ap (λ (x : NodeParts). x.move) e
 
-pub move_seen : (nodes : List Entry) (noted : ℕ → Noted) (i : ℕ) (m : MoveParts) (n : NodeParts) → node_seen nodes noted i ≡ n → 0 < i → m ≡ (look nodes i).played → Some m ≡ n.move
-move_seen nodes noted i m n e h r = ap (λ (x : MoveParts). Some x) r ∙ sym (if_some i None (Some (look nodes i).played) h) ∙ ap (λ (x : NodeParts). x.move) e
+pub move_seen : (nodes : List Entry) (noted : ℕ → Noted) (i : ℕ) (m : MoveParts) (n : NodeParts) → node_seen nodes noted i ≡ n → 0 < i → m ≡ (entry_at nodes i).played → Some m ≡ n.move
+move_seen nodes noted i m n e h r = ap (λ (x : MoveParts). Some x) r ∙ sym (if_some i None (Some (entry_at nodes i).played) h) ∙ ap (λ (x : NodeParts). x.move) e
 
 pub nags_root : (nodes : List Entry) (noted : ℕ → Noted) (i : ℕ) (n : NodeParts) → node_seen nodes noted i ≡ n → i ≡ 0 → [] ≡ n.nags
 nags_root nodes noted i n e h = sym (if_none i [] (noted i).nags h) ∙ ap (λ (x : NodeParts). x.nags) e
@@ -127,15 +127,15 @@ nags_seen nodes noted i nags n e h r = r ∙ sym (if_some i [] (noted i).nags h)
 
 -- ---- the root, and the node at the cursor
 
-deep_is : (nodes : List Entry) (noted : ℕ → Noted) (path : List ℕ) (i : ℕ) (g : Grove) → Ways path g → (look nodes i).children ≡ numbers g → Linked Same (look nodes) i 0 g → times 0 g ≡ 0
+deep_is : (nodes : List Entry) (noted : ℕ → Noted) (path : List ℕ) (i : ℕ) (g : Grove) → Ways path g → (entry_at nodes i).children ≡ numbers g → Linked Same (entry_at nodes) i 0 g → times 0 g ≡ 0
     → node_of path (node_with nodes noted i g) ≡ node_with nodes noted (number_at path i g) (under_at path g)
 deep_is nodes noted [] i g ways own links out = refl
 deep_is nodes noted (k ∷ path) i g ways own links out =
-    let one = linked_one Same (look nodes) i 0 i k g ways.0 links in
+    let one = linked_one Same (entry_at nodes) i 0 i k g ways.0 links in
     let n = node_number i k g in
     let same : n ≡ node_number 0 k g = number_any i k g ways.0 in
     let some : 0 < n = omega (arith, same, number_some k g out ways.0) in
-    let move = if_some n None (Some (look nodes n).played) some ∙ ap (λ (m : MoveParts). Some m) one.0.owned.move_is in
+    let move = if_some n None (Some (entry_at nodes n).played) some ∙ ap (λ (m : MoveParts). Some m) one.0.owned.move_is in
     let nags = if_some n [] (noted n).nags some ∙ ap (λ (x : ℕ). (noted x).nags) same in
     let comment = ap (λ (x : ℕ). (noted x).comment) same in
     let there : child k (plain noted g) ≡ Some (node_with nodes noted n (under k g)) =
@@ -203,22 +203,22 @@ rest_split (suc k) (Tree i m below next) h = rest_split k next (omega (arith, h)
 rest_parted : (k : ℕ) (g : Grove) → k < wide g → rest_of k g ≡ Tree (node_number 0 k g) (grove_move k g) (under k g) (rest_of (k + 1) g)
 rest_parted k g h = rest_split k g h ∙ ap (λ (x : ℕ). Tree (node_number 0 k g) (grove_move k g) (under k g) (rest_of x g)) (sym (add-one k))
 
-side_is : (nodes : List Entry) (at k : ℕ) (g : Grove) → Owner nodes at g → grove_from (length nodes) (look nodes) (drop k (look nodes at).children) ≡ rest_of k g
+side_is : (nodes : List Entry) (at k : ℕ) (g : Grove) → Owner nodes at g → grove_from (length nodes) (entry_at nodes) (drop k (entry_at nodes at).children) ≡ rest_of k g
 side_is nodes at k g o =
-    ap (λ (x : List ℕ). grove_from (length nodes) (look nodes) x) (ap (drop k) o.own ∙ rest_numbers k g)
-    ∙ grove_is Same (look nodes) at (0 + k) (length nodes) (rest_of k g) (omega (arith, o.few, rest_size k g)) (rest_linked (look nodes) at 0 k g o.linked)
+    ap (λ (x : List ℕ). grove_from (length nodes) (entry_at nodes) x) (ap (drop k) o.own ∙ rest_numbers k g)
+    ∙ grove_is Same (entry_at nodes) at (0 + k) (length nodes) (rest_of k g) (omega (arith, o.few, rest_size k g)) (rest_linked (entry_at nodes) at 0 k g o.linked)
 
 module _ (nodes : List Entry) (noted : ℕ → Noted) (i place : ℕ) (f : Forest) (v : IsViewed nodes i) (e : side_seen nodes noted i place ≡ f) where
   seen_side : f ≡ plain noted (rest_of place (under_at v.path v.game))
   seen_side = sym e ∙ ap (plain noted) (side_is nodes i place (under_at v.path v.game) (owner nodes i v))
 
-  pub side_end : None ≡ slice_get (look nodes i).children place → (None ≡ child 0 f) × (f ≡ without_node 0 f)
+  pub side_end : None ≡ slice_get (entry_at nodes i).children place → (None ≡ child 0 f) × (f ≡ without_node 0 f)
   side_end at =
       let none : f ≡ plain noted Empty =
       seen_side ∙ ap (plain noted) (rest_none place (under_at v.path v.game) (child_past nodes i place (under_at v.path v.game) (owner nodes i v) at)) in
       (ap (child 0) (sym none), none ∙ ap (without_node 0) (sym none))
 
-  pub side_next : (found : ℕ) → Some found ≡ slice_get (look nodes i).children place
+  pub side_next : (found : ℕ) → Some found ≡ slice_get (entry_at nodes i).children place
       → IsViewed nodes found × (Some (node_seen nodes noted found) ≡ child 0 f) × (side_seen nodes noted i (place + 1) ≡ without_node 0 f) × (place < 1000001)
   side_next found at =
       let b = under_at v.path v.game in

@@ -6,7 +6,7 @@
 --   IsComment    the text of a comment: normalised, and without a right brace
 use Rattle.std.specs.Prelude.{◌≡◌, ℕ, Bool, false, ◌==◌, List, [], ◌∷◌, ◌++◌}
 use Rattle.std.specs.List.{join_with_byte, list_any}
-use Rattle.chess_types.specs.bytes.Words.{words}
+use Rattle.byte_streams.specs.Words.{words}
 
 -- from the horizontal tab to the carriage return, and the space
 abbrev pub blanks : List ℕ

@@ -14,14 +14,14 @@ use Rattle.std.specs.Prelude.{ℕ, zero, suc, Bool, true, nat_lt, ◌&&◌, ◌=
 use Rattle.std.specs.Option.{option_to_list, option_eq}
 use Rattle.chess_types.specs.board.Men.{same_kind}
 use Rattle.chess_types.specs.board.MoveParts.{MoveParts}
-use Rattle.chess_types.specs.board.Position.{State}
+use Rattle.chess_types.specs.board.Position.{PositionParts}
 use Rattle.chess_types.specs.board.Lines.{Line}
 use Rattle.chess_tree.specs.Forest.{Forest, Bare, Node, NodeParts, below_at, below_child, child, count}
 use Rattle.chess_tree.specs.Edits.{annotated, change_below, change_node, commented, parent, promoted, with_move, without_node}
 
 -- the position in which it begins, its comment and its moves
 pub record GameTree : Type 0 where
-  pub start : State
+  pub start : PositionParts
   pub comment : List ℕ
   pub below : Forest
 

@@ -3,7 +3,7 @@
 --   Leads        the path leads to a node
 --   IsGameTree   all that is true of each tree
 use Rattle.std.specs.Prelude.{◌≡◌, ℕ, ◌<◌, ◌≤◌, true, List, [], ◌∷◌, ⊤}
-use Rattle.chess_types.specs.board.Position.{State, IsWellFormed}
+use Rattle.chess_types.specs.board.Position.{PositionParts, IsWellFormed}
 use Rattle.chess_types.specs.board.After.{after}
 use Rattle.chess_types.specs.board.Legal.{is_legal}
 use Rattle.chess_tree.specs.Forest.{Forest, Bare, Node, below_child, count, height, moves_held}
@@ -11,7 +11,7 @@ use Rattle.chess_tree.specs.Comments.{IsComment}
 use Rattle.chess_tree.specs.GameTree.{TreeParts}
 
 -- from the position where the nodes side by side are moves (FIDE Laws 3.10.1)
-abbrev pub AreSound : State → Forest → Type 0
+abbrev pub AreSound : PositionParts → Forest → Type 0
 AreSound p Bare = ⊤
 AreSound p (Node m nags comment below next) = (is_legal p m ≡ true) × IsComment comment × AreSound (after p m) below × AreSound p next
 

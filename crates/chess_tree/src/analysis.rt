@@ -4,7 +4,7 @@ ghost use Rattle.chess_types.specs.board.Lines.{extended, last};
 ghost use Rattle.chess_tree.specs.declared.fault.TreeFault.TheVariants.{Memory};
 ghost use Rattle.chess_tree.specs.declared.fault.PlayFault.TheVariants.{Full as TreeFull, Memory as NoMemory};
 ghost use Rattle.chess_tree.specs.Forest.{Bare, moves_held};
-ghost use Rattle.chess_tree.specs.GameTree.{added, find, line_to, nodes_here};
+ghost use Rattle.chess_tree.specs.GameTree.{added, at_path, find, line_to, nodes_here};
 ghost use Rattle.chess_tree.specs.WellFormed.{IsGameTree};
 ghost use Rattle.chess_tree.specs.Plays.{IsAnswer, add_answer, play_answer, played};
 
@@ -92,6 +92,23 @@ impl<'a, 'k, A: Allocator> Analysis<'a, 'k, A> {
         };
         let tree = Tree::new(alloc, root)?;
         let line = Line::start(alloc, start, table);
+        Ok(Analysis { tree, line })
+    }
+
+    /// The analysis of a tree, such as a game that was read, with the cursor at its root; keys are kept by the words of the
+    /// table. `Memory` where there is none for the line.
+    pub fn of(mut tree: Tree<'a, A>, table: &'k KeyTable) -> Result<Analysis<'a, 'k, A>, TreeFault>
+        ensures ok { IfOk result (λ a. a ≡ at_path [] tree.entry) }
+        ensures memory { IfErr result (λ fault. fault ≡ Memory) }
+    {
+        tree.start();
+        let Ok(root) = tree.position().clone() else {
+            unreachable!();
+        };
+        let mut line = Line::start(tree.alloc(), root, table);
+        if line.reserve(tree.room()).is_err() {
+            return Err(TreeFault::Memory);
+        }
         Ok(Analysis { tree, line })
     }
 

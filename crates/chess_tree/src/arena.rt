@@ -1,5 +1,5 @@
 ghost use Rattle.std.specs.Prelude.{◌≡◌, ◌<◌, ◌≤◌, ◌++◌, ◌∷◌, [], nat_le, nat_lt, true, false, length, slice_index, IfOk, IsOk, OnOk, OnErr};
-ghost use Rattle.chess_tree.specs.Forest.{below_at, count, moves_held};
+ghost use Rattle.chess_tree.specs.Forest.{below_at, count, height, moves_held};
 ghost use Rattle.chess_tree.specs.Edits.{parent};
 ghost use Rattle.chess_tree.specs.GameTree.{find, node_of};
 ghost use Rattle.chess_tree.specs.steps.Rooted.{added_root, annotated_root, commented_root, deleted_root, leaf, path_root, promoted_root, root_shown};
@@ -56,6 +56,22 @@ impl<'a, A: Allocator> Model for Arena<'a, A> {
     ghost invariant = { λ a. IsArena a.nodes (noted_in a.notes) a.free a.here a.trail.items (vec_capacity a.trail) };
 }
 
+impl<'a, A: Allocator> Clone for Arena<'a, A> {
+    ghost is_clone = { λ arena copy. copy ≡ arena };
+
+    fn clone(&self) -> Result<Arena<'a, A>, AllocError> {
+        let mut trail = Vec::with_capacity(self.alloc(), self.trail.capacity())?;
+        trail.extend_from_slice(self.trail.as_slice())?;
+        Ok(Arena {
+            nodes: self.nodes.clone()?,
+            notes: self.notes.clone()?,
+            free: self.free,
+            here: self.here,
+            trail,
+        })
+    }
+}
+
 impl<'a, A: Allocator> Arena<'a, A> {
     /// A root, and no more.
     pub(crate) fn new(alloc: &'a A) -> Result<Arena<'a, A>, AllocError>
@@ -73,6 +89,13 @@ impl<'a, A: Allocator> Arena<'a, A> {
     /// The allocator.
     pub(crate) fn alloc(&self) -> &'a A {
         self.nodes.alloc()
+    }
+
+    /// At least how many nodes there are on the way to the deepest.
+    pub(crate) fn room(&self) -> usize
+        ensures { height self.now.root.below ≤ result }
+    {
+        self.trail.capacity()
     }
 
     /// Whether it holds 1,000,000 nodes beside the root.

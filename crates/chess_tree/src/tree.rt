@@ -2,7 +2,7 @@ ghost use Rattle.std.specs.Prelude.{◌≡◌, ◌<◌, ◌≤◌, ◌++◌, ◌
 ghost use Rattle.chess_types.specs.board.Legal.{is_legal};
 ghost use Rattle.chess_types.specs.board.Lines.{extended, last};
 ghost use Rattle.chess_tree.specs.declared.fault.TreeFault.TheVariants.{NoSuch, AtRoot, Full, Memory};
-ghost use Rattle.chess_tree.specs.Forest.{Bare, count, moves_held};
+ghost use Rattle.chess_tree.specs.Forest.{Bare, count, height, moves_held};
 ghost use Rattle.chess_tree.specs.Edits.{parent};
 ghost use Rattle.chess_tree.specs.GameTree.{added, at_path, line_to, nodes_here};
 ghost use Rattle.chess_tree.specs.WellFormed.{IsGameTree};
@@ -16,7 +16,7 @@ mod view;
 use crate::arena::Arena;
 use crate::fault::TreeFault;
 use chess_types::{Move, Position};
-use std::alloc::Allocator;
+use std::alloc::{AllocError, Allocator};
 use std::marker::Model;
 
 /// A game tree with a cursor at one of its nodes. Contracts see the nested tree and the path to the cursor
@@ -43,6 +43,18 @@ impl<'a, A: Allocator> Model for Tree<'a, A> {
     ghost invariant = { λ t. IsGameTree (parts_of t.start t.nodes) };
 }
 
+impl<'a, A: Allocator> Clone for Tree<'a, A> {
+    ghost is_clone = { λ tree copy. copy ≡ tree };
+
+    /// The same tree with its cursor, in the same allocator's memory; an error where there is none.
+    fn clone(&self) -> Result<Tree<'a, A>, AllocError> {
+        Ok(Tree {
+            start: self.start.clone()?,
+            nodes: self.nodes.clone()?,
+        })
+    }
+}
+
 impl<'a, A: Allocator> Tree<'a, A> {
     /// A tree with no move, from that position, whose counters are at most 99,999. `Memory` where there is none.
     pub fn new(alloc: &'a A, start: Position) -> Result<Tree<'a, A>, TreeFault>
@@ -62,6 +74,19 @@ impl<'a, A: Allocator> Tree<'a, A> {
         ensures game { IsGameTree self.now }
     {
         &self.start
+    }
+
+    /// At least how many plies the deepest node is from the root, at most 20,000.
+    pub(crate) fn room(&self) -> u32
+        ensures room { height self.now.tree.below ≤ result }
+        ensures few { result ≤ 20000 }
+    {
+        self.nodes.room().min(20_000) as u32
+    }
+
+    /// The allocator.
+    pub(crate) fn alloc(&self) -> &'a A {
+        self.nodes.alloc()
     }
 
     /// How many children the node at the cursor has, at most 1,000,000.

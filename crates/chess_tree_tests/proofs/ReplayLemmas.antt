@@ -5,7 +5,7 @@ use Rattle.std.specs.Option.{option_to_list}
 use Rattle.std.proofs.lemmas.List.{take_more, take_all}
 use Rattle.std.proofs.lemmas.Option.{none-some, same_Some}
 use Rattle.chess_types.specs.board.MoveParts.{MoveParts}
-use Rattle.chess_types.specs.board.Position.{State}
+use Rattle.chess_types.specs.board.Position.{PositionParts}
 use Rattle.chess_types.specs.board.After.{after}
 use Rattle.chess_types.specs.board.Lines.{Line, extended, last, play}
 use Rattle.chess_tree.specs.Forest.{Forest, Bare, Node, NodeParts, below_at, below_child, child}
@@ -14,8 +14,8 @@ use Rattle.chess_types.proofs.PlayLaws.{last_extended, play_on}
 use Rattle.chess_tree.proofs.LineLemmas.{along_on}
 use Rattle.chess_tree.proofs.WalkLemmas.{below_at_on}
 
-pub added_position : (m : MoveParts) (old new : Line) (before now : State) → new ≡ extended old m → before ≡ last old → now ≡ after before m → now ≡ last new
-added_position m old new before now e b n = n ∙ ap (λ (p : State). after p m) b ∙ sym (last_extended old m) ∙ ap last (sym e)
+pub added_position : (m : MoveParts) (old new : Line) (before now : PositionParts) → new ≡ extended old m → before ≡ last old → now ≡ after before m → now ≡ last new
+added_position m old new before now e b n = n ∙ ap (λ (p : PositionParts). after p m) b ∙ sym (last_extended old m) ∙ ap last (sym e)
 
 pub place_is : (path : List ℕ) (ply place : ℕ) → slice_get path ply ≡ Some place → (ply < length path) × (place ≡ get_or path ply 0)
 place_is [] ply place e = absurd (none-some place e)
@@ -38,7 +38,7 @@ seen_child zero (Node m nags comment below next) n e =
     below_in (Some x) = x.below
 seen_child (suc k) (Node m nags comment below next) n e = seen_child k next n e
 
-pub replayed : (start now later : State) (path : List ℕ) (ply : ℕ) (below : Forest) (node next : NodeParts) (m : MoveParts)
+pub replayed : (start now later : PositionParts) (path : List ℕ) (ply : ℕ) (below : Forest) (node next : NodeParts) (m : MoveParts)
     → now ≡ play start (moves_along (take ply path) below) → node.below ≡ below_at (take ply path) below
     → ply < length path → Some next ≡ child (get_or path ply 0) node.below → Some m ≡ next.move → later ≡ after now m
     → (later ≡ play start (moves_along (take (ply + 1) path) below)) × (next.below ≡ below_at (take (ply + 1) path) below)
@@ -48,11 +48,11 @@ replayed start now later path ply below node next m here b within e s l =
     let played : move_of (get_or path ply 0) (below_at (take ply path) below) ≡ Some m = ap (move_of (get_or path ply 0)) (sym b) ∙ sym seen.0 ∙ sym s in
     let moves : moves_along (take (ply + 1) path) below ≡ moves_along (take ply path) below ++ m ∷ [] =
     ap (λ (p : List ℕ). moves_along p below) path_on ∙ along_on (take ply path) (get_or path ply 0) below ∙ ap (λ (o : Option MoveParts). moves_along (take ply path) below ++ option_to_list o) played in (
-      l ∙ ap (λ (p : State). after p m) here ∙ sym (play_on start (moves_along (take ply path) below) m) ∙ ap (play start) (sym moves),
+      l ∙ ap (λ (p : PositionParts). after p m) here ∙ sym (play_on start (moves_along (take ply path) below) m) ∙ ap (play start) (sym moves),
       seen.1 ∙ ap (below_child (get_or path ply 0)) b ∙ sym (below_at_on (take ply path) (get_or path ply 0) below) ∙ ap (λ (p : List ℕ). below_at p below) (sym path_on),
     )
 
-pub replayed_all : (t : TreeParts) (ply : ℕ) (now : State) → now ≡ play t.tree.start (moves_along (take ply t.path) t.tree.below)
+pub replayed_all : (t : TreeParts) (ply : ℕ) (now : PositionParts) → now ≡ play t.tree.start (moves_along (take ply t.path) t.tree.below)
     → length t.path ≤ ply → now ≡ last (line_to t)
 unfolding last
 replayed_all t ply now here all = here ∙ ap (λ (p : List ℕ). play t.tree.start (moves_along p t.tree.below)) (take_all ply t.path all)

@@ -1,5 +1,6 @@
 mod analysis;
 mod calls;
+mod copies;
 mod edits;
 mod long;
 mod random;

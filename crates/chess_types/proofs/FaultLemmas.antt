@@ -19,10 +19,10 @@ use Rattle.chess_types.specs.declared.board.man.Kind.TheVariants.{King, Rook}
 use Rattle.chess_types.specs.declared.board.position.Rights.{Rights}
 use Rattle.chess_types.specs.declared.board.position.Wing.{Wing}
 use Rattle.chess_types.specs.declared.board.position.Wing.TheVariants.{KingSide, QueenSide}
-use Rattle.chess_types.specs.board.Board.{Board, Look}
+use Rattle.chess_types.specs.board.Board.{Board, Men}
 use Rattle.chess_types.specs.board.Men.{kings_of}
 use Rattle.chess_types.specs.board.Squares.{rank_of}
-use Rattle.chess_types.specs.board.Position.{IsSetup, is_explained, holds, State, look}
+use Rattle.chess_types.specs.board.Position.{IsSetup, is_explained, holds, PositionParts, man_on}
 use Rattle.chess_types.proofs.CellLemmas.{board_of-set, board_of-set_none}
 use Rattle.chess_types.proofs.Runs.{list_any_from}
 use Rattle.chess_types.proofs.SameLemmas.{is_man_is}
@@ -91,11 +91,11 @@ pub few_each : (board : Board) → HasGoodMen board → (c : Colour) → men_of 
 few_each board good White = let both : (nat_le (men_of board White) 16 ≡ true) × (nat_le (men_of board Black) 16 ≡ true) = and_parts _ _ good.few in leb-true _ _ both.0
 few_each board good Black = let both : (nat_le (men_of board White) 16 ≡ true) × (nat_le (men_of board Black) 16 ≡ true) = and_parts _ _ good.few in leb-true _ _ both.1
 
-pub inner_pawns : (look : Look) → has_pawn_on_edge look ≡ false → (s : ℕ) → s < 64 → holds_pawn (look s) ≡ true → (0 < rank_of s) × (rank_of s < 7)
+pub inner_pawns : (man_on : Men) → has_pawn_on_edge man_on ≡ false → (s : ℕ) → s < 64 → holds_pawn (man_on s) ≡ true → (0 < rank_of s) × (rank_of s < 7)
 unfolding squares
-inner_pawns look none s inside pawn =
-    let here : (is_edge s && holds_pawn (look s)) ≡ false =
-    false_from_ne_true _ (λ e. true≢false (sym (list_any_from (λ x. is_edge x && holds_pawn (look x)) 0 64 s (omega arith) (omega arith) e) ∙ none)) in
+inner_pawns man_on none s inside pawn =
+    let here : (is_edge s && holds_pawn (man_on s)) ≡ false =
+    false_from_ne_true _ (λ e. true≢false (sym (list_any_from (λ x. is_edge x && holds_pawn (man_on x)) 0 64 s (omega arith) (omega arith) e) ∙ none)) in
     (grind (arith, nat_tests), grind (arith, nat_tests))
 
 -- ---- the other fields
@@ -104,15 +104,15 @@ home_if : (held home : Bool) → (not held || home) ≡ true → held ≡ true �
 home_if true home h held = h
 home_if false home h held = absurd (true≢false (sym held))
 
-home_held : (look : Look) (rights : Rights) → are_home look rights ≡ true → (c : Colour) (w : Wing) → holds rights c w ≡ true → is_home look c w ≡ true
-home_held look rights h White KingSide held = home_if _ _ (and_parts _ _ (and_parts _ _ h).0).0 held
-home_held look rights h White QueenSide held = home_if _ _ (and_parts _ _ (and_parts _ _ h).0).1 held
-home_held look rights h Black KingSide held = home_if _ _ (and_parts _ _ (and_parts _ _ h).1).0 held
-home_held look rights h Black QueenSide held = home_if _ _ (and_parts _ _ (and_parts _ _ h).1).1 held
+home_held : (man_on : Men) (rights : Rights) → are_home man_on rights ≡ true → (c : Colour) (w : Wing) → holds rights c w ≡ true → is_home man_on c w ≡ true
+home_held man_on rights h White KingSide held = home_if _ _ (and_parts _ _ (and_parts _ _ h).0).0 held
+home_held man_on rights h White QueenSide held = home_if _ _ (and_parts _ _ (and_parts _ _ h).0).1 held
+home_held man_on rights h Black KingSide held = home_if _ _ (and_parts _ _ (and_parts _ _ h).1).0 held
+home_held man_on rights h Black QueenSide held = home_if _ _ (and_parts _ _ (and_parts _ _ h).1).1 held
 
-explained_if : (side : Colour) (look : Look) (target : Option ℕ) → is_explained_if side look target ≡ true → (t : ℕ) → target ≡ Some t → is_explained side look t ≡ true
-explained_if side look None h t is = absurd (cc)
-explained_if side look (Some s) h t is = ap (λ x. is_explained_if side look x) (sym is) ∙ h
+explained_if : (side : Colour) (man_on : Men) (target : Option ℕ) → is_explained_if side man_on target ≡ true → (t : ℕ) → target ≡ Some t → is_explained side man_on t ≡ true
+explained_if side man_on None h t is = absurd (cc)
+explained_if side man_on (Some s) h t is = ap (λ x. is_explained_if side man_on x) (sym is) ∙ h
 
 abbrev chosen_fields : Bool → Bool → Bool → PositionFault → PositionFault → PositionFault → Option PositionFault
 chosen_fields a b c x y z = cond (not a) (Some x) (cond (not b) (Some y) (cond c (Some z) None))
@@ -123,18 +123,18 @@ none_of_fields true true false x y z h = (refl, refl, refl)
 none_of_fields true false c x y z h = absurd (cc)
 none_of_fields false b c x y z h = absurd (cc)
 
-pub faultless : (p : State) → men_fault p.placement ≡ None → fields_fault (look p) p.side p.rights p.target p.number ≡ None → IsSetup p
+pub faultless : (p : PositionParts) → men_fault p.placement ≡ None → fields_fault (man_on p) p.side p.rights p.target p.number ≡ None → IsSetup p
 unfolding fields_fault
 faultless p men fields =
     let good = good_men p.placement men in
-    let met = none_of_fields (are_home (look p) p.rights) (is_explained_if p.side (look p) p.target) (p.number == 0) _ _ _ fields in
-    let home = home_held (look p) p.rights met.0 in
+    let met = none_of_fields (are_home (man_on p) p.rights) (is_explained_if p.side (man_on p) p.target) (p.number == 0) _ _ _ fields in
+    let home = home_held (man_on p) p.rights met.0 in
     record {
       kings = one_king_each p.placement good;
       few = few_each p.placement good;
-      pawns = inner_pawns (look p) good.pawns;
+      pawns = inner_pawns (man_on p) good.pawns;
       king_at_home = λ c w h. is_man_is _ c King (and_parts _ _ (home c w h)).0;
       rook_at_home = λ c w h. is_man_is _ c Rook (and_parts _ _ (home c w h)).1;
-      target = explained_if p.side (look p) p.target met.1;
+      target = explained_if p.side (man_on p) p.target met.1;
       number = grind (arith, nat_tests, met.2);
     }

@@ -10,7 +10,7 @@ use Rattle.chess_types.specs.declared.board.man.Man.{Man}
 use Rattle.chess_types.specs.board.Squares.{file_of}
 use Rattle.chess_types.specs.board.Attack.{leaps}
 use Rattle.chess_types.specs.board.MoveParts.{MoveParts}
-use Rattle.chess_types.specs.board.Position.{State, look}
+use Rattle.chess_types.specs.board.Position.{PositionParts, man_on}
 use Rattle.chess_types.specs.board.Pseudo.{is_ahead, moves_man, is_pseudo}
 use Rattle.chess_types.specs.board.Legal.{is_legal}
 
@@ -26,15 +26,15 @@ pub ahead_file : (c : Colour) (a b : ℕ) → is_ahead c a b ≡ true → file_o
 ahead_file White a b h = omega (arith, eqb-true b (a + 8) h)
 ahead_file Black a b h = omega (arith, eqb-true a (b + 8) h)
 
-moved_by : (p : State) (o : Option Man) (m : MoveParts) → moves_man p o m ≡ true → (man : Man) × (o ≡ Some man)
+moved_by : (p : PositionParts) (o : Option Man) (m : MoveParts) → moves_man p o m ≡ true → (man : Man) × (o ≡ Some man)
 moved_by p None m h = absurd (true≢false (sym h))
 moved_by p (Some man) m h = (man, refl)
 
 -- a man stands on the first square of a pseudo-legal move
-pub pseudo_man : (p : State) (m : MoveParts) → is_pseudo p m ≡ true → (man : Man) × (look p m.from ≡ Some man)
-pseudo_man p m h = moved_by p (look p m.from) m h
+pub pseudo_man : (p : PositionParts) (m : MoveParts) → is_pseudo p m ≡ true → (man : Man) × (man_on p m.from ≡ Some man)
+pseudo_man p m h = moved_by p (man_on p m.from) m h
 
 -- a legal move is pseudo-legal
-pub legal_pseudo : (p : State) (m : MoveParts) → is_legal p m ≡ true → is_pseudo p m ≡ true
+pub legal_pseudo : (p : PositionParts) (m : MoveParts) → is_legal p m ≡ true → is_pseudo p m ≡ true
 unfolding is_legal
 legal_pseudo p m h = (and_parts _ _ h).0

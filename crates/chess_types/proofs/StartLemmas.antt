@@ -8,11 +8,11 @@ use Rattle.chess_types.specs.declared.board.man.Colour.TheVariants.{White, Black
 use Rattle.chess_types.specs.declared.board.position.Wing.{Wing}
 use Rattle.chess_types.specs.declared.board.position.Wing.TheVariants.{KingSide, QueenSide}
 use Rattle.chess_types.specs.board.Cells.{board_of}
-use Rattle.chess_types.specs.board.Board.{Look, man_at}
+use Rattle.chess_types.specs.board.Board.{Men, man_at}
 use Rattle.chess_types.specs.board.Squares.{squares, is_between, rank_of}
 use Rattle.chess_types.specs.board.Men.{count_squares, is_of, is_king_of, AtMost16, holds_pawn}
 use Rattle.chess_types.specs.board.Attack.{in_check, count, attacks_as, is_clear, slides_to, slides, leaps}
-use Rattle.chess_types.specs.board.Position.{start, start_cells, IsSetup, IsQuiet, king_home, rook_home, cell_of}
+use Rattle.chess_types.specs.board.Position.{start, start_cells, IsSetup, OpponentNotInCheck, king_home, rook_home, cell_of}
 use Rattle.chess_types.specs.declared.board.man.Man.{Man}
 use Rattle.chess_types.specs.declared.board.man.Kind.TheVariants.{King, Rook}
 use Rattle.chess_types.proofs.CellLemmas.{get-board_of}
@@ -20,7 +20,7 @@ use Rattle.chess_types.proofs.MenLemmas.{count_squares-board_of}
 use Rattle.chess_types.proofs.SquareLemmas.{every_square}
 
 -- what stands on the squares, as a list gives it
-start_look : Look
+start_look : Men
 start_look s = get_or start_cells s None
 
 start_look-is : man_at (board_of start_cells) ≡ start_look
@@ -69,9 +69,9 @@ quiet_cells : in_check start_look Black ≡ false
 unfolding start_look start_cells in_check count attacks_as is_clear slides_to slides leaps is_between squares
 quiet_cells = refl
 
-pub start_quiet : IsQuiet start
+pub start_quiet : OpponentNotInCheck start
 unfolding start
-start_quiet = ap (λ look. in_check look Black) start_look-is ∙ quiet_cells
+start_quiet = ap (λ man_on. in_check man_on Black) start_look-is ∙ quiet_cells
 
 pub start_setup : IsSetup start
 unfolding start

@@ -7,7 +7,7 @@ use Rattle.std.proofs.lemmas.Slice.Eq.{bytes_eq-Decides}
 use Rattle.std.proofs.lemmas.List.Elements.{All-filter}
 use Rattle.chess_types.specs.board.MoveParts.{MoveParts}
 use Rattle.chess_types.specs.board.Texts.{move_text, IsPromotion}
-use Rattle.chess_types.specs.board.Position.{State}
+use Rattle.chess_types.specs.board.Position.{PositionParts}
 use Rattle.chess_types.specs.board.Legal.{is_legal, all_moves, legal_moves}
 use Rattle.chess_types.specs.board.Lines.{Line, last, extended}
 use Rattle.chess_types.proofs.AllMoves.{IsNamed, all_named}
@@ -43,7 +43,7 @@ find_only p (x ∷ xs) m (suc k, l, e) passes only = cases (p x) refl (find_only
     cases true t rest = rw t (ap (λ y. Some y) (only 0 m (omega arith) t))
     cases false t rest = rw t rest
 
-legal_named : (p : State) → All IsNamed (legal_moves p)
+legal_named : (p : PositionParts) → All IsNamed (legal_moves p)
 unfolding legal_moves
 legal_named p = All-filter (is_legal p) IsNamed all_moves all_named
 

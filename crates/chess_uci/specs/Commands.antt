@@ -7,7 +7,7 @@
 use Rattle.std.specs.Prelude.{ℕ, Bool, true, false, ◌||◌, ◌&&◌, if◌then◌else◌, List, [], ◌∷◌, map, Option, Some, None, unwrap_or, codes}
 use Rattle.std.specs.Char.{to_ascii_lowercase}
 use Rattle.std.specs.Str.{bytes_eq}
-use Rattle.chess_types.specs.bytes.Words.{words}
+use Rattle.byte_streams.specs.Words.{words}
 
 -- from the horizontal tab to the carriage return, and the space
 abbrev pub gaps : List ℕ

@@ -9,15 +9,15 @@ use Rattle.std.specs.Prelude.{◌≡◌, ◌⊎◌, ℕ, Bool, true, false, is_s
 use Rattle.std.specs.List.{flat_map}
 use Rattle.std.specs.Str.{bytes_eq}
 use Rattle.chess_types.specs.board.MoveParts.{MoveParts}
-use Rattle.chess_types.specs.board.Position.{State, start}
+use Rattle.chess_types.specs.board.Position.{PositionParts, start}
 use Rattle.chess_types.specs.board.Texts.{move_text}
 use Rattle.chess_types.specs.board.Legal.{legal_moves}
 use Rattle.chess_types.specs.board.Lines.{Line, last, extended}
 use Rattle.chess_fen.specs.declared.fault.FenFault.{FenFault}
-use Rattle.chess_fen.specs.Reading.{reading}
+use Rattle.chess_fen.specs.Reading.{fen_reading}
 
 -- no move is made from the position
-abbrev pub from_position : State → Line
+abbrev pub from_position : PositionParts → Line
 from_position p = record { start = p; moves = [] }
 
 -- the line of the start position without moves
@@ -39,7 +39,7 @@ behind_moves [] = []
 behind_moves (word ∷ words) = if is_moves word then words else behind_moves words
 
 -- where there is a position and no fault
-abbrev pub if_read : Result State FenFault → Option Line
+abbrev pub if_read : Result PositionParts FenFault → Option Line
 if_read (Ok p) = Some (from_position p)
 if_read (Err fault) = None
 
@@ -57,7 +57,7 @@ abbrev pub begun_by : List (List ℕ) → Option Line
 begun_by [] = None
 begun_by (word ∷ words) =
     if bytes_eq word (codes "startpos") then if_alone words
-    else if bytes_eq word (codes "fen") then if_read (reading (spaced words))
+    else if bytes_eq word (codes "fen") then if_read (fen_reading (spaced words))
     else None
 
 -- the legal move that a text in long algebraic notation names

@@ -1,9 +1,9 @@
 ghost use Rattle.std.specs.Prelude.{◌≡◌};
-ghost use Rattle.chess_types.specs.bytes.Words.{words};
+ghost use Rattle.byte_streams.specs.Words.{words};
 ghost use Rattle.chess_uci.specs.Commands.{gaps, asked as asked_of, named as named_by, is_idle, same_word, truth_in, claims_set};
 ghost use Rattle.chess_uci.specs.steps.Commands.{command_of, named_of};
 
-use chess_types::split_word;
+use byte_streams::split_word;
 
 /// The bytes that part words.
 pub(crate) const GAPS: &[u8] = b"\t\n\x0b\x0c\r ";

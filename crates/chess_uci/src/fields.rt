@@ -1,12 +1,12 @@
 ghost use Rattle.std.specs.Prelude.{◌≡◌, min, fold};
 ghost use Rattle.std.specs.Char.{is_ascii_digit};
 ghost use Rattle.std.specs.List.{list_all};
-ghost use Rattle.chess_types.specs.bytes.Words.{words};
+ghost use Rattle.byte_streams.specs.Words.{words};
 ghost use Rattle.chess_uci.specs.Commands.{gaps};
 ghost use Rattle.chess_uci.specs.Go.{with_digit, digits, number, is_ignored, is_infinite, name_of, with_number, fields_with_word, given, fields};
 
 use crate::command::GAPS;
-use chess_types::split_word;
+use byte_streams::split_word;
 
 /// A field of `go` that takes a number.
 #[derive(Clone, Copy)]

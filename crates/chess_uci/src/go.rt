@@ -1,11 +1,12 @@
 ghost use Rattle.std.specs.Prelude.{◌≡◌, ◌≤◌, []};
-ghost use Rattle.chess_types.specs.bytes.Words.{words};
+ghost use Rattle.byte_streams.specs.Words.{words};
 ghost use Rattle.chess_uci.specs.Commands.{gaps};
 ghost use Rattle.chess_uci.specs.Go.{is_searchmoves, is_name, behind, is_listed, share, budget, last_depth};
 
 use crate::command::GAPS;
 use crate::fields::{Fields, name_of};
-use chess_types::{Colour, split_word};
+use byte_streams::split_word;
+use chess_types::Colour;
 
 fn is_searchmoves(word: &[u8]) -> bool
     ensures { result ≡ is_searchmoves word.now }

@@ -1,7 +1,7 @@
 //! A session of the universal chess interface (UCI).
 //!
 //! A `Session` is given events: lines that are read, slices of time in which a search goes on, and readings of the clock. It returns
-//! the lines to reply. What it replies to which events is a machine that stands in `specs/Machine.antt`, what a line asks for in
+//! the lines to reply. What it replies to which events is the machine of `specs/Machine.antt`, what a line asks for in
 //! `specs/Commands.antt`, `specs/Go.antt` and `specs/Placing.antt`; `event` is that machine.
 #![tactic(auto)]
 

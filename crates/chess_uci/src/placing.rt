@@ -1,15 +1,16 @@
 ghost use Rattle.std.specs.Prelude.{◌≡◌, ◌∷◌, ◌++◌, Some, true, is_some, OnErr, OnOk, IfOk, codes};
 ghost use Rattle.chess_types.specs.board.Position.{start};
-ghost use Rattle.chess_types.specs.bytes.Words.{words};
-ghost use Rattle.chess_fen.specs.Reading.{reading};
+ghost use Rattle.byte_streams.specs.Words.{words};
+ghost use Rattle.chess_fen.specs.Reading.{fen_reading};
 ghost use Rattle.chess_uci.specs.Commands.{gaps};
 ghost use Rattle.chess_uci.specs.Placing.{is_moves, before_moves, behind_moves, start_line, spaced, if_read, begun_by, line_with_word, line_played, placed, names_fen, AddsMove, Grows};
 ghost use Rattle.chess_uci.specs.steps.Places.{Places, Begins};
 
 use crate::command::GAPS;
+use byte_streams::split_word;
 use chess_draws::{Line, LineFault};
 use chess_key::KeyTable;
-use chess_types::{Move, Position, split_word};
+use chess_types::{Move, Position};
 use std::alloc::{AllocError, Allocator};
 
 /// Why a `position` line leads to no line of moves.
@@ -82,7 +83,7 @@ fn begin_in<'a, A: Allocator>(
     table: &'a KeyTable,
     text: &[u8],
 ) -> Result<Line<'a, &'a A>, PlaceFault>
-    ensures begun { Begins (names_fen (codes "fen" ∷ before_moves (words gaps text.now)) ≡ true) (if_read (reading (spaced (before_moves (words gaps text.now))))) result }
+    ensures begun { Begins (names_fen (codes "fen" ∷ before_moves (words gaps text.now)) ≡ true) (if_read (fen_reading (spaced (before_moves (words gaps text.now))))) result }
 {
     let Ok(fen) = fen_text(alloc, text) else {
         return Err(PlaceFault::Memory);

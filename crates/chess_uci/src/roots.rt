@@ -1,6 +1,6 @@
 ghost use Rattle.std.specs.Prelude.{◌≡◌, filter};
 ghost use Rattle.chess_types.specs.board.Texts.{move_text};
-ghost use Rattle.chess_types.specs.bytes.Words.{words};
+ghost use Rattle.byte_streams.specs.Words.{words};
 ghost use Rattle.chess_uci.specs.Commands.{gaps};
 ghost use Rattle.chess_uci.specs.Go.{is_listed};
 ghost use Rattle.chess_uci.specs.Machine.{or_all};

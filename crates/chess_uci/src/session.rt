@@ -1,5 +1,5 @@
 ghost use Rattle.std.specs.Prelude.{◌≡◌, ◌⊎◌, max, None, true, is_some};
-ghost use Rattle.chess_types.specs.bytes.Words.{words};
+ghost use Rattle.byte_streams.specs.Words.{words};
 ghost use Rattle.chess_uci.specs.Commands.{gaps, asked as asked_of, claims_set as claims_set_of, without_memory, Unplaced};
 ghost use Rattle.chess_uci.specs.Placing.{Grows, placed};
 ghost use Rattle.chess_uci.specs.Machine.{beginning, slice_step, moment_step, line_step, idle_command, placed_at, go, quit, set_claims, introduction, is_infinite, is_waiting, depth_done, so_far, AsksForMemory, IsAhead};

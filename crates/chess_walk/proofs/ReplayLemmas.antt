@@ -3,7 +3,7 @@ use Rattle.std.proofs.Common.{◌≡◌, ℕ, ◌+◌, ◌-◌, ◌<◌, ◌≤�
 use Rattle.std.proofs.lemmas.List.{length-append, length-take}
 use Rattle.std.proofs.Math.Seq.{take-append_seam}
 use Rattle.chess_types.specs.board.MoveParts.{MoveParts}
-use Rattle.chess_types.specs.board.Position.{State}
+use Rattle.chess_types.specs.board.Position.{PositionParts}
 use Rattle.chess_types.specs.board.After.{after}
 use Rattle.chess_types.specs.board.Legal.{is_legal}
 use Rattle.chess_types.specs.board.Lines.{Line, extended, last}
@@ -94,7 +94,7 @@ Starts false l p d again = (before_move l d again ≡ p) × IsLegalAgain l d aga
 Starts true l p d again = Keeps p l
 
 sound_on : (p : Line) (m : MoveParts) (f : Forest) → AreSound (after (last p) m) f → AreSound (last (extended p m)) f
-sound_on p m f sound = subst (λ (x : State). AreSound x f) (sym (last_extended p m)) sound
+sound_on p m f sound = subst (λ (x : PositionParts). AreSound x f) (sym (last_extended p m)) sound
 
 one_more : (p : Line) (m : MoveParts) → length (extended p m).moves ≡ length p.moves + 1
 one_more p m = length-append p.moves (m ∷ [])
@@ -162,11 +162,11 @@ goes_main (Node m nags comment below next) p l d is k sound high =
       ),
     )
 
-abbrev root : State → Line
+abbrev root : PositionParts → Line
 root start = record { start = start; moves = [] }
 
 -- a whole tree from its first position
-pub whole_tree : (start : State) (f : Forest) → AreSound start f → height f ≤ 20000 →
+pub whole_tree : (start : PositionParts) (f : Forest) → AreSound start f → height f ≤ 20000 →
     (replayed (root start) (visits false 1 0 None f) ≡ played false (root start) 1 0 None f) × AreReplayable (root start) (visits false 1 0 None f)
 unfolding last
 whole_tree start f sound high =
@@ -177,14 +177,14 @@ whole_tree start f sound high =
       subst (AreReplayable at) all (g.1.ready [] tt),
     )
 
-pub main_tree : (start : State) (f : Forest) → AreSound start f → height f ≤ 20000 →
+pub main_tree : (start : PositionParts) (f : Forest) → AreSound start f → height f ≤ 20000 →
     (replayed (root start) (of_main 1 f) ≡ main_played (root start) 1 f) × AreReplayable (root start) (of_main 1 f)
 unfolding last
 main_tree start f sound high = goes_main f (root start) (root start) 1 refl (keeps_self (root start)) sound (omega arith)
 
 -- ---- as the code begins
 
-begun : (start : State) (line : Line) (walk vs : List Visit) (ps : List Played) → line ≡ root start → walk ≡ vs →
+begun : (start : PositionParts) (line : Line) (walk vs : List Visit) (ps : List Played) → line ≡ root start → walk ≡ vs →
     (replayed (root start) vs ≡ ps) × AreReplayable (root start) vs → (replayed line walk ≡ ps) × AreReplayable line walk
 begun start line walk vs ps line_is walk_is all = (
   (λ i. replayed (line_is i) (walk_is i)) ∙ all.0,

@@ -6,7 +6,7 @@
 --   GivesPlayed   what one step gives
 use Rattle.std.specs.Prelude.{◌≡◌, ℕ, ◌+◌, Bool, true, false, List, [], ◌∷◌, ◌++◌, Option, Some, None, Result, Ok, Err, IfSome}
 use Rattle.chess_types.specs.board.MoveParts.{MoveParts}
-use Rattle.chess_types.specs.board.Position.{State}
+use Rattle.chess_types.specs.board.Position.{PositionParts}
 use Rattle.chess_types.specs.board.After.{after}
 use Rattle.chess_types.specs.board.Lines.{Line, extended, last}
 use Rattle.chess_san.specs.Writing.{san}
@@ -46,7 +46,7 @@ played true line depth level again (Node m nags comment below next) =
     ∷ (played false (extended line m) (depth + 1) level None below ++ played true line depth level None next)
 
 -- what is given of it: its numbers and its node, the text of its move in standard algebraic notation (PGN 8.2.3), and the position after the move
-pub record Shows (depth level : ℕ) (begins : Bool) (node : NodeParts) (text : List ℕ) (position : State) (p : Played) : Type 0 where
+pub record Shows (depth level : ℕ) (begins : Bool) (node : NodeParts) (text : List ℕ) (position : PositionParts) (p : Played) : Type 0 where
   pub depth_is : depth ≡ p.visit.depth
   pub level_is : level ≡ p.visit.level
   pub begins_is : begins ≡ p.visit.begins

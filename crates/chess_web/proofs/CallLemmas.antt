@@ -1,16 +1,14 @@
 -- What is said of a call on a slot that is known to hold a session.
-use Rattle.std.proofs.Common.{◌≡◌, ◌∙◌, ℕ, List, ap, inl, inr, sym, subst}
-use Rattle.std.specs.Prelude.{Option, Some, IfSome}
-use Rattle.chess_pgn.specs.Games.{Game}
-use Rattle.chess_pgn.specs.Reading.{IsAtFront}
-use Rattle.chess_pgn.specs.Written.{game_text}
+use Rattle.std.proofs.Common.{◌≡◌, ◌∙◌, ℕ, List, ap, sym, subst}
+use Rattle.std.specs.Prelude.{Option, Some}
 use Rattle.chess_tree.specs.GameTree.{TreeParts}
 use Rattle.chess_uci.specs.declared.event.Event.{Event}
 use Rattle.chess_uci.specs.Machine.{State}
 use Rattle.chess_cli.specs.Answers.{Tells}
 use Rattle.chess_cli.specs.Requests.{request}
-use Rattle.chess_web.specs.Calls.{IsAnswered, IsGame, IsReplied, IsReplying}
-use Rattle.chess_web.specs.Handed.{IsToldBy}
+use Rattle.chess_slots.specs.Answers.{IsReplied}
+use Rattle.chess_slots.specs.Handed.{IsToldBy}
+use Rattle.chess_web.specs.Calls.{IsAnswered, IsReplying}
 use Rattle.chess_web.specs.Held.{Held}
 
 pub answered_some : (line : List ℕ) → (old new : Option Held) → (held after : Held) → (text : List ℕ) → (code count count' : ℕ) → (room room' : List ℕ)
@@ -26,11 +24,3 @@ pub replying_some : (event : Event) → (old new : Option Held) → (held after 
 replying_some event old new held after code count count' room room' is en same replied =
     subst (λ (o : Option Held). IsReplying event o code count count' room room' new) (sym is)
     (after.engine, replied, en ∙ ap (λ (b : TreeParts). Some (record { board = b; engine = after.engine })) same)
-
-pub game_told : (text : List ℕ) → (game : Game) → (code count count' used used' : ℕ) → (room room' : List ℕ)
-    → IsAtFront text game used' → IsToldBy (game_text game) code count count' room room' → IsGame text code count count' used used' room room'
-game_told text game code count count' used used' room room' at (inl handed) = inl (game, at, handed)
-game_told text game code count count' used used' room room' at (inr none) = inr (none.1, none.2, inr (inr none.0))
-
-pub some_found : {B : Type 0} → (P : B → Type 0) → (o : Option B) → (x : B) → IfSome o P → o ≡ Some x → P x
-some_found {B} P o x h e = subst (λ (p : Option B). IfSome p P) e h

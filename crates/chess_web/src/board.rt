@@ -1,7 +1,7 @@
 ghost use Rattle.chess_web.specs.Calls.{IsAnswered, IsNamedOf};
 
-use crate::codes::EMPTY;
 use crate::slot::{Slot, put, take};
+use chess_slots::EMPTY;
 
 /// Answers a line of the board, as the program does, and hands out the answer with the line feed at its end. Where the answer is longer than the room
 /// for it, or there is no memory to gather it in, the line has been answered all the same; only `path` and `pgn` have answers of more than 2,600 bytes.

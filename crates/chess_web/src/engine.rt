@@ -1,8 +1,8 @@
 ghost use Rattle.std.specs.Prelude.{◌≡◌};
 ghost use Rattle.chess_web.specs.Calls.{IsReplying, IsSearching};
 
-use crate::codes::EMPTY;
 use crate::slot::{Slot, put, take};
+use chess_slots::{EMPTY, OK};
 use chess_uci::Event;
 
 // What the engine in the slot replies to an event.
@@ -65,5 +65,5 @@ pub extern "C" fn jatshegi_engine_searching(slot: &mut Slot, searching: &mut boo
     };
     *searching = session.searching();
     put(slot, session);
-    0
+    OK
 }

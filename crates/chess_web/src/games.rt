@@ -1,11 +1,10 @@
-ghost use Rattle.std.specs.Prelude.{◌≡◌};
-ghost use Rattle.chess_web.specs.Calls.{IsGameOf};
+ghost use Rattle.chess_web.specs.Calls.{IsGameOf, IsPassedOf, IsReportOf};
 
-use crate::codes::{EMPTY, OK};
 use crate::slot::{Slot, put, take};
+use chess_slots::{EMPTY, GameReport};
 
-/// The game at the front of a text (PGN): 0, its export form, and how many bytes of the text it takes. 16 where only white space follows. 41 to 49 is
-/// the number of the text's first fault and 40, with the place of the fault in place of the bytes taken. The board stays as it is.
+/// The game at the start of a text (PGN): 0, its export form, and how many bytes of the text it takes. 16 where only whitespace follows. 41 to 49 is the
+/// number of the text's first fault and 40, with the place of the fault where else the bytes taken are. The session stays as it is.
 #[unsafe(no_mangle)]
 pub extern "C" fn jatshegi_game(
     slot: &mut Slot,
@@ -24,16 +23,37 @@ pub extern "C" fn jatshegi_game(
     code
 }
 
-/// How many bytes to pass over to what follows the game at the front of a text: those that it takes, or, where none can be read there, those up to the
-/// next section of tags, or all.
+/// What the Laws say of the main line of the game at the start of a text (FIDE Laws 5 and 9), the FEN of its last position, at most 128 bytes, and how many
+/// bytes of the text the game takes: 0. Where no game is there, it is answered as by `jatshegi_game`. The session stays as it is.
 #[unsafe(no_mangle)]
-pub extern "C" fn jatshegi_pass(slot: &mut Slot, text: &[u8], used: &mut u64) -> u32
-    ensures { slot.new.held ≡ slot.old.held }
+pub extern "C" fn jatshegi_report(
+    slot: &mut Slot,
+    text: &[u8],
+    report: &mut GameReport,
+    fen: &mut [u8],
+    count: &mut usize,
+    used: &mut usize,
+) -> u32
+    ensures { IsReportOf slot.old.held text.now result count.old count.new used.old used.new report.old report.new fen.old fen.new slot.new.held }
 {
     let Some(session) = take(slot) else {
         return EMPTY;
     };
-    *used = session.passed(text);
+    let code = session.report(text, report, fen, count, used);
     put(slot, session);
-    OK
+    code
+}
+
+/// How many bytes to pass over to what follows the game at the start of a text: those that it takes, or all where only whitespace follows, or, where no game
+/// is there, those up to the first section of tags (PGN 8.1) after the place where reading stopped. 2 where there is no memory.
+#[unsafe(no_mangle)]
+pub extern "C" fn jatshegi_pass(slot: &mut Slot, text: &[u8], used: &mut u64) -> u32
+    ensures { IsPassedOf slot.old.held text.now result used.old used.new slot.new.held }
+{
+    let Some(session) = take(slot) else {
+        return EMPTY;
+    };
+    let code = session.passed(text, used);
+    put(slot, session);
+    code
 }

@@ -1,12 +1,10 @@
 ghost use Rattle.std.specs.Prelude.{◌≡◌, ◌⊎◌, Some, IfSome};
 ghost use Rattle.chess_web.specs.Held.{beginning};
 
-use crate::codes::{MEMORY, OK};
-use crate::loose::Loose;
-use crate::lost::Lost;
 use crate::session::Session;
 use crate::slot::{Slot, put};
 use chess_key::KeyTable;
+use chess_slots::{Loose, Lost, MEMORY, OK};
 use lent_heap::{LentHeap, Memory};
 
 // A session over the memory, whose allocator lies in the other.

@@ -1,13 +1,13 @@
 //! Where the page keeps a session: a pointer, or nothing.
 ghost use Rattle.std.specs.Prelude.{◌≡◌, Option, Some, None, is_some, MatchOption};
 ghost use Rattle.chess_web.specs.Held.{Held, coded_held};
-ghost use Rattle.chess_web.specs.Slots.{slot_owns};
+ghost use Rattle.chess_slots.specs.Slots.{slot_owns};
+ghost use Rattle.chess_web.specs.Slots.{may_free};
 ghost use Rattle.chess_web.specs.contracts.session.Session.{the_row};
 ghost use Rattle.std.specs.Coded.{coded_option};
 
-use crate::loose::Loose;
-use crate::lost::Lost;
 use crate::session::Session;
+use chess_slots::{Loose, Lost};
 use std::marker::Model;
 use std::mem::replace;
 use std::ptr::null_mut;
@@ -22,7 +22,7 @@ pub struct Slot {
 }
 
 impl Model for Slot {
-    ghost also_owns = { λ s. slot_owns the_row s.held s.at };
+    ghost also_owns = { λ s. slot_owns may_free the_row s.held s.at };
 }
 
 impl Slot {

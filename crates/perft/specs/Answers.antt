@@ -9,11 +9,11 @@
 --   answer       of a whole line, without its line feed; nothing for a line without words
 use Rattle.std.specs.Prelude.{ℕ, ◌-◌, ◌^◌, min, Bool, if◌then◌else◌, List, [], ◌∷◌, ◌++◌, Option, Some, None, Result, Ok, Err, codes, decimal, bytes_eq}
 use Rattle.std.specs.List.{find, range_with_len}
-use Rattle.chess_types.specs.board.Position.{State}
-use Rattle.chess_types.specs.bytes.Words.{words, skip_gaps, after_word, trimmed}
+use Rattle.chess_types.specs.board.Position.{PositionParts}
+use Rattle.byte_streams.specs.Words.{words, skip_gaps, after_word, trimmed}
 use Rattle.chess_fen.specs.declared.fault.FenFault.{FenFault}
 use Rattle.chess_fen.specs.Faults.{number_of, name_of}
-use Rattle.chess_fen.specs.Reading.{reading}
+use Rattle.chess_fen.specs.Reading.{fen_reading}
 use Rattle.perft.specs.Leaves.{leaves_of}
 
 -- the bytes that separate words
@@ -29,14 +29,14 @@ abbrev pub fault_text : ℕ → List ℕ → List ℕ
 fault_text number name = codes "fault " ++ decimal number ++ codes " " ++ name
 
 -- the number of leaves, at most 2^64 - 1; or the FEN's fault
-abbrev pub count_text : ℕ → Result State FenFault → List ℕ
+abbrev pub count_text : ℕ → Result PositionParts FenFault → List ℕ
 count_text depth (Ok p) = decimal (min (leaves_of depth p) (2 ^ 64 - 1))
 count_text depth (Err fault) = fault_text (number_of fault) (name_of fault)
 
 -- the answer for a depth and a FEN
 abbrev pub answer_for : Option ℕ → List ℕ → List ℕ
 answer_for None fen = codes "fault Depth"
-answer_for (Some depth) fen = count_text depth (reading fen)
+answer_for (Some depth) fen = count_text depth (fen_reading fen)
 
 -- what comes after the first word
 abbrev pub behind : List ℕ → List ℕ

@@ -1,13 +1,13 @@
 ghost use Rattle.std.specs.Prelude.{◌≡◌, ◌≤◌, ◌-◌, length, decimal, IfSome};
-ghost use Rattle.chess_fen.specs.Reading.{reading};
-ghost use Rattle.chess_types.specs.bytes.Words.{words, trimmed};
+ghost use Rattle.chess_fen.specs.Reading.{fen_reading};
+ghost use Rattle.byte_streams.specs.Words.{words, trimmed};
 ghost use Rattle.perft.specs.Answers.{answer, answer_to, behind, count_text, depth_in, fault_text, gaps, is_full};
 
 use crate::leaves::{LastPly, leaves};
 use arrayvec::ArrayString;
+use byte_streams::{split_word, trim};
 use chess_key::KeyTable;
 use chess_play::Live;
-use chess_types::{split_word, trim};
 use itoa::Buffer;
 
 /// The bytes that part words.
@@ -55,7 +55,7 @@ fn fault(number: u8, name: &str) -> Answer
 /// made.
 fn count(table: &KeyTable, depth: u32, fen: &[u8], last: LastPly) -> Answer
     requires depth { depth ≤ 16 }
-    ensures { result.bytes ≡ count_text depth (reading fen.now) }
+    ensures { result.bytes ≡ count_text depth (fen_reading fen.now) }
 {
     match chess_fen::read(fen) {
         Ok(position) => number(leaves(&mut Live::new(position, table), depth, last)),

@@ -14,7 +14,7 @@ use Rattle.chess_types.specs.declared.board.axis.Axis.{Axis}
 use Rattle.chess_types.specs.declared.board.axis.Axis.TheVariants.{Rank, File, Rising, Falling}
 use Rattle.chess_types.specs.declared.board.man.Colour.{Colour}
 use Rattle.chess_types.specs.declared.board.man.Man.{Man}
-use Rattle.chess_types.specs.board.Board.{Look}
+use Rattle.chess_types.specs.board.Board.{Men}
 use Rattle.chess_types.specs.board.Men.{same_colour}
 use Rattle.chess_types.specs.board.Attack.{is_clear, leaps, slides, attacks_as}
 use Rattle.chess_attack.specs.declared.change.Change.{Change}
@@ -55,30 +55,30 @@ abbrev pub on_set : Colour → FinSet nat_cmp → Colour → ℕ → ℕ
 on_set colour set c s = one_if colour c (contains set s)
 
 -- s is on that half, with no man before it
-abbrev pub reaches : Look → Axis → Way → ℕ → ℕ → Bool
-reaches look axis way at s = on_half axis way at s && is_clear look at s
+abbrev pub reaches : Men → Axis → Way → ℕ → ℕ → Bool
+reaches man_on axis way at s = on_half axis way at s && is_clear man_on at s
 
 -- 1 for that colour on each square of the half up to and with the first man
-abbrev pub swept : Colour → Look → Axis → Way → ℕ → Colour → ℕ → ℕ
-swept colour look axis way at c s = one_if colour c (reaches look axis way at s)
+abbrev pub swept : Colour → Men → Axis → Way → ℕ → Colour → ℕ → ℕ
+swept colour man_on axis way at c s = one_if colour c (reaches man_on axis way at s)
 
 -- 1 where a sliding man on `at` attacks s along that half
-abbrev pub slide_on : Man → Look → Axis → Way → ℕ → Colour → ℕ → ℕ
-slide_on man look axis way at c s = one_if man.colour c (slides man.kind axis && reaches look axis way at s)
+abbrev pub slide_on : Man → Men → Axis → Way → ℕ → Colour → ℕ → ℕ
+slide_on man man_on axis way at c s = one_if man.colour c (slides man.kind axis && reaches man_on axis way at s)
 
 -- the same along both halves of an axis
-abbrev pub slide_along : Man → Look → Axis → ℕ → Colour → ℕ → ℕ
-slide_along man look axis at c s = slide_on man look axis Up at c s + slide_on man look axis Down at c s
+abbrev pub slide_along : Man → Men → Axis → ℕ → Colour → ℕ → ℕ
+slide_along man man_on axis at c s = slide_on man man_on axis Up at c s + slide_on man man_on axis Down at c s
 
 -- the same along all four axes
-abbrev pub slide : Man → Look → ℕ → Colour → ℕ → ℕ
-slide man look at c s =
-    slide_along man look Rank at c s + slide_along man look File at c s + slide_along man look Rising at c s + slide_along man look Falling at c s
+abbrev pub slide : Man → Men → ℕ → Colour → ℕ → ℕ
+slide man man_on at c s =
+    slide_along man man_on Rank at c s + slide_along man man_on File at c s + slide_along man man_on Rising at c s + slide_along man man_on Falling at c s
 
 -- 1 where a knight, a king or a pawn on `at` attacks s
 abbrev pub leap : Man → ℕ → Colour → ℕ → ℕ
 leap man at c s = one_if man.colour c (leaps man.colour man.kind at s)
 
 -- 1 where the man on `at` attacks s
-abbrev pub own : Man → Look → ℕ → Colour → ℕ → ℕ
-own man look at c s = one_if man.colour c (attacks_as man look at s)
+abbrev pub own : Man → Men → ℕ → Colour → ℕ → ℕ
+own man man_on at c s = one_if man.colour c (attacks_as man man_on at s)

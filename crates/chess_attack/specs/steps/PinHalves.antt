@@ -6,7 +6,7 @@ use Rattle.std.specs.Prelude.{ℕ, Bool, ◌&&◌, ◌||◌}
 use Rattle.chess_types.specs.declared.board.axis.Axis.{Axis}
 use Rattle.chess_types.specs.declared.board.axis.Axis.TheVariants.{Rank, File, Rising, Falling}
 use Rattle.chess_types.specs.declared.board.man.Colour.{Colour}
-use Rattle.chess_types.specs.board.Board.{Look}
+use Rattle.chess_types.specs.board.Board.{Men}
 use Rattle.chess_types.specs.board.Men.{is_of, opponent}
 use Rattle.chess_attack.specs.declared.way.Way.{Way}
 use Rattle.chess_attack.specs.declared.way.Way.TheVariants.{Up, Down}
@@ -23,9 +23,9 @@ abbrev pub round : (Axis → Way → Bool) → Bool
 round test = along test Rank || along test File || along test Rising || along test Falling
 
 -- the first man from the king on that half is of his colour, and the next behind him a man of the other side who moves along it
-abbrev pub pinned_on : Look → Colour → ℕ → ℕ → Axis → Way → Bool
-pinned_on look colour king s axis way = reaches look axis way king s && (is_of colour (look s) && is_attacked_along look axis way s (opponent colour))
+abbrev pub pinned_on : Men → Colour → ℕ → ℕ → Axis → Way → Bool
+pinned_on man_on colour king s axis way = reaches man_on axis way king s && (is_of colour (man_on s) && is_attacked_along man_on axis way s (opponent colour))
 
 -- s is reached from the king on that half, and the first man on the opposite one is of the other side and moves along it
-abbrev pub shaded_on : Look → Colour → ℕ → ℕ → Axis → Way → Bool
-shaded_on look colour king s axis way = is_attacked_along look axis (opposite way) king (opponent colour) && reaches look axis way king s
+abbrev pub shaded_on : Men → Colour → ℕ → ℕ → Axis → Way → Bool
+shaded_on man_on colour king s axis way = is_attacked_along man_on axis (opposite way) king (opponent colour) && reaches man_on axis way king s

@@ -10,7 +10,7 @@ use Rattle.chess_types.specs.declared.board.axis.Axis.{Axis}
 use Rattle.chess_types.specs.declared.board.axis.Axis.TheVariants.{Rank, File, Rising, Falling}
 use Rattle.chess_types.specs.declared.board.man.Colour.{Colour}
 use Rattle.chess_types.specs.declared.board.man.Kind.{Kind}
-use Rattle.chess_types.specs.board.Board.{Look}
+use Rattle.chess_types.specs.board.Board.{Men}
 use Rattle.chess_types.specs.board.Attack.{slides}
 use Rattle.chess_attack.specs.declared.way.Way.{Way}
 use Rattle.chess_attack.specs.declared.way.Way.TheVariants.{Up, Down}
@@ -38,10 +38,10 @@ abbrev pub lands_pawn : Colour → ℕ → ℕ → Bool
 lands_pawn colour at s = lands_aside 1 (forward colour) 1 at s
 
 -- the kind moves along the axis, and s is on a half of it, with no man before it
-abbrev pub slides_along : Kind → Look → Axis → ℕ → ℕ → Bool
-slides_along kind look axis at s = slides kind axis && (reaches look axis Up at s || reaches look axis Down at s)
+abbrev pub slides_along : Kind → Men → Axis → ℕ → ℕ → Bool
+slides_along kind man_on axis at s = slides kind axis && (reaches man_on axis Up at s || reaches man_on axis Down at s)
 
 -- along one of the four axes
-abbrev pub slides_from : Kind → Look → ℕ → ℕ → Bool
-slides_from kind look at s =
-    slides_along kind look Rank at s || slides_along kind look File at s || slides_along kind look Rising at s || slides_along kind look Falling at s
+abbrev pub slides_from : Kind → Men → ℕ → ℕ → Bool
+slides_from kind man_on at s =
+    slides_along kind man_on Rank at s || slides_along kind man_on File at s || slides_along kind man_on Rising at s || slides_along kind man_on Falling at s

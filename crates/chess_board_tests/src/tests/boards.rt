@@ -21,7 +21,7 @@ pub(super) fn put(rt: &impl Abort, placement: &mut Placement, at: Square, man: M
     placement.put(at, man);
 }
 
-/// The board of men such as `Ke1`, a letter as FEN writes it and a square, parted by spaces.
+/// The board of men such as `Ke1`, a letter as FEN writes it and a square, separated by spaces.
 pub(super) fn board(rt: &impl Abort, men: &str) -> Placement {
     let mut placement = Placement::empty();
     for name in men.as_bytes().split(|byte| *byte == b' ') {

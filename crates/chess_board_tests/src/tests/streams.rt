@@ -1,4 +1,4 @@
-use chess_types::{Failed, FromBytes, FromRead, Refusal, Sink, Source, ToBytes, ToWrite};
+use byte_streams::{Failed, FromBytes, FromRead, Sink, Source, ToBytes, ToWrite, WriteFailure};
 use std::io::{self, Error, ErrorKind, Read, Write};
 use std::process::Abort;
 
@@ -124,7 +124,7 @@ fn assert_write(rt: &impl Abort, sink: &mut ToBytes, bytes: &[u8], answer: Resul
 }
 
 /// What writes into room for six bytes answer, the second of which is refused.
-fn assert_refused(rt: &impl Abort, refusal: Refusal, answer: Result<usize, Failed>) {
+fn assert_refused(rt: &impl Abort, refusal: WriteFailure, answer: Result<usize, Failed>) {
     let mut room = [0; 6];
     let mut sink = ToBytes::refusing_after(&mut room, 3, 1, refusal);
     assert_write(rt, &mut sink, b"abcde", Ok(3));
@@ -137,6 +137,6 @@ fn assert_refused(rt: &impl Abort, refusal: Refusal, answer: Result<usize, Faile
 
 #[test]
 fn lent_bytes_are_written_in_pieces(rt: HostRuntime) {
-    assert_refused(&rt, Refusal::Fails, Err(Failed));
-    assert_refused(&rt, Refusal::TakesNothing, Ok(0));
+    assert_refused(&rt, WriteFailure::Fails, Err(Failed));
+    assert_refused(&rt, WriteFailure::TakesNothing, Ok(0));
 }

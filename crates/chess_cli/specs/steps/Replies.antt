@@ -9,15 +9,15 @@ use Rattle.chess_search.specs.Best.{best}
 use Rattle.chess_tree.specs.GameTree.{TreeParts, at_path, has, line_to}
 use Rattle.chess_pgn.specs.Games.{untold}
 use Rattle.chess_pgn.specs.Written.{game_text}
-use Rattle.chess_cli.specs.declared.board_command.answer.Told.{Told}
-use Rattle.chess_cli.specs.declared.board_command.answer.Told.TheVariants.{Whole, Path, Game}
+use Rattle.chess_cli.specs.declared.board_command.answer.Pending.{Pending}
+use Rattle.chess_cli.specs.declared.board_command.answer.Pending.TheVariants.{Nothing, Path, Game}
 use Rattle.chess_cli.specs.declared.board_command.refusal.Refusal.TheVariants.{Argument}
 use Rattle.chess_cli.specs.Numbers.{path_text}
-use Rattle.chess_cli.specs.Answers.{Effect, Refuses, best_text, if_there, no_memory, says_line}
+use Rattle.chess_cli.specs.Answers.{Effect, Refuses, best_text, if_it_exists, no_memory, says_line}
 
 -- the answer is on the page, but for a path or a game, which may be long
-abbrev pub IsOnPage : Told → TreeParts → List ℕ → List ℕ → List ℕ → Type 0
-IsOnPage Whole t page page1 text = page1 ≡ page ++ text
+abbrev pub IsOnPage : Pending → TreeParts → List ℕ → List ℕ → List ℕ → Type 0
+IsOnPage Nothing t page page1 text = page1 ≡ page ++ text
 IsOnPage Path t page page1 text = (page1 ≡ page) × (path_text t.path ++ 10 ∷ [] ≡ text)
 IsOnPage Game t page page1 text = (page1 ≡ page) × (game_text (untold t.tree) ≡ text)
 
@@ -28,7 +28,7 @@ IsGameText t text = (text ≡ game_text (untold t.tree)) ⊎ (text ≡ no_memory
 -- `goto`: to the node of the path, if there is one
 abbrev pub path_effect : TreeParts → Option (List ℕ) → Effect
 path_effect t None = Refuses Argument
-path_effect t (Some path) = if_there (has path t.tree.below) (at_path path t)
+path_effect t (Some path) = if_it_exists (has path t.tree.below) (at_path path t)
 
 -- `best`: the best move to that depth
 abbrev pub best_effect : TreeParts → Option ℕ → Effect

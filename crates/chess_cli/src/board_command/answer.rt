@@ -2,20 +2,20 @@ ghost use Rattle.std.specs.Prelude.{◌≡◌, ◌+◌, ◌≤◌, ◌++◌, len
 ghost use Rattle.chess_cli.specs.Answers.{refused, ok_or_refused};
 
 use super::refusal::Refusal;
-use chess_loop::Page;
+use chess_loop::OutputBuffer;
 use itoa::Buffer;
 use std::alloc::Allocator;
 
 /// What there is of the answer to a line on the page: all of it, or nothing of the path to the cursor or of the game, which may be long.
 #[derive(Clone, Copy)]
-pub enum Told {
-    Whole,
+pub enum Pending {
+    Nothing,
     Path,
     Game,
 }
 
 /// `refused N NAME`, and a line feed.
-pub fn put_refused<A: Allocator>(page: &mut Page<A>, refusal: Refusal)
+pub fn put_refused<A: Allocator>(page: &mut OutputBuffer<A>, refusal: Refusal)
     requires { length page.old + 2600 ≤ 65536 }
     ensures { page.new ≡ page.old ++ refused refusal }
 {
@@ -26,7 +26,7 @@ pub fn put_refused<A: Allocator>(page: &mut Page<A>, refusal: Refusal)
 }
 
 /// `ok`, or the refusal, and a line feed.
-pub fn put_done<A: Allocator>(page: &mut Page<A>, ended: Result<(), Refusal>)
+pub fn put_done<A: Allocator>(page: &mut OutputBuffer<A>, ended: Result<(), Refusal>)
     requires { length page.old + 2600 ≤ 65536 }
     ensures { page.new ≡ page.old ++ ok_or_refused ended }
 {

@@ -1,11 +1,12 @@
 ghost use Rattle.std.specs.Prelude.{◌≡◌, Some, None, IfSome, IfNone, option_map};
-ghost use Rattle.chess_types.specs.bytes.Words.{words};
+ghost use Rattle.byte_streams.specs.Words.{words};
 ghost use Rattle.chess_cli.specs.Requests.{gaps, request, without_return, alone, alone_named, with_rest, only_word as only_word_of, with_colour, with_word, with_value, nag_in, Best as BestOf, Counts as CountsOf, Play as PlayOf, Claim as ClaimOf, Goto as GotoOf, Step as StepOf, Nag as NagOf};
 ghost use Rattle.chess_cli.specs.Numbers.{depth_in, number_in as number_in_of, path_in};
 ghost use Rattle.chess_cli.specs.steps.Commands.{request_of};
 
 use super::numbers::number_in;
-use chess_types::{Colour, split_word, trim};
+use byte_streams::{split_word, trim};
+use chess_types::Colour;
 
 /// The bytes that part words.
 const GAPS: &[u8] = b" \t";

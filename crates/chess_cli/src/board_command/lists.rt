@@ -7,7 +7,7 @@ ghost use Rattle.chess_cli.specs.Answers.{list_text};
 ghost use Rattle.chess_cli.specs.steps.Lists.{behind};
 
 use arrayvec::ArrayString;
-use chess_loop::Page;
+use chess_loop::OutputBuffer;
 use chess_types::{Move, Square, SquareSet};
 use std::alloc::Allocator;
 
@@ -52,7 +52,7 @@ fn push_move(text: &mut ArrayString<128>, m: Move)
 
 // Another move, after a space. What was gathered goes on the page first where there is no room for it.
 #[inline(always)]
-fn gather<A: Allocator>(page: &mut Page<A>, text: &mut ArrayString<128>, m: Move)
+fn gather<A: Allocator>(page: &mut OutputBuffer<A>, text: &mut ArrayString<128>, m: Move)
     requires { length page.old + array_string_len text.old + 6 ≤ 65536 }
     ensures bytes { page.new ++ text.new.bytes ≡ (page.old ++ text.old.bytes) ++ 32 ∷ move_text m }
     ensures len { length page.new + array_string_len text.new ≤ length page.old + array_string_len text.old + 6 }
@@ -66,7 +66,7 @@ fn gather<A: Allocator>(page: &mut Page<A>, text: &mut ArrayString<128>, m: Move
 }
 
 /// The texts of at most 432 moves, separated by one space, after what is on the page; `none` where there is none.
-pub fn put_moves<A: Allocator>(page: &mut Page<A>, moves: &[Move])
+pub fn put_moves<A: Allocator>(page: &mut OutputBuffer<A>, moves: &[Move])
     requires few { length moves.now ≤ 432 }
     requires room { length page.old + 2600 ≤ 65536 }
     ensures bytes { page.new ≡ page.old ++ list_text (map move_text moves.now) }

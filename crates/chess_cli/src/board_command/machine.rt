@@ -1,4 +1,4 @@
-ghost use Rattle.std.specs.Prelude.{◌≡◌, ℕ, List, ◌+◌, ◌<◌, ◌≤◌, ◌++◌, ◌∷◌, [], IfOk, IfSome, decimal, is_some, length, map, nat_lt, false};
+ghost use Rattle.std.specs.Prelude.{◌≡◌, ◌⊎◌, ℕ, List, ◌+◌, ◌<◌, ◌≤◌, ◌++◌, ◌∷◌, [], IfErr, IfOk, IfSome, None, Ok, decimal, is_some, length, map, nat_lt, false};
 ghost use Rattle.std.specs.FinSet.{contains};
 ghost use Rattle.std.specs.Fmt.{signed_decimal};
 ghost use Rattle.chess_types.specs.board.Texts.{move_text};
@@ -7,24 +7,28 @@ ghost use Rattle.chess_types.specs.board.Legal.{is_legal, legal_moves};
 ghost use Rattle.chess_types.specs.board.Lines.{last};
 ghost use Rattle.chess_types.specs.board.Repetition.{repetitions};
 ghost use Rattle.chess_types.specs.board.Outcome.{status, claims, claims_with};
-ghost use Rattle.chess_types.specs.board.Position.{start, look};
+ghost use Rattle.chess_types.specs.board.Position.{start, man_on};
 ghost use Rattle.chess_eval.specs.Evaluation.{evaluation};
+ghost use Rattle.chess_items.specs.declared.fault.FaultKind.TheVariants.{Memory};
+ghost use Rattle.chess_pgn.specs.Games.{Game};
+ghost use Rattle.chess_pgn.specs.Reading.{HasNoGame, IsAtFront, IsWhite};
 ghost use Rattle.chess_tree.specs.Forest.{count as count_children};
 ghost use Rattle.chess_tree.specs.Edits.{parent};
 ghost use Rattle.chess_tree.specs.GameTree.{TreeParts, annotated_here, at_path, deleted, line_to, main_line, nodes_here, promoted_here};
+ghost use Rattle.chess_cli.specs.Loads.{from_root};
 ghost use Rattle.chess_cli.specs.Outcomes.{claims_text, status_text};
 ghost use Rattle.chess_cli.specs.Numbers.{depth_in, path_in};
-ghost use Rattle.chess_cli.specs.Answers.{Answers, Does, HasEffect, HasEffectSurely, Tells, TellsBy, beginning, checks_of, claim_effect, comment_effect, counts_of, if_there, list_text, move_effect, off_root, play_effect, set_effect, told, tree_from};
+ghost use Rattle.chess_cli.specs.Answers.{Answers, Does, HasEffect, HasEffectSurely, Tells, MayAnswer, beginning, checks_of, claim_effect, comment_effect, counts_of, if_it_exists, list_text, move_effect, not_at_root, play_effect, set_effect, reply, tree_from};
 ghost use Rattle.chess_cli.specs.steps.Replies.{IsGameText, IsOnPage, best_effect, path_effect};
 ghost use Rattle.chess_cli.specs.Requests.{Pgn, request};
 ghost use Rattle.chess_loop.specs.steps.Sending.{Sends};
-ghost use Rattle.chess_fen.specs.Reading.{reading};
-ghost use Rattle.chess_san.specs.Naming.{reading as move_reading};
+ghost use Rattle.chess_fen.specs.Reading.{fen_reading};
+ghost use Rattle.chess_san.specs.Naming.{san_reading};
 ghost use Rattle.chess_san.specs.Writing.{san};
 ghost use Rattle.chess_search.specs.Best.{best};
 ghost use Rattle.chess_fen.specs.Writing.{written};
 
-use super::answer::{Told, put_done, put_refused};
+use super::answer::{Pending, put_done, put_refused};
 use super::command::{Command, asked};
 use super::lists::{put_moves, squares_text};
 use super::numbers::{PLACES, PathWord, depth_in, read_path};
@@ -33,15 +37,16 @@ use super::path::write_path;
 use super::refusal::Refusal;
 use super::texts::{counts_text, eval_text};
 use arrayvec::{ArrayString, ArrayVec};
+use byte_streams::{Failed, Sink};
 use chess_attack::checkers;
 use chess_key::KeyTable;
-use chess_loop::{Engine, Page, Reading, Unfinished, filled};
+use chess_loop::{LineBuffer, LineHandler, OutputBuffer, Reading, filled};
 use chess_moves::is_legal;
-use chess_pgn::write_tree;
+use chess_pgn::{FaultKind, PgnFault, read_game, write_tree};
 use chess_play::Live;
 use chess_san::SanFault;
 use chess_tree::{Analysis, Tree, TreeFault};
-use chess_types::{Claims, Colour, Failed, Move, Position, Sink, SquareSet, Status};
+use chess_types::{Claims, Colour, Move, Position, SquareSet, Status};
 use itoa::Buffer;
 use std::alloc::Allocator;
 use std::marker::Model;
@@ -128,7 +133,7 @@ impl<'k, A: Allocator> Board<'k, A> {
 
     /// The legal move at the cursor that a text in standard algebraic notation or from square to square names (PGN 8.2.3).
     pub fn read_move(&mut self, text: &[u8]) -> Result<Move, SanFault>
-        ensures value { result ≡ move_reading (last (line_to self.old)) text.now }
+        ensures value { result ≡ san_reading (last (line_to self.old)) text.now }
         ensures as_before { self.new ≡ self.old }
     {
         self.analysis.read_move(text)
@@ -155,7 +160,7 @@ impl<'k, A: Allocator> Board<'k, A> {
 
     /// The squares of the men that check the side to move (FIDE Laws 3.9.1).
     pub fn checking(&self) -> SquareSet
-        ensures { (a : ℕ) → a < 64 → contains result a ≡ checks_from (look (last (line_to self.now))) (last (line_to self.now)).side a }
+        ensures { (a : ℕ) → a < 64 → contains result a ≡ checks_from (man_on (last (line_to self.now))) (last (line_to self.now)).side a }
     {
         let setup = self.live().position();
         checkers(&setup.placement, setup.side)
@@ -205,10 +210,10 @@ impl<'k, A: Allocator> Board<'k, A> {
     }
 
     /// Answers a line that was read whole, after what is on the page; of the answers to `path` and `pgn` there is nothing yet.
-    pub fn tell<B: Allocator>(&mut self, line: &[u8], page: &mut Page<B>) -> Told
+    pub fn put_answer<B: Allocator>(&mut self, line: &[u8], page: &mut OutputBuffer<B>) -> Pending
         requires { length page.old + 2600 ≤ 65536 }
-        ensures told { TellsBy (IsOnPage result self.new page.old page.new) self.old (request line.now) self.new }
-        ensures game { result ≡ Told.Game → request line.now ≡ Pgn }
+        ensures reply { MayAnswer (IsOnPage result self.new page.old page.new) self.old (request line.now) self.new }
+        ensures game { result ≡ Pending.Game → request line.now ≡ Pgn }
     {
         match asked(line) {
             Command::Blank => {}
@@ -225,7 +230,7 @@ impl<'k, A: Allocator> Board<'k, A> {
             Command::Start => put_done(page, self.start()),
             Command::End => put_done(page, self.end()),
             Command::Goto(word) => put_done(page, self.goto(word)),
-            Command::Path => return Told::Path,
+            Command::Path => return Pending::Path,
             Command::Promote => put_done(page, self.promote()),
             Command::Delete => put_done(page, self.delete()),
             Command::Comment(comment) => put_done(page, self.comment(comment)),
@@ -235,27 +240,27 @@ impl<'k, A: Allocator> Board<'k, A> {
             Command::Claims => self.claims(page),
             Command::Claim(word) => self.claim(word, page),
             Command::Best(word) => self.best(word, page),
-            Command::Pgn => return Told::Game,
+            Command::Pgn => return Pending::Game,
             Command::Unknown => put_refused(page, Refusal::Command),
             Command::Malformed => put_refused(page, Refusal::Argument),
         }
-        Told::Whole
+        Pending::Nothing
     }
 
     /// The same with the whole answer, a prefix of which may be written.
-    pub fn tell_whole<B: Allocator, W: Sink>(
+    pub fn put_whole_answer<B: Allocator, W: Sink>(
         &mut self,
         line: &[u8],
-        page: &mut Page<B>,
+        page: &mut OutputBuffer<B>,
         writer: &mut W,
     ) -> Result<(), Failed>
         requires { length page.old + 2600 ≤ 65536 }
         ensures { (text : List ℕ) × Tells self.old (request line.now) text self.new × Sends W.takes W.failed page.old writer.old text page.new writer.new result }
     {
-        match self.tell(line, page) {
-            Told::Whole => {}
-            Told::Path => return write_path(self.tree(), page, writer),
-            Told::Game => return self.write_game(page, writer),
+        match self.put_answer(line, page) {
+            Pending::Nothing => {}
+            Pending::Path => return write_path(self.tree(), page, writer),
+            Pending::Game => return self.write_game(page, writer),
         }
         Ok(())
     }
@@ -263,7 +268,7 @@ impl<'k, A: Allocator> Board<'k, A> {
     // The whole game, or that there is no memory for its text.
     fn write_game<B: Allocator, W: Sink>(
         &self,
-        page: &mut Page<B>,
+        page: &mut OutputBuffer<B>,
         writer: &mut W,
     ) -> Result<(), Failed>
         requires { length page.old + 2600 ≤ 65536 }
@@ -286,15 +291,42 @@ impl<'k, A: Allocator> Board<'k, A> {
         Ok(())
     }
 
-    /// Begins a tree from the position of the FEN, in place of the tree that there was.
+    /// Begins a tree from the position of the FEN, which replaces the tree.
     pub fn set(&mut self, fen: &[u8]) -> Result<(), Refusal>
-        ensures { HasEffect (set_effect (reading fen.now)) self.old result self.new }
+        ensures { HasEffect (set_effect (fen_reading fen.now)) self.old result self.new }
     {
         self.begin(chess_fen::read(fen)?)
     }
 
+    /// Begins with the tree of the game at the start of a text (PGN), the cursor at its root, and says how many bytes of the text the game takes; `None`
+    /// where there are only white space and hidden lines. Then, and after a fault, the board is as it was.
+    ///
+    /// # Errors
+    ///
+    /// The first fault of the text, with its place in bytes from the text's beginning; `8 Memory` has place 0.
+    pub fn load(&mut self, text: &[u8]) -> Result<Option<usize>, PgnFault>
+        ensures game { IfOk result (λ found. IfSome found (λ used. (game : Game) × IsAtFront text.now game used × (self.new ≡ from_root game.tree))) }
+        ensures none { result ≡ Ok None → IsWhite text.now × (self.new ≡ self.old) }
+        ensures fault { IfErr result (λ fault. (fault.kind ≡ Memory) ⊎ HasNoGame text.now) }
+        ensures err { IfErr result (λ _. self.new ≡ self.old) }
+    {
+        let (game, used) = match read_game(self.alloc, text) {
+            Ok(Some(found)) => found,
+            Ok(None) => return Ok(None),
+            Err(fault) => return Err(fault),
+        };
+        let Ok(analysis) = Analysis::of(game.tree, self.table) else {
+            return Err(PgnFault {
+                place: 0,
+                kind: FaultKind::Memory,
+            });
+        };
+        self.analysis = analysis;
+        Ok(Some(used))
+    }
+
     // The attack counts of the colour.
-    fn counts<B: Allocator>(&self, colour: Colour, page: &mut Page<B>)
+    fn counts<B: Allocator>(&self, colour: Colour, page: &mut OutputBuffer<B>)
         requires room { length page.old + 2600 ≤ 65536 }
         ensures { page.new ≡ page.old ++ (counts_of (last (line_to self.now)) colour ++ 10 ∷ []) }
     {
@@ -302,15 +334,15 @@ impl<'k, A: Allocator> Board<'k, A> {
     }
 
     // The evaluation.
-    fn eval<B: Allocator>(&self, page: &mut Page<B>)
+    fn eval<B: Allocator>(&self, page: &mut OutputBuffer<B>)
         requires room { length page.old + 2600 ≤ 65536 }
-        ensures { page.new ≡ page.old ++ (signed_decimal (evaluation (look (last (line_to self.now)))) ++ 10 ∷ []) }
+        ensures { page.new ≡ page.old ++ (signed_decimal (evaluation (man_on (last (line_to self.now)))) ++ 10 ∷ []) }
     {
         page.put_line(eval_text(self.live()).as_str());
     }
 
     // The FEN.
-    fn fen<B: Allocator>(&self, page: &mut Page<B>)
+    fn fen<B: Allocator>(&self, page: &mut OutputBuffer<B>)
         requires room { length page.old + 2600 ≤ 65536 }
         ensures { page.new ≡ page.old ++ (written (last (line_to self.now)) ++ 10 ∷ []) }
     {
@@ -318,7 +350,7 @@ impl<'k, A: Allocator> Board<'k, A> {
     }
 
     // The legal moves.
-    fn moves<B: Allocator>(&mut self, page: &mut Page<B>)
+    fn moves<B: Allocator>(&mut self, page: &mut OutputBuffer<B>)
         requires room { length page.old + 2600 ≤ 65536 }
         ensures text { page.new ≡ page.old ++ (list_text (map move_text (legal_moves (last (line_to self.old)))) ++ 10 ∷ []) }
         ensures state { self.new ≡ self.old }
@@ -329,7 +361,7 @@ impl<'k, A: Allocator> Board<'k, A> {
     }
 
     // The squares of the men that check the side to move.
-    fn checks<B: Allocator>(&self, page: &mut Page<B>)
+    fn checks<B: Allocator>(&self, page: &mut OutputBuffer<B>)
         requires room { length page.old + 2600 ≤ 65536 }
         ensures { page.new ≡ page.old ++ (checks_of (last (line_to self.now)) ++ 10 ∷ []) }
     {
@@ -339,7 +371,7 @@ impl<'k, A: Allocator> Board<'k, A> {
 
     /// Makes the move that a text names: steps to the first child that has it, else to a new one.
     pub fn play(&mut self, word: &[u8]) -> Result<(), Refusal>
-        ensures { HasEffect (play_effect self.old (move_reading (last (line_to self.old)) word.now)) self.old result self.new }
+        ensures { HasEffect (play_effect self.old (san_reading (last (line_to self.old)) word.now)) self.old result self.new }
     {
         let m = self.analysis.read_move(word)?;
         Ok(self.analysis.play_legal(m)?)
@@ -347,14 +379,14 @@ impl<'k, A: Allocator> Board<'k, A> {
 
     /// Steps to the parent.
     pub fn back(&mut self) -> Result<(), Refusal>
-        ensures { HasEffectSurely (off_root self.old.path (at_path (parent self.old.path) self.old)) self.old result self.new }
+        ensures { HasEffectSurely (not_at_root self.old.path (at_path (parent self.old.path) self.old)) self.old result self.new }
     {
         Ok(self.analysis.back()?)
     }
 
     /// Steps to a child, by its place among its siblings, from 0.
     pub fn step(&mut self, place: u32) -> Result<(), Refusal>
-        ensures { HasEffectSurely (if_there (nat_lt place (count_children (nodes_here self.old))) (at_path (self.old.path ++ place ∷ []) self.old)) self.old result self.new }
+        ensures { HasEffectSurely (if_it_exists (nat_lt place (count_children (nodes_here self.old))) (at_path (self.old.path ++ place ∷ []) self.old)) self.old result self.new }
     {
         Ok(self.analysis.step(place)?)
     }
@@ -395,19 +427,19 @@ impl<'k, A: Allocator> Board<'k, A> {
 
     /// Puts the node before its siblings.
     pub fn promote(&mut self) -> Result<(), Refusal>
-        ensures { HasEffectSurely (off_root self.old.path (promoted_here self.old)) self.old result self.new }
+        ensures { HasEffectSurely (not_at_root self.old.path (promoted_here self.old)) self.old result self.new }
     {
         Ok(self.analysis.promote()?)
     }
 
     /// Takes out the node and all below it; the cursor is then at its parent.
     pub fn delete(&mut self) -> Result<(), Refusal>
-        ensures { HasEffectSurely (off_root self.old.path (deleted self.old)) self.old result self.new }
+        ensures { HasEffectSurely (not_at_root self.old.path (deleted self.old)) self.old result self.new }
     {
         Ok(self.analysis.delete()?)
     }
 
-    /// A text for the node's comment, in place of the one that it had.
+    /// A text for the node's comment, which replaces the one that it had.
     pub fn comment(&mut self, comment: &[u8]) -> Result<(), Refusal>
         ensures { HasEffect (comment_effect self.old comment.now) self.old result self.new }
     {
@@ -416,13 +448,13 @@ impl<'k, A: Allocator> Board<'k, A> {
 
     /// An annotation number more.
     pub fn nag(&mut self, nag: u8) -> Result<(), Refusal>
-        ensures { HasEffect (off_root self.old.path (annotated_here nag self.old)) self.old result self.new }
+        ensures { HasEffect (not_at_root self.old.path (annotated_here nag self.old)) self.old result self.new }
     {
         Ok(self.analysis.add_nag(nag)?)
     }
 
     // How often the position has come up.
-    fn count<B: Allocator>(&mut self, page: &mut Page<B>)
+    fn count<B: Allocator>(&mut self, page: &mut OutputBuffer<B>)
         requires room { length page.old + 2600 ≤ 65536 }
         ensures text { page.new ≡ page.old ++ (decimal (repetitions (line_to self.old)) ++ 10 ∷ []) }
         ensures state { self.new ≡ self.old }
@@ -431,7 +463,7 @@ impl<'k, A: Allocator> Board<'k, A> {
     }
 
     // How the game stands.
-    fn status<B: Allocator>(&mut self, page: &mut Page<B>)
+    fn status<B: Allocator>(&mut self, page: &mut OutputBuffer<B>)
         requires room { length page.old + 2600 ≤ 65536 }
         ensures text { page.new ≡ page.old ++ (status_text (status (line_to self.old)) ++ 10 ∷ []) }
         ensures state { self.new ≡ self.old }
@@ -440,7 +472,7 @@ impl<'k, A: Allocator> Board<'k, A> {
     }
 
     // The draws that may be claimed.
-    fn claims<B: Allocator>(&mut self, page: &mut Page<B>)
+    fn claims<B: Allocator>(&mut self, page: &mut OutputBuffer<B>)
         requires room { length page.old + 2600 ≤ 65536 }
         ensures text { page.new ≡ page.old ++ (claims_text (claims (line_to self.old)) ++ 10 ∷ []) }
         ensures state { self.new ≡ self.old }
@@ -449,9 +481,9 @@ impl<'k, A: Allocator> Board<'k, A> {
     }
 
     // Those that may be claimed with the move of the text.
-    fn claim<B: Allocator>(&mut self, word: &[u8], page: &mut Page<B>)
+    fn claim<B: Allocator>(&mut self, word: &[u8], page: &mut OutputBuffer<B>)
         requires room { length page.old + 2600 ≤ 65536 }
-        ensures text { page.new ≡ page.old ++ told (claim_effect (line_to self.old) (move_reading (last (line_to self.old)) word.now)) }
+        ensures text { page.new ≡ page.old ++ reply (claim_effect (line_to self.old) (san_reading (last (line_to self.old)) word.now)) }
         ensures state { self.new ≡ self.old }
     {
         let m = match self.analysis.read_move(word) {
@@ -465,9 +497,9 @@ impl<'k, A: Allocator> Board<'k, A> {
     }
 
     // The best move, as deep as the word writes.
-    fn best<B: Allocator>(&mut self, word: &[u8], page: &mut Page<B>)
+    fn best<B: Allocator>(&mut self, word: &[u8], page: &mut OutputBuffer<B>)
         requires room { length page.old + 2600 ≤ 65536 }
-        ensures text { page.new ≡ page.old ++ told (best_effect self.old (depth_in word.now)) }
+        ensures text { page.new ≡ page.old ++ reply (best_effect self.old (depth_in word.now)) }
         ensures state { self.new ≡ self.old }
     {
         match depth_in(word) {
@@ -477,7 +509,7 @@ impl<'k, A: Allocator> Board<'k, A> {
     }
 }
 
-impl<'k, A: Allocator> Engine for Board<'k, A> {
+impl<'k, A: Allocator> LineHandler for Board<'k, A> {
     ghost use Rattle.std.specs.Prelude.{false};
     ghost use Rattle.chess_loop.specs.Runs.{InOne};
 
@@ -489,12 +521,12 @@ impl<'k, A: Allocator> Engine for Board<'k, A> {
 
     fn answer<B: Allocator, W: Sink>(
         &mut self,
-        line: &Unfinished<B>,
-        page: &mut Page<B>,
+        line: &LineBuffer<B>,
+        page: &mut OutputBuffer<B>,
         writer: &mut W,
     ) -> Result<(), Failed> {
         match line.reading() {
-            Reading::Whole(bytes) => self.tell_whole(bytes, page, writer),
+            Reading::Whole(bytes) => self.put_whole_answer(bytes, page, writer),
             Reading::TooLong => {
                 put_refused(page, Refusal::LongLine);
                 Ok(())

@@ -8,7 +8,7 @@ ghost use Rattle.chess_loop.specs.Runs.{Runs};
 
 use super::over_streams::board;
 use crate::ended::Ended;
-use chess_types::{FromBytes, ToBytes};
+use byte_streams::{FromBytes, ToBytes};
 use std::alloc::Allocator;
 
 /// `board` over bytes that are lent. At `Good` the bytes taken are the answers to the lines of the bytes that were left; at

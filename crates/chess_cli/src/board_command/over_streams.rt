@@ -4,9 +4,9 @@ ghost use Rattle.chess_loop.specs.RunEnds.{most_reads};
 
 use super::machine::Board;
 use crate::ended::Ended;
+use byte_streams::{Sink, Source};
 use chess_key::KeyTable;
 use chess_loop::run;
-use chess_types::{Sink, Source};
 use std::alloc::Allocator;
 
 /// The most reads of a run.

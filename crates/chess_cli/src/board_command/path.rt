@@ -3,14 +3,14 @@ ghost use Rattle.chess_cli.specs.Numbers.{path_text};
 ghost use Rattle.chess_cli.specs.steps.Pieces.{next_place};
 ghost use Rattle.chess_loop.specs.steps.Sending.{Sends};
 
-use chess_loop::Page;
+use byte_streams::{Failed, Sink};
+use chess_loop::OutputBuffer;
 use chess_tree::Tree;
-use chess_types::{Failed, Sink};
 use itoa::Buffer;
 use std::alloc::Allocator;
 
 // The place at a ply, and a period between two.
-fn put_place<A: Allocator>(page: &mut Page<A>, ply: u32, place: u32)
+fn put_place<A: Allocator>(page: &mut OutputBuffer<A>, ply: u32, place: u32)
     requires { length page.old + 2600 ≤ 65536 }
     ensures bytes { page.new ≡ page.old ++ next_place ply place }
     ensures len { length page.new ≤ length page.old + 11 }
@@ -24,7 +24,7 @@ fn put_place<A: Allocator>(page: &mut Page<A>, ply: u32, place: u32)
 /// The path to the cursor and a line feed. It may be long: the page is written whenever it is full.
 pub fn write_path<A: Allocator, B: Allocator, W: Sink>(
     tree: &Tree<'_, A>,
-    page: &mut Page<B>,
+    page: &mut OutputBuffer<B>,
     writer: &mut W,
 ) -> Result<(), Failed>
     requires { length page.old + 2600 ≤ 65536 }

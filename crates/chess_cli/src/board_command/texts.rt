@@ -83,12 +83,12 @@ pub fn eval_text<K: Kept>(kept: &K) -> ArrayString<16>
 
 impl<'k> Kept for Live<'k> {
     ghost use Rattle.chess_types.specs.board.Attack.{count};
-    ghost use Rattle.chess_types.specs.board.Position.{look};
+    ghost use Rattle.chess_types.specs.board.Position.{man_on};
     ghost use Rattle.chess_eval.specs.Evaluation.{evaluation};
 
-    ghost counts = { λ live. count (look live.position) };
+    ghost counts = { λ live. count (man_on live.position) };
 
-    ghost evaluation = { λ live. evaluation (look live.position) };
+    ghost evaluation = { λ live. evaluation (man_on live.position) };
 
     fn count(&self, colour: Colour, square: Square) -> u8 {
         self.counts().count(colour, square)

@@ -1,13 +1,13 @@
 ghost use Rattle.std.specs.Prelude.{◌≡◌, false};
-ghost use Rattle.chess_cli.specs.Endings.{SittingEnds};
+ghost use Rattle.chess_cli.specs.Endings.{TimedSessionEnds};
 
 use super::clock::Clock;
-use super::sitting::Sitting;
+use super::timed_session::TimedSession;
 use crate::board_command::READS;
 use crate::ended::Ended;
+use byte_streams::{Sink, Source};
 use chess_key::KeyTable;
 use chess_loop::run;
-use chess_types::{Sink, Source};
 use chess_uci::Session;
 use std::alloc::Allocator;
 
@@ -30,7 +30,7 @@ pub fn uci<A: Allocator, R: Source, W: Sink, C: Clock + Drop>(
 ) -> Ended
     requires reader { R.failed reader.old ≡ false }
     requires writer { W.failed writer.old ≡ false }
-    ensures { SittingEnds R.gives R.failed W.takes W.failed R.ended A C.reads clock result reader.old reader.new writer.old writer.new }
+    ensures { TimedSessionEnds R.gives R.failed W.takes W.failed R.ended A C.reads clock result reader.old reader.new writer.old writer.new }
 {
     uci_with(alloc, reader, writer, clock, &KeyTable::fixed())
 }
@@ -45,11 +45,11 @@ pub fn uci_with<A: Allocator, R: Source, W: Sink, C: Clock + Drop>(
 ) -> Ended
     requires reader { R.failed reader.old ≡ false }
     requires writer { W.failed writer.old ≡ false }
-    ensures { SittingEnds R.gives R.failed W.takes W.failed R.ended A C.reads clock result reader.old reader.new writer.old writer.new }
+    ensures { TimedSessionEnds R.gives R.failed W.takes W.failed R.ended A C.reads clock result reader.old reader.new writer.old writer.new }
 {
-    let mut sitting = Sitting {
+    let mut timed_session = TimedSession {
         session: Session::new(&alloc, table),
         clock,
     };
-    Ended::from(run(&alloc, &mut sitting, reader, writer, READS))
+    Ended::from(run(&alloc, &mut timed_session, reader, writer, READS))
 }

@@ -1,8 +1,8 @@
 //! Games that are read and written, and the game of the board.
 use crate::tests::runs::assert_answers;
+use byte_streams::{FromBytes, ToBytes, WriteFailure};
 use chess_cli::{Ended, collection_laws, pgn};
 use chess_pgn::{FaultKind, PgnFault};
-use chess_types::{FromBytes, Refusal, ToBytes};
 use std::test::Fail;
 
 pub const INPUT: &[u8] =
@@ -77,7 +77,7 @@ fn stops_at_a_fault(rt: HostRuntime) -> Result<(), Fail> {
 
 #[test]
 fn stops_at_a_failing_write(rt: HostRuntime) -> Result<(), Fail> {
-    for refusal in [Refusal::Fails, Refusal::TakesNothing] {
+    for refusal in [WriteFailure::Fails, WriteFailure::TakesNothing] {
         for calls in 0..FIRST {
             let mut room = [0; 400];
             let mut writer = ToBytes::refusing_after(&mut room, 1, calls as u64, refusal);

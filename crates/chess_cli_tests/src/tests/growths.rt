@@ -1,9 +1,9 @@
 //! Each growth of memory refused in turn.
 ghost use Rattle.std.specs.Prelude.{◌≡◌, false};
 
+use byte_streams::{Failed, FromBytes, Source, ToBytes};
 use chess_cli::{Ended, board_with};
 use chess_key::KeyTable;
-use chess_types::{Failed, FromBytes, Source, ToBytes};
 use linked_list_allocator::LocalHeap;
 use std::alloc::AllocError;
 use std::process::Abort;

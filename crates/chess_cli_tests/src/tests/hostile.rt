@@ -2,9 +2,9 @@
 use crate::tests::games;
 use crate::tests::runs::Letters;
 use crate::tests::sessions::STOPPED;
+use byte_streams::{FromBytes, ToBytes};
 use chess_cli::{Ended, board, board_with, pgn, uci, uci_with};
 use chess_key::KeyTable;
-use chess_types::{FromBytes, ToBytes};
 use linked_list_allocator::LocalHeap;
 use std::alloc::Allocator;
 use std::process::Abort;

@@ -1,5 +1,5 @@
+use byte_streams::{FromBytes, ToBytes};
 use chess_cli::{Ended, board};
-use chess_types::{FromBytes, ToBytes};
 use std::alloc::{AllocError, Allocator};
 use std::test::Fail;
 

@@ -1,6 +1,7 @@
 //! Runs of the board: input and output in pieces of any size, what is refused, and how a run ends.
+use byte_streams::{Failed, FromBytes, Source, ToBytes, WriteFailure};
 use chess_cli::{Ended, Kept, board, board_over_bytes, counts_text, eval_text};
-use chess_types::{Colour, Failed, FromBytes, Refusal, Source, Square, ToBytes};
+use chess_types::{Colour, Square};
 use linked_list_allocator::LocalHeap;
 use std::alloc::Allocator;
 use std::process::Abort;
@@ -144,7 +145,7 @@ fn stops_at_a_failing_read(rt: HostRuntime) -> Result<(), Fail> {
 /// A front of the answers is written.
 #[test]
 fn stops_at_a_failing_write(rt: HostRuntime) -> Result<(), Fail> {
-    for refusal in [Refusal::Fails, Refusal::TakesNothing] {
+    for refusal in [WriteFailure::Fails, WriteFailure::TakesNothing] {
         for calls in 0..100 {
             let mut reader = FromBytes::new(INPUT, 100);
             let mut room = [0; 600];

@@ -1,6 +1,6 @@
 //! Sessions over bytes, whose clocks read what the test says.
+use byte_streams::{FromBytes, ToBytes, WriteFailure};
 use chess_cli::{Clock, Ended, uci};
-use chess_types::{FromBytes, Refusal, ToBytes};
 use std::alloc::Allocator;
 use std::process::Abort;
 use std::test::Fail;
@@ -162,7 +162,7 @@ fn stops_at_a_failing_read(rt: HostRuntime) -> Result<(), Fail> {
 /// A front of the replies is written.
 #[test]
 fn stops_at_a_failing_write(rt: HostRuntime) -> Result<(), Fail> {
-    for refusal in [Refusal::Fails, Refusal::TakesNothing] {
+    for refusal in [WriteFailure::Fails, WriteFailure::TakesNothing] {
         for calls in 0..OUTPUT.len() {
             let mut reader = FromBytes::new(INPUT, 100);
             let mut room = [0; 100];
@@ -199,7 +199,7 @@ fn readings_before_a_write<A: Allocator>(rt: &impl Abort, alloc: A, input: &[u8]
     let mut readings = 0;
     let mut reader = FromBytes::new(input, 100);
     let mut room = [0; 100];
-    let mut writer = ToBytes::refusing_after(&mut room, 100, 0, Refusal::Fails);
+    let mut writer = ToBytes::refusing_after(&mut room, 100, 0, WriteFailure::Fails);
     let clock = Counting {
         readings: &mut readings,
     };

@@ -1,8 +1,8 @@
 //! Input in the greatest numbers, of all bytes, and without end.
+use byte_streams::{Failed, FromBytes, Sink, Source, ToBytes};
 use chess_cli::{Ended, board, board_within, pgn, uci};
 use chess_key::KeyTable;
 use chess_pgn::{FaultKind, PgnFault};
-use chess_types::{Failed, FromBytes, Sink, Source, ToBytes};
 use linked_list_allocator::LocalHeap;
 use std::alloc::Allocator;
 use std::process::Abort;

@@ -5,7 +5,7 @@
 --   IsHeld     its plies, and those that are only looked at
 use Rattle.std.specs.Prelude.{◌≡◌, ◌<◌, ◌≤◌, true, ⊤, List, [], ◌∷◌, ◌++◌, length, map}
 use Rattle.chess_types.specs.board.MoveParts.{MoveParts}
-use Rattle.chess_types.specs.board.Position.{State, IsWellFormed, look}
+use Rattle.chess_types.specs.board.Position.{PositionParts, IsWellFormed, man_on}
 use Rattle.chess_types.specs.board.After.{after}
 use Rattle.chess_types.specs.board.Legal.{is_legal}
 use Rattle.chess_types.specs.board.Lines.{play}
@@ -13,12 +13,12 @@ use Rattle.chess_types.specs.board.Repetition.{counting_target}
 use Rattle.chess_play.specs.LiveParts.{LiveParts}
 use Rattle.chess_play.specs.Records.{record_of}
 use Rattle.chess_draws.specs.declared.ply.Ply.{Ply}
-use Rattle.chess_draws.specs.declared.stand.Stand.{Stand}
-use Rattle.chess_draws.specs.steps.Stands.{IsMenOf, IsStandOf}
+use Rattle.chess_draws.specs.declared.repetition_key.RepetitionKey.{RepetitionKey}
+use Rattle.chess_draws.specs.steps.RepetitionKeys.{IsMenOf, IsKeyOf}
 
 -- the ply is that of a legal move in the position, between squares of the board
-pub record IsPly (p : State) (ply : Ply) : Type 0 where
-  pub men : IsMenOf ply.men (look p)
+pub record IsPly (p : PositionParts) (ply : Ply) : Type 0 where
+  pub men : IsMenOf ply.men (man_on p)
   pub side : ply.side ≡ p.side
   pub target : ply.target ≡ counting_target p
   pub past : ply.past ≡ record_of p ply.past.played
@@ -27,7 +27,7 @@ pub record IsPly (p : State) (ply : Ply) : Type 0 where
   pub legal : is_legal p ply.past.played ≡ true
 
 -- each ply is that of a move in the position to which the plies before it lead
-abbrev pub ArePlies : State → List Ply → Type 0
+abbrev pub ArePlies : PositionParts → List Ply → Type 0
 ArePlies p [] = ⊤
 ArePlies p (ply ∷ plies) = IsPly p ply × ArePlies (after p ply.past.played) plies
 
@@ -37,16 +37,16 @@ move_of ply = ply.past.played
 
 -- the position in which the line begins is well formed, with the counters of a FEN; each ply has a legal move; what is kept of
 -- the last position is that after all of them
-pub record IsLine (start : State) (plies : List Ply) (live : LiveParts) (here : Stand) : Type 0 where
+pub record IsLine (start : PositionParts) (plies : List Ply) (live : LiveParts) (here : RepetitionKey) : Type 0 where
   pub well_formed : IsWellFormed start
   pub clock : start.clock ≤ 99999
   pub number : start.number ≤ 99999
   pub are_plies : ArePlies start plies
   pub last_is : live.position ≡ play start (map move_of plies)
-  pub here_is : IsStandOf here live.position
+  pub here_is : IsKeyOf here live.position
 
 -- at most 20,000 plies, and at most 16 more that are only looked at
-pub record IsHeld (start : State) (plies looked : List Ply) (live : LiveParts) (here : Stand) : Type 0 where
+pub record IsHeld (start : PositionParts) (plies looked : List Ply) (live : LiveParts) (here : RepetitionKey) : Type 0 where
   pub line : IsLine start (plies ++ looked) live here
   pub few : length plies ≤ 20000
   pub ahead : length looked ≤ 16

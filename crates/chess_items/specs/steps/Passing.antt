@@ -3,7 +3,7 @@
 --   Passes    items are taken, or the text was white
 --   PassBreaks  some are, and then there was no memory, or a read broke off
 use Rattle.std.specs.Prelude.{◌≡◌, ℕ, ◌⊎◌, true, false, List, [], ◌++◌, Option, Some, None, Result, Ok, Err}
-use Rattle.chess_types.specs.bytes.Calls.{Calls, joined}
+use Rattle.byte_streams.specs.Calls.{Calls, joined}
 use Rattle.chess_items.specs.Items.{Item}
 use Rattle.chess_items.specs.steps.Skipping.{column_at, white_after}
 use Rattle.chess_items.specs.steps.Taking.{TakesOne, SpellsFrom, all_white, Ran, RunBroke}

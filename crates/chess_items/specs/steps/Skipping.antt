@@ -3,7 +3,7 @@
 --   Skips        reads, until something else comes or the text has ended
 use Rattle.std.specs.Prelude.{◌≡◌, ℕ, ◌==◌, if◌then◌else◌, Bool, true, false, List, [], ◌∷◌, ◌++◌, Option, Some, None, is_some, Result, Ok, Err}
 use Rattle.std.specs.Str.{byte}
-use Rattle.chess_types.specs.bytes.Calls.{Calls, joined}
+use Rattle.byte_streams.specs.Calls.{Calls, joined}
 use Rattle.chess_items.specs.Items.{is_blank, starts_line}
 use Rattle.chess_items.specs.declared.at_hand.Fault.{Fault}
 use Rattle.chess_items.specs.declared.blanks.Column.{Column}

@@ -9,7 +9,7 @@
 --   BreaksAt    either
 --   Oversized   no item within so many bytes, and that there is none isn't decided by one byte more
 use Rattle.std.specs.Prelude.{◌≡◌, ℕ, ◌+◌, ◌≤◌, ◌<◌, ◌⊎◌, Bool, true, false, List, [], ◌++◌, length, take, MatchOption, Result, Ok, Err}
-use Rattle.chess_types.specs.bytes.Calls.{Calls, joined}
+use Rattle.byte_streams.specs.Calls.{Calls, joined}
 use Rattle.chess_items.specs.steps.Deciding.{Decides}
 use Rattle.chess_items.specs.steps.ItemAt.{item_at}
 use Rattle.chess_items.specs.declared.at_hand.Fault.{Fault}

@@ -1,13 +1,13 @@
--- A line that is read in pieces, and the lines that end in a piece, for any engine.
+-- A line that is read in pieces, and the lines that end in a piece, for any handler.
 --   Holds         these are the bytes of the line so far
 --   AnswersLine   a line is answered, or answering it is broken off, since a call of the sink failed
---   Feeds         the lines that end in a piece are answered, up to one after which the engine takes no more; the rest of the piece is kept
+--   Feeds         the lines that end in a piece are answered, up to one after which the handler takes no more; the rest of the piece is kept
 --   Finishes      the last line is answered, if there is one
 use Rattle.std.specs.Prelude.{◌≡◌, ℕ, ◌<◌, ◌≤◌, ◌+◌, min, Bool, true, false, ◌⊎◌, List, [], length, Result, Ok, Err}
 use Rattle.chess_loop.specs.Runs.{Runs, Counted, Partly, Whole}
 use Rattle.chess_loop.specs.InputLines.{line_limit, line_room}
 use Rattle.chess_loop.specs.RunEnds.{Broken, IsFront}
-use Rattle.chess_loop.specs.InputLines.{ended_lines, last_line, unfinished}
+use Rattle.chess_loop.specs.InputLines.{ended_lines, last_line, line_buffer}
 use Rattle.chess_loop.specs.steps.LineSoFar.{LineSoFar}
 use Rattle.chess_loop.specs.steps.Sending.{Sent, SendsParts}
 
@@ -32,7 +32,7 @@ module _ {S W : Type 0} (step cut : S → List ℕ → List (List ℕ) → S →
     pub front : IsFront lines (ended_lines begun piece)
     pub runs : Runs (Counted step) (old, 0) lines text (new, most)
     pub late : length page ≤ most
-    pub rest : (over new ≡ true) ⊎ ((over new ≡ false) × (lines ≡ ended_lines begun piece) × Holds line (unfinished begun piece))
+    pub rest : (over new ≡ true) ⊎ ((over new ≡ false) × (lines ≡ ended_lines begun piece) × Holds line (line_buffer begun piece))
 
   pub record FedPartly (begun piece : List ℕ) (old new : S) (text rest : List ℕ) : Type 0 where
     pub lines : List (List ℕ)

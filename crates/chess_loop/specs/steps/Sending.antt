@@ -4,7 +4,7 @@
 --   Sends        whatever was sent before, this text is sent after it, or a call failed
 --   SendsParts   what is on the page and these parts after it are sent, and no more is left on the page than may be unwritten; or a call failed
 use Rattle.std.specs.Prelude.{◌≡◌, ℕ, ◌≤◌, Bool, List, ◌++◌, length, Result, Ok, Err}
-use Rattle.chess_types.specs.bytes.Calls.{Carries, joined}
+use Rattle.byte_streams.specs.Calls.{Carries, joined}
 use Rattle.chess_loop.specs.Runs.{unwritten}
 use Rattle.chess_loop.specs.RunEnds.{Broken}
 

@@ -6,22 +6,22 @@ use Rattle.chess_types.specs.declared.board.axis.Axis.TheVariants.{Rank, File, R
 use Rattle.chess_types.specs.board.Squares.{on_axis}
 use Rattle.chess_types.specs.board.Men.{is_king_of, opponent}
 use Rattle.chess_types.specs.board.Attack.{is_attacked}
-use Rattle.chess_types.specs.board.Position.{State, look}
+use Rattle.chess_types.specs.board.Position.{PositionParts, man_on}
 use Rattle.chess_attack.specs.Pins.{is_pinned, permits}
 use Rattle.chess_attack.specs.steps.PinHalves.{round, shaded_on}
-use Rattle.chess_moves.specs.declared.guard.Guard.{Guard}
+use Rattle.chess_moves.specs.declared.guard.CheckInfo.{CheckInfo}
 
 -- what decides which moves leave the mover's king unattacked
-pub record IsGuard (guard : Guard) (p : State) : Type 0 where
+pub record IsGuard (guard : CheckInfo) (p : PositionParts) : Type 0 where
   pub on_board : guard.king < 64
-  pub king : is_king_of p.side (look p guard.king) ≡ true
-  pub stopping : (to : ℕ) → to < 64 → contains guard.stopping to ≡ permits (look p) p.side guard.king to
-  pub shade : (to : ℕ) → to < 64 → contains guard.shade to ≡ round (shaded_on (look p) p.side guard.king to)
-  pub pinned : (s : ℕ) → s < 64 → contains guard.pinned s ≡ is_pinned (look p) p.side s
+  pub king : is_king_of p.side (man_on p guard.king) ≡ true
+  pub check_mask : (to : ℕ) → to < 64 → contains guard.check_mask to ≡ permits (man_on p) p.side guard.king to
+  pub xray_squares : (to : ℕ) → to < 64 → contains guard.xray_squares to ≡ round (shaded_on (man_on p) p.side guard.king to)
+  pub pinned : (s : ℕ) → s < 64 → contains guard.pinned s ≡ is_pinned (man_on p) p.side s
 
 -- the king isn't attacked on the square to which he steps from his own: the other side doesn't attack it now, and it has no shade
-abbrev pub is_safe_step : State → ℕ → ℕ → Bool
-is_safe_step p king to = not (is_attacked (look p) (opponent p.side) to) && not (round (shaded_on (look p) p.side king to))
+abbrev pub is_safe_step : PositionParts → ℕ → ℕ → Bool
+is_safe_step p king to = not (is_attacked (man_on p) (opponent p.side) to) && not (round (shaded_on (man_on p) p.side king to))
 
 -- both squares are on one rank, one file or one diagonal
 unfoldable pub in_line : ℕ → ℕ → Bool

@@ -18,7 +18,7 @@ use Rattle.chess_types.specs.board.Men.{is_pawn}
 use Rattle.chess_types.specs.board.Attack.{attacks_as, leaps}
 use Rattle.chess_types.specs.board.MoveParts.{MoveParts}
 use Rattle.chess_types.specs.board.Texts.{names_promotion}
-use Rattle.chess_types.specs.board.Position.{State, look}
+use Rattle.chess_types.specs.board.Position.{PositionParts, man_on}
 use Rattle.chess_types.specs.board.Pseudo.{last_rank, reached, is_capturable, is_target, steps_one, steps_two, pawn_takes, moves_as_it_attacks, castles}
 use Rattle.chess_types.specs.board.Legal.{is_legal}
 
@@ -32,11 +32,11 @@ is_forward White by a b = b == a + by
 is_forward Black by a b = a == b + by
 
 -- a man of the side and the kind attacks b from a
-abbrev pub attacks_from : State → Kind → ℕ → ℕ → Bool
-attacks_from p kind a b = attacks_as (record { colour = p.side; kind = kind }) (look p) a b
+abbrev pub attacks_from : PositionParts → Kind → ℕ → ℕ → Bool
+attacks_from p kind a b = attacks_as (record { colour = p.side; kind = kind }) (man_on p) a b
 
 -- a square that a man of the kind might go to
-unfoldable pub is_candidate : State → Kind → ℕ → ℕ → Bool
+unfoldable pub is_candidate : PositionParts → Kind → ℕ → ℕ → Bool
 is_candidate p Pawn a b = attacks_from p Pawn a b || is_forward p.side 8 a b || is_forward p.side 16 a b
 is_candidate p Knight a b = attacks_from p Knight a b
 is_candidate p Bishop a b = attacks_from p Bishop a b
@@ -45,7 +45,7 @@ is_candidate p Queen a b = attacks_from p Queen a b
 is_candidate p King a b = attacks_from p King a b || reached p.side KingSide == b || reached p.side QueenSide == b
 
 -- a square that a man of the kind may go to, but for his king
-unfoldable pub is_pseudo_target : State → Kind → ℕ → ℕ → Bool
+unfoldable pub is_pseudo_target : PositionParts → Kind → ℕ → ℕ → Bool
 is_pseudo_target p Pawn a b = steps_one p (move_to a b None) || steps_two p (move_to a b None) || pawn_takes p (move_to a b None)
 is_pseudo_target p Knight a b = moves_as_it_attacks p Knight (move_to a b None)
 is_pseudo_target p Bishop a b = moves_as_it_attacks p Bishop (move_to a b None)
@@ -54,14 +54,14 @@ is_pseudo_target p Queen a b = moves_as_it_attacks p Queen (move_to a b None)
 is_pseudo_target p King a b = moves_as_it_attacks p King (move_to a b None) || castles p KingSide (move_to a b None) || castles p QueenSide (move_to a b None)
 
 -- the same, en passant and castling aside
-unfoldable pub is_plain_target : State → Kind → ℕ → ℕ → Bool
+unfoldable pub is_plain_target : PositionParts → Kind → ℕ → ℕ → Bool
 is_plain_target p kind a b =
     if is_pawn kind
-    then (steps_one p (move_to a b None) || steps_two p (move_to a b None)) || (leaps p.side Pawn a b && is_capturable p.side (look p b))
+    then (steps_one p (move_to a b None) || steps_two p (move_to a b None)) || (leaps p.side Pawn a b && is_capturable p.side (man_on p b))
     else moves_as_it_attacks p kind (move_to a b None)
 
 -- a pawn goes to the en passant target
-abbrev pub is_passing_target : State → ℕ → ℕ → Bool
+abbrev pub is_passing_target : PositionParts → ℕ → ℕ → Bool
 is_passing_target p a b = leaps p.side Pawn a b && is_target p.target b
 
 -- a pawn comes to its last rank
@@ -85,5 +85,5 @@ abbrev pub moves_named : Colour → Kind → ℕ → ℕ → List MoveParts
 moves_named side kind from to = if promotes side kind to then promotions_between from to else (move_to from to None ∷ [])
 
 -- the man's move there is legal: one that names nothing, or a queen where it promotes
-unfoldable pub is_legal_target : State → Kind → ℕ → ℕ → Bool
+unfoldable pub is_legal_target : PositionParts → Kind → ℕ → ℕ → Bool
 is_legal_target p kind from to = is_legal p (move_to from to (if promotes p.side kind to then Some Queen else None))

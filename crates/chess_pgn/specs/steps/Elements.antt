@@ -2,7 +2,7 @@
 --   Frame   a line that a variation interrupts
 --   run     what the elements from a moment on give: the comment before the first move, and the moves
 use Rattle.std.specs.Prelude.{ℕ, List, [], ◌∷◌, ◌++◌, Option, Some, None}
-use Rattle.chess_types.specs.board.Position.{State}
+use Rattle.chess_types.specs.board.Position.{PositionParts}
 use Rattle.chess_types.specs.board.After.{after}
 use Rattle.chess_tree.specs.Forest.{Forest, below_at, count}
 use Rattle.chess_pgn.specs.Grammar.{Element, Number, Annotation, Remark, Open, Close, Text, comments_joined, move_in, ◌>>=◌}
@@ -12,8 +12,8 @@ use Rattle.chess_pgn.specs.steps.Hanging.{hang, leaf, nag, say}
 pub record Frame : Type 0 where
   pub up : List ℕ
   pub place : ℕ
-  pub before : State
-  pub here : State
+  pub before : PositionParts
+  pub here : PositionParts
   pub lead : List ℕ
 
 abbrev pub path_of : Frame → List ℕ
@@ -21,7 +21,7 @@ path_of x = x.up ++ x.place ∷ []
 
 -- the last move of a line, by its place and the position before it
 abbrev pub Last : Type 0
-Last = Option (ℕ × State)
+Last = Option (ℕ × PositionParts)
 
 abbrev pub last_of : Frame → Last
 last_of x = Some (x.place, x.before)
@@ -31,13 +31,13 @@ abbrev pub end_of : List ℕ → Last → List ℕ
 end_of up None = up
 end_of up (Some x) = up ++ x.0 ∷ []
 
-abbrev pub before_of : Last → Option State
+abbrev pub before_of : Last → Option PositionParts
 before_of None = None
 before_of (Some x) = Some x.1
 
 -- The comment before the first move, the moves, the path to the parent of the last move, that move, the position here, its comments, and the
 -- open lines.
-abbrev pub run : List Element → List ℕ → Forest → List ℕ → Last → State → List ℕ → List Frame → Option (List ℕ × Forest)
+abbrev pub run : List Element → List ℕ → Forest → List ℕ → Last → PositionParts → List ℕ → List Frame → Option (List ℕ × Forest)
 run [] c f up None here lead [] = Some (comments_joined c lead, f)
 run [] c f up (Some x) here lead [] = Some (c, hang (up ++ x.0 ∷ []) (say lead) f)
 run [] c f up last here lead (x ∷ xs) = None

@@ -10,7 +10,7 @@
 --   IsFault    a read broke off, or there was no memory, or no game is there
 --   TakesGame  what becomes of a text of which one game is taken
 use Rattle.std.specs.Prelude.{◌≡◌, ◌⊎◌, ◌≤◌, ℕ, List, [], ◌++◌, length, Option, Some, None, Result, Ok, Err}
-use Rattle.chess_types.specs.bytes.Calls.{Calls, joined}
+use Rattle.byte_streams.specs.Calls.{Calls, joined}
 use Rattle.chess_items.specs.declared.fault.FaultKind.TheVariants.{Memory}
 use Rattle.chess_pgn.specs.Reading.{HasNoGame, HasNoGameYet, IsAtFront, IsWhite}
 use Rattle.chess_pgn.specs.steps.GameCode.{game_of}

@@ -7,12 +7,12 @@
 --   HasTaken   it has taken these items
 --   HasFound   the tags that it has read are a game's
 use Rattle.std.specs.Prelude.{◌≡◌, ℕ, ◌&&◌, if◌then◌else◌, Bool, true, false, List, [], ◌∷◌, ◌++◌, Option, Some, None, is_none, Result, Ok, Err, codes, bytes_eq}
-use Rattle.chess_types.specs.board.Position.{State}
+use Rattle.chess_types.specs.board.Position.{PositionParts}
 use Rattle.chess_items.specs.Items as items
 use Rattle.chess_items.specs.Items.{Item}
 use Rattle.chess_items.specs.declared.fault.FaultKind.TheVariants.{Fen, Tag}
 use Rattle.chess_items.specs.declared.fault.PgnFault.{PgnFault}
-use Rattle.chess_fen.specs.Reading.{reading}
+use Rattle.chess_fen.specs.Reading.{fen_reading}
 use Rattle.chess_fen.specs.declared.fault.FenFault.{FenFault}
 use Rattle.chess_pgn.specs.Games.{tag_in}
 use Rattle.chess_pgn.specs.Grammar.{◌>>=◌}
@@ -142,11 +142,11 @@ fen_place old item = if ends_fen old.part item old.name.items old.found.tags the
 
 -- ---- the start
 
-abbrev pub start_read : ℕ → Result State FenFault → Result (Option State) PgnFault
+abbrev pub start_read : ℕ → Result PositionParts FenFault → Result (Option PositionParts) PgnFault
 start_read at (Ok p) = Ok (Some p)
 start_read at (Err fault) = Err (record { place = at; kind = Fen })
 
 -- where the bracket of the FEN's tag stands there
-abbrev pub start_told : ℕ → Option (List ℕ) → Result (Option State) PgnFault
+abbrev pub start_told : ℕ → Option (List ℕ) → Result (Option PositionParts) PgnFault
 start_told at None = Ok None
-start_told at (Some fen) = start_read at (reading fen)
+start_told at (Some fen) = start_read at (fen_reading fen)

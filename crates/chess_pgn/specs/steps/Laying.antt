@@ -1,7 +1,7 @@
 -- A text that is laid in lines byte by byte.
 use Rattle.std.specs.Prelude.{◌≡◌, ℕ, List, [], ◌∷◌, ◌++◌, length, codes}
 use Rattle.std.specs.Str.{byte}
-use Rattle.chess_types.specs.bytes.Words.{words_from}
+use Rattle.byte_streams.specs.Words.{words_from}
 use Rattle.chess_pgn.specs.Layout.{lay}
 
 -- After `before`, and an empty line, the text so far is laid in lines, but for a word that has begun, after a space: that line

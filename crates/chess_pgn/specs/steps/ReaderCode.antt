@@ -10,7 +10,7 @@
 --   Answered  the game where the reading has stopped; Unanswered, a fault there
 --   Finishes, EndsReading  the reader is brought to where its game has ended
 use Rattle.std.specs.Prelude.{◌≡◌, ◌≢◌, ◌⊎◌, ℕ, Bool, true, false, List, [], Option, Some, None, Result, Ok, Err, ⊤}
-use Rattle.chess_types.specs.board.Position.{State, start}
+use Rattle.chess_types.specs.board.Position.{PositionParts, start}
 use Rattle.chess_items.specs.Items as items
 use Rattle.chess_items.specs.Items.{Item}
 use Rattle.chess_items.specs.declared.fault.FaultKind.{FaultKind}
@@ -91,13 +91,13 @@ TakesPart item old new = HeadsOn item old new ⊎ ((may_part_tags item ≡ true)
 pub record Headed {A : Type 0} (item : Item) (old new : Reader A) : Type 0 where
   pub heading : is_heading item ≡ true
   pub tags : TakesPart item old.header new.header
-  pub lead : (start : State) (lead : List ℕ) → Stands old.moves (fresh start lead) → Stands new.moves (fresh start (lead_after lead item))
+  pub lead : (start : PositionParts) (lead : List ℕ) → Stands old.moves (fresh start lead) → Stands new.moves (fresh start (lead_after lead item))
   pub moving : new.moving ≡ old.moving
   pub outcome : new.outcome ≡ old.outcome
 
 -- in the position that the tags give, where it was to begin in the usual one
 abbrev pub BeginsIn : {A : Type 0} → List (List ℕ × List ℕ) → Moves A → Moves A → Type 0
-BeginsIn read old new = (first : State) × (start_in read ≡ Some first) × ((lead : List ℕ) → Stands old (fresh start lead) → Stands new (fresh first lead))
+BeginsIn read old new = (first : PositionParts) × (start_in read ≡ Some first) × ((lead : List ℕ) → Stands old (fresh start lead) → Stands new (fresh first lead))
 
 pub record BeginsMoves {A : Type 0} (old new : Reader A) : Type 0 where
   pub outside : is_begun old.header.part ≡ false

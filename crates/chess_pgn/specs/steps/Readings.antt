@@ -11,7 +11,7 @@
 --   AtLimit     no move can be added at the cursor
 --   RefusesElements  so it is, by the kind of the fault, unless there was no memory
 use Rattle.std.specs.Prelude.{◌≡◌, ◌⊎◌, ◌<◌, ◌≤◌, ℕ, Bool, true, false, is_some, List, [], ◌∷◌, ◌++◌, length, reverse, Option, Some, None, IfSome, ⊤}
-use Rattle.chess_types.specs.board.Position.{State}
+use Rattle.chess_types.specs.board.Position.{PositionParts}
 use Rattle.chess_types.specs.board.Lines.{last}
 use Rattle.chess_items.specs.declared.fault.FaultKind.{FaultKind}
 use Rattle.chess_items.specs.declared.fault.FaultKind.TheVariants.{Memory, TooLarge}
@@ -26,12 +26,12 @@ use Rattle.chess_pgn.specs.declared.reader.moves.Interrupted.{Interrupted}
 use Rattle.chess_pgn.specs.declared.reader.moves.Moves.{Moves}
 
 pub record Reading : Type 0 where
-  pub start : State
+  pub start : PositionParts
   pub comment : List ℕ
   pub forest : Forest
   pub up : List ℕ
   pub last_move : Last
-  pub here : State
+  pub here : PositionParts
   pub lead : List ℕ
   pub interrupted : List Frame
 
@@ -74,15 +74,15 @@ Pends texts (x ∷ xs) (i ∷ is) =
 -- ---- places
 
 -- the position after the moves on the way to a place
-abbrev pub position_at : State → Forest → List ℕ → State
+abbrev pub position_at : PositionParts → Forest → List ℕ → PositionParts
 position_at start f path = last (record { start = start; moves = moves_along path f })
 
-pub record IsFrame (start : State) (f : Forest) (x : Frame) : Type 0 where
+pub record IsFrame (start : PositionParts) (f : Forest) (x : Frame) : Type 0 where
   pub there : Leads (path_of x) f
   pub here : x.here ≡ position_at start f (path_of x)
   pub before : x.before ≡ position_at start f x.up
 
-abbrev pub AreFrames : State → Forest → List Frame → Type 0
+abbrev pub AreFrames : PositionParts → Forest → List Frame → Type 0
 AreFrames start f [] = ⊤
 AreFrames start f (x ∷ xs) = IsFrame start f x × AreFrames start f xs
 
@@ -160,9 +160,9 @@ IsRead moves t =
     (s : Reading) → Stands moves s → moves.interrupted.items ≡ []
     → (goes_on [] s ≡ Some (t.tree.comment, t.tree.below)) × (t.tree.start ≡ s.start) × (t.path ≡ [])
 
-abbrev pub fresh : State → List ℕ → Reading
+abbrev pub fresh : PositionParts → List ℕ → Reading
 fresh start lead = record { start = start; comment = []; forest = Bare; up = []; last_move = None; here = start; lead = lead; interrupted = [] }
 
 -- a comment before any movetext
 abbrev pub IsLed : {A : Type 0} → List ℕ → Moves A → Moves A → Type 0
-IsLed text old new = (start : State) (lead : List ℕ) → Stands old (fresh start lead) → Stands new (fresh start (comments_joined lead text))
+IsLed text old new = (start : PositionParts) (lead : List ℕ) → Stands old (fresh start lead) → Stands new (fresh start (comments_joined lead text))

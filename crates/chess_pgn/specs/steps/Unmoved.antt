@@ -3,13 +3,13 @@
 --   parts_so_far   so it is before an analysis has begun; afterwards it is the analysis's
 use Rattle.std.specs.Prelude.{[], Option, Some, None}
 use Rattle.std.specs.declared.boxed.Box.{Box}
-use Rattle.chess_types.specs.board.Position.{State}
+use Rattle.chess_types.specs.board.Position.{PositionParts}
 use Rattle.chess_tree.specs.Forest.{Bare}
 use Rattle.chess_tree.specs.GameTree.{TreeParts}
 
-abbrev pub unmoved : State → TreeParts
+abbrev pub unmoved : PositionParts → TreeParts
 unmoved start = record { tree = record { start = start; comment = []; below = Bare }; path = [] }
 
-abbrev pub parts_so_far : {Z : Type 0} → State → Option (Box TreeParts Z) → TreeParts
+abbrev pub parts_so_far : {Z : Type 0} → PositionParts → Option (Box TreeParts Z) → TreeParts
 parts_so_far start None = unmoved start
 parts_so_far start (Some analysis) = analysis.value

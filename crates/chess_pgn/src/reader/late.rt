@@ -1,7 +1,8 @@
-ghost use Rattle.std.specs.Prelude.{◌≡◌, ◌<◌, ◌≤◌, ◌++◌, ◌∷◌, [], IfErr, IfOk, IsTrue, MatchResult, None, OnOk, length, slice_get, take, true};
+ghost use Rattle.std.specs.Prelude.{◌≡◌, ◌<◌, ◌≤◌, ◌++◌, ◌∷◌, [], IfErr, IfOk, IsTrue, MatchResult, None, Ok, OnOk, length, slice_get, take, true};
+ghost use Rattle.chess_types.specs.board.Position as position;
 ghost use Rattle.chess_types.specs.board.Legal.{is_legal};
 ghost use Rattle.chess_types.specs.board.Lines.{extended, last};
-ghost use Rattle.chess_san.specs.Naming.{reading};
+ghost use Rattle.chess_san.specs.Naming.{san_reading};
 ghost use Rattle.chess_tree.specs.Comments.{normalised};
 ghost use Rattle.chess_tree.specs.Edits.{parent};
 ghost use Rattle.chess_tree.specs.Forest.{count};
@@ -9,15 +10,19 @@ ghost use Rattle.chess_tree.specs.GameTree.{added, annotated_here, at_path, comm
 ghost use Rattle.chess_tree.specs.Plays.{IsAnswer, add_answer};
 ghost use Rattle.chess_tree.specs.WellFormed.{IsGameTree};
 ghost use Rattle.chess_tree.specs.declared.fault.TreeFault.TheVariants.{AtRoot, NoSuch};
+ghost use Rattle.chess_pgn.specs.steps.KnownTexts.{known_line};
 ghost use Rattle.chess_pgn.specs.steps.Readings.{said_here};
 ghost use Rattle.chess_pgn.specs.steps.Unmoved.{parts_so_far, unmoved};
 
+use crate::plain::{before, marked};
+use crate::texts::Texts;
 use chess_key::KeyTable;
 use chess_san::SanFault;
 use chess_tree::{Analysis, PlayFault, Tree, TreeFault};
 use chess_types::{Move, Position};
 use std::alloc::{AllocError, Allocator};
 use std::marker::Model;
+use std::mem;
 
 /// An analysis that begins where the first move is read or the first comment is noted: a game without either costs its first position
 /// alone. Contracts see the tree and the path to the cursor.
@@ -28,6 +33,9 @@ pub struct Late<'a, 'k, A: Allocator> {
     /// Where the game begins.
     start: Position,
     begun: Option<Box<Analysis<'a, 'k, A>, &'a A>>,
+    /// The texts of the moves of the line to the cursor, as long as `follows` is true.
+    texts: Texts<'a, A>,
+    follows: bool,
 }
 
 impl<'a, 'k, A: Allocator> Model for Late<'a, 'k, A> {
@@ -42,7 +50,11 @@ impl<'a, 'k, A: Allocator> Model for Late<'a, 'k, A> {
 
     ghost view = { λ l. parts_so_far l.start l.begun };
 
-    ghost invariant = { λ l. (l.start.clock ≤ 99999) × (l.start.number ≤ 99999) };
+    ghost use Rattle.std.specs.Prelude.{◌≡◌, true};
+    ghost use Rattle.chess_tree.specs.GameTree.{line_to};
+    ghost use Rattle.chess_pgn.specs.steps.KnownTexts.{known_line};
+
+    ghost invariant = { λ l. (l.start.clock ≤ 99999) × (l.start.number ≤ 99999) × (l.follows ≡ true → line_to (parts_so_far l.start l.begun) ≡ known_line l.texts) };
 }
 
 // An analysis without a move. Apart from `begun`, whose frame is then small.
@@ -91,7 +103,7 @@ fn set_comment<'a, 'k, A: Allocator>(
     text: &[u8],
 ) -> Result<(), AllocError>
     ensures ok { OnOk result (analysis.new ≡ commented_here (normalised text.now) analysis.old) }
-    ensures line { OnOk result (line_to analysis.new ≡ line_to analysis.old) }
+    ensures line { line_to analysis.new ≡ line_to analysis.old }
 {
     match analysis.set_comment(text) {
         Ok(()) => Ok(()),
@@ -106,7 +118,7 @@ fn say<'a, 'k, A: Allocator>(
     text: &[u8],
 ) -> Result<(), AllocError>
     ensures said { OnOk result (analysis.new ≡ said_here (normalised text.now) analysis.old) }
-    ensures line { OnOk result (line_to analysis.new ≡ line_to analysis.old) }
+    ensures line { line_to analysis.new ≡ line_to analysis.old }
 {
     let said = analysis.tree().notes().comment;
     if said.is_empty() {
@@ -119,11 +131,36 @@ fn say<'a, 'k, A: Allocator>(
     set_comment(analysis, both.as_slice())
 }
 
+// Adds the legal move that a text names, and its text. The answer is that of the analysis, and whether the texts follow.
+fn add_known<'a, 'k, A: Allocator>(
+    analysis: &mut Analysis<'a, 'k, A>,
+    texts: &mut Texts<'a, A>,
+    m: Move,
+    read: &[u8],
+) -> (Result<(), PlayFault>, bool)
+    requires legal { IsTrue (is_legal (last (line_to analysis.old)) m) }
+    requires read { san_reading (last (line_to analysis.old)) read.now ≡ Ok m }
+    requires follows { line_to analysis.old ≡ known_line texts.old }
+    ensures answer { IsAnswer (add_answer analysis.old m) result.0 }
+    ensures ok { OnOk result.0 (analysis.new ≡ added m analysis.old) }
+    ensures line { OnOk result.0 (line_to analysis.new ≡ extended (line_to analysis.old) m) }
+    ensures follows { result.1 ≡ true → line_to analysis.new ≡ known_line texts.new }
+{
+    let (text, whole) = before(analysis, m, read);
+    if let Err(fault) = analysis.add_legal(m) {
+        return (Err(fault), false);
+    }
+    let text = marked(analysis, text, whole);
+    let follows = texts.add(m, text).is_ok();
+    (Ok(()), follows)
+}
+
 impl<'a, 'k, A: Allocator> Late<'a, 'k, A> {
     /// No move, from that position. Takes no memory.
-    pub fn new(alloc: &'a A, start: Position, table: &'k KeyTable) -> Late<'a, 'k, A>
+    pub fn new(alloc: &'a A, start: Position, table: &'k KeyTable, wanted: bool) -> Late<'a, 'k, A>
         requires clock { start.clock ≤ 99999 }
         requires number { start.number ≤ 99999 }
+        requires usual { start ≡ position.start }
         ensures { result ≡ unmoved start }
     {
         Late {
@@ -131,6 +168,8 @@ impl<'a, 'k, A: Allocator> Late<'a, 'k, A> {
             table,
             start,
             begun: None,
+            texts: Texts::new(alloc),
+            follows: wanted,
         }
     }
 
@@ -142,11 +181,12 @@ impl<'a, 'k, A: Allocator> Late<'a, 'k, A> {
     {
         self.start = start;
         self.begun = None;
+        self.follows = false;
     }
 
     /// The legal move at the cursor that a text names.
     pub fn read_move(&mut self, text: &[u8]) -> Result<Result<Move, SanFault>, AllocError>
-        ensures value { IfOk result (λ found. found ≡ reading (last (line_to self.old)) text.now) }
+        ensures value { IfOk result (λ found. found ≡ san_reading (last (line_to self.old)) text.now) }
         ensures legal { IfOk result (λ found. IfOk found (λ m. is_legal (last (line_to self.old)) m ≡ true)) }
         ensures as_before { self.new ≡ self.old }
     {
@@ -156,9 +196,10 @@ impl<'a, 'k, A: Allocator> Late<'a, 'k, A> {
         Ok(found)
     }
 
-    /// Adds a legal move at the cursor, and steps into it.
-    pub fn add_legal(&mut self, m: Move) -> Result<(), PlayFault>
+    /// Adds the legal move at the cursor that a text names, and steps into it.
+    pub fn add_legal(&mut self, m: Move, read: &[u8]) -> Result<(), PlayFault>
         requires legal { IsTrue (is_legal (last (line_to self.old)) m) }
+        requires read { san_reading (last (line_to self.old)) read.now ≡ Ok m }
         ensures answer { IsAnswer (add_answer self.old m) result }
         ensures ok { OnOk result (self.new ≡ added m self.old) }
         ensures line { OnOk result (line_to self.new ≡ extended (line_to self.old) m) }
@@ -166,9 +207,22 @@ impl<'a, 'k, A: Allocator> Late<'a, 'k, A> {
         let Ok(mut analysis) = begun(self.alloc, self.table, &self.start, self.begun.take()) else {
             return Err(PlayFault::Memory);
         };
-        let added = analysis.add_legal(m);
+        let (added, follows) = if self.follows {
+            add_known(&mut analysis, &mut self.texts, m, read)
+        } else {
+            (analysis.add_legal(m), false)
+        };
+        self.follows = follows;
         self.begun = Some(analysis);
         added
+    }
+
+    /// The texts of the moves of the line to the cursor, as far as they are known. They are forgotten.
+    pub fn take_texts(&mut self) -> Texts<'a, A>
+        ensures { self.new ≡ self.old }
+    {
+        self.follows = false;
+        mem::replace(&mut self.texts, Texts::new(self.alloc))
     }
 
     /// Adds a comment after the one at the cursor.
@@ -220,6 +274,7 @@ impl<'a, 'k, A: Allocator> Late<'a, 'k, A> {
         ensures ok { OnOk result (self.new ≡ at_path (parent self.old.path) self.old) }
         ensures at_root { MatchResult result (λ _. 0 < length self.old.path) (λ fault. (fault ≡ AtRoot) × (self.old.path ≡ [])) }
     {
+        self.follows = false;
         match &mut self.begun {
             Some(analysis) => analysis.back(),
             None => Err(TreeFault::AtRoot),
@@ -230,6 +285,7 @@ impl<'a, 'k, A: Allocator> Late<'a, 'k, A> {
     pub fn back_to(&mut self, depth: u32)
         ensures { self.new ≡ at_path (take depth self.old.path) self.old }
     {
+        self.follows = false;
         if let Some(analysis) = &mut self.begun {
             analysis.back_to(depth);
         }
@@ -240,6 +296,7 @@ impl<'a, 'k, A: Allocator> Late<'a, 'k, A> {
         ensures ok { OnOk result (self.new ≡ at_path (self.old.path ++ place ∷ []) self.old) }
         ensures no_such { MatchResult result (λ _. place < count (nodes_here self.old)) (λ fault. (fault ≡ NoSuch) × (count (nodes_here self.old) ≤ place)) }
     {
+        self.follows = false;
         match &mut self.begun {
             Some(analysis) => analysis.step(place),
             None => Err(TreeFault::NoSuch),
@@ -256,6 +313,8 @@ impl<'a, 'k, A: Allocator> Late<'a, 'k, A> {
             table: _,
             start,
             begun,
+            texts: _,
+            follows: _,
         } = self;
         if let Some(analysis) = begun {
             return Ok(Box::into_inner(analysis).into_tree());

@@ -1,8 +1,10 @@
-ghost use Rattle.std.specs.Prelude.{◌≡◌, ◌<◌, ◌≤◌, if◌then◌else◌, ◌||◌, not, ◌++◌, ◌∷◌, [], List, ℕ, drop, take, length, map, min, true, IfErr, IfOk, IsTrue, OnOk};
-ghost use Rattle.chess_types.specs.board.Position.{State};
+ghost use Rattle.std.specs.Prelude.{◌≡◌, ◌<◌, ◌≤◌, if◌then◌else◌, ◌||◌, not, ◌++◌, ◌∷◌, [], List, ℕ, drop, take, length, map, min, true, Ok, IfErr, IfOk, IsTrue, OnOk};
+ghost use Rattle.chess_types.specs.board.Position as position;
+ghost use Rattle.chess_types.specs.board.Position.{PositionParts};
 ghost use Rattle.chess_types.specs.board.Legal.{is_legal};
 ghost use Rattle.chess_types.specs.board.Lines.{extended, last};
 ghost use Rattle.chess_items.specs.Items.{without_brace};
+ghost use Rattle.chess_san.specs.Naming.{san_reading};
 ghost use Rattle.chess_tree.specs.Comments.{normalised};
 ghost use Rattle.chess_tree.specs.Forest.{below_at, count};
 ghost use Rattle.chess_tree.specs.GameTree.{added, at_path, commented_here, line_to};
@@ -11,6 +13,7 @@ ghost use Rattle.chess_pgn.specs.Grammar as grammar;
 ghost use Rattle.chess_pgn.specs.steps.Readings.{IsRead, IsLed, IsRoomFault, Stands, fresh, is_nil, said_here};
 
 use crate::reader::late::Late;
+use crate::texts::Texts;
 use chess_items::{FaultKind, PgnFault, at_place};
 use chess_key::KeyTable;
 use chess_tree::{PlayFault, Tree};
@@ -57,13 +60,14 @@ impl<'a, 'k, A: Allocator> Moves<'a, 'k, A> {
     ghost use Rattle.chess_pgn.specs.steps.Readings.{RefusesElements, StepsOn};
 
     /// No movetext, from that position. Takes no memory.
-    pub fn new(alloc: &'a A, start: Position, table: &'k KeyTable) -> Moves<'a, 'k, A>
+    pub fn new(alloc: &'a A, start: Position, table: &'k KeyTable, wanted: bool) -> Moves<'a, 'k, A>
         requires clock { start.clock ≤ 99999 }
         requires number { start.number ≤ 99999 }
+        requires usual { start ≡ position.start }
         ensures { Stands result (fresh start []) }
     {
         Moves {
-            analysis: Late::new(alloc, start, table),
+            analysis: Late::new(alloc, start, table, wanted),
             interrupted: Vec::new(alloc),
             played: false,
             comments: Vec::new(alloc),
@@ -75,7 +79,7 @@ impl<'a, 'k, A: Allocator> Moves<'a, 'k, A> {
     pub fn begin_in(&mut self, start: Position)
         requires clock { start.clock ≤ 99999 }
         requires number { start.number ≤ 99999 }
-        ensures { (first : State) (lead : List ℕ) → Stands self.old (fresh first lead) → Stands self.new (fresh start lead) }
+        ensures { (first : PositionParts) (lead : List ℕ) → Stands self.old (fresh first lead) → Stands self.new (fresh start lead) }
     {
         self.analysis.begin_in(start);
     }
@@ -150,9 +154,10 @@ impl<'a, 'k, A: Allocator> Moves<'a, 'k, A> {
         }
     }
 
-    // Adds a legal move at the cursor.
-    fn add(&mut self, at: usize, m: Move) -> Result<(), PgnFault>
+    // Adds the legal move at the cursor that a text names.
+    fn add(&mut self, at: usize, m: Move, read: &[u8]) -> Result<(), PgnFault>
         requires legal { IsTrue (is_legal (last (line_to self.old.analysis)) m) }
+        requires read { san_reading (last (line_to self.old.analysis)) read.now ≡ Ok m }
         ensures analysis { OnOk result (self.new.analysis ≡ added m self.old.analysis) }
         ensures line { OnOk result (line_to self.new.analysis ≡ extended (line_to self.old.analysis) m) }
         ensures comments { OnOk result (self.new.comments ≡ self.old.comments) }
@@ -161,7 +166,7 @@ impl<'a, 'k, A: Allocator> Moves<'a, 'k, A> {
         ensures interrupted { OnOk result (self.new.interrupted ≡ self.old.interrupted) }
         ensures room { IfErr result (λ fault. IsRoomFault fault.kind (is_legal (last (line_to self.old.analysis)) m) self.old.analysis) }
     {
-        match self.analysis.add_legal(m) {
+        match self.analysis.add_legal(m, read) {
             Ok(()) => {}
             Err(PlayFault::Memory) => return Err(AllocError.into()),
             Err(_) => return Err(at_place(at, FaultKind::TooLarge)),
@@ -186,7 +191,7 @@ impl<'a, 'k, A: Allocator> Moves<'a, 'k, A> {
             return Err(at_place(at, FaultKind::Move));
         };
         self.note_if(self.is_behind_move())?;
-        if let Err(fault) = self.add(at, m) {
+        if let Err(fault) = self.add(at, m, text) {
             return Err(fault);
         }
         Ok(())
@@ -242,6 +247,13 @@ impl<'a, 'k, A: Allocator> Moves<'a, 'k, A> {
         self.note_if(self.played)?;
         self.resume(line);
         Ok(())
+    }
+
+    /// The texts of the moves of the line that is being read, as far as they are known. They are forgotten.
+    pub fn take_texts(&mut self) -> Texts<'a, A>
+        ensures { self.new ≡ self.old }
+    {
+        self.analysis.take_texts()
     }
 
     /// The tree, with its cursor at the root.

@@ -2,9 +2,11 @@
 ghost use Rattle.std.specs.Prelude.{◌<◌};
 ghost use Rattle.chess_pgn.specs.Sources.{IsSound};
 
+use byte_streams::{FromBytes, Source};
 use chess_key::KeyTable;
-use chess_pgn::{FaultKind, Game, Games, GamesFault, PgnFault, read_game, write_game};
-use chess_types::{FromBytes, Source};
+use chess_pgn::{
+    FaultKind, Game, Games, GamesFault, PgnFault, Texts, read_game, write_game, write_game_with,
+};
 use std::alloc::{AllocError, Allocator};
 use std::process::Abort;
 
@@ -48,7 +50,8 @@ pub fn is_written<'a, A: Allocator>(alloc: &'a A, game: &Game<'a, A>, movetext: 
     }
 }
 
-/// Writes the export forms of the games that are left behind a text; the fault that ends them.
+/// Writes the export forms of the games that are left behind a text, a word with each that is another by the texts of moves that the
+/// reader has found out; the fault that ends them.
 fn export<'a, A: Allocator, R: Source>(
     alloc: &'a A,
     games: &mut Games<'a, R, A>,
@@ -60,14 +63,21 @@ fn export<'a, A: Allocator, R: Source>(
     if most == 0 {
         return Ok(None);
     }
-    match games.next() {
+    let mut texts = Texts::new(alloc);
+    match games.next_with(&mut texts) {
         Ok(None) => Ok(None),
         Err(fault) => Ok(Some(fault)),
         Ok(Some(game)) => {
             let Ok(written) = write_game(alloc, &game) else {
                 return Err(AllocError);
             };
+            let Ok(known) = write_game_with(alloc, &game, &texts) else {
+                return Err(AllocError);
+            };
             text.extend_from_slice(written.as_slice())?;
+            if known.as_slice() != written.as_slice() {
+                text.extend_from_slice(b"another")?;
+            }
             export(alloc, games, text, most - 1)
         }
     }

@@ -3,8 +3,8 @@ ghost use Rattle.std.specs.Prelude.{◌<◌};
 ghost use Rattle.chess_pgn.specs.Sources.{IsSound};
 
 use super::passing::Step::{End, Fault, Game, NextFails, PassFails, Passed};
+use byte_streams::{FromBytes, Source};
 use chess_pgn::{FaultKind, Games, GamesFault};
-use chess_types::{FromBytes, Source};
 use linked_list_allocator::LocalHeap;
 use std::alloc::Allocator;
 use std::process::Abort;

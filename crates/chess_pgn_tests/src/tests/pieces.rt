@@ -3,8 +3,8 @@ ghost use Rattle.std.specs.Prelude.{◌<◌};
 ghost use Rattle.chess_pgn.specs.Sources.{IsSound};
 
 use super::common::NO_MEMORY;
+use byte_streams::{FromBytes, Source};
 use chess_pgn::{FaultKind, Games, GamesFault, PgnFault, read_game};
-use chess_types::{FromBytes, Source};
 use linked_list_allocator::LocalHeap;
 use std::alloc::{AllocError, Allocator};
 use std::process::Abort;

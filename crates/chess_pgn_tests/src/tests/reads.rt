@@ -2,8 +2,8 @@ ghost use Rattle.std.specs.Prelude.{◌<◌};
 ghost use Rattle.chess_pgn.specs.Sources.{IsSound};
 
 use super::common::{first_game, is_written};
+use byte_streams::{FromBytes, Source};
 use chess_pgn::{FaultKind, Game, Games, GamesFault, PgnFault, read_game, write_game};
-use chess_types::{FromBytes, Source};
 use std::alloc::Allocator;
 use std::process::Abort;
 use std::test::Fail;

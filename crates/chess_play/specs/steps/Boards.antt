@@ -15,7 +15,7 @@ use Rattle.chess_types.specs.board.MoveParts.{MoveParts}
 use Rattle.chess_types.specs.board.Men.{men_of}
 use Rattle.chess_types.specs.board.Position.{rook_home}
 use Rattle.chess_types.specs.board.Pseudo.{crossed}
-use Rattle.chess_types.specs.board.After.{captured_at, arriving, is_castling, rook_of, with_rook}
+use Rattle.chess_types.specs.board.After.{captured_at, moved_man, is_castling, rook_of, with_rook}
 
 -- a man has gone from one square to another
 abbrev pub moved : ℕ → ℕ → Man → Board → Board
@@ -45,7 +45,7 @@ with_castled_back man m board =
 -- the captured man is taken, the man goes, the rook castles: with the target before the move
 abbrev pub carried_on : Option ℕ → Man → MoveParts → Board → Board
 carried_on target man m board =
-    with_castled man m (moved m.from m.to (arriving man m.promo) (remove board (captured_at target man m)))
+    with_castled man m (moved m.from m.to (moved_man man m.promo) (remove board (captured_at target man m)))
 
 -- the rook goes back, the man goes back, the captured man stands again
 abbrev pub carried_back : Option ℕ → Man → MoveParts → Option Man → Board → Board
@@ -74,8 +74,8 @@ CapturesOrCastles man m taken = (wing : Wing) → is_castling man wing m ≡ tru
 
 -- the men are where a move needs them
 pub record CanMake (target : Option ℕ) (man : Man) (m : MoveParts) (board : Board) : Type 0 where
-  pub man_goes : CanShift (remove board (captured_at target man m)) m.from m.to (arriving man m.promo)
-  pub rook_goes : CanCastle man m (moved m.from m.to (arriving man m.promo) (remove board (captured_at target man m)))
+  pub man_goes : CanShift (remove board (captured_at target man m)) m.from m.to (moved_man man m.promo)
+  pub rook_goes : CanCastle man m (moved m.from m.to (moved_man man m.promo) (remove board (captured_at target man m)))
   pub either : CapturesOrCastles man m (man_at board (captured_at target man m))
 
 -- the men are where taking a move back needs them

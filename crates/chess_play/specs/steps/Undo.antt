@@ -8,7 +8,7 @@ use Rattle.chess_types.specs.declared.board.man.Colour.TheVariants.{White, Black
 use Rattle.chess_types.specs.declared.board.man.Kind.{Kind}
 use Rattle.chess_types.specs.declared.board.man.Kind.TheVariants.{Pawn}
 use Rattle.chess_types.specs.declared.board.man.Man.{Man}
-use Rattle.chess_types.specs.board.Position.{State}
+use Rattle.chess_types.specs.board.Position.{PositionParts}
 use Rattle.chess_play.specs.steps.Boards.{carried_back}
 use Rattle.chess_play.specs.Records.{RecordParts}
 
@@ -24,7 +24,7 @@ number_before White number = number
 number_before Black number = number - 1
 
 -- the position before the move of the record, by this man
-abbrev pub before_by : State → RecordParts → Man → State
+abbrev pub before_by : PositionParts → RecordParts → Man → PositionParts
 before_by now kept man = record {
   placement = carried_back kept.target man kept.played kept.captured now.placement;
   side = man.colour;

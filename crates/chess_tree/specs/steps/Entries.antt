@@ -1,6 +1,6 @@
 -- The nodes of a tree as a list, and what is written into it.
 --   Entry        a node: its move, its parent's number, its place among the parent's children, and its own children's numbers
---   look         the node with a number
+--   entry_at     the node with a number
 --   leaf_entry   a node without children
 --   with_children, with_parent, with_place     a node with other children, another parent, another place
 --   moved_first  one of the children before the others
@@ -35,20 +35,20 @@ abbrev pub no_entry : Entry
 no_entry = leaf_entry no_move 0 0
 
 -- the node with a number
-abbrev pub look : List Entry → ℕ → Entry
-look nodes i = get_or nodes i no_entry
+abbrev pub entry_at : List Entry → ℕ → Entry
+entry_at nodes i = get_or nodes i no_entry
 
 -- its children are others
 abbrev pub with_children : ℕ → List ℕ → List Entry → List Entry
-with_children i children nodes = set nodes i (record (look nodes i) { children = children })
+with_children i children nodes = set nodes i (record (entry_at nodes i) { children = children })
 
 -- the nodes with another parent for one
 abbrev pub with_parent : ℕ → ℕ → List Entry → List Entry
-with_parent i parent nodes = set nodes i (record (look nodes i) { parent = parent })
+with_parent i parent nodes = set nodes i (record (entry_at nodes i) { parent = parent })
 
 -- the nodes with another place for one
 abbrev pub with_place : ℕ → ℕ → List Entry → List Entry
-with_place i place nodes = set nodes i (record (look nodes i) { place = place })
+with_place i place nodes = set nodes i (record (entry_at nodes i) { place = place })
 
 -- the item at that place before the others
 abbrev pub moved_first : ℕ → List ℕ → List ℕ

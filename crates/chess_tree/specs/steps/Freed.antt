@@ -3,7 +3,7 @@
 --   IsLoosened   the nodes are those that were there, and the first freed one has no children
 --   IsPut        a node in hand lies under a freed number or a new one
 use Rattle.std.specs.Prelude.{◌≡◌, ℕ, ◌<◌, List, []}
-use Rattle.chess_tree.specs.steps.Entries.{Entry, look}
+use Rattle.chess_tree.specs.steps.Entries.{Entry, entry_at}
 use Rattle.chess_tree.specs.steps.Grove.{Grove, Empty, Tree}
 use Rattle.chess_tree.specs.steps.Laid.{Laid}
 
@@ -15,7 +15,7 @@ IsPool nodes free = (game freed : Grove) × Laid nodes free game freed Empty
 pub record Loosened (new : List Entry) (last : ℕ) (game : Grove) : Type 0 where
   pub later : Grove
   pub laid : Laid new last game later Empty
-  pub bare : (look new last).children ≡ []
+  pub bare : (entry_at new last).children ≡ []
   pub some : 0 < last
 
 -- a freed branch has been taken apart, whatever the game
@@ -26,7 +26,7 @@ IsLoosened old free new last = (game freed : Grove) → Laid old free game freed
 pub record Put (s : Entry) (new : List Entry) (next number : ℕ) (game : Grove) : Type 0 where
   pub later : Grove
   pub laid : Laid new next game later (Tree number s.played Empty Empty)
-  pub is : look new number ≡ s
+  pub is : entry_at new number ≡ s
 
 -- the same, whatever the game
 abbrev pub IsPut : List Entry → ℕ → Entry → List Entry → ℕ → ℕ → Type 0

@@ -5,7 +5,7 @@
 use Rattle.std.specs.Prelude.{◌≡◌, ℕ, zero, suc, ◌+◌, ◌<◌, ◌≤◌, ◌==◌, nat_lt, if◌then◌else◌, List, [], ◌∷◌, length}
 use Rattle.chess_tree.specs.Forest.{height}
 use Rattle.chess_tree.specs.steps.Rooted.{Noted, Rooted}
-use Rattle.chess_tree.specs.steps.Entries.{Entry, look}
+use Rattle.chess_tree.specs.steps.Entries.{Entry, entry_at}
 use Rattle.chess_tree.specs.steps.Grove.{Grove, Empty, Tree, first_of, no_move, number_at, numbers, plain, size, tally, times, trail_at, Ways}
 use Rattle.chess_tree.specs.steps.Linked.{Chained, Linked}
 
@@ -19,9 +19,9 @@ uses j game freed spare = tally j 0 + times j game + times j freed + times j spa
 
 -- the nodes, each used once
 pub record Laid (nodes : List Entry) (free : ℕ) (game freed spare : Grove) : Type 0 where
-  pub root : (look nodes 0).children ≡ numbers game
-  pub linked : Linked Same (look nodes) 0 0 game
-  pub loose : Chained (look nodes) freed
+  pub root : (entry_at nodes 0).children ≡ numbers game
+  pub linked : Linked Same (entry_at nodes) 0 0 game
+  pub loose : Chained (entry_at nodes) freed
   pub free_is : free ≡ first_of freed
   pub once : (j : ℕ) → j < length nodes → uses j game freed spare ≡ 1
   pub none : (j : ℕ) → length nodes ≤ j → uses j game freed spare ≡ 0
@@ -59,7 +59,7 @@ path_to i (Tree j m below next) = if i == j then 0 ∷ [] else (if nat_lt 0 (tim
 
 -- all below the root
 abbrev pub all_of : List Entry → Grove
-all_of nodes = grove_from (length nodes) (look nodes) (look nodes 0).children
+all_of nodes = grove_from (length nodes) (entry_at nodes) (entry_at nodes 0).children
 
 -- the root above a game, and a path to the cursor
 abbrev pub standing : (ℕ → Noted) → Grove → List ℕ → Rooted

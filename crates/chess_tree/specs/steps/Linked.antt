@@ -22,13 +22,13 @@ module _ (P : ℕ → ℕ → Type 0) where
 
   -- each node's links, and those below it and after it
   abbrev pub Linked : (ℕ → Entry) → ℕ → ℕ → Grove → Type 0
-  Linked look p k Empty = ⊤
-  Linked look p k (Tree i m below next) = IsLinked (look i) p k m (numbers below) × Linked look i 0 below × Linked look p (suc k) next
+  Linked entry_at p k Empty = ⊤
+  Linked entry_at p k (Tree i m below next) = IsLinked (entry_at i) p k m (numbers below) × Linked entry_at i 0 below × Linked entry_at p (suc k) next
 
   -- whatever their places are
   abbrev pub Unplaced : (ℕ → Entry) → ℕ → Grove → Type 0
-  Unplaced look p Empty = ⊤
-  Unplaced look p (Tree i m below next) = IsOwned P (look i) p m (numbers below) × Linked look i 0 below × Unplaced look p next
+  Unplaced entry_at p Empty = ⊤
+  Unplaced entry_at p (Tree i m below next) = IsOwned P (entry_at i) p m (numbers below) × Linked entry_at i 0 below × Unplaced entry_at p next
 
 -- of freed nodes nothing is asked
 abbrev pub Any : ℕ → ℕ → Type 0
@@ -36,5 +36,5 @@ Any p q = ⊤
 
 -- one after the other, with what is below them
 abbrev pub Chained : (ℕ → Entry) → Grove → Type 0
-Chained look Empty = ⊤
-Chained look (Tree i m below next) = ((look i).parent ≡ first_of next) × ((look i).children ≡ numbers below) × Linked Any look i 0 below × Chained look next
+Chained entry_at Empty = ⊤
+Chained entry_at (Tree i m below next) = ((entry_at i).parent ≡ first_of next) × ((entry_at i).children ≡ numbers below) × Linked Any entry_at i 0 below × Chained entry_at next

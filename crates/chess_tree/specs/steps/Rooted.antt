@@ -13,7 +13,7 @@ use Rattle.std.specs.Prelude.{ℕ, List, [], ◌∷◌, ◌++◌, None, Some, re
 use Rattle.std.specs.Coded.{Coded, code_by, coded×, coded_ℕ, coded_list}
 use Rattle.chess_types.specs.board.MoveParts.{MoveParts}
 use Rattle.chess_types.specs.steps.LineCode.{coded_move}
-use Rattle.chess_types.specs.board.Position.{State}
+use Rattle.chess_types.specs.board.Position.{PositionParts}
 use Rattle.chess_tree.specs.Forest.{Forest, Bare, NodeParts, below_at, count}
 use Rattle.chess_tree.specs.steps.ForestCode.{coded_forest}
 use Rattle.chess_tree.specs.Edits.{annotated, change_below, change_node, commented, parent, promoted, with_move, without_node}
@@ -71,7 +71,7 @@ coded_rooted =
     code_by (Held × List ℕ) (coded× coded_held (coded_list coded_ℕ)) (λ z. (z.root, z.path)) (λ p. record { root = p.0; path = p.1 }) (λ _. refl)
 
 -- the tree and the path
-abbrev pub parts_of : State → Rooted → TreeParts
+abbrev pub parts_of : PositionParts → Rooted → TreeParts
 parts_of start nodes = record { tree = record { start = start; comment = nodes.root.comment; below = nodes.root.below }; path = nodes.path }
 
 -- the node with its move in sight

@@ -8,15 +8,15 @@ use Rattle.std.proofs.Common.{get_or}
 use Rattle.chess_types.specs.board.MoveParts.{MoveParts}
 use Rattle.chess_tree.specs.GameTree.{find}
 use Rattle.chess_tree.specs.steps.Rooted.{Noted}
-use Rattle.chess_tree.specs.steps.Entries.{Entry, look}
+use Rattle.chess_tree.specs.steps.Entries.{Entry, entry_at}
 use Rattle.chess_tree.specs.steps.Grove.{Grove, numbers, plain, size, times}
 use Rattle.chess_tree.specs.steps.Linked.{Linked}
 use Rattle.chess_tree.specs.steps.Laid.{Same}
 
 -- the nodes below one of them
 pub record Owner (nodes : List Entry) (at : ℕ) (below : Grove) : Type 0 where
-  pub own : (look nodes at).children ≡ numbers below
-  pub linked : Linked Same (look nodes) at 0 below
+  pub own : (entry_at nodes at).children ≡ numbers below
+  pub linked : Linked Same (entry_at nodes) at 0 below
   pub once : (j : ℕ) → times j below ≤ 1
   pub no_root : times 0 below ≡ 0
   pub range : (j : ℕ) → 0 < times j below → j < length nodes
@@ -29,7 +29,7 @@ IsOwner nodes at = (below : Grove) × Owner nodes at below
 
 -- each of its children is a node
 abbrev pub AreThere : List Entry → ℕ → Type 0
-AreThere nodes at = (k : ℕ) → k < length (look nodes at).children → get_or (look nodes at).children k 0 < length nodes
+AreThere nodes at = (k : ℕ) → k < length (entry_at nodes at).children → get_or (entry_at nodes at).children k 0 < length nodes
 
 -- the place of the first child with that move
 abbrev pub IsFind : List Entry → ℕ → MoveParts → Option ℕ → Type 0

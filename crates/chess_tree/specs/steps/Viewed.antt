@@ -5,7 +5,7 @@
 use Rattle.std.specs.Prelude.{◌≡◌, ℕ, ◌≤◌, ◌==◌, if◌then◌else◌, List, [], length, Some, None, drop}
 use Rattle.chess_tree.specs.Forest.{Forest, NodeParts}
 use Rattle.chess_tree.specs.steps.Rooted.{Noted}
-use Rattle.chess_tree.specs.steps.Entries.{Entry, look}
+use Rattle.chess_tree.specs.steps.Entries.{Entry, entry_at}
 use Rattle.chess_tree.specs.steps.Grove.{Grove, Empty, number_at, plain, Ways}
 use Rattle.chess_tree.specs.steps.Laid.{grove_from, Laid}
 
@@ -13,10 +13,10 @@ use Rattle.chess_tree.specs.steps.Laid.{grove_from, Laid}
 abbrev pub node_seen : List Entry → (ℕ → Noted) → ℕ → NodeParts
 node_seen nodes noted i =
     record {
-      move = if i == 0 then None else Some (look nodes i).played;
+      move = if i == 0 then None else Some (entry_at nodes i).played;
       nags = if i == 0 then [] else (noted i).nags;
       comment = (noted i).comment;
-      below = plain noted (grove_from (length nodes) (look nodes) (look nodes i).children);
+      below = plain noted (grove_from (length nodes) (entry_at nodes) (entry_at nodes i).children);
     }
 
 -- the root or one of the game
@@ -32,4 +32,4 @@ pub record IsViewed (nodes : List Entry) (i : ℕ) : Type 0 where
 
 -- the children from a place on
 abbrev pub side_seen : List Entry → (ℕ → Noted) → ℕ → ℕ → Forest
-side_seen nodes noted i place = plain noted (grove_from (length nodes) (look nodes) (drop place (look nodes i).children))
+side_seen nodes noted i place = plain noted (grove_from (length nodes) (entry_at nodes) (drop place (entry_at nodes i).children))

@@ -1,12 +1,12 @@
 ghost use Rattle.std.specs.Prelude.{◌≡◌, ◌≤◌, true, false, IfOk, IsTrue};
 ghost use Rattle.std.specs.List.{slice_get};
 ghost use Rattle.chess_types.specs.board.Attack.{in_check as in_check_of};
-ghost use Rattle.chess_types.specs.board.Position.{look};
+ghost use Rattle.chess_types.specs.board.Position.{man_on};
 ghost use Rattle.chess_types.specs.board.Legal.{is_legal, legal_moves};
 ghost use Rattle.chess_types.specs.board.Lines.{last};
 ghost use Rattle.chess_types.specs.board.Repetition.{repetitions};
 ghost use Rattle.chess_types.specs.board.Outcome.{status, claims, claims_with, winner};
-ghost use Rattle.chess_san.specs.Naming.{reading};
+ghost use Rattle.chess_san.specs.Naming.{san_reading};
 ghost use Rattle.chess_san.specs.Writing.{san};
 ghost use Rattle.chess_search.specs.Best.{best};
 ghost use Rattle.chess_search.specs.Slices.{IsInRange};
@@ -33,7 +33,7 @@ impl<'a, 'k, A: Allocator> Analysis<'a, 'k, A> {
     ///
     /// As `chess_san::read`: none of the forms, no legal move, or more than one.
     pub fn read_move(&mut self, text: &[u8]) -> Result<Move, SanFault>
-        ensures value { result ≡ reading (last (line_to self.old)) text.now }
+        ensures value { result ≡ san_reading (last (line_to self.old)) text.now }
         ensures legal { IfOk result (λ m. is_legal (last (line_to self.old)) m ≡ true) }
         ensures as_before { self.new ≡ self.old }
     {
@@ -51,7 +51,7 @@ impl<'a, 'k, A: Allocator> Analysis<'a, 'k, A> {
 
     /// Whether the king of the side to move is in check at the cursor (FIDE Laws 3.9.1).
     pub fn in_check(&self) -> bool
-        ensures { result ≡ in_check_of (look (last (line_to self.now))) (last (line_to self.now)).side }
+        ensures { result ≡ in_check_of (man_on (last (line_to self.now))) (last (line_to self.now)).side }
     {
         self.line.in_check()
     }

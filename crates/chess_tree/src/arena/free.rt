@@ -1,5 +1,5 @@
 ghost use Rattle.std.specs.Prelude.{◌≡◌, ◌<◌, ◌≤◌, [], length, IfOk, OnErr};
-ghost use Rattle.chess_tree.specs.steps.Entries.{leaf_entry, look, with_parent};
+ghost use Rattle.chess_tree.specs.steps.Entries.{leaf_entry, entry_at, with_parent};
 ghost use Rattle.chess_tree.specs.steps.Freed.{IsLoosened, IsPool, IsPut};
 
 use super::node_id::NodeId;
@@ -15,7 +15,7 @@ fn loosen<A: Allocator>(nodes: &mut Nodes<'_, A>, first: NodeId) -> NodeId
     ensures nodes { IsLoosened nodes.old first nodes.new result }
     ensures length { length nodes.new ≡ length nodes.old }
     ensures there { result < length nodes.old }
-    ensures bare { (look nodes.new result).children ≡ [] }
+    ensures bare { (entry_at nodes.new result).children ≡ [] }
 {
     let mut free = first;
     for _passed in 0..nodes.len() {

@@ -1,7 +1,7 @@
 ghost use Rattle.std.specs.Prelude.{◌≡◌, ◌<◌, ◌≤◌, ◌-◌, ◌++◌, ◌∷◌, [], length, remove, slice_get, slice_index, take, IfOk, OnOk, OnErr};
 ghost use Rattle.std.proofs.Common.{set};
 ghost use Rattle.chess_tree.specs.steps.Grove.{no_move};
-ghost use Rattle.chess_tree.specs.steps.Entries.{leaf_entry, look, moved_first, with_children, with_parent, with_place};
+ghost use Rattle.chess_tree.specs.steps.Entries.{leaf_entry, entry_at, moved_first, with_children, with_parent, with_place};
 
 use super::node_id::NodeId;
 use super::slot::{Below, Slot};
@@ -32,6 +32,18 @@ impl<'a, A: Allocator> Model for Nodes<'a, A> {
     ghost view = { λ n. entries_of n.lists.items n.slots.items };
 
     ghost invariant = { λ n. IsKept n.slots.items n.lists.items };
+}
+
+impl<'a, A: Allocator> Clone for Nodes<'a, A> {
+    ghost is_clone = { λ nodes copy. copy ≡ nodes };
+
+    fn clone(&self) -> Result<Nodes<'a, A>, AllocError> {
+        Ok(Nodes {
+            alloc: self.alloc,
+            slots: self.slots.clone()?,
+            lists: self.lists.clone()?,
+        })
+    }
 }
 
 impl<'a, A: Allocator> Nodes<'a, A> {
@@ -65,7 +77,7 @@ impl<'a, A: Allocator> Nodes<'a, A> {
     /// The move that leads to a node.
     pub(crate) fn played(&self, at: NodeId) -> Move
         requires { at < length self.now }
-        ensures { result ≡ (look self.now at).played }
+        ensures { result ≡ (entry_at self.now at).played }
     {
         self.slots[at.index()].played
     }
@@ -73,7 +85,7 @@ impl<'a, A: Allocator> Nodes<'a, A> {
     /// The parent of a node.
     pub(crate) fn parent(&self, at: NodeId) -> NodeId
         requires { at < length self.now }
-        ensures { result ≡ (look self.now at).parent }
+        ensures { result ≡ (entry_at self.now at).parent }
     {
         self.slots[at.index()].parent
     }
@@ -81,7 +93,7 @@ impl<'a, A: Allocator> Nodes<'a, A> {
     /// The place of a node among its parent's children, from 0.
     pub(crate) fn place(&self, at: NodeId) -> u32
         requires { at < length self.now }
-        ensures { result ≡ (look self.now at).place }
+        ensures { result ≡ (entry_at self.now at).place }
     {
         self.slots[at.index()].place
     }
@@ -89,8 +101,8 @@ impl<'a, A: Allocator> Nodes<'a, A> {
     /// How many children a node has.
     pub(crate) fn child_count(&self, at: NodeId) -> u32
         requires there { at < length self.now }
-        requires few { length (look self.now at).children ≤ 1000001 }
-        ensures { result ≡ length (look self.now at).children }
+        requires few { length (entry_at self.now at).children ≤ 1000001 }
+        ensures { result ≡ length (entry_at self.now at).children }
     {
         match self.slots[at.index()].below {
             Below::Nothing => 0,
@@ -102,7 +114,7 @@ impl<'a, A: Allocator> Nodes<'a, A> {
     /// The child of a node at a place, from 0.
     pub(crate) fn child(&self, at: NodeId, place: u32) -> Option<NodeId>
         requires { at < length self.now }
-        ensures { result ≡ slice_get (look self.now at).children place }
+        ensures { result ≡ slice_get (entry_at self.now at).children place }
     {
         match self.slots[at.index()].below {
             Below::Nothing => None,
@@ -131,7 +143,7 @@ impl<'a, A: Allocator> Nodes<'a, A> {
     /// Another node without children instead of one without.
     pub(crate) fn write(&mut self, at: NodeId, played: Move, parent: NodeId, place: u32)
         requires there { at < length self.old }
-        requires bare { (look self.old at).children ≡ [] }
+        requires bare { (entry_at self.old at).children ≡ [] }
         ensures { self.new ≡ set self.old at (leaf_entry played parent place) }
     {
         let below = self.slots[at.index()].below;
@@ -162,7 +174,7 @@ impl<'a, A: Allocator> Nodes<'a, A> {
     /// A child more of a node, after the others.
     pub(crate) fn push_child(&mut self, at: NodeId, child: NodeId) -> Result<(), AllocError>
         requires { at < length self.old }
-        ensures ok { OnOk result (self.new ≡ with_children at ((look self.old at).children ++ child ∷ []) self.old) }
+        ensures ok { OnOk result (self.new ≡ with_children at ((entry_at self.old at).children ++ child ∷ []) self.old) }
         ensures err { OnErr result (self.new ≡ self.old) }
     {
         match self.slots[at.index()].below {
@@ -188,8 +200,8 @@ impl<'a, A: Allocator> Nodes<'a, A> {
     /// Takes the last child of a node from it, if there is one.
     pub(crate) fn pop_child(&mut self, at: NodeId) -> Option<NodeId>
         requires { at < length self.old }
-        ensures child { result ≡ slice_get (look self.old at).children (length (look self.old at).children - 1) }
-        ensures nodes { self.new ≡ with_children at (take (length (look self.old at).children - 1) (look self.old at).children) self.old }
+        ensures child { result ≡ slice_get (entry_at self.old at).children (length (entry_at self.old at).children - 1) }
+        ensures nodes { self.new ≡ with_children at (take (length (entry_at self.old at).children - 1) (entry_at self.old at).children) self.old }
     {
         match self.slots[at.index()].below {
             Below::Nothing => None,
@@ -209,8 +221,8 @@ impl<'a, A: Allocator> Nodes<'a, A> {
     /// Takes the child at a place from a node.
     pub(crate) fn remove_child(&mut self, at: NodeId, place: u32)
         requires there { at < length self.old }
-        requires child { place < length (look self.old at).children }
-        ensures { self.new ≡ with_children at (remove (look self.old at).children place) self.old }
+        requires child { place < length (entry_at self.old at).children }
+        ensures { self.new ≡ with_children at (remove (entry_at self.old at).children place) self.old }
     {
         match self.slots[at.index()].below {
             Below::Nothing => {}
@@ -226,8 +238,8 @@ impl<'a, A: Allocator> Nodes<'a, A> {
     /// Moves the child at a place before the other children of a node.
     pub(crate) fn move_first(&mut self, at: NodeId, place: u32)
         requires there { at < length self.old }
-        requires child { place < length (look self.old at).children }
-        ensures { self.new ≡ with_children at (moved_first place (look self.old at).children) self.old }
+        requires child { place < length (entry_at self.old at).children }
+        ensures { self.new ≡ with_children at (moved_first place (entry_at self.old at).children) self.old }
     {
         if let Below::Listed(list) = self.slots[at.index()].below {
             move_first(&mut self.lists[list as usize], place as usize);

@@ -25,6 +25,17 @@ impl<'a, A: Allocator> Model for Note<'a, A> {
     ghost view = { λ n. record { nags = n.nags.items; comment = n.comment.items } };
 }
 
+impl<'a, A: Allocator> Clone for Note<'a, A> {
+    ghost is_clone = { λ note copy. copy ≡ note };
+
+    fn clone(&self) -> Result<Note<'a, A>, AllocError> {
+        Ok(Note {
+            nags: self.nags.clone()?,
+            comment: self.comment.clone()?,
+        })
+    }
+}
+
 /// The notes of the nodes that have some, by their numbers.
 pub(crate) type NoteMap<'a, A> = BTreeMap<u32, Note<'a, A>, &'a A>;
 

@@ -1,7 +1,7 @@
 ghost use Rattle.std.specs.Prelude.{◌≡◌, ◌<◌, ◌≤◌, ◌+◌, ◌-◌, drop, length, take};
 ghost use Rattle.std.proofs.Common.{get_or};
 ghost use Rattle.chess_tree.specs.GameTree.{find, is_move};
-ghost use Rattle.chess_tree.specs.steps.Entries.{look};
+ghost use Rattle.chess_tree.specs.steps.Entries.{entry_at};
 ghost use Rattle.chess_tree.specs.steps.Siblings.{AreThere, IsFind, IsOwner};
 ghost use Rattle.chess_tree.specs.steps.Writes.{detached, lifted, placed};
 
@@ -21,7 +21,7 @@ fn is_move(m: Move, n: Move) -> bool
 /// The place of the first child with that move.
 pub(crate) fn find<A: Allocator>(nodes: &Nodes<'_, A>, at: NodeId, played: Move) -> Option<u32>
     requires owner { IsOwner nodes.now at }
-    requires few { length (look nodes.now at).children ≤ 1000001 }
+    requires few { length (entry_at nodes.now at).children ≤ 1000001 }
     ensures { IsFind nodes.now at played result }
 {
     for place in 0..nodes.child_count(at) {
@@ -40,8 +40,8 @@ fn renumber<A: Allocator>(nodes: &mut Nodes<'_, A>, at: NodeId, from: u32, to: u
     requires node { at < length nodes.old }
     requires children { AreThere nodes.old at }
     requires order { from ≤ to }
-    requires end { to ≤ length (look nodes.old at).children }
-    ensures { nodes.new ≡ placed from (take (to - from) (drop from (look nodes.old at).children)) nodes.old }
+    requires end { to ≤ length (entry_at nodes.old at).children }
+    ensures { nodes.new ≡ placed from (take (to - from) (drop from (entry_at nodes.old at).children)) nodes.old }
 {
     for place in from..to {
         let Some(child) = nodes.child(at, place) else {
@@ -54,9 +54,9 @@ fn renumber<A: Allocator>(nodes: &mut Nodes<'_, A>, at: NodeId, from: u32, to: u
 /// Takes the child at a place out of the children of a node. It goes over those after it.
 pub(crate) fn detach<A: Allocator>(nodes: &mut Nodes<'_, A>, at: NodeId, place: u32)
     requires node { at < length nodes.old }
-    requires child { place < length (look nodes.old at).children }
+    requires child { place < length (entry_at nodes.old at).children }
     requires children { AreThere nodes.old at }
-    requires few { length (look nodes.old at).children ≤ 1000001 }
+    requires few { length (entry_at nodes.old at).children ≤ 1000001 }
     ensures { nodes.new ≡ detached at place nodes.old }
 {
     nodes.remove_child(at, place);
@@ -67,9 +67,9 @@ pub(crate) fn detach<A: Allocator>(nodes: &mut Nodes<'_, A>, at: NodeId, place: 
 /// Moves the child at a place before the other children of a node. It goes over those before it.
 pub(crate) fn lift<A: Allocator>(nodes: &mut Nodes<'_, A>, at: NodeId, place: u32)
     requires node { at < length nodes.old }
-    requires child { place < length (look nodes.old at).children }
+    requires child { place < length (entry_at nodes.old at).children }
     requires children { AreThere nodes.old at }
-    requires few { length (look nodes.old at).children ≤ 1000001 }
+    requires few { length (entry_at nodes.old at).children ≤ 1000001 }
     ensures { nodes.new ≡ lifted at place nodes.old }
 {
     nodes.move_first(at, place);

@@ -5,7 +5,7 @@ ghost use Rattle.chess_tree.specs.GameTree.{commented_here, line_to};
 
 use super::Tree;
 use crate::fault::TreeFault;
-use chess_types::split_word;
+use byte_streams::split_word;
 use std::alloc::{AllocError, Allocator};
 
 /// The bytes of white space: from the horizontal tab to the carriage return, and the space.

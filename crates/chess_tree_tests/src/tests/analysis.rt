@@ -186,7 +186,7 @@ fn run_all<A: Allocator>(rt: &impl Abort, alloc: &A, rows: &[Row]) {
     run_by(rt, alloc, &a_table(), rows);
 }
 
-const READ: &[Row] = &[
+pub const READ: &[Row] = &[
     Row::Gives(Answer::Done, Call::Read(b"e4")),
     Row::Gives(Answer::Done, Call::Read(b"e5")),
     Row::Is(Asked::Seen(Look::Depth(2))),

@@ -65,9 +65,13 @@ fn on_a_tree(call: u32) -> Call {
 }
 
 impl<A: Allocator> Called for Tree<'_, A> {
-    const CALLS: u32 = ON_A_TREE;
+    const CALLS: u32 = ON_A_TREE + 1;
 
+    /// The last call is a copy.
     fn is_refused(&mut self, rt: &impl Abort, call: u32) -> bool {
+        if call == ON_A_TREE {
+            return self.clone().is_err();
+        }
         is_memory(rt, answer(rt, self, on_a_tree(call)))
     }
 

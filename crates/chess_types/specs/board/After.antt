@@ -1,7 +1,7 @@
 -- The position after a move (FIDE Laws, articles 3.1, 3.7.3, 3.8.2 and 9.3; PGN 16.1.3).
 --   captured_at       where the captured man stands: beside the mover's old square en passant (3.7.3.1), else on its new one
---   arriving          the man, or what it is promoted to (3.7.3.3)
---   transferred           the board when the captured man has left it and the man stands on its new square
+--   moved_man         the man, or what it is promoted to (3.7.3.3)
+--   moved_board       the board when the captured man has left it and the man stands on its new square
 --   placement_after   and the castling rook on the square that the king crossed (3.8.2)
 --   rights_after      a right is lost by any move from or to its king's or its rook's home (3.8.2.1)
 --   target_after      the square passed over by an advance of two squares, else none
@@ -22,7 +22,7 @@ use Rattle.chess_types.specs.board.Squares.{file_of, rank_of}
 use Rattle.chess_types.specs.board.Board.{Board}
 use Rattle.chess_types.specs.board.Men.{opponent, is_pawn, is_king}
 use Rattle.chess_types.specs.board.MoveParts.{MoveParts}
-use Rattle.chess_types.specs.board.Position.{State, look, king_home, rook_home}
+use Rattle.chess_types.specs.board.Position.{PositionParts, man_on, king_home, rook_home}
 use Rattle.chess_types.specs.board.Pseudo.{is_target, midway, crossed, castles_to}
 
 -- a pawn captures the pawn that has just passed over the target
@@ -34,13 +34,13 @@ abbrev pub captured_at : Option ℕ → Man → MoveParts → ℕ
 captured_at target man m = if is_en_passant target man m then 8 * rank_of m.from + file_of m.to else m.to
 
 -- the man on the move's last square: a pawn may have become another (3.7.3.3)
-abbrev pub arriving : Man → Option Kind → Man
-arriving man None = man
-arriving man (Some kind) = record { colour = man.colour; kind = kind }
+abbrev pub moved_man : Man → Option Kind → Man
+moved_man man None = man
+moved_man man (Some kind) = record { colour = man.colour; kind = kind }
 
 -- the captured man has left the board, and the mover has gone to the move's last square
-abbrev pub transferred : State → Man → MoveParts → Board
-transferred p man m = insert (remove (remove p.placement (captured_at p.target man m)) m.from) m.to (arriving man m.promo)
+abbrev pub moved_board : PositionParts → Man → MoveParts → Board
+moved_board p man m = insert (remove (remove p.placement (captured_at p.target man m)) m.from) m.to (moved_man man m.promo)
 
 -- the king castles on that side (3.8.2)
 abbrev pub is_castling : Man → Wing → MoveParts → Bool
@@ -55,10 +55,10 @@ abbrev pub with_rook : Colour → Wing → Board → Board
 with_rook side wing board = insert (remove board (rook_home side wing)) (crossed side wing) (rook_of side)
 
 -- the board after the move, the castling rook too
-abbrev pub placement_after : State → Man → MoveParts → Board
+abbrev pub placement_after : PositionParts → Man → MoveParts → Board
 placement_after p man m =
-    if is_castling man KingSide m then with_rook man.colour KingSide (transferred p man m)
-    else (if is_castling man QueenSide m then with_rook man.colour QueenSide (transferred p man m) else transferred p man m)
+    if is_castling man KingSide m then with_rook man.colour KingSide (moved_board p man m)
+    else (if is_castling man QueenSide m then with_rook man.colour QueenSide (moved_board p man m) else moved_board p man m)
 
 -- the move begins or ends on the square
 abbrev pub touches : MoveParts → ℕ → Bool
@@ -86,8 +86,8 @@ abbrev pub target_after : Man → MoveParts → Option ℕ
 target_after man m = if is_advance man m then Some (midway m) else None
 
 -- the halfmove clock after the move: 0 after a move of a pawn or a capture (9.3)
-abbrev pub clock_after : State → Man → MoveParts → ℕ
-clock_after p man m = if is_pawn man.kind || is_some (look p m.to) then 0 else p.clock + 1
+abbrev pub clock_after : PositionParts → Man → MoveParts → ℕ
+clock_after p man m = if is_pawn man.kind || is_some (man_on p m.to) then 0 else p.clock + 1
 
 -- the fullmove number after a move of this side: it grows after Black's
 abbrev pub number_after : Colour → ℕ → ℕ
@@ -95,7 +95,7 @@ number_after White number = number
 number_after Black number = number + 1
 
 -- the position after the man that stands on the move's first square has made it; without a man there, the same position
-abbrev pub after_by : State → Option Man → MoveParts → State
+abbrev pub after_by : PositionParts → Option Man → MoveParts → PositionParts
 after_by p None m = p
 after_by p (Some man) m = record {
   placement = placement_after p man m;
@@ -107,5 +107,5 @@ after_by p (Some man) m = record {
 }
 
 -- the position after the move
-unfoldable pub after : State → MoveParts → State
-after p m = after_by p (look p m.from) m
+unfoldable pub after : PositionParts → MoveParts → PositionParts
+after p m = after_by p (man_on p m.from) m

@@ -16,7 +16,7 @@ use Rattle.chess_types.specs.declared.board.man.Colour.TheVariants.{White, Black
 use Rattle.chess_types.specs.declared.board.man.Kind.{Kind}
 use Rattle.chess_types.specs.declared.board.man.Kind.TheVariants.{Pawn, Knight, Bishop, Rook, Queen, King}
 use Rattle.chess_types.specs.declared.board.man.Man.{Man}
-use Rattle.chess_types.specs.board.Board.{Look}
+use Rattle.chess_types.specs.board.Board.{Men}
 use Rattle.chess_types.specs.board.Squares.{file_of, rank_of, on_axis, is_between, squares}
 use Rattle.chess_types.specs.board.Men.{same_colour, opponent, is_king_of}
 
@@ -56,30 +56,30 @@ slides_to kind a b =
     not (a == b) && (slides_on kind Rank a b || slides_on kind File a b || slides_on kind Rising a b || slides_on kind Falling a b)
 
 -- no man stands strictly between
-unfoldable pub is_clear : Look → ℕ → ℕ → Bool
-is_clear look a b = list_all (λ t. not (is_between a b t) || is_none (look t)) squares
+unfoldable pub is_clear : Men → ℕ → ℕ → Bool
+is_clear man_on a b = list_all (λ t. not (is_between a b t) || is_none (man_on t)) squares
 
 -- the man, standing on a, attacks b
-unfoldable pub attacks_as : Man → Look → ℕ → ℕ → Bool
-attacks_as man look a b = leaps man.colour man.kind a b || (slides_to man.kind a b && is_clear look a b)
+unfoldable pub attacks_as : Man → Men → ℕ → ℕ → Bool
+attacks_as man man_on a b = leaps man.colour man.kind a b || (slides_to man.kind a b && is_clear man_on a b)
 
 -- a holds a man of the colour, which attacks b
-abbrev pub attacks_for : Option Man → Colour → Look → ℕ → ℕ → Bool
-attacks_for None colour look a b = false
-attacks_for (Some man) colour look a b = same_colour man.colour colour && attacks_as man look a b
+abbrev pub attacks_for : Option Man → Colour → Men → ℕ → ℕ → Bool
+attacks_for None colour man_on a b = false
+attacks_for (Some man) colour man_on a b = same_colour man.colour colour && attacks_as man man_on a b
 
 -- how many squares hold a man of the colour that attacks s
-unfoldable pub count : Look → Colour → ℕ → ℕ
-count look colour s = count_by (λ a. attacks_for (look a) colour look a s) squares
+unfoldable pub count : Men → Colour → ℕ → ℕ
+count man_on colour s = count_by (λ a. attacks_for (man_on a) colour man_on a s) squares
 
 -- one or more men of the colour attack s
-abbrev pub is_attacked : Look → Colour → ℕ → Bool
-is_attacked look colour s = nat_le 1 (count look colour s)
+abbrev pub is_attacked : Men → Colour → ℕ → Bool
+is_attacked man_on colour s = nat_le 1 (count man_on colour s)
 
 -- the king of the colour is attacked by the other side
-unfoldable pub in_check : Look → Colour → Bool
-in_check look colour = list_any (λ s. is_king_of colour (look s) && is_attacked look (opponent colour) s) squares
+unfoldable pub in_check : Men → Colour → Bool
+in_check man_on colour = list_any (λ s. is_king_of colour (man_on s) && is_attacked man_on (opponent colour) s) squares
 
 -- the man on a is the other side's, and attacks the king of the colour (3.9.1)
-unfoldable pub checks_from : Look → Colour → ℕ → Bool
-checks_from look colour a = list_any (λ s. is_king_of colour (look s) && attacks_for (look a) (opponent colour) look a s) squares
+unfoldable pub checks_from : Men → Colour → ℕ → Bool
+checks_from man_on colour a = list_any (λ s. is_king_of colour (man_on s) && attacks_for (man_on a) (opponent colour) man_on a s) squares

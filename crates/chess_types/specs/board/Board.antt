@@ -1,7 +1,7 @@
 -- A board: a finite map from squares to men (FIDE Laws, article 2.1; PGN 16.1.3.1).
 --   Board    the map
---   Look     what stands on each square; the definitions of the Laws read a board by this alone
---   man_at   the look of a board
+--   Men      what stands on each square; the definitions of the Laws read a board by this alone
+--   man_at   the men of a board
 use Rattle.std.specs.Prelude.{ℕ, Option}
 use Rattle.std.specs.Ordering.{nat_cmp}
 use Rattle.std.specs.FinMap.{FinMap, get}
@@ -12,9 +12,9 @@ abbrev pub Board : Type 0
 Board = FinMap nat_cmp Man
 
 -- what is on each square, read as a function
-abbrev pub Look : Type 0
-Look = ℕ → Option Man
+abbrev pub Men : Type 0
+Men = ℕ → Option Man
 
 -- what is on each square of a board
-abbrev pub man_at : Board → Look
+abbrev pub man_at : Board → Men
 man_at board square = get board square

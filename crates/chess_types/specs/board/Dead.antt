@@ -9,9 +9,9 @@ use Rattle.std.specs.List.{list_all}
 use Rattle.chess_types.specs.declared.board.man.Man.{Man}
 use Rattle.chess_types.specs.declared.board.man.Kind.TheVariants.{Knight, Bishop}
 use Rattle.chess_types.specs.board.Men.{same_kind, is_king}
-use Rattle.chess_types.specs.board.Board.{Look}
+use Rattle.chess_types.specs.board.Board.{Men}
 use Rattle.chess_types.specs.board.Squares.{file_of, rank_of, squares}
-use Rattle.chess_types.specs.board.Position.{State, look}
+use Rattle.chess_types.specs.board.Position.{PositionParts, man_on}
 
 -- a man other than a king stands there
 abbrev pub is_other : Option Man → Bool
@@ -33,18 +33,18 @@ abbrev pub is_light : ℕ → Bool
 is_light s = (file_of s + rank_of s) % 2 == 1
 
 -- the squares of the men other than kings
-abbrev pub others : Look → List ℕ
+abbrev pub others : Men → List ℕ
 others men = filter (λ s. is_other (men s)) squares
 
 -- beside the kings at most one man, a knight or a bishop
-abbrev pub is_lone_minor : Look → Bool
+abbrev pub is_lone_minor : Men → Bool
 is_lone_minor men = list_all (λ s. holds_minor (men s)) (others men) && nat_le (length (others men)) 1
 
 -- beside the kings only bishops, on squares of one colour
-abbrev pub is_one_coloured : Look → Bool
+abbrev pub is_one_coloured : Men → Bool
 is_one_coloured men =
     list_all (λ s. holds_bishop (men s)) (others men) && (list_all is_light (others men) || list_all (λ s. not (is_light s)) (others men))
 
 -- on the list
-unfoldable pub is_dead : State → Bool
-is_dead p = is_lone_minor (look p) || is_one_coloured (look p)
+unfoldable pub is_dead : PositionParts → Bool
+is_dead p = is_lone_minor (man_on p) || is_one_coloured (man_on p)

@@ -10,7 +10,7 @@ use Rattle.std.specs.Str.{byte}
 use Rattle.chess_types.specs.declared.board.man.Colour.{Colour}
 use Rattle.chess_types.specs.declared.board.man.Colour.TheVariants.{White, Black}
 use Rattle.chess_types.specs.declared.board.man.Man.{Man}
-use Rattle.chess_types.specs.board.Board.{Look}
+use Rattle.chess_types.specs.board.Board.{Men}
 use Rattle.chess_types.specs.board.Texts.{man_letter}
 
 -- a man's letter, or a period
@@ -28,9 +28,9 @@ abbrev pub eight : List ℕ
 eight = 0 ∷ 1 ∷ 2 ∷ 3 ∷ 4 ∷ 5 ∷ 6 ∷ 7 ∷ []
 
 -- a line of the diagram, its squares separated by spaces
-unfoldable pub line_text : Look → Colour → ℕ → List ℕ
-line_text look side line = join_with_byte (byte " ") (map (λ column. shown (look (seen_at side line column)) ∷ []) eight)
+unfoldable pub line_text : Men → Colour → ℕ → List ℕ
+line_text man_on side line = join_with_byte (byte " ") (map (λ column. shown (man_on (seen_at side line column)) ∷ []) eight)
 
 -- a line feed is the byte 10
-unfoldable pub diagram : Look → Colour → List ℕ
-diagram look side = join_with_byte 10 (map (line_text look side) eight)
+unfoldable pub diagram : Men → Colour → List ℕ
+diagram man_on side = join_with_byte 10 (map (line_text man_on side) eight)

@@ -23,10 +23,10 @@ use Rattle.chess_types.specs.declared.board.position.Rights.{Rights}
 use Rattle.chess_types.specs.declared.board.position.Wing.{Wing}
 use Rattle.chess_types.specs.declared.board.position.Wing.TheVariants.{KingSide, QueenSide}
 use Rattle.chess_types.specs.board.Squares.{rank_of, squares}
-use Rattle.chess_types.specs.board.Board.{Board, Look, man_at}
+use Rattle.chess_types.specs.board.Board.{Board, Men, man_at}
 use Rattle.chess_types.specs.board.Men.{is_man, opponent, holds_pawn, men_of, kings_of}
 use Rattle.chess_types.specs.board.Attack.{in_check}
-use Rattle.chess_types.specs.board.Position.{State, look, is_explained, king_home, rook_home, holds}
+use Rattle.chess_types.specs.board.Position.{PositionParts, man_on, is_explained, king_home, rook_home, holds}
 
 -- each side has exactly one king
 abbrev pub has_one_king_each : Board → Bool
@@ -37,8 +37,8 @@ abbrev pub is_edge : ℕ → Bool
 is_edge square = rank_of square == 0 || rank_of square == 7
 
 -- a pawn is on rank 1 or rank 8
-abbrev pub has_pawn_on_edge : Look → Bool
-has_pawn_on_edge look = list_any (λ square. is_edge square && holds_pawn (look square)) squares
+abbrev pub has_pawn_on_edge : Men → Bool
+has_pawn_on_edge man_on = list_any (λ square. is_edge square && holds_pawn (man_on square)) squares
 
 -- each side has at most 16 men
 abbrev pub has_at_most_16_each : Board → Bool
@@ -53,29 +53,29 @@ men_fault board =
     else None))
 
 -- the king and the rook to castle with stand where a game begins
-abbrev pub is_home : Look → Colour → Wing → Bool
-is_home look colour wing = is_man (look (king_home colour)) colour King && is_man (look (rook_home colour wing)) colour Rook
+abbrev pub is_home : Men → Colour → Wing → Bool
+is_home man_on colour wing = is_man (man_on (king_home colour)) colour King && is_man (man_on (rook_home colour wing)) colour Rook
 
 -- where the right is held
-abbrev pub is_home_if : Look → Rights → Colour → Wing → Bool
-is_home_if look rights colour wing = not (holds rights colour wing) || is_home look colour wing
+abbrev pub is_home_if : Men → Rights → Colour → Wing → Bool
+is_home_if man_on rights colour wing = not (holds rights colour wing) || is_home man_on colour wing
 
 -- each right that is held has its king and rook at home
-abbrev pub are_home : Look → Rights → Bool
-are_home look rights =
-    (is_home_if look rights White KingSide && is_home_if look rights White QueenSide)
-    && (is_home_if look rights Black KingSide && is_home_if look rights Black QueenSide)
+abbrev pub are_home : Men → Rights → Bool
+are_home man_on rights =
+    (is_home_if man_on rights White KingSide && is_home_if man_on rights White QueenSide)
+    && (is_home_if man_on rights Black KingSide && is_home_if man_on rights Black QueenSide)
 
 -- the target, if there is one, is explained by an advance of two squares
-abbrev pub is_explained_if : Colour → Look → Option ℕ → Bool
-is_explained_if side look None = true
-is_explained_if side look (Some t) = is_explained side look t
+abbrev pub is_explained_if : Colour → Men → Option ℕ → Bool
+is_explained_if side man_on None = true
+is_explained_if side man_on (Some t) = is_explained side man_on t
 
 -- of the side to move, the rights, the target and the fullmove number, beside the men
-unfoldable pub fields_fault : Look → Colour → Rights → Option ℕ → ℕ → Option PositionFault
-fields_fault look side rights target number =
-    if not (are_home look rights) then Some Fault.Rights
-    else (if not (is_explained_if side look target) then Some Target
+unfoldable pub fields_fault : Men → Colour → Rights → Option ℕ → ℕ → Option PositionFault
+fields_fault man_on side rights target number =
+    if not (are_home man_on rights) then Some Fault.Rights
+    else (if not (is_explained_if side man_on target) then Some Target
     else (if number == 0 then Some Counters
     else None))
 
@@ -85,15 +85,15 @@ first_of (Some fault) other = Some fault
 first_of None other = other
 
 -- the first fault of the fields of a setup, if there is one
-unfoldable pub setup_fault : State → Option PositionFault
-setup_fault p = first_of (men_fault p.placement) (fields_fault (look p) p.side p.rights p.target p.number)
+unfoldable pub setup_fault : PositionParts → Option PositionFault
+setup_fault p = first_of (men_fault p.placement) (fields_fault (man_on p) p.side p.rights p.target p.number)
 
 -- the first fault of the fields of a position, if there is one
-unfoldable pub position_fault : State → Option PositionFault
-position_fault p = first_of (setup_fault p) (if in_check (look p) (opponent p.side) then Some InCheck else None)
+unfoldable pub position_fault : PositionParts → Option PositionFault
+position_fault p = first_of (setup_fault p) (if in_check (man_on p) (opponent p.side) then Some InCheck else None)
 
 -- the position, or its fault
-abbrev pub tested : Option PositionFault → State → Result State PositionFault
+abbrev pub tested : Option PositionFault → PositionParts → Result PositionParts PositionFault
 tested None p = Ok p
 tested (Some fault) p = Err fault
 

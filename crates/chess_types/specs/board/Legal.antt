@@ -10,13 +10,13 @@ use Rattle.chess_types.specs.declared.board.man.Kind.TheVariants.{Queen, Rook, B
 use Rattle.chess_types.specs.board.Squares.{squares}
 use Rattle.chess_types.specs.board.Attack.{in_check}
 use Rattle.chess_types.specs.board.MoveParts.{MoveParts}
-use Rattle.chess_types.specs.board.Position.{State, look}
+use Rattle.chess_types.specs.board.Position.{PositionParts, man_on}
 use Rattle.chess_types.specs.board.Pseudo.{is_pseudo}
 use Rattle.chess_types.specs.board.After.{after}
 
 -- pseudo-legal, and after it the mover's king isn't in check (3.9.2, 3.10.1)
-unfoldable pub is_legal : State → MoveParts → Bool
-is_legal p m = is_pseudo p m && not (in_check (look (after p m)) p.side)
+unfoldable pub is_legal : PositionParts → MoveParts → Bool
+is_legal p m = is_pseudo p m && not (in_check (man_on (after p m)) p.side)
 
 -- nothing, or what a pawn becomes: a queen, rook, bishop or knight (3.7.3.3)
 unfoldable pub promotions : List (Option Kind)
@@ -35,5 +35,5 @@ unfoldable pub all_moves : List MoveParts
 all_moves = flat_map moves_from squares
 
 -- the legal moves, in that order
-unfoldable pub legal_moves : State → List MoveParts
+unfoldable pub legal_moves : PositionParts → List MoveParts
 legal_moves p = filter (is_legal p) all_moves

@@ -7,36 +7,36 @@
 --   extended    the line with one move more
 use Rattle.std.specs.Prelude.{◌≡◌, true, ⊤, List, [], ◌∷◌, ◌++◌}
 use Rattle.chess_types.specs.board.MoveParts.{MoveParts}
-use Rattle.chess_types.specs.board.Position.{State}
+use Rattle.chess_types.specs.board.Position.{PositionParts}
 use Rattle.chess_types.specs.board.After.{after}
 use Rattle.chess_types.specs.board.Legal.{is_legal}
 
 -- a game: its first position and the moves made from it
 pub record Line : Type 0 where
-  pub start : State
+  pub start : PositionParts
   pub moves : List MoveParts
 
 -- the position after the moves
-abbrev pub play : State → List MoveParts → State
+abbrev pub play : PositionParts → List MoveParts → PositionParts
 play p [] = p
 play p (m ∷ moves) = play (after p m) moves
 
 -- each move is legal where it is made (3.10.1)
-abbrev pub AreLegal : State → List MoveParts → Type 0
+abbrev pub AreLegal : PositionParts → List MoveParts → Type 0
 AreLegal p [] = ⊤
 AreLegal p (m ∷ moves) = (is_legal p m ≡ true) × AreLegal (after p m) moves
 
 -- the position before each move, and the last
-abbrev pub positions_from : State → List MoveParts → List State
+abbrev pub positions_from : PositionParts → List MoveParts → List PositionParts
 positions_from p [] = p ∷ []
 positions_from p (m ∷ moves) = p ∷ positions_from (after p m) moves
 
 -- the position after all moves of the line
-unfoldable pub last : Line → State
+unfoldable pub last : Line → PositionParts
 last line = play line.start line.moves
 
 -- the positions of the line, the first and that after each move
-unfoldable pub positions : Line → List State
+unfoldable pub positions : Line → List PositionParts
 positions line = positions_from line.start line.moves
 
 -- the same line, and one move more

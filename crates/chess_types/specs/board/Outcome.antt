@@ -13,7 +13,7 @@ use Rattle.chess_types.specs.declared.board.man.Colour.{Colour}
 use Rattle.chess_types.specs.board.Men.{opponent}
 use Rattle.chess_types.specs.board.Attack.{in_check}
 use Rattle.chess_types.specs.board.MoveParts.{MoveParts}
-use Rattle.chess_types.specs.board.Position.{State, look}
+use Rattle.chess_types.specs.board.Position.{PositionParts, man_on}
 use Rattle.chess_types.specs.board.Legal.{is_legal, legal_moves}
 use Rattle.chess_types.specs.board.Lines.{Line, last, extended}
 use Rattle.chess_types.specs.board.Repetition.{repetitions}
@@ -26,9 +26,9 @@ is_without (m ∷ moves) = false
 
 -- mate (5.1.1), stalemate (5.2.1), dead (5.2.2), five times the same position (9.6.1), 75 moves without a capture or a pawn's move
 -- (9.6.2), a mate on the last of them apart; else the game goes on
-unfoldable pub status_at : State → ℕ → Status
+unfoldable pub status_at : PositionParts → ℕ → Status
 status_at p count =
-    if is_without (legal_moves p) then (if in_check (look p) p.side then Mate else Stalemate)
+    if is_without (legal_moves p) then (if in_check (man_on p) p.side then Mate else Stalemate)
     else (if is_dead p then Dead else (if nat_le 5 count then Fivefold else (if nat_le 150 p.clock then Seventyfive else Play)))
 
 -- how the game of the line has ended, or that it goes on
@@ -41,8 +41,8 @@ is_play Play = true
 is_play _ = false
 
 -- the opponent of a side that is mated (1.4.1, 5.1.1)
-abbrev pub winner : State → Option Colour
-winner p = if is_without (legal_moves p) && in_check (look p) p.side then Some (opponent p.side) else None
+abbrev pub winner : PositionParts → Option Colour
+winner p = if is_without (legal_moves p) && in_check (man_on p) p.side then Some (opponent p.side) else None
 
 -- three times the same position (9.2), 50 moves without a capture or a pawn's move (9.3); neither where the game is over
 abbrev pub claims_at : Bool → ℕ → ℕ → Claims

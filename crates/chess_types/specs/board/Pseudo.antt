@@ -18,7 +18,7 @@ use Rattle.chess_types.specs.board.Men.{same_colour, opponent, is_king}
 use Rattle.chess_types.specs.board.Attack.{leaps, attacks_as, is_clear, is_attacked}
 use Rattle.chess_types.specs.board.MoveParts.{MoveParts}
 use Rattle.chess_types.specs.board.Texts.{names_promotion}
-use Rattle.chess_types.specs.board.Position.{State, look, king_home, rook_home, holds}
+use Rattle.chess_types.specs.board.Position.{PositionParts, man_on, king_home, rook_home, holds}
 
 -- a man of the other side stands there, which isn't its king: a king is never taken (1.4.1)
 abbrev pub is_capturable : Colour → Option Man → Bool
@@ -54,18 +54,18 @@ abbrev pub midway : MoveParts → ℕ
 midway m = (m.from + m.to) / 2
 
 -- one square forward, to an empty square (3.7.1)
-abbrev pub steps_one : State → MoveParts → Bool
-steps_one p m = is_ahead p.side m.from m.to && is_none (look p m.to)
+abbrev pub steps_one : PositionParts → MoveParts → Bool
+steps_one p m = is_ahead p.side m.from m.to && is_none (man_on p m.to)
 
 -- two squares forward from the rank where it began, over an empty square to another (3.7.2)
-abbrev pub steps_two : State → MoveParts → Bool
+abbrev pub steps_two : PositionParts → MoveParts → Bool
 steps_two p m =
     rank_of m.from == pawn_rank p.side && is_ahead p.side m.from (midway m) && is_ahead p.side (midway m) m.to
-    && is_none (look p (midway m)) && is_none (look p m.to)
+    && is_none (man_on p (midway m)) && is_none (man_on p m.to)
 
 -- diagonally forward, to capture a man there (3.7.3) or the pawn that has just passed over that square (3.7.3.1)
-abbrev pub pawn_takes : State → MoveParts → Bool
-pawn_takes p m = leaps p.side Pawn m.from m.to && (is_capturable p.side (look p m.to) || is_target p.target m.to)
+abbrev pub pawn_takes : PositionParts → MoveParts → Bool
+pawn_takes p m = leaps p.side Pawn m.from m.to && (is_capturable p.side (man_on p m.to) || is_target p.target m.to)
 
 -- a pawn's move names what it becomes on the last rank: a queen, rook, bishop or knight; and nothing on any other
 abbrev pub pawn_promotion_fits : Colour → MoveParts → Bool
@@ -91,20 +91,20 @@ castles_to side wing m = m.from == king_home side && m.to == reached side wing
 
 -- Castling: the right is held, no man stands between king and rook, and the king's square, the one that it crosses and the
 -- one that it reaches aren't attacked by the other side (3.8.2).
-abbrev pub castles : State → Wing → MoveParts → Bool
+abbrev pub castles : PositionParts → Wing → MoveParts → Bool
 castles p wing m =
     castles_to p.side wing m && holds p.rights p.side wing
-    && is_clear (look p) (king_home p.side) (rook_home p.side wing)
-    && not (is_attacked (look p) (opponent p.side) (king_home p.side))
-    && not (is_attacked (look p) (opponent p.side) (crossed p.side wing))
-    && not (is_attacked (look p) (opponent p.side) (reached p.side wing))
+    && is_clear (man_on p) (king_home p.side) (rook_home p.side wing)
+    && not (is_attacked (man_on p) (opponent p.side) (king_home p.side))
+    && not (is_attacked (man_on p) (opponent p.side) (crossed p.side wing))
+    && not (is_attacked (man_on p) (opponent p.side) (reached p.side wing))
 
 -- to a square that the man attacks and may enter (3.2 to 3.6, 3.8.1)
-abbrev pub moves_as_it_attacks : State → Kind → MoveParts → Bool
-moves_as_it_attacks p kind m = attacks_as (record { colour = p.side; kind = kind }) (look p) m.from m.to && may_enter p.side (look p m.to)
+abbrev pub moves_as_it_attacks : PositionParts → Kind → MoveParts → Bool
+moves_as_it_attacks p kind m = attacks_as (record { colour = p.side; kind = kind }) (man_on p) m.from m.to && may_enter p.side (man_on p m.to)
 
 -- how a man of the side to move may go, by its kind
-unfoldable pub moves_as : State → Kind → MoveParts → Bool
+unfoldable pub moves_as : PositionParts → Kind → MoveParts → Bool
 moves_as p Pawn m = (steps_one p m || steps_two p m || pawn_takes p m) && pawn_promotion_fits p.side m
 moves_as p Knight m = moves_as_it_attacks p Knight m && is_none m.promo
 moves_as p Bishop m = moves_as_it_attacks p Bishop m && is_none m.promo
@@ -113,10 +113,10 @@ moves_as p Queen m = moves_as_it_attacks p Queen m && is_none m.promo
 moves_as p King m = (moves_as_it_attacks p King m || castles p KingSide m || castles p QueenSide m) && is_none m.promo
 
 -- the man on the move's first square is of the side to move, and moves so
-abbrev pub moves_man : State → Option Man → MoveParts → Bool
+abbrev pub moves_man : PositionParts → Option Man → MoveParts → Bool
 moves_man p None m = false
 moves_man p (Some man) m = same_colour man.colour p.side && moves_as p man.kind m
 
 -- pseudo-legal: legal but perhaps for the mover's own king
-abbrev pub is_pseudo : State → MoveParts → Bool
-is_pseudo p m = moves_man p (look p m.from) m
+abbrev pub is_pseudo : PositionParts → MoveParts → Bool
+is_pseudo p m = moves_man p (man_on p m.from) m

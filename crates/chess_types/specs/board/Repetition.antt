@@ -12,7 +12,7 @@ use Rattle.chess_types.specs.declared.board.position.Rights.{Rights}
 use Rattle.chess_types.specs.board.Squares.{squares}
 use Rattle.chess_types.specs.board.Men.{same_colour, same_kind}
 use Rattle.chess_types.specs.board.MoveParts.{MoveParts}
-use Rattle.chess_types.specs.board.Position.{State, look}
+use Rattle.chess_types.specs.board.Position.{PositionParts, man_on}
 use Rattle.chess_types.specs.board.After.{is_en_passant}
 use Rattle.chess_types.specs.board.Legal.{legal_moves}
 use Rattle.chess_types.specs.board.Lines.{Line, last, positions}
@@ -43,22 +43,22 @@ same_target (Some s) None = false
 same_target (Some s) (Some t) = s == t
 
 -- the man captures on the target
-abbrev pub takes_target : State → Option Man → MoveParts → Bool
+abbrev pub takes_target : PositionParts → Option Man → MoveParts → Bool
 takes_target p None m = false
 takes_target p (Some man) m = is_en_passant p.target man m
 
 -- some legal move captures on the target (9.2.3.1)
-unfoldable pub target_counts : State → Bool
-target_counts p = list_any (λ m. takes_target p (look p m.from) m) (legal_moves p)
+unfoldable pub target_counts : PositionParts → Bool
+target_counts p = list_any (λ m. takes_target p (man_on p m.from) m) (legal_moves p)
 
 -- the target where a pawn can be captured there, else none
-unfoldable pub counting_target : State → Option ℕ
+unfoldable pub counting_target : PositionParts → Option ℕ
 counting_target p = if target_counts p then p.target else None
 
 -- the same side has the move, the same men stand on the same squares, and the same moves are possible (9.2.3)
-unfoldable pub is_same : State → State → Bool
+unfoldable pub is_same : PositionParts → PositionParts → Bool
 is_same p q =
-    same_colour p.side q.side && list_all (λ s. same_man (look p s) (look q s)) squares && same_rights p.rights q.rights
+    same_colour p.side q.side && list_all (λ s. same_man (man_on p s) (man_on q s)) squares && same_rights p.rights q.rights
     && same_target (counting_target p) (counting_target q)
 
 -- how often the line has come to its last position, the last time included (9.2.2, 9.6.1)

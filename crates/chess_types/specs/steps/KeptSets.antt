@@ -11,7 +11,7 @@ use Rattle.chess_types.specs.declared.board.man.Man.{Man}
 use Rattle.chess_types.specs.declared.board.man.Kind.{Kind}
 use Rattle.chess_types.specs.declared.board.man.Kind.TheVariants.{Bishop, Rook, Queen}
 use Rattle.chess_types.specs.declared.board.man.Colour.TheVariants.{White, Black}
-use Rattle.chess_types.specs.board.Board.{Look}
+use Rattle.chess_types.specs.board.Board.{Men}
 use Rattle.chess_types.specs.board.Men.{is_of, is_king}
 
 -- a rook or a queen
@@ -42,24 +42,24 @@ holds_diagonal None = false
 holds_diagonal (Some man) = is_diagonal man.kind
 
 -- the set has exactly the squares on which the test of what stands there holds
-abbrev pub Gathers : FinSet nat_cmp → (Option Man → Bool) → Look → Type 0
-Gathers set test look = (s : ℕ) → contains set s ≡ test (look s)
+abbrev pub Gathers : FinSet nat_cmp → (Option Man → Bool) → Men → Type 0
+Gathers set test man_on = (s : ℕ) → contains set s ≡ test (man_on s)
 
 -- each set that is kept has exactly its squares
-pub record SetsAreKept (kept : Kept) (look : Look) : Type 0 where
-  pub white : Gathers kept.white (is_of White) look
-  pub black : Gathers kept.black (is_of Black) look
-  pub kings : Gathers kept.kings holds_king look
-  pub straight : Gathers kept.straight holds_straight look
-  pub diagonal : Gathers kept.diagonal holds_diagonal look
+pub record SetsAreKept (kept : Kept) (man_on : Men) : Type 0 where
+  pub white : Gathers kept.white (is_of White) man_on
+  pub black : Gathers kept.black (is_of Black) man_on
+  pub kings : Gathers kept.kings holds_king man_on
+  pub straight : Gathers kept.straight holds_straight man_on
+  pub diagonal : Gathers kept.diagonal holds_diagonal man_on
 
 -- the man comes to an empty square, and nothing else changes
-pub record IsPut (before after : Look) (at : ℕ) (man : Man) : Type 0 where
+pub record IsPut (before after : Men) (at : ℕ) (man : Man) : Type 0 where
   pub empty : before at ≡ None
   pub there : after at ≡ Some man
   pub elsewhere : (s : ℕ) → s ≢ at → after s ≡ before s
 
 -- the square becomes empty, and nothing else changes
-pub record IsCleared (before after : Look) (at : ℕ) : Type 0 where
+pub record IsCleared (before after : Men) (at : ℕ) : Type 0 where
   pub empty : after at ≡ None
   pub elsewhere : (s : ℕ) → s ≢ at → after s ≡ before s

@@ -5,7 +5,7 @@ use Rattle.chess_types.specs.declared.board.man.Kind.{Kind}
 use Rattle.chess_types.specs.board.Men.{kind_number}
 use Rattle.chess_types.specs.steps.ManCode.{kind_of, kind_of-number}
 use Rattle.chess_types.specs.board.MoveParts.{MoveParts}
-use Rattle.chess_types.specs.board.Position.{State}
+use Rattle.chess_types.specs.board.Position.{PositionParts}
 use Rattle.chess_types.specs.steps.StateCode.{coded_state}
 use Rattle.chess_types.specs.board.Lines.{Line}
 
@@ -24,4 +24,4 @@ coded_move =
 -- a line as a tuple
 abbrev pub coded_line : Coded Line
 coded_line =
-    code_by (State × List MoveParts) (coded× coded_state (coded_list coded_move)) (λ l. (l.start, l.moves)) (λ p. record { start = p.0; moves = p.1 }) (λ _. refl)
+    code_by (PositionParts × List MoveParts) (coded× coded_state (coded_list coded_move)) (λ l. (l.start, l.moves)) (λ p. record { start = p.0; moves = p.1 }) (λ _. refl)

@@ -11,7 +11,7 @@ use Rattle.chess_types.specs.declared.board.position.Rights.{Rights}
 use Rattle.chess_types.specs.board.Squares.{squares}
 use Rattle.chess_types.specs.board.Board.{Board, man_at}
 use Rattle.chess_types.specs.board.Men.{same_colour, same_kind, kind_number}
-use Rattle.chess_types.specs.board.Position.{State}
+use Rattle.chess_types.specs.board.Position.{PositionParts}
 use Rattle.chess_types.specs.board.Repetition.{same_bool, same_man, same_rights, same_target}
 use Rattle.chess_types.specs.board.Equality.{same_board, same_state}
 
@@ -131,8 +131,8 @@ same_board-laws = on_all squares
 pub same_state-laws : IsEquivalence same_state
 unfolding same_state
 same_state-laws =
-    and_equiv (on_equiv (λ (p : State). p.placement) same_board-laws)
-    (and_equiv (on_equiv (λ (p : State). p.side) colour_laws)
-    (and_equiv (on_equiv (λ (p : State). p.rights) rights_laws)
-    (and_equiv (on_equiv (λ (p : State). p.target) target_laws)
-    (and_equiv (on_equiv (λ (p : State). p.clock) nat_eq_equiv) (on_equiv (λ (p : State). p.number) nat_eq_equiv)))))
+    and_equiv (on_equiv (λ (p : PositionParts). p.placement) same_board-laws)
+    (and_equiv (on_equiv (λ (p : PositionParts). p.side) colour_laws)
+    (and_equiv (on_equiv (λ (p : PositionParts). p.rights) rights_laws)
+    (and_equiv (on_equiv (λ (p : PositionParts). p.target) target_laws)
+    (and_equiv (on_equiv (λ (p : PositionParts). p.clock) nat_eq_equiv) (on_equiv (λ (p : PositionParts). p.number) nat_eq_equiv)))))

@@ -7,7 +7,7 @@ use Rattle.chess_types.specs.declared.board.position.Rights.{Rights}
 use Rattle.chess_types.specs.board.Board.{Board}
 use Rattle.chess_types.specs.board.Men.{colour_number}
 use Rattle.chess_types.specs.steps.ManCode.{coded_man, colour_of, colour_of-number}
-use Rattle.chess_types.specs.board.Position.{State}
+use Rattle.chess_types.specs.board.Position.{PositionParts}
 
 -- a colour as a number
 abbrev pub coded_colour : Coded Colour
@@ -26,7 +26,7 @@ abbrev pub coded_board : Coded Board
 coded_board = map.code coded_ℕ coded_man
 
 -- a position as a tuple
-abbrev pub coded_state : Coded State
+abbrev pub coded_state : Coded PositionParts
 coded_state =
     code_by ((Board × Colour) × (Rights × (Option ℕ × (ℕ × ℕ))))
     (coded× (coded× coded_board coded_colour) (coded× coded_rights (coded× (coded_option coded_ℕ) (coded× coded_ℕ coded_ℕ))))

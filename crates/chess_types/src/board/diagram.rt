@@ -2,7 +2,7 @@ ghost use Rattle.std.specs.Prelude.{◌≡◌, ◌<◌, ◌≤◌, ◌+◌, ◌+
 ghost use Rattle.arrayvec.specs.ArrayString.{array_string_len};
 ghost use Rattle.chess_types.specs.declared.board.man.Colour.TheVariants.{White};
 ghost use Rattle.chess_types.specs.board.Board.{man_at};
-ghost use Rattle.chess_types.specs.board.Position.{look};
+ghost use Rattle.chess_types.specs.board.Position.{man_on};
 ghost use Rattle.chess_types.specs.board.Diagram.{shown as shown_of, seen_at as square_seen_at, line_text, diagram};
 
 use super::man::{Colour, Man};
@@ -145,7 +145,7 @@ impl Position {
 }
 
 impl fmt::Display for Position {
-    ghost output = { λ position. Some (diagram (look position) White) };
+    ghost output = { λ position. Some (diagram (man_on position) White) };
 
     /// The diagram that White sees; whose move it is, the rights, the target and the counters aren't shown.
     fn fmt<W: fmt::Write>(&self, f: &mut fmt::Formatter<W>) -> fmt::Result {

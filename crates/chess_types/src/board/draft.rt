@@ -14,7 +14,7 @@ use std::alloc::AllocError;
 use std::marker::Model;
 
 /// The six fields of a position that is still being put together: they may be any. `setup` tests them, and
-/// `chess_attack::position` makes the position. Contracts see the record `State` of `specs/board/Position.antt`.
+/// `chess_attack::position` makes the position. Contracts see the record `PositionParts` of `specs/board/Position.antt`.
 #[derive(Debug, Drop)]
 pub struct Draft {
     /// What is on each square, from a1 to h8.
@@ -33,10 +33,10 @@ pub struct Draft {
 
 impl Model for Draft {
     ghost use Rattle.chess_types.specs.board.Cells.{board_of};
-    ghost use Rattle.chess_types.specs.board.Position.{State};
+    ghost use Rattle.chess_types.specs.board.Position.{PositionParts};
     ghost use Rattle.chess_types.specs.steps.StateCode.{coded_state};
 
-    ghost Value = { State };
+    ghost Value = { PositionParts };
 
     ghost coded = { coded_state };
 

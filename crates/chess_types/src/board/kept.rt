@@ -1,5 +1,5 @@
 ghost use Rattle.std.specs.Prelude.{◌≡◌, ℕ, None, true, false};
-ghost use Rattle.chess_types.specs.board.Board.{Look};
+ghost use Rattle.chess_types.specs.board.Board.{Men};
 ghost use Rattle.chess_types.specs.steps.KeptSets.{SetsAreKept, IsPut, IsCleared, is_straight as is_straight_of, is_diagonal as is_diagonal_of};
 
 use super::cell::is_of;
@@ -40,7 +40,7 @@ fn is_diagonal(kind: Kind) -> bool
 impl Kept {
     /// Where no man stands.
     pub fn empty() -> Kept
-        ensures { (look : Look) → ((s : ℕ) → look s ≡ None) → SetsAreKept result look }
+        ensures { (man_on : Men) → ((s : ℕ) → man_on s ≡ None) → SetsAreKept result man_on }
     {
         Kept {
             white: SquareSet::empty(),
@@ -53,7 +53,7 @@ impl Kept {
 
     /// A man is put on an empty square.
     pub fn put(&mut self, at: Square, man: Man)
-        ensures { (before : Look) (after : Look) → SetsAreKept self.old before → IsPut before after at man → SetsAreKept self.new after }
+        ensures { (before : Men) (after : Men) → SetsAreKept self.old before → IsPut before after at man → SetsAreKept self.new after }
     {
         self.white.insert_if(at, is_of(Colour::White, Some(man)));
         self.black.insert_if(at, is_of(Colour::Black, Some(man)));
@@ -64,7 +64,7 @@ impl Kept {
 
     /// A square becomes empty.
     pub fn clear(&mut self, at: Square)
-        ensures { (before : Look) (after : Look) → SetsAreKept self.old before → IsCleared before after at → SetsAreKept self.new after }
+        ensures { (before : Men) (after : Men) → SetsAreKept self.old before → IsCleared before after at → SetsAreKept self.new after }
     {
         self.white.remove(at);
         self.black.remove(at);

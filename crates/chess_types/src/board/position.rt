@@ -1,6 +1,6 @@
 ghost use Rattle.std.specs.Prelude.{◌≡◌, replicate, ⊤};
 ghost use Rattle.chess_types.specs.declared.board.man.Kind.TheVariants.{Pawn};
-ghost use Rattle.chess_types.specs.board.Position.{IsQuiet, back_rank, cell_of, holds, king_home, rook_home, start, start_cells};
+ghost use Rattle.chess_types.specs.board.Position.{OpponentNotInCheck, back_rank, cell_of, holds, king_home, rook_home, start, start_cells};
 ghost use Rattle.chess_types.specs.board.Pseudo.{castles_to, crossed, reached};
 ghost use Rattle.chess_types.specs.board.After.{is_castling};
 ghost use Rattle.std.specs.Cmp.{partial_equiv_from_equiv};
@@ -114,7 +114,7 @@ impl Rights {
 }
 
 /// The six fields of a position, with every part of 'well formed' but the last: the side not to move may be in check.
-/// Contracts see the record `State` of `specs/Position.antt`.
+/// Contracts see the record `PositionParts` of `specs/Position.antt`.
 #[derive(Debug, Drop)]
 pub struct Setup {
     /// The men.
@@ -132,10 +132,10 @@ pub struct Setup {
 }
 
 impl Model for Setup {
-    ghost use Rattle.chess_types.specs.board.Position.{State};
+    ghost use Rattle.chess_types.specs.board.Position.{PositionParts};
     ghost use Rattle.chess_types.specs.steps.StateCode.{coded_state};
 
-    ghost Value = { State };
+    ghost Value = { PositionParts };
 
     ghost coded = { coded_state };
 
@@ -260,18 +260,18 @@ pub struct Position {
 }
 
 impl Model for Position {
-    ghost use Rattle.chess_types.specs.board.Position.{State};
+    ghost use Rattle.chess_types.specs.board.Position.{PositionParts};
     ghost use Rattle.chess_types.specs.steps.StateCode.{coded_state};
 
-    ghost Value = { State };
+    ghost Value = { PositionParts };
 
     ghost coded = { coded_state };
 
-    ghost use Rattle.chess_types.specs.board.Position.{IsQuiet};
+    ghost use Rattle.chess_types.specs.board.Position.{OpponentNotInCheck};
 
     ghost view = { λ p. p.setup };
 
-    ghost invariant = { λ p. IsQuiet p.setup };
+    ghost invariant = { λ p. OpponentNotInCheck p.setup };
 }
 
 impl Clone for Position {
@@ -305,7 +305,7 @@ impl Eq for Position {
 impl Position {
     /// The position of these fields, in which the side not to move isn't in check.
     pub fn new(setup: Setup) -> Position
-        requires { IsQuiet setup }
+        requires { OpponentNotInCheck setup }
         ensures { result ≡ setup }
     {
         Position { setup }
@@ -333,7 +333,7 @@ impl Position {
     /// The fields.
     pub fn setup(&self) -> &Setup
         ensures value { result.now ≡ self.now }
-        ensures quiet { IsQuiet self.now }
+        ensures quiet { OpponentNotInCheck self.now }
     {
         &self.setup
     }
@@ -341,7 +341,7 @@ impl Position {
     /// The fields, for whom the position is no longer needed.
     pub fn into_setup(self) -> Setup
         ensures value { result ≡ self }
-        ensures quiet { IsQuiet self }
+        ensures quiet { OpponentNotInCheck self }
     {
         let Position { setup } = self;
         setup

@@ -1,6 +1,6 @@
 -- The code's commands as those of the definitions.
 use Rattle.std.specs.Prelude.{Option, option_map}
-use Rattle.chess_types.specs.bytes.Words.{words}
+use Rattle.byte_streams.specs.Words.{words}
 use Rattle.chess_uci.specs.declared.command.Command.{Command as Code}
 use Rattle.chess_uci.specs.declared.command.Command.TheVariants.{Idle as IdleCode, Uci as UciCode, IsReady as IsReadyCode, NewGame as NewGameCode, Position as PositionCode, Go as GoCode, Stop as StopCode, Quit as QuitCode, SetOption as SetOptionCode}
 use Rattle.chess_uci.specs.Commands.{Command, Idle, Uci, IsReady, NewGame, Position, Go, Stop, Quit, SetOption, gaps}

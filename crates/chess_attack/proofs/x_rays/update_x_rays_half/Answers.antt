@@ -1,5 +1,5 @@
 use Rattle.std.proofs.Common.{◌≡◌, Some, sym, subst, ◌∙◌}
-use Rattle.chess_types.specs.board.Board.{Look, man_at}
+use Rattle.chess_types.specs.board.Board.{Men, man_at}
 use Rattle.chess_attack.specs.steps.Halves.{opposite}
 use Rattle.chess_attack.specs.KeptCounts.{count_in}
 use Rattle.chess_attack.specs.steps.Marks.{swept}
@@ -19,21 +19,21 @@ holds c = sym c.get.ensures ∙ c.in-Some-get.is
 
 pub sweep-requires : goal.sweep-requires
 sweep-requires c =
-    let look : Look = man_at c.args.placement.now in
+    let man_on : Men = man_at c.args.placement.now in
     let at = (goal.at.sweep-requires c).After-slides in
     record {
-      room = room_by c.args.change c.args.tally.now (cut_on look c.args.axis c.args.way c.args.at)
-          (swept c.in-Some-get.man.colour look c.args.axis c.args.way c.args.at) c.requires.room (λ k s hs.
-          sym (relit look c.args.axis c.args.way c.args.at c.in-Some.square c.in-Some-get.man (first at) (holds at) (sym c.slides.ensures ∙ c.if-slides.true) k s));
+      room = room_by c.args.change c.args.tally.now (cut_on man_on c.args.axis c.args.way c.args.at)
+          (swept c.in-Some-get.man.colour man_on c.args.axis c.args.way c.args.at) c.requires.room (λ k s hs.
+          sym (relit man_on c.args.axis c.args.way c.args.at c.in-Some.square c.in-Some-get.man (first at) (holds at) (sym c.slides.ensures ∙ c.if-slides.true) k s));
     }
 
 pub returns-then-slides-clause-counts : goal.returns-then-slides-clause-counts
 returns-then-slides-clause-counts c =
-    let look : Look = man_at c.args.placement.now in
+    let man_on : Men = man_at c.args.placement.now in
     let at = (goal.at.returns-then-slides-clause-counts c).After-slides in
-    moves_by c.args.change c.args.tally.now c.sweep.new.tally (swept c.in-Some-get.man.colour look c.args.axis c.args.way c.args.at)
-    (cut_on look c.args.axis c.args.way c.args.at) c.sweep.ensures.counts (λ k s hs.
-    relit look c.args.axis c.args.way c.args.at c.in-Some.square c.in-Some-get.man (first at) (holds at) (sym c.slides.ensures ∙ c.if-slides.true) k s)
+    moves_by c.args.change c.args.tally.now c.sweep.new.tally (swept c.in-Some-get.man.colour man_on c.args.axis c.args.way c.args.at)
+    (cut_on man_on c.args.axis c.args.way c.args.at) c.sweep.ensures.counts (λ k s hs.
+    relit man_on c.args.axis c.args.way c.args.at c.in-Some.square c.in-Some-get.man (first at) (holds at) (sym c.slides.ensures ∙ c.if-slides.true) k s)
 
 pub returns-else-slides-clause-counts : goal.returns-else-slides-clause-counts
 returns-else-slides-clause-counts c =
@@ -43,10 +43,10 @@ returns-else-slides-clause-counts c =
 
 pub returns-in_default-clause-counts : goal.returns-in_default-clause-counts
 returns-in_default-clause-counts c =
-    let look : Look = man_at c.args.placement.now in
-    let bare : IsBare look c.args.axis (opposite c.args.way) c.args.at =
-    subst (λ w. IsBare look c.args.axis w c.args.at) c.opposite-other.ensures c.in_default.ensures.none in
-    λ k s hs. moved_none c.args.change (count_in c.args.tally.now k s) _ (unlit_bare look c.args.axis c.args.way c.args.at bare k s)
+    let man_on : Men = man_at c.args.placement.now in
+    let bare : IsBare man_on c.args.axis (opposite c.args.way) c.args.at =
+    subst (λ w. IsBare man_on c.args.axis w c.args.at) c.opposite-other.ensures c.in_default.ensures.none in
+    λ k s hs. moved_none c.args.change (count_in c.args.tally.now k s) _ (unlit_bare man_on c.args.axis c.args.way c.args.at bare k s)
 
 pub returns-then-is_quiet-clause-worked : goal.returns-then-is_quiet-clause-worked
 returns-then-is_quiet-clause-worked c = worked_none _ _

@@ -1,4 +1,4 @@
-use Rattle.chess_types.specs.board.Position.{look}
+use Rattle.chess_types.specs.board.Position.{man_on}
 use Rattle.chess_types.specs.board.Men.{opponent}
 use Rattle.chess_eval.specs.Mirror.{across}
 use Rattle.chess_laws.proofs.SeenAttacks.{check_across, count_across}
@@ -8,8 +8,8 @@ use Rattle.chess_laws.proofs.mirror.mirror_laws.Goals as goal
 
 pub returns : goal.returns
 returns c = record {
-  counts = λ p q both. count_across across opponent over_ranks (look p) (look q) (seen both).board;
-  checks = λ p q both. check_across across opponent over_ranks (look p) (look q) (seen both).board;
+  counts = λ p q both. count_across across opponent over_ranks (man_on p) (man_on q) (seen both).board;
+  checks = λ p q both. check_across across opponent over_ranks (man_on p) (man_on q) (seen both).board;
   legal = legal_turns;
   after = after_turns;
   mate = mate_turns;

@@ -6,36 +6,36 @@ use Rattle.chess_loop.proofs.driver.answer_lines.Goals as goal
 pub loop-at-init : goal.loop-at-init
 loop-at-init g c = record {
   going = λ begun holds.
-      going_start g.E.Engine.step g.E.Engine.cut g.E.Engine.over g.W.Sink.takes g.W.Sink.failed begun c.args.piece.now
+      going_start g.E.LineHandler.step g.E.LineHandler.cut g.E.LineHandler.over g.W.Sink.takes g.W.Sink.failed begun c.args.piece.now
       c.args.engine.now c.args.line.now c.args.writer.now c.args.page.now c.requires.empty holds;
   awake = c.requires.awake;
 }
 
 pub returns-in-Err : goal.returns-in-Err
 returns-in-Err g c = λ begun holds.
-    going_cramped g.E.Engine.step g.E.Engine.cut g.E.Engine.over g.W.Sink.takes g.W.Sink.failed begun c.args.piece.now
+    going_cramped g.E.LineHandler.step g.E.LineHandler.cut g.E.LineHandler.over g.W.Sink.takes g.W.Sink.failed begun c.args.piece.now
     c.args.engine.now c.loop-at.engine c.loop-at.line c.add.new.self c.args.writer.now c.loop-at.writer c.make_room.new.writer
     c.loop-at.page c.make_room.new.self c.make_room.new.self c.loop-at.rest.now c.in-Err.failed
     (c.loop-at.invariant.going begun holds) c.in-Err.ensures.flows
 
 pub returns-in-Err-answer_line : goal.returns-in-Err-answer_line
 returns-in-Err-answer_line g c = λ begun holds.
-    going_stops g.E.Engine.step g.E.Engine.cut g.E.Engine.over g.W.Sink.takes g.W.Sink.failed begun c.args.piece.now
+    going_stops g.E.LineHandler.step g.E.LineHandler.cut g.E.LineHandler.over g.W.Sink.takes g.W.Sink.failed begun c.args.piece.now
     c.args.engine.now c.loop-at.engine c.answer_line.new.engine c.loop-at.line c.add.new.self c.answer_line.new.line
     c.args.writer.now c.make_room.new.writer c.answer_line.new.writer c.make_room.new.self c.answer_line.new.page c.answer_line.new.page
     c.loop-at.rest.now _ c.in-Some.at c.in-Err-answer_line.failed
-    (going_room g.E.Engine.step g.E.Engine.cut g.E.Engine.over g.W.Sink.takes g.W.Sink.failed begun c.args.piece.now
+    (going_room g.E.LineHandler.step g.E.LineHandler.cut g.E.LineHandler.over g.W.Sink.takes g.W.Sink.failed begun c.args.piece.now
     c.args.engine.now c.loop-at.engine c.loop-at.line c.args.writer.now c.loop-at.writer c.make_room.new.writer c.loop-at.page c.make_room.new.self c.loop-at.rest.now
     (c.loop-at.invariant.going begun holds) c.in_default-make_room.ensures.flows)
     c.in-Some.ensures (grind (arith, common_steps)) c.add.ensures c.in-Err-answer_line.ensures.answered
 
 pub returns-then-is_over : goal.returns-then-is_over
 returns-then-is_over g c = λ begun holds.
-    going_over g.E.Engine.step g.E.Engine.cut g.E.Engine.over g.W.Sink.takes g.W.Sink.failed begun c.args.piece.now
+    going_over g.E.LineHandler.step g.E.LineHandler.cut g.E.LineHandler.over g.W.Sink.takes g.W.Sink.failed begun c.args.piece.now
     c.args.engine.now c.loop-at.engine c.answer_line.new.engine c.loop-at.line c.add.new.self c.answer_line.new.line
     c.args.writer.now c.make_room.new.writer c.answer_line.new.writer c.make_room.new.self c.answer_line.new.page
     c.loop-at.rest.now _ c.in-Some.at
-    (going_room g.E.Engine.step g.E.Engine.cut g.E.Engine.over g.W.Sink.takes g.W.Sink.failed begun c.args.piece.now
+    (going_room g.E.LineHandler.step g.E.LineHandler.cut g.E.LineHandler.over g.W.Sink.takes g.W.Sink.failed begun c.args.piece.now
     c.args.engine.now c.loop-at.engine c.loop-at.line c.args.writer.now c.loop-at.writer c.make_room.new.writer c.loop-at.page c.make_room.new.self c.loop-at.rest.now
     (c.loop-at.invariant.going begun holds) c.in_default-make_room.ensures.flows)
     c.in-Some.ensures (grind (arith, common_steps)) c.add.ensures c.in_default-answer_line.ensures.answered (cc)
@@ -43,11 +43,11 @@ returns-then-is_over g c = λ begun holds.
 pub loop-at-preserved : goal.loop-at-preserved
 loop-at-preserved g c = record {
   going = λ begun holds.
-      going_on g.E.Engine.step g.E.Engine.cut g.E.Engine.over g.W.Sink.takes g.W.Sink.failed begun c.args.piece.now
+      going_on g.E.LineHandler.step g.E.LineHandler.cut g.E.LineHandler.over g.W.Sink.takes g.W.Sink.failed begun c.args.piece.now
       c.args.engine.now c.loop-at.engine c.answer_line.new.engine c.loop-at.line c.add.new.self c.answer_line.new.line
       c.args.writer.now c.make_room.new.writer c.answer_line.new.writer c.make_room.new.self c.answer_line.new.page
       c.loop-at.rest.now _ _ c.in-Some.at
-      (going_room g.E.Engine.step g.E.Engine.cut g.E.Engine.over g.W.Sink.takes g.W.Sink.failed begun c.args.piece.now
+      (going_room g.E.LineHandler.step g.E.LineHandler.cut g.E.LineHandler.over g.W.Sink.takes g.W.Sink.failed begun c.args.piece.now
       c.args.engine.now c.loop-at.engine c.loop-at.line c.args.writer.now c.loop-at.writer c.make_room.new.writer c.loop-at.page c.make_room.new.self c.loop-at.rest.now
       (c.loop-at.invariant.going begun holds) c.in_default-make_room.ensures.flows)
       c.in-Some.ensures (grind (arith, common_steps)) (grind (arith, common_steps))
@@ -57,6 +57,6 @@ loop-at-preserved g c = record {
 
 pub returns : goal.returns
 returns g c = λ begun holds.
-    going_ends g.E.Engine.step g.E.Engine.cut g.E.Engine.over g.W.Sink.takes g.W.Sink.failed begun c.args.piece.now
+    going_ends g.E.LineHandler.step g.E.LineHandler.cut g.E.LineHandler.over g.W.Sink.takes g.W.Sink.failed begun c.args.piece.now
     c.args.engine.now c.loop-at.engine c.loop-at.line c.add-2.new.self c.args.writer.now c.loop-at.writer c.loop-at.page c.loop-at.rest.now
     (c.loop-at.invariant.going begun holds) c.loop-at.invariant.awake c.in_default.ensures c.add-2.ensures

@@ -3,28 +3,28 @@ use Rattle.std.specs.Prelude.{nat_lt}
 use Rattle.std.specs.FinSet.{contains}
 use Rattle.chess_types.specs.board.Squares.{rank_of}
 use Rattle.chess_types.specs.board.Pseudo.{last_rank}
-use Rattle.chess_types.specs.board.Position.{State, look}
+use Rattle.chess_types.specs.board.Position.{PositionParts, man_on}
 use Rattle.chess_attack.proofs.Lifted.{OnlyKing, only_king}
 use Rattle.chess_moves.proofs.SetCounts.{plain_count, pawn_count}
 use Rattle.chess_moves.proofs.counting.count_from.Goals as goal
 
 pub returns-then-is_pawn-clause-count : goal.returns-then-is_pawn-clause-count
 returns-then-is_pawn-clause-count c =
-    let p : State = c.args.live.now.position in
+    let p : PositionParts = c.args.live.now.position in
     let setup = c.position.ensures.setup in
     let same = c.behind-live.view_is ∙ c.position.ensures.value in
-    let king : OnlyKing (look p) p.side c.args.guard.now.king =
+    let king : OnlyKing (man_on p) p.side c.args.guard.now.king =
     only_king p.placement p.side c.args.guard.now.king (setup.kings p.side) c.requires.guard.on_board c.requires.guard.king in
     pawn_count p setup c.own_kind-kind.result c.args.from c.args.guard.now.king (omega arith) c.own_kind-kind.ensures king c.targets-squares.result c.targets-squares.ensures.is_legal_target
     c.len.result c.len-then-is_pawn.result c.last_squares.result c.intersection-last.result (sym c.is_pawn.ensures ∙ c.if-is_pawn.true)
-    (subst (λ (q : State). (s : ℕ) → contains c.last_squares.result s ≡ (nat_lt s 64 && rank_of s == last_rank q.side)) same c.last_squares.ensures)
+    (subst (λ (q : PositionParts). (s : ℕ) → contains c.last_squares.result s ≡ (nat_lt s 64 && rank_of s == last_rank q.side)) same c.last_squares.ensures)
     c.intersection-last.ensures c.len.ensures.counted c.len-then-is_pawn.ensures.counted
 
 pub returns-else-is_pawn-clause-count : goal.returns-else-is_pawn-clause-count
 returns-else-is_pawn-clause-count c =
-    let p : State = c.args.live.now.position in
+    let p : PositionParts = c.args.live.now.position in
     let setup = c.position.ensures.setup in
-    let king : OnlyKing (look p) p.side c.args.guard.now.king =
+    let king : OnlyKing (man_on p) p.side c.args.guard.now.king =
     only_king p.placement p.side c.args.guard.now.king (setup.kings p.side) c.requires.guard.on_board c.requires.guard.king in
     plain_count p setup c.own_kind-kind.result c.args.from c.args.guard.now.king (omega arith) c.own_kind-kind.ensures king c.targets-squares.result c.targets-squares.ensures.is_legal_target
     c.len-else-is_pawn.result (sym c.is_pawn.ensures ∙ c.if-is_pawn.false) c.len-else-is_pawn.ensures.counted

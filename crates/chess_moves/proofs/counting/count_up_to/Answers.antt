@@ -1,7 +1,7 @@
 use Rattle.std.proofs.Common.{◌≤◌, ◌+◌, [], length, filter, ap, ◌∙◌, refl, arith, zero-add}
 use Rattle.std.specs.List.{flat_map}
 use Rattle.chess_types.specs.board.Legal.{is_legal, moves_from, legal_moves}
-use Rattle.chess_types.specs.board.Position.{State}
+use Rattle.chess_types.specs.board.Position.{PositionParts}
 use Rattle.chess_moves.proofs.Bound.{legal_few}
 use Rattle.chess_moves.proofs.Reach.{own_each, own_listed}
 use Rattle.chess_moves.proofs.SetCounts.{count_split}
@@ -12,7 +12,7 @@ use Rattle.chess_moves.proofs.counting.count_up_to.Goals.{After-count_from-count
 pub loop-from-init : goal.loop-from-init
 unfolding legal_moves
 loop-from-init c =
-    let p : State = c.args.live.now.position in
+    let p : PositionParts = c.args.live.now.position in
     let xs = c.into_iter-from-iterator.ensures.into_iter_gives ∙ c.iter-from-items.ensures.value in
     record {
       can = tt;
@@ -26,7 +26,7 @@ loop-from-init c =
 -- with those of the next square there are no more than all
 counted : (c : After-count_from-count) → c.loop-from.count + c.count_from-count.result ≤ 432
 counted c =
-    let p : State = c.args.live.now.position in
+    let p : PositionParts = c.args.live.now.position in
     omega (
       arith,
       legal_few p c.own_men-own.ensures.few,
@@ -43,6 +43,6 @@ returns-then-count-enough-clause-at_most c = counted (goal.at.returns-then-count
 
 pub returns-clause-at_most : goal.returns-clause-at_most
 returns-clause-at_most c =
-    let p : State = c.args.live.now.position in
+    let p : PositionParts = c.args.live.now.position in
     let few : length (legal_moves p) ≤ 432 = legal_few p c.own_men-own.ensures.few in
     omega (arith, few, c.loop-from.invariant.left)

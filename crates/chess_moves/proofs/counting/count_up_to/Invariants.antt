@@ -2,7 +2,7 @@ use Rattle.std.proofs.Common.{◌≡◌, ◌+◌, true, length, filter}
 use Rattle.std.specs.List.{list_all, flat_map}
 use Rattle.chess_types.specs.board.Legal.{is_legal, moves_from, legal_moves}
 use Rattle.chess_types.specs.board.Men.{is_of}
-use Rattle.chess_types.specs.board.Position.{look}
+use Rattle.chess_types.specs.board.Position.{man_on}
 use Rattle.chess_moves.proofs.Still.{IsStill}
 use Rattle.chess_moves.proofs.counting.count_up_to.Given as goal
 
@@ -12,6 +12,6 @@ invariant-loop-from l = record {
   can : (goal.iterator-loop-from).can_next l.from-iterator;
   finite : (goal.iterator-loop-from).is_finite l.from-iterator;
   still : IsStill l.live l.fn.live;
-  own : list_all (λ s. is_of l.fn.live.position.side (look l.fn.live.position s)) l.from-iterator ≡ true;
+  own : list_all (λ s. is_of l.fn.live.position.side (man_on l.fn.live.position s)) l.from-iterator ≡ true;
   left : l.count + length (filter (is_legal l.fn.live.position) (flat_map moves_from l.from-iterator)) ≡ length (legal_moves l.fn.live.position);
 }

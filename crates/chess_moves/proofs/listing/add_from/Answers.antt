@@ -3,7 +3,7 @@ use Rattle.std.proofs.lemmas.Bool.{and_parts}
 use Rattle.std.specs.List.{list_all}
 use Rattle.chess_types.specs.board.Legal.{is_legal, moves_between}
 use Rattle.chess_types.specs.board.MoveParts.{MoveParts}
-use Rattle.chess_types.specs.board.Position.{State, look}
+use Rattle.chess_types.specs.board.Position.{PositionParts, man_on}
 use Rattle.chess_attack.proofs.Lifted.{OnlyKing, only_king}
 use Rattle.chess_moves.specs.steps.Targets.{is_legal_target, moves_named}
 use Rattle.chess_moves.proofs.LegalTargets.{lands_all}
@@ -24,17 +24,17 @@ lands : (c : In-Some) →
     filter (is_legal c.args.live.now.position) (moves_between c.args.from c.in-Some.to)
     ≡ moves_named c.args.live.now.position.side c.own_kind-kind.result c.args.from c.in-Some.to
 lands c =
-    let p : State = c.args.live.now.position in
+    let p : PositionParts = c.args.live.now.position in
     let setup = c.position.ensures.setup in
-    let king : OnlyKing (look p) p.side c.args.guard.now.king =
+    let king : OnlyKing (man_on p) p.side c.args.guard.now.king =
     only_king p.placement p.side c.args.guard.now.king (setup.kings p.side) c.requires.guard.on_board c.requires.guard.king in
     lands_all p setup c.own_kind-kind.result c.args.from c.in-Some.to c.args.guard.now.king (omega arith) (omega arith) c.own_kind-kind.ensures king (legal c).0
 
 pub loop-to-init : goal.loop-to-init
 loop-to-init c =
-    let p : State = c.args.live.now.position in
+    let p : PositionParts = c.args.live.now.position in
     let setup = c.position.ensures.setup in
-    let king : OnlyKing (look p) p.side c.args.guard.now.king =
+    let king : OnlyKing (man_on p) p.side c.args.guard.now.king =
     only_king p.placement p.side c.args.guard.now.king (setup.kings p.side) c.requires.guard.on_board c.requires.guard.king in
     let xs = c.into_iter-to-iterator.ensures.into_iter_gives ∙ c.iter-to-items.ensures.value in
     record {
@@ -48,18 +48,18 @@ loop-to-init c =
 
 pub add_named-requires : goal.add_named-requires
 add_named-requires c =
-    let p : State = c.args.live.now.position in
+    let p : PositionParts = c.args.live.now.position in
     let same = c.behind-live.view_is ∙ c.position.ensures.value in
     record {
       room = subst (λ (xs : List MoveParts). length c.loop-to.list.items + length xs ≤ 432)
           (lands (goal.at.add_named-requires c).In-Some
-          ∙ ap (λ (q : State). moves_named q.side c.own_kind-kind.result c.args.from c.in-Some.to) (sym same))
+          ∙ ap (λ (q : PositionParts). moves_named q.side c.own_kind-kind.result c.args.from c.in-Some.to) (sym same))
           (room_next {now = p} refl c.loop-to.invariant.listed (next_piece (moves_between c.args.from) c.in-Some.ensures.steps) c.requires.room);
     }
 
 pub loop-to-preserved : goal.loop-to-preserved
 loop-to-preserved c =
-    let p : State = c.args.live.now.position in
+    let p : PositionParts = c.args.live.now.position in
     let same = c.behind-live.view_is ∙ c.position.ensures.value in
     record {
       can = tt;
@@ -68,6 +68,6 @@ loop-to-preserved c =
       listed = listed_next {now = p} refl c.loop-to.invariant.listed (next_piece (moves_between c.args.from) c.in-Some.ensures.steps)
           (c.add_named.ensures.added
           ∙ ap (λ (xs : List MoveParts). c.loop-to.list.items ++ xs)
-          (ap (λ (q : State). moves_named q.side c.own_kind-kind.result c.args.from c.in-Some.to) same
+          (ap (λ (q : PositionParts). moves_named q.side c.own_kind-kind.result c.args.from c.in-Some.to) same
           ∙ sym (lands (goal.at.loop-to-preserved c).In-Some)));
     }

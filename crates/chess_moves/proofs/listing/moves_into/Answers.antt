@@ -1,7 +1,7 @@
 use Rattle.std.proofs.Common.{◌≤◌, length, ap, ◌∙◌, arith}
 use Rattle.std.specs.List.{flat_map}
 use Rattle.chess_types.specs.board.Legal.{moves_from, legal_moves}
-use Rattle.chess_types.specs.board.Position.{State}
+use Rattle.chess_types.specs.board.Position.{PositionParts}
 use Rattle.chess_moves.proofs.Bound.{legal_few}
 use Rattle.chess_moves.proofs.Pieces.{room_next, listed_end, next_piece}
 use Rattle.chess_moves.proofs.Reach.{own_each, own_listed}
@@ -10,7 +10,7 @@ use Rattle.chess_moves.proofs.listing.moves_into.Goals as goal
 
 pub loop-from-init : goal.loop-from-init
 loop-from-init c =
-    let p : State = c.args.live.now.position in
+    let p : PositionParts = c.args.live.now.position in
     let xs = c.into_iter-from-iterator.ensures.into_iter_gives ∙ c.iter-from-items.ensures.value in
     record {
       can = tt;
@@ -23,7 +23,7 @@ loop-from-init c =
 pub add_from-requires-clause-room : goal.add_from-requires-clause-room
 unfolding legal_moves
 add_from-requires-clause-room c =
-    let p : State = c.args.live.now.position in
+    let p : PositionParts = c.args.live.now.position in
     let few : length (legal_moves p) ≤ 432 = legal_few p c.own_men-own.ensures.few in
     room_next c.loop-from.invariant.still.position c.loop-from.invariant.listed (next_piece moves_from c.in-Some.ensures.steps) (omega arith)
 

@@ -1,6 +1,6 @@
 use Rattle.std.proofs.Common.{◌≡◌, sym, ap, subst, ◌∙◌, arith}
 use Rattle.chess_types.specs.declared.board.man.Man.{Man}
-use Rattle.chess_types.specs.board.Position.{State, IsSetup}
+use Rattle.chess_types.specs.board.Position.{PositionParts, IsSetup}
 use Rattle.chess_play.specs.steps.Boards.{CanTakeBack, carried_back}
 use Rattle.chess_play.specs.Records.{RecordParts}
 use Rattle.chess_play.specs.steps.Undo.{mover, number_before, before_by}
@@ -12,7 +12,7 @@ carry_back-requires-clause-can c =
     let u = undoing c.args.setup.now c.requires.fits.before c.args.past c.args.there (omega arith) (omega arith) c.requires.fits.is_before c.requires.there in
     let man : c.mover-man.result ≡ mover c.args.past.played.promo c.args.there =
     c.mover-man.ensures ∙ ap (λ (r : RecordParts). mover r.played.promo c.args.there) c.past.view_is in
-    let inside = subst (λ (s : State). CanTakeBack c.args.past.target (mover c.args.past.played.promo c.args.there) c.args.past.played c.args.past.captured s.placement) (sym c.setup.view_is) u.can in
+    let inside = subst (λ (s : PositionParts). CanTakeBack c.args.past.target (mover c.args.past.played.promo c.args.there) c.args.past.played c.args.past.captured s.placement) (sym c.setup.view_is) u.can in
     let same = subst (λ (x : Man). CanTakeBack c.args.past.target x c.args.past.played c.args.past.captured c.setup.inside.placement) (sym man) inside in
     subst (λ (r : RecordParts). CanTakeBack r.target c.mover-man.result r.played r.captured c.setup.inside.placement) (sym c.past.view_is) same
 

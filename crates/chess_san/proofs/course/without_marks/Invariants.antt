@@ -1,5 +1,5 @@
 use Rattle.std.proofs.Common.{◌≡◌, length}
-use Rattle.chess_types.specs.bytes.Words.{without_last_gaps}
+use Rattle.byte_streams.specs.Words.{without_last_gaps}
 use Rattle.chess_san.specs.Forms.{marks}
 use Rattle.chess_san.proofs.course.without_marks.Given as goal
 

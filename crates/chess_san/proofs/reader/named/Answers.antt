@@ -1,5 +1,5 @@
 use Rattle.std.proofs.Common.{◌≡◌, true, sym, ap, ◌∙◌}
-use Rattle.chess_types.specs.board.Position.{State}
+use Rattle.chess_types.specs.board.Position.{PositionParts}
 use Rattle.chess_types.specs.board.Pseudo.{reached}
 use Rattle.chess_san.specs.declared.form.Form.{Form}
 use Rattle.chess_san.specs.declared.form.Form.TheVariants.{Castles, Piece, Plain}
@@ -12,7 +12,7 @@ only_named-requires-clause-goes c = λ m h legal.
     let named : names c.args.live.now.position (Castles c.in-Castles.wing) m ≡ true =
     ap (λ (f : Form). names c.args.live.now.position f m) (sym c.in-Castles.is) ∙ h in
     let g = castles_goes c.args.live.now.position c.in-Castles.wing m named legal in
-    (g.0 ∙ ap (λ (p : State). reached p.side c.in-Castles.wing) (sym c.position.ensures.value ∙ sym c.behind-live.view_is) ∙ sym c.reached-to.ensures, g.1)
+    (g.0 ∙ ap (λ (p : PositionParts). reached p.side c.in-Castles.wing) (sym c.position.ensures.value ∙ sym c.behind-live.view_is) ∙ sym c.reached-to.ensures, g.1)
 
 pub only_named-requires-in-Piece-clause-goes : goal.only_named-requires-in-Piece-clause-goes
 only_named-requires-in-Piece-clause-goes c = λ m h legal.

@@ -1,5 +1,5 @@
 use Rattle.std.proofs.Common.{ap, ◌∙◌}
-use Rattle.chess_types.specs.board.Position.{State}
+use Rattle.chess_types.specs.board.Position.{PositionParts}
 use Rattle.chess_moves.specs.steps.Targets.{move_to}
 use Rattle.chess_moves.proofs.Still.{still_first}
 use Rattle.chess_moves.proofs.SafeSteps.{found_first, found_next, found_all}
@@ -22,7 +22,7 @@ loop-from-preserved c = record {
   finite = tt;
   still = record { position = c.is_named-passes.ensures.position ∙ c.loop-from.invariant.still.position; words = c.is_named-passes.ensures.words ∙ c.loop-from.invariant.still.words };
   found = found_next c.loop-from.invariant.found c.insert_if.ensures
-      (c.is_named-passes.ensures.value ∙ ap (λ (p : State). legal_and (names p c.args.form.now) p (move_to c.in-Some.from c.args.to c.args.promo)) c.loop-from.invariant.still.position)
+      (c.is_named-passes.ensures.value ∙ ap (λ (p : PositionParts). legal_and (names p c.args.form.now) p (move_to c.in-Some.from c.args.to c.args.promo)) c.loop-from.invariant.still.position)
       c.in-Some.ensures.steps;
 }
 

@@ -1,10 +1,10 @@
 use Rattle.std.proofs.Common.{rules}
-use Rattle.chess_san.specs.Naming.{reading}
+use Rattle.chess_san.specs.Naming.{san_reading}
 use Rattle.chess_san.proofs.GoesLemmas.{read_legal}
 use Rattle.chess_san.proofs.reader.read.Goals as goal
 
 pub returns-in-Some-clause-value : goal.returns-in-Some-clause-value
-unfolding reading
+unfolding san_reading
 returns-in-Some-clause-value c = search rules
 
 pub returns-in-Some-clause-legal : goal.returns-in-Some-clause-legal

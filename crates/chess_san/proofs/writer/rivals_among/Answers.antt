@@ -1,5 +1,5 @@
 use Rattle.std.proofs.Common.{ap, ◌∙◌, None}
-use Rattle.chess_types.specs.board.Position.{State}
+use Rattle.chess_types.specs.board.Position.{PositionParts}
 use Rattle.chess_moves.specs.steps.Targets.{move_to}
 use Rattle.chess_moves.proofs.Still.{still_first}
 use Rattle.chess_moves.proofs.SafeSteps.{found_first, found_next, found_all}
@@ -22,7 +22,7 @@ loop-other-preserved c = record {
   finite = tt;
   still = record { position = c.is_legal_rival-passes.ensures.position ∙ c.loop-other.invariant.still.position; words = c.is_legal_rival-passes.ensures.words ∙ c.loop-other.invariant.still.words };
   found = found_next c.loop-other.invariant.found c.insert_if.ensures
-      (c.is_legal_rival-passes.ensures.value ∙ ap (λ (p : State). legal_and (is_rival p c.args.kind c.args.from c.args.to) p (move_to c.in-Some.other c.args.to None)) c.loop-other.invariant.still.position)
+      (c.is_legal_rival-passes.ensures.value ∙ ap (λ (p : PositionParts). legal_and (is_rival p c.args.kind c.args.from c.args.to) p (move_to c.in-Some.other c.args.to None)) c.loop-other.invariant.still.position)
       c.in-Some.ensures.steps;
 }
 

@@ -1,5 +1,5 @@
 use Rattle.std.proofs.Common.{◌≡◌, length, fold}
-use Rattle.chess_types.specs.bytes.Words.{words}
+use Rattle.byte_streams.specs.Words.{words}
 use Rattle.chess_uci.specs.Commands.{gaps}
 use Rattle.chess_uci.specs.Go.{fields, read_word}
 use Rattle.chess_uci.proofs.fields.read_fields.Given as goal

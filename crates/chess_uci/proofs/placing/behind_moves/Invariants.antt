@@ -1,5 +1,5 @@
 use Rattle.std.proofs.Common.{◌≡◌, length}
-use Rattle.chess_types.specs.bytes.Words.{words}
+use Rattle.byte_streams.specs.Words.{words}
 use Rattle.chess_uci.specs.Commands.{gaps}
 use Rattle.chess_uci.specs.Placing.{behind_moves}
 use Rattle.chess_uci.proofs.placing.behind_moves.Given as goal

@@ -1,4 +1,4 @@
-use Rattle.chess_types.specs.bytes.Words.{words}
+use Rattle.byte_streams.specs.Words.{words}
 use Rattle.chess_uci.specs.Commands.{gaps}
 use Rattle.chess_uci.proofs.PlaceLemmas.{played_all, played_on, played_start, words_refused}
 use Rattle.chess_uci.proofs.placing.play.Goals as goal

@@ -1,7 +1,7 @@
 use Rattle.std.proofs.Common.{◌≡◌, ◌≤◌, take}
 use Rattle.std.specs.Prelude.{filter}
 use Rattle.chess_types.specs.board.Texts.{move_text}
-use Rattle.chess_types.specs.bytes.Words.{words}
+use Rattle.byte_streams.specs.Words.{words}
 use Rattle.chess_uci.specs.Commands.{gaps}
 use Rattle.chess_uci.specs.Go.{is_listed}
 use Rattle.arrayvec.specs.ArrayVec.{array_vec_len}

@@ -1,6 +1,6 @@
 use Rattle.std.proofs.Common.{◌+◌, drop, sym, ap, subst, ◌∙◌, refl, arith}
 use Rattle.std.proofs.Math.ListN.{drop_of_length-le}
-use Rattle.chess_types.specs.board.Position.{State}
+use Rattle.chess_types.specs.board.Position.{PositionParts}
 use Rattle.chess_types.specs.board.After.{after}
 use Rattle.chess_types.specs.board.Legal.{legal_moves}
 use Rattle.chess_play.specs.Records.{IsBefore}
@@ -38,20 +38,20 @@ leaves-requires t c = (
 pub undo-requires : goal.undo-requires
 undo-requires t c =
     let before : IsBefore c.leaves.new.live.position c.make-made.result c.loop-m.live.position =
-    subst (λ (now : State). IsBefore now c.make-made.result c.loop-m.live.position) (sym c.leaves.ensures.position) c.make-made.ensures.is_before in
+    subst (λ (now : PositionParts). IsBefore now c.make-made.result c.loop-m.live.position) (sym c.leaves.ensures.position) c.make-made.ensures.is_before in
     record { fits = record { before = c.loop-m.live.position; is_before = before } }
 
 pub loop-m-preserved : goal.loop-m-preserved
 loop-m-preserved t c =
     let before : IsBefore c.leaves.new.live.position c.make-made.result c.loop-m.live.position =
-    subst (λ (now : State). IsBefore now c.make-made.result c.loop-m.live.position) (sym c.leaves.ensures.position) c.make-made.ensures.is_before in
+    subst (λ (now : PositionParts). IsBefore now c.make-made.result c.loop-m.live.position) (sym c.leaves.ensures.position) c.make-made.ensures.is_before in
     record {
       position = c.undo.ensures.position c.loop-m.live.position before ∙ c.loop-m.invariant.position;
       words = c.undo.ensures.words ∙ c.leaves.ensures.words ∙ c.make-made.ensures.words ∙ c.loop-m.invariant.words;
       counted = counted_next c.loop-m.invariant.counted c.m-item.result (drop (c.loop-m.m-index + 1) c.as_slice-m-items.result.now)
           c.make-made.new.self.position c.leaves.result c.saturating_add-count.result
           (next_move c.as_slice-m-items.result.now c.loop-m.m-index c.m-item.result c.m-item.is (omega arith))
-          (c.make-made.ensures.position ∙ ap (λ (s : State). after s c.m-item.result) c.loop-m.invariant.position)
+          (c.make-made.ensures.position ∙ ap (λ (s : PositionParts). after s c.m-item.result) c.loop-m.invariant.position)
           c.leaves.ensures.value c.saturating_add-count.ensures;
     }
 

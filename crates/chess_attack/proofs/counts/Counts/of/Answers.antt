@@ -1,7 +1,7 @@
 use Rattle.std.proofs.Common.{◌≡◌, ◌*◌, ◌+◌, sym, ap, ◌∙◌, subst, arith}
 use Rattle.std.specs.Ordering.{nat_cmp}
 use Rattle.std.specs.FinMap.{empty, get-empty}
-use Rattle.chess_types.specs.board.Board.{Look, man_at}
+use Rattle.chess_types.specs.board.Board.{Men, man_at}
 use Rattle.chess_attack.specs.declared.change.Change.TheVariants.{Raise}
 use Rattle.chess_attack.specs.KeptCounts.{AreCounts}
 use Rattle.chess_attack.specs.steps.Marks.{Moves, own}
@@ -25,21 +25,21 @@ mark-requires c = record {
 
 pub loop-number-preserved : goal.loop-number-preserved
 loop-number-preserved c =
-    let look : Look = man_at c.args.placement.now in
-    let held : look c.loop-number.number ≡ c.get.result = ap look (sym c.from_index-square.ensures) ∙ sym c.get.ensures in
+    let man_on : Men = man_at c.args.placement.now in
+    let held : man_on c.loop-number.number ≡ c.get.result = ap man_on (sym c.from_index-square.ensures) ∙ sym c.get.ensures in
     elim c.match-get.branch [
       | in-Some w ↦
-          let more : Moves Raise c.loop-number.tally w.mark.new.tally (own w.in-Some.man look c.loop-number.number) =
-          subst (λ n. Moves Raise c.loop-number.tally w.mark.new.tally (own w.in-Some.man look n)) c.from_index-square.ensures w.mark.ensures.counts in
+          let more : Moves Raise c.loop-number.tally w.mark.new.tally (own w.in-Some.man man_on c.loop-number.number) =
+          subst (λ n. Moves Raise c.loop-number.tally w.mark.new.tally (own w.in-Some.man man_on n)) c.from_index-square.ensures w.mark.ensures.counts in
           rw w.tally-is (record {
-            below = below_man c.loop-number.tally w.mark.new.tally look c.loop-number.number w.in-Some.man c.loop-number.invariant.below
+            below = below_man c.loop-number.tally w.mark.new.tally man_on c.loop-number.number w.in-Some.man c.loop-number.invariant.below
                 (held ∙ w.in-Some.is) more;
             worked = worked_within c.zero-tally.result w.mark.new.tally (c.loop-number.number * 27 + 27) ((c.loop-number.number + 1) * 27) (omega arith)
                 (worked_more c.zero-tally.result c.loop-number.tally w.mark.new.tally (c.loop-number.number * 27) 27
                 c.loop-number.invariant.worked w.mark.ensures.worked);
           })
       | in_default w ↦ rw w.tally-is (record {
-        below = below_none c.loop-number.tally look c.loop-number.number c.loop-number.invariant.below (held ∙ w.in_default.is);
+        below = below_none c.loop-number.tally man_on c.loop-number.number c.loop-number.invariant.below (held ∙ w.in_default.is);
         worked = worked_within c.zero-tally.result c.loop-number.tally (c.loop-number.number * 27) ((c.loop-number.number + 1) * 27) (omega arith)
             c.loop-number.invariant.worked;
       })

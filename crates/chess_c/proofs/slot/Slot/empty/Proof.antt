@@ -14,7 +14,8 @@ use denote.RawPtr.{null_ptr, ptr_val}
 use denote.Steps.{nothing}
 use denote.Triple.Walked.{Stays, walk_of}
 use Rattle.std.proofs.raw_atomic.Walks.{proved_at, leaves}
-use Rattle.chess_c.proofs.SlotValues.{Slot, slot_val, slot_in}
+use Rattle.chess_slots.proofs.SlotValues.{slot_val}
+use Rattle.chess_c.proofs.SlotValues.{Slot, slot_in}
 use Rattle.chess_c.specs.contracts.slot.Slot.empty as f
 use Rattle.chess_c.proofs.slot.Slot.empty.Statement.{statement}
 use Rattle.chess_c.proofs.slot.Slot.empty.Code as code

@@ -19,8 +19,9 @@ use denote.Steps.{nothing}
 use denote.Triple.Walked.{Stays, stay_dropped, walk_of}
 use Rattle.core.proofs.alloc.Calls.{Goes-blank}
 use Rattle.std.proofs.raw_atomic.Walks.{proved_at, leaves}
-use Rattle.chess_c.proofs.Values.{both, Loose, loose_good, loose_out}
-use Rattle.chess_c.proofs.SlotValues.{R, Z, L, g, Slot, slot_val, slot_in}
+use Rattle.chess_slots.proofs.Values.{both, Loose, loose_good, loose_out}
+use Rattle.chess_slots.proofs.SlotValues.{slot_val}
+use Rattle.chess_c.proofs.SlotValues.{R, Z, L, g, Slot, slot_in}
 use Rattle.chess_c.specs.contracts.slot.Slot.filled as f
 use Rattle.chess_c.proofs.slot.Slot.filled.Statement.{statement}
 use Rattle.chess_c.proofs.slot.Slot.filled.Code as code

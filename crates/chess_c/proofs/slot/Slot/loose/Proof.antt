@@ -26,8 +26,10 @@ use Rattle.core.proofs.atomic.Steps.{Ptr-Good}
 use Rattle.core.proofs.option.Made.{Some-of, none_of}
 use Rattle.std_alloc.proofs.ResultValues.{and_tt}
 use Rattle.std.proofs.raw_atomic.Walks.{proved_at, leaves}
-use Rattle.chess_c.proofs.Values.{al, both, Loose, loose_good, loose_in}
-use Rattle.chess_c.proofs.SlotValues.{R, Z, L, g, Slot, slot_val, slot_out, slot_cases}
+use Rattle.chess_slots.proofs.Values.{al, both, Loose, loose_good, loose_in}
+use Rattle.chess_slots.proofs.SlotValues.{slot_val, slot_cases}
+use Rattle.chess_c.proofs.SlotValues.{R, Z, L, g, Slot, slot_out}
+use Rattle.chess_c.specs.Slots.{may_free}
 use Rattle.chess_c.specs.contracts.slot.Slot.loose as f
 use Rattle.chess_c.proofs.slot.Slot.loose.Statement.{statement}
 use Rattle.chess_c.proofs.slot.Slot.loose.Code as code
@@ -41,7 +43,7 @@ loose_spec 𝓤 𝓛 𝓜 𝓡 wired =
     let Post : Val → SProp 𝓤 = (walk_of 𝓛 En hs c).post z in let Run : List Val → SProp 𝓤 = λ ws. WpFn 𝓤 H 𝓣.C 𝓣.Λ fn ws Post in
     qed 𝓛 ((‵ ftrue ⊛ ‵ (owns (types_at En.signature.params κs) z.0.3 z.0.4)) ∷ raw (emp 𝓤) ∷ []) ∵ split ! $ move ! (1 ∷ []) $ fsplit ! $ slot_out ! v z.0.4.0 (λ ws.
     move ! (1 ∷ []) $ fsplit ! $ handle_tells (al R Z L g) ! a z.0.4.1.0 (λ h ea fits. move ! (2 ∷ 0 ∷ []) $
-    slot_cases ! v.held v.at
+    slot_cases may_free R ! v.held v.at
     (λ is. let q : Val = ptr_val v.at in let w : Val = slot_val false q in let gq = Ptr-Good v.at in
     let told : z.0.4.0 ≡ w ∷ [] = ws ∙ ap (λ (f : Bool). slot_val f q ∷ []) (v.told ∙ ap is_some is) in
     suffices ! (Run (w ∷ h ∷ [])) (subst (λ (us : List Val). ent 𝓤 (Run (w ∷ h ∷ [])) (Run us)) (sym (λ i. told i ++ (ea i ++ []))) (id⊢ 𝓤 (Run (w ∷ h ∷ [])))) $

@@ -1,7 +1,7 @@
 use Rattle.std.proofs.Common.{◌≡◌, ◌++◌, ◌∷◌, [], List, ℕ, refl, sym, ap, ◌∙◌, append-nil, append_assoc}
-use Rattle.chess_types.specs.bytes.Calls.{joined}
-use Rattle.chess_types.specs.bytes.Lent.{Left, Taken}
-use Rattle.chess_types.proofs.CallLemmas.{Calls-left, Calls-taken}
+use Rattle.byte_streams.specs.Calls.{joined}
+use Rattle.byte_streams.specs.Lent.{Left, Written}
+use Rattle.byte_streams.proofs.CallLemmas.{Calls-left, Calls-taken}
 use Rattle.chess_cli.specs.Answers.{Answers, beginning}
 use Rattle.chess_loop.specs.InputLines.{ended_lines}
 use Rattle.chess_loop.proofs.RunLemmas.{Runs-append}
@@ -15,7 +15,7 @@ returns-clause-good g c = λ is.
     let left : c.args.reader.now.left ≡ joined end.pieces ++ c.board.new.reader.left =
     Calls-left _ (λ (s : Left). s.left) (λ s t p h. h) _ _ end.pieces end.reads in
     let taken : c.board.new.writer.taken ≡ c.args.writer.now.taken ++ joined end.writes.pieces =
-    Calls-taken _ (λ (s : Taken). s.taken) (λ s t p h. h) _ _ end.writes.pieces end.writes.calls in
+    Calls-taken _ (λ (s : Written). s.taken) (λ s t p h. h) _ _ end.writes.pieces end.writes.calls in
     let all : joined end.pieces ≡ c.args.reader.now.left =
     sym (append-nil (joined end.pieces)) ∙ ap (λ (x : List ℕ). joined end.pieces ++ x) (sym end.all) ∙ sym left in
     (end.text, how.0, rw all at end.answers, taken ∙ rw end.writes.whole refl, end.well_read, end.well_written)
@@ -27,7 +27,7 @@ returns-clause-read_fault g c = λ is.
     let left : c.args.reader.now.left ≡ joined end.pieces ++ c.board.new.reader.left =
     left_after (λ (s : Left) (p : List ℕ) (t : Left). s.left ≡ p ++ t.left) (λ (s : Left). s.left) (λ (s : Left). s.failed) _ end.pieces _ _ _ (λ s t p h. h) end.reads end.cause in
     let taken : c.board.new.writer.taken ≡ c.args.writer.now.taken ++ joined end.writes.pieces =
-    Calls-taken _ (λ (s : Taken). s.taken) (λ s t p h. h) _ _ end.writes.pieces end.writes.calls in
+    Calls-taken _ (λ (s : Written). s.taken) (λ s t p h. h) _ _ end.writes.pieces end.writes.calls in
     (joined end.pieces, end.text, how.0, left, many_or (λ (s : Left) (p : List ℕ) (t : Left). s.left ≡ p ++ t.left) (λ (s : Left). s.failed) _ end.pieces end.before c.board.new.reader end.each end.cause, end.answers, taken ∙ rw end.writes.whole refl, end.well_written)
 
 pub returns-clause-write_fault : goal.returns-clause-write_fault
@@ -39,9 +39,9 @@ returns-clause-write_fault g c = λ is.
     let left : c.args.reader.now.left ≡ joined given ++ c.board.new.reader.left =
     Calls-left _ (λ (s : Left). s.left) (λ s t p h. h) _ _ given end.reads in
     let before : end.before.taken ≡ c.args.writer.now.taken ++ joined end.writes.pieces =
-    Calls-taken _ (λ (s : Taken). s.taken) (λ s t p h. h) _ _ end.writes.pieces end.writes.calls in
+    Calls-taken _ (λ (s : Written). s.taken) (λ s t p h. h) _ _ end.writes.pieces end.writes.calls in
     let then : broken.before.taken ≡ end.before.taken ++ joined broken.calls.pieces =
-    Calls-taken _ (λ (s : Taken). s.taken) (λ s t p h. h) _ _ broken.calls.pieces broken.calls.calls in
+    Calls-taken _ (λ (s : Written). s.taken) (λ s t p h. h) _ _ broken.calls.pieces broken.calls.calls in
     let last : c.board.new.writer.taken ≡ broken.before.taken ++ [] = broken.last in
     let taken : c.board.new.writer.taken ≡ c.args.writer.now.taken ++ (end.text ++ broken.front) =
     last ∙ append-nil broken.before.taken ∙ then ∙ ap (λ (x : List ℕ). x ++ joined broken.calls.pieces) (before ∙ ap (λ (x : List ℕ). c.args.writer.now.taken ++ x) end.writes.whole)

@@ -1,5 +1,5 @@
 use Rattle.std.proofs.Common.{◌≡◌, ap, ◌∙◌}
-use Rattle.chess_types.specs.board.Position.{State}
+use Rattle.chess_types.specs.board.Position.{PositionParts}
 use Rattle.chess_types.specs.board.Lines.{last}
 use Rattle.chess_draws.proofs.LineLemmas.{can_ask, here_last}
 use Rattle.chess_draws.proofs.AnswerLemmas.{status_is, claims_is}
@@ -16,4 +16,4 @@ returns-clause-value g c =
     ∙ claims_is c.args.self.now.line c.status_at-status.result c.count-count.result c.behind-self.inside.clock
     (c.status_at-status.ensures.value ∙ status_is c.args.self.now.line c.self.inside.live.position c.count-count.result here c.count-count.ensures.value)
     c.count-count.ensures.value
-    (ap (λ (s : State). s.clock) (c.behind-self.view_is ∙ c.position.ensures.value ∙ c.status_at-status.ensures.position ∙ here))
+    (ap (λ (s : PositionParts). s.clock) (c.behind-self.view_is ∙ c.position.ensures.value ∙ c.status_at-status.ensures.position ∙ here))

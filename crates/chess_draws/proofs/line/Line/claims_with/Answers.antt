@@ -1,7 +1,7 @@
 use Rattle.std.proofs.Common.{◌≡◌, Some, ap, ◌∙◌}
 use Rattle.chess_types.specs.declared.board.outcome.Claims.{Claims}
 use Rattle.chess_types.specs.board.Legal.{is_legal}
-use Rattle.chess_types.specs.board.Position.{State}
+use Rattle.chess_types.specs.board.Position.{PositionParts}
 use Rattle.chess_types.specs.board.Lines.{Line, last, extended}
 use Rattle.chess_types.specs.board.Repetition.{repetitions}
 use Rattle.chess_types.specs.board.Outcome.{status}
@@ -34,6 +34,6 @@ returns-clause-value g c =
     (legal_last c.self.invariant.line c.self.view_is c.args.m c.is_legal.ensures.value c.if-not-is_legal.false)
     (c.status-status.ensures.value ∙ ap (λ (l : LineParts). status l.line) c.self.view_is)
     (c.count-count.ensures.value ∙ ap repetitions longer)
-    (ap (λ (s : State). s.clock)
+    (ap (λ (s : PositionParts). s.clock)
     (c.behind-self.view_is ∙ c.position.ensures.value ∙ here_last c.self-2.invariant.line c.self-2.view_is
     ∙ ap last (c.count-count.ensures.as_before.line ∙ longer)))

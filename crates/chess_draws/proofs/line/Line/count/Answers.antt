@@ -1,6 +1,6 @@
 use Rattle.std.proofs.Common.{◌≡◌, ◌+◌, ◌*◌, ◌++◌, ◌≤◌, ℕ, ◌/◌, List, length, min, ap, sym, subst, ◌∙◌, arith}
 use Rattle.std.proofs.lemmas.List.{length-append}
-use Rattle.chess_types.specs.board.Position.{State}
+use Rattle.chess_types.specs.board.Position.{PositionParts}
 use Rattle.chess_types.specs.board.Lines.{last}
 use Rattle.chess_types.specs.board.Repetition.{repetitions}
 use Rattle.chess_draws.specs.declared.ply.Ply.{Ply}
@@ -14,7 +14,7 @@ returns-clause-value g c =
     let all : c.as_slice.result.now ++ c.as_slice-2.result.now ≡ c.self.inside.plies.items ++ c.self.inside.looked.items =
     λ i. c.as_slice.ensures.value i ++ c.as_slice-2.ensures.value i in
     let counted = c.look_back-count.ensures.count ∙ ap (λ (xs : List Ply). came_back c.self.inside.here xs c.look_back-count.result.1) all in
-    let clock = ap (λ (s : State). s.clock) (c.behind-self.view_is ∙ c.position.ensures.value) in
+    let clock = ap (λ (s : PositionParts). s.clock) (c.behind-self.view_is ∙ c.position.ensures.value) in
     ap (λ (n : ℕ). n + 1) counted
     ∙ came_often c.self.invariant.line c.behind-self.inside.clock c.look_back-count.result.1 clock
     (subst (λ (xs : List Ply). 2 * c.look_back-count.result.1 ≤ length xs) all c.look_back-count.ensures.within)
@@ -25,7 +25,7 @@ returns-clause-value g c =
 pub returns-clause-compared : goal.returns-clause-compared
 returns-clause-compared g c =
     let clock : c.behind-self.inside.clock ≡ (last c.args.self.now.line).clock =
-    ap (λ (s : State). s.clock) (c.behind-self.view_is ∙ c.position.ensures.value ∙ here_last c.self.invariant.line c.self.view_is) in
+    ap (λ (s : PositionParts). s.clock) (c.behind-self.view_is ∙ c.position.ensures.value ∙ here_last c.self.invariant.line c.self.view_is) in
     let plies : length c.as_slice.result.now + length c.as_slice-2.result.now ≡ length c.args.self.now.line.moves =
     sym (length-append c.as_slice.result.now c.as_slice-2.result.now)
     ∙ ap length (λ i. c.as_slice.ensures.value i ++ c.as_slice-2.ensures.value i)
@@ -35,7 +35,7 @@ returns-clause-compared g c =
 pub returns-clause-at_most : goal.returns-clause-at_most
 returns-clause-at_most g c =
     let clock : c.behind-self.inside.clock ≡ (last c.args.self.now.line).clock =
-    ap (λ (s : State). s.clock) (c.behind-self.view_is ∙ c.position.ensures.value ∙ here_last c.self.invariant.line c.self.view_is) in
+    ap (λ (s : PositionParts). s.clock) (c.behind-self.view_is ∙ c.position.ensures.value ∙ here_last c.self.invariant.line c.self.view_is) in
     omega (arith, clock, c.look_back-count.ensures.at_most)
 
 pub returns-clause-recent : goal.returns-clause-recent

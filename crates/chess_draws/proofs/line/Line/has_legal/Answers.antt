@@ -1,5 +1,5 @@
 use Rattle.std.proofs.Common.{length, nat_lt, ap, ◌∙◌}
-use Rattle.chess_types.specs.board.Position.{State}
+use Rattle.chess_types.specs.board.Position.{PositionParts}
 use Rattle.chess_types.specs.board.Legal.{legal_moves}
 use Rattle.chess_draws.proofs.LineLemmas.{can_ask, here_last}
 use Rattle.chess_draws.proofs.line.Line.has_legal.Goals as goal
@@ -9,4 +9,4 @@ has_legal-requires g c = can_ask c.self.invariant
 
 pub returns-clause-value : goal.returns-clause-value
 returns-clause-value g c =
-    c.has_legal.ensures.value ∙ ap (λ (s : State). nat_lt 0 (length (legal_moves s))) (here_last c.self.invariant.line c.self.view_is)
+    c.has_legal.ensures.value ∙ ap (λ (s : PositionParts). nat_lt 0 (length (legal_moves s))) (here_last c.self.invariant.line c.self.view_is)

@@ -1,5 +1,5 @@
 use Rattle.std.proofs.Common.{◌≡◌, ◌++◌, subst}
-use Rattle.chess_types.specs.board.Position.{State}
+use Rattle.chess_types.specs.board.Position.{PositionParts}
 use Rattle.chess_types.specs.board.After.{after}
 use Rattle.chess_san.specs.Writing.{mark_text, san}
 use Rattle.chess_draws.proofs.LineLemmas.{can_name, here_last}
@@ -10,4 +10,4 @@ write_unmarked-requires g c = can_name c.self.invariant c.self.view_is c.args.m 
 
 pub returns-clause-value : goal.returns-clause-value
 returns-clause-value g c =
-    subst (λ (p : State). c.write_unmarked.result.bytes ++ mark_text (after p c.args.m) ≡ san p c.args.m) (here_last c.self.invariant.line c.self.view_is) c.write_unmarked.ensures.bytes
+    subst (λ (p : PositionParts). c.write_unmarked.result.bytes ++ mark_text (after p c.args.m) ≡ san p c.args.m) (here_last c.self.invariant.line c.self.view_is) c.write_unmarked.ensures.bytes

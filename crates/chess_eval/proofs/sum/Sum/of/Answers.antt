@@ -1,5 +1,5 @@
 use Rattle.std.proofs.Common.{◌≡◌, ◌+◌, Some, refl, ap, sym, subst, ◌∙◌, arith}
-use Rattle.chess_types.specs.board.Board.{Look, man_at}
+use Rattle.chess_types.specs.board.Board.{Men, man_at}
 use Rattle.chess_eval.specs.steps.Changes.{with_man, AreInRange}
 use Rattle.chess_eval.proofs.Evaluations.{sums_below, below_all, below_none, below_man, below_empty, below_in_range}
 use Rattle.chess_eval.proofs.sum.Sum.of.Goals as goal
@@ -10,25 +10,25 @@ loop-number-init c = c.empty-sum.ensures.zero ∙ sym (below_none (man_at c.args
 
 pub add-requires : goal.add-requires
 add-requires c =
-    let look : Look = man_at c.args.placement.now in
-    let here : look c.loop-number.number ≡ Some c.in-Some.man = ap look (sym c.from_index-square.ensures) ∙ sym c.get.ensures ∙ c.in-Some.is in
-    let next = below_man look c.loop-number.number c.in-Some.man here in
-    rw (c.loop-number.invariant, c.from_index-square.ensures) (subst AreInRange next (below_in_range look (c.loop-number.number + 1) (omega arith)))
+    let man_on : Men = man_at c.args.placement.now in
+    let here : man_on c.loop-number.number ≡ Some c.in-Some.man = ap man_on (sym c.from_index-square.ensures) ∙ sym c.get.ensures ∙ c.in-Some.is in
+    let next = below_man man_on c.loop-number.number c.in-Some.man here in
+    rw (c.loop-number.invariant, c.from_index-square.ensures) (subst AreInRange next (below_in_range man_on (c.loop-number.number + 1) (omega arith)))
 
 pub loop-number-preserved : goal.loop-number-preserved
 loop-number-preserved c =
-    let look : Look = man_at c.args.placement.now in
-    let there : look c.loop-number.number ≡ c.get.result = ap look (sym c.from_index-square.ensures) ∙ sym c.get.ensures in
+    let man_on : Men = man_at c.args.placement.now in
+    let there : man_on c.loop-number.number ≡ c.get.result = ap man_on (sym c.from_index-square.ensures) ∙ sym c.get.ensures in
     elim c.match-get.branch [
       | in-Some w ↦
-          let with : with_man c.loop-number.sum w.in-Some.man c.from_index-square.result ≡ with_man (sums_below look c.loop-number.number) w.in-Some.man c.loop-number.number =
+          let with : with_man c.loop-number.sum w.in-Some.man c.from_index-square.result ≡ with_man (sums_below man_on c.loop-number.number) w.in-Some.man c.loop-number.number =
           rw (c.loop-number.invariant, c.from_index-square.ensures) refl in
-          w.sum-is ∙ w.add.ensures ∙ with ∙ sym (below_man look c.loop-number.number w.in-Some.man (there ∙ w.in-Some.is))
-      | in_default w ↦ w.sum-is ∙ c.loop-number.invariant ∙ sym (below_empty look c.loop-number.number (there ∙ w.in_default.is))
+          w.sum-is ∙ w.add.ensures ∙ with ∙ sym (below_man man_on c.loop-number.number w.in-Some.man (there ∙ w.in-Some.is))
+      | in_default w ↦ w.sum-is ∙ c.loop-number.invariant ∙ sym (below_empty man_on c.loop-number.number (there ∙ w.in_default.is))
     ]
 
 pub returns : goal.returns
 returns c =
-    let look : Look = man_at c.args.placement.now in
-    let all : sums_below look c.loop-number.number ≡ sums_below look 64 = ap (sums_below look) (omega arith) in
-    c.loop-number.invariant ∙ all ∙ below_all look
+    let man_on : Men = man_at c.args.placement.now in
+    let all : sums_below man_on c.loop-number.number ≡ sums_below man_on 64 = ap (sums_below man_on) (omega arith) in
+    c.loop-number.invariant ∙ all ∙ below_all man_on

@@ -1,4 +1,4 @@
-use Rattle.std.proofs.Common.{◌≡◌, ◌+◌, ◌<◌, ◌≤◌, length, take, map, pos, neg_ℤ, ◌≤ℤ◌, ◌-◌, arith, ap, sym, ◌∙◌, w32, to_z, of_z}
+use Rattle.std.proofs.Common.{◌≡◌, ◌+◌, ◌<◌, ◌≤◌, inl, inr, length, take, map, pos, neg_ℤ, ◌≤ℤ◌, ◌-◌, arith, ap, sym, ◌∙◌, w32, to_z, of_z}
 use Rattle.std.proofs.lemmas.Int.{ints, clamps}
 use Rattle.std.proofs.lemmas.List.{length-map}
 use Rattle.std.proofs.lemmas.List.Sorted.{length_permutation}
@@ -13,19 +13,19 @@ use Rattle.chess_search.specs.Asked.{tree_below}
 use Rattle.chess_search.specs.steps.Windows.{FitsWindow}
 use Rattle.chess_search.proofs.WindowLemmas.{value-any_order, value-ended, ended-drawn, drawn_at, FitsWindow-refl, answered_all, FitsWindow-negated, best_more, upper_more, lower_more, cut_off, within_greatest, legal_at}
 use Rattle.chess_search.proofs.AskedLemmas.{tree_any_order}
-use Rattle.chess_search.proofs.FrontierLemmas.{frontier_at, judged}
+use Rattle.chess_search.proofs.FrontierLemmas.{continued, far_at, known_far, next_sums, sums_at, frontier_at, judged}
 use Rattle.chess_search.proofs.BorderLemmas.{apart_negated, apart_next}
 use Rattle.chess_search.proofs.search.Searcher.+search.Goals as goal
 
-pub score-returns-clause-answer : goal.score-returns-clause-answer
-score-returns-clause-answer g t c =
+pub score_with-returns-clause-answer : goal.score_with-returns-clause-answer
+score_with-returns-clause-answer g t c =
     FitsWindow-negated c.args.alpha c.args.beta _ _ _ _ _ (omega (arith, ints)) (omega (arith, ints)) (omega (arith, ints)) (rw c.look.ensures.line at c.search-answer.ensures.answer)
 
 pub search-returns-then-is_drawn-clause-answer : goal.search-returns-then-is_drawn-clause-answer
 search-returns-then-is_drawn-clause-answer g t c =
     let line = c.args.line.now.line in
-    let some : 0 < length (legal_moves (last line)) = rw (← c.moves-moves.ensures.listed) (grind (arith, c.is_empty.ensures, c.if-is_empty.false)) in
-    let drawn = drawn_at c.args.self.now.claims _ _ _ _ c.moves-moves.ensures.as_before.line c.is_drawn.ensures.value c.if-is_drawn.true in
+    let some : 0 < length (legal_moves (last line)) = rw (← c.moves_into.ensures.listed) (grind (arith, c.is_empty.ensures, c.if-is_empty.false)) in
+    let drawn = drawn_at c.args.self.now.claims _ _ _ _ c.moves_into.ensures.as_before.line c.is_drawn.ensures.value c.if-is_drawn.true in
     rw (value-ended c.args.self.now.claims c.args.depth line c.args.distance (pos 0) (ended-drawn c.args.self.now.claims line c.args.distance some drawn)) (FitsWindow-refl c.args.alpha c.args.beta (pos 0))
 
 pub search-judge-answer-requires : goal.search-judge-answer-requires
@@ -35,10 +35,13 @@ search-judge-answer-requires g t c κs within =
     let i = c.loop-m.invariant in
     let d = c.decreases in
     let looked : c.loop-m.line.looked ≡ c.args.line.now.looked = i.line.looked in
-    let permuted : IsPermutation c.moves-moves.result.items items = rw c.as_slice-m-items.ensures.value c.put_in_order.ensures.permuted in
-    let legal = legal_at _ _ _ items c.loop-m.m-index m c.moves-moves.ensures.listed permuted (omega arith) c.m-item.is i.line.line in
-    let frontier = frontier_at _ _ _ (c.live-2.ensures.position ∙ ap last (c.is_drawn.ensures.as_before.line ∙ c.moves-moves.ensures.as_before.line ∙ sym i.line.line)) c.frontier_of-frontier.ensures in
-    (omega arith, (within, (legal, (frontier, (omega arith, (omega arith, (omega (arith, ints), (omega (arith, ints, clamps), omega (arith, ints)))))))))
+    let permuted : IsPermutation c.moves_into.new.list.items items = rw c.as_slice-m-items.ensures.value c.put_in_order.ensures.permuted in
+    let legal = legal_at _ _ _ items c.loop-m.m-index m c.moves_into.ensures.listed permuted (omega arith) c.m-item.is i.line.line in
+    let same = c.is_drawn.ensures.as_before.line ∙ c.moves_into.ensures.as_before.line ∙ sym i.line.line in
+    let frontier = frontier_at _ _ _ (ap last same) c.frontier_of-frontier.ensures.frontier in
+    let far = far_at _ _ _ _ _ (sym same) i.claims c.frontier_of-frontier.ensures.far in
+    let sums = sums_at _ _ _ (c.live-2.ensures.position ∙ ap last same) c.sums_of-here.ensures in
+    (omega arith, (within, (legal, (frontier, (sums, (far, (omega arith, (omega arith, (omega (arith, ints), (omega (arith, ints, clamps), omega (arith, ints)))))))))))
 
 pub search-returns-then-best-beta-clause-answer : goal.search-returns-then-best-beta-clause-answer
 search-returns-then-best-beta-clause-answer g t c =
@@ -47,16 +50,16 @@ search-returns-then-best-beta-clause-answer g t c =
     let claims = c.args.self.now.claims in
     let line = c.args.line.now.line in
     let i = c.loop-m.invariant in
-    let moves = c.moves-moves.result.items in
+    let moves = c.moves_into.new.list.items in
     let permuted : IsPermutation moves items = rw c.as_slice-m-items.ensures.value c.put_in_order.ensures.permuted in
     let some : 0 < length items = omega arith in
-    let playing = drawn_at claims _ _ _ _ c.moves-moves.ensures.as_before.line c.is_drawn.ensures.value c.if-is_drawn.false in
+    let playing = drawn_at claims _ _ _ _ c.moves_into.ensures.as_before.line c.is_drawn.ensures.value c.if-is_drawn.false in
     let deep : 0 < c.args.depth = omega arith in
     let worths = worth claims (c.args.depth - 1) line c.args.distance in
     let v = worths m in
     let a = rw (i.line.line, i.claims) at c.judge-answer.ensures.answer in
     let within : v ≤ℤ greatest (map worths items) = within_greatest worths items c.loop-m.m-index m (omega arith) c.m-item.is in
-    rw (value-any_order claims c.args.depth line c.args.distance items some playing deep (rw c.moves-moves.ensures.listed at permuted))
+    rw (value-any_order claims c.args.depth line c.args.distance items some playing deep (rw c.moves_into.ensures.listed at permuted))
     (cut_off c.args.alpha c.args.beta (to_z w32 c.loop-m.best-bits) c.judge-answer.result _ v _ (omega (arith, ints))
     (λ h. a.lower (omega (arith, ints, clamps))) (omega (arith, ints, clamps)) (omega (arith, ints)) within (omega (arith, ints)))
 
@@ -102,33 +105,33 @@ search-returns-clause-answer g t c =
     let claims = c.args.self.now.claims in
     let line = c.args.line.now.line in
     let best = to_z w32 c.loop-m.best-bits in
-    let moves = c.moves-moves.result.items in
+    let moves = c.moves_into.new.list.items in
     let permuted : IsPermutation moves items = rw c.as_slice-m-items.ensures.value c.put_in_order.ensures.permuted in
     let same_length = length_permutation moves items permuted in
     let some : 0 < length items = grind (arith, c.is_empty.ensures, c.if-is_empty.false, same_length) in
-    let playing = drawn_at claims _ _ _ _ c.moves-moves.ensures.as_before.line c.is_drawn.ensures.value c.if-is_drawn.false in
+    let playing = drawn_at claims _ _ _ _ c.moves_into.ensures.as_before.line c.is_drawn.ensures.value c.if-is_drawn.false in
     let deep : 0 < c.args.depth = omega arith in
     let at_end : c.loop-m.m-index ≡ length items = omega arith in
     let all : take c.loop-m.m-index items ≡ items = rw at_end (take-length items) in
     let vs = map (worth claims (c.args.depth - 1) line c.args.distance) items in
     let i = c.loop-m.invariant in
     let a : FitsWindow c.args.alpha c.args.beta (greatest vs) best = answered_all c.args.alpha c.args.beta best vs (simp length-map (omega arith)) (i.answered (omega arith)) (rw all at i.upper) (λ h. rw all at (i.lower (omega (arith, ints)))) in
-    rw (value-any_order claims c.args.depth line c.args.distance items some playing deep (rw c.moves-moves.ensures.listed at permuted)) a
+    rw (value-any_order claims c.args.depth line c.args.distance items some playing deep (rw c.moves_into.ensures.listed at permuted)) a
 
 pub search-returns-clause-in_range : goal.search-returns-clause-in_range
 search-returns-clause-in_range g t c =
     let items = c.as_slice-m-items.result.now in
-    let moves = c.moves-moves.result.items in
+    let moves = c.moves_into.new.list.items in
     let permuted : IsPermutation moves items = rw c.as_slice-m-items.ensures.value c.put_in_order.ensures.permuted in
     let same_length = length_permutation moves items permuted in
     let some : 0 < length items = grind (arith, c.is_empty.ensures, c.if-is_empty.false, same_length) in
     record { low = omega (arith, ints, c.loop-m.invariant.answered (omega arith)); high = c.loop-m.invariant.high }
 
-pub score-returns-clause-border : goal.score-returns-clause-border
-score-returns-clause-border g t c = apart_negated c.search-answer.result _ (omega (arith, ints)) c.search-answer.ensures.border
+pub score_with-returns-clause-border : goal.score_with-returns-clause-border
+score_with-returns-clause-border g t c = apart_negated c.search-answer.result _ (omega (arith, ints)) c.search-answer.ensures.border
 
-pub score-returns-clause-at_most : goal.score-returns-clause-at_most
-score-returns-clause-at_most g t c = rw c.look.ensures.line at c.search-answer.ensures.at_most
+pub score_with-returns-clause-at_most : goal.score_with-returns-clause-at_most
+score_with-returns-clause-at_most g t c = rw c.look.ensures.line at c.search-answer.ensures.at_most
 
 pub search-returns-then-best-beta-clause-border : goal.search-returns-then-best-beta-clause-border
 search-returns-then-best-beta-clause-border g t c =
@@ -137,8 +140,8 @@ search-returns-then-best-beta-clause-border g t c =
 pub search-returns-clause-border : goal.search-returns-clause-border
 search-returns-clause-border g t c =
     let items = c.as_slice-m-items.result.now in
-    let permuted : IsPermutation c.moves-moves.result.items items = rw c.as_slice-m-items.ensures.value c.put_in_order.ensures.permuted in
-    let same_length = length_permutation c.moves-moves.result.items items permuted in
+    let permuted : IsPermutation c.moves_into.new.list.items items = rw c.as_slice-m-items.ensures.value c.put_in_order.ensures.permuted in
+    let same_length = length_permutation c.moves_into.new.list.items items permuted in
     let some : 0 < length items = grind (arith, c.is_empty.ensures, c.if-is_empty.false, same_length) in
     c.loop-m.invariant.border (omega (arith, ints, c.loop-m.invariant.answered (omega arith)))
 
@@ -149,13 +152,13 @@ search-returns-then-best-beta-clause-at_most g t c =
     let claims = c.args.self.now.claims in
     let line = c.args.line.now.line in
     let i = c.loop-m.invariant in
-    let permuted : IsPermutation c.moves-moves.result.items items = rw c.as_slice-m-items.ensures.value c.put_in_order.ensures.permuted in
-    let playing = drawn_at claims _ _ _ _ c.moves-moves.ensures.as_before.line c.is_drawn.ensures.value c.if-is_drawn.false in
+    let permuted : IsPermutation c.moves_into.new.list.items items = rw c.as_slice-m-items.ensures.value c.put_in_order.ensures.permuted in
+    let playing = drawn_at claims _ _ _ _ c.moves_into.ensures.as_before.line c.is_drawn.ensures.value c.if-is_drawn.false in
     let deep : 0 < c.args.depth = omega arith in
     let below = tree_below claims (c.args.depth - 1) line in
     let part : sum_by below (take c.loop-m.m-index items) + below m ≤ sum_by below items =
     omega (arith, ap below c.m-item.is, sum_by_more_le below items c.loop-m.m-index m (omega arith)) in
-    let whole = tree_any_order claims c.args.depth line items playing deep (rw c.moves-moves.ensures.listed at permuted) in
+    let whole = tree_any_order claims c.args.depth line items playing deep (rw c.moves_into.ensures.listed at permuted) in
     omega (arith, i.at_most, rw (i.line.line, i.claims) at c.judge-answer.ensures.at_most, part, whole)
 
 pub search-returns-clause-at_most : goal.search-returns-clause-at_most
@@ -164,12 +167,12 @@ search-returns-clause-at_most g t c =
     let claims = c.args.self.now.claims in
     let line = c.args.line.now.line in
     let i = c.loop-m.invariant in
-    let permuted : IsPermutation c.moves-moves.result.items items = rw c.as_slice-m-items.ensures.value c.put_in_order.ensures.permuted in
-    let playing = drawn_at claims _ _ _ _ c.moves-moves.ensures.as_before.line c.is_drawn.ensures.value c.if-is_drawn.false in
+    let permuted : IsPermutation c.moves_into.new.list.items items = rw c.as_slice-m-items.ensures.value c.put_in_order.ensures.permuted in
+    let playing = drawn_at claims _ _ _ _ c.moves_into.ensures.as_before.line c.is_drawn.ensures.value c.if-is_drawn.false in
     let deep : 0 < c.args.depth = omega arith in
     let at_end : c.loop-m.m-index ≡ length items = omega arith in
     let all : take c.loop-m.m-index items ≡ items = rw at_end (take-length items) in
-    let whole = tree_any_order claims c.args.depth line items playing deep (rw c.moves-moves.ensures.listed at permuted) in
+    let whole = tree_any_order claims c.args.depth line items playing deep (rw c.moves_into.ensures.listed at permuted) in
     omega (arith, rw all at i.at_most, whole)
 
 pub judge-returns-in-Some-clause-answer : goal.judge-returns-in-Some-clause-answer
@@ -177,5 +180,13 @@ judge-returns-in-Some-clause-answer g t c =
     let line = c.args.line.now.line in
     let claims = c.args.self.now.claims in
     let at_end : c.args.depth ≡ 0 = omega (arith, c.if-depth-eq0.true) in
-    let told = rw c.live.ensures.position at c.in-Some.ensures in
-    rw at_end (judged claims line c.args.distance c.args.m c.args.alpha c.args.beta (to_z w32 (of_z w32 c.in-Some.answer)) _ _ c.in-Some.answer (omega (arith, ints)) (omega (arith, ints)) (omega (arith, ints)) told)
+    rw at_end
+    (elim (rw c.live.ensures.position at c.in-Some.ensures.answer) [
+      | inl quiet ↦ judged claims line c.args.distance c.args.m c.args.alpha c.args.beta (to_z w32 (of_z w32 c.in-Some.answer)) _ _ c.in-Some.answer (omega (arith, ints)) (omega (arith, ints)) (omega (arith, ints)) quiet
+      | inr goes ↦ continued claims line c.args.distance c.args.m c.args.alpha c.args.beta (to_z w32 (of_z w32 c.in-Some.answer)) c.in-Some.answer (omega (arith, ints)) (omega arith) (omega arith) c.requires.legal (known_far claims line c.args.frontier.now c.requires.far goes.0) goes.1
+    ])
+
+pub score_with-search-answer-requires : goal.score_with-search-answer-requires
+score_with-search-answer-requires g t c κs within =
+    let sums = next_sums _ _ _ c.args.m c.sums_after-next.result c.live.ensures.position c.look.ensures.line c.sums_after-next.ensures in
+    (omega arith, (within, (sums, (omega arith, (omega arith, (omega (arith, ints), (omega (arith, ints), omega (arith, ints))))))))

@@ -9,8 +9,8 @@ use Rattle.chess_search.proofs.search.Searcher.+search.Given as goal
 abbrev pub decreases-search : goal.decreases-search
 decreases-search g l = 3 * l.depth
 
-abbrev pub decreases-score : goal.decreases-score
-decreases-score g l = 3 * l.depth + 1
+abbrev pub decreases-score_with : goal.decreases-score_with
+decreases-score_with g l = 3 * l.depth + 1
 
 abbrev pub decreases-judge : goal.decreases-judge
 decreases-judge g l = 3 * l.depth + 2

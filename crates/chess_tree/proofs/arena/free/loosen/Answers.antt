@@ -1,5 +1,5 @@
 use Rattle.std.proofs.Common.{◌≡◌, ◌+◌, ◌-◌, List, length, length-set, take, refl, sym, ap, subst, ◌∙◌, arith}
-use Rattle.chess_tree.specs.steps.Entries.{Entry, look, with_children, with_parent}
+use Rattle.chess_tree.specs.steps.Entries.{Entry, entry_at, with_children, with_parent}
 use Rattle.chess_tree.specs.steps.Freed.{IsLoosened}
 use Rattle.chess_tree.proofs.FreedLemmas.{Loosening, loosened, loosened_far, loosening_child, loosening_on, loosening_range, loosening_start, no_last, none_taken}
 use Rattle.chess_tree.proofs.arena.free.loosen.Goals as goal
@@ -27,27 +27,27 @@ returns-in_default-clause-there g c = omega (arith, loosening_range _ _ _ _ _ c.
 pub returns-in_default-clause-bare : goal.returns-in_default-clause-bare
 returns-in_default-clause-bare g c =
     let bare = no_last _ (sym c.in_default.is ∙ c.pop_child.ensures.child) in
-    ap (λ (x : List Entry). (look x c.loop-passed.free).children) (c.pop_child.ensures.nodes ∙ none_taken _ _ bare) ∙ bare
+    ap (λ (x : List Entry). (entry_at x c.loop-passed.free).children) (c.pop_child.ensures.nodes ∙ none_taken _ _ bare) ∙ bare
 
 pub set_parent-requires : goal.set_parent-requires
 set_parent-requires g c =
-    let left = take (length (look c.loop-passed.nodes c.loop-passed.free).children - 1) (look c.loop-passed.nodes c.loop-passed.free).children in
+    let left = take (length (entry_at c.loop-passed.nodes c.loop-passed.free).children - 1) (entry_at c.loop-passed.nodes c.loop-passed.free).children in
     omega (
       arith,
       loosening_child _ _ _ _ _ c.in-Some.child c.requires.pool c.loop-passed.invariant.0 (sym c.in-Some.is ∙ c.pop_child.ensures.child),
       ap length c.pop_child.ensures.nodes,
-      length-set c.loop-passed.nodes c.loop-passed.free (record (look c.loop-passed.nodes c.loop-passed.free) { children = left }),
+      length-set c.loop-passed.nodes c.loop-passed.free (record (entry_at c.loop-passed.nodes c.loop-passed.free) { children = left }),
     )
 
 pub loop-passed-preserved : goal.loop-passed-preserved
 loop-passed-preserved g c =
-    let left = take (length (look c.loop-passed.nodes c.loop-passed.free).children - 1) (look c.loop-passed.nodes c.loop-passed.free).children in
+    let left = take (length (entry_at c.loop-passed.nodes c.loop-passed.free).children - 1) (entry_at c.loop-passed.nodes c.loop-passed.free).children in
     let mid = with_children c.loop-passed.free left c.loop-passed.nodes in
     let new : c.set_parent.new.self ≡ with_parent c.in-Some.child c.loop-passed.free mid = c.set_parent.ensures ∙ ap (with_parent c.in-Some.child c.loop-passed.free) c.pop_child.ensures.nodes in
     let on = loosening_on _ _ _ _ _ c.in-Some.child c.requires.pool c.loop-passed.invariant.0 (sym c.in-Some.is ∙ c.pop_child.ensures.child) in (
       subst (λ (x : List Entry). Loosening c.args.nodes.now c.args.first x c.in-Some.child (c.loop-passed._passed + 1)) (sym new) on,
-      ap length new ∙ length-set mid c.in-Some.child (record (look mid c.in-Some.child) { parent = c.loop-passed.free })
-          ∙ length-set c.loop-passed.nodes c.loop-passed.free (record (look c.loop-passed.nodes c.loop-passed.free) { children = left }) ∙ c.loop-passed.invariant.1,
+      ap length new ∙ length-set mid c.in-Some.child (record (entry_at mid c.in-Some.child) { parent = c.loop-passed.free })
+          ∙ length-set c.loop-passed.nodes c.loop-passed.free (record (entry_at c.loop-passed.nodes c.loop-passed.free) { children = left }) ∙ c.loop-passed.invariant.1,
     )
 
 pub returns-clause-nodes : goal.returns-clause-nodes

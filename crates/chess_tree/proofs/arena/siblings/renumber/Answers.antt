@@ -1,5 +1,5 @@
 use Rattle.std.proofs.Common.{◌≡◌, ◌+◌, ◌-◌, ◌<◌, length, ℕ, List, drop, take, sym, ap, subst, ◌∙◌, arith}
-use Rattle.chess_tree.specs.steps.Entries.{Entry, look}
+use Rattle.chess_tree.specs.steps.Entries.{Entry, entry_at}
 use Rattle.chess_tree.specs.steps.Writes.{placed}
 use Rattle.chess_tree.proofs.PlacedLemmas.{Renumbering, renumbering_child, renumbering_length, renumbering_on, renumbering_some, renumbering_start}
 use Rattle.chess_tree.proofs.arena.siblings.renumber.Goals as goal
@@ -15,7 +15,7 @@ unreachable-requires g c = renumbering_some _ _ _ _ _ c.loop-place.invariant.0 (
 
 pub set_place-requires : goal.set_place-requires
 set_place-requires g c =
-    let short : c.loop-place.place < length (look c.args.nodes.now c.args.at).children = omega (arith, c.loop-place-test.true, c.requires.end) in
+    let short : c.loop-place.place < length (entry_at c.args.nodes.now c.args.at).children = omega (arith, c.loop-place-test.true, c.requires.end) in
     omega (arith, renumbering_child _ _ _ _ _ c.loop-place.invariant.0 c.in-Some.child short (sym c.in-Some.is ∙ c.child.ensures), c.requires.children c.loop-place.place short, renumbering_length _ _ _ _ _ c.loop-place.invariant.0)
 
 pub loop-place-preserved : goal.loop-place-preserved
@@ -28,4 +28,4 @@ loop-place-preserved g c = (
 pub returns : goal.returns
 returns g c =
     let end : c.loop-place.place ≡ c.args.to = omega (arith, c.loop-place-test.false, c.loop-place.invariant.1) in
-    c.loop-place.invariant.0.is ∙ ap (λ (x : ℕ). placed c.args.from (take (x - c.args.from) (drop c.args.from (look c.args.nodes.now c.args.at).children)) c.args.nodes.now) end
+    c.loop-place.invariant.0.is ∙ ap (λ (x : ℕ). placed c.args.from (take (x - c.args.from) (drop c.args.from (entry_at c.args.nodes.now c.args.at).children)) c.args.nodes.now) end

@@ -1,5 +1,5 @@
 use Rattle.std.proofs.Common.{◌≡◌, length}
-use Rattle.chess_types.specs.bytes.Words.{words}
+use Rattle.byte_streams.specs.Words.{words}
 use Rattle.chess_tree.specs.Comments.{blanks, normalised}
 use Rattle.chess_tree.proofs.CommentLemmas.{behind}
 use Rattle.chess_tree.proofs.tree.comment.normalised.Given as goal

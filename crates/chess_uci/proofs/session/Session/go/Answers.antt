@@ -1,7 +1,7 @@
 use Rattle.std.proofs.Common.{◌≡◌, ◌<◌, ◌⊎◌, inl, inr, true, length, arith}
 use Rattle.std.proofs.lemmas.Bool.Decides.{nat_tests}
 use Rattle.chess_types.specs.board.Texts.{move_text}
-use Rattle.chess_types.specs.bytes.Words.{words}
+use Rattle.byte_streams.specs.Words.{words}
 use Rattle.chess_uci.specs.Commands.{gaps}
 use Rattle.chess_uci.specs.Go.{is_listed}
 use Rattle.chess_uci.proofs.GoingLemmas.{going_starts}

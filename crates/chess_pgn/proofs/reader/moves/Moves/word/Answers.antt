@@ -3,6 +3,7 @@ use Rattle.std.specs.Prelude.{if◌then◌else◌}
 use Rattle.chess_tree.specs.Comments.{normalised}
 use Rattle.chess_types.specs.board.Legal.{is_legal}
 use Rattle.chess_types.specs.board.Lines.{Line, last}
+use Rattle.chess_san.specs.Naming.{san_reading}
 use Rattle.chess_tree.specs.GameTree.{TreeParts, line_to}
 use Rattle.chess_pgn.specs.Grammar as grammar
 use Rattle.chess_pgn.specs.steps.Readings.{said_here}
@@ -39,4 +40,7 @@ pub add-requires : goal.add-requires
 add-requires g c =
     let r = c.args.self.now in
     let here : line_to c.note_if.new.self.analysis ≡ line_to r.analysis = c.in_ok-note_if.ensures.line ∙ ap line_to c.read_move.ensures.as_before in
-    record { legal = ap (λ (z : Line). is_legal (last z) c.in-Ok.m) here ∙ legal_of c.in_ok-m.field-0 c.in-Ok.m (λ m. is_legal (last (line_to r.analysis)) m ≡ true) c.in_ok-m.ensures.legal c.in-Ok.is }
+    record {
+      legal = ap (λ (z : Line). is_legal (last z) c.in-Ok.m) here ∙ legal_of c.in_ok-m.field-0 c.in-Ok.m (λ m. is_legal (last (line_to r.analysis)) m ≡ true) c.in_ok-m.ensures.legal c.in-Ok.is;
+      read = ap (λ (z : Line). san_reading (last z) c.args.text.now) here ∙ (sym c.in_ok-m.ensures.value ∙ c.in-Ok.is);
+    }

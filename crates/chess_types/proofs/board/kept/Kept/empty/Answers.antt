@@ -6,10 +6,10 @@ use Rattle.chess_types.proofs.KeptLemmas.{gathers_empty}
 use Rattle.chess_types.proofs.board.kept.Kept.empty.Goals as goal
 
 pub returns : goal.returns
-returns c = λ look none. record {
-  white = rw c.empty.ensures (gathers_empty (is_of White) look refl none);
-  black = rw c.empty-2.ensures (gathers_empty (is_of Black) look refl none);
-  kings = rw c.empty-3.ensures (gathers_empty holds_king look refl none);
-  straight = rw c.empty-4.ensures (gathers_empty holds_straight look refl none);
-  diagonal = rw c.empty-5.ensures (gathers_empty holds_diagonal look refl none);
+returns c = λ man_on none. record {
+  white = rw c.empty.ensures (gathers_empty (is_of White) man_on refl none);
+  black = rw c.empty-2.ensures (gathers_empty (is_of Black) man_on refl none);
+  kings = rw c.empty-3.ensures (gathers_empty holds_king man_on refl none);
+  straight = rw c.empty-4.ensures (gathers_empty holds_straight man_on refl none);
+  diagonal = rw c.empty-5.ensures (gathers_empty holds_diagonal man_on refl none);
 }

@@ -1,0 +1,44 @@
+-- A run over a collection, step by step.
+--   WritesText  a text is written, or a prefix of it, or there is no memory for it
+--   is_lack     want of memory
+--   NotOn       reading doesn't go on after a fault
+--   SoFar       games were found, one after another, and their rows are written
+use Rattle.std.specs.Prelude.{◌≡◌, ℕ, Bool, true, false, List, [], length, Result, Ok, Err, ⊤}
+use Rattle.chess_loop.specs.RunEnds.{Broken}
+use Rattle.chess_loop.specs.steps.Sending.{Sent}
+use Rattle.chess_items.specs.Sections.{StopsAt}
+use Rattle.chess_items.specs.declared.fault.FaultKind.{FaultKind}
+use Rattle.chess_items.specs.declared.fault.FaultKind.TheVariants.{Memory}
+use Rattle.chess_pgn.specs.Sources.{Games}
+use Rattle.chess_programs.specs.declared.collection.Failure.{Failure}
+use Rattle.chess_programs.specs.declared.collection.Failure.TheVariants as by
+use Rattle.arbiter.specs.declared.judge.Asked.{Asked}
+use Rattle.arbiter.specs.Collections.{Entry, GoesOnTo, IsJudged, bad_in}
+
+module _ {W : Type 0} (takes : W → List ℕ → W → Type 0) (failed : W → Bool) where
+  abbrev pub WritesText : {X : Type 0} → List ℕ → W → W → Result X Failure → Type 0
+  WritesText text old new (Ok x) = Sent takes failed old text [] new
+  WritesText text old new (Err by.Read) = ⊥
+  WritesText text old new (Err by.Write) = Broken takes failed old text new
+  WritesText text old new (Err by.Memory) = new ≡ old
+
+-- a fault that says nothing of the text
+abbrev pub is_lack : FaultKind → Bool
+is_lack Memory = true
+is_lack _ = false
+
+-- why bytes aren't passed over
+abbrev pub NotOn : {R : Type 0} → (R → List ℕ → R → Type 0) → (R → Bool) → Games R → Games R → Failure → Type 0
+NotOn gives failed old new by.Read = StopsAt gives failed old.text new.text
+NotOn gives failed old new by.Write = ⊥
+NotOn gives failed old new by.Memory = ⊤
+
+module _ {R W : Type 0} (gives : R → List ℕ → R → Type 0) (read_failed : R → Bool) (ended : R → Type 0) (takes : W → List ℕ → W → Type 0) (failed : W → Bool) where
+  -- so many games were found, and so many of them can't be read
+  pub record SoFar (asked : Asked) (count bad : ℕ) (start now : Games R) (w w' : W) : Type 0 where
+    pub entries : List Entry
+    pub last : Games R
+    pub judged : IsJudged gives read_failed ended takes failed asked start entries last w w'
+    pub goes_on : GoesOnTo gives read_failed ended last now
+    pub counted : length entries ≡ count
+    pub faults : bad ≡ bad_in entries

@@ -1,0 +1,69 @@
+-- What a report's fields say in a row.
+--   over_cells    where a game was over, and how it stood there
+--   report_cells  what a report says
+--   IsReportOf    a report is that of a game
+use Rattle.std.specs.Prelude.{◌≡◌, Bool, not, ◌||◌, is_some, List, [], ◌∷◌, ◌++◌, length, codes, Option, option_map, IfSome}
+use Rattle.chess_types.specs.board.Lines.{last}
+use Rattle.chess_types.specs.board.Outcome.{status, winner}
+use Rattle.chess_fen.specs.Writing.{written}
+use Rattle.chess_pgn.specs.Games.{Game}
+use Rattle.chess_pgn.specs.Written.{outcome_text}
+use Rattle.chess_report.specs.MainLine.{as_far, main}
+use Rattle.chess_report.specs.Findings.{agrees, first_fifty, first_over, first_threefold, longest_quiet, most_repetitions, played_on}
+use Rattle.chess_report.specs.declared.report.Over.{Over}
+use Rattle.chess_report.specs.declared.report.Report.{Report}
+use Rattle.arbiter.specs.Cells.{Cell, Number, Text, Truth, maybe}
+use Rattle.arbiter.specs.Rows.{colour_text, status_text}
+
+-- where a game was over, and how it stood there
+abbrev pub over_cells : Option Over → List Cell
+over_cells over =
+    (codes "over_ply", maybe Number (option_map (λ o. o.ply) over))
+    ∷ (codes "over_why", maybe (λ why. Text (status_text why)) (option_map (λ o. o.why) over))
+    ∷ []
+
+-- how a game ends
+abbrev pub end_cells : Report → List Cell
+end_cells report =
+    (codes "plies", Number report.plies)
+    ∷ (codes "result", Text (outcome_text report.marker))
+    ∷ (codes "status", Text (status_text report.status))
+    ∷ (codes "winner", maybe (λ side. Text (colour_text side)) report.winner)
+    ∷ over_cells (played_on report.over report.plies)
+
+-- where a draw could be claimed
+abbrev pub claim_cells : Report → List Cell
+claim_cells report = (codes "threefold_ply", maybe Number report.threefold) ∷ (codes "fifty_ply", maybe Number report.fifty) ∷ []
+
+-- what its plies have
+abbrev pub ply_cells : Report → List Cell
+ply_cells report =
+    claim_cells report
+    ++ (codes "repetitions", Number report.repetitions)
+    ∷ (codes "quiet", Number report.quiet)
+    ∷ (codes "agrees", Truth report.agrees)
+    ∷ (codes "fen", Text (written report.last))
+    ∷ []
+
+-- what a report says
+abbrev pub report_cells : Report → List Cell
+report_cells report = end_cells report ++ ply_cells report
+
+-- something is wrong with the game
+abbrev pub is_finding : Report → Bool
+is_finding report = is_some (played_on report.over report.plies) || not report.agrees
+
+-- a report is that of a game
+pub record IsReportOf (report : Report) (game : Game) : Type 0 where
+  pub plies : report.plies ≡ length (main game.tree).moves
+  pub marker : report.marker ≡ game.outcome
+  pub stands : report.status ≡ status (main game.tree)
+  pub mates : report.winner ≡ winner (last (main game.tree))
+  pub over : option_map (λ o. o.ply) report.over ≡ first_over (main game.tree)
+  pub why : IfSome report.over (λ o. o.why ≡ status (as_far o.ply (main game.tree)))
+  pub threefold : report.threefold ≡ first_threefold (main game.tree)
+  pub fifty : report.fifty ≡ first_fifty (main game.tree)
+  pub repetitions : report.repetitions ≡ most_repetitions (main game.tree)
+  pub quiet : report.quiet ≡ longest_quiet (main game.tree)
+  pub fits : report.agrees ≡ agrees (main game.tree) game.outcome
+  pub end : report.last ≡ last (main game.tree)

@@ -1,0 +1,6 @@
+/// What a sink over memory does at the call that is to go wrong.
+#[derive(Clone, Copy, Debug, PartialEq, Eq)]
+pub enum WriteFailure {
+    Fails,
+    TakesNothing,
+}

@@ -1,0 +1,83 @@
+ghost use Rattle.std.specs.Prelude.{◌≡◌};
+ghost use Rattle.chess_c.specs.Calls.{IsReplying, IsSearching};
+
+use crate::slot::{Slot, put, take};
+use chess_slots::{EMPTY, OK};
+use chess_uci::Event;
+use std::alloc::Global;
+
+// What the engine in the slot replies to an event.
+fn happen(
+    alloc: Global,
+    slot: &mut Slot,
+    event: Event<'_>,
+    replies: &mut [u8],
+    count: &mut usize,
+) -> u32
+    ensures { IsReplying event.entry slot.old.held result count.old count.new replies.old replies.new slot.new.held }
+{
+    let Some(mut session) = take(slot, alloc) else {
+        return EMPTY;
+    };
+    let code = session.event(event, replies, count);
+    put(slot, session, alloc);
+    code
+}
+
+/// A line is read by the board's engine (UCI), which knows nothing of the board, without its line feed; the replies, each on a line of its own, at most 260 bytes.
+#[unsafe(no_mangle)]
+pub extern "C" fn jatshegi_engine_line(
+    alloc: Global,
+    slot: &mut Slot,
+    line: &[u8],
+    replies: &mut [u8],
+    count: &mut usize,
+) -> u32
+    ensures { IsReplying (Event.Line line.entry) slot.old.held result count.old count.new replies.old replies.new slot.new.held }
+{
+    happen(alloc, slot, Event::Line(line), replies, count)
+}
+
+/// There is time to search one root move more; the replies.
+#[unsafe(no_mangle)]
+pub extern "C" fn jatshegi_engine_slice(
+    alloc: Global,
+    slot: &mut Slot,
+    replies: &mut [u8],
+    count: &mut usize,
+) -> u32
+    ensures { IsReplying Event.Slice slot.old.held result count.old count.new replies.old replies.new slot.new.held }
+{
+    happen(alloc, slot, Event::Slice, replies, count)
+}
+
+/// The clock reads so many milliseconds; the replies.
+#[unsafe(no_mangle)]
+pub extern "C" fn jatshegi_engine_moment(
+    alloc: Global,
+    slot: &mut Slot,
+    moment: u64,
+    replies: &mut [u8],
+    count: &mut usize,
+) -> u32
+    ensures { IsReplying (Event.Moment moment) slot.old.held result count.old count.new replies.old replies.new slot.new.held }
+{
+    happen(alloc, slot, Event::Moment(moment), replies, count)
+}
+
+/// Whether a search runs.
+#[unsafe(no_mangle)]
+pub extern "C" fn jatshegi_engine_searching(
+    alloc: Global,
+    slot: &mut Slot,
+    searching: &mut bool,
+) -> u32
+    ensures { IsSearching slot.old.held result searching.old searching.new slot.new.held }
+{
+    let Some(session) = take(slot, alloc) else {
+        return EMPTY;
+    };
+    *searching = session.searching();
+    put(slot, session, alloc);
+    OK
+}

@@ -1,0 +1,86 @@
+//! A search that the caller drives.
+ghost use Rattle.std.specs.Prelude.{◌≡◌, ◌≤◌, ◌<◌, [], length, IfOk, MatchOption};
+ghost use Rattle.chess_tree.specs.GameTree.{line_to};
+ghost use Rattle.chess_c.specs.Held.{roots};
+ghost use Rattle.chess_c.specs.Searches.{begun, left, one_more, so_far};
+
+use chess_draws::Line;
+use chess_key::KeyTable;
+use chess_search::Slices;
+use chess_slots::cursor_line;
+use chess_tree::Tree;
+use chess_types::Move;
+use std::alloc::{AllocError, Global};
+use std::marker::Model;
+
+/// A search of all legal moves of a line's last position at one depth, one root at a time. The line is its own.
+#[derive(Drop)]
+pub struct Search {
+    line: Line<'static, Global>,
+    slices: Slices,
+}
+
+impl Model for Search {
+    ghost use Rattle.std.specs.Prelude.{◌≡◌};
+    ghost use Rattle.chess_c.specs.Held.{Searching, coded_searching};
+    ghost use Rattle.chess_c.specs.Searches.{IsSearchOf};
+
+    ghost Value = { Searching };
+
+    ghost coded = { coded_searching };
+
+    ghost view = { λ s. record { line = s.line.line; depth = s.slices.depth; searched = s.slices.searched } };
+
+    ghost invariant = { λ s. IsSearchOf s.line.line s.slices × (s.line.looked ≡ 0) };
+}
+
+impl Search {
+    /// A search of the position at the tree's cursor, 1 to 16 plies deep, that has not begun; `None` where there is no legal move.
+    ///
+    /// # Errors
+    ///
+    /// Want of memory for the line.
+    pub fn start(
+        alloc: Global,
+        table: &'static KeyTable,
+        tree: &Tree<'_, Global>,
+        depth: u8,
+    ) -> Result<Option<Search>, AllocError>
+        requires deep { 1 ≤ depth }
+        requires shallow { depth ≤ 16 }
+        ensures { IfOk result (λ found. MatchOption found (roots (line_to tree.now) ≡ []) (λ search. (search ≡ begun depth (line_to tree.now)) × (0 < length (roots (line_to tree.now))))) }
+    {
+        let mut line = cursor_line(alloc, table, tree)?;
+        let legal = line.moves();
+        if legal.is_empty() {
+            return Ok(None);
+        }
+        Ok(Some(Search {
+            line,
+            slices: Slices::start(depth, legal, false),
+        }))
+    }
+
+    /// Searches one root more, if one is left.
+    pub fn next(&mut self)
+        ensures { self.new ≡ one_more self.old }
+    {
+        if self.slices.searched() < self.slices.roots().len() {
+            self.slices.next(&mut self.line);
+        }
+    }
+
+    /// How many roots are left.
+    pub fn left(&self) -> usize
+        ensures { result ≡ left self.now }
+    {
+        self.slices.roots().len() - self.slices.searched()
+    }
+
+    /// The best of the roots that were searched, with its worth to the side to move; `None` while none was.
+    pub fn so_far(&self) -> Option<(Move, i32)>
+        ensures { result ≡ so_far self.now }
+    {
+        self.slices.so_far()
+    }
+}

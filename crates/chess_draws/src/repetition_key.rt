@@ -1,0 +1,78 @@
+ghost use Rattle.std.specs.Prelude.{◌≡◌, Option};
+ghost use Rattle.chess_types.specs.board.Position.{PositionParts, man_on};
+ghost use Rattle.chess_types.specs.board.Repetition.{counting_target, same_rights, same_target};
+ghost use Rattle.chess_draws.specs.steps.RepetitionKeys.{IsKeyOf, Settles, same_ply};
+
+use crate::men::MenSets;
+use crate::ply::Ply;
+use chess_play::Live;
+use chess_types::{Colour, Rights, Square};
+
+/// What makes two positions the same (FIDE Laws 9.2.3): the men, the side to move, the castling rights, and the en passant
+/// target where it counts.
+#[derive(Clone, Copy)]
+pub(crate) struct RepetitionKey {
+    pub(crate) men: MenSets,
+    pub(crate) side: Colour,
+    pub(crate) rights: Rights,
+    pub(crate) target: Option<Square>,
+}
+
+// Whether the same rights are held.
+#[inline(always)]
+fn same_rights(some: Rights, others: Rights) -> bool
+    ensures { result ≡ same_rights some others }
+{
+    some == others
+}
+
+// Whether there is no target, or one square.
+#[inline(always)]
+fn same_target(some: Option<Square>, other: Option<Square>) -> bool
+    ensures { result ≡ same_target some other }
+{
+    some == other
+}
+
+impl RepetitionKey {
+    /// That of the position, whose target counts or doesn't.
+    pub(crate) fn of(live: &Live, target: Option<Square>) -> RepetitionKey
+        requires { target ≡ counting_target live.now.position }
+        ensures { IsKeyOf result live.now.position }
+    {
+        let setup = live.position();
+        RepetitionKey {
+            men: MenSets::of(&setup.placement),
+            side: setup.side,
+            rights: setup.rights,
+            target,
+        }
+    }
+
+    /// That of the position to which a move to that square has led.
+    #[inline(always)]
+    pub(crate) fn moved(&self, live: &Live, to: Square, target: Option<Square>) -> RepetitionKey
+        requires { target ≡ counting_target live.now.position }
+        ensures { (before : PositionParts) → IsKeyOf self.now before → Settles to (man_on before) (man_on live.now.position) → IsKeyOf result live.now.position }
+    {
+        let setup = live.position();
+        RepetitionKey {
+            men: self.men.moved(&setup.placement, to),
+            side: setup.side,
+            rights: setup.rights,
+            target,
+        }
+    }
+
+    /// Whether the position is the same as that before the ply.
+    #[inline(always)]
+    #[tactic(auto, unfolding(crate::specs::steps::RepetitionKeys::same_ply))]
+    pub(crate) fn is_before(&self, ply: &Ply) -> bool
+        ensures { result ≡ same_ply self.now ply.now }
+    {
+        self.side == ply.side
+            && self.men.is_same(&ply.men)
+            && same_rights(self.rights, ply.past.rights())
+            && same_target(self.target, ply.target)
+    }
+}

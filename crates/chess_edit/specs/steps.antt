@@ -1,0 +1,2 @@
+-- Words of the code's steps: no definition rests on them.
+pub mod Branches

@@ -1,0 +1,140 @@
+-- Games read and written one after another.
+use Rattle.std.proofs.Common.{◌≡◌, ℕ, ◌+◌, ◌≤◌, Bool, true, false, if◌then◌else◌, List, [], ◌∷◌, ◌++◌, length, refl, sym, ap, subst, ◌∙◌, arith, append_assoc, append-nil, Option, Result, Ok, Err, Some, None}
+use Rattle.std.specs.Prelude.{IfErr, IfOk, IfSome}
+use Rattle.byte_streams.specs.Calls.{Carries}
+use Rattle.byte_streams.proofs.CallLemmas.{Carries-none, Carries-append}
+use Rattle.chess_items.specs.Coming.{AtHand}
+use Rattle.chess_items.specs.Sections.{PassesOver}
+use Rattle.chess_items.specs.declared.fault.PgnFault.{PgnFault}
+use Rattle.chess_pgn.specs.Games.{Game}
+use Rattle.chess_pgn.specs.Sources.{Games, HasFault, HasGame, HasNone, NextGame}
+use Rattle.chess_pgn.specs.Written.{game_text}
+use Rattle.chess_pgn.specs.declared.game.Game.{Game as Code}
+use Rattle.chess_pgn.specs.steps.GameCode.{game_of}
+use Rattle.chess_pgn.specs.declared.games.GamesFault.{GamesFault}
+use Rattle.chess_pgn.specs.declared.games.GamesFault.TheVariants.{Pgn}
+use Rattle.chess_games.specs.Filtered.{Entry, Good, Bad, Goes, good_text, bad_count, IsFresh, IsGoneOver, IsFiltered}
+use Rattle.chess_games.specs.Parts.{Part, is_in}
+
+good_text-append : (part : Part) (before : ℕ) (entries : List Entry) (entry : Entry) → good_text part before (entries ++ entry ∷ []) ≡ good_text part before entries ++ good_text part (before + length entries) (entry ∷ [])
+good_text-append part before [] entry = ap (λ (n : ℕ). good_text part n (entry ∷ [])) (omega arith)
+good_text-append part before (Good game ∷ entries) entry =
+    let first = if is_in part before then game_text game else [] in
+    let rest = good_text-append part (before + 1) entries entry in
+    let place : (before + 1) + length entries ≡ before + length (Good game ∷ entries) = omega arith in
+    ap (λ (t : List ℕ). first ++ t) (rest ∙ ap (λ (n : ℕ). good_text part (before + 1) entries ++ good_text part n (entry ∷ [])) place)
+    ∙ sym (append_assoc first (good_text part (before + 1) entries) (good_text part (before + length (Good game ∷ entries)) (entry ∷ [])))
+good_text-append part before (Bad fault ∷ entries) entry =
+    let rest = good_text-append part (before + 1) entries entry in
+    let place : (before + 1) + length entries ≡ before + length (Bad fault ∷ entries) = omega arith in
+    rest ∙ ap (λ (n : ℕ). good_text part (before + 1) entries ++ good_text part n (entry ∷ [])) place
+
+bad_count-append : (part : Part) (before : ℕ) (entries : List Entry) (entry : Entry) → bad_count part before (entries ++ entry ∷ []) ≡ bad_count part before entries + bad_count part (before + length entries) (entry ∷ [])
+bad_count-append part before [] entry =
+    let place : before ≡ before + length {A = Entry} [] = omega arith in
+    omega (arith, ap (λ (n : ℕ). bad_count part n (entry ∷ [])) place)
+bad_count-append part before (Good game ∷ entries) entry =
+    let rest = bad_count-append part (before + 1) entries entry in
+    let place : (before + 1) + length entries ≡ before + length (Good game ∷ entries) = omega arith in
+    rest ∙ ap (λ (n : ℕ). bad_count part (before + 1) entries + bad_count part n (entry ∷ [])) place
+bad_count-append part before (Bad fault ∷ entries) entry =
+    let rest = bad_count-append part (before + 1) entries entry in
+    let place : (before + 1) + length entries ≡ before + length (Bad fault ∷ entries) = omega arith in
+    let whole = rest ∙ ap (λ (n : ℕ). bad_count part (before + 1) entries + bad_count part n (entry ∷ [])) place in
+    omega (arith, whole)
+
+-- of a whole collection
+good_text-more : (part : Part) (entries : List Entry) (entry : Entry) → good_text part 0 (entries ++ entry ∷ []) ≡ good_text part 0 entries ++ good_text part (length entries) (entry ∷ [])
+good_text-more part entries entry =
+    let place : 0 + length entries ≡ length entries = omega arith in
+    good_text-append part 0 entries entry ∙ ap (λ (n : ℕ). good_text part 0 entries ++ good_text part n (entry ∷ [])) place
+
+bad_count-more : (part : Part) (entries : List Entry) (entry : Entry) → bad_count part 0 (entries ++ entry ∷ []) ≡ bad_count part 0 entries + bad_count part (length entries) (entry ∷ [])
+bad_count-more part entries entry =
+    let place : 0 + length entries ≡ length entries = omega arith in
+    bad_count-append part 0 entries entry ∙ ap (λ (n : ℕ). bad_count part 0 entries + bad_count part n (entry ∷ [])) place
+
+length-more : {X : Type 0} (xs : List X) (x : X) → length (xs ++ x ∷ []) ≡ length xs + 1
+length-more [] x = refl
+length-more (y ∷ xs) x = omega (arith, length-more xs x)
+
+module _ {R : Type 0} (gives : R → List ℕ → R → Type 0) (failed : R → Bool) (ended : R → Type 0) where
+  goes_good : (s m n : AtHand R) (entries : List Entry) (game : Game) → Goes gives failed ended s entries m → HasGame gives failed m n game → Goes gives failed ended s (entries ++ Good game ∷ []) n
+  goes_good s m n [] game g h = (n, subst (λ (x : AtHand R). HasGame gives failed x n game) (sym g) h, refl)
+  goes_good s m n (Good other ∷ entries) game g h = (g.0, g.1, goes_good g.0 m n entries game g.2 h)
+  goes_good s m n (Bad fault ∷ entries) game g h = (g.0, g.1, g.2, g.3, g.4, goes_good g.1 m n entries game g.5 h)
+
+  goes_bad : (s m f n : AtHand R) (count : ℕ) (entries : List Entry) (fault : PgnFault) → Goes gives failed ended s entries m → HasFault gives failed ended m f (Pgn fault) → PassesOver gives failed f n count
+      → Goes gives failed ended s (entries ++ Bad fault ∷ []) n
+  goes_bad s m f n count [] fault g h p = (f, n, count, subst (λ (x : AtHand R). HasFault gives failed ended x f (Pgn fault)) (sym g) h, p, refl)
+  goes_bad s m f n count (Good other ∷ entries) fault g h p = (g.0, g.1, goes_bad g.0 m f n count entries fault g.2 h p)
+  goes_bad s m f n count (Bad other ∷ entries) fault g h p = (g.0, g.1, g.2, g.3, g.4, goes_bad g.1 m f n count entries fault g.5 h p)
+
+-- what is read and written so far
+pub record SoFar {R W : Type 0} (gives : R → List ℕ → R → Type 0) (failed : R → Bool) (ended : R → Type 0) (takes : W → List ℕ → W → Type 0) (part : Part) (source now : AtHand R) (old new : W) (bad before : ℕ) : Type 0 where
+  pub entries : List Entry
+  pub goes : Goes gives failed ended source entries now
+  pub writes : Carries takes old (good_text part 0 entries) new
+  pub counted : bad ≡ bad_count part 0 entries
+  pub place : before ≡ length entries
+  pub few : bad ≤ before
+
+module _ {R W : Type 0} (gives : R → List ℕ → R → Type 0) (failed : R → Bool) (ended : R → Type 0) (takes : W → List ℕ → W → Type 0) (part : Part) where
+  pub none_yet : (s : AtHand R) (w : W) → SoFar gives failed ended takes part s s w w 0 0
+  none_yet s w = record { entries = []; goes = refl; writes = Carries-none takes w; counted = refl; place = refl; few = omega arith }
+
+  pub one_good : (s m n : AtHand R) (old mid new : W) (bad before : ℕ) (game : Game) → SoFar gives failed ended takes part s m old mid bad before → HasGame gives failed m n game
+      → Carries takes mid (if is_in part before then game_text game else []) new → SoFar gives failed ended takes part s n old new bad (before + 1)
+  one_good s m n old mid new bad before game f h written = record {
+    entries = f.entries ++ Good game ∷ [];
+    goes = goes_good gives failed ended s m n f.entries game f.goes h;
+    writes =
+        (let there = subst (λ (k : ℕ). Carries takes mid (if is_in part k then game_text game else []) new) f.place written in
+        let last = subst (λ (t : List ℕ). Carries takes mid t new) (sym (append-nil (if is_in part (length f.entries) then game_text game else []))) there in
+        subst (λ (t : List ℕ). Carries takes old t new) (sym (good_text-more part f.entries (Good game)))
+        (Carries-append takes old mid new (good_text part 0 f.entries) (good_text part (length f.entries) (Good game ∷ [])) f.writes last));
+    counted = omega (arith, f.counted, bad_count-more part f.entries (Good game));
+    place = omega (arith, f.place, length-more f.entries (Good game));
+    few = omega (arith, f.few);
+  }
+
+  pub one_bad : (s m f n : AtHand R) (count : ℕ) (old mid : W) (bad more before : ℕ) (fault : PgnFault) → SoFar gives failed ended takes part s m old mid bad before → HasFault gives failed ended m f (Pgn fault)
+      → PassesOver gives failed f n count → more ≡ (if is_in part before then 1 else 0) → more ≤ 1 → SoFar gives failed ended takes part s n old mid (bad + more) (before + 1)
+  one_bad s m f n count old mid bad more before fault g h p counts one = record {
+    entries = g.entries ++ Bad fault ∷ [];
+    goes = goes_bad gives failed ended s m f n count g.entries fault g.goes h p;
+    writes = subst (λ (t : List ℕ). Carries takes old t mid) (sym (good_text-more part g.entries (Bad fault) ∙ append-nil (good_text part 0 g.entries))) g.writes;
+    counted =
+        (let there : more ≡ (if is_in part (length g.entries) then 1 else 0) = subst (λ (k : ℕ). more ≡ (if is_in part k then 1 else 0)) g.place counts in
+        omega (arith, g.counted, there, bad_count-more part g.entries (Bad fault)));
+    place = omega (arith, g.place, length-more g.entries (Bad fault));
+    few = omega (arith, g.few, one);
+  }
+
+  pub all_read : (s m n : AtHand R) (old new : W) (bad before : ℕ) → SoFar gives failed ended takes part s m old new bad before → HasNone gives failed m n → IsGoneOver gives failed ended takes part s old new bad
+  all_read s m n old new bad before f h = record { entries = f.entries; there = m; goes = f.goes; left = n; none = h; writes = f.writes; counted = f.counted }
+
+-- nothing is written of a game that isn't asked for
+pub written_if : {W : Type 0} (takes : W → List ℕ → W → Type 0) (old new : W) (text : List ℕ) → Carries takes old text new → Carries takes old (if true then text else []) new
+written_if takes old new text c = c
+
+pub not_written : {W : Type 0} (takes : W → List ℕ → W → Type 0) (old : W) (text : List ℕ) → Carries takes old (if false then text else []) old
+not_written takes old text = Carries-none takes old
+
+-- what a reader of games answers, where it is a game, and where it is a fault
+pub read_one : {R B E : Type 0} (gives : R → List ℕ → R → Type 0) (failed : R → Bool) (old new : Games R) (result : Result (Option (Code B)) E) (game : Code B) → result ≡ Ok (Some game)
+    → IfOk result (λ found. IfSome found (λ x. NextGame gives failed old new (game_of x))) → HasGame gives failed old.text new.text (game_of game)
+read_one gives failed old new result game is h = (subst (λ r. IfOk r (λ found. IfSome found (λ x. NextGame gives failed old new (game_of x)))) is h).took
+
+pub read_fault : {R X : Type 0} (gives : R → List ℕ → R → Type 0) (failed : R → Bool) (ended : R → Type 0) (old new : AtHand R) (result : Result X GamesFault) (fault : GamesFault) → result ≡ Err fault
+    → IfErr result (λ found. HasFault gives failed ended old new found) → HasFault gives failed ended old new fault
+read_fault gives failed ended old new result fault is h = subst (λ r. IfErr r (λ found. HasFault gives failed ended old new found)) is h
+
+pub if_ok : {A E : Type 0} (P : Type 0) (result : Result A E) (x : A) → result ≡ Ok x → IfOk result (λ y. P) → P
+if_ok P result x is h = subst (λ r. IfOk r (λ y. P)) is h
+
+-- from the beginning of a source
+pub from_fresh : {R W E : Type 0} (gives : R → List ℕ → R → Type 0) (failed : R → Bool) (ended : R → Type 0) (takes : W → List ℕ → W → Type 0) (part : Part) (source : R) (text : AtHand R) (old new : W) (result : Result ℕ E) → IsFresh source text
+    → IfOk result (λ bad. IsGoneOver gives failed ended takes part text old new bad) → IfOk result (λ bad. IsFiltered gives failed ended takes part source old new bad)
+from_fresh gives failed ended takes part source text old new (Ok bad) fresh all = record { text = text; fresh = fresh; all = all }
+from_fresh gives failed ended takes part source text old new (Err e) fresh all = all

@@ -1,0 +1,3 @@
+-- Lemmas on games that are read and written, and on bytes with zero bytes put in.
+pub mod FilteredLemmas
+pub mod MarkedLemmas

@@ -1,0 +1,8 @@
+pub mod AlongLemmas
+pub mod GameLemmas
+pub mod ReplyLemmas
+pub mod ReportLemmas
+pub mod SectionLemmas
+pub mod SlotValues
+pub mod TextLemmas
+pub mod Values

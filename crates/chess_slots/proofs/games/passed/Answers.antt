@@ -1,0 +1,8 @@
+use Rattle.chess_pgn.specs.steps.GameCode.{game_of}
+use Rattle.chess_slots.proofs.GameLemmas.{pass_game, some_found}
+use Rattle.chess_slots.proofs.games.passed.Goals as goal
+
+pub returns-in-Ok-Some : goal.returns-in-Ok-Some
+returns-in-Ok-Some g c =
+    pass_game c.args.text.now (game_of c.in-Ok-Some.found) _ _
+    (some_found _ c.in-Ok-Some.field-0 (c.in-Ok-Some.found, c.in-Ok-Some.taken) c.in-Ok-Some.ensures.game c.in-Ok-Some.field-0-is)

@@ -1,0 +1,54 @@
+-- What the statuses of calls are, as numbers, and how small values are seen.
+--   ok, empty_slot, no_memory, not_legal, no_room, no_game   statuses of their own
+--   fault_code      the status of a text at whose start no game is
+--   outcome_code    how a game stands
+use Rattle.std.specs.Prelude.{ℕ}
+use Rattle.chess_types.specs.declared.board.outcome.Status.{Status}
+use Rattle.chess_types.specs.declared.board.outcome.Status.TheVariants.{Mate, Stalemate, Dead, Fivefold, Seventyfive, Play}
+use Rattle.chess_items.specs.declared.fault.FaultKind.{FaultKind}
+use Rattle.chess_items.specs.declared.fault.FaultKind.TheVariants.{Token, Tag, Move, Variation, Deep, Truncated, Fen, Memory, TooLarge}
+
+-- it is done
+abbrev pub ok : ℕ
+ok = 0
+
+-- there is nothing in the slot
+abbrev pub empty_slot : ℕ
+empty_slot = 1
+
+-- there is no memory
+abbrev pub no_memory : ℕ
+no_memory = 2
+
+-- the move isn't legal, or the text names no legal move
+abbrev pub not_legal : ℕ
+not_legal = 3
+
+-- the answer is longer than the room for it
+abbrev pub no_room : ℕ
+no_room = 10
+
+-- only whitespace follows
+abbrev pub no_game : ℕ
+no_game = 16
+
+-- 40 and the number of the fault; want of memory is no fault of the text
+abbrev pub fault_code : FaultKind → ℕ
+fault_code Token = 41
+fault_code Tag = 42
+fault_code Move = 43
+fault_code Variation = 44
+fault_code Deep = 45
+fault_code Truncated = 46
+fault_code Fen = 47
+fault_code Memory = no_memory
+fault_code TooLarge = 49
+
+-- the number of a status
+abbrev pub outcome_code : Status → ℕ
+outcome_code Mate = 0
+outcome_code Stalemate = 1
+outcome_code Dead = 2
+outcome_code Fivefold = 3
+outcome_code Seventyfive = 4
+outcome_code Play = 5

@@ -1,0 +1,7 @@
+pub mod Answers
+pub mod Codes
+pub mod Games
+pub mod Handed
+pub mod Reports
+pub mod Slots
+pub mod Texts

@@ -1,0 +1,47 @@
+ghost use Rattle.std.specs.Prelude.{◌≡◌};
+ghost use Rattle.chess_slots.specs.Codes.{fault_code, outcome_code};
+
+use chess_pgn::FaultKind;
+use chess_types::Status;
+
+/// It is done.
+pub const OK: u32 = 0;
+
+/// There is nothing in the slot.
+pub const EMPTY: u32 = 1;
+
+/// There is no memory.
+pub const MEMORY: u32 = 2;
+
+/// The move isn't legal, or the text names no legal move.
+pub const ILLEGAL: u32 = 3;
+
+/// The answer is longer than the room for it.
+pub const ROOM: u32 = 10;
+
+/// No game follows.
+pub const NO_GAME: u32 = 16;
+
+/// The status of a text at whose start no game is: 40 and the number of the fault, or that there is no memory.
+pub fn fault_code(kind: FaultKind) -> u32
+    ensures { result ≡ fault_code kind }
+{
+    match kind {
+        FaultKind::Memory => MEMORY,
+        other => 40 + u32::from(other.number()),
+    }
+}
+
+/// How a game stands, as a number: 0 mate, 1 stalemate, 2 dead, 3 fivefold repetition, 4 the 75 moves, 5 play (FIDE Laws 5.1.1, 5.2.1, 5.2.2, 9.6).
+pub fn outcome_code(outcome: Status) -> u32
+    ensures { result ≡ outcome_code outcome }
+{
+    match outcome {
+        Status::Mate => 0,
+        Status::Stalemate => 1,
+        Status::Dead => 2,
+        Status::Fivefold => 3,
+        Status::Seventyfive => 4,
+        Status::Play => 5,
+    }
+}

@@ -1,0 +1,25 @@
+//! What the libraries for C and for a page share: what is kept in a slot, and how answers are handed out.
+//!
+//! `Loose` is a box as its pointer, which a slot can keep; each library has a slot of its own, since a type that crosses to C has no parameters. The others
+//! are calls over a text, a board or an engine, which hand out what they answer: `game`, `passed` and `report` of a text, `answer` of a line of the board,
+//! `reply` of an event of an engine. Each answers with a status, of which 0 is success (`specs/Codes.antt`).
+#![tactic(auto)]
+
+mod along;
+mod answers;
+mod codes;
+mod games;
+mod gathered;
+mod loose;
+mod lost;
+mod reports;
+mod texts;
+
+pub use along::cursor_line;
+pub use answers::{answer, reply};
+pub use codes::{EMPTY, ILLEGAL, MEMORY, NO_GAME, OK, ROOM, fault_code, outcome_code};
+pub use games::{game, passed, report};
+pub use loose::Loose;
+pub use lost::Lost;
+pub use reports::{GameReport, NEVER};
+pub use texts::hand;

@@ -1,6 +1,0 @@
-/// What a sink over memory does at the call that is to go wrong.
-#[derive(Clone, Copy, Debug, PartialEq, Eq)]
-pub enum Refusal {
-    Fails,
-    TakesNothing,
-}

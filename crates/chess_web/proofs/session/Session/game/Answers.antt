@@ -1,8 +1,0 @@
-use Rattle.chess_pgn.specs.steps.GameCode.{game_of}
-use Rattle.chess_web.proofs.CallLemmas.{game_told, some_found}
-use Rattle.chess_web.proofs.session.Session.game.Goals as goal
-
-pub returns-in-Ok-Some : goal.returns-in-Ok-Some
-returns-in-Ok-Some c =
-    game_told c.args.text.now (game_of c.in-Ok-Some.game) _ _ _ _ _ _ _
-    (some_found _ c.in-Ok-Some.field-0 (c.in-Ok-Some.game, c.in-Ok-Some.taken) c.in-Ok-Some.ensures.game c.in-Ok-Some.field-0-is) c.write_out.ensures

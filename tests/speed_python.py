@@ -1,0 +1,126 @@
+"""The Python package beside the move generator and the reader of games of pychess, which Debian has: what each does in a second of processor time.
+
+    PYTHONPATH=python /usr/bin/python3 tests/speed_python.py
+
+The same random games for both, and each a second at least. Not a test: what it prints stands in docs/PYTHON.md.
+"""
+import gc
+import random
+import sys
+import tempfile
+import time
+
+import jatshegi
+
+GAMES, PLIES = 100, 120
+
+
+def random_games():
+    """Games of random legal moves: the moves' texts of each, and the game in export form."""
+    chance = random.Random(20)
+    for _ in range(GAMES):
+        board, sans = jatshegi.Board(), []
+        while len(sans) < PLIES and board.status == jatshegi.Status.PLAY:
+            move = chance.choice(board.legal_moves)
+            sans.append(board.san(move))
+            board.push(move)
+        yield sans, board.pgn()
+
+
+def rate(work, count):
+    """How often a second of processor time the work is done, which does it so many times."""
+    gc.collect()
+    begin, times = time.process_time(), 0
+    while time.process_time() - begin < 1:
+        work()
+        times += count
+    return times / (time.process_time() - begin)
+
+
+def positions(games):
+    """The FENs on the way through the first games."""
+    fens = []
+    for sans, _ in games[:10]:
+        board = jatshegi.Board()
+        for san in sans:
+            fens.append(board.fen())
+            board.push_san(san)
+    return fens
+
+
+def ours(games, file):
+    boards = [jatshegi.Board(fen) for fen in positions(games)]
+    moves = sum(len(sans) for sans, _ in games)
+
+    def replay():
+        for sans, _ in games:
+            board = jatshegi.Board()
+            for san in sans:
+                board.push_san(san)
+
+    yield "legal moves as a list, positions", rate(lambda: [board.legal_moves for board in boards], len(boards))
+    yield "games replayed from SAN, moves", rate(replay, moves)
+    yield "a file of games read, moves", rate(lambda: [sum(1 for _ in game.mainline()) for game in jatshegi.pgn.games(file)], moves)
+    yield "the same with a report of each game, moves", rate(lambda: [game.report() for game in jatshegi.pgn.games(file)], moves)
+
+
+def theirs(games, file):
+    from pychess.Savers import pgn
+    from pychess.Utils.const import NORMALCHESS
+    from pychess.Utils.lutils.lmove import parseSAN
+    from pychess.Utils.lutils.LBoard import LBoard
+    from pychess.Utils.lutils.lmovegen import genAllMoves
+
+    def board_at(fen):
+        board = LBoard(NORMALCHESS)
+        board.applyFen(fen)
+        return board
+
+    start = jatshegi.STARTING_FEN
+    boards = [board_at(fen) for fen in positions(games)]
+    moves = sum(len(sans) for sans, _ in games)
+
+    def legal(board):
+        found = []
+        for move in genAllMoves(board):
+            board.applyMove(move)
+            if not board.opIsChecked():
+                found.append(move)
+            board.popMove()
+        return found
+
+    def replay():
+        for sans, _ in games:
+            board = board_at(start)
+            for san in sans:
+                board.applyMove(parseSAN(board, san))
+
+    def read():
+        with open(file) as handle:
+            opened = pgn.load(handle)
+            opened.limit = GAMES
+            opened.init_tag_database()
+            records, _ = opened.get_records()
+            for record in records:
+                opened.loadToModel(record)
+            opened.close()
+
+    yield "legal moves as a list, positions", rate(lambda: [legal(board) for board in boards], len(boards))
+    yield "games replayed from SAN, moves", rate(replay, moves)
+    yield "a file of games read, moves", rate(read, moves)
+
+
+def main():
+    games = list(random_games())
+    with tempfile.TemporaryDirectory() as folder:
+        file = f"{folder}/games.pgn"
+        with open(file, "w", encoding="latin-1") as text:
+            text.write("".join(pgn for _, pgn in games))
+        print(f"Python {sys.version.split()[0]}, {len(games)} games of {sum(len(sans) for sans, _ in games)} moves")
+        for name, of in (("jatshegi", ours), ("pychess", theirs)):
+            for what, found in of(games, file):
+                print(f"{name:10} {what:45} {found:12,.0f} a second", flush=True)
+
+
+if __name__ == "__main__":
+    main()
