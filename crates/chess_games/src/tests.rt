@@ -108,10 +108,8 @@ fn each_game_is_in_one_part(rt: HostRuntime) {
         ("2/2", "", 1),
     ];
     for (part, wanted, bad) in parts {
-        let Some(part) = Part::parse(part) else {
-            unreachable!();
-        };
-        assert!(rt; filtered_part(&rt, part, text, wanted) == Some(Ok(bad)));
+        let refused = Part::parse(part).and_then(|part| filtered_part(&rt, part, text, wanted));
+        assert!(rt; refused == Some(Ok(bad)));
     }
     assert!(rt; Part::parse("1/1") == Some(Part::whole()));
 }
