@@ -57,7 +57,7 @@ enum jatshegi_status {
     JATSHEGI_NO_SUCH = 12,    /* there is no such child */
     JATSHEGI_BAD_COMMENT = 13, /* the comment has a right brace */
     JATSHEGI_NO_GAME = 16,    /* only whitespace follows */
-    /* A text is no FEN: the first fault that applies. */
+    /* A text is no FEN, or fields are no position: the first fault that applies. */
     JATSHEGI_FEN_FIELDS = 21,       /* neither four nor six fields */
     JATSHEGI_FEN_PLACEMENT = 22,    /* the men are not eight ranks of eight squares */
     JATSHEGI_FEN_KINGS = 23,        /* not exactly one king a side */
@@ -125,6 +125,27 @@ struct jatshegi_move {
     uint8_t promotion;
 };
 
+/* The castling rights held, added up: whose, and with which rook (FIDE Laws 3.8.2). */
+enum jatshegi_castling {
+    JATSHEGI_WHITE_KING_SIDE = 1,  /* h1 */
+    JATSHEGI_WHITE_QUEEN_SIDE = 2, /* a1 */
+    JATSHEGI_BLACK_KING_SIDE = 4,  /* h8 */
+    JATSHEGI_BLACK_QUEEN_SIDE = 8  /* a8 */
+};
+
+/* No square. */
+#define JATSHEGI_NO_SQUARE 64
+
+/* A position by its six fields. A man is his letter, as in a FEN: 'K' for White's king, 'p' for a pawn of Black's (PGN 16.1.3.1). */
+struct jatshegi_position {
+    char men[64];     /* what is on each square, a1 first: a man, or 0 for nothing */
+    uint8_t side;     /* the side to move: an enum jatshegi_colour */
+    uint8_t castling; /* the castling rights held: enum jatshegi_castling, added up */
+    uint8_t target;   /* the en passant target: the square that a pawn has just passed over, or JATSHEGI_NO_SQUARE */
+    uint32_t clock;   /* the halfmove clock: plies since the last pawn's move or capture */
+    uint32_t number;  /* the fullmove number, from 1 on */
+};
+
 /* The ply of what never happens. */
 #define JATSHEGI_NEVER UINT32_MAX
 
@@ -160,6 +181,7 @@ enum {
     JATSHEGI_MOST_MOVES = 432,
     JATSHEGI_MOST_FEN = 128,
     JATSHEGI_MOST_SAN = 8,
+    JATSHEGI_MOST_UCI = 5,
     JATSHEGI_MOST_ANSWER = 2600,
     JATSHEGI_MOST_REPLIES = 260
 };
@@ -177,6 +199,15 @@ void jatshegi_board_free(struct jatshegi_board *board);
 uint32_t jatshegi_board_set(struct jatshegi_board *board, const char *fen, size_t length);
 
 /*
+ * Begins a tree from a position by its fields; the one that was there is freed. OK, EMPTY, NO_MEMORY, FEN_...
+ *
+ * First comes the fault of a field that says nothing (FEN_PLACEMENT of a byte that is no man, FEN_SIDE, FEN_CASTLING, FEN_TARGET, and FEN_COUNTER over
+ * 99,999), then that of the position. Unlike a FEN's, the fields are taken as they are: a right without its king and its rook at home is FEN_CASTLING, a
+ * target that no pawn has just passed over FEN_TARGET, and the number 0 FEN_COUNTER.
+ */
+uint32_t jatshegi_board_set_position(struct jatshegi_board *board, const struct jatshegi_position *position);
+
+/*
  * Begins with the whole game at the start of a text (PGN), its variations, comments and annotations, from the position in which it begins; and says how
  * many bytes of the text the game takes. The cursor is at the root. But for OK the board is as it was; at PGN_... `used` is the place of the fault in the text, in
  * bytes. OK, EMPTY, NO_MEMORY, NO_GAME, PGN_...
@@ -185,6 +216,9 @@ uint32_t jatshegi_board_load(struct jatshegi_board *board, const char *text, siz
 
 /* The FEN of the position, and its length, at most JATSHEGI_MOST_FEN (PGN 16.1). OK, EMPTY, NO_ROOM. */
 uint32_t jatshegi_board_fen(struct jatshegi_board *board, char *text, size_t room, size_t *length);
+
+/* The position by its fields. OK, EMPTY. */
+uint32_t jatshegi_board_position(struct jatshegi_board *board, struct jatshegi_position *position);
 
 /* The legal moves in order, and how many they are, at most JATSHEGI_MOST_MOVES (FIDE Laws 3.1 to 3.10). OK, EMPTY, NO_ROOM. */
 uint32_t jatshegi_board_moves(struct jatshegi_board *board, struct jatshegi_move *moves, size_t room, size_t *count);
@@ -203,6 +237,13 @@ uint32_t jatshegi_board_read(struct jatshegi_board *board, const char *text, siz
 
 /* The text of a move in standard algebraic notation, and its length, at most JATSHEGI_MOST_SAN (PGN 8.2.3). OK, EMPTY, ILLEGAL, NO_ROOM. */
 uint32_t jatshegi_board_write(struct jatshegi_board *board, struct jatshegi_move move, char *text, size_t room, size_t *length);
+
+/*
+ * The text of a move in the long algebraic notation of UCI, as e2e4 or e7e8q, and its length, at most JATSHEGI_MOST_UCI; and the move of such a text. No
+ * board is asked whether it is legal. OK, NO_ROOM; ARGUMENT for no move of a board, FORM for any other text.
+ */
+uint32_t jatshegi_move_write(struct jatshegi_move move, char *text, size_t room, size_t *length);
+uint32_t jatshegi_move_read(const char *text, size_t length, struct jatshegi_move *move);
 
 /* How the game stands: an enum jatshegi_outcome. OK, EMPTY. */
 uint32_t jatshegi_board_outcome(struct jatshegi_board *board, uint32_t *outcome);

@@ -64,6 +64,21 @@ class TheBoard(unittest.TestCase):
         board.reset()
         self.assertEqual((board.fen(), board.ply), (jatshegi.STARTING_FEN, 0))
 
+    def test_fields_of_the_position(self):
+        def of(board):
+            rights = [has(colour) for colour in (jatshegi.WHITE, jatshegi.BLACK) for has in (board.has_kingside_castling_rights, board.has_queenside_castling_rights)]
+            return board.turn, rights, board.ep_square, board.halfmove_clock, board.fullmove_number
+
+        board = jatshegi.Board()
+        self.assertEqual(of(board), (jatshegi.WHITE, [True] * 4, None, 0, 1))
+        self.assertEqual(board.piece_map(), {square: letter for square, letter in enumerate("RNBQKBNRPPPPPPPP" + " " * 32 + "pppppppprnbqkbnr") if letter != " "})
+        board.push_san("e4")
+        self.assertEqual(of(board), (jatshegi.BLACK, [True] * 4, jatshegi.parse_square("e3"), 0, 1))
+        for fen, rights in (("w Kk", [1, 0, 1, 0]), ("b Qq", [0, 1, 0, 1]), ("w q", [0, 0, 0, 1]), ("b -", [0] * 4)):
+            board = jatshegi.Board(f"r3k2r/8/8/8/8/8/8/R3K2R {fen} - 12 34")
+            self.assertEqual(of(board), (fen[0] == "w", rights, None, 12, 34))
+            self.assertEqual(board.piece_map(), {0: "R", 4: "K", 7: "R", 56: "r", 60: "k", 63: "r"})
+
     def test_refuses_each_fault_of_a_fen(self):
         rows = [
             "8/8/8/8/8/8/8/8 w -",

@@ -172,7 +172,13 @@ class Board:
     @property
     def turn(self) -> bool:
         """The colour of the side to move: WHITE or BLACK."""
-        return WHITE if self.fen().split()[1] == "w" else BLACK
+        return WHITE if self._fields().side == 0 else BLACK
+
+    # The position's six fields.
+    def _fields(self) -> c.CPosition:
+        position = c.CPosition()
+        c.lib.jatshegi_board_position(self._at, byref(position))
+        return position
 
     @property
     def ply(self) -> int:
@@ -181,16 +187,35 @@ class Board:
 
     def piece_map(self) -> Dict[int, str]:
         """The men by their squares, as FEN writes them: 'K' for White's king, 'p' for a pawn of Black's."""
-        men = {}
-        for rank, row in zip(range(7, -1, -1), self.fen().split()[0].split("/")):
-            file = 0
-            for letter in row:
-                if letter.isdigit():
-                    file += int(letter)
-                else:
-                    men[8 * rank + file] = letter
-                    file += 1
-        return men
+        return {square: chr(letter) for square, letter in enumerate(bytes(self._fields().men)) if letter}
+
+    @property
+    def ep_square(self) -> Optional[int]:
+        """The square that a pawn has just passed over with two steps, or None (FIDE Laws 3.7.3.1).
+
+        >>> Board("8/8/8/K1pP3r/8/8/8/4k3 w - c6 0 2").ep_square
+        42
+        """
+        target = self._fields().target
+        return None if target == c.NO_SQUARE else int(target)
+
+    def has_kingside_castling_rights(self, colour: bool) -> bool:
+        """Whether that side may still castle with the rook of file h (FIDE Laws 3.8.2.1)."""
+        return bool(self._fields().castling & (1 if colour else 4))
+
+    def has_queenside_castling_rights(self, colour: bool) -> bool:
+        """The same with the rook of file a."""
+        return bool(self._fields().castling & (2 if colour else 8))
+
+    @property
+    def halfmove_clock(self) -> int:
+        """How many plies there were since the last pawn's move or capture (PGN 16.1.3.5)."""
+        return int(self._fields().clock)
+
+    @property
+    def fullmove_number(self) -> int:
+        """The number of the move, one more after each move of Black (PGN 16.1.3.6)."""
+        return int(self._fields().number)
 
     # ---- moves
 

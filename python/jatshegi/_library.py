@@ -11,6 +11,9 @@ NO_GAME = 16
 # The status of a FEN's fault is its number and this; so is that of a game's.
 FEN, PGN = 20, 40
 
+# The number of no square.
+NO_SQUARE = 64
+
 # The ply of what never happens.
 NEVER = 0xFFFFFFFF
 
@@ -27,6 +30,15 @@ class CMove(ctypes.Structure):
     """A move as C sees it."""
 
     _fields_ = [("from_square", c_uint8), ("to_square", c_uint8), ("promotion", c_uint8)]
+
+
+class CPosition(ctypes.Structure):
+    """A position by its six fields as C sees it."""
+
+    _fields_ = [
+        *(("men", c_uint8 * 64), ("side", c_uint8), ("castling", c_uint8), ("target", c_uint8)),
+        *(("clock", c_uint32), ("number", c_uint32)),
+    ]
 
 
 class CReport(ctypes.Structure):
@@ -57,6 +69,7 @@ for _name, _types in {
     "set": [_slot, c_char_p, c_size_t],
     "load": [_slot, c_char_p, c_size_t, POINTER(c_size_t)],
     "fen": [_slot, POINTER(c_char), c_size_t, POINTER(c_size_t)],
+    "position": [_slot, POINTER(CPosition)],
     "moves": [_slot, POINTER(CMove), c_size_t, POINTER(c_size_t)],
     "play": [_slot, CMove],
     "play_text": [_slot, c_char_p, c_size_t],

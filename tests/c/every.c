@@ -62,7 +62,11 @@ static void without_a_board(void) {
     uint64_t bits = 7;
     bool searching = false;
     char text[8];
+    struct jatshegi_position position;
+    memset(&position, 7, sizeof position);
     CHECK(set(&none, START) == JATSHEGI_EMPTY);
+    CHECK(jatshegi_board_set_position(&none, &position) == JATSHEGI_EMPTY);
+    CHECK(jatshegi_board_position(&none, &position) == JATSHEGI_EMPTY && position.men[0] == 7 && position.side == 7 && position.number == 0x07070707);
     CHECK(jatshegi_board_fen(&none, text, sizeof text, &count) == JATSHEGI_EMPTY);
     CHECK(jatshegi_board_moves(&none, moves, JATSHEGI_MOST_MOVES, &count) == JATSHEGI_EMPTY);
     CHECK(jatshegi_board_play(&none, m) == JATSHEGI_EMPTY);
@@ -123,6 +127,83 @@ static void fens(struct jatshegi_board *b) {
     CHECK(set(b, "k7/8/8/8/8/8/8/KQ6 w - -") == JATSHEGI_OK);
     CHECK(set(b, "kQ6/8/8/8/8/8/8/K7 w - -") == JATSHEGI_FEN_IN_CHECK);
     CHECK(fen_is(b, "k7/8/8/8/8/8/8/KQ6 w - - 0 1"));
+}
+
+/* The position of a FEN, by its fields. */
+static struct jatshegi_position position_of(struct jatshegi_board *b, const char *fen) {
+    struct jatshegi_position p;
+    memset(&p, 7, sizeof p);
+    CHECK(set(b, fen) == JATSHEGI_OK && jatshegi_board_position(b, &p) == JATSHEGI_OK);
+    return p;
+}
+
+/* The position that is left of the start by these changes isn't taken. */
+static void refuses(struct jatshegi_board *b, const struct jatshegi_position *p, uint32_t wanted, int line) {
+    uint32_t status = jatshegi_board_set_position(b, p);
+    check(status == wanted, "refused so", line);
+    check(fen_is(b, START), "as it was", line);
+}
+#define REFUSES(change, wanted) \
+    do {                        \
+        p = start;              \
+        change;                 \
+        refuses(b, &p, wanted, __LINE__); \
+    } while (0)
+
+static void positions(struct jatshegi_board *b) {
+    static const char *const fens_of[] = {START, "4k2r/8/8/8/4P3/8/8/4K3 b k e3 7 9", "r3k3/8/8/2pP4/8/8/8/R3K2R w KQq c6 0 99999", "k7/8/8/8/8/8/8/K7 b - - 99999 2"};
+    struct jatshegi_position p = position_of(b, fens_of[1]), start;
+    CHECK(p.men[4] == 'K' && p.men[28] == 'P' && p.men[60] == 'k' && p.men[63] == 'r' && p.men[0] == 0 && p.men[62] == 0);
+    CHECK(p.side == JATSHEGI_BLACK && p.castling == JATSHEGI_BLACK_KING_SIDE && p.target == 20 && p.clock == 7 && p.number == 9);
+    for (size_t i = 0; i < sizeof fens_of / sizeof fens_of[0]; i++) {
+        p = position_of(b, fens_of[i]);
+        CHECK(set(b, START) == JATSHEGI_OK && play(b, "e4") == JATSHEGI_OK);
+        CHECK(jatshegi_board_set_position(b, &p) == JATSHEGI_OK && fen_is(b, fens_of[i]) && answers(b, "path", "-\n"));
+    }
+    memset(&p, 0, sizeof p);
+    p.men[4] = 'K', p.men[7] = 'R', p.men[60] = 'k', p.men[56] = 'r';
+    p.castling = JATSHEGI_WHITE_KING_SIDE + JATSHEGI_BLACK_QUEEN_SIDE, p.target = JATSHEGI_NO_SQUARE, p.number = 1;
+    CHECK(jatshegi_board_set_position(b, &p) == JATSHEGI_OK && fen_is(b, "r3k3/8/8/8/8/8/8/4K2R w Kq - 0 1") && play(b, "O-O") == JATSHEGI_OK);
+    start = position_of(b, START);
+    CHECK(start.castling == 15 && start.side == JATSHEGI_WHITE && start.target == JATSHEGI_NO_SQUARE && start.clock == 0 && start.number == 1);
+    REFUSES(p.men[0] = 'x', JATSHEGI_FEN_PLACEMENT);
+    REFUSES(p.men[63] = '1', JATSHEGI_FEN_PLACEMENT);
+    REFUSES(p.side = 2, JATSHEGI_FEN_SIDE);
+    REFUSES(p.castling = 16, JATSHEGI_FEN_CASTLING);
+    REFUSES(p.target = 65, JATSHEGI_FEN_TARGET);
+    REFUSES(p.clock = 100000, JATSHEGI_FEN_COUNTER);
+    REFUSES(p.number = 100000, JATSHEGI_FEN_COUNTER);
+    REFUSES(p.men[4] = 0, JATSHEGI_FEN_KINGS);
+    REFUSES(p.men[0] = 'P', JATSHEGI_FEN_PAWN_RANK);
+    REFUSES(p.men[16] = 'Q', JATSHEGI_FEN_TOO_MANY_MEN);
+    REFUSES(p.men[7] = 0, JATSHEGI_FEN_CASTLING);
+    REFUSES(p.target = 44, JATSHEGI_FEN_TARGET);
+    REFUSES(p.number = 0, JATSHEGI_FEN_COUNTER);
+    REFUSES((p.men[52] = 0, p.men[12] = 'Q', p.men[3] = 0), JATSHEGI_FEN_IN_CHECK);
+    REFUSES((p.men[4] = 0, p.side = 2), JATSHEGI_FEN_SIDE);
+}
+
+static int is_long(struct jatshegi_move m, const char *wanted) {
+    struct jatshegi_move back = move_of(9, 9, 9);
+    char text[JATSHEGI_MOST_UCI];
+    size_t length = 0;
+    if (jatshegi_move_write(m, text, sizeof text, &length) != JATSHEGI_OK || length != strlen(wanted) || memcmp(text, wanted, length) != 0) return 0;
+    return jatshegi_move_read(text, length, &back) == JATSHEGI_OK && back.from == m.from && back.to == m.to && back.promotion == m.promotion;
+}
+
+static void long_texts(void) {
+    static const char *const others[] = {"", "e2", "e2e9", "e2e4k", "e2e4qq", "E2E4", "e2-e4"};
+    struct jatshegi_move m = move_of(9, 9, 9);
+    char text[] = "xxxxx";
+    size_t length = 7;
+    CHECK(is_long(move_of(12, 28, 0), "e2e4") && is_long(move_of(4, 6, 0), "e1g1") && is_long(move_of(63, 0, 0), "h8a1"));
+    CHECK(is_long(move_of(52, 60, JATSHEGI_QUEEN), "e7e8q") && is_long(move_of(52, 61, JATSHEGI_ROOK), "e7f8r"));
+    CHECK(is_long(move_of(12, 4, JATSHEGI_BISHOP), "e2e1b") && is_long(move_of(12, 3, JATSHEGI_KNIGHT), "e2d1n"));
+    CHECK(jatshegi_move_write(move_of(64, 0, 0), text, 5, &length) == JATSHEGI_ARGUMENT && jatshegi_move_write(move_of(0, 64, 0), text, 5, &length) == JATSHEGI_ARGUMENT);
+    CHECK(jatshegi_move_write(move_of(0, 1, 5), text, 5, &length) == JATSHEGI_ARGUMENT && length == 7);
+    CHECK(jatshegi_move_write(move_of(52, 60, 4), text, 4, &length) == JATSHEGI_NO_ROOM && length == 5 && text[0] == 'x');
+    CHECK(jatshegi_move_write(move_of(12, 28, 0), text, 4, &length) == JATSHEGI_OK && length == 4 && memcmp(text, "e2e4x", 5) == 0);
+    for (size_t i = 0; i < sizeof others / sizeof others[0]; i++) CHECK(jatshegi_move_read(others[i], strlen(others[i]), &m) == JATSHEGI_FORM && m.from == 9);
 }
 
 static void moves(struct jatshegi_board *b) {
@@ -417,6 +498,8 @@ int main(void) {
     CHECK(jatshegi_board_new(&keys, &board) == JATSHEGI_OK && jatshegi_board_new(&keys, &other) == JATSHEGI_OK);
     CHECK(fen_is(&board, START) && play(&other, "d4") == JATSHEGI_OK && fen_is(&board, START));
     fens(&board);
+    positions(&board);
+    long_texts();
     moves(&board);
     outcomes(&board);
     numbers(&board);

@@ -51,6 +51,7 @@ static uint32_t step(struct jatshegi_board *board, int number) {
     size_t count = 0, used = 0;
     uint64_t passed = 0;
     struct jatshegi_report report;
+    struct jatshegi_position position = {{0}, JATSHEGI_BLACK, 0, JATSHEGI_NO_SQUARE, 3, 9};
     if (number == 0) return jatshegi_board_new(keys, board);
     if (number <= 6) return jatshegi_board_play_text(board, texts[number - 1], strlen(texts[number - 1]));
     if (number == 7) return jatshegi_board_comment(board, comment, strlen(comment));
@@ -61,6 +62,10 @@ static uint32_t step(struct jatshegi_board *board, int number) {
     if (number == 11) return jatshegi_game_report(pgn, strlen(pgn), &report, text, sizeof text, &count, &used);
     if (number == 12) return jatshegi_game_pass(pgn, strlen(pgn), &passed);
     if (number == 13) return jatshegi_game_pass(bad, strlen(bad), &passed);
+    if (number == 16) {
+        position.men[4] = 'K', position.men[60] = 'k', position.men[12] = 'P';
+        return jatshegi_board_set_position(board, &position);
+    }
     return jatshegi_board_set(board, fen, strlen(fen));
 }
 
@@ -88,7 +93,7 @@ int main(void) {
     static struct jatshegi_keys filled;
     jatshegi_keys_fill(&filled);
     keys = &filled;
-    for (int number = 0; number <= 15; number++) {
+    for (int number = 0; number <= 16; number++) {
         int found = 1;
         for (long at = 0; found; at++) {
             found = try_at(number, at);

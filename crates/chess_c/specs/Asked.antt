@@ -8,12 +8,10 @@
 --   IsBestAt     the same for a depth of 1 to 16 plies
 --   IsMoveHere   the move that leads to a node, or that it is the root
 --   flag         1 for what holds
---   colour_in    a colour by its number: 0 for White, and 1 for Black
 --   attackers_of   the men of a colour that attack a square, as a word: the bit of each man's square is 1
 --   IsAttackedBy   that word, for numbers that are a colour and a square
-use Rattle.std.specs.Prelude.{◌≡◌, ◌==◌, ℕ, ℤ, nat_le, nat_lt, Bool, true, false, ◌&&◌, if◌then◌else◌, List, Option, Some, None, Result, Ok, Err}
+use Rattle.std.specs.Prelude.{◌≡◌, ℕ, ℤ, nat_le, nat_lt, Bool, true, false, ◌&&◌, List, Option, Some, None, Result, Ok, Err}
 use Rattle.chess_types.specs.declared.board.man.Colour.{Colour}
-use Rattle.chess_types.specs.declared.board.man.Colour.TheVariants.{White, Black}
 use Rattle.chess_types.specs.declared.board.man.Man.{Man}
 use Rattle.chess_types.specs.declared.board.outcome.Claims.{Claims}
 use Rattle.chess_types.specs.board.MoveParts.{MoveParts}
@@ -84,10 +82,6 @@ IsBestAt line depth code said said' value value' = BestIf (nat_le 1 depth && nat
 abbrev pub IsMoveHere : Option MoveParts → ℕ → (said said' : CMove) → Type 0
 IsMoveHere None code said said' = (code ≡ refusal_code AtRoot) × (said' ≡ said)
 IsMoveHere (Some m) code said said' = (code ≡ ok) × (said' ≡ shown m)
-
--- a colour by its number
-abbrev pub colour_in : ℕ → Option Colour
-colour_in code = if code == 0 then Some White else if code == 1 then Some Black else None
 
 -- a bit for each square with a man of the colour that attacks the square (FIDE Laws 3.1 to 3.8)
 abbrev pub attackers_of : (ℕ → Option Man) → Colour → ℕ → ℕ

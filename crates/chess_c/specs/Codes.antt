@@ -3,7 +3,10 @@
 --   refusal_code    the status of a refusal of the board
 --   ended_code      the status of a call that is done or refused
 --   claims_code     the draws that may be claimed: 1 for threefold, and 2 for fifty
-use Rattle.std.specs.Prelude.{ℕ, ◌+◌, if◌then◌else◌, Result, Ok, Err}
+--   colour_code, colour_in   a colour: 0 for White, and 1 for Black; and read back
+use Rattle.std.specs.Prelude.{ℕ, ◌+◌, ◌==◌, if◌then◌else◌, Option, Some, None, Result, Ok, Err}
+use Rattle.chess_types.specs.declared.board.man.Colour.{Colour}
+use Rattle.chess_types.specs.declared.board.man.Colour.TheVariants.{White, Black}
 use Rattle.chess_types.specs.declared.board.outcome.Claims.{Claims}
 use Rattle.chess_fen.specs.Faults.{number_of}
 use Rattle.chess_cli.specs.declared.board_command.refusal.Refusal.{Refusal}
@@ -42,3 +45,12 @@ ended_code (Err refusal) = refusal_code refusal
 -- the draws that may be claimed, added up
 abbrev pub claims_code : Claims → ℕ
 claims_code claims = (if claims.threefold then 1 else 0) + (if claims.fifty then 2 else 0)
+
+-- the number of a colour
+abbrev pub colour_code : Colour → ℕ
+colour_code White = 0
+colour_code Black = 1
+
+-- a colour by its number
+abbrev pub colour_in : ℕ → Option Colour
+colour_in code = if code == 0 then Some White else if code == 1 then Some Black else None

@@ -4,5 +4,6 @@ pub mod Codes
 pub mod Held
 pub mod Loads
 pub mod Moves
+pub mod Positions
 pub mod Searches
 pub mod Slots

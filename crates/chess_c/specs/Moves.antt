@@ -1,10 +1,17 @@
 -- How C sees a move: three numbers.
 --   promotion_code, promotion_in   what a pawn becomes: 0 for no promotion, else 1 to 4 for knight, bishop, rook and queen; and read back
 --   shown, move_in                 a move as three numbers, and read back: squares are below 64
-use Rattle.std.specs.Prelude.{ℕ, ◌==◌, nat_lt, ◌&&◌, if◌then◌else◌, Option, Some, None}
+--   IsSpelled      the text of a move in the long algebraic notation of UCI
+--   IsTextOf, IsParsed   a text is that of a move; the move whose text it is
+use Rattle.std.specs.Prelude.{◌≡◌, ◌⊎◌, ◌<◌, ℕ, ◌==◌, nat_lt, ◌&&◌, if◌then◌else◌, List, Option, Some, None}
 use Rattle.chess_types.specs.declared.board.man.Kind.{Kind}
 use Rattle.chess_types.specs.declared.board.man.Kind.TheVariants.{Knight, Bishop, Rook, Queen}
 use Rattle.chess_types.specs.board.MoveParts.{MoveParts}
+use Rattle.chess_types.specs.board.Texts.{IsPromotion, move_text}
+use Rattle.chess_cli.specs.declared.board_command.refusal.Refusal.TheVariants.{Argument, Form}
+use Rattle.chess_slots.specs.Codes.{ok}
+use Rattle.chess_slots.specs.Handed.{IsHanded}
+use Rattle.chess_c.specs.Codes.{refusal_code}
 use Rattle.chess_c.specs.declared.moves.CMove.{CMove}
 
 -- the number of what a pawn becomes
@@ -33,3 +40,18 @@ move_between from to (Some promo) = Some (record { from = from; to = to; promo =
 -- the move that C means, if it is one
 abbrev pub move_in : CMove → Option MoveParts
 move_in m = if nat_lt m.from 64 && nat_lt m.to 64 then move_between m.from m.to (promotion_in m.promotion) else None
+
+-- the long text of a move is handed out, or the numbers are no move
+abbrev pub IsSpelled : Option MoveParts → (code count count' : ℕ) → (old new : List ℕ) → Type 0
+IsSpelled None code count count' old new = (code ≡ refusal_code Argument) × (count' ≡ count) × (new ≡ old)
+IsSpelled (Some m) code count count' old new = IsHanded (move_text m) code count' old new
+
+-- the long text of a move of the board, which names nothing or a promotion
+abbrev pub IsTextOf : List ℕ → MoveParts → Type 0
+IsTextOf text m = (m.from < 64) × (m.to < 64) × IsPromotion m.promo × (text ≡ move_text m)
+
+-- the move whose text it is is handed out, or it is that of none
+abbrev pub IsParsed : List ℕ → ℕ → (said said' : CMove) → Type 0
+IsParsed text code said said' =
+    ((code ≡ ok) × (m : MoveParts) × IsTextOf text m × (said' ≡ shown m))
+    ⊎ ((code ≡ refusal_code Form) × (said' ≡ said) × ((m : MoveParts) → IsTextOf text m → ⊥))

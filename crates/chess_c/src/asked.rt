@@ -12,15 +12,17 @@ ghost use Rattle.chess_eval.specs.Evaluation.{evaluation};
 ghost use Rattle.chess_fen.specs.Writing.{written};
 ghost use Rattle.chess_san.specs.Naming.{san_reading};
 ghost use Rattle.chess_tree.specs.GameTree.{line_to};
-ghost use Rattle.chess_c.specs.Asked.{IsAttackedBy, IsBestAt, IsClaimed, IsRead, IsWritten, attackers_of, claims_in, colour_in, flag};
+ghost use Rattle.chess_c.specs.Asked.{IsAttackedBy, IsBestAt, IsClaimed, IsRead, IsWritten, attackers_of, claims_in, flag};
 ghost use Rattle.chess_c.specs.Calls.{Asks};
 ghost use Rattle.chess_slots.specs.Codes.{outcome_code};
 ghost use Rattle.chess_slots.specs.Handed.{IsHanded};
-ghost use Rattle.chess_c.specs.Codes.{claims_code};
+ghost use Rattle.chess_c.specs.Codes.{claims_code, colour_in};
 ghost use Rattle.chess_c.specs.Moves.{move_in, shown};
+ghost use Rattle.chess_c.specs.Positions.{position_shown};
 
-use crate::codes::{ARGUMENT, NONE, claims_code, refusal_code};
+use crate::codes::{ARGUMENT, NONE, claims_code, colour_in, refusal_code};
 use crate::moves::{CMove, hand_moves};
+use crate::positions::CPosition;
 use crate::slot::{Slot, put, take};
 use crate::squares::{put_counts, put_set, word_of};
 use chess_attack::attackers;
@@ -158,17 +160,6 @@ pub extern "C" fn jatshegi_board_checks(
     OK
 }
 
-// A colour by its number.
-fn colour_in(code: u8) -> Option<Colour>
-    ensures { result ≡ colour_in code }
-{
-    match code {
-        0 => Some(Colour::White),
-        1 => Some(Colour::Black),
-        _ => None,
-    }
-}
-
 // The men of a colour that attack a square.
 fn attackers_in(live: &Live<'_>, colour: Colour, square: Square) -> SquareSet
     ensures { (a : ℕ) → a < 64 → contains result a ≡ attacks_for (man_on live.now.position a) colour (man_on live.now.position) a square }
@@ -252,6 +243,23 @@ pub extern "C" fn jatshegi_board_fen(
     let code = hand(session.board.fen_text().as_str().as_bytes(), text, count);
     put(slot, session, alloc);
     code
+}
+
+/// The position by its six fields.
+#[unsafe(no_mangle)]
+pub extern "C" fn jatshegi_board_position(
+    alloc: Global,
+    slot: &mut Slot,
+    position: &mut CPosition,
+) -> u32
+    ensures { Asks (position.new ≡ position.old) (λ board code. (code ≡ 0) × (position.new ≡ position_shown (last (line_to board)))) slot.old.held result slot.new.held }
+{
+    let Some(session) = take(slot, alloc) else {
+        return EMPTY;
+    };
+    *position = CPosition::of(session.board.live().position());
+    put(slot, session, alloc);
+    OK
 }
 
 // The text of a move.

@@ -1,9 +1,12 @@
 ghost use Rattle.std.specs.Prelude.{◌≡◌};
-ghost use Rattle.chess_c.specs.Codes.{claims_code, ended_code, refusal_code};
+ghost use Rattle.chess_c.specs.Codes.{claims_code, colour_code, colour_in, ended_code, refusal_code};
 
 use chess_cli::Refusal;
 use chess_slots::{ILLEGAL, MEMORY, OK};
-use chess_types::Claims;
+use chess_types::{Claims, Colour};
+
+/// The text has no form of a move.
+pub const FORM: u32 = 5;
 
 /// The cursor is at the root.
 pub const AT_ROOT: u32 = 8;
@@ -20,7 +23,7 @@ pub fn refusal_code(refusal: Refusal) -> u32
 {
     match refusal {
         Refusal::Fen(fault) => 20 + u32::from(fault.number()),
-        Refusal::Form => 5,
+        Refusal::Form => FORM,
         Refusal::NoSuch => 12,
         Refusal::Illegal => ILLEGAL,
         Refusal::TooLong => 6,
@@ -50,4 +53,25 @@ pub fn claims_code(claims: Claims) -> u32
     ensures { result ≡ claims_code claims }
 {
     u32::from(claims.threefold) + 2 * u32::from(claims.fifty)
+}
+
+/// The number of a colour.
+pub fn colour_code(colour: Colour) -> u8
+    ensures { result ≡ colour_code colour }
+{
+    match colour {
+        Colour::White => 0,
+        Colour::Black => 1,
+    }
+}
+
+/// A colour by its number.
+pub fn colour_in(code: u8) -> Option<Colour>
+    ensures { result ≡ colour_in code }
+{
+    match code {
+        0 => Some(Colour::White),
+        1 => Some(Colour::Black),
+        _ => None,
+    }
 }

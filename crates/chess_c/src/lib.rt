@@ -15,6 +15,7 @@ mod life;
 mod lines;
 mod moves;
 mod nodes;
+mod positions;
 mod search;
 mod searches;
 mod session;

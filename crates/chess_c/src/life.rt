@@ -4,11 +4,14 @@ ghost use Rattle.chess_cli.specs.Answers.{HasEffect, set_effect};
 ghost use Rattle.chess_c.specs.Calls.{Acts};
 ghost use Rattle.chess_c.specs.Held.{beginning};
 ghost use Rattle.chess_c.specs.Loads.{Loads};
+ghost use Rattle.chess_c.specs.Positions.{position_in};
 
 use crate::codes::ended_code;
 use crate::keys::Keys;
+use crate::positions::CPosition;
 use crate::session::Session;
 use crate::slot::{Slot, put, take};
+use chess_cli::{Board, Refusal};
 use chess_slots::{EMPTY, MEMORY, OK};
 use std::alloc::Global;
 
@@ -44,6 +47,32 @@ pub extern "C" fn jatshegi_board_set(alloc: Global, slot: &mut Slot, fen: &[u8])
         return EMPTY;
     };
     let ended = session.board.set(fen);
+    put(slot, session, alloc);
+    ended_code(ended)
+}
+
+// The same of a position by its fields: its FEN reads as it.
+fn set_position(board: &mut Board<'static, Global>, position: &CPosition) -> Result<(), Refusal>
+    ensures { HasEffect (set_effect (position_in position.now)) board.old result board.new }
+{
+    let made = position.read()?;
+    board.set(chess_fen::write(&made).as_str().as_bytes())
+}
+
+/// Begins a tree from the position of six fields; the one that was there is freed. The fields are taken as they are: what a FEN's reader would drop, a right
+/// without its king and its rook at home and a target that no advance explains, is a fault (PGN 16.1.3).
+#[unsafe(no_mangle)]
+pub extern "C" fn jatshegi_board_set_position(
+    alloc: Global,
+    slot: &mut Slot,
+    position: &CPosition,
+) -> u32
+    ensures { Acts (λ board ended after. HasEffect (set_effect (position_in position.now)) board ended after) slot.old.held result slot.new.held }
+{
+    let Some(mut session) = take(slot, alloc) else {
+        return EMPTY;
+    };
+    let ended = set_position(&mut session.board, position);
     put(slot, session, alloc);
     ended_code(ended)
 }

@@ -1,8 +1,9 @@
 ghost use Rattle.std.specs.Prelude.{◌≡◌, ◌≤◌, ◌++◌, drop, length, map};
 ghost use Rattle.chess_slots.specs.Handed.{IsHanded};
-ghost use Rattle.chess_c.specs.Moves.{move_in, promotion_code, promotion_in, shown};
+ghost use Rattle.chess_c.specs.Moves.{IsParsed, IsSpelled, move_in, promotion_code, promotion_in, shown};
 
-use chess_slots::{OK, ROOM};
+use crate::codes::{ARGUMENT, FORM};
+use chess_slots::{OK, ROOM, hand};
 use chess_types::{Kind, Move, Square};
 
 /// A move, as C sees it.
@@ -90,4 +91,29 @@ pub fn hand_moves(moves: &[Move], room: &mut [CMove], count: &mut usize) -> u32
     }
     put_moves(moves, room);
     OK
+}
+
+/// The text of a move in the long algebraic notation of UCI, at most 5 bytes: `e2e4`, `e7e8q`. Whether it is legal isn't asked.
+#[unsafe(no_mangle)]
+pub extern "C" fn jatshegi_move_write(m: CMove, text: &mut [u8], count: &mut usize) -> u32
+    ensures { IsSpelled (move_in m) result count.old count.new text.old text.new }
+{
+    match m.read() {
+        None => ARGUMENT,
+        Some(found) => hand(found.text().as_str().as_bytes(), text, count),
+    }
+}
+
+/// The move that has this text in the long algebraic notation of UCI.
+#[unsafe(no_mangle)]
+pub extern "C" fn jatshegi_move_read(text: &[u8], m: &mut CMove) -> u32
+    ensures { IsParsed text.now result m.old m.new }
+{
+    match Move::parse(text) {
+        None => FORM,
+        Some(found) => {
+            *m = CMove::of(found);
+            OK
+        }
+    }
 }
