@@ -1,5 +1,5 @@
--- Rows cell by cell, and what a report says in one.
-use Rattle.std.proofs.Common.{◌≡◌, ℕ, Bool, true, false, if◌then◌else◌, nat_lt, List, [], ◌∷◌, ◌++◌, Option, Some, None, refl, sym, ap, ◌∙◌, append_assoc, append-nil, codes}
+-- What a report says in a row.
+use Rattle.std.proofs.Common.{◌≡◌, ℕ, Bool, true, false, if◌then◌else◌, nat_lt, Option, Some, None, refl, ap}
 use Rattle.std.specs.Prelude.{IfSome, is_some, option_map}
 use Rattle.chess_types.specs.board.Lines.{Line}
 use Rattle.chess_types.specs.board.Outcome.{status}
@@ -8,32 +8,8 @@ use Rattle.chess_report.specs.MainLine.{as_far, main}
 use Rattle.chess_report.specs.Findings.{played_on}
 use Rattle.chess_report.specs.declared.report.Over.{Over}
 use Rattle.chess_report.specs.declared.report.Report.{Report}
-use Rattle.arbiter.specs.declared.row.Format.{Format}
-use Rattle.arbiter.specs.Cells.{Cell, cell_text, closing, opening, others_text, row_text}
 use Rattle.arbiter.specs.Rows.{early, has_finding, line_cells}
-use Rattle.arbiter.specs.steps.Adding.{Row, begun, ended, with_bytes, with_cell, with_cells}
 use Rattle.arbiter.specs.steps.Reports.{IsReportOf, is_finding, report_cells}
-
-with_with : (row : Row) (a b : List ℕ) → with_bytes (with_bytes row a) b ≡ with_bytes row (a ++ b)
-with_with row a b = ap (λ (t : List ℕ). record { format = row.format; bytes = t }) (append_assoc row.bytes a b)
-
--- cells added one by one are their text
-cells_are : (row : Row) (cells : List Cell) → with_cells row cells ≡ with_bytes row (others_text row.format cells)
-cells_are row [] = ap (λ (t : List ℕ). record { format = row.format; bytes = t }) (sym (append-nil row.bytes))
-cells_are row (cell ∷ cells) = cells_are (with_cell row cell) cells ∙ with_with row (codes "," ++ cell_text row.format cell) (others_text row.format cells)
-
--- a whole row
-pub row_is : (format : Format) (first : Cell) (cells : List Cell) → ended (with_cells (begun format first) cells) ≡ record { format = format; bytes = row_text format first cells }
-row_is format first cells =
-    ap ended (cells_are (begun format first) cells)
-    ∙ ap (λ (t : List ℕ). record { format = format; bytes = t })
-    (append_assoc (opening format ++ cell_text format first) (others_text format cells) (closing format) ∙ append_assoc (opening format) (cell_text format first) (others_text format cells ++ closing format))
-
-pub row_bytes : (format : Format) (first : Cell) (cells : List Cell) (row : Row) → row ≡ ended (with_cells (begun format first) cells) → row.bytes ≡ row_text format first cells
-row_bytes format first cells row is = ap (λ (r : Row). r.bytes) (is ∙ row_is format first cells)
-
-pub row_format : (format : Format) (first : Cell) (cells : List Cell) (row : Row) → row ≡ ended (with_cells (begun format first) cells) → row.format ≡ format
-row_format format first cells row is = ap (λ (r : Row). r.format) (is ∙ row_is format first cells)
 
 -- ---- where a game was over before its end
 

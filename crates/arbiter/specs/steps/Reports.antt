@@ -31,23 +31,19 @@ end_cells report =
     ∷ (codes "winner", maybe (λ side. Text (colour_text side)) report.winner)
     ∷ over_cells (played_on report.over report.plies)
 
--- where a draw could be claimed
-abbrev pub claim_cells : Report → List Cell
-claim_cells report = (codes "threefold_ply", maybe Number report.threefold) ∷ (codes "fifty_ply", maybe Number report.fifty) ∷ []
-
 -- what its plies have
 abbrev pub ply_cells : Report → List Cell
 ply_cells report =
-    claim_cells report
-    ++ (codes "repetitions", Number report.repetitions)
+    (codes "threefold_ply", maybe Number report.threefold)
+    ∷ (codes "fifty_ply", maybe Number report.fifty)
+    ∷ (codes "repetitions", Number report.repetitions)
     ∷ (codes "quiet", Number report.quiet)
     ∷ (codes "agrees", Truth report.agrees)
-    ∷ (codes "fen", Text (written report.last))
     ∷ []
 
 -- what a report says
 abbrev pub report_cells : Report → List Cell
-report_cells report = end_cells report ++ ply_cells report
+report_cells report = end_cells report ++ (ply_cells report ++ (codes "fen", Text (written report.last)) ∷ [])
 
 -- something is wrong with the game
 abbrev pub is_finding : Report → Bool
