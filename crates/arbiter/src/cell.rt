@@ -5,7 +5,9 @@ ghost use Rattle.arbiter.specs.Cells.{Number, Text, Truth, Nothing, cell_of, may
 #[derive(Clone, Copy, Debug)]
 pub enum Value<'v> {
     Number(u64),
-    /// Of any bytes.
+    /// A text of the program's own.
+    Word(&'static str),
+    /// A text of any bytes.
     Text(&'v [u8]),
     Truth(bool),
     Nothing,
@@ -19,7 +21,7 @@ pub struct Cell<'v> {
 }
 
 /// A number.
-pub fn number(name: &'static str, value: u64) -> Cell<'static>
+pub fn number<'v>(name: &'static str, value: u64) -> Cell<'v>
     ensures { cell_of result ≡ (name.now, Number value) }
 {
     Cell {
@@ -29,11 +31,31 @@ pub fn number(name: &'static str, value: u64) -> Cell<'static>
 }
 
 /// A number, if it is there.
-pub fn any_number(name: &'static str, value: Option<u32>) -> Cell<'static>
+pub fn any_number<'v>(name: &'static str, value: Option<u32>) -> Cell<'v>
     ensures { cell_of result ≡ (name.now, maybe Number value) }
 {
     match value {
         Some(value) => number(name, value as u64),
+        None => nothing(name),
+    }
+}
+
+/// A text of the program's own.
+pub fn word<'v>(name: &'static str, value: &'static str) -> Cell<'v>
+    ensures { cell_of result ≡ (name.now, Text value.now) }
+{
+    Cell {
+        name,
+        value: Value::Word(value),
+    }
+}
+
+/// A text of the program's own, if it is there.
+pub fn any_word<'v>(name: &'static str, value: Option<&'static str>) -> Cell<'v>
+    ensures { cell_of result ≡ (name.now, maybe Text (option_map (λ v. v.now) value.entry)) }
+{
+    match value {
+        Some(value) => word(name, value),
         None => nothing(name),
     }
 }
@@ -59,7 +81,7 @@ pub fn any_text<'v>(name: &'static str, value: Option<&'v [u8]>) -> Cell<'v>
 }
 
 /// `true` or `false`.
-pub fn truth(name: &'static str, value: bool) -> Cell<'static>
+pub fn truth<'v>(name: &'static str, value: bool) -> Cell<'v>
     ensures { cell_of result ≡ (name.now, Truth value) }
 {
     Cell {
@@ -69,7 +91,7 @@ pub fn truth(name: &'static str, value: bool) -> Cell<'static>
 }
 
 /// A value that isn't there.
-pub fn nothing(name: &'static str) -> Cell<'static>
+pub fn nothing<'v>(name: &'static str) -> Cell<'v>
     ensures { cell_of result ≡ (name.now, Nothing) }
 {
     Cell {

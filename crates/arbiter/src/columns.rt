@@ -1,11 +1,12 @@
-ghost use Rattle.std.specs.Prelude.{◌≡◌, ◌++◌, codes, map, IfOk};
+ghost use Rattle.std.specs.Prelude.{◌≡◌, ◌++◌, map, option_map, IfOk};
+ghost use Rattle.chess_fen.specs.Writing.{written};
 ghost use Rattle.chess_pgn.specs.Written.{outcome_text};
 ghost use Rattle.chess_pgn.specs.steps.GameCode.{tags_of};
-ghost use Rattle.arbiter.specs.Cells.{Text, cell_of, maybe, row_text};
+ghost use Rattle.arbiter.specs.Cells.{cell_of, row_text};
 ghost use Rattle.arbiter.specs.Rows.{colour_text, empty_cells, fault_cells, fault_names, heading_cells, place_cells, status_text};
-ghost use Rattle.arbiter.specs.steps.Reports.{end_cells, is_finding, over_cells, ply_cells, report_cells};
+ghost use Rattle.arbiter.specs.steps.Reports.{is_finding, report_cells};
 
-use crate::cell::{Cell, any_number, any_text, nothing, number, text, truth};
+use crate::cell::{Cell, any_number, any_text, any_word, nothing, number, text, truth, word};
 use crate::row::{Format, row_bytes};
 use chess_pgn::{Game, Outcome, PgnFault};
 use chess_programs::Place;
@@ -60,66 +61,67 @@ pub fn has_finding(report: &Report) -> bool
     report.played_on().is_some() | !report.agrees
 }
 
-// What the tags say.
-fn heading_cells<'v, A: Allocator>(game: &'v Game<'_, A>) -> [Cell<'v>; 4]
-    ensures { map cell_of result ≡ heading_cells (tags_of game.now.tags) }
+// The side that has mated the other.
+fn winner_text(winner: Option<Colour>) -> Option<&'static str>
+    ensures { option_map (λ text. text.now) result ≡ option_map colour_text winner }
 {
+    match winner {
+        Some(side) => Some(colour_text(side)),
+        None => None,
+    }
+}
+
+// Where the game was over before its last move.
+fn over_ply(over: Option<Over>) -> Option<u32>
+    ensures { result ≡ option_map (λ o. o.ply) over }
+{
+    match over {
+        Some(over) => Some(over.ply),
+        None => None,
+    }
+}
+
+// Why it was.
+fn over_why(over: Option<Over>) -> Option<&'static str>
+    ensures { option_map (λ text. text.now) result ≡ option_map (λ o. status_text o.why) over }
+{
+    match over {
+        Some(over) => Some(status_text(over.why)),
+        None => None,
+    }
+}
+
+// The cells of a game whose last position has that FEN.
+fn game_cells<'v, A: Allocator>(
+    place: Place,
+    game: &'v Game<'_, A>,
+    report: &Report,
+    fen: &'v [u8],
+) -> [Cell<'v>; 20]
+    ensures { map cell_of result ≡ place_cells place.number place.offset ++ (heading_cells (tags_of game.now.tags) ++ (report_cells report.now fen.now ++ empty_cells fault_names)) }
+{
+    let over = report.played_on();
     [
+        number("number", place.number),
+        number("offset", place.offset),
         any_text("white", game.tag(b"White")),
         any_text("black", game.tag(b"Black")),
         any_text("event", game.tag(b"Event")),
         any_text("date", game.tag(b"Date")),
-    ]
-}
-
-// The side that has mated the other.
-fn winner_cell(winner: Option<Colour>) -> Cell<'static>
-    ensures { cell_of result ≡ (codes "winner", maybe (λ side. Text (colour_text side)) winner) }
-{
-    match winner {
-        Some(side) => text("winner", colour_text(side).as_bytes()),
-        None => nothing("winner"),
-    }
-}
-
-// Where the game was over before its last move, and why.
-fn over_cells(over: Option<Over>) -> [Cell<'static>; 2]
-    ensures { map cell_of result ≡ over_cells over }
-{
-    match over {
-        Some(over) => [
-            number("over_ply", over.ply as u64),
-            text("over_why", status_text(over.why).as_bytes()),
-        ],
-        None => [nothing("over_ply"), nothing("over_why")],
-    }
-}
-
-// How the game ends.
-fn end_cells(report: &Report) -> [Cell<'static>; 6]
-    ensures { map cell_of result ≡ end_cells report.now }
-{
-    let [ply, why] = over_cells(report.played_on());
-    [
         number("plies", report.plies as u64),
-        text("result", outcome_text(report.marker).as_bytes()),
-        text("status", status_text(report.status).as_bytes()),
-        winner_cell(report.winner),
-        ply,
-        why,
-    ]
-}
-
-// What the Laws say of its plies.
-fn ply_cells(report: &Report) -> [Cell<'static>; 5]
-    ensures { map cell_of result ≡ ply_cells report.now }
-{
-    [
+        word("result", outcome_text(report.marker)),
+        word("status", status_text(report.status)),
+        any_word("winner", winner_text(report.winner)),
+        any_number("over_ply", over_ply(over)),
+        any_word("over_why", over_why(over)),
         any_number("threefold_ply", report.threefold),
         any_number("fifty_ply", report.fifty),
         number("repetitions", report.repetitions as u64),
         number("quiet", report.quiet as u64),
         truth("agrees", report.agrees),
+        text("fen", fen),
+        nothing("fault_place"),
+        nothing("fault"),
     ]
 }
 
@@ -131,47 +133,18 @@ pub fn game_row<A: Allocator>(
     game: &Game<'_, A>,
     report: &Report,
 ) -> Result<Vec<u8>, AllocError>
-    ensures { IfOk result (λ row. row.items ≡ row_text format (place_cells place.number place.offset ++ (heading_cells (tags_of game.now.tags) ++ (report_cells report.now ++ empty_cells fault_names)))) }
+    ensures { IfOk result (λ row. row.items ≡ row_text format (place_cells place.number place.offset ++ (heading_cells (tags_of game.now.tags) ++ (report_cells report.now (written report.now.last) ++ empty_cells fault_names)))) }
 {
-    let [white, black, event, date] = heading_cells(game);
-    let [plies, result, status, winner, over_ply, over_why] = end_cells(report);
-    let [threefold, fifty, repetitions, quiet, agrees] = ply_cells(report);
     let fen = chess_fen::write(&report.last);
-    let cells = [
-        number("number", place.number),
-        number("offset", place.offset),
-        white,
-        black,
-        event,
-        date,
-        plies,
-        result,
-        status,
-        winner,
-        over_ply,
-        over_why,
-        threefold,
-        fifty,
-        repetitions,
-        quiet,
-        agrees,
-        text("fen", fen.as_bytes()),
-        nothing("fault_place"),
-        nothing("fault"),
-    ];
+    let cells = game_cells(place, game, report, fen.as_bytes());
     row_bytes(alloc, format, &cells)
 }
 
-/// The row of a game that can't be read.
-pub fn fault_row(
-    alloc: Global,
-    format: Format,
-    place: Place,
-    fault: PgnFault,
-) -> Result<Vec<u8>, AllocError>
-    ensures { IfOk result (λ row. row.items ≡ row_text format (fault_cells place.number place.offset fault)) }
+// The cells of a game that can't be read.
+fn fault_cells<'v>(place: Place, fault: PgnFault) -> [Cell<'v>; 20]
+    ensures { map cell_of result ≡ fault_cells place.number place.offset fault }
 {
-    let cells = [
+    [
         number("number", place.number),
         number("offset", place.offset),
         nothing("white"),
@@ -191,7 +164,18 @@ pub fn fault_row(
         nothing("agrees"),
         nothing("fen"),
         number("fault_place", fault.place),
-        text("fault", fault.kind.name().as_bytes()),
-    ];
-    row_bytes(alloc, format, &cells)
+        word("fault", fault.kind.name()),
+    ]
+}
+
+/// The row of a game that can't be read.
+pub fn fault_row(
+    alloc: Global,
+    format: Format,
+    place: Place,
+    fault: PgnFault,
+) -> Result<Vec<u8>, AllocError>
+    ensures { IfOk result (λ row. row.items ≡ row_text format (fault_cells place.number place.offset fault)) }
+{
+    row_bytes(alloc, format, &fault_cells(place, fault))
 }

@@ -1,5 +1,4 @@
-use Rattle.std.proofs.Common.{rules, ◌≡◌, ◌∙◌, ◌++◌, ◌∷◌, [], OnOk, ap, sym, subst, ℕ, List}
-use Rattle.json.specs.Token.{Token, string}
+use Rattle.std.proofs.Common.{rules, sym}
 use Rattle.arbiter.proofs.CellLemmas.{reads, stays}
 use Rattle.arbiter.proofs.row.put_text.Goals as goal
 
