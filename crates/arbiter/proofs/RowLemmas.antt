@@ -1,39 +1,20 @@
--- Rows cell by cell, and what a report says in one.
-use Rattle.std.proofs.Common.{◌≡◌, ℕ, Bool, true, false, if◌then◌else◌, nat_lt, List, [], ◌∷◌, ◌++◌, Option, Some, None, refl, sym, ap, ◌∙◌, append_assoc, append-nil, codes}
+-- What a report says in a row.
+use Rattle.std.proofs.Common.{◌≡◌, ℕ, Bool, true, false, if◌then◌else◌, nat_lt, not, ◌&&◌, List, [], ◌++◌, Option, Some, None, refl, sym, ap}
 use Rattle.std.specs.Prelude.{IfSome, is_some, option_map}
+use Rattle.chess_types.specs.declared.board.outcome.Status.{Status}
 use Rattle.chess_types.specs.board.Lines.{Line}
 use Rattle.chess_types.specs.board.Outcome.{status}
+use Rattle.chess_fen.specs.Writing.{written}
 use Rattle.chess_pgn.specs.Games.{Game}
 use Rattle.chess_report.specs.MainLine.{as_far, main}
 use Rattle.chess_report.specs.Findings.{played_on}
 use Rattle.chess_report.specs.declared.report.Over.{Over}
 use Rattle.chess_report.specs.declared.report.Report.{Report}
-use Rattle.arbiter.specs.declared.row.Format.{Format}
-use Rattle.arbiter.specs.Cells.{Cell, cell_text, closing, opening, others_text, row_text}
-use Rattle.arbiter.specs.Rows.{early, has_finding, line_cells}
-use Rattle.arbiter.specs.steps.Adding.{Row, begun, ended, with_bytes, with_cell, with_cells}
+use Rattle.arbiter.specs.Cells.{Cell, row_text}
+use Rattle.arbiter.specs.Collections.{Found, row_of}
+use Rattle.arbiter.specs.Rows.{early, empty_cells, fault_names, has_finding, heading_cells, line_cells, place_cells, status_text}
+use Rattle.arbiter.specs.declared.judge.Asked.{Asked}
 use Rattle.arbiter.specs.steps.Reports.{IsReportOf, is_finding, report_cells}
-
-with_with : (row : Row) (a b : List ℕ) → with_bytes (with_bytes row a) b ≡ with_bytes row (a ++ b)
-with_with row a b = ap (λ (t : List ℕ). record { format = row.format; bytes = t }) (append_assoc row.bytes a b)
-
--- cells added one by one are their text
-cells_are : (row : Row) (cells : List Cell) → with_cells row cells ≡ with_bytes row (others_text row.format cells)
-cells_are row [] = ap (λ (t : List ℕ). record { format = row.format; bytes = t }) (sym (append-nil row.bytes))
-cells_are row (cell ∷ cells) = cells_are (with_cell row cell) cells ∙ with_with row (codes "," ++ cell_text row.format cell) (others_text row.format cells)
-
--- a whole row
-pub row_is : (format : Format) (first : Cell) (cells : List Cell) → ended (with_cells (begun format first) cells) ≡ record { format = format; bytes = row_text format first cells }
-row_is format first cells =
-    ap ended (cells_are (begun format first) cells)
-    ∙ ap (λ (t : List ℕ). record { format = format; bytes = t })
-    (append_assoc (opening format ++ cell_text format first) (others_text format cells) (closing format) ∙ append_assoc (opening format) (cell_text format first) (others_text format cells ++ closing format))
-
-pub row_bytes : (format : Format) (first : Cell) (cells : List Cell) (row : Row) → row ≡ ended (with_cells (begun format first) cells) → row.bytes ≡ row_text format first cells
-row_bytes format first cells row is = ap (λ (r : Row). r.bytes) (is ∙ row_is format first cells)
-
-pub row_format : (format : Format) (first : Cell) (cells : List Cell) (row : Row) → row ≡ ended (with_cells (begun format first) cells) → row.format ≡ format
-row_format format first cells row is = ap (λ (r : Row). r.format) (is ∙ row_is format first cells)
 
 -- ---- where a game was over before its end
 
@@ -46,12 +27,12 @@ ply_is None plies = refl
 ply_is (Some over) plies = ply_by over (nat_lt over.ply plies)
 
 why_by : (over : Over) (line : Line) (test : Bool) → over.why ≡ status (as_far over.ply line)
-    → option_map (λ (o : Over). o.why) (if test then Some over else None) ≡ option_map (λ ply. status (as_far ply line)) (if test then Some over.ply else None)
-why_by over line true is = ap Some is
+    → option_map (λ (o : Over). status_text o.why) (if test then Some over else None) ≡ option_map status_text (option_map (λ ply. status (as_far ply line)) (if test then Some over.ply else None))
+why_by over line true is = ap (λ (s : Status). Some (status_text s)) is
 why_by over line false is = refl
 
 why_is : (over : Option Over) (plies : ℕ) (line : Line) → IfSome over (λ o. o.why ≡ status (as_far o.ply line))
-    → option_map (λ o. o.why) (played_on over plies) ≡ option_map (λ ply. status (as_far ply line)) (early (option_map (λ o. o.ply) over) plies)
+    → option_map (λ o. status_text o.why) (played_on over plies) ≡ option_map status_text (option_map (λ ply. status (as_far ply line)) (early (option_map (λ o. o.ply) over) plies))
 why_is None plies line is = refl
 why_is (Some over) plies line is = why_by over line (nat_lt over.ply plies) is
 
@@ -66,9 +47,21 @@ module _ (report : Report) (game : Game) (is : IsReportOf report game) where
   ply_early = ply_is report.over report.plies
 
   -- in the words of the Laws
-  pub report_says : report_cells report ≡ line_cells (main game.tree) game.outcome
+  pub report_says : report_cells report (written report.last) ≡ line_cells (main game.tree) game.outcome
   report_says =
       rw (ply_early, why_is report.over report.plies (main game.tree) is.why, is.over, is.plies, is.marker, is.stands, is.mates, is.threefold, is.fifty, is.repetitions, is.quiet, is.fits, is.end) refl
 
   pub finding_is : is_finding report ≡ has_finding game
   finding_is = rw (some_is (λ (o : Over). o.ply) (played_on report.over report.plies), ply_early, is.over, is.plies, is.fits) refl
+
+  -- the row of a game that is asked for
+  pub row_says : (asked : Asked) (number offset : ℕ) (test : Bool) → test ≡ is_finding report → (asked.findings && not test) ≡ false
+      → row_of asked number (Found offset game)
+      ≡ row_text asked.format (place_cells number offset ++ (heading_cells game.tags ++ (report_cells report (written report.last) ++ empty_cells fault_names)))
+  row_says asked number offset test tested wanted =
+      rw (sym finding_is, sym tested, wanted)
+      (ap (λ (cells : List Cell). row_text asked.format (place_cells number offset ++ (heading_cells game.tags ++ (cells ++ empty_cells fault_names)))) (sym report_says))
+
+  -- and of one that isn't
+  pub row_left : (asked : Asked) (number offset : ℕ) (test : Bool) → test ≡ is_finding report → (asked.findings && not test) ≡ true → row_of asked number (Found offset game) ≡ []
+  row_left asked number offset test tested not_wanted = rw (sym finding_is, sym tested, not_wanted) refl

@@ -28,7 +28,7 @@ use Rattle.arbiter.specs.declared.judge.Asked.{Asked}
 use Rattle.arbiter.specs.declared.row.Format.{Format}
 use Rattle.arbiter.specs.declared.row.Format.TheVariants.{Csv, Jsonl}
 use Rattle.arbiter.specs.Cells.{row_text}
-use Rattle.arbiter.specs.Rows.{fault_cells, first_cell, game_cells, has_finding, header}
+use Rattle.arbiter.specs.Rows.{fault_cells, game_cells, has_finding, header}
 
 -- what a reader finds, with the number of the bytes before it
 pub data Entry : Type 0 where
@@ -39,8 +39,8 @@ pub data Entry : Type 0 where
 
 -- the row of an entry: of each that can't be read, and of each game, or only of those with a finding
 abbrev pub row_of : Asked → ℕ → Entry → List ℕ
-row_of asked number (Found offset game) = if asked.findings && not (has_finding game) then [] else row_text asked.format (first_cell number) (game_cells offset game)
-row_of asked number (Bad offset fault) = row_text asked.format (first_cell number) (fault_cells offset fault)
+row_of asked number (Found offset game) = if asked.findings && not (has_finding game) then [] else row_text asked.format (game_cells number offset game)
+row_of asked number (Bad offset fault) = row_text asked.format (fault_cells number offset fault)
 
 -- the rows of entries, one after another
 abbrev pub rows_text : Asked → ℕ → List Entry → List ℕ
@@ -49,7 +49,7 @@ rows_text asked number (entry ∷ entries) = row_of asked number entry ++ rows_t
 
 -- the names of the columns, where the format has a row of them
 abbrev pub header_text : Format → List ℕ
-header_text Csv = header
+header_text Csv = row_text Csv header
 header_text Jsonl = []
 
 -- all that is written

@@ -1,11 +1,10 @@
 -- What a row says of a game, and of one that can't be read (docs/FORMATS.md has the columns). What the Laws say of a main line is in `chess_report`.
 --   over_early    the first ply at which a game was over, if moves follow it
 --   has_finding   moves follow after the game was over, or its marker disagrees with the board
---   first_cell    the game's number
---   game_cells    what follows of a game
---   fault_cells   what follows of one that can't be read
---   header        the names of the columns, as comma-separated values have them
-use Rattle.std.specs.Prelude.{ℕ, nat_lt, Bool, not, ◌||◌, if◌then◌else◌, is_some, List, [], ◌∷◌, ◌++◌, length, codes, Option, Some, None, option_map}
+--   game_cells    the row of a game
+--   fault_cells   the row of one that can't be read
+--   header        the names of the columns as a row
+use Rattle.std.specs.Prelude.{ℕ, nat_lt, Bool, not, ◌||◌, if◌then◌else◌, is_some, List, [], ◌∷◌, ◌++◌, length, codes, map, Option, Some, None, option_map}
 use Rattle.chess_types.specs.declared.board.man.Colour.{Colour}
 use Rattle.chess_types.specs.declared.board.man.Colour.TheVariants.{White, Black}
 use Rattle.chess_types.specs.declared.board.outcome.Status.{Status}
@@ -57,15 +56,14 @@ has_finding game = is_some (over_early (main game.tree)) || not (agrees (main ga
 
 -- ---- the cells
 
--- the first cell of each row
-abbrev pub first_cell : ℕ → Cell
-first_cell number = (codes "number", Number number)
+-- which game it is, and where it begins
+abbrev pub place_cells : ℕ → ℕ → List Cell
+place_cells number offset = (codes "number", Number number) ∷ (codes "offset", Number offset) ∷ []
 
--- where it begins, and what its tags say
-abbrev pub heading_cells : ℕ → Tags → List Cell
-heading_cells offset tags =
-    (codes "offset", Number offset)
-    ∷ (codes "white", maybe Text (tag_value (codes "White") tags))
+-- what its tags say
+abbrev pub heading_cells : Tags → List Cell
+heading_cells tags =
+    (codes "white", maybe Text (tag_value (codes "White") tags))
     ∷ (codes "black", maybe Text (tag_value (codes "Black") tags))
     ∷ (codes "event", maybe Text (tag_value (codes "Event") tags))
     ∷ (codes "date", maybe Text (tag_value (codes "Date") tags))
@@ -77,9 +75,9 @@ line_cells line marker =
     (codes "plies", Number (length line.moves))
     ∷ (codes "result", Text (outcome_text marker))
     ∷ (codes "status", Text (status_text (status line)))
-    ∷ (codes "winner", maybe (λ side. Text (colour_text side)) (winner (last line)))
+    ∷ (codes "winner", maybe Text (option_map colour_text (winner (last line))))
     ∷ (codes "over_ply", maybe Number (over_early line))
-    ∷ (codes "over_why", maybe (λ why. Text (status_text why)) (why_early line))
+    ∷ (codes "over_why", maybe Text (option_map status_text (why_early line)))
     ∷ (codes "threefold_ply", maybe Number (first_threefold line))
     ∷ (codes "fifty_ply", maybe Number (first_fifty line))
     ∷ (codes "repetitions", Number (most_repetitions line))
@@ -103,15 +101,19 @@ game_names =
 abbrev pub fault_names : List (List ℕ)
 fault_names = codes "fault_place" ∷ codes "fault" ∷ []
 
--- what follows the number of a game
-abbrev pub game_cells : ℕ → Game → List Cell
-game_cells offset game = heading_cells offset game.tags ++ (line_cells (main game.tree) game.outcome ++ empty_cells fault_names)
+-- the row of a game
+abbrev pub game_cells : ℕ → ℕ → Game → List Cell
+game_cells number offset game = place_cells number offset ++ (heading_cells game.tags ++ (line_cells (main game.tree) game.outcome ++ empty_cells fault_names))
 
--- what follows the number of one that can't be read
-abbrev pub fault_cells : ℕ → PgnFault → List Cell
-fault_cells offset fault =
-    (codes "offset", Number offset) ∷ (empty_cells game_names ++ (codes "fault_place", Number fault.place) ∷ (codes "fault", Text (name_of fault.kind)) ∷ [])
+-- the row of one that can't be read
+abbrev pub fault_cells : ℕ → ℕ → PgnFault → List Cell
+fault_cells number offset fault =
+    place_cells number offset ++ (empty_cells game_names ++ (codes "fault_place", Number fault.place) ∷ (codes "fault", Text (name_of fault.kind)) ∷ [])
 
 -- the names of the columns
-abbrev pub header : List ℕ
-header = codes "number,offset,white,black,event,date,plies,result,status,winner,over_ply,over_why,threefold_ply,fifty_ply,repetitions,quiet,agrees,fen,fault_place,fault\r\n"
+abbrev pub names : List (List ℕ)
+names = codes "number" ∷ codes "offset" ∷ (game_names ++ fault_names)
+
+-- as a row
+abbrev pub header : List Cell
+header = map (λ name. (name, Text name)) names

@@ -1,4 +1,3 @@
 -- Words of the code alone.
-pub mod Adding
 pub mod Judging
 pub mod Reports

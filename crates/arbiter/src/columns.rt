@@ -1,20 +1,20 @@
-ghost use Rattle.std.specs.Prelude.{◌≡◌, ◌++◌, ◌∷◌, [], codes, OnOk};
+ghost use Rattle.std.specs.Prelude.{◌≡◌, ◌++◌, map, option_map, IfOk};
 ghost use Rattle.chess_fen.specs.Writing.{written};
 ghost use Rattle.chess_pgn.specs.Written.{outcome_text};
 ghost use Rattle.chess_pgn.specs.steps.GameCode.{tags_of};
-ghost use Rattle.arbiter.specs.Cells.{Number, Text, maybe, row_text};
-ghost use Rattle.arbiter.specs.Rows.{colour_text, empty_cells, fault_cells, fault_names, first_cell, game_names, heading_cells, status_text};
-ghost use Rattle.arbiter.specs.steps.Adding.{begun, with_cell, with_cells};
-ghost use Rattle.arbiter.specs.steps.Reports.{claim_cells, end_cells, is_finding, over_cells, ply_cells, report_cells};
+ghost use Rattle.arbiter.specs.Cells.{cell_of, row_text};
+ghost use Rattle.arbiter.specs.Rows.{colour_text, empty_cells, fault_cells, fault_names, heading_cells, place_cells, status_text};
+ghost use Rattle.arbiter.specs.steps.Reports.{is_finding, report_cells};
 
-use crate::row::Row;
+use crate::cell::{Cell, any_number, any_text, any_word, nothing, number, text, truth, word};
+use crate::row::{Format, row_bytes};
 use chess_pgn::{Game, Outcome, PgnFault};
 use chess_programs::Place;
 use chess_report::{Over, Report};
-use chess_types::{Colour, Position, Status};
-use std::alloc::{AllocError, Allocator};
+use chess_types::{Colour, Status};
+use std::alloc::{AllocError, Allocator, Global};
 
-/// The names of the columns, in their order, as comma-separated values.
+/// The row of the names of the columns, as comma-separated values.
 pub const HEADER: &str =
     "number,offset,white,black,event,date,plies,result,status,winner,over_ply,over_why,threefold_ply,fifty_ply,repetitions,quiet,agrees,fen,fault_place,fault\r\n";
 
@@ -61,163 +61,121 @@ pub fn has_finding(report: &Report) -> bool
     report.played_on().is_some() | !report.agrees
 }
 
-// Where a game begins, and who played it.
-fn put_heading<A: Allocator>(
-    row: &mut Row<'_, A>,
-    offset: u64,
-    game: &Game<'_, A>,
-) -> Result<(), AllocError>
-    ensures { OnOk result (row.new ≡ with_cells row.old (heading_cells offset (tags_of game.now.tags))) }
-{
-    row.number("offset", offset)?;
-    row.any_text("white", game.tag(b"White"))?;
-    row.any_text("black", game.tag(b"Black"))?;
-    row.any_text("event", game.tag(b"Event"))?;
-    row.any_text("date", game.tag(b"Date"))
-}
-
 // The side that has mated the other.
-fn put_winner<A: Allocator>(row: &mut Row<'_, A>, winner: Option<Colour>) -> Result<(), AllocError>
-    ensures { OnOk result (row.new ≡ with_cell row.old (codes "winner", maybe (λ side. Text (colour_text side)) winner)) }
+fn winner_text(winner: Option<Colour>) -> Option<&'static str>
+    ensures { option_map (λ text. text.now) result ≡ option_map colour_text winner }
 {
     match winner {
-        Some(side) => row.text("winner", colour_text(side).as_bytes()),
-        None => row.nothing("winner"),
+        Some(side) => Some(colour_text(side)),
+        None => None,
     }
 }
 
 // Where the game was over before its last move.
-fn put_over<A: Allocator>(row: &mut Row<'_, A>, over: Option<Over>) -> Result<(), AllocError>
-    ensures { OnOk result (row.new ≡ with_cells row.old (over_cells over)) }
+fn over_ply(over: Option<Over>) -> Option<u32>
+    ensures { result ≡ option_map (λ o. o.ply) over }
 {
     match over {
-        Some(over) => {
-            row.number("over_ply", over.ply as u64)?;
-            row.text("over_why", status_text(over.why).as_bytes())
-        }
-        None => {
-            row.nothing("over_ply")?;
-            row.nothing("over_why")
-        }
+        Some(over) => Some(over.ply),
+        None => None,
     }
 }
 
-// How a game ends.
-fn put_end<A: Allocator>(row: &mut Row<'_, A>, report: &Report) -> Result<(), AllocError>
-    ensures { OnOk result (row.new ≡ with_cells row.old (end_cells report.now)) }
+// Why it was.
+fn over_why(over: Option<Over>) -> Option<&'static str>
+    ensures { option_map (λ text. text.now) result ≡ option_map (λ o. status_text o.why) over }
 {
-    row.number("plies", report.plies as u64)?;
-    row.text("result", outcome_text(report.marker).as_bytes())?;
-    row.text("status", status_text(report.status).as_bytes())?;
-    put_winner(row, report.winner)?;
-    put_over(row, report.played_on())
+    match over {
+        Some(over) => Some(status_text(over.why)),
+        None => None,
+    }
 }
 
-// Where a draw could be claimed.
-fn put_claims<A: Allocator>(row: &mut Row<'_, A>, report: &Report) -> Result<(), AllocError>
-    ensures { OnOk result (row.new ≡ with_cells row.old (claim_cells report.now)) }
-{
-    row.any_number("threefold_ply", report.threefold)?;
-    row.any_number("fifty_ply", report.fifty)
-}
-
-// The last position.
-fn put_fen<A: Allocator>(row: &mut Row<'_, A>, last: &Position) -> Result<(), AllocError>
-    ensures { OnOk result (row.new ≡ with_cell row.old (codes "fen", Text (written last.now))) }
-{
-    row.text("fen", chess_fen::write(last).as_bytes())
-}
-
-// What the Laws say of its plies, and the last position.
-fn put_plies<A: Allocator>(row: &mut Row<'_, A>, report: &Report) -> Result<(), AllocError>
-    ensures { OnOk result (row.new ≡ with_cells row.old (ply_cells report.now)) }
-{
-    put_claims(row, report)?;
-    row.number("repetitions", report.repetitions as u64)?;
-    row.number("quiet", report.quiet as u64)?;
-    row.truth("agrees", report.agrees)?;
-    put_fen(row, &report.last)
-}
-
-// The cells of a game.
-fn put_game_cells<A: Allocator>(
-    row: &mut Row<'_, A>,
+// The cells of a game whose last position has that FEN.
+fn game_cells<'v, A: Allocator>(
     place: Place,
-    game: &Game<'_, A>,
+    game: &'v Game<'_, A>,
     report: &Report,
-) -> Result<(), AllocError>
-    ensures { OnOk result (row.new ≡ with_cells (begun row.old.format (first_cell place.number)) (heading_cells place.offset (tags_of game.now.tags) ++ report_cells report.now)) }
+    fen: &'v [u8],
+) -> [Cell<'v>; 20]
+    ensures { map cell_of result ≡ place_cells place.number place.offset ++ (heading_cells (tags_of game.now.tags) ++ (report_cells report.now fen.now ++ empty_cells fault_names)) }
 {
-    row.begin("number", place.number)?;
-    put_heading(row, place.offset, game)?;
-    put_end(row, report)?;
-    put_plies(row, report)
+    let over = report.played_on();
+    [
+        number("number", place.number),
+        number("offset", place.offset),
+        any_text("white", game.tag(b"White")),
+        any_text("black", game.tag(b"Black")),
+        any_text("event", game.tag(b"Event")),
+        any_text("date", game.tag(b"Date")),
+        number("plies", report.plies as u64),
+        word("result", outcome_text(report.marker)),
+        word("status", status_text(report.status)),
+        any_word("winner", winner_text(report.winner)),
+        any_number("over_ply", over_ply(over)),
+        any_word("over_why", over_why(over)),
+        any_number("threefold_ply", report.threefold),
+        any_number("fifty_ply", report.fifty),
+        number("repetitions", report.repetitions as u64),
+        number("quiet", report.quiet as u64),
+        truth("agrees", report.agrees),
+        text("fen", fen),
+        nothing("fault_place"),
+        nothing("fault"),
+    ]
 }
 
 /// A game's row.
-pub fn put_game<A: Allocator>(
-    row: &mut Row<'_, A>,
+pub fn game_row<A: Allocator>(
+    alloc: Global,
+    format: Format,
     place: Place,
     game: &Game<'_, A>,
     report: &Report,
-) -> Result<(), AllocError>
-    ensures format { OnOk result (row.new.format ≡ row.old.format) }
-    ensures bytes { OnOk result (row.new.bytes ≡ row_text row.old.format (first_cell place.number) (heading_cells place.offset (tags_of game.now.tags) ++ (report_cells report.now ++ empty_cells fault_names))) }
+) -> Result<Vec<u8>, AllocError>
+    ensures { IfOk result (λ row. row.items ≡ row_text format (place_cells place.number place.offset ++ (heading_cells (tags_of game.now.tags) ++ (report_cells report.now (written report.now.last) ++ empty_cells fault_names)))) }
 {
-    put_game_cells(row, place, game, report)?;
-    row.nothing("fault_place")?;
-    row.nothing("fault")?;
-    row.end()?;
-    Ok(())
+    let fen = chess_fen::write(&report.last);
+    let cells = game_cells(place, game, report, fen.as_bytes());
+    row_bytes(alloc, format, &cells)
 }
 
-// Four columns without a value.
-fn put_four<A: Allocator>(
-    row: &mut Row<'_, A>,
-    first: &str,
-    second: &str,
-    third: &str,
-    fourth: &str,
-) -> Result<(), AllocError>
-    ensures { OnOk result (row.new ≡ with_cells row.old (empty_cells (first.now ∷ second.now ∷ third.now ∷ fourth.now ∷ []))) }
+// The cells of a game that can't be read.
+fn fault_cells<'v>(place: Place, fault: PgnFault) -> [Cell<'v>; 20]
+    ensures { map cell_of result ≡ fault_cells place.number place.offset fault }
 {
-    row.nothing(first)?;
-    row.nothing(second)?;
-    row.nothing(third)?;
-    row.nothing(fourth)
-}
-
-// The columns that a game which can't be read has not.
-fn put_nothing<A: Allocator>(row: &mut Row<'_, A>) -> Result<(), AllocError>
-    ensures { OnOk result (row.new ≡ with_cells row.old (empty_cells game_names)) }
-{
-    put_four(row, "white", "black", "event", "date")?;
-    put_four(row, "plies", "result", "status", "winner")?;
-    put_four(row, "over_ply", "over_why", "threefold_ply", "fifty_ply")?;
-    put_four(row, "repetitions", "quiet", "agrees", "fen")
-}
-
-// The cells of a game that can't be read, before its fault.
-fn put_bare_cells<A: Allocator>(row: &mut Row<'_, A>, place: Place) -> Result<(), AllocError>
-    ensures { OnOk result (row.new ≡ with_cells (begun row.old.format (first_cell place.number)) ((codes "offset", Number place.offset) ∷ empty_cells game_names)) }
-{
-    row.begin("number", place.number)?;
-    row.number("offset", place.offset)?;
-    put_nothing(row)
+    [
+        number("number", place.number),
+        number("offset", place.offset),
+        nothing("white"),
+        nothing("black"),
+        nothing("event"),
+        nothing("date"),
+        nothing("plies"),
+        nothing("result"),
+        nothing("status"),
+        nothing("winner"),
+        nothing("over_ply"),
+        nothing("over_why"),
+        nothing("threefold_ply"),
+        nothing("fifty_ply"),
+        nothing("repetitions"),
+        nothing("quiet"),
+        nothing("agrees"),
+        nothing("fen"),
+        number("fault_place", fault.place),
+        word("fault", fault.kind.name()),
+    ]
 }
 
 /// The row of a game that can't be read.
-pub fn put_fault<A: Allocator>(
-    row: &mut Row<'_, A>,
+pub fn fault_row(
+    alloc: Global,
+    format: Format,
     place: Place,
     fault: PgnFault,
-) -> Result<(), AllocError>
-    ensures format { OnOk result (row.new.format ≡ row.old.format) }
-    ensures bytes { OnOk result (row.new.bytes ≡ row_text row.old.format (first_cell place.number) (fault_cells place.offset fault)) }
+) -> Result<Vec<u8>, AllocError>
+    ensures { IfOk result (λ row. row.items ≡ row_text format (fault_cells place.number place.offset fault)) }
 {
-    put_bare_cells(row, place)?;
-    row.number("fault_place", fault.place)?;
-    row.text("fault", fault.kind.name().as_bytes())?;
-    row.end()?;
-    Ok(())
+    row_bytes(alloc, format, &fault_cells(place, fault))
 }

@@ -6,15 +6,15 @@ ghost use Rattle.arbiter.specs.Collections.{Bad, Found, JudgeEnds, header_text, 
 ghost use Rattle.arbiter.specs.steps.Judging.{NotOn, WritesText, is_lack};
 ghost use Rattle.arbiter.specs.steps.Reports.{IsReportOf};
 
-use crate::columns::{HEADER, has_finding, put_fault, put_game};
-use crate::row::{Format, Row};
+use crate::columns::{HEADER, fault_row, game_row, has_finding};
+use crate::row::Format;
 use byte_streams::{Sink, Source};
 use chess_key::KeyTable;
 use chess_loop::write_all;
 use chess_pgn::{FaultKind, Game, Games, GamesFault, PgnFault};
 use chess_programs::{Failure, GAMES, Place, Progress};
 use chess_report::Report;
-use std::alloc::{AllocError, Allocator};
+use std::alloc::{AllocError, Global};
 
 /// Which rows are written, and how.
 #[derive(Clone, Copy, Debug, PartialEq, Eq)]
@@ -45,9 +45,9 @@ fn header(format: Format) -> &'static [u8]
 }
 
 // What the Laws say of a game.
-fn report_of<A: Allocator>(
-    alloc: &A,
-    game: &Game<'_, A>,
+fn report_of(
+    alloc: &Global,
+    game: &Game<'_, Global>,
     table: &KeyTable,
 ) -> Result<Report, AllocError>
     ensures { IfOk result (λ report. IsReportOf report (game_of game.now)) }
@@ -55,89 +55,54 @@ fn report_of<A: Allocator>(
     Report::of(alloc, game, table)
 }
 
-// A game's row, where it is asked for; else no bytes.
-fn fill_game<'a, A: Allocator>(
-    alloc: &'a A,
-    table: &KeyTable,
-    asked: Asked,
-    place: Place,
-    game: &Game<'a, A>,
-    row: &mut Row<'a, A>,
-) -> Result<(), AllocError>
-    requires format { row.old.format ≡ asked.format }
-    ensures format { OnOk result (row.new.format ≡ asked.format) }
-    ensures bytes { OnOk result (row.new.bytes ≡ row_of asked place.number (Found place.offset (game_of game.now))) }
-{
-    let report = report_of(alloc, game, table)?;
-    if asked.findings & !has_finding(&report) {
-        row.clear();
-        return Ok(());
-    }
-    put_game(row, place, game, &report)
-}
-
-// The row of a game that can't be read.
-fn fill_fault<A: Allocator>(
-    asked: Asked,
-    place: Place,
-    fault: PgnFault,
-    row: &mut Row<'_, A>,
-) -> Result<(), AllocError>
-    requires format { row.old.format ≡ asked.format }
-    ensures format { OnOk result (row.new.format ≡ asked.format) }
-    ensures bytes { OnOk result (row.new.bytes ≡ row_of asked place.number (Bad place.offset fault)) }
-{
-    put_fault(row, place, fault)
-}
-
 /// What a row is made with.
 #[derive(Drop)]
-struct RowMaker<'a, 't, A: Allocator> {
-    alloc: &'a A,
+struct RowMaker<'t> {
+    alloc: Global,
     table: &'t KeyTable,
     asked: Asked,
 }
 
-impl<'a, 't, A: Allocator> RowMaker<'a, 't, A> {
+impl<'t> RowMaker<'t> {
+    // A game's row, where it is asked for; else no bytes.
+    fn row(&self, place: Place, game: &Game<'_, Global>) -> Result<Vec<u8>, AllocError>
+        ensures { IfOk result (λ row. row.items ≡ row_of self.now.asked place.number (Found place.offset (game_of game.now))) }
+    {
+        let report = report_of(&self.alloc, game, self.table)?;
+        if self.asked.findings & !has_finding(&report) {
+            return Ok(Vec::new(self.alloc));
+        }
+        game_row(self.alloc, self.asked.format, place, game, &report)
+    }
+
     // Writes a game's row, where it is asked for.
     fn game<W: Sink>(
         &self,
         place: Place,
-        game: &Game<'a, A>,
-        row: &mut Row<'a, A>,
+        game: &Game<'_, Global>,
         writer: &mut W,
     ) -> Result<(), Failure>
-        requires format { row.old.format ≡ self.now.asked.format }
-        ensures format { OnOk result (row.new.format ≡ self.now.asked.format) }
-        ensures writes { WritesText W.takes W.failed (row_of self.now.asked place.number (Found place.offset (game_of game.now))) writer.old writer.new result }
+        ensures { WritesText W.takes W.failed (row_of self.now.asked place.number (Found place.offset (game_of game.now))) writer.old writer.new result }
     {
-        if fill_game(self.alloc, self.table, self.asked, place, game, row).is_err() {
-            return Err(Failure::Memory);
+        match self.row(place, game) {
+            Ok(row) => send(row.as_slice(), writer),
+            Err(_) => Err(Failure::Memory),
         }
-        send(row.bytes(), writer)
     }
 
     // Writes the row of a game that can't be read.
-    fn fault<W: Sink>(
-        &self,
-        place: Place,
-        fault: PgnFault,
-        row: &mut Row<'a, A>,
-        writer: &mut W,
-    ) -> Result<(), Failure>
-        requires format { row.old.format ≡ self.now.asked.format }
-        ensures format { OnOk result (row.new.format ≡ self.now.asked.format) }
-        ensures writes { WritesText W.takes W.failed (row_of self.now.asked place.number (Bad place.offset fault)) writer.old writer.new result }
+    fn fault<W: Sink>(&self, place: Place, fault: PgnFault, writer: &mut W) -> Result<(), Failure>
+        ensures { WritesText W.takes W.failed (row_of self.now.asked place.number (Bad place.offset fault)) writer.old writer.new result }
     {
-        if fill_fault(self.asked, place, fault, row).is_err() {
-            return Err(Failure::Memory);
+        match fault_row(self.alloc, self.asked.format, place, fault) {
+            Ok(row) => send(row.as_slice(), writer),
+            Err(_) => Err(Failure::Memory),
         }
-        send(row.bytes(), writer)
     }
 }
 
 // After a fault of a text reading goes on at the next section of tags.
-fn go_on<A: Allocator, R: Source>(games: &mut Games<'_, R, A>) -> Result<(), Failure>
+fn go_on<R: Source>(games: &mut Games<'_, R, Global>) -> Result<(), Failure>
     requires sound { IsSound R.ended games.old }
     requires goes_on { GoesOn games.old.fault }
     ensures sound { IsSound R.ended games.new }
@@ -163,16 +128,14 @@ fn is_lack(kind: FaultKind) -> bool
 }
 
 // Writes the names of the columns and the rows of the games; how many games could not be read.
-fn write_rows<'a, A: Allocator, R: Source, W: Sink>(
-    maker: &RowMaker<'a, '_, A>,
-    games: &mut Games<'a, R, A>,
-    row: &mut Row<'a, A>,
+fn write_rows<R: Source, W: Sink>(
+    maker: &RowMaker<'_>,
+    games: &mut Games<'_, R, Global>,
     writer: &mut W,
     progress: &mut Progress<'_>,
 ) -> Result<u64, Failure>
     requires sound { IsSound R.ended games.old }
     requires none { games.old.fault ≡ None }
-    requires format { row.old.format ≡ maker.now.asked.format }
     requires writer { W.failed writer.old ≡ false }
     ensures { JudgeEnds R.gives R.failed R.ended W.takes W.failed maker.now.asked games.old games.new writer.old writer.new result }
 {
@@ -190,7 +153,7 @@ fn write_rows<'a, A: Allocator, R: Source, W: Sink>(
         match games.next() {
             Ok(None) => return Ok(bad),
             Ok(Some(game)) => {
-                if let Err(failure) = maker.game(place, &game, row, writer) {
+                if let Err(failure) = maker.game(place, &game, writer) {
                     return Err(failure);
                 }
             }
@@ -199,7 +162,7 @@ fn write_rows<'a, A: Allocator, R: Source, W: Sink>(
                 if is_lack(fault.kind) {
                     return Err(Failure::Memory);
                 }
-                if let Err(failure) = maker.fault(place, fault, row, writer) {
+                if let Err(failure) = maker.fault(place, fault, writer) {
                     return Err(failure);
                 }
                 bad += 1;
@@ -218,10 +181,10 @@ fn write_rows<'a, A: Allocator, R: Source, W: Sink>(
 ///
 /// `Read`: a read failed, there were 2^40, or there were 2^57 games; the rows of all games before it are written. `Write`: a write failed or took no
 /// byte, and a prefix of the rows is written. `Memory`: there was none to go on; some first rows are written.
-pub fn judge<'a, A: Allocator, R: Source, W: Sink>(
-    alloc: &'a A,
+pub fn judge<R: Source, W: Sink>(
+    alloc: Global,
     asked: Asked,
-    games: &mut Games<'a, R, A>,
+    games: &mut Games<'_, R, Global>,
     writer: &mut W,
     progress: &mut Progress<'_>,
 ) -> Result<u64, Failure>
@@ -231,11 +194,10 @@ pub fn judge<'a, A: Allocator, R: Source, W: Sink>(
     ensures { JudgeEnds R.gives R.failed R.ended W.takes W.failed asked games.old games.new writer.old writer.new result }
 {
     let table = KeyTable::fixed();
-    let mut row = Row::new(alloc, asked.format);
     let maker = RowMaker {
         alloc,
         table: &table,
         asked,
     };
-    write_rows(&maker, games, &mut row, writer, progress)
+    write_rows(&maker, games, writer, progress)
 }

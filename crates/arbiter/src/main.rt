@@ -3,6 +3,7 @@
 //! reading goes on at the next section of tags (`Games::pass_over`).
 #![tactic(auto)]
 
+mod cell;
 mod columns;
 mod judge;
 mod row;
@@ -32,7 +33,7 @@ fn main(rt: HostRuntime) -> ExitCode {
     let alloc = rt.alloc();
     let mut games = Games::new(&alloc, FromRead::new(rt.stdin()));
     let mut writer = ToWrite::new(rt.stdout());
-    match judge(&alloc, words.asked, &mut games, &mut writer, &mut progress) {
+    match judge(alloc, words.asked, &mut games, &mut writer, &mut progress) {
         Ok(0) => ExitCode::SUCCESS,
         Ok(_) => ExitCode::from(SOME_REFUSED),
         Err(failure) => {

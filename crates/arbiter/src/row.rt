@@ -1,12 +1,18 @@
-ghost use Rattle.std.specs.Prelude.{◌≡◌, ◌++◌, ◌∷◌, [], ◌<◌, codes, decimal, option_map, OnOk};
-ghost use Rattle.std.specs.List.{list_any};
-ghost use Rattle.std.specs.Str.{is_utf8};
-ghost use Rattle.arbiter.specs.Cells.{Number, Text, Truth, Nothing, code_point, doubled, is_special, json_byte, json_string, maybe, name_text, quoted, string_text};
-ghost use Rattle.arbiter.specs.steps.Adding.{begun, ended, with_bytes, with_cell};
+ghost use Rattle.std.specs.Prelude.{◌≡◌, ◌++◌, ◌∷◌, [], flat_map, map, string_bytes, IfOk, OnOk};
+ghost use Rattle.std.specs.Char.{encode_utf8};
+ghost use Rattle.csv.specs.Records.{fields_of, partial_of};
+ghost use Rattle.csv.specs.Writing as csv;
+ghost use Rattle.json.specs.Token.{string};
+ghost use Rattle.json.specs.Print.{print};
+ghost use Rattle.arbiter.specs.Cells.{as_utf8, cell_of, csv_lines, csv_text, json_value, member, object, row_text, value_of};
+ghost use Rattle.arbiter.specs.declared.row.Format.TheVariants.{Csv, Jsonl};
 
+use crate::cell::{Cell, Value};
+use csv::{ByteRecord, Terminator, WriterBuilder};
 use itoa::Buffer;
-use std::alloc::{AllocError, Allocator};
-use std::marker::Model;
+use json::Writer;
+use std::alloc::{AllocError, Global};
+use std::str;
 
 /// How rows are written.
 #[derive(Clone, Copy, Debug, PartialEq, Eq)]
@@ -17,258 +23,121 @@ pub enum Format {
     Jsonl,
 }
 
-/// A row on its way: its values, one after another. Contracts see its format and its bytes so far.
-#[derive(Drop)]
-pub struct Row<'a, A: Allocator> {
-    bytes: Vec<u8, &'a A>,
-    format: Format,
-}
-
-impl<'a, A: Allocator> Model for Row<'a, A> {
-    ghost use Rattle.arbiter.specs.steps.Adding as adding;
-
-    ghost Value = { adding.Row };
-
-    ghost view = { λ r. record { format = r.format; bytes = r.bytes.items } };
-}
-
-/// The digits of base 16.
-const DIGITS: [u8; 16] = *b"0123456789abcdef";
-
-// Whether a byte has to be between quotation marks (RFC 4180, 2.6).
-fn is_special(byte: u8) -> bool
-    ensures { result ≡ is_special byte }
+// A field more.
+fn push(fields: &mut ByteRecord, value: Value<'_>) -> Result<(), AllocError>
+    requires { partial_of fields.old ≡ [] }
+    ensures fields { OnOk result (fields_of fields.new ≡ fields_of fields.old ++ csv_text (value_of value.entry) ∷ []) }
+    ensures partial { OnOk result (partial_of fields.new ≡ []) }
 {
-    matches!(byte, b'"' | b',' | b'\r' | b'\n')
+    match value {
+        Value::Number(number) => fields.push_field(Buffer::new().format(number).as_bytes()),
+        Value::Word(text) => fields.push_field(text.as_bytes()),
+        Value::Text(text) => fields.push_field(text),
+        Value::Truth(truth) => fields.push_field(if truth { b"true" } else { b"false" }),
+        Value::Nothing => fields.push_field(b""),
+    }
 }
 
-// Whether a value has to be (RFC 4180, 2.6).
-fn is_quoted(value: &[u8]) -> bool
-    ensures { result ≡ list_any is_special value.now }
+// A row of fields.
+fn csv_text(alloc: Global, fields: &ByteRecord) -> Result<Vec<u8>, AllocError>
+    ensures { IfOk result (λ row. row.items ≡ csv.row_text csv_lines (fields_of fields.now)) }
 {
-    value.iter().any(|byte| is_special(*byte))
+    let mut writer = WriterBuilder::new()
+        .terminator(Terminator::CRLF)
+        .from_writer(Vec::new(alloc));
+    if writer.write_byte_record(fields).is_err() {
+        return Err(AllocError);
+    }
+    match writer.into_inner() {
+        Ok(text) => Ok(text),
+        Err(_) => Err(AllocError),
+    }
 }
 
-// Whether a value is UTF-8.
-fn is_utf8(value: &[u8]) -> bool
-    ensures { result ≡ is_utf8 value.now }
+// A row as comma-separated values.
+fn csv_row(alloc: Global, cells: &[Cell<'_>]) -> Result<Vec<u8>, AllocError>
+    ensures { IfOk result (λ row. row.items ≡ row_text Csv (map cell_of cells.now)) }
 {
-    match std::str::from_utf8(value) {
-        Ok(_) => true,
-        Err(_) => false,
+    let mut fields = ByteRecord::new(alloc);
+    for cell in cells {
+        push(&mut fields, cell.value)?;
+    }
+    csv_text(alloc, &fields)
+}
+
+// A text of ISO 8859-1.
+fn latin_1(alloc: Global, text: &[u8]) -> Result<String, AllocError>
+    ensures { IfOk result (λ s. string_bytes s ≡ flat_map encode_utf8 text.now) }
+{
+    let mut chars = String::new(alloc);
+    for byte in text {
+        chars.push(*byte as char)?;
+    }
+    Ok(chars)
+}
+
+// A text in JSON.
+fn put_text(alloc: Global, writer: &mut Writer, text: &[u8]) -> Result<(), AllocError>
+    ensures tokens { OnOk result (writer.new.tokens ≡ writer.old.tokens ++ string (as_utf8 text.now) ∷ []) }
+    ensures before { OnOk result (writer.new.before ≡ writer.old.before) }
+{
+    match str::from_utf8(text) {
+        Ok(text) => writer.string(text),
+        Err(_) => writer.string(latin_1(alloc, text)?.as_str()),
     }
 }
 
-impl<'a, A: Allocator> Row<'a, A> {
-    /// An empty row.
-    pub fn new(alloc: &'a A, format: Format) -> Row<'a, A>
-        ensures { result ≡ record { format = format; bytes = [] } }
-    {
-        Row {
-            bytes: Vec::new(alloc),
-            format,
-        }
+// A value in JSON.
+fn put_value(alloc: Global, writer: &mut Writer, value: Value<'_>) -> Result<(), AllocError>
+    ensures tokens { OnOk result (writer.new.tokens ≡ writer.old.tokens ++ json_value (value_of value.entry) ∷ []) }
+    ensures before { OnOk result (writer.new.before ≡ writer.old.before) }
+{
+    match value {
+        Value::Number(number) => writer.u64(number),
+        Value::Word(text) => put_text(alloc, writer, text.as_bytes()),
+        Value::Text(text) => put_text(alloc, writer, text),
+        Value::Truth(truth) => writer.boolean(truth),
+        Value::Nothing => writer.null(),
     }
+}
 
-    /// The row's bytes so far.
-    pub fn bytes(&self) -> &[u8]
-        ensures { result.now ≡ self.now.bytes }
-    {
-        self.bytes.as_slice()
+// A value after its name.
+fn put_member(alloc: Global, writer: &mut Writer, cell: Cell<'_>) -> Result<(), AllocError>
+    ensures tokens { OnOk result (writer.new.tokens ≡ writer.old.tokens ++ member (cell_of cell.entry)) }
+    ensures before { OnOk result (writer.new.before ≡ writer.old.before) }
+{
+    writer.key(cell.name)?;
+    put_value(alloc, writer, cell.value)
+}
+
+// A JSON object.
+fn json_object(alloc: Global, cells: &[Cell<'_>]) -> Result<Vec<u8>, AllocError>
+    ensures { IfOk result (λ row. row.items ≡ print (object (map cell_of cells.now))) }
+{
+    let mut writer = Writer::new(Vec::new(alloc));
+    writer.begin_object()?;
+    for cell in cells {
+        put_member(alloc, &mut writer, *cell)?;
     }
+    writer.end_object()?;
+    Ok(writer.into_inner())
+}
 
-    /// No bytes.
-    pub fn clear(&mut self)
-        ensures { self.new ≡ record { format = self.old.format; bytes = [] } }
-    {
-        self.bytes.clear();
-    }
+// A line of JSON.
+fn json_line(alloc: Global, cells: &[Cell<'_>]) -> Result<Vec<u8>, AllocError>
+    ensures { IfOk result (λ row. row.items ≡ row_text Jsonl (map cell_of cells.now)) }
+{
+    let mut line = json_object(alloc, cells)?;
+    line.push(b'\n')?;
+    Ok(line)
+}
 
-    // A byte more.
-    fn byte(&mut self, byte: u8) -> Result<(), AllocError>
-        ensures { OnOk result (self.new ≡ with_bytes self.old (byte ∷ [])) }
-    {
-        self.bytes.push(byte)?;
-        Ok(())
-    }
-
-    // Bytes more.
-    fn all(&mut self, bytes: &[u8]) -> Result<(), AllocError>
-        ensures { OnOk result (self.new ≡ with_bytes self.old bytes.now) }
-    {
-        self.bytes.extend_from_slice(bytes)
-    }
-
-    // The name of a value, where the format has names.
-    fn put_name(&mut self, name: &str) -> Result<(), AllocError>
-        ensures { OnOk result (self.new ≡ with_bytes self.old (name_text self.old.format name.now)) }
-    {
-        match self.format {
-            Format::Csv => Ok(()),
-            Format::Jsonl => {
-                self.byte(b'"')?;
-                self.all(name.as_bytes())?;
-                self.all(b"\":")
-            }
-        }
-    }
-
-    // A byte, doubled where it is a quotation mark.
-    fn put_doubled(&mut self, byte: u8) -> Result<(), AllocError>
-        ensures { OnOk result (self.new ≡ with_bytes self.old (doubled byte)) }
-    {
-        if byte == b'"' {
-            self.byte(byte)?;
-        }
-        self.byte(byte)
-    }
-
-    // A value between quotation marks, which are doubled in it.
-    fn put_quoted(&mut self, value: &[u8]) -> Result<(), AllocError>
-        ensures { OnOk result (self.new ≡ with_bytes self.old (quoted value.now)) }
-    {
-        self.byte(b'"')?;
-        for byte in value {
-            self.put_doubled(*byte)?;
-        }
-        self.byte(b'"')
-    }
-
-    // A byte as the code point of its number.
-    fn put_code_point(&mut self, byte: u8) -> Result<(), AllocError>
-        ensures { OnOk result (self.new ≡ with_bytes self.old (code_point byte)) }
-    {
-        self.all(b"\\u00")?;
-        self.byte(DIGITS[(byte / 16) as usize])?;
-        self.byte(DIGITS[(byte % 16) as usize])
-    }
-
-    // A byte of a JSON string.
-    fn put_json_byte(&mut self, byte: u8, is_utf8: bool) -> Result<(), AllocError>
-        ensures { OnOk result (self.new ≡ with_bytes self.old (json_byte is_utf8 byte)) }
-    {
-        if (byte == b'"') | (byte == b'\\') {
-            self.byte(b'\\')?;
-            return self.byte(byte);
-        }
-        if (byte < 32) | ((byte >= 128) & !is_utf8) {
-            return self.put_code_point(byte);
-        }
-        self.byte(byte)
-    }
-
-    // A JSON string. A value that isn't UTF-8 is read as ISO 8859-1 (PGN 3.1).
-    fn put_string(&mut self, value: &[u8]) -> Result<(), AllocError>
-        ensures { OnOk result (self.new ≡ with_bytes self.old (json_string value.now)) }
-    {
-        let is_utf8 = is_utf8(value);
-        self.byte(b'"')?;
-        for byte in value {
-            self.put_json_byte(*byte, is_utf8)?;
-        }
-        self.byte(b'"')
-    }
-
-    // A text as the format has it.
-    fn put_text(&mut self, value: &[u8]) -> Result<(), AllocError>
-        ensures { OnOk result (self.new ≡ with_bytes self.old (string_text self.old.format value.now)) }
-    {
-        match self.format {
-            Format::Jsonl => self.put_string(value),
-            Format::Csv if is_quoted(value) => self.put_quoted(value),
-            Format::Csv => self.all(value),
-        }
-    }
-
-    // The digits of a number.
-    fn put_number(&mut self, value: u64) -> Result<(), AllocError>
-        ensures { OnOk result (self.new ≡ with_bytes self.old (decimal value)) }
-    {
-        self.all(Buffer::new().format(value).as_bytes())
-    }
-
-    // What separates a value from the one before it, and its name.
-    fn next(&mut self, name: &str) -> Result<(), AllocError>
-        ensures { OnOk result (self.new ≡ with_bytes self.old (codes "," ++ name_text self.old.format name.now)) }
-    {
-        self.byte(b',')?;
-        self.put_name(name)
-    }
-
-    /// Begins another row with a number.
-    pub fn begin(&mut self, name: &str, value: u64) -> Result<(), AllocError>
-        ensures { OnOk result (self.new ≡ begun self.old.format (name.now, Number value)) }
-    {
-        self.clear();
-        if self.format == Format::Jsonl {
-            self.byte(b'{')?;
-        }
-        self.put_name(name)?;
-        self.put_number(value)
-    }
-
-    /// A text, of any bytes.
-    pub fn text(&mut self, name: &str, value: &[u8]) -> Result<(), AllocError>
-        ensures { OnOk result (self.new ≡ with_cell self.old (name.now, Text value.now)) }
-    {
-        self.next(name)?;
-        self.put_text(value)
-    }
-
-    /// A value that isn't there.
-    pub fn nothing(&mut self, name: &str) -> Result<(), AllocError>
-        ensures { OnOk result (self.new ≡ with_cell self.old (name.now, Nothing)) }
-    {
-        self.next(name)?;
-        match self.format {
-            Format::Csv => Ok(()),
-            Format::Jsonl => self.all(b"null"),
-        }
-    }
-
-    /// A text, if it is there.
-    pub fn any_text(&mut self, name: &str, value: Option<&[u8]>) -> Result<(), AllocError>
-        ensures { OnOk result (self.new ≡ with_cell self.old (name.now, maybe Text (option_map (λ v. v.now) value.entry))) }
-    {
-        match value {
-            Some(value) => self.text(name, value),
-            None => self.nothing(name),
-        }
-    }
-
-    /// A number.
-    pub fn number(&mut self, name: &str, value: u64) -> Result<(), AllocError>
-        ensures { OnOk result (self.new ≡ with_cell self.old (name.now, Number value)) }
-    {
-        self.next(name)?;
-        self.put_number(value)
-    }
-
-    /// A number, if it is there.
-    pub fn any_number(&mut self, name: &str, value: Option<u32>) -> Result<(), AllocError>
-        ensures { OnOk result (self.new ≡ with_cell self.old (name.now, maybe Number value)) }
-    {
-        match value {
-            Some(value) => self.number(name, value as u64),
-            None => self.nothing(name),
-        }
-    }
-
-    /// `true` or `false`.
-    pub fn truth(&mut self, name: &str, value: bool) -> Result<(), AllocError>
-        ensures { OnOk result (self.new ≡ with_cell self.old (name.now, Truth value)) }
-    {
-        self.next(name)?;
-        self.all(if value { b"true" } else { b"false" })
-    }
-
-    /// The end of the row.
-    pub fn end(&mut self) -> Result<(), AllocError>
-        ensures { OnOk result (self.new ≡ ended self.old) }
-    {
-        match self.format {
-            Format::Csv => self.all(b"\r\n"),
-            Format::Jsonl => self.all(b"}\n"),
-        }
+/// The bytes of a row of these cells.
+pub fn row_bytes(alloc: Global, format: Format, cells: &[Cell<'_>]) -> Result<Vec<u8>, AllocError>
+    ensures { IfOk result (λ row. row.items ≡ row_text format (map cell_of cells.now)) }
+{
+    match format {
+        Format::Csv => csv_row(alloc, cells),
+        Format::Jsonl => json_line(alloc, cells),
     }
 }

@@ -17,7 +17,7 @@ fn judged(
     let alloc = rt.alloc();
     let mut games = Games::new(&alloc, FromBytes::new(text.as_bytes(), 7));
     let refused = judge(
-        &alloc,
+        alloc,
         asked,
         &mut games,
         &mut writer,

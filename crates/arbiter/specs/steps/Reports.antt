@@ -1,53 +1,33 @@
 -- What a report's fields say in a row.
---   over_cells    where a game was over, and how it stood there
 --   report_cells  what a report says
 --   IsReportOf    a report is that of a game
-use Rattle.std.specs.Prelude.{◌≡◌, Bool, not, ◌||◌, is_some, List, [], ◌∷◌, ◌++◌, length, codes, Option, option_map, IfSome}
+use Rattle.std.specs.Prelude.{◌≡◌, ℕ, Bool, not, ◌||◌, is_some, List, [], ◌∷◌, length, codes, option_map, IfSome}
 use Rattle.chess_types.specs.board.Lines.{last}
 use Rattle.chess_types.specs.board.Outcome.{status, winner}
-use Rattle.chess_fen.specs.Writing.{written}
 use Rattle.chess_pgn.specs.Games.{Game}
 use Rattle.chess_pgn.specs.Written.{outcome_text}
 use Rattle.chess_report.specs.MainLine.{as_far, main}
 use Rattle.chess_report.specs.Findings.{agrees, first_fifty, first_over, first_threefold, longest_quiet, most_repetitions, played_on}
-use Rattle.chess_report.specs.declared.report.Over.{Over}
 use Rattle.chess_report.specs.declared.report.Report.{Report}
 use Rattle.arbiter.specs.Cells.{Cell, Number, Text, Truth, maybe}
 use Rattle.arbiter.specs.Rows.{colour_text, status_text}
 
--- where a game was over, and how it stood there
-abbrev pub over_cells : Option Over → List Cell
-over_cells over =
-    (codes "over_ply", maybe Number (option_map (λ o. o.ply) over))
-    ∷ (codes "over_why", maybe (λ why. Text (status_text why)) (option_map (λ o. o.why) over))
-    ∷ []
-
--- how a game ends
-abbrev pub end_cells : Report → List Cell
-end_cells report =
+-- what a report says, whose last position has that FEN
+abbrev pub report_cells : Report → List ℕ → List Cell
+report_cells report fen =
     (codes "plies", Number report.plies)
     ∷ (codes "result", Text (outcome_text report.marker))
     ∷ (codes "status", Text (status_text report.status))
-    ∷ (codes "winner", maybe (λ side. Text (colour_text side)) report.winner)
-    ∷ over_cells (played_on report.over report.plies)
-
--- where a draw could be claimed
-abbrev pub claim_cells : Report → List Cell
-claim_cells report = (codes "threefold_ply", maybe Number report.threefold) ∷ (codes "fifty_ply", maybe Number report.fifty) ∷ []
-
--- what its plies have
-abbrev pub ply_cells : Report → List Cell
-ply_cells report =
-    claim_cells report
-    ++ (codes "repetitions", Number report.repetitions)
+    ∷ (codes "winner", maybe Text (option_map colour_text report.winner))
+    ∷ (codes "over_ply", maybe Number (option_map (λ o. o.ply) (played_on report.over report.plies)))
+    ∷ (codes "over_why", maybe Text (option_map (λ o. status_text o.why) (played_on report.over report.plies)))
+    ∷ (codes "threefold_ply", maybe Number report.threefold)
+    ∷ (codes "fifty_ply", maybe Number report.fifty)
+    ∷ (codes "repetitions", Number report.repetitions)
     ∷ (codes "quiet", Number report.quiet)
     ∷ (codes "agrees", Truth report.agrees)
-    ∷ (codes "fen", Text (written report.last))
+    ∷ (codes "fen", Text fen)
     ∷ []
-
--- what a report says
-abbrev pub report_cells : Report → List Cell
-report_cells report = end_cells report ++ ply_cells report
 
 -- something is wrong with the game
 abbrev pub is_finding : Report → Bool

@@ -57,7 +57,7 @@ fn long(rt: &impl Abort, text: &str) -> Move {
 
 /// Positions, moves in long algebraic notation, and their texts.
 const WRITTEN: &[(&str, &str, &str)] = &[
-    // men are told apart
+    // men are distinguished
     (PINNED, "g1e2", "Ne2"),
     (KNIGHTS, "g1e2", "Nge2"),
     (QUEENS, "h4e1", "Qh4e1"),
@@ -90,7 +90,7 @@ fn long_or_fault(rt: &impl Abort, wanted: Result<&str, SanFault>) -> Result<Move
 
 /// Positions, texts, and the moves that they read as in long algebraic notation, or their faults.
 const READ: &[(&str, &str, Result<&str, SanFault>)] = &[
-    // men are told apart
+    // men are distinguished
     (PINNED, "Ne2", Ok("g1e2")),
     (KNIGHTS, "Ne2", Err(SanFault::Ambiguous)),
     (KNIGHTS, "N1xe2+#+", Ok("g1e2")),

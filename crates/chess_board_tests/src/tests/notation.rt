@@ -149,7 +149,7 @@ fn reports_the_first_fault(rt: HostRuntime) {
 }
 
 /// The faults with their numbers, names and texts.
-const TOLD: &[(FenFault, &str)] = &[
+const SHOWN: &[(FenFault, &str)] = &[
     (
         FenFault::Fields,
         "1 Fields: a FEN has six fields, or the first four of them",
@@ -188,9 +188,9 @@ const TOLD: &[(FenFault, &str)] = &[
 
 #[test]
 fn tells_the_faults(rt: HostRuntime) -> Result<(), Fail> {
-    for (fault, text) in TOLD {
-        let told = format!(in rt.alloc(); "{} {}: {fault}", fault.number(), fault.name())?;
-        assert!(rt; told.as_str() == *text);
+    for (fault, text) in SHOWN {
+        let shown = format!(in rt.alloc(); "{} {}: {fault}", fault.number(), fault.name())?;
+        assert!(rt; shown.as_str() == *text);
     }
     Ok(())
 }

@@ -109,7 +109,7 @@ fn answers<'h, R: Source>(
     Ok(Vec::from_slice(other, writer.taken())?)
 }
 
-/// The texts, one behind the other.
+/// The texts, one after the other.
 fn joined<'h>(other: &'h LocalHeap, texts: &[&'static [u8]]) -> Result<Text<'h>, AllocError> {
     let mut whole = Vec::new(other);
     for text in texts {
@@ -131,7 +131,7 @@ fn plain<'h>(
     answers(rt, heap, other, table, &mut reader)
 }
 
-/// Gives the board a line behind others with more and more memory, until it isn't refused any more; it is then answered as usual. After a
+/// Gives the board a line after others with more and more memory, until it isn't refused any more; it is then answered as usual. After a
 /// refusal all is as before, and the same line is answered as usual. Answers how often it was refused.
 fn refusals<'h>(
     rt: &impl Abort,
@@ -161,11 +161,11 @@ fn refusals<'h>(
             calls: 0,
             taken: Vec::new(other),
         };
-        let told = answers(rt, heap, other, table, &mut reader)?;
-        if told.starts_with(usual.as_slice()) {
+        let answered = answers(rt, heap, other, table, &mut reader)?;
+        if answered.starts_with(usual.as_slice()) {
             return Ok(turn);
         }
-        assert_eq!(rt; told, refused);
+        assert_eq!(rt; answered, refused);
     }
     assert!(rt; false);
     Ok(0)

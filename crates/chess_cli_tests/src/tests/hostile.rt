@@ -116,13 +116,13 @@ fn games_in_little_memory(rt: HostRuntime) -> Result<(), Fail> {
         let mut room = [0; 1000];
         let mut writer = ToBytes::new(&mut room, 1000);
         let ended = pgn(&heap, &mut FromBytes::new(games::INPUT, 1000), &mut writer);
-        let front = writer.taken().len();
-        assert_eq!(rt; Some(writer.taken()), games::OUTPUT.get(..front));
+        let taken = writer.taken().len();
+        assert_eq!(rt; Some(writer.taken()), games::OUTPUT.get(..taken));
         if ended == Ended::Good {
-            assert_eq!(rt; front, games::OUTPUT.len());
+            assert_eq!(rt; taken, games::OUTPUT.len());
             good = good.saturating_add(1);
         } else {
-            assert!(rt; front == 0 || front == games::FIRST || front == games::OUTPUT.len());
+            assert!(rt; taken == 0 || taken == games::FIRST || taken == games::OUTPUT.len());
             assert_eq!(rt; ended, Ended::Memory);
             refused = refused.saturating_add(1);
         }
@@ -134,7 +134,7 @@ fn games_in_little_memory(rt: HostRuntime) -> Result<(), Fail> {
 /// A session skips a line over the limit.
 #[test]
 fn a_session_skips_a_long_line(rt: HostRuntime) {
-    for (letters, told) in [
+    for (letters, wanted) in [
         (1_048_576usize, b"".as_slice()),
         (1_048_577, b"info string line too long\n".as_slice()),
     ] {
@@ -148,6 +148,6 @@ fn a_session_skips_a_long_line(rt: HostRuntime) {
             uci(rt.alloc(), &mut reader, &mut writer, STOPPED),
             Ended::Good
         );
-        assert_eq!(rt; writer.taken(), told);
+        assert_eq!(rt; writer.taken(), wanted);
     }
 }

@@ -16,7 +16,7 @@ fn put_times<A: Allocator>(
 }
 
 /// After 20,000 plies no move is made, and the cursor still goes to both ends, and by a path of 20,000 places; one more leads nowhere, and a malformed
-/// part behind it is found. The whole line is deleted by its first move.
+/// part after it is found. The whole line is deleted by its first move.
 #[test]
 fn plays_the_longest_line(rt: HostRuntime) -> Result<(), Fail> {
     let alloc = rt.alloc();

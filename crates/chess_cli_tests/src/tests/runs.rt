@@ -142,7 +142,7 @@ fn stops_at_a_failing_read(rt: HostRuntime) -> Result<(), Fail> {
     Ok(())
 }
 
-/// A front of the answers is written.
+/// A prefix of the answers is written.
 #[test]
 fn stops_at_a_failing_write(rt: HostRuntime) -> Result<(), Fail> {
     for refusal in [WriteFailure::Fails, WriteFailure::TakesNothing] {

@@ -70,7 +70,7 @@ fn searches_to_the_last_depth(rt: HostRuntime) {
     );
 }
 
-/// The budget ends a search between two roots: the first root is told where no depth is complete.
+/// The budget ends a search between two roots: the first root is named where no depth is complete.
 #[test]
 fn searches_up_to_the_budget(rt: HostRuntime) {
     let clock = Ticking {

@@ -50,7 +50,7 @@ pub fn is_written<'a, A: Allocator>(alloc: &'a A, game: &Game<'a, A>, movetext: 
     }
 }
 
-/// Writes the export forms of the games that are left behind a text, a word with each that is another by the texts of moves that the
+/// Writes the export forms of the games that are left after a text, a word with each that is another by the texts of moves that the
 /// reader has found out; the fault that ends them.
 fn export<'a, A: Allocator, R: Source>(
     alloc: &'a A,
@@ -83,7 +83,7 @@ fn export<'a, A: Allocator, R: Source>(
     }
 }
 
-/// What a source in pieces of one size gives: the export forms of its games, and the fault behind them.
+/// What a source in pieces of one size gives: the export forms of its games, and the fault after them.
 pub fn read_all<'a, A: Allocator>(
     alloc: &'a A,
     input: &[u8],

@@ -19,7 +19,7 @@ fn front_by<A: Allocator>(alloc: &A, text: &[u8]) -> Begun {
     }
 }
 
-fn front<A: Allocator>(alloc: &A, text: &[u8]) -> Begun {
+fn read_start<A: Allocator>(alloc: &A, text: &[u8]) -> Begun {
     front_by(alloc, text)
 }
 
@@ -44,14 +44,14 @@ fn wanted(count: usize) -> Begun {
 }
 
 /// The game's first so many bytes.
-fn front_of_game(rt: &impl Abort, count: usize) -> &'static [u8] {
+fn start_of_game(rt: &impl Abort, count: usize) -> &'static [u8] {
     GAME.get(..count).expect(rt, "so many bytes")
 }
 
 #[test]
 fn each_front_of_a_game(rt: HostRuntime) {
     for count in 0..=GAME.len() {
-        let begun = front(&rt.alloc(), front_of_game(&rt, count));
+        let begun = read_start(&rt.alloc(), start_of_game(&rt, count));
         assert!(&rt; begun == wanted(count), "the first {count} bytes");
     }
 }
@@ -69,7 +69,7 @@ fn comment<'a, A: Allocator>(alloc: &'a A, letters: usize) -> Result<Vec<u8, &'a
 /// What a comment of so many letters begins with.
 fn front_of_comment<A: Allocator>(alloc: &A, letters: usize) -> Result<Begun, AllocError> {
     let text = comment(alloc, letters)?;
-    Ok(front(alloc, text.as_slice()))
+    Ok(read_start(alloc, text.as_slice()))
 }
 
 #[test]
@@ -90,7 +90,7 @@ fn varied<'a, A: Allocator>(alloc: &'a A, variations: u32) -> Result<Vec<u8, &'a
     Ok(text)
 }
 
-/// The text of the game at the front of a text that uses so many bytes and has so many moves at its beginning.
+/// The text of the game at the start of a text that uses so many bytes and has so many moves at its beginning.
 fn written<'a, A: Allocator>(
     rt: &impl Abort,
     alloc: &'a A,
@@ -146,7 +146,7 @@ fn is_read(rt: &impl Abort, begun: Begun) -> bool {
 /// Whether the game is read on a heap of that size, of which nothing is taken afterwards.
 fn is_read_on(rt: &impl Abort, alloc: Global, size: usize) -> Result<bool, AllocError> {
     let heap = LocalHeap::new(alloc, size)?;
-    let is_read = is_read(rt, front(&heap, NOTED));
+    let is_read = is_read(rt, read_start(&heap, NOTED));
     assert!(rt; heap.used() == 0);
     Ok(is_read)
 }

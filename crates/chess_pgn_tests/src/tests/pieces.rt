@@ -1,4 +1,4 @@
-//! Sources cut anywhere: long items, games up to the limit, white space behind it, and reads that fail.
+//! Sources cut anywhere: long items, games up to the limit, whitespace after it, and reads that fail.
 ghost use Rattle.std.specs.Prelude.{◌<◌};
 ghost use Rattle.chess_pgn.specs.Sources.{IsSound};
 
@@ -16,7 +16,7 @@ const LIMIT: usize = 1_048_576;
 /// How many bytes the game uses that a text begins with; none where the text is white.
 type Found = Result<Option<usize>, PgnFault>;
 
-fn front<A: Allocator>(alloc: &A, text: &[u8]) -> Found {
+fn found_at_start<A: Allocator>(alloc: &A, text: &[u8]) -> Found {
     match read_game(alloc, text) {
         Ok(None) => Ok(None),
         Ok(Some((_, used))) => Ok(Some(used)),
@@ -58,7 +58,7 @@ fn assert_in_pieces<A: Allocator>(
 
 /// The text begins so, as a whole and in pieces.
 fn assert_front<A: Allocator>(rt: &impl Abort, alloc: &A, text: &[u8], wanted: Found) {
-    assert!(rt; front(alloc, text) == wanted);
+    assert!(rt; found_at_start(alloc, text) == wanted);
     assert_in_pieces(rt, alloc, text, 3, wanted);
     assert_in_pieces(rt, alloc, text, 65_536, wanted);
 }
@@ -70,7 +70,7 @@ fn fill<A: Allocator>(text: &mut Vec<u8, A>, letter: u8, count: usize) -> Result
     Ok(())
 }
 
-/// An item's first byte, the one that comes 200,000 times, what is behind them, and how the text begins.
+/// An item's first byte, the one that comes 200,000 times, what is after them, and how the text begins.
 const LONG: &[(&[u8], u8, &[u8], Found)] = &[
     (b"{", b'a', b"}*", Ok(Some(200_003))),
     (b"$", b'0', b"*", Ok(Some(200_002))),
@@ -86,7 +86,7 @@ const LONG: &[(&[u8], u8, &[u8], Found)] = &[
     ),
 ];
 
-/// A text, a byte so many times, and what is behind them.
+/// A text, a byte so many times, and what is after them.
 fn long_text<'a, A: Allocator>(
     alloc: &'a A,
     first: &[u8],
@@ -128,7 +128,7 @@ const TOO_LARGE: Found = Err(PgnFault {
     kind: FaultKind::TooLarge,
 });
 
-/// What comes behind a comment that leaves five bytes up to the limit, and how the text begins.
+/// What comes after a comment that leaves five bytes up to the limit, and how the text begins.
 const BEHIND_A_COMMENT: &[(&[u8], Found)] = &[
     (b"{aaa}*", TOO_LARGE),
     (b"{aa}*", Ok(Some(LIMIT))),
@@ -162,7 +162,7 @@ const BEHIND_A_COMMENT: &[(&[u8], Found)] = &[
     (b"   Ke3", TOO_LARGE),
 ];
 
-/// What comes behind white space that leaves five bytes up to the limit: as long as nothing else has come, it is passed over.
+/// What comes after whitespace that leaves five bytes up to the limit: as long as nothing else has come, it is passed over.
 const BEHIND_SPACES: &[(&[u8], Found)] = &[
     (b"", Ok(None)),
     (b" \n%x", Ok(None)),
@@ -181,30 +181,30 @@ const BEHIND_SPACES: &[(&[u8], Found)] = &[
     ),
 ];
 
-/// The text with that behind it begins so.
+/// The text with that after it begins so.
 fn assert_with<A: Allocator>(
     rt: &impl Abort,
     alloc: &A,
     text: &mut Vec<u8, &A>,
-    behind: &[u8],
+    after: &[u8],
     wanted: Found,
 ) -> Result<(), AllocError> {
-    let front = text.len();
-    text.extend_from_slice(behind)?;
+    let length = text.len();
+    text.extend_from_slice(after)?;
     assert_front(rt, alloc, text.as_slice(), wanted);
-    text.truncate(front);
+    text.truncate(length);
     Ok(())
 }
 
-/// Texts of a front and of each of these behind it begin so.
+/// A text with each of these after it begins so.
 fn assert_behind<A: Allocator>(
     rt: &impl Abort,
     alloc: &A,
     text: &mut Vec<u8, &A>,
     rows: &[(&[u8], Found)],
 ) -> Result<(), AllocError> {
-    for (behind, wanted) in rows {
-        assert_with(rt, alloc, text, behind, *wanted)?;
+    for (after, wanted) in rows {
+        assert_with(rt, alloc, text, after, *wanted)?;
     }
     Ok(())
 }

@@ -75,7 +75,7 @@ fn wander<A: Allocator>(analysis: &mut Analysis<'_, '_, A>, random: &mut Pcg64, 
     }
 }
 
-/// Adds a variation in place of the last move, some within it, and comes back behind that move.
+/// Adds a variation in place of the last move, some within it, and comes back to that move.
 fn vary<A: Allocator>(analysis: &mut Analysis<'_, '_, A>, random: &mut Pcg64, deep: u32) {
     let depth = analysis.tree().depth();
     if deep == 0 || depth == 0 {

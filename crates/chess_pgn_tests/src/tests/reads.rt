@@ -55,8 +55,8 @@ fn moves_and_variations(rt: HostRuntime) {
 const TAGS: &str =
     "[Zed \"1\"][Result\"1-0\"][ Eco \n%x]\n\"a\\\"\\\\\\n\"][Zed \"2\"]{c}[White \"x\"][FEN \"y\"][SetUp \"0\"]";
 
-/// A game after a FEN, with a tag behind it.
-const BEHIND: &str =
+/// A game after a FEN, with a tag after it.
+const TAG_AFTER: &str =
     "[FEN \"4k3/4p3/8/8/8/8/4P3/4K3 b - - 0 7\"] e5! {good} e4 1/2-1/2 [White \"x\"]";
 
 /// What needs no escape in a value, and what does.
@@ -73,8 +73,8 @@ const VALUES: &[(&str, &str, Option<&[u8]>)] = &[
     (TAGS, "Result", None),
     (TAGS, "SetUp", None),
     (SIGNS, "A_1", Some(b"x{;%\"\\y")),
-    (BEHIND, "FEN", None),
-    (BEHIND, "White", Some(b"?")),
+    (TAG_AFTER, "FEN", None),
+    (TAG_AFTER, "White", Some(b"?")),
 ];
 
 /// The game that the text begins with has that value for a tag.
@@ -98,7 +98,7 @@ fn tags_of_a_game(rt: HostRuntime) {
 
 /// Texts, how many bytes the game uses that each begins with, and the end of that game's own text.
 const ENDS: &[(&str, usize, &str)] = &[
-    (BEHIND, 63, "\n\n7... e5 $1 {good} 8. e4 1/2-1/2\n\n"),
+    (TAG_AFTER, 63, "\n\n7... e5 $1 {good} 8. e4 1/2-1/2\n\n"),
     (TAGS, TAGS.len(), "\n\n{c} *\n\n"),
     (
         OTHERS,
@@ -189,7 +189,7 @@ fn faults_of_a_text(rt: HostRuntime) {
     assert!(&rt; empty == Some(true));
 }
 
-/// How many games come, until there is none or a fault, or that many have come and there is no fault behind them; and the fault.
+/// How many games come, until there is none or a fault, or that many have come and there is no fault after them; and the fault.
 fn count_games<A: Allocator, R: Source>(
     games: &mut Games<'_, R, A>,
     most: u32,
@@ -272,7 +272,7 @@ fn assert_pieces<A: Allocator>(rt: &impl Abort, alloc: &A, piece: usize)
     }
 }
 
-/// Faults behind some games, how many those are, and the fault.
+/// Faults after some games, how many those are, and the fault.
 const LATER_FAULTS: &[(&[u8], u32, u64, FaultKind)] = &[
     (b"* (1. e4) *", 1, 2, FaultKind::Variation),
     (b"* * (1. e4) *", 2, 4, FaultKind::Variation),
@@ -283,7 +283,7 @@ const LATER_FAULTS: &[(&[u8], u32, u64, FaultKind)] = &[
     (b"1-0 0-1 $256", 2, 8, FaultKind::Token),
 ];
 
-/// A fault is told again by each later call.
+/// A fault is reported again by each later call.
 fn assert_told_again<A: Allocator>(rt: &impl Abort, alloc: &A) {
     let wanted = refused(2, FaultKind::Variation);
     let mut games = Games::new(alloc, FromBytes::new(b"* (1. e4) *", 1));
@@ -334,7 +334,7 @@ fn begun<A: Allocator>(alloc: &A, text: &[u8]) -> Result<Option<u32>, PgnFault> 
 }
 
 /// What a game of so many variations, each in the one before, begins with.
-fn front_of_nested<A: Allocator>(
+fn read_nested<A: Allocator>(
     alloc: &A,
     many: u32,
 ) -> Result<Result<Option<u32>, PgnFault>, PgnFault> {
@@ -350,9 +350,9 @@ const DEEP: PgnFault = PgnFault {
 
 #[test]
 fn no_more_than_128_variations_are_open(rt: HostRuntime) -> Result<(), Fail> {
-    let front = front_of_nested(&rt.alloc(), 128)?;
-    assert!(&rt; front == Ok(Some(129)));
-    let front = front_of_nested(&rt.alloc(), 129)?;
-    assert!(&rt; front == Err(DEEP));
+    let read = read_nested(&rt.alloc(), 128)?;
+    assert!(&rt; read == Ok(Some(129)));
+    let read = read_nested(&rt.alloc(), 129)?;
+    assert!(&rt; read == Err(DEEP));
     Ok(())
 }

@@ -129,7 +129,7 @@ dxc6 *",
 \n\
 ",
     ),
-    // Origins told apart by the file.
+    // Origins distinguished by the file.
     (
         "[SetUp \"1\"]\n\
 [FEN \"4k3/8/8/8/8/5N2/8/1N2K3 w - - 0 1\"]\n\

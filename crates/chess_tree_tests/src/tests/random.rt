@@ -110,7 +110,7 @@ fn grown<'l, A: Allocator>(
     Ok(out)
 }
 
-/// Runs of the list, one behind the other.
+/// Runs of the list, one after the other.
 fn runs_of<'l, A: Allocator>(
     alloc: &'l A,
     list: &[Entry],
@@ -133,7 +133,7 @@ fn cut<'l, A: Allocator>(
     runs_of(alloc, list, &runs)
 }
 
-/// The list with a node in front of its siblings.
+/// The list with a node before its siblings.
 fn lifted<'l, A: Allocator>(
     alloc: &'l A,
     list: &[Entry],

@@ -39,7 +39,7 @@ fn last_of(list: &[Linked], number: usize) -> usize {
     }
 }
 
-/// The sibling after a node; 0 where there is none, as behind the root.
+/// The sibling after a node; 0 where there is none, as after the root.
 fn next_of(list: &[Linked], number: usize) -> usize {
     match list.get(number) {
         Some(entry) => entry.next,

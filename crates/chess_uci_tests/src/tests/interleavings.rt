@@ -13,9 +13,9 @@ const LISTS: u32 = 20_000;
 
 const EVENTS: u32 = 40;
 
-/// What both are told.
+/// What both are given.
 #[derive(Clone, Copy)]
-enum Told {
+enum Given {
     /// A line, and what it asks for.
     Line(&'static [u8], Said),
     Slice,
@@ -46,12 +46,12 @@ fn is_same<A: Allocator>(session: &Session<'_, A>, plain: &Plain<'_, A>) -> bool
 fn is_replied<'a, A: Allocator>(
     session: &mut Session<'a, A>,
     plain: &mut Plain<'a, A>,
-    told: Told,
+    given: Given,
 ) -> bool {
-    let (event, wanted) = match told {
-        Told::Line(line, said) => (Event::Line(line), plain.hear(said)),
-        Told::Slice => (Event::Slice, plain.slice()),
-        Told::Moment(moment) => (Event::Moment(moment), plain.reach(moment)),
+    let (event, wanted) = match given {
+        Given::Line(line, said) => (Event::Line(line), plain.hear(said)),
+        Given::Slice => (Event::Slice, plain.slice()),
+        Given::Moment(moment) => (Event::Moment(moment), plain.reach(moment)),
     };
     session.event(event).as_slice() == wanted.as_slice()
 }
@@ -67,21 +67,21 @@ fn search<'a, A: Allocator>(
         if plain.is_deep() {
             return;
         }
-        assert!(rt; is_replied(session, plain, Told::Slice));
+        assert!(rt; is_replied(session, plain, Given::Slice));
     }
 }
 
 /// A random event other than a slice, at that moment.
-fn told_at(moment: u64, kind: u64, pick: u64) -> Told {
+fn given_at(moment: u64, kind: u64, pick: u64) -> Given {
     let number = pick % 8;
     match kind {
-        6 | 7 => Told::Moment(moment.saturating_add(pick % 40)),
-        8 => Told::Moment(pick % 400),
-        9 | 10 => Told::Line(place_line(number), place_said(number)),
-        11 | 12 => Told::Line(go_line(number), Said::Go(number)),
+        6 | 7 => Given::Moment(moment.saturating_add(pick % 40)),
+        8 => Given::Moment(pick % 400),
+        9 | 10 => Given::Line(place_line(number), place_said(number)),
+        11 | 12 => Given::Line(go_line(number), Said::Go(number)),
         _ => {
             let (line, said) = other_line(pick % 16);
-            Told::Line(line, said)
+            Given::Line(line, said)
         }
     }
 }
@@ -97,8 +97,8 @@ fn happen<'a, A: Allocator>(
     match word % 16 {
         0..=5 => search(rt, session, plain, pick % 24),
         kind => {
-            let told = told_at(plain.moment, kind, pick);
-            assert!(rt; is_replied(session, plain, told));
+            let given = given_at(plain.moment, kind, pick);
+            assert!(rt; is_replied(session, plain, given));
         }
     }
     assert!(rt; is_same(session, plain));

@@ -17,7 +17,6 @@ pub loop-before-init : goal.loop-before-init
 loop-before-init g c = record {
   sound = c.requires.sound;
   none = c.requires.none;
-  format = c.requires.format;
   few = omega arith;
   written =
       none_yet g.R.Source.gives g.R.Source.failed g.R.Source.ended g.W.Sink.takes g.W.Sink.failed c.args.maker.now.asked c.args.games.now c.args.writer.now c.write_all.new.writer c.requires.none c.requires.writer
@@ -38,7 +37,7 @@ returns-in-Err g c =
     ends_at g.R.Source.gives g.R.Source.failed g.R.Source.ended g.W.Sink.takes g.W.Sink.failed c.args.maker.now.asked c.loop-before.before c.loop-before.bad c.args.games.now c.loop-before.games c.args.writer.now c.loop-before.writer
     c.loop-before.invariant.written (Found c.used-offset.result (game_of c.in-Ok-Some.game)) c.next.new.self
     (c.used-offset.ensures, found_game (λ x. NextGame g.R.Source.gives g.R.Source.failed c.loop-before.games c.next.new.self (game_of x)) c.next.result c.in-Ok-Some.game is c.next.ensures.game, ok_holds _ c.next.result (Some c.in-Ok-Some.game) is c.next.ensures.good)
-    c.game.new.writer c.in-Err.failure c.requires.writer c.in-Err.ensures.writes
+    c.game.new.writer c.in-Err.failure c.requires.writer c.in-Err.ensures
 
 pub returns-in-Err-Read : goal.returns-in-Err-Read
 returns-in-Err-Read g c =
@@ -60,7 +59,7 @@ returns-in-Err-fault g c =
           (err_holds (λ f. HasFault g.R.Source.gives g.R.Source.failed g.R.Source.ended c.loop-before.games.text c.next.new.self.text f) c.next.result (Pgn c.in-Err-Pgn.fault) is (c.next.ensures.fault c.loop-before.invariant.none)),
       err_holds (λ f. c.next.new.self.fault ≡ Some f) c.next.result (Pgn c.in-Err-Pgn.fault) is c.next.ensures.sticky,
     )
-    c.fault.new.writer c.in-Err-fault.failure c.requires.writer c.in-Err-fault.ensures.writes
+    c.fault.new.writer c.in-Err-fault.failure c.requires.writer c.in-Err-fault.ensures
 
 pub returns-in-Err-go_on : goal.returns-in-Err-go_on
 returns-in-Err-go_on g c =
@@ -75,7 +74,7 @@ returns-in-Err-go_on g c =
           (err_holds (λ f. HasFault g.R.Source.gives g.R.Source.failed g.R.Source.ended c.loop-before.games.text c.next.new.self.text f) c.next.result (Pgn c.in-Err-Pgn.fault) is (c.next.ensures.fault c.loop-before.invariant.none)),
       err_holds (λ f. c.next.new.self.fault ≡ Some f) c.next.result (Pgn c.in-Err-Pgn.fault) is c.next.ensures.sticky,
     )
-    c.fault.new.writer c.in_default-fault.ensures.writes c.go_on.new.games c.in-Err-go_on.failure c.in-Err-go_on.ensures.fault
+    c.fault.new.writer c.in_default-fault.ensures c.go_on.new.games c.in-Err-go_on.failure c.in-Err-go_on.ensures.fault
 
 pub returns : goal.returns
 returns g c =
@@ -87,25 +86,23 @@ loop-before-preserved g c = elim c.match-next.branch [
   | in-Ok-Some+in_default w ↦
       let is = w.in-Ok-Some.is ∙ ap Ok w.in-Ok-Some.field-0-is in
       let good = ok_holds _ c.next.result (Some w.in-Ok-Some.game) is c.next.ensures.good in
-      rw (w.games-is, w.row-is, w.writer-is, w.bad-is) (record {
+      rw (w.games-is, w.writer-is, w.bad-is) (record {
         sound = c.next.ensures.sound;
         none = good;
-        format = w.in_default.ensures.format;
         few = (let few = c.loop-before.invariant.few in omega (arith, few));
         written =
             game_more g.R.Source.gives g.R.Source.failed g.R.Source.ended g.W.Sink.takes g.W.Sink.failed c.args.maker.now.asked c.loop-before.before c.loop-before.bad c.args.games.now c.loop-before.games c.args.writer.now c.loop-before.writer
             c.loop-before.invariant.written c.used-offset.result (game_of w.in-Ok-Some.game) c.next.new.self w.game.new.writer
             (c.used-offset.ensures, found_game (λ x. NextGame g.R.Source.gives g.R.Source.failed c.loop-before.games c.next.new.self (game_of x)) c.next.result w.in-Ok-Some.game is c.next.ensures.game, good)
-            w.in_default.ensures.writes;
+            w.in_default.ensures;
       })
   | in-Err-Pgn+else-is_lack+in_default-fault+in_default-go_on w ↦
       let is = w.in-Err-Pgn.is ∙ ap Err w.in-Err-Pgn.field-0-is in
       let dark = no_lack w.in-Err-Pgn.fault.kind (sym w.is_lack.ensures ∙ w.if-is_lack.false) in
       let stays = err_holds (λ f. c.next.new.self.fault ≡ Some f) c.next.result (Pgn w.in-Err-Pgn.fault) is c.next.ensures.sticky in
-      rw (w.games-is, w.row-is, w.writer-is, w.bad-is) (record {
+      rw (w.games-is, w.writer-is, w.bad-is) (record {
         sound = w.go_on.ensures.sound;
         none = w.in_default-go_on.ensures.good;
-        format = w.in_default-fault.ensures.format;
         few = (let few = c.loop-before.invariant.few in omega (arith, few));
         written =
             fault_more g.R.Source.gives g.R.Source.failed g.R.Source.ended g.W.Sink.takes g.W.Sink.failed c.args.maker.now.asked c.loop-before.before c.loop-before.bad c.args.games.now c.loop-before.games c.args.writer.now c.loop-before.writer
@@ -117,7 +114,7 @@ loop-before-preserved g c = elim c.match-next.branch [
                   (err_holds (λ f. HasFault g.R.Source.gives g.R.Source.failed g.R.Source.ended c.loop-before.games.text c.next.new.self.text f) c.next.result (Pgn w.in-Err-Pgn.fault) is (c.next.ensures.fault c.loop-before.invariant.none)),
               stays,
             )
-            w.in_default-fault.ensures.writes
+            w.in_default-fault.ensures
             (goes_on_after g.R.Source.gives g.R.Source.failed g.R.Source.ended g.W.Sink.takes g.W.Sink.failed c.args.maker.now.asked c.next.new.self w.go_on.new.games (Pgn w.in-Err-Pgn.fault) w.in_default-go_on.ensures.passes.0 stays
             w.in_default-go_on.ensures.passes.1 w.in_default-go_on.ensures.good);
       })

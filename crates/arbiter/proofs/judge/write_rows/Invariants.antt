@@ -8,7 +8,6 @@ abbrev pub invariant-loop-before : goal.invariant-loop-before
 invariant-loop-before g l = record {
   sound : IsSound g.R.Source.ended l.games;
   none : l.games.fault ≡ None;
-  format : l.row.format ≡ l.maker.asked.format;
   few : l.bad ≤ l.before;
   written : SoFar g.R.Source.gives g.R.Source.failed g.R.Source.ended g.W.Sink.takes g.W.Sink.failed l.maker.asked l.before l.bad l.fn.games l.games l.fn.writer l.writer;
 }

@@ -1,0 +1,101 @@
+ghost use Rattle.std.specs.Prelude.{◌≡◌, option_map};
+ghost use Rattle.arbiter.specs.Cells.{Number, Text, Truth, Nothing, cell_of, maybe};
+
+/// What a row has in a column.
+#[derive(Clone, Copy, Debug)]
+pub enum Value<'v> {
+    Number(u64),
+    /// A text of the program's own.
+    Word(&'static str),
+    /// A text of any bytes.
+    Text(&'v [u8]),
+    Truth(bool),
+    Nothing,
+}
+
+/// A column's name, and what a row has there.
+#[derive(Clone, Copy, Debug)]
+pub struct Cell<'v> {
+    pub name: &'static str,
+    pub value: Value<'v>,
+}
+
+/// A number.
+pub fn number<'v>(name: &'static str, value: u64) -> Cell<'v>
+    ensures { cell_of result ≡ (name.now, Number value) }
+{
+    Cell {
+        name,
+        value: Value::Number(value),
+    }
+}
+
+/// A number, if it is there.
+pub fn any_number<'v>(name: &'static str, value: Option<u32>) -> Cell<'v>
+    ensures { cell_of result ≡ (name.now, maybe Number value) }
+{
+    match value {
+        Some(value) => number(name, value as u64),
+        None => nothing(name),
+    }
+}
+
+/// A text of the program's own.
+pub fn word<'v>(name: &'static str, value: &'static str) -> Cell<'v>
+    ensures { cell_of result ≡ (name.now, Text value.now) }
+{
+    Cell {
+        name,
+        value: Value::Word(value),
+    }
+}
+
+/// A text of the program's own, if it is there.
+pub fn any_word<'v>(name: &'static str, value: Option<&'static str>) -> Cell<'v>
+    ensures { cell_of result ≡ (name.now, maybe Text (option_map (λ v. v.now) value.entry)) }
+{
+    match value {
+        Some(value) => word(name, value),
+        None => nothing(name),
+    }
+}
+
+/// A text of any bytes.
+pub fn text<'v>(name: &'static str, value: &'v [u8]) -> Cell<'v>
+    ensures { cell_of result ≡ (name.now, Text value.now) }
+{
+    Cell {
+        name,
+        value: Value::Text(value),
+    }
+}
+
+/// A text of any bytes, if it is there.
+pub fn any_text<'v>(name: &'static str, value: Option<&'v [u8]>) -> Cell<'v>
+    ensures { cell_of result ≡ (name.now, maybe Text (option_map (λ v. v.now) value.entry)) }
+{
+    match value {
+        Some(value) => text(name, value),
+        None => nothing(name),
+    }
+}
+
+/// `true` or `false`.
+pub fn truth<'v>(name: &'static str, value: bool) -> Cell<'v>
+    ensures { cell_of result ≡ (name.now, Truth value) }
+{
+    Cell {
+        name,
+        value: Value::Truth(value),
+    }
+}
+
+/// A value that isn't there.
+pub fn nothing<'v>(name: &'static str) -> Cell<'v>
+    ensures { cell_of result ≡ (name.now, Nothing) }
+{
+    Cell {
+        name,
+        value: Value::Nothing,
+    }
+}
