@@ -1,6 +1,5 @@
 -- The machine values of a `Slot`. Assumes `Logic`.
 use Rattle.std.proofs.Common.{◌≡◌, List, [], ◌∷◌, ◌++◌, refl, subst}
-use Rattle.std.specs.Prelude.{Bool}
 use seplogic.Ra.Ura.{Ura}
 use mir.Val.{Val, vbool, vstruct, of_list}
 use types.Logic.{Logic}
