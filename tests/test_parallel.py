@@ -106,6 +106,8 @@ def two_hosts():
                     server.write(
                         f"Port {port}\nListenAddress 127.0.0.1\nHostKey {folder}/host\nAuthorizedKeysFile {folder}/authorized\nPidFile none\n"
                         "StrictModes no\nUsePAM no\nPasswordAuthentication no\nMaxStartups 100\nMaxSessions 100\n"
+                        # Without the user's start-up files, which may write of their own.
+                        f"SetEnv HOME={folder}\n"
                     )
                 client.write(
                     f"Host {name}\nHostName 127.0.0.1\nPort {port}\nUser {getpass.getuser()}\nIdentityFile {folder}/user\nIdentitiesOnly yes\n"
