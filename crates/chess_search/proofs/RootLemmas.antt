@@ -50,10 +50,10 @@ same_int_eq a b h = (Decides-int_eq a b).1 h
 int_eq-below : (a b : ℤ) → a <ℤ b → int_eq a b ≡ false
 int_eq-below a b h = grind (arith, ints, Decides-int_eq a b)
 
-int_lt-true : (a b : ℤ) → a <ℤ b → int_lt a b ≡ true
+pub int_lt-true : (a b : ℤ) → a <ℤ b → int_lt a b ≡ true
 int_lt-true a b h = grind (arith, ints)
 
-int_lt-false : (a b : ℤ) → b ≤ℤ a → int_lt a b ≡ false
+pub int_lt-false : (a b : ℤ) → b ≤ℤ a → int_lt a b ≡ false
 int_lt-false a b h = grind (arith, ints)
 
 -- some move has the greatest worth
@@ -122,3 +122,8 @@ roots_legal listed line roots all same =
 pub part_legal : (p : MoveParts → Bool) (listed line : Line) (moves roots : List MoveParts) → roots ≡ filter p moves → moves ≡ legal_moves (last listed) → line ≡ listed → All (λ m. is_legal (last line) m ≡ true) roots
 part_legal p listed line moves roots part all same =
     subst (All (λ m. is_legal (last line) m ≡ true)) (sym part) (All-filter p (λ m. is_legal (last line) m ≡ true) moves (roots_legal listed line moves all same))
+
+-- each of the legal moves is legal
+pub listed_legal : (listed now : Line) (moves : List MoveParts) (i : ℕ) (m : MoveParts) → moves ≡ legal_moves (last listed) → now ≡ listed → i < length moves → m ≡ get_or moves i m →
+    is_legal (last now) m ≡ true
+listed_legal listed now moves i m all same inside is = root_legal now now moves i m (roots_legal listed now moves all same) inside is refl

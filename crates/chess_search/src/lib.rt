@@ -5,6 +5,7 @@
 #![tactic(auto)]
 
 mod frontier;
+mod guess;
 mod laws;
 mod nodes;
 mod order;

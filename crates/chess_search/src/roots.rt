@@ -1,18 +1,87 @@
-ghost use Rattle.std.specs.Prelude.{◌≡◌, ◌≤◌, ◌+◌, ◌-◌, true, false, length};
+ghost use Rattle.std.specs.Prelude.{◌≡◌, ◌≤◌, ◌+◌, ◌-◌, ◌^◌, ◌≤ℤ◌, true, false, length, min, neg_ℤ, pos};
 ghost use Rattle.std.specs.List.{All};
 ghost use Rattle.chess_types.specs.board.Legal.{is_legal};
 ghost use Rattle.chess_types.specs.board.Lines.{last};
 ghost use Rattle.chess_draws.specs.LineParts.{IsAsBefore};
 ghost use Rattle.chess_search.specs.Best.{best};
 ghost use Rattle.chess_search.specs.Slices.{IsInRange, HasBorder};
+ghost use Rattle.chess_search.specs.Value.{worth};
 ghost use Rattle.chess_search.specs.Asked.{trees_below};
+ghost use Rattle.chess_search.specs.steps.Windows.{best_above};
 
+use crate::guess::guess;
 use crate::nodes::Nodes;
-use crate::search::Searcher;
+use crate::search::{LEAST, Searcher};
 use arrayvec::ArrayVec;
 use chess_draws::Line;
 use chess_types::Move;
 use std::alloc::Allocator;
+
+impl Searcher {
+    /// The better of what is kept and some roots more, which have to be worth more than `least` while none is kept.
+    fn best_above<A: Allocator>(
+        &mut self,
+        line: &mut Line<'_, A>,
+        least: i32,
+        kept: Option<(Move, i32)>,
+        roots: &[Move],
+        depth: u8,
+    ) -> Option<(Move, i32)>
+        requires none { line.old.looked ≡ 0 }
+        requires legal { All (λ m. is_legal (last line.old.line) m ≡ true) roots.now }
+        requires deep { 1 ≤ depth }
+        requires shallow { depth ≤ 16 }
+        requires least { neg_ℤ (pos 30001) ≤ℤ least }
+        requires below { least ≤ℤ pos 30000 }
+        requires kept { IsInRange kept }
+        requires border { HasBorder kept }
+        ensures best { result ≡ best_above (worth self.old.claims (depth - 1) line.old.line 0) least kept roots.now }
+        ensures in_range { IsInRange result }
+        ensures border { HasBorder result }
+        ensures at_least { min (self.old.nodes + length roots.now) (2 ^ 64 - 1) ≤ self.new.nodes }
+        ensures at_most { self.new.nodes ≤ self.old.nodes + trees_below self.old.claims (depth - 1) line.old.line roots.now }
+        ensures claims { self.new.claims ≡ self.old.claims }
+        ensures line { IsAsBefore line.old line.new }
+    {
+        let mut best = kept;
+        for m in roots {
+            best = self.try_above(line, least, best, *m, depth);
+        }
+        best
+    }
+
+    /// The best of the roots. One that is likely to be the best is searched first: a root before it counts where it is worth as much, one
+    /// after it only where it is worth more.
+    fn best_from<A: Allocator>(
+        &mut self,
+        line: &mut Line<'_, A>,
+        roots: &[Move],
+        depth: u8,
+    ) -> Option<(Move, i32)>
+        requires none { line.old.looked ≡ 0 }
+        requires legal { All (λ m. is_legal (last line.old.line) m ≡ true) roots.now }
+        requires deep { 1 ≤ depth }
+        requires shallow { depth ≤ 16 }
+        ensures best { result ≡ best self.old.claims depth line.old.line roots.now }
+        ensures in_range { IsInRange result }
+        ensures border { HasBorder result }
+        ensures at_least { min (self.old.nodes + length roots.now) (2 ^ 64 - 1) ≤ self.new.nodes }
+        ensures at_most { self.new.nodes ≤ self.old.nodes + trees_below self.old.claims (depth - 1) line.old.line roots.now }
+        ensures line { IsAsBefore line.old line.new }
+    {
+        if roots.is_empty() {
+            return None;
+        }
+        let place = guess(line, roots, depth);
+        let guessed = roots[place];
+        let value = self.worth_of(line, guessed, depth);
+        let kept = match self.best_above(line, value - 1, None, &roots[..place], depth) {
+            Some(better) => better,
+            None => (guessed, value),
+        };
+        self.best_above(line, LEAST, Some(kept), &roots[place + 1..], depth)
+    }
+}
 
 /// The first of the roots that is worth most, and its worth in centipawns for the side to move, or 30,000 less the plies to a mate;
 /// `None` of no roots. Draws that may be claimed count as draws where `claims`. The roots are legal moves of the line, no move is
@@ -37,10 +106,7 @@ pub fn best_counted<A: Allocator>(
     ensures line { IsAsBefore line.old line.new }
 {
     let mut searcher = Searcher::new(claims);
-    let mut kept = None;
-    for m in roots.as_slice() {
-        kept = searcher.try_root(line, kept, *m, depth);
-    }
+    let kept = searcher.best_from(line, roots.as_slice(), depth);
     *nodes = searcher.nodes;
     kept
 }

@@ -8,7 +8,7 @@ ghost use Rattle.chess_search.specs.Value.{ended, evaluation_for, value, worth};
 ghost use Rattle.chess_search.specs.Slices.{IsInRange, HasBorder};
 ghost use Rattle.chess_search.specs.Asked.{tree_below, tree_size};
 ghost use Rattle.chess_search.specs.steps.Frontiers.{AreSumsAt, IsFarWhereFree, IsFrontier};
-ghost use Rattle.chess_search.specs.steps.Windows.{FitsWindow, IsDecided, better};
+ghost use Rattle.chess_search.specs.steps.Windows.{FitsWindow, IsDecided, better, better_above};
 
 use crate::frontier::{Frontier, answer_by, frontier_of, sums_after, sums_of};
 use crate::nodes::Nodes;
@@ -35,6 +35,24 @@ const STALEMATE: i32 = 0;
 // What a draw is worth while there are moves.
 const DRAW: i32 = 0;
 
+/// Below what anything is worth.
+pub(crate) const LEAST: i32 = -30001;
+
+/// Above it.
+pub(crate) const MOST: i32 = 30001;
+
+/// White's centipawns as the side counts them, whatever the armies.
+#[inline(always)]
+pub(crate) fn turned_to(side: Colour, white: i32) -> i32
+    requires { IsWithin 57792 white }
+    ensures { result ≡ for_white side white }
+{
+    match side {
+        Colour::White => white,
+        Colour::Black => -white,
+    }
+}
+
 /// White's centipawns as the side counts them.
 #[inline(always)]
 pub(crate) fn for_side(side: Colour, white: i32) -> i32
@@ -43,10 +61,7 @@ pub(crate) fn for_side(side: Colour, white: i32) -> i32
     ensures in_range { IsValue result }
     ensures border { IsApart result }
 {
-    match side {
-        Colour::White => white,
-        Colour::Black => -white,
-    }
+    turned_to(side, white)
 }
 
 // The evaluation for the side to move.
@@ -198,7 +213,7 @@ impl Searcher {
         put_in_order(line.live(), &self.experience, distance, depth, &mut moves);
         let frontier = frontier_of(line, depth, self.claims);
         let here = sums_of(sums, line.live());
-        let mut best: i32 = -30001;
+        let mut best: i32 = LEAST;
         for m in moves.as_slice() {
             let floor = best.max(alpha);
             let answer = self.judge(line, &frontier, &here, *m, depth - 1, distance, floor, beta);
@@ -312,6 +327,67 @@ impl Searcher {
         self.score_with(line, &sums, m, depth, distance, alpha, beta)
     }
 
+    /// What a legal root is worth.
+    pub(crate) fn worth_of<A: Allocator>(
+        &mut self,
+        line: &mut Line<'_, A>,
+        m: Move,
+        depth: u8,
+    ) -> i32
+        requires none { line.old.looked ≡ 0 }
+        requires legal { IsTrue (is_legal (last line.old.line) m) }
+        requires deep { 1 ≤ depth }
+        requires shallow { depth ≤ 16 }
+        ensures value { result ≡ worth self.old.claims (depth - 1) line.old.line 0 m }
+        ensures in_range { IsValue result }
+        ensures border { IsApart result }
+        ensures at_least { min (self.old.nodes + 1) (2 ^ 64 - 1) ≤ self.new.nodes }
+        ensures at_most { self.new.nodes ≤ self.old.nodes + tree_below self.old.claims (depth - 1) line.old.line m }
+        ensures claims { self.new.claims ≡ self.old.claims }
+        ensures line { IsAsBefore line.old line.new }
+    {
+        self.score(line, m, depth - 1, 0, LEAST, MOST)
+    }
+
+    /// The better of what is kept and one root more, which has to be worth more than `least` where none is kept.
+    pub(crate) fn try_above<A: Allocator>(
+        &mut self,
+        line: &mut Line<'_, A>,
+        least: i32,
+        kept: Option<(Move, i32)>,
+        m: Move,
+        depth: u8,
+    ) -> Option<(Move, i32)>
+        requires none { line.old.looked ≡ 0 }
+        requires legal { IsTrue (is_legal (last line.old.line) m) }
+        requires deep { 1 ≤ depth }
+        requires shallow { depth ≤ 16 }
+        requires least { neg_ℤ (pos 30001) ≤ℤ least }
+        requires below { least ≤ℤ pos 30000 }
+        requires kept { IsInRange kept }
+        requires border { HasBorder kept }
+        ensures better { result ≡ better_above least kept m (worth self.old.claims (depth - 1) line.old.line 0 m) }
+        // No root is worth less than the one below all values.
+        ensures any { least ≡ neg_ℤ (pos 30001) → result ≡ better kept m (worth self.old.claims (depth - 1) line.old.line 0 m) }
+        ensures in_range { IsInRange result }
+        ensures border { HasBorder result }
+        ensures at_least { min (self.old.nodes + 1) (2 ^ 64 - 1) ≤ self.new.nodes }
+        ensures at_most { self.new.nodes ≤ self.old.nodes + tree_below self.old.claims (depth - 1) line.old.line m }
+        ensures claims { self.new.claims ≡ self.old.claims }
+        ensures line { IsAsBefore line.old line.new }
+    {
+        let floor = match kept {
+            Some((_, value)) => value,
+            None => least,
+        };
+        let value = self.score(line, m, depth - 1, 0, floor, MOST);
+        if value > floor {
+            Some((m, value))
+        } else {
+            kept
+        }
+    }
+
     /// The better of what is kept and one root more.
     pub(crate) fn try_root<A: Allocator>(
         &mut self,
@@ -334,15 +410,6 @@ impl Searcher {
         ensures claims { self.new.claims ≡ self.old.claims }
         ensures line { IsAsBefore line.old line.new }
     {
-        let floor = match kept {
-            Some((_, value)) => value,
-            None => -30001,
-        };
-        let value = self.score(line, m, depth - 1, 0, floor, 30001);
-        if value > floor {
-            Some((m, value))
-        } else {
-            kept
-        }
+        self.try_above(line, LEAST, kept, m, depth)
     }
 }

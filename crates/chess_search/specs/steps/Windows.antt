@@ -2,7 +2,8 @@
 --   FitsWindow   an answer for a value, of which nothing is asked but on which side of the window it lies, where it isn't inside
 --   IsDecided    an answer for a draw and for an evaluation alike
 --   better       the better of what is kept and one move more
-use Rattle.std.specs.Prelude.{if◌then◌else◌, Option, Some, None, ℤ, pos, ◌≤ℤ◌, ◌<ℤ◌, int_lt}
+--   better_above, best_above   the same of one move or some moves more, where the first that is kept has to be worth more than a number
+use Rattle.std.specs.Prelude.{if◌then◌else◌, List, [], ◌∷◌, Option, Some, None, ℤ, pos, ◌≤ℤ◌, ◌<ℤ◌, int_lt}
 use Rattle.chess_types.specs.board.MoveParts.{MoveParts}
 use Rattle.chess_search.specs.Scores.{IsValue, IsApart}
 
@@ -22,3 +23,13 @@ pub record IsDecided (alpha beta evaluation answer : ℤ) : Type 0 where
 abbrev pub better : Option (MoveParts × ℤ) → MoveParts → ℤ → Option (MoveParts × ℤ)
 better None m v = Some (m, v)
 better (Some kept) m v = if int_lt kept.1 v then Some (m, v) else Some kept
+
+-- the same, but while nothing is kept a move has to be worth more than `least`
+abbrev pub better_above : ℤ → Option (MoveParts × ℤ) → MoveParts → ℤ → Option (MoveParts × ℤ)
+better_above least None m v = if int_lt least v then Some (m, v) else None
+better_above least (Some kept) m v = better (Some kept) m v
+
+-- one move after another
+abbrev pub best_above : (MoveParts → ℤ) → ℤ → Option (MoveParts × ℤ) → List MoveParts → Option (MoveParts × ℤ)
+best_above worth least kept [] = kept
+best_above worth least kept (m ∷ moves) = best_above worth least (better_above least kept m (worth m)) moves
