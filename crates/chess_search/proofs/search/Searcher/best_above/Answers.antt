@@ -4,7 +4,6 @@ use Rattle.std.proofs.lemmas.List.Sums.{sum_by_more}
 use Rattle.chess_search.specs.Value.{worth}
 use Rattle.chess_search.specs.Asked.{tree_below}
 use Rattle.chess_search.specs.steps.Windows.{better_above}
-use Rattle.chess_search.proofs.RootLemmas.{root_legal}
 use Rattle.chess_search.proofs.GuessLemmas.{best_above_more}
 use Rattle.chess_search.proofs.search.Searcher.best_above.Goals as goal
 

@@ -1,6 +1,5 @@
-use Rattle.std.proofs.Common.{◌≡◌, ◌+◌, ◌-◌, ◌≤◌, take, drop, ap, sym, ◌∙◌, refl, arith, inl, inr, to_z, of_z, w32, ◌-ℤ◌, pos, neg_ℤ, Some}
+use Rattle.std.proofs.Common.{◌≡◌, ◌-◌, ap, sym, ◌∙◌, arith, inl, inr, to_z, of_z, w32, ◌-ℤ◌, pos, neg_ℤ, Some}
 use Rattle.std.proofs.lemmas.Int.{ints}
-use Rattle.std.specs.List.{sum_by}
 use Rattle.chess_search.specs.Value.{worth}
 use Rattle.chess_search.specs.Asked.{tree_below}
 use Rattle.chess_search.proofs.GuessLemmas.{guessed_best, guessed_sum}
