@@ -75,6 +75,8 @@ fn promise<A: Allocator>(line: &mut Line<'_, A>, m: Move) -> i32
 
 /// The place of a root that is likely to be the best: the first that leaves most by the evaluation, whatever is captured after it and
 /// captured back. No answer depends on it.
+// (its lists of moves are off the stack again when the search begins)
+#[inline(never)]
 pub(crate) fn guess<A: Allocator>(line: &mut Line<'_, A>, roots: &[Move], depth: u8) -> usize
     requires none { line.old.looked ≡ 0 }
     requires some { 0 < length roots.now }
