@@ -12,14 +12,12 @@ use denote.Builtin.{usize}
 use denote.RawPtr.{RawPtr, ptr_val}
 use denote.Steps.{nothing}
 use denote.Struct.Tuple.{Tuple}
-use denote.Triple.Walked.{Stays, stay_dropped}
-use Rattle.core.proofs.alloc.Calls.{Goes-blank}
 use Rattle.std_alloc.proofs.ResultValues.{and_tt}
 use Rattle.std_alloc.proofs.Pairs.{pair_of, pair_val}
 use Rattle.std.proofs.raw_atomic.Walks.{leaves}
 use Rattle.lent_heap.proofs.Values.{ptr_typed, sized_told}
 use Rattle.lent_heap.specs.Region.{IsBlock}
-use Rattle.lent_heap.proofs.Walks.{slot_at, walks, enters, alone}
+use Rattle.lent_heap.proofs.Walks.{used_up, walks, enters, alone}
 use Rattle.lent_heap.specs.contracts.block.Block.into_raw_parts.{ended, clauses}
 use Rattle.lent_heap.specs.contracts.block.Block.into_raw_parts.Key.{name as #self}
 use Rattle.lent_heap.proofs.block.Block.into_raw_parts.Statement.{statement}
@@ -28,8 +26,7 @@ use Rattle.lent_heap.proofs.block.Block.into_raw_parts.Code as compiled
 pub into_raw_parts_spec : {M : Type 1} → statement M
 into_raw_parts_spec 𝓤 𝓛 𝓜 𝓡 wired =
     let c = clauses 𝓛 𝓜.mem 𝓡.returns in let fn : Fn = compiled.function in
-    let stays : Stays ended.signature.params ended.kept = (stay_dropped (slot_at 0 ended.signature.params) ended.kept.0, tt) in
-    walks 𝓛 ended stays c 𝓜 𝓡 (Goes-blank 𝓛 0 (slot_at 0 ended.signature.params) ended.kept.0 (λ κs x f. tt), tt) #self fn (compiled.unfolded 𝓤 𝓛.H 𝓜 𝓡 wired) (λ z are.
+    walks 𝓛 ended c 𝓜 𝓡 (λ κs x f. tt, tt) #self fn (compiled.unfolded 𝓤 𝓛.H 𝓜 𝓡 wired) (λ z are.
     let x = z.0.3.0 in let n = x.size in let told = sized_told x.ptr n z.0.4.0 are.0.0 in let fits = told.1 in
     let Said : Type 0 = IsBlock x.region x.ptr x.at n × (n ≡ n) in
     alone ! $ fsplit ! $ drop ! $ enters ! fn (λ i. told.0 i ++ []) $
@@ -39,4 +36,4 @@ into_raw_parts_spec 𝓤 𝓛 𝓜 𝓡 wired =
     sets ! (agg ! (and_then ! (get ! refl) (and_then ! (get ! refl) (no_more !)))) refl (and_tt _ ((ptr_typed x.ptr).0), ((ptr_typed x.ptr).1, (record { fits = fits }, tt))) $
     returns ! (look_at ! 0 refl) $ free_all ! refl $
     use0 𝓛 (raw (fact 𝓤 Said)) (fact_i 𝓤 Said (emp 𝓤) (x.placed, refl)) $ join ! $ flt_i ! n (2 ^ 64) fits $ feq_i ! (List Val) (vint w64 n ∷ []) (vint w64 n ∷ []) refl $ fjoin ! $ feq_i ! (List Val) (ptr_val x.ptr ∷ []) (ptr_val x.ptr ∷ []) refl $ use2 𝓛 (‵ ((Tuple (RawPtr ∷ usize ∷ [])).own_val (x.ptr, n) (pair_val (ptr_val x.ptr) (vint w64 n) ∷ []))) (pair_of 𝓛 (RawPtr) (usize) (x.ptr) (n) (ptr_val x.ptr) (vint w64 n)) $ nothing ! $ nothing ! $ fjoin ! $ move ! (3 ∷ 0 ∷ 1 ∷ 2 ∷ []) $
-    by ! (leaves 𝓛 ended stays c z (pair_val (ptr_val x.ptr) (vint w64 n)) (x.ptr, n) (tt, tt) (tt, tt))))
+    by ! (leaves 𝓛 ended (used_up ended) c z (pair_val (ptr_val x.ptr) (vint w64 n)) (x.ptr, n) (tt, tt) (tt, tt))))

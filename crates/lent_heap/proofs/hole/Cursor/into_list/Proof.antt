@@ -9,8 +9,6 @@ use types.Run.{stop, fld, of_opd, no_more, and_then, returns}
 use types.ByLocal.{alloc_all, pass_all, free_all, look_at, get, get_in, sets}
 use denote.RawPtr.{Ptr, null_ptr}
 use denote.Steps.{nothing}
-use denote.Triple.Walked.{Stays, stay_dropped}
-use Rattle.core.proofs.alloc.Calls.{Goes-blank}
 use Rattle.std.proofs.raw_atomic.Walks.{leaves}
 use Rattle.lent_heap.proofs.Values.{list_val, list_own, list_made}
 use Rattle.lent_heap.proofs.Order.{holes_of, listed}
@@ -18,7 +16,7 @@ use Rattle.lent_heap.proofs.Nodes.{links_append}
 use Rattle.lent_heap.specs.Region.{Region}
 use Rattle.lent_heap.specs.Holes.{Span}
 use Rattle.lent_heap.specs.Ownership.{chain}
-use Rattle.lent_heap.proofs.Walks.{slot_at, walks, enters, alone}
+use Rattle.lent_heap.proofs.Walks.{used_up, walks, enters, alone}
 use Rattle.lent_heap.proofs.Cursors.{start_of, cursor_is, cursor_out}
 use Rattle.lent_heap.specs.contracts.hole.HoleList as list
 use Rattle.lent_heap.specs.contracts.hole.Cursor.into_list.{ended, clauses}
@@ -29,8 +27,7 @@ use Rattle.lent_heap.proofs.hole.Cursor.into_list.Code as compiled
 pub into_list_spec : {M : Type 1} → statement M
 into_list_spec 𝓤 𝓛 𝓜 𝓡 wired =
     let c = clauses 𝓛 𝓜.mem 𝓡.returns in let fn : Fn = compiled.function in
-    let stays : Stays ended.signature.params ended.kept = (stay_dropped (slot_at 0 ended.signature.params) ended.kept.0, tt) in
-    walks 𝓛 ended stays c 𝓜 𝓡 (Goes-blank 𝓛 0 (slot_at 0 ended.signature.params) ended.kept.0 (λ κs x f. tt), tt) #self fn (compiled.unfolded 𝓤 𝓛.H 𝓜 𝓡 wired) (λ z are.
+    walks 𝓛 ended c 𝓜 𝓡 (λ κs x f. tt, tt) #self fn (compiled.unfolded 𝓤 𝓛.H 𝓜 𝓡 wired) (λ z are.
     let x = z.0.3.0 in let r : Region = x.region in let b = r.block in let u : Span = x.current in let start : Ptr = start_of x in
     let all = listed r x.before u x.after x.sorted in let holes : List Span = holes_of x.before u x.after in
     alone ! $ cursor_out ! x z.0.4.0 $ enters ! fn (λ i. cursor_is x z.0.4.0 are.0.0 i ++ []) $
@@ -41,4 +38,4 @@ into_list_spec 𝓤 𝓛 𝓜 𝓡 wired =
     returns ! (look_at ! 0 refl) $ free_all ! refl $
     let y : (list.the_row).Denot = record { first = start; region = r; holes = holes; placed = (refl, x.placed.2); sorted = all.1 } in
     use0 𝓛 (‵ (list_own start (list_val start ∷ []))) (list_made 𝓛 start tt) $ fjoin ! $ use0 𝓛 (raw (fact 𝓤 ((r ≡ r) × ((r.start, 0) ∷ holes ≡ x.before ++ u ∷ x.after)))) (fact_i 𝓤 ((r ≡ r) × ((r.start, 0) ∷ holes ≡ x.before ++ u ∷ x.after)) (emp 𝓤) (refl, all.0)) $ nothing ! $ nothing ! $ fjoin ! $ move ! (3 ∷ 0 ∷ 2 ∷ 1 ∷ []) $
-    by ! (leaves 𝓛 ended stays c z (list_val start) (y) (tt, tt) (tt, tt))))
+    by ! (leaves 𝓛 ended (used_up ended) c z (list_val start) (y) (tt, tt) (tt, tt))))

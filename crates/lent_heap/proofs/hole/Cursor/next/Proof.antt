@@ -15,12 +15,11 @@ use denote.RattleType.{RattleType}
 use denote.RawPtr.{Ptr, block_ptr, tests_null}
 use denote.Signature.{type_at}
 use denote.Steps.{nothing}
-use denote.Triple.Walked.{Stays, stay_dropped, walk_of}
-use Rattle.core.proofs.alloc.Calls.{Goes-blank}
+use denote.Triple.Walked.{walk_of}
 use Rattle.core.proofs.alloc.Shapes.{after, head, inside}
 use Rattle.std_alloc.proofs.ResultValues.{ok_of, err_of}
 use Rattle.std.proofs.raw_atomic.Walks.{leaves}
-use Rattle.lent_heap.proofs.Walks.{slot_at, walks, enters, then_runs, out_of_block, alone}
+use Rattle.lent_heap.proofs.Walks.{used_up, walks, enters, then_runs, out_of_block, alone}
 use Rattle.lent_heap.proofs.Values.{cursor_val}
 use Rattle.lent_heap.proofs.Cursors.{Cursor, start_of, here_of, cursor_is, moved, cursor_out, next_hole, stands, moves_on}
 use Rattle.lent_heap.proofs.Order.{current_facts, next_facts}
@@ -34,9 +33,8 @@ use Rattle.lent_heap.proofs.hole.Cursor.next.Code as compiled
 pub next_spec : {M : Type 1} → statement M
 next_spec 𝓤 𝓛 𝓜 𝓡 wired =
     let 𝓣 = tables 𝓤 𝓛.H 𝓜 𝓡 𝓡.env in let c = clauses 𝓛 𝓜.mem 𝓡.returns in let fn : Fn = compiled.function in
-    let stays : Stays ended.signature.params ended.kept = (stay_dropped (slot_at 0 ended.signature.params) ended.kept.0, tt) in
-    walks 𝓛 ended stays c 𝓜 𝓡 (Goes-blank 𝓛 0 (slot_at 0 ended.signature.params) ended.kept.0 (λ κs x f. tt), tt) #self fn (compiled.unfolded 𝓤 𝓛.H 𝓜 𝓡 wired) (λ z are.
-    let Post : Val → SProp 𝓤 = (walk_of 𝓛 ended stays c).post z in let Out : RattleType = type_at ended.signature.result z.0.0 in
+    walks 𝓛 ended c 𝓜 𝓡 (λ κs x f. tt, tt) #self fn (compiled.unfolded 𝓤 𝓛.H 𝓜 𝓡 wired) (λ z are.
+    let Post : Val → SProp 𝓤 = (walk_of 𝓛 ended (used_up ended) c).post z in let Out : RattleType = type_at ended.signature.result z.0.0 in
     let x = z.0.3.0 in let r : Region = x.region in let b = r.block in let u : Span = x.current in
     let top = x.placed.2.0 in let below = (current_facts r x.before u x.after x.sorted).2 in let v : Val = cursor_val (start_of x) (here_of x) in
     alone ! $ cursor_out ! x z.0.4.0 $ enters ! fn (λ i. cursor_is x z.0.4.0 are.0.0 i ++ []) $
@@ -56,7 +54,7 @@ next_spec 𝓤 𝓛 𝓜 𝓡 wired =
     returns ! (look_at ! 0 refl) $ free_all ! refl $
     stands ! x [] none $ use1 𝓛 (‵ (Out.own_val (Err x) (live 1 (vcons v vnil) ∷ []))) (err_of 𝓛 Cursor Cursor x v) $
     use0 𝓛 (raw (fact 𝓤 ((x ≡ x) × (x.after ≡ [])))) (fact_i 𝓤 ((x ≡ x) × (x.after ≡ [])) (emp 𝓤) (refl, none)) $ nothing ! $ nothing ! $ fjoin ! $ move ! (3 ∷ 0 ∷ 2 ∷ 1 ∷ []) $
-    by ! (leaves 𝓛 ended stays c z (live 1 (vcons v vnil)) (Err x) (tt, tt) (tt, tt)))
+    by ! (leaves 𝓛 ended (used_up ended) c z (live 1 (vcons v vnil)) (Err x) (tt, tt) (tt, tt)))
     (λ n0. absurd n0))
     (λ h hs more.
     let ahead = next_facts r x.before u h hs (subst (IsCursor r x.before u) more x.sorted) in let gap = ahead.0 in let units = ahead.1 in let under = ahead.2 in
@@ -74,4 +72,4 @@ next_spec 𝓤 𝓛 𝓜 𝓡 wired =
     returns ! (look_at ! 0 refl) $ free_all ! refl $
     moves_on ! x h hs more $ use1 𝓛 (‵ (Out.own_val (Ok y) (live 0 (vcons w vnil) ∷ []))) (ok_of 𝓛 Cursor Cursor y w) $
     use0 𝓛 (raw (fact 𝓤 ((r ≡ r) × Advances x.before u x.after (x.before ++ u ∷ []) h hs))) (fact_i 𝓤 ((r ≡ r) × Advances x.before u x.after (x.before ++ u ∷ []) h hs) (emp 𝓤) (refl, (refl, more))) $ nothing ! $ nothing ! $ fjoin ! $ move ! (3 ∷ 0 ∷ 2 ∷ 1 ∷ []) $
-    by ! (leaves 𝓛 ended stays c z (live 0 (vcons w vnil)) (Ok y) (tt, tt) (tt, tt))))))
+    by ! (leaves 𝓛 ended (used_up ended) c z (live 0 (vcons w vnil)) (Ok y) (tt, tt) (tt, tt))))))

@@ -18,13 +18,12 @@ use denote.RawPtr.{Ptr, block_ptr, null_ptr, tests_null}
 use denote.Signature.{type_at}
 use denote.Steps.{nothing, heard}
 use denote.Struct.Tuple.{Tuple}
-use denote.Triple.Walked.{Stays, stay_dropped, walk_of, Goes-dropped}
-use Rattle.core.proofs.alloc.Calls.{Goes-blank}
+use denote.Triple.Walked.{walk_of}
 use Rattle.core.proofs.alloc.Shapes.{after, head, inside}
 use Rattle.std_alloc.proofs.ResultValues.{and_tt, ok_of, err_of}
 use Rattle.std_alloc.proofs.Pairs.{pair_of, pair_val}
 use Rattle.std.proofs.raw_atomic.Walks.{leaves}
-use Rattle.lent_heap.proofs.Walks.{slot_at, apart, then_runs, out_of_block, walks, enters}
+use Rattle.lent_heap.proofs.Walks.{used_up, apart, then_runs, out_of_block, walks, enters}
 use Rattle.lent_heap.proofs.Cursors.{named_hole, Cursor, start_of, here_of, cursor_is, cursor_out, next_hole, stands}
 use Rattle.lent_heap.proofs.Blocks.{Block, block_in}
 use Rattle.lent_heap.proofs.Values.{ptr_typed, cursor_val, sized_val}
@@ -45,9 +44,8 @@ use Rattle.lent_heap.proofs.hole.Cursor.split_next.Code as compiled
 pub split_next_spec : {M : Type 1} → statement M
 split_next_spec 𝓤 𝓛 𝓜 𝓡 wired =
     let 𝓣 = tables 𝓤 𝓛.H 𝓜 𝓡 𝓡.env in let c = clauses 𝓛 𝓜.mem 𝓡.returns in let fn : Fn = compiled.function in
-    let stays : Stays ended.signature.params ended.kept = (stay_dropped (slot_at 0 ended.signature.params) ended.kept.0, (stay_dropped (slot_at 1 ended.signature.params) ended.kept.1.0, tt)) in
-    walks 𝓛 ended stays c 𝓜 𝓡 (Goes-blank 𝓛 0 (slot_at 0 ended.signature.params) ended.kept.0 (λ κs x f. tt), (Goes-dropped 𝓛 0 (slot_at 1 ended.signature.params) ended.kept.1.0 (λ κs x f. refl), tt)) #self fn (compiled.unfolded 𝓤 𝓛.H 𝓜 𝓡 wired) (λ z are.
-    let Post : Val → SProp 𝓤 = (walk_of 𝓛 ended stays c).post z in let Out : RattleType = type_at ended.signature.result z.0.0 in
+    walks 𝓛 ended c 𝓜 𝓡 (λ κs x f. tt, (λ κs x f. tt, tt)) #self fn (compiled.unfolded 𝓤 𝓛.H 𝓜 𝓡 wired) (λ z are.
+    let Post : Val → SProp 𝓤 = (walk_of 𝓛 ended (used_up ended) c).post z in let Out : RattleType = type_at ended.signature.result z.0.0 in
     let x = z.0.3.0 in let r : Region = x.region in let b = r.block in let u : Span = x.current in let start : Ptr = start_of x in let here : Ptr = here_of x in
     let top = x.placed.2.0 in let below = (current_facts r x.before u x.after x.sorted).2 in
     let n = z.0.3.1.0 in let Asked : Type 0 = IsBlockSize n in
@@ -65,7 +63,7 @@ split_next_spec 𝓤 𝓛 𝓜 𝓡 wired =
     returns_within ! Post refl (look_at ! 0 refl) $ free_all ! refl $
     stands ! x [] none $
     use1 𝓛 (‵ (Out.own_val (Err x) (live 1 (vcons (cursor_val start here) vnil) ∷ []))) (err_of 𝓛 (Tuple (Block ∷ Cursor ∷ [])) Cursor x (cursor_val start here)) $ use0 𝓛 (raw (fact 𝓤 ((x ≡ x) × Skips n x.after))) (fact_i 𝓤 ((x ≡ x) × Skips n x.after) (emp 𝓤) (refl, subst (Skips n) (sym none) (tt))) $ nothing ! $ nothing ! $ fjoin ! $ nothing ! $ fjoin ! $ move ! (3 ∷ 0 ∷ 2 ∷ 1 ∷ []) $
-    by ! (leaves 𝓛 ended stays c z (live 1 (vcons (cursor_val start here) vnil)) (Err x) (tt, (tt, tt)) (tt, (tt, tt))))
+    by ! (leaves 𝓛 ended (used_up ended) c z (live 1 (vcons (cursor_val start here) vnil)) (Err x) (tt, (tt, tt)) (tt, (tt, tt))))
     (λ n0. absurd n0))
     (λ h hs more.
     let sorted : IsCursor r x.before u (h ∷ hs) = subst (IsCursor r x.before u) more x.sorted in let ahead = next_facts r x.before u h hs sorted in let gap = ahead.0 in let units = ahead.1 in let under = ahead.2 in
@@ -84,7 +82,7 @@ split_next_spec 𝓤 𝓛 𝓜 𝓡 wired =
     returns_within ! Post refl (look_at ! 0 refl) $ free_all ! refl $
     stands ! x (h ∷ hs) more $
     use1 𝓛 (‵ (Out.own_val (Err x) (live 1 (vcons (cursor_val start here) vnil) ∷ []))) (err_of 𝓛 (Tuple (Block ∷ Cursor ∷ [])) Cursor x (cursor_val start here)) $ use0 𝓛 (raw (fact 𝓤 ((x ≡ x) × Skips n x.after))) (fact_i 𝓤 ((x ≡ x) × Skips n x.after) (emp 𝓤) (refl, subst (Skips n) (sym more) (ltb→lt h.1 n y1))) $ nothing ! $ nothing ! $ fjoin ! $ nothing ! $ fjoin ! $ move ! (3 ∷ 0 ∷ 2 ∷ 1 ∷ []) $
-    by ! (leaves 𝓛 ended stays c z (live 1 (vcons (cursor_val start here) vnil)) (Err x) (tt, (tt, tt)) (tt, (tt, tt))))
+    by ! (leaves 𝓛 ended (used_up ended) c z (live 1 (vcons (cursor_val start here) vnil)) (Err x) (tt, (tt, tt)) (tt, (tt, tt))))
     (λ n1. let enough : n ≤ h.1 = nltb→le h.1 n n1 in
     skips ! $ exec ! 𝓣.C 𝓣.Λ En (after 6 (inside (head (after 2 fn.body)))) (out_of_block 𝓛 (then_runs 𝓛 𝓣.C 𝓣.Λ En (after 3 fn.body) (at_ret En Post))) $
     sets ! (of_opd ! (load ! (through ! refl (fld ! refl (stop !))) (look_in ! 2 (sub ! 1 refl (whole !))))) refl (ptr_typed far) $
@@ -106,7 +104,7 @@ split_next_spec 𝓤 𝓛 𝓜 𝓡 wired =
     let y : Cursor.Denot = record { first = start; hole = here; region = r; before = x.before; current = u; after = hs; placed = (refl, refl, x.placed.2); sorted = unlinked r x.before u h hs sorted } in
     stands ! y hs refl $ move ! (1 ∷ []) $ block_in ! w are.1.0.1 $ use2 𝓛 (‵ ((Tuple (Block ∷ Cursor ∷ [])).own_val (w, y) (pair_val (sized_val next n) (cursor_val start here) ∷ []))) (pair_of 𝓛 Block Cursor (w) (y) (sized_val next n) (cursor_val start here)) $ let v : Val = pair_val (sized_val next n) (cursor_val start here) in
     use1 𝓛 (‵ (Out.own_val (Ok (w, y)) (live 0 (vcons (v) vnil) ∷ []))) (ok_of 𝓛 (Tuple (Block ∷ Cursor ∷ [])) Cursor (w, y) (v)) $ use0 𝓛 (raw (fact 𝓤 ((r ≡ r) × (n ≡ n) × (r ≡ r) × (x.before ≡ x.before) × (u ≡ u) × Splits n x.after h.0 (hs)))) (fact_i 𝓤 ((r ≡ r) × (n ≡ n) × (r ≡ r) × (x.before ≡ x.before) × (u ≡ u) × Splits n x.after h.0 (hs)) (emp 𝓤) (refl, refl, refl, refl, refl, subst (λ (l : List Span). Splits n l h.0 (hs)) (sym more) (enough, refl, sym (ap (λ (t : Bool). cond t hs ((h.0 + n, h.1 - n) ∷ hs)) (eq-eqb h.1 n exact))))) $ nothing ! $ nothing ! $ fjoin ! $ nothing ! $ fjoin ! $ move ! (3 ∷ 0 ∷ 2 ∷ 1 ∷ []) $
-    by ! (leaves 𝓛 ended stays c z (live 0 (vcons (v) vnil)) (Ok (w, y)) (tt, (tt, tt)) (tt, (tt, tt))))
+    by ! (leaves 𝓛 ended (used_up ended) c z (live 0 (vcons (v) vnil)) (Ok (w, y)) (tt, (tt, tt)) (tt, (tt, tt))))
     (λ n2. let other = apart h.1 n n2 in let left : Span = (h.0 + n, h.1 - n) in let back : Ptr = block_ptr b (h.0 + n) in
     use1 𝓛 (‵ (bytes_at next (n + extent left.1))) (resized 𝓛 b h.0 (extent h.1) (n + extent left.1) (omega arith)) $
     use1 𝓛 (‵ (bytes_at next n) ⊛ ‵ (bytes_at back (extent left.1))) (cuts 𝓛 b h.0 n (extent left.1) even) $ split ! $ move ! (1 ∷ []) $
@@ -130,4 +128,4 @@ split_next_spec 𝓤 𝓛 𝓜 𝓡 wired =
     let y : Cursor.Denot = record { first = start; hole = here; region = r; before = x.before; current = u; after = left ∷ hs; placed = (refl, refl, x.placed.2); sorted = replaced r x.before u h hs sorted n asked (omega arith) } in
     stands ! y (left ∷ hs) refl $ move ! (1 ∷ []) $ block_in ! w are.1.0.1 $ use2 𝓛 (‵ ((Tuple (Block ∷ Cursor ∷ [])).own_val (w, y) (pair_val (sized_val next n) (cursor_val start here) ∷ []))) (pair_of 𝓛 Block Cursor (w) (y) (sized_val next n) (cursor_val start here)) $ let v : Val = pair_val (sized_val next n) (cursor_val start here) in
     use1 𝓛 (‵ (Out.own_val (Ok (w, y)) (live 0 (vcons (v) vnil) ∷ []))) (ok_of 𝓛 (Tuple (Block ∷ Cursor ∷ [])) Cursor (w, y) (v)) $ use0 𝓛 (raw (fact 𝓤 ((r ≡ r) × (n ≡ n) × (r ≡ r) × (x.before ≡ x.before) × (u ≡ u) × Splits n x.after h.0 (left ∷ hs)))) (fact_i 𝓤 ((r ≡ r) × (n ≡ n) × (r ≡ r) × (x.before ≡ x.before) × (u ≡ u) × Splits n x.after h.0 (left ∷ hs)) (emp 𝓤) (refl, refl, refl, refl, refl, subst (λ (l : List Span). Splits n l h.0 (left ∷ hs)) (sym more) (enough, refl, sym (ap (λ (t : Bool). cond t hs ((h.0 + n, h.1 - n) ∷ hs)) (ne_eqb h.1 n other))))) $ nothing ! $ nothing ! $ fjoin ! $ nothing ! $ fjoin ! $ move ! (3 ∷ 0 ∷ 2 ∷ 1 ∷ []) $
-    by ! (leaves 𝓛 ended stays c z (live 0 (vcons (v) vnil)) (Ok (w, y)) (tt, (tt, tt)) (tt, (tt, tt))))))))))
+    by ! (leaves 𝓛 ended (used_up ended) c z (live 0 (vcons (v) vnil)) (Ok (w, y)) (tt, (tt, tt)) (tt, (tt, tt))))))))))

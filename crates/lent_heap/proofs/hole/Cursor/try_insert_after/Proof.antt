@@ -18,13 +18,12 @@ use denote.RawPtr.{Ptr, block_ptr, null_ptr, tests_order, tests_null}
 use denote.Signature.{type_at}
 use denote.Steps.{nothing, heard}
 use denote.Struct.Tuple.{Tuple}
-use denote.Triple.Walked.{Stays, stay_dropped, walk_of}
-use Rattle.core.proofs.alloc.Calls.{Goes-blank}
+use denote.Triple.Walked.{walk_of}
 use Rattle.core.proofs.alloc.Shapes.{after, head, inside}
 use Rattle.std_alloc.proofs.ResultValues.{ok_of, err_of}
 use Rattle.std_alloc.proofs.Pairs.{pair_of, pair_val}
 use Rattle.std.proofs.raw_atomic.Walks.{leaves}
-use Rattle.lent_heap.proofs.Walks.{slot_at, then_runs, out_of_block, learns, walks, enters}
+use Rattle.lent_heap.proofs.Walks.{used_up, then_runs, out_of_block, learns, walks, enters}
 use Rattle.lent_heap.proofs.Cursors.{named_hole, Cursor, start_of, here_of, cursor_is, moved, cursor_out, next_hole, stands, moves_on}
 use Rattle.lent_heap.proofs.Blocks.{Block, block_in}
 use Rattle.lent_heap.proofs.Values.{cursor_val, sized_val, sized_told}
@@ -44,9 +43,8 @@ use Rattle.lent_heap.proofs.hole.Cursor.try_insert_after.Code as compiled
 pub try_insert_after_spec : {M : Type 1} → statement M
 try_insert_after_spec 𝓤 𝓛 𝓜 𝓡 wired =
     let 𝓣 = tables 𝓤 𝓛.H 𝓜 𝓡 𝓡.env in let c = clauses 𝓛 𝓜.mem 𝓡.returns in let fn : Fn = compiled.function in
-    let stays : Stays ended.signature.params ended.kept = (stay_dropped (slot_at 0 ended.signature.params) ended.kept.0, (stay_dropped (slot_at 1 ended.signature.params) ended.kept.1.0, tt)) in
-    walks 𝓛 ended stays c 𝓜 𝓡 (Goes-blank 𝓛 0 (slot_at 0 ended.signature.params) ended.kept.0 (λ κs x f. tt), (Goes-blank 𝓛 0 (slot_at 1 ended.signature.params) ended.kept.1.0 (λ κs x f. tt), tt)) #self fn (compiled.unfolded 𝓤 𝓛.H 𝓜 𝓡 wired) (λ z are.
-    let Post : Val → SProp 𝓤 = (walk_of 𝓛 ended stays c).post z in let Out : RattleType = type_at ended.signature.result z.0.0 in
+    walks 𝓛 ended c 𝓜 𝓡 (λ κs x f. tt, (λ κs x f. tt, tt)) #self fn (compiled.unfolded 𝓤 𝓛.H 𝓜 𝓡 wired) (λ z are.
+    let Post : Val → SProp 𝓤 = (walk_of 𝓛 ended (used_up ended) c).post z in let Out : RattleType = type_at ended.signature.result z.0.0 in
     let x = z.0.3.0 in let r : Region = x.region in let b = r.block in let u : Span = x.current in let start : Ptr = start_of x in let here : Ptr = here_of x in
     let top = x.placed.2.0 in let below = (current_facts r x.before u x.after x.sorted).2 in
     let w = z.0.3.1.0 in let n = w.size in let s : Span = (w.at, n) in let from : Ptr = block_ptr b s.0 in let sized = sized_told w.ptr n z.0.4.1.0 are.1.0.0 in let fits = sized.1 in
@@ -82,7 +80,7 @@ try_insert_after_spec 𝓤 𝓛 𝓜 𝓡 wired =
     returns ! (look_at ! 0 refl) $ free_all ! refl $
     fjoin ! $ move ! (0 ∷ 3 ∷ []) $ fjoin ! $ move ! (1 ∷ 2 ∷ []) $ let y : Cursor.Denot = record { first = start; hole = here; region = r; before = x.before; current = u; after = s ∷ []; placed = (refl, refl, x.placed.2); sorted = inserted_last r x.before u s (subst (IsCursor r x.before u) none x.sorted) w.placed.4 above inside' } in
     stands ! y (s ∷ []) refl $ use1 𝓛 (‵ (Out.own_val (Ok y) (live 0 (vcons (cursor_val start here) vnil) ∷ []))) (ok_of 𝓛 Cursor (Tuple (Cursor ∷ Block ∷ [])) y (cursor_val start here)) $ use0 𝓛 (raw (fact 𝓤 ((r ≡ r) × (x.before ≡ x.before) × (u ≡ u) × Inserts s u x.after (s ∷ [])))) (fact_i 𝓤 ((r ≡ r) × (x.before ≡ x.before) × (u ≡ u) × Inserts s u x.after (s ∷ [])) (emp 𝓤) (refl, refl, refl, subst (λ (l : List Span). Inserts s u l (s ∷ [])) (sym none) (refl, above, tt))) $ nothing ! $ nothing ! $ fjoin ! $ nothing ! $ fjoin ! $ move ! (3 ∷ 0 ∷ 2 ∷ 1 ∷ []) $
-    by ! (leaves 𝓛 ended stays c z (live 0 (vcons (cursor_val start here) vnil)) (Ok y) (tt, (tt, tt)) (tt, (tt, tt))))
+    by ! (leaves 𝓛 ended (used_up ended) c z (live 0 (vcons (cursor_val start here) vnil)) (Ok y) (tt, (tt, tt)) (tt, (tt, tt))))
     (λ n1. absurd n1))
     (λ n0. absurd n0)))
     (λ h hs more.
@@ -113,7 +111,7 @@ try_insert_after_spec 𝓤 𝓛 𝓜 𝓡 wired =
     returns ! (look_at ! 0 refl) $ free_all ! refl $
     fjoin ! $ move ! (0 ∷ 3 ∷ []) $ fjoin ! $ move ! (1 ∷ 2 ∷ []) $ let y : Cursor.Denot = record { first = start; hole = here; region = r; before = x.before; current = u; after = s ∷ h ∷ hs; placed = (refl, refl, x.placed.2); sorted = inserted r x.before u h hs sorted s w.placed.4 above ends } in
     stands ! y (s ∷ h ∷ hs) refl $ use1 𝓛 (‵ (Out.own_val (Ok y) (live 0 (vcons (cursor_val start here) vnil) ∷ []))) (ok_of 𝓛 Cursor (Tuple (Cursor ∷ Block ∷ [])) y (cursor_val start here)) $ use0 𝓛 (raw (fact 𝓤 ((r ≡ r) × (x.before ≡ x.before) × (u ≡ u) × Inserts s u x.after (s ∷ h ∷ hs)))) (fact_i 𝓤 ((r ≡ r) × (x.before ≡ x.before) × (u ≡ u) × Inserts s u x.after (s ∷ h ∷ hs)) (emp 𝓤) (refl, refl, refl, subst (λ (l : List Span). Inserts s u l (s ∷ h ∷ hs)) (sym more) (refl, above, before))) $ nothing ! $ nothing ! $ fjoin ! $ nothing ! $ fjoin ! $ move ! (3 ∷ 0 ∷ 2 ∷ 1 ∷ []) $
-    by ! (leaves 𝓛 ended stays c z (live 0 (vcons (cursor_val start here) vnil)) (Ok y) (tt, (tt, tt)) (tt, (tt, tt)))))
+    by ! (leaves 𝓛 ended (used_up ended) c z (live 0 (vcons (cursor_val start here) vnil)) (Ok y) (tt, (tt, tt)) (tt, (tt, tt)))))
     (λ n1. sets ! (agg ! (and_then ! (get ! refl) (and_then ! (get ! refl) (no_more !)))) refl (tt, (tt, (tt, tt))) $
     sets ! (agg ! (and_then ! (get ! refl) (and_then ! (get ! refl) (no_more !)))) refl (tt, (tt, (record { fits = fits }, tt))) $
     sets ! (agg ! (and_then ! (get ! refl) (and_then ! (get ! refl) (no_more !)))) refl (tt, ((tt, (tt, tt)), ((tt, (record { fits = fits }, tt)), tt))) $
@@ -126,4 +124,4 @@ try_insert_after_spec 𝓤 𝓛 𝓜 𝓡 wired =
     let y : Cursor.Denot = moved x h hs more in moves_on ! x h hs more $ move ! (1 ∷ []) $ rewrite ! 0 (λ (p : Ptr). ‵ (bytes_at p n)) (sym lies) refl $
     block_in ! w sized.1 $ rewrite ! 0 (λ (p : Ptr). ‵ (Block.own_val w (sized_val p n ∷ []))) lies refl $ move ! (1 ∷ 0 ∷ []) $ use2 𝓛 (‵ ((Tuple (Cursor ∷ Block ∷ [])).own_val (y, w) (pair_val (cursor_val start next) (sized_val from n) ∷ []))) (pair_of 𝓛 Cursor Block (y) (w) (cursor_val start next) (sized_val from n)) $ let v : Val = pair_val (cursor_val start next) (sized_val from n) in
     use1 𝓛 (‵ (Out.own_val (Err (y, w)) (live 1 (vcons (v) vnil) ∷ []))) (err_of 𝓛 Cursor (Tuple (Cursor ∷ Block ∷ [])) (y, w) (v)) $ use0 𝓛 (raw (fact 𝓤 ((r ≡ r) × (w ≡ w) × (h.0 ≤ w.at) × Advances x.before u x.after (x.before ++ u ∷ []) h hs))) (fact_i 𝓤 ((r ≡ r) × (w ≡ w) × (h.0 ≤ w.at) × Advances x.before u x.after (x.before ++ u ∷ []) h hs) (emp 𝓤) (refl, refl, nltb→le s.0 h.0 n1, (refl, more))) $ nothing ! $ nothing ! $ fjoin ! $ nothing ! $ fjoin ! $ move ! (3 ∷ 0 ∷ 2 ∷ 1 ∷ []) $
-    by ! (leaves 𝓛 ended stays c z (live 1 (vcons (v) vnil)) (Err (y, w)) (tt, (tt, tt)) (tt, (tt, tt))))))))))
+    by ! (leaves 𝓛 ended (used_up ended) c z (live 1 (vcons (v) vnil)) (Err (y, w)) (tt, (tt, tt)) (tt, (tt, tt))))))))))

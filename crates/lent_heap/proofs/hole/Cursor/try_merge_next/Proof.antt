@@ -12,11 +12,10 @@ use types.Run.{stop, fld, load, lit, bin, of_opd, no_more, and_then, assigns, fi
 use types.ByLocal.{alloc_all, pass_all, free_all, look_at, get, get_in, through, sets, sets_last, env}
 use denote.RawPtr.{Ptr, block_ptr, null_ptr, tests_same, tests_null}
 use denote.Steps.{nothing}
-use denote.Triple.Walked.{Stays, stay_dropped, walk_of}
-use Rattle.core.proofs.alloc.Calls.{Goes-blank}
+use denote.Triple.Walked.{walk_of}
 use Rattle.core.proofs.alloc.Shapes.{after, head, inside}
 use Rattle.std.proofs.raw_atomic.Walks.{leaves}
-use Rattle.lent_heap.proofs.Walks.{slot_at, apart, then_runs, out_of_block, walks, enters, alone}
+use Rattle.lent_heap.proofs.Walks.{used_up, apart, then_runs, out_of_block, walks, enters, alone}
 use Rattle.lent_heap.proofs.Cursors.{Cursor, start_of, here_of, cursor_is, moved, cursor_out, next_hole, stands, moves_on}
 use Rattle.lent_heap.proofs.Values.{ptr_typed, cursor_val}
 use Rattle.lent_heap.proofs.Order.{current_facts, next_facts, absorbed}
@@ -34,9 +33,8 @@ use Rattle.lent_heap.proofs.hole.Cursor.try_merge_next.Code as compiled
 pub try_merge_next_spec : {M : Type 1} → statement M
 try_merge_next_spec 𝓤 𝓛 𝓜 𝓡 wired =
     let 𝓣 = tables 𝓤 𝓛.H 𝓜 𝓡 𝓡.env in let c = clauses 𝓛 𝓜.mem 𝓡.returns in let fn : Fn = compiled.function in
-    let stays : Stays ended.signature.params ended.kept = (stay_dropped (slot_at 0 ended.signature.params) ended.kept.0, tt) in
-    walks 𝓛 ended stays c 𝓜 𝓡 (Goes-blank 𝓛 0 (slot_at 0 ended.signature.params) ended.kept.0 (λ κs x f. tt), tt) #self fn (compiled.unfolded 𝓤 𝓛.H 𝓜 𝓡 wired) (λ z are.
-    let Post : Val → SProp 𝓤 = (walk_of 𝓛 ended stays c).post z in
+    walks 𝓛 ended c 𝓜 𝓡 (λ κs x f. tt, tt) #self fn (compiled.unfolded 𝓤 𝓛.H 𝓜 𝓡 wired) (λ z are.
+    let Post : Val → SProp 𝓤 = (walk_of 𝓛 ended (used_up ended) c).post z in
     let x = z.0.3.0 in let r : Region = x.region in let b = r.block in let u : Span = x.current in let start : Ptr = start_of x in let here : Ptr = here_of x in
     let top = x.placed.2.0 in let below = (current_facts r x.before u x.after x.sorted).2 in
     let whole' = (current_facts r x.before u x.after x.sorted).1 in
@@ -52,7 +50,7 @@ try_merge_next_spec 𝓤 𝓛 𝓜 𝓡 wired =
     returns_within ! Post refl (look_at ! 0 refl) $ free_all ! refl $
     let y : Cursor.Denot = record { first = start; hole = here; region = r; before = x.before; current = u; after = []; placed = (refl, refl, x.placed.2); sorted = subst (IsCursor r x.before u) none x.sorted } in
     stands ! y [] refl $ use0 𝓛 (raw (fact 𝓤 ((r ≡ r) × ((x.before, u, []) ≡ merged x.before u x.after)))) (fact_i 𝓤 ((r ≡ r) × ((x.before, u, []) ≡ merged x.before u x.after)) (emp 𝓤) (refl, sym (ap (merged x.before u) none))) $ nothing ! $ nothing ! $ fjoin ! $ move ! (3 ∷ 0 ∷ 2 ∷ 1 ∷ []) $
-    by ! (leaves 𝓛 ended stays c z (cursor_val start here) (y) (tt, tt) (tt, tt)))
+    by ! (leaves 𝓛 ended (used_up ended) c z (cursor_val start here) (y) (tt, tt) (tt, tt)))
     (λ n0. absurd n0))
     (λ h hs more.
     let sorted : IsCursor r x.before u (h ∷ hs) = subst (IsCursor r x.before u) more x.sorted in let ahead = next_facts r x.before u h hs sorted in let gap = ahead.0 in let units = ahead.1 in let under = ahead.2 in
@@ -83,7 +81,7 @@ try_merge_next_spec 𝓤 𝓛 𝓜 𝓡 wired =
     returns ! (look_at ! 0 refl) $ free_all ! refl $
     let y : Cursor.Denot = record { first = start; hole = here; region = r; before = x.before; current = (u.0, u.1 + h.1); after = hs; placed = (refl, refl, x.placed.2); sorted = absorbed r x.before u h hs sorted touch } in
     move ! (2 ∷ 3 ∷ []) $ fjoin ! $ move ! (2 ∷ 0 ∷ []) $ use2 𝓛 (‵ (behind b (u.0, u.1 + h.1))) (absorbs 𝓛 b u h far touch (omega arith) whole' units) $ move ! (1 ∷ 0 ∷ []) $ stands ! y hs refl $ use0 𝓛 (raw (fact 𝓤 ((r ≡ r) × ((x.before, (u.0, u.1 + h.1), hs) ≡ merged x.before u x.after)))) (fact_i 𝓤 ((r ≡ r) × ((x.before, (u.0, u.1 + h.1), hs) ≡ merged x.before u x.after)) (emp 𝓤) (refl, sym (ap (merged x.before u) more ∙ ap (λ (t : Bool). cond t (x.before, (u.0, u.1 + h.1), hs) (x.before ++ u ∷ [], h, hs)) (eq-eqb (u.0 + u.1) h.0 touch)))) $ nothing ! $ nothing ! $ fjoin ! $ move ! (3 ∷ 0 ∷ 2 ∷ 1 ∷ []) $
-    by ! (leaves 𝓛 ended stays c z (cursor_val start here) (y) (tt, tt) (tt, tt)))
+    by ! (leaves 𝓛 ended (used_up ended) c z (cursor_val start here) (y) (tt, tt) (tt, tt)))
     (λ n1. sets_last ! (agg ! (and_then ! (get ! refl) (and_then ! (get ! refl) (no_more !)))) refl (tt, (tt, (tt, tt))) $
     exec ! 𝓣.C 𝓣.Λ En (after 9 (inside (head (after 2 fn.body)))) (out_of_block 𝓛 (then_runs 𝓛 𝓣.C 𝓣.Λ En (after 3 fn.body) (at_ret En Post))) $
     sets_last ! (of_opd ! (get ! refl)) refl (tt, (tt, (tt, tt))) $
@@ -91,4 +89,4 @@ try_merge_next_spec 𝓤 𝓛 𝓜 𝓡 wired =
     sets ! (of_opd ! (get ! refl)) refl (tt, (tt, (tt, tt))) $
     returns ! (look_at ! 0 refl) $ free_all ! refl $
     moves_on ! x h hs more $ use0 𝓛 (raw (fact 𝓤 ((r ≡ r) × ((x.before ++ u ∷ [], h, hs) ≡ merged x.before u x.after)))) (fact_i 𝓤 ((r ≡ r) × ((x.before ++ u ∷ [], h, hs) ≡ merged x.before u x.after)) (emp 𝓤) (refl, sym (ap (merged x.before u) more ∙ ap (λ (t : Bool). cond t (x.before, (u.0, u.1 + h.1), hs) (x.before ++ u ∷ [], h, hs)) (ne_eqb (u.0 + u.1) h.0 (λ touch. apart (u.1 + u.0) h.0 n1 (omega arith)))))) $ nothing ! $ nothing ! $ fjoin ! $ move ! (3 ∷ 0 ∷ 2 ∷ 1 ∷ []) $
-    by ! (leaves 𝓛 ended stays c z (cursor_val start next) (moved x h hs more) (tt, tt) (tt, tt)))))))
+    by ! (leaves 𝓛 ended (used_up ended) c z (cursor_val start next) (moved x h hs more) (tt, tt) (tt, tt)))))))

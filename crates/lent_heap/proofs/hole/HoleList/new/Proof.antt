@@ -14,8 +14,7 @@ use types.Run.{stop, fld, init, lit, bin, of_opd, no_more, and_then, assigns, fi
 use types.ByLocal.{alloc_all, pass_all, free_all, look_at, get, get_in, through, sets, sets_last, is, env}
 use denote.RawPtr.{Ptr, block_ptr, null_ptr, in_a_block, count_of}
 use denote.Steps.{nothing, heard}
-use denote.Triple.Walked.{Stays, stay_dropped, walk_of}
-use Rattle.core.proofs.alloc.Calls.{Goes-blank}
+use denote.Triple.Walked.{walk_of}
 use Rattle.core.proofs.alloc.Shapes.{after}
 use Rattle.std.proofs.raw_atomic.Walks.{leaves}
 use Rattle.lent_heap.proofs.Cursors.{named_hole}
@@ -26,7 +25,7 @@ use Rattle.lent_heap.specs.Region.{Region, region_of}
 use Rattle.lent_heap.specs.Holes.{Span, extent}
 use Rattle.lent_heap.specs.Ownership.{bytes_at, hole_type, hole_val, behind}
 use borrow.Author.Tests.{le-leb}
-use Rattle.lent_heap.proofs.Walks.{slot_at, walks, enters}
+use Rattle.lent_heap.proofs.Walks.{used_up, walks, enters}
 use Rattle.lent_heap.specs.contracts.hole.HoleList as list
 use Rattle.lent_heap.specs.contracts.hole.Hole as header
 use Rattle.lent_heap.specs.contracts.hole.HoleList.new.{ended, clauses}
@@ -37,9 +36,8 @@ use Rattle.lent_heap.proofs.hole.HoleList.new.Code as compiled
 pub new_spec : {M : Type 1} → statement M
 new_spec 𝓤 𝓛 𝓜 𝓡 wired =
     let 𝓣 = tables 𝓤 𝓛.H 𝓜 𝓡 𝓡.env in let c = clauses 𝓛 𝓜.mem 𝓡.returns in let fn : Fn = compiled.function in
-    let stays : Stays ended.signature.params ended.kept = (stay_dropped (slot_at 0 ended.signature.params) ended.kept.0, tt) in
-    walks 𝓛 ended stays c 𝓜 𝓡 (Goes-blank 𝓛 0 (slot_at 0 ended.signature.params) ended.kept.0 (λ κs x f. tt), tt) #self fn (compiled.unfolded 𝓤 𝓛.H 𝓜 𝓡 wired) (λ z are.
-    let Post : Val → SProp 𝓤 = (walk_of 𝓛 ended stays c).post z in
+    walks 𝓛 ended c 𝓜 𝓡 (λ κs x f. tt, tt) #self fn (compiled.unfolded 𝓤 𝓛.H 𝓜 𝓡 wired) (λ z are.
+    let Post : Val → SProp 𝓤 = (walk_of 𝓛 ended (used_up ended) c).post z in
     let x = z.0.3.0 in let n = x.size in let told = sized_told x.ptr n z.0.4.0 are.0.0 in let fits = told.1 in
     let even = x.fits.0 in let Asked : Type 0 = 32 ≤ n in
     move ! (1 ∷ []) $ heard ! Asked (λ asked. fsplit ! $ move ! (1 ∷ []) $ drop ! $ fsplit ! $ drop ! $
@@ -69,4 +67,4 @@ new_spec 𝓤 𝓛 𝓜 𝓡 wired =
     let y : (list.the_row).Denot = record { first = start; region = r; holes = h ∷ []; placed = (refl, (top, omega arith)); sorted = order_in o (o + n) d (h ∷ []) (omega arith) refl (order_in (o + 16) (o + n) h [] (omega arith) (omega arith) (le-leb (h.0 + extent h.1) (o + n) (omega arith))) } in
     use0 𝓛 (‵ (list_own start (list_val start ∷ []))) (list_made 𝓛 start tt) $ fjoin ! $ use0 𝓛 (raw (fact 𝓤 (h ∷ [] ≡ h ∷ []))) (fact_i 𝓤 (h ∷ [] ≡ h ∷ []) (emp 𝓤) refl) $ use0 𝓛 (raw (fact 𝓤 (x.ptr ≡ start))) (fact_i 𝓤 (x.ptr ≡ start) (emp 𝓤) at) $ join ! $
     use0 𝓛 (raw (fact 𝓤 (r ≡ region_of x.ptr n))) (fact_i 𝓤 (r ≡ region_of x.ptr n) (emp 𝓤) (ap (λ (p : Ptr). region_of p n) (sym at))) $ join ! $ nothing ! $ nothing ! $ fjoin ! $ move ! (3 ∷ 0 ∷ 2 ∷ 1 ∷ []) $
-    by ! (leaves 𝓛 ended stays c z (list_val start) y (tt, tt) (tt, tt))))))
+    by ! (leaves 𝓛 ended (used_up ended) c z (list_val start) y (tt, tt) (tt, tt))))))
