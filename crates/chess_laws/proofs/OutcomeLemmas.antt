@@ -23,32 +23,26 @@ with_a_move test a b c d false true most = b
 with_a_move test a b c d false false true = c
 with_a_move test a b c d false false false = d
 
-pub mate_is_mate : (line : Line) → shows_mate (status line) ≡ is_mate (last line)
+-- such a test says whether there is no move, and what it says of check then
+without_a_move : (test : Status → Bool) (of : Bool → Bool) → test Mate ≡ of true → test Stalemate ≡ of false → test Dead ≡ false → test Fivefold ≡ false → test Seventyfive ≡ false → test Play ≡ false →
+    (line : Line) → test (status line) ≡ (is_without (legal_moves (last line)) && of (in_check (man_on (last line)) (last line).side))
 unfolding status status_at
-mate_is_mate line =
+without_a_move test of mate stalemate a b c d line =
     by_tests (is_without (legal_moves (last line))) (in_check (man_on (last line)) (last line).side) (is_dead (last line)) (nat_le 5 (repetitions line))
     (nat_le 150 (last line).clock)
   where
     by_tests : (none check dead five most : Bool) →
-        shows_mate (if none then (if check then Mate else Stalemate) else (if dead then Dead else (if five then Fivefold else (if most then Seventyfive else Play))))
-        ≡ (none && check)
-    by_tests true true dead five most = refl
-    by_tests true false dead five most = refl
-    by_tests false check dead five most = with_a_move shows_mate refl refl refl refl dead five most
+        test (if none then (if check then Mate else Stalemate) else (if dead then Dead else (if five then Fivefold else (if most then Seventyfive else Play)))) ≡ (none && of check)
+    by_tests true true dead five most = mate
+    by_tests true false dead five most = stalemate
+    by_tests false check dead five most = with_a_move test a b c d dead five most
+
+pub mate_is_mate : (line : Line) → shows_mate (status line) ≡ is_mate (last line)
+mate_is_mate = without_a_move shows_mate (λ check. check) refl refl refl refl refl refl
 
 pub stalemate_is_none : (line : Line) →
     shows_stalemate (status line) ≡ (is_without (legal_moves (last line)) && not (in_check (man_on (last line)) (last line).side))
-unfolding status status_at
-stalemate_is_none line =
-    by_tests (is_without (legal_moves (last line))) (in_check (man_on (last line)) (last line).side) (is_dead (last line)) (nat_le 5 (repetitions line))
-    (nat_le 150 (last line).clock)
-  where
-    by_tests : (none check dead five most : Bool) →
-        shows_stalemate (if none then (if check then Mate else Stalemate) else (if dead then Dead else (if five then Fivefold else (if most then Seventyfive else Play))))
-        ≡ (none && not check)
-    by_tests true true dead five most = refl
-    by_tests true false dead five most = refl
-    by_tests false check dead five most = with_a_move shows_stalemate refl refl refl refl dead five most
+stalemate_is_none = without_a_move shows_stalemate not refl refl refl refl refl refl
 
 pub claims_agree : (line : Line) (m : MoveParts) → is_legal (last line) m ≡ true → is_play (status line) ≡ true → is_play (status (extended line m)) ≡ true →
     claims_with line m ≡ Some (claims (extended line m))
