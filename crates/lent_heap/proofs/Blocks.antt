@@ -1,5 +1,5 @@
 -- A block's machine value, made for the bytes that it owns. Assumes `Logic`.
-use Rattle.std.proofs.Common.{ℕ, ◌^◌, ◌<◌, List, [], ◌∷◌}
+use Rattle.std.proofs.Common.{◌^◌, ◌<◌, List, [], ◌∷◌}
 use seplogic.Ra.Ura.{Ura}
 use types.Logic.{Logic}
 use types.Kit.{Item, Goal, Step, step, ‵, ◌$◌, use0, fjoin}

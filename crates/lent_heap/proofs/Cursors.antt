@@ -4,7 +4,7 @@ use seplogic.Ra.Ura.{Ura}
 use mir.Syntax.{Ty}
 use mir.Val.{Val}
 use base.Fraction.{full_share}
-use base.Fml.{ftrue, fat}
+use base.Fml.{fat}
 use types.Logic.{Logic}
 use types.Kit.{Item, Goal, Seq, Step, step, ‵, ◌$◌, move, drop, use0, use2, fsplit, fjoin, rewrite}
 use denote.RattleType.{RattleType}

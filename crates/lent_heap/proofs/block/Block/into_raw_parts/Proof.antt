@@ -4,7 +4,7 @@ use mir.Syntax.{Fn}
 use mir.Val.{Val, vint}
 use base.Logic.{emp}
 use contract.Monad.{fact, fact_i}
-use types.Kit.{‵, raw, ◌⊛◌, ◌$◌, !, by, move, drop, use0, use2, join, fsplit, fjoin, feq_i, flt_i}
+use types.Kit.{‵, raw, ◌$◌, !, by, move, drop, use0, use2, join, fsplit, fjoin, feq_i, flt_i}
 use types.Part.{whole, sub, agg}
 use types.Run.{stop, fld, of_opd, no_more, and_then, returns}
 use types.ByLocal.{alloc_all, pass_all, free_all, look_at, get, get_in, sets}

@@ -33,9 +33,6 @@ use Rattle.lent_heap.specs.Region.{Region, IsBlockSize}
 use Rattle.lent_heap.specs.Holes.{Span, extent, IsCursor, Skips, Splits}
 use Rattle.lent_heap.specs.Ownership.{bytes_at, hole_type, hole_val, behind, first_or}
 use borrow.Author.Tests.{eq-eqb, ne_eqb}
-use Rattle.lent_heap.specs.contracts.hole.Cursor as cursor
-use Rattle.lent_heap.specs.contracts.block.Block as block
-use Rattle.lent_heap.specs.contracts.hole.Hole as header
 use Rattle.lent_heap.specs.contracts.hole.Cursor.split_next.{ended, clauses}
 use Rattle.lent_heap.specs.contracts.hole.Cursor.split_next.Key.{name as #self}
 use Rattle.lent_heap.proofs.hole.Cursor.split_next.Statement.{statement}

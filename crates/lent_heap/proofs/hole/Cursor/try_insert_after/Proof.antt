@@ -32,9 +32,6 @@ use Rattle.lent_heap.proofs.Nodes.{resized, forms, node_ends_before, block_ends_
 use Rattle.lent_heap.specs.Region.{Region}
 use Rattle.lent_heap.specs.Holes.{Span, extent, IsCursor, Advances, Inserts}
 use Rattle.lent_heap.specs.Ownership.{bytes_at, hole_type, hole_val, behind}
-use Rattle.lent_heap.specs.contracts.hole.Cursor as cursor
-use Rattle.lent_heap.specs.contracts.block.Block as block
-use Rattle.lent_heap.specs.contracts.hole.Hole as header
 use Rattle.lent_heap.specs.contracts.hole.Cursor.try_insert_after.{ended, clauses}
 use Rattle.lent_heap.specs.contracts.hole.Cursor.try_insert_after.Key.{name as #self}
 use Rattle.lent_heap.proofs.hole.Cursor.try_insert_after.Statement.{statement}

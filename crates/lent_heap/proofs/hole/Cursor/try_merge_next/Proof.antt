@@ -6,7 +6,7 @@ use base.Logic.{SProp, emp}
 use prog.Wp.{Env}
 use contract.Monad.{fact, fact_i}
 use contract.Running.{tables}
-use types.Kit.{‵, raw, ◌⊛◌, at_ret, ◌$◌, !, by, move, use0, use2, fsplit, fjoin}
+use types.Kit.{‵, raw, at_ret, ◌$◌, !, by, move, use0, use2, fsplit, fjoin}
 use types.Part.{whole, sub, agg, look_in, store_in}
 use types.Run.{stop, fld, load, lit, bin, of_opd, no_more, and_then, assigns, first, blocks, skips, branches, exec, returns, returns_within}
 use types.ByLocal.{alloc_all, pass_all, free_all, look_at, get, get_in, through, sets, sets_last, env}
@@ -24,7 +24,6 @@ use Rattle.lent_heap.specs.Region.{Region}
 use Rattle.lent_heap.specs.Holes.{Span, IsCursor, merged}
 use Rattle.lent_heap.specs.Ownership.{behind, first_or}
 use borrow.Author.Tests.{eq-eqb, ne_eqb}
-use Rattle.lent_heap.specs.contracts.hole.Cursor as cursor
 use Rattle.lent_heap.specs.contracts.hole.Cursor.try_merge_next.{ended, clauses}
 use Rattle.lent_heap.specs.contracts.hole.Cursor.try_merge_next.Key.{name as #self}
 use Rattle.lent_heap.proofs.hole.Cursor.try_merge_next.Statement.{statement}

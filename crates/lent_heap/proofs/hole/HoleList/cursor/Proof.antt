@@ -3,7 +3,7 @@ use Rattle.std.proofs.Common.{◌≡◌, [], ◌∷◌, ◌++◌, refl, ap, ◌�
 use mir.Syntax.{Fn}
 use base.Logic.{emp}
 use contract.Monad.{fact, fact_i}
-use types.Kit.{raw, ◌⊛◌, ◌$◌, !, by, move, drop, use0, fsplit, fjoin}
+use types.Kit.{raw, ◌$◌, !, by, move, drop, use0, fsplit, fjoin}
 use types.Part.{whole, sub, agg}
 use types.Run.{stop, fld, of_opd, no_more, and_then, returns}
 use types.ByLocal.{alloc_all, pass_all, free_all, look_at, get, get_in, sets}
@@ -15,7 +15,6 @@ use Rattle.lent_heap.specs.Region.{Region}
 use borrow.Author.Tests.{le-leb}
 use Rattle.lent_heap.proofs.Walks.{used_up, walks, enters, alone}
 use Rattle.lent_heap.proofs.Cursors.{Cursor, cursor_in}
-use Rattle.lent_heap.specs.contracts.hole.Cursor as cursor
 use Rattle.lent_heap.specs.contracts.hole.HoleList.cursor.{ended, clauses}
 use Rattle.lent_heap.specs.contracts.hole.HoleList.cursor.Key.{name as #self}
 use Rattle.lent_heap.proofs.hole.HoleList.cursor.Statement.{statement}

@@ -27,7 +27,6 @@ use Rattle.lent_heap.specs.Ownership.{bytes_at, hole_type, hole_val, behind}
 use borrow.Author.Tests.{le-leb}
 use Rattle.lent_heap.proofs.Walks.{used_up, walks, enters}
 use Rattle.lent_heap.specs.contracts.hole.HoleList as list
-use Rattle.lent_heap.specs.contracts.hole.Hole as header
 use Rattle.lent_heap.specs.contracts.hole.HoleList.new.{ended, clauses}
 use Rattle.lent_heap.specs.contracts.hole.HoleList.new.Key.{name as #self}
 use Rattle.lent_heap.proofs.hole.HoleList.new.Statement.{statement}

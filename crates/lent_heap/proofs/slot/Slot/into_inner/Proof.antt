@@ -1,7 +1,7 @@
 -- `into_inner` unwraps the heap. Assumes `Logic`.
 use Rattle.std.proofs.Common.{[], ◌∷◌, ◌++◌, refl}
 use mir.Syntax.{Fn}
-use types.Kit.{◌⊛◌, ◌$◌, !, by, move, drop, fsplit, fjoin}
+use types.Kit.{◌$◌, !, by, move, drop, fsplit, fjoin}
 use types.Part.{whole, sub}
 use types.Run.{stop, fld, of_opd, returns}
 use types.ByLocal.{alloc_all, pass_all, free_all, look_at, get, get_in, sets}

@@ -5,7 +5,7 @@ use mir.Val.{Val, vcons, vnil}
 use base.Logic.{emp}
 use base.Fml.{ftrue}
 use contract.Monad.{fact, fact_i}
-use types.Kit.{‵, raw, ◌⊛◌, ◌$◌, !, by, move, use0, use1, rewrite, fjoin, fpack}
+use types.Kit.{‵, raw, ◌$◌, !, by, move, use0, use1, rewrite, fjoin, fpack}
 use types.Part.{agg}
 use types.Match.{live}
 use types.Run.{lit, of_opd, no_more, and_then, returns}
