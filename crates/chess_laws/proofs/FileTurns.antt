@@ -28,7 +28,7 @@ use Rattle.chess_laws.specs.DeadLaws.{is_mate}
 use Rattle.chess_laws.specs.FlipLaws.{flip, flipped, IsFlipped}
 use Rattle.chess_laws.proofs.SquareColours.{on_all}
 use Rattle.chess_laws.proofs.Symmetry.{Symmetry, IsSeen, recolour}
-use Rattle.chess_laws.proofs.SymmetryTables.{symmetry, leap_test, slide_test, ahead_test, two_test, advance_test, each_colour, each_kind}
+use Rattle.chess_laws.proofs.SymmetryTables.{symmetry, other_axis}
 use Rattle.chess_laws.proofs.SeenAttacks.{check_across, there_across}
 use Rattle.chess_laws.proofs.SeenMoves.{and_if, pseudo_seen}
 use Rattle.chess_laws.proofs.SeenAfter.{AreSeen, moved, seen_by}
@@ -41,85 +41,22 @@ own c = c
 flip_inside : (s : ℕ) → s < 64 → flip s < 64
 flip_inside s h = omega arith
 
-flip_twice : (s : ℕ) → s < 64 → flip (flip s) ≡ s
-flip_twice s h = omega arith
-
-total_flips : (f : ℕ → ℕ) → total (λ t. f (flip t)) 0 64 ≡ total f 0 64
-unfolding total
-total_flips f = omega arith
-
-leap_table : each_colour (λ c. each_kind (λ k. on_all (leap_test flip own c k))) ≡ true
-unfolding squares leaps
-leap_table = refl
-
-slide_table : each_kind (λ k. on_all (slide_test flip k)) ≡ true
-unfolding squares slides_to slides
-slide_table = refl
-
-ahead_table : each_colour (λ c. on_all (ahead_test flip own c)) ≡ true
-unfolding squares
-ahead_table = refl
-
-two_table : each_colour (λ c. on_all (two_test flip own c)) ≡ true
-unfolding squares
-two_table = refl
-
 last_flip : (c : Colour) (a : ℕ) → a < 64 → (rank_of (flip a) == last_rank c) ≡ (rank_of a == last_rank c)
 last_flip White a h = grind (arith, nat_tests)
 last_flip Black a h = grind (arith, nat_tests)
 
-advance_table : on_all (advance_test flip) ≡ true
-unfolding squares
-advance_table = refl
-
-same_files : (a b : ℕ) → a < 64 → b < 64 → (file_of (flip a) == file_of (flip b)) ≡ (file_of a == file_of b)
-same_files a b ha hb = grind (arith, nat_tests)
-
 -- along a rank and the diagonals the order is the other one
-abbrev other_axis : Axis → Axis
-other_axis Rank = Rank
-other_axis File = File
-other_axis Rising = Falling
-other_axis Falling = Rising
-
 between_axis : (axis : Axis) (a b t : ℕ) → a < 64 → b < 64 → t < 64 → is_between_on (other_axis axis) (flip a) (flip b) (flip t) ≡ is_between_on axis a b t
 between_axis Rank a b t ha hb ht = grind (arith, nat_tests)
-between_axis File a b t ha hb ht = grind (arith, nat_tests)
-between_axis Rising a b t ha hb ht = grind (arith, nat_tests)
-between_axis Falling a b t ha hb ht = grind (arith, nat_tests)
-
-either_way : (r f u d : Bool) → (r || f || d || u) ≡ (r || f || u || d)
-either_way true f u d = refl
-either_way false true u d = refl
-either_way false false true true = refl
-either_way false false true false = refl
-either_way false false false true = refl
-either_way false false false false = refl
-
-between_flip : (a b t : ℕ) → a < 64 → b < 64 → t < 64 → is_between (flip a) (flip b) (flip t) ≡ is_between a b t
-unfolding is_between
-between_flip a b t ha hb ht =
-    (λ i. between_axis Rank a b t ha hb ht i || between_axis File a b t ha hb ht i || between_axis Falling a b t ha hb ht i || between_axis Rising a b t ha hb ht i)
-    ∙ either_way (is_between_on Rank a b t) (is_between_on File a b t) (is_between_on Rising a b t) (is_between_on Falling a b t)
+between_axis _ a b t ha hb ht = grind (arith, nat_tests)
 
 -- so it is a symmetry
 pub over_files : Symmetry flip own
-over_files = symmetry flip own (record {
-  inside = flip_inside;
-  twice = flip_twice;
-  sums = total_flips;
-  colours = λ c d. refl;
-  others = λ c. refl;
-  leap = leap_table;
-  slide = slide_table;
-  between = between_flip;
-  ahead = ahead_table;
-  two = two_table;
-  last = last_flip;
-  advance = advance_table;
-  files = same_files;
-  corner = λ a b ha hb. omega arith;
-})
+unfolding squares leaps slides_to slides total
+over_files = symmetry flip own
+    (record { inside = flip_inside; twice = λ s h. omega arith; sums = λ f. omega arith; files = λ a b ha hb. grind (arith, nat_tests); corner = λ a b ha hb. omega arith; between = between_axis })
+    (record { colours = λ c d. refl; others = λ c. refl; last = last_flip })
+    (record { leap = refl; slide = refl; ahead = refl; two = refl; advance = refl })
 
 same_man_seen : (there : Option Man) → there ≡ recolour own there
 same_man_seen None = refl

@@ -27,7 +27,7 @@ use Rattle.chess_laws.specs.DeadLaws.{is_mate}
 use Rattle.chess_laws.specs.MirrorLaws.{turned, IsTurned}
 use Rattle.chess_laws.proofs.SquareColours.{on_all}
 use Rattle.chess_laws.proofs.Symmetry.{Symmetry, IsSeen, recolour}
-use Rattle.chess_laws.proofs.SymmetryTables.{symmetry, leap_test, slide_test, ahead_test, two_test, advance_test, each_colour, each_kind}
+use Rattle.chess_laws.proofs.SymmetryTables.{symmetry, other_axis}
 use Rattle.chess_laws.proofs.SeenAttacks as attacks
 use Rattle.chess_laws.proofs.SeenMoves.{pseudo_seen, squares_same}
 use Rattle.chess_laws.proofs.SeenLegal.{none_seen}
@@ -36,91 +36,28 @@ use Rattle.chess_laws.proofs.SeenAfter.{AreSeen, seen_man, moved, seen_by, seen_
 across_inside : (s : ℕ) → s < 64 → across s < 64
 across_inside s h = omega arith
 
-across_twice : (s : ℕ) → s < 64 → across (across s) ≡ s
-across_twice s h = omega arith
-
-total_turns : (f : ℕ → ℕ) → total (λ t. f (across t)) 0 64 ≡ total f 0 64
-unfolding total
-total_turns f = omega arith
-
 colours_turn : (c d : Colour) → same_colour (opponent c) (opponent d) ≡ same_colour c d
 colours_turn White White = refl
 colours_turn White Black = refl
 colours_turn Black White = refl
 colours_turn Black Black = refl
 
-leap_table : each_colour (λ c. each_kind (λ k. on_all (leap_test across opponent c k))) ≡ true
-unfolding squares leaps
-leap_table = refl
-
-slide_table : each_kind (λ k. on_all (slide_test across k)) ≡ true
-unfolding squares slides_to slides
-slide_table = refl
-
-ahead_table : each_colour (λ c. on_all (ahead_test across opponent c)) ≡ true
-unfolding squares
-ahead_table = refl
-
-two_table : each_colour (λ c. on_all (two_test across opponent c)) ≡ true
-unfolding squares
-two_table = refl
-
 last_across : (c : Colour) (a : ℕ) → a < 64 → (rank_of (across a) == last_rank (opponent c)) ≡ (rank_of a == last_rank c)
 last_across White a h = grind (arith, nat_tests)
 last_across Black a h = grind (arith, nat_tests)
 
-advance_table : on_all (advance_test across) ≡ true
-unfolding squares
-advance_table = refl
-
-same_files : (a b : ℕ) → a < 64 → b < 64 → (file_of (across a) == file_of (across b)) ≡ (file_of a == file_of b)
-same_files a b ha hb = grind (arith, nat_tests)
-
 -- along a file and the diagonals the order is the other one
-abbrev other_axis : Axis → Axis
-other_axis Rank = Rank
-other_axis File = File
-other_axis Rising = Falling
-other_axis Falling = Rising
-
 between_axis : (axis : Axis) (a b t : ℕ) → a < 64 → b < 64 → t < 64 → is_between_on (other_axis axis) (across a) (across b) (across t) ≡ is_between_on axis a b t
 between_axis Rank a b t ha hb ht = grind (arith, nat_tests)
-between_axis File a b t ha hb ht = grind (arith, nat_tests)
-between_axis Rising a b t ha hb ht = grind (arith, nat_tests)
-between_axis Falling a b t ha hb ht = grind (arith, nat_tests)
-
-either_way : (r f u d : Bool) → (r || f || d || u) ≡ (r || f || u || d)
-either_way true f u d = refl
-either_way false true u d = refl
-either_way false false true true = refl
-either_way false false true false = refl
-either_way false false false true = refl
-either_way false false false false = refl
-
-between_across : (a b t : ℕ) → a < 64 → b < 64 → t < 64 → is_between (across a) (across b) (across t) ≡ is_between a b t
-unfolding is_between
-between_across a b t ha hb ht =
-    (λ i. between_axis Rank a b t ha hb ht i || between_axis File a b t ha hb ht i || between_axis Falling a b t ha hb ht i || between_axis Rising a b t ha hb ht i)
-    ∙ either_way (is_between_on Rank a b t) (is_between_on File a b t) (is_between_on Rising a b t) (is_between_on Falling a b t)
+between_axis _ a b t ha hb ht = grind (arith, nat_tests)
 
 -- so it is a symmetry
 pub over_ranks : Symmetry across opponent
-over_ranks = symmetry across opponent (record {
-  inside = across_inside;
-  twice = across_twice;
-  sums = total_turns;
-  colours = colours_turn;
-  others = λ c. refl;
-  leap = leap_table;
-  slide = slide_table;
-  between = between_across;
-  ahead = ahead_table;
-  two = two_table;
-  last = last_across;
-  advance = advance_table;
-  files = same_files;
-  corner = λ a b ha hb. omega arith;
-})
+unfolding squares leaps slides_to slides total
+over_ranks = symmetry across opponent
+    (record { inside = across_inside; twice = λ s h. omega arith; sums = λ f. omega arith; files = λ a b ha hb. grind (arith, nat_tests); corner = λ a b ha hb. omega arith; between = between_axis })
+    (record { colours = colours_turn; others = λ c. refl; last = last_across })
+    (record { leap = refl; slide = refl; ahead = refl; two = refl; advance = refl })
 
 same_recolour : (there : Option Man) → recoloured there ≡ recolour opponent there
 same_recolour None = refl
@@ -176,9 +113,6 @@ module _ (p q : PositionParts) (both : IsTurned p q) (m : MoveParts) (from : m.f
   abbrev c : Colour
   c = p.side
 
-  abbrev E : Men
-  E = man_on p
-
   abbrev F : Men
   F = man_on q
 
@@ -187,15 +121,15 @@ module _ (p q : PositionParts) (both : IsTurned p q) (m : MoveParts) (from : m.f
       castles_to s w n && holds x.rights s w && is_clear f (king_home s) (rook_home s w) && not (is_attacked f (opponent s) (king_home s))
       && not (is_attacked f (opponent s) (crossed s w)) && not (is_attacked f (opponent s) (reached s w))
 
-  safe : (s : ℕ) (t : ℕ) → s < 64 → t ≡ across s → is_attacked F (opponent (opponent c)) t ≡ is_attacked E (opponent c) s
-  safe s t h is = ap (is_attacked F (opponent (opponent c))) is ∙ attacks.attacked_across across opponent over_ranks E F (seen both).board (opponent c) s h
+  safe : (s : ℕ) (t : ℕ) → s < 64 → t ≡ across s → is_attacked F (opponent (opponent c)) t ≡ is_attacked (man_on p) (opponent c) s
+  safe s t h is = ap (is_attacked F (opponent (opponent c))) is ∙ attacks.attacked_across across opponent over_ranks (man_on p) F (seen both).board (opponent c) s h
 
   pub castled : (w : Wing) → castles q w (turned m) ≡ castles p w m
   castled w =
       ap (λ s. castle q s F (turned m) w) both.side
       ∙ (λ i. castles_to_across c w m from to i && both.rights c w i
       && (ap (is_clear F (king_home (opponent c))) (rook_across c w) ∙ ap (λ s. is_clear F s (across (rook_home c w))) (king_across c)
-      ∙ attacks.clear_across across opponent over_ranks E F (seen both).board (king_home c) (rook_home c w) (king_inside c) (rook_inside c w)) i
+      ∙ attacks.clear_across across opponent over_ranks (man_on p) F (seen both).board (king_home c) (rook_home c w) (king_inside c) (rook_inside c w)) i
       && not (safe (king_home c) (king_home (opponent c)) (king_inside c) (king_across c) i)
       && not (safe (crossed c w) (crossed (opponent c) w) (crossed_inside c w) (crossed_across c w) i)
       && not (safe (reached c w) (reached (opponent c) w) (reached_inside c w) (reached_across c w) i))

@@ -1,11 +1,13 @@
 -- A map of squares and colours is a symmetry where tables of all pairs of squares say so.
-use Rattle.std.proofs.Common.{◌≡◌, ℕ, ◌+◌, ◌*◌, ◌/◌, ◌<◌, ◌==◌, Bool, true, false, not, ◌&&◌, ◌||◌, refl, sym}
+use Rattle.std.proofs.Common.{◌≡◌, ℕ, ◌+◌, ◌*◌, ◌/◌, ◌<◌, ◌==◌, Bool, true, false, not, ◌&&◌, ◌||◌, refl, sym, ◌∙◌}
 use Rattle.std.proofs.lemmas.Bool.{and_parts, eqb-true, true≢false}
+use Rattle.chess_types.specs.declared.board.axis.Axis.{Axis}
+use Rattle.chess_types.specs.declared.board.axis.Axis.TheVariants.{Rank, File, Rising, Falling}
 use Rattle.chess_types.specs.declared.board.man.Colour.{Colour}
 use Rattle.chess_types.specs.declared.board.man.Colour.TheVariants.{White, Black}
 use Rattle.chess_types.specs.declared.board.man.Kind.{Kind}
 use Rattle.chess_types.specs.declared.board.man.Kind.TheVariants.{Pawn, Knight, Bishop, Rook, Queen, King}
-use Rattle.chess_types.specs.board.Squares.{file_of, rank_of, is_between}
+use Rattle.chess_types.specs.board.Squares.{file_of, rank_of, is_between_on, is_between}
 use Rattle.chess_types.specs.board.Men.{opponent, same_colour}
 use Rattle.chess_types.specs.board.Attack.{leaps, slides_to}
 use Rattle.chess_types.specs.board.Pseudo.{is_ahead, last_rank}
@@ -65,45 +67,72 @@ of_kind test h k =
     one a b c d e f Queen = e
     one a b c d e f King = f
 
--- what has to be shown of the map
-pub record Tables (σ : ℕ → ℕ) (κ : Colour → Colour) : Type 0 where
+-- an axis along which the order is the same, or one of two that change places
+abbrev pub other_axis : Axis → Axis
+other_axis Rank = Rank
+other_axis File = File
+other_axis Rising = Falling
+other_axis Falling = Rising
+
+either_way : (r f u d : Bool) → (r || f || d || u) ≡ (r || f || u || d)
+either_way true f u d = refl
+either_way false true u d = refl
+either_way false false true true = refl
+either_way false false true false = refl
+either_way false false false true = refl
+either_way false false false false = refl
+
+-- what has to be shown of the map of squares
+pub record OnSquares (σ : ℕ → ℕ) : Type 0 where
   pub inside : (s : ℕ) → s < 64 → σ s < 64
   pub twice : (s : ℕ) → s < 64 → σ (σ s) ≡ s
   pub sums : (f : ℕ → ℕ) → total (λ t. f (σ t)) 0 64 ≡ total f 0 64
-  pub colours : (c d : Colour) → same_colour (κ c) (κ d) ≡ same_colour c d
-  pub others : (c : Colour) → opponent (κ c) ≡ κ (opponent c)
-  pub leap : each_colour (λ c. each_kind (λ k. on_all (leap_test σ κ c k))) ≡ true
-  pub slide : each_kind (λ k. on_all (slide_test σ k)) ≡ true
-  pub between : (a b t : ℕ) → a < 64 → b < 64 → t < 64 → is_between (σ a) (σ b) (σ t) ≡ is_between a b t
-  pub ahead : each_colour (λ c. on_all (ahead_test σ κ c)) ≡ true
-  pub two : each_colour (λ c. on_all (two_test σ κ c)) ≡ true
-  pub last : (c : Colour) (a : ℕ) → a < 64 → (rank_of (σ a) == last_rank (κ c)) ≡ (rank_of a == last_rank c)
-  pub advance : on_all (advance_test σ) ≡ true
   pub files : (a b : ℕ) → a < 64 → b < 64 → (file_of (σ a) == file_of (σ b)) ≡ (file_of a == file_of b)
   pub corner : (a b : ℕ) → a < 64 → b < 64 → 8 * rank_of (σ a) + file_of (σ b) ≡ σ (8 * rank_of a + file_of b)
+  pub between : (axis : Axis) (a b t : ℕ) → a < 64 → b < 64 → t < 64 → is_between_on (other_axis axis) (σ a) (σ b) (σ t) ≡ is_between_on axis a b t
+
+-- of the map of colours
+pub record OnColours (σ : ℕ → ℕ) (κ : Colour → Colour) : Type 0 where
+  pub colours : (c d : Colour) → same_colour (κ c) (κ d) ≡ same_colour c d
+  pub others : (c : Colour) → opponent (κ c) ≡ κ (opponent c)
+  pub last : (c : Colour) (a : ℕ) → a < 64 → (rank_of (σ a) == last_rank (κ c)) ≡ (rank_of a == last_rank c)
+
+-- and by the tables of all pairs of squares
+pub record Tables (σ : ℕ → ℕ) (κ : Colour → Colour) : Type 0 where
+  pub leap : each_colour (λ c. each_kind (λ k. on_all (leap_test σ κ c k))) ≡ true
+  pub slide : each_kind (λ k. on_all (slide_test σ k)) ≡ true
+  pub ahead : each_colour (λ c. on_all (ahead_test σ κ c)) ≡ true
+  pub two : each_colour (λ c. on_all (two_test σ κ c)) ≡ true
+  pub advance : on_all (advance_test σ) ≡ true
 
 -- a test that another equals, and what follows where it holds
 both : (x y z : Bool) → (same_bool x y && (not y || z)) ≡ true → (x ≡ y) × (y ≡ true → z ≡ true)
 both x y z h = let a = and_parts _ _ h in (bools x y a.0, implied y z a.1)
 
-pub symmetry : (σ : ℕ → ℕ) (κ : Colour → Colour) → Tables σ κ → Symmetry σ κ
-symmetry σ κ t = record {
-  inside = t.inside;
-  twice = t.twice;
-  sums = t.sums;
-  colours = t.colours;
-  others = t.others;
+between_by : (σ : ℕ → ℕ) → OnSquares σ → (a b t : ℕ) → a < 64 → b < 64 → t < 64 → is_between (σ a) (σ b) (σ t) ≡ is_between a b t
+unfolding is_between
+between_by σ squares a b t ha hb ht =
+    let on : (axis : Axis) → is_between_on (other_axis axis) (σ a) (σ b) (σ t) ≡ is_between_on axis a b t = λ axis. squares.between axis a b t ha hb ht in
+    (λ i. on Rank i || on File i || on Falling i || on Rising i) ∙ either_way (is_between_on Rank a b t) (is_between_on File a b t) (is_between_on Rising a b t) (is_between_on Falling a b t)
+
+pub symmetry : (σ : ℕ → ℕ) (κ : Colour → Colour) → OnSquares σ → OnColours σ κ → Tables σ κ → Symmetry σ κ
+symmetry σ κ squares colours t = record {
+  inside = squares.inside;
+  twice = squares.twice;
+  sums = squares.sums;
+  colours = colours.colours;
+  others = colours.others;
   leap = λ c k a b ha hb. bools _ _ (at_two (leap_test σ κ c k) (of_kind (λ x. on_all (leap_test σ κ c x)) (of_colour (λ d. each_kind (λ x. on_all (leap_test σ κ d x))) t.leap c) k) a b ha hb);
   slide = λ k a b ha hb. bools _ _ (at_two (slide_test σ k) (of_kind (λ x. on_all (slide_test σ x)) t.slide k) a b ha hb);
-  between = t.between;
+  between = between_by σ squares;
   ahead = λ c a b ha hb. bools _ _ (at_two (ahead_test σ κ c) (of_colour (λ d. on_all (ahead_test σ κ d)) t.ahead c) a b ha hb);
   two = λ c a b ha hb.
       let x = both (advances (κ c) (σ a) (σ b)) (advances c a b) ((σ a + σ b) / 2 == σ ((a + b) / 2)) (at_two (two_test σ κ c) (of_colour (λ d. on_all (two_test σ κ d)) t.two c) a b ha hb) in
       (x.0, λ h. eqb-true _ _ (x.1 h));
-  last = t.last;
+  last = colours.last;
   advance = λ a b ha hb.
       let x = both (two_apart (σ a) (σ b)) (two_apart a b) ((σ a + σ b) / 2 == σ ((a + b) / 2)) (at_two (advance_test σ) t.advance a b ha hb) in
       (x.0, λ h. eqb-true _ _ (x.1 h));
-  files = t.files;
-  corner = t.corner;
+  files = squares.files;
+  corner = squares.corner;
 }

@@ -39,10 +39,8 @@ fn reads_the_start(rt: HostRuntime) -> Result<(), Fail> {
 }
 
 const QUEEN_SIDE: Rights = Rights {
-    white_king: false,
     white_queen: true,
-    black_king: false,
-    black_queen: false,
+    ..NONE
 };
 
 #[test]

@@ -33,13 +33,16 @@ pub fn first_game<'a, A: Allocator>(
     }
 }
 
-/// The tags of a game of which nothing is known.
-const UNKNOWN: &str =
-    "[Event \"?\"]\n[Site \"?\"]\n[Date \"????.??.??\"]\n[Round \"?\"]\n[White \"?\"]\n[Black \"?\"]\n[Result \"*\"]\n\n";
+/// The tags before the result of a game of which nothing is known.
+pub const UNKNOWN: &str =
+    "[Event \"?\"]\n[Site \"?\"]\n[Date \"????.??.??\"]\n[Round \"?\"]\n[White \"?\"]\n[Black \"?\"]\n";
 
 /// Whether the text is the tags of an unknown game and that movetext.
 fn is_unknown(text: &[u8], movetext: &str) -> bool {
-    text.strip_prefix(UNKNOWN.as_bytes()) == Some(movetext.as_bytes())
+    let Some(rest) = text.strip_prefix(UNKNOWN.as_bytes()) else {
+        return false;
+    };
+    rest.strip_prefix(b"[Result \"*\"]\n\n".as_slice()) == Some(movetext.as_bytes())
 }
 
 /// Whether the game's text is the tags of an unknown game and that movetext.
