@@ -1,5 +1,6 @@
 -- Lemmas on numbers, paths, answers, sessions and collections of games.
 pub mod EndedLemmas
+pub mod BeginLemmas
 pub mod PathLemmas
 pub mod PathLaws
 pub mod NumberLemmas

@@ -2,7 +2,7 @@ ghost use Rattle.std.specs.Prelude.{◌≡◌, Some, None, IfSome, IfNone, optio
 ghost use Rattle.byte_streams.specs.Words.{words};
 ghost use Rattle.chess_cli.specs.Requests.{gaps, request, without_return, alone, alone_named, with_rest, only_word as only_word_of, with_colour, with_word, with_value, nag_in, Best as BestOf, Counts as CountsOf, Play as PlayOf, Claim as ClaimOf, Goto as GotoOf, Step as StepOf, Nag as NagOf};
 ghost use Rattle.chess_cli.specs.Numbers.{depth_in, number_in as number_in_of, path_in};
-ghost use Rattle.chess_cli.specs.steps.Commands.{request_of};
+ghost use Rattle.chess_cli.specs.steps.Commands.{later_alone, request_of};
 
 use super::numbers::number_in;
 use byte_streams::{split_word, trim};
@@ -183,6 +183,31 @@ fn best(rest: &[u8]) -> Command<'_>
     }
 }
 
+// The command that stands alone, by its word: of those that come later.
+fn later_alone<'a>(word: &[u8]) -> Option<Command<'a>>
+    ensures { option_map request_of result ≡ later_alone word.now }
+{
+    if word == b"end".as_slice() {
+        Some(Command::End)
+    } else if word == b"path".as_slice() {
+        Some(Command::Path)
+    } else if word == b"promote".as_slice() {
+        Some(Command::Promote)
+    } else if word == b"delete".as_slice() {
+        Some(Command::Delete)
+    } else if word == b"count".as_slice() {
+        Some(Command::Count)
+    } else if word == b"status".as_slice() {
+        Some(Command::Status)
+    } else if word == b"claims".as_slice() {
+        Some(Command::Claims)
+    } else if word == b"pgn".as_slice() {
+        Some(Command::Pgn)
+    } else {
+        None
+    }
+}
+
 // The command that stands alone, by its word.
 fn standing_alone<'a>(word: &[u8]) -> Option<Command<'a>>
     ensures { option_map request_of result ≡ alone_named word.now }
@@ -201,24 +226,8 @@ fn standing_alone<'a>(word: &[u8]) -> Option<Command<'a>>
         Some(Command::Back)
     } else if word == b"start".as_slice() {
         Some(Command::Start)
-    } else if word == b"end".as_slice() {
-        Some(Command::End)
-    } else if word == b"path".as_slice() {
-        Some(Command::Path)
-    } else if word == b"promote".as_slice() {
-        Some(Command::Promote)
-    } else if word == b"delete".as_slice() {
-        Some(Command::Delete)
-    } else if word == b"count".as_slice() {
-        Some(Command::Count)
-    } else if word == b"status".as_slice() {
-        Some(Command::Status)
-    } else if word == b"claims".as_slice() {
-        Some(Command::Claims)
-    } else if word == b"pgn".as_slice() {
-        Some(Command::Pgn)
     } else {
-        None
+        later_alone(word)
     }
 }
 

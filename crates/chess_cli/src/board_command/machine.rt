@@ -77,7 +77,6 @@ impl<'k, A: Allocator> Model for Board<'k, A> {
 }
 
 // The position in which a game begins.
-#[tactic(auto, unfolding(chess_types::specs::board::Position::start))]
 fn start_position() -> Position
     ensures value { result ≡ start }
     ensures clock { result.clock ≤ 99999 }
