@@ -13,7 +13,7 @@ ghost use Rattle.chess_pgn.specs.steps.KnownTexts.{AreKnown, IsStick, Says};
 
 use crate::lines::Lines;
 use crate::movetext::{
-    is_parted, outcome_text, push_any_moves, push_comment, push_nags, push_number,
+    is_parted, push_any_moves, push_comment, push_nags, push_number, push_outcome,
 };
 use crate::texts::{Known, Texts};
 use crate::usual::begins_usually;
@@ -180,7 +180,7 @@ fn push_moves_with<'a, A: Allocator>(
 }
 
 /// The movetext of a game, by the texts that are known.
-pub fn push_movetext_with<'a, A: Allocator>(
+pub fn push_movetext<'a, A: Allocator>(
     lines: Lines<'a, A>,
     alloc: &'a A,
     tree: &Tree<'a, A>,
@@ -192,7 +192,6 @@ pub fn push_movetext_with<'a, A: Allocator>(
     let mut lines = lines;
     push_comment(&mut lines, tree.root().notes().comment)?;
     let mut lines = push_moves_with(lines, alloc, tree, texts)?;
-    lines.push(b" ")?;
-    lines.push(outcome_text(outcome).as_bytes())?;
+    push_outcome(&mut lines, outcome)?;
     Ok(lines)
 }

@@ -1,9 +1,9 @@
-ghost use Rattle.std.specs.Prelude.{◌≡◌, ◌∷◌, Some, OnOk, IfOk, IsTrue, is_none, length, ◌<◌, not, ◌||◌, true, false};
+ghost use Rattle.std.specs.Prelude.{◌≡◌, ◌++◌, ◌∷◌, Some, OnOk, IfOk, IsTrue, is_none, length, ◌<◌, not, ◌||◌, true, false, codes};
 ghost use Rattle.chess_types.specs.board.Legal.{is_legal};
 ghost use Rattle.chess_types.specs.board.Lines.{extended, last};
 ghost use Rattle.chess_san.specs.Writing.{san};
 ghost use Rattle.chess_tree.specs.Forest.{child};
-ghost use Rattle.chess_pgn.specs.Written.{comment_text, is_noted, movetext, moves_text, nags_text, node_text, number_text, outcome_text};
+ghost use Rattle.chess_pgn.specs.Written.{comment_text, is_noted, moves_text, nags_text, node_text, number_text, outcome_text};
 ghost use Rattle.chess_pgn.specs.steps.Adding.{Adds};
 
 use crate::lines::Lines;
@@ -291,6 +291,17 @@ pub fn outcome_text(outcome: Outcome) -> &'static str
     }
 }
 
+// The end of a movetext: how the game ended.
+pub fn push_outcome<'a, A: Allocator>(
+    lines: &mut Lines<'a, A>,
+    outcome: Outcome,
+) -> Result<(), AllocError>
+    ensures { OnOk result (Adds lines.old lines.new (codes " " ++ outcome_text outcome)) }
+{
+    lines.push(b" ")?;
+    lines.push(outcome_text(outcome).as_bytes())
+}
+
 // The moves of a tree, which are made on a line.
 fn push_moves<'a, A: Allocator>(
     lines: Lines<'a, A>,
@@ -327,21 +338,4 @@ pub fn push_any_moves<'a, A: Allocator>(
         return Ok(lines);
     }
     push_moves(lines, alloc, tree)
-}
-
-/// Writes the movetext of a game.
-pub fn push_movetext<'a, A: Allocator>(
-    lines: Lines<'a, A>,
-    alloc: &'a A,
-    tree: &Tree<'a, A>,
-    outcome: Outcome,
-) -> Result<Lines<'a, A>, AllocError>
-    ensures { IfOk result (λ after. Adds lines.entry after (movetext tree.now.tree outcome)) }
-{
-    let mut lines = lines;
-    push_comment(&mut lines, tree.root().notes().comment)?;
-    let mut lines = push_any_moves(lines, alloc, tree)?;
-    lines.push(b" ")?;
-    lines.push(outcome_text(outcome).as_bytes())?;
-    Ok(lines)
 }

@@ -7,9 +7,9 @@ ghost use Rattle.chess_pgn.specs.Written.{behind_text, escaped, game_text, is_be
 ghost use Rattle.chess_pgn.specs.steps.GameCode.{game_of, tags_of};
 
 use crate::game::Game;
-use crate::known_moves::push_movetext_with;
+use crate::known_moves::push_movetext;
 use crate::lines::Lines;
-use crate::movetext::{outcome_text, push_movetext};
+use crate::movetext::outcome_text;
 use crate::others::OtherTags;
 use crate::tags::Tags;
 use crate::texts::Texts;
@@ -149,25 +149,8 @@ fn push_tags<'a, A: Allocator>(
     push_behind(text, &tags.others, start)
 }
 
-// The tags, an empty line, the movetext in lines of at most 79 bytes, and an empty line.
+// The tags, an empty line, the movetext in lines of at most 79 bytes, and an empty line. Moves of which the texts are known aren't made.
 fn write_parts<'a, A: Allocator>(
-    alloc: &'a A,
-    tags: &Tags<'a, A>,
-    outcome: Outcome,
-    tree: &Tree<'a, A>,
-) -> Result<Vec<u8, &'a A>, PgnFault>
-    ensures ok { IfOk result (λ text. text.items ≡ game_text (record { tags = tags_of tags.now; outcome = outcome; tree = tree.now.tree })) }
-    ensures memory { IfErr result (λ fault. fault ≡ record { place = 0; kind = Memory }) }
-{
-    let mut text = Vec::new(alloc);
-    text.reserve(ROOM)?;
-    push_tags(&mut text, tags, outcome, tree.position())?;
-    let lines = push_movetext(Lines::new(text)?, alloc, tree, outcome)?;
-    Ok(lines.finish()?)
-}
-
-// The same, by the texts of moves that are known.
-fn write_parts_with<'a, A: Allocator>(
     alloc: &'a A,
     tags: &Tags<'a, A>,
     outcome: Outcome,
@@ -180,7 +163,7 @@ fn write_parts_with<'a, A: Allocator>(
     let mut text = Vec::new(alloc);
     text.reserve(ROOM)?;
     push_tags(&mut text, tags, outcome, tree.position())?;
-    let lines = push_movetext_with(Lines::new(text)?, alloc, tree, outcome, texts)?;
+    let lines = push_movetext(Lines::new(text)?, alloc, tree, outcome, texts)?;
     Ok(lines.finish()?)
 }
 
@@ -198,7 +181,7 @@ pub fn write_game_with<'a, A: Allocator>(
     ensures ok { IfOk result (λ text. text.items ≡ game_text (game_of game.now)) }
     ensures memory { IfErr result (λ fault. fault ≡ record { place = 0; kind = Memory }) }
 {
-    write_parts_with(alloc, &game.tags, game.result, &game.tree, texts)
+    write_parts(alloc, &game.tags, game.result, &game.tree, texts)
 }
 
 /// The export form of a game (PGN 3.2): its tags, an empty line, the movetext in lines of at most 79 bytes, and an empty line.
@@ -213,7 +196,7 @@ pub fn write_game<'a, A: Allocator>(
     ensures ok { IfOk result (λ text. text.items ≡ game_text (game_of game.now)) }
     ensures memory { IfErr result (λ fault. fault ≡ record { place = 0; kind = Memory }) }
 {
-    write_parts(alloc, &game.tags, game.result, &game.tree)
+    write_game_with(alloc, game, &Texts::unwanted(alloc))
 }
 
 /// The export form of a game of which the moves are known and nothing else: tags `?`, and `*` for how it ended.
@@ -229,5 +212,6 @@ pub fn write_tree<'a, A: Allocator>(
     ensures memory { IfErr result (λ fault. fault ≡ record { place = 0; kind = Memory }) }
 {
     let tags = Tags::unknown(alloc)?;
-    write_parts(alloc, &tags, Outcome::Unfinished, tree)
+    let texts = Texts::unwanted(alloc);
+    write_parts(alloc, &tags, Outcome::Unfinished, tree, &texts)
 }
