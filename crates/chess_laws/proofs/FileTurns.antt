@@ -1,17 +1,17 @@
 -- The board with its files turned round.
-use Rattle.std.proofs.Common.{◌≡◌, ℕ, ◌<◌, ◌==◌, Bool, true, false, not, ◌&&◌, ◌||◌, Option, Some, None, refl, sym, ap, subst, ◌∙◌, arith}
+use Rattle.std.proofs.Common.{◌≡◌, ℕ, ◌<◌, ◌==◌, true, false, not, ◌&&◌, Option, Some, None, refl, sym, ap, subst, ◌∙◌, arith}
 use Rattle.std.specs.List.{Contains}
 use Rattle.std.proofs.lemmas.Bool.{false_from_ne_true, true≢false}
 use Rattle.std.proofs.lemmas.Bool.Decides.{nat_tests}
 use Rattle.chess_types.specs.declared.board.axis.Axis.{Axis}
-use Rattle.chess_types.specs.declared.board.axis.Axis.TheVariants.{Rank, File, Rising, Falling}
+use Rattle.chess_types.specs.declared.board.axis.Axis.TheVariants.{Rank}
 use Rattle.chess_types.specs.declared.board.man.Colour.{Colour}
 use Rattle.chess_types.specs.declared.board.man.Colour.TheVariants.{White, Black}
 use Rattle.chess_types.specs.declared.board.man.Man.{Man}
 use Rattle.chess_types.specs.declared.board.position.Wing.{Wing}
 use Rattle.chess_types.specs.declared.board.position.Wing.TheVariants.{KingSide, QueenSide}
 use Rattle.chess_types.specs.board.Board.{Board, man_at}
-use Rattle.chess_types.specs.board.Squares.{file_of, rank_of, is_between_on, is_between, squares}
+use Rattle.chess_types.specs.board.Squares.{rank_of, is_between_on, squares}
 use Rattle.chess_types.specs.board.MoveParts.{MoveParts}
 use Rattle.chess_types.specs.board.Attack.{leaps, slides, slides_to, in_check}
 use Rattle.chess_types.specs.board.Position.{PositionParts, IsSetup, holds, man_on}
@@ -26,7 +26,6 @@ use Rattle.chess_play.proofs.Setups.{untouched}
 use Rattle.chess_moves.proofs.LegalLaws.{listed_legal}
 use Rattle.chess_laws.specs.DeadLaws.{is_mate}
 use Rattle.chess_laws.specs.FlipLaws.{flip, flipped, IsFlipped}
-use Rattle.chess_laws.proofs.SquareColours.{on_all}
 use Rattle.chess_laws.proofs.Symmetry.{Symmetry, IsSeen, recolour}
 use Rattle.chess_laws.proofs.SymmetryTables.{symmetry, other_axis}
 use Rattle.chess_laws.proofs.SeenAttacks.{check_across, there_across}

@@ -1,10 +1,10 @@
 -- The board seen from the other side: ranks turned round, colours exchanged.
-use Rattle.std.proofs.Common.{◌≡◌, ℕ, ◌<◌, ◌==◌, Bool, true, false, not, ◌&&◌, ◌||◌, Option, Some, None, refl, sym, ap, subst, ◌∙◌, arith, inl, inr}
+use Rattle.std.proofs.Common.{◌≡◌, ℕ, ◌<◌, ◌==◌, Bool, not, ◌&&◌, ◌||◌, Option, Some, None, refl, sym, ap, subst, ◌∙◌, arith, inl, inr}
 use Rattle.std.specs.FinMap.{remove}
 use Rattle.std.proofs.lemmas.Bool.{cases_Bool}
 use Rattle.std.proofs.lemmas.Bool.Decides.{nat_tests}
 use Rattle.chess_types.specs.declared.board.axis.Axis.{Axis}
-use Rattle.chess_types.specs.declared.board.axis.Axis.TheVariants.{Rank, File, Rising, Falling}
+use Rattle.chess_types.specs.declared.board.axis.Axis.TheVariants.{Rank}
 use Rattle.chess_types.specs.declared.board.man.Colour.{Colour}
 use Rattle.chess_types.specs.declared.board.man.Colour.TheVariants.{White, Black}
 use Rattle.chess_types.specs.declared.board.man.Man.{Man}
@@ -12,7 +12,7 @@ use Rattle.chess_types.specs.declared.board.position.Rights.{Rights}
 use Rattle.chess_types.specs.declared.board.position.Wing.{Wing}
 use Rattle.chess_types.specs.declared.board.position.Wing.TheVariants.{KingSide, QueenSide}
 use Rattle.chess_types.specs.board.Board.{Men, man_at}
-use Rattle.chess_types.specs.board.Squares.{file_of, rank_of, is_between_on, is_between, squares}
+use Rattle.chess_types.specs.board.Squares.{rank_of, is_between_on, squares}
 use Rattle.chess_types.specs.board.Men.{opponent, is_king, same_colour}
 use Rattle.chess_types.specs.board.MoveParts.{MoveParts}
 use Rattle.chess_types.specs.board.Attack.{leaps, slides, slides_to, is_clear, is_attacked, in_check}
@@ -25,7 +25,6 @@ use Rattle.chess_play.proofs.CastlingSquares.{crossed_inside, rook_inside}
 use Rattle.chess_eval.specs.Mirror.{across, recoloured}
 use Rattle.chess_laws.specs.DeadLaws.{is_mate}
 use Rattle.chess_laws.specs.MirrorLaws.{turned, IsTurned}
-use Rattle.chess_laws.proofs.SquareColours.{on_all}
 use Rattle.chess_laws.proofs.Symmetry.{Symmetry, IsSeen, recolour}
 use Rattle.chess_laws.proofs.SymmetryTables.{symmetry, other_axis}
 use Rattle.chess_laws.proofs.SeenAttacks as attacks
