@@ -1,4 +1,4 @@
-//! A table of games, read and written: what is written stands there as the standard has it.
+//! A table of games, read and written: each row has the export form of its games (PGN 3.2).
 ghost use Rattle.std.specs.Prelude.{◌<◌};
 
 use super::common::{UNKNOWN, read_all};
@@ -6,7 +6,7 @@ use std::alloc::{AllocError, Allocator};
 use std::process::Abort;
 use std::test::Fail;
 
-/// The game that the standard shows (PGN 2.3), which stands there as it is written.
+/// The game that the standard shows (PGN 2.3), in export form: what is read of it is written as the same bytes.
 const STANDARD: &str = "[Event \"F/S Return Match\"]\n\
 [Site \"Belgrade, Serbia JUG\"]\n\
 [Date \"1992.11.04\"]\n\
