@@ -1,7 +1,9 @@
 //! Taking the items of a text, one after another.
 
-ghost use Rattle.std.specs.Prelude.{◌≡◌, ◌<◌, ◌≤◌, ◌+◌, length, take, IfErr, IfOk, MatchBool};
+ghost use Rattle.std.specs.Prelude.{◌≡◌, ◌<◌, ◌≤◌, ◌+◌, length, take, IfErr, IfOk, IfSome, MatchBool, Ok};
 ghost use Rattle.chess_items.specs.steps.Deciding.{Decides};
+ghost use Rattle.chess_items.specs.declared.place.Place.TheVariants.{InLine};
+ghost use Rattle.chess_items.specs.steps.Singles.{IsSingle, IsWithin};
 ghost use Rattle.chess_items.specs.steps.Taking.{Offered, Settles, Steps, Ran, RunBreaks, settled};
 ghost use Rattle.chess_items.specs.steps.Texts.{BreaksAt};
 ghost use Rattle.chess_items.specs.steps.Tokens.{item_of};
@@ -159,8 +161,44 @@ fn take_read<X: Text, T: Taker>(
     Ok(settle(text, answer, next, used, white, left))
 }
 
+// The first byte, where it is within a line and another is after it.
+#[inline(always)]
+fn first_within(place: Place, bytes: &[u8]) -> Option<u8>
+    ensures { IfSome result (λ b. IsWithin place b bytes.now) }
+{
+    if !matches!(place, Place::InLine) {
+        return None;
+    }
+    let (&b, rest) = bytes.split_first()?;
+    if rest.is_empty() {
+        return None;
+    }
+    Some(b)
+}
+
+// Takes an item of one byte within a line, with another byte after it.
+#[inline(always)]
+fn take_single<X: Text, T: Taker>(
+    text: &mut X,
+    taker: &mut T,
+    token: Token<'_>,
+    at: usize,
+    most: usize,
+) -> Step
+    requires sound { X.sound text.old }
+    requires single { IsSingle (X.at_hand text.old) (item_of token) }
+    ensures steps { Steps X.comes X.at_hand X.all X.sound X.size T.takes at most InLine text.old text.new taker.old taker.new (Ok result) }
+{
+    let left = text.unread().len() - 1;
+    let used = text.unread().len() - left;
+    let next = Place::InLine.after(token);
+    let white = token.is_white();
+    let answer = offer(taker, at, token, used, most);
+    settle(text, answer, next, used, white, left)
+}
+
 // Takes one item, of at most `most` bytes. Where a byte is at hand after the first item, no read can change it, and it is taken at
-// once: so the bytes of nearly all items are looked at once.
+// once: so the bytes of nearly all items are looked at once. A space and a period, half of all items, are told by their byte alone.
 #[inline(always)]
 fn take_one<X: Text, T: Taker>(
     text: &mut X,
@@ -173,6 +211,14 @@ fn take_one<X: Text, T: Taker>(
     ensures steps { Steps X.comes X.at_hand X.all X.sound X.size T.takes at most place text.old text.new taker.old taker.new result }
     ensures broken { IfErr result (λ fault. BreaksAt X.comes X.at_hand X.breaks X.all X.sound place text.old text.new fault) }
 {
+    if let Some(b) = first_within(place, text.unread()) {
+        if b == b' ' {
+            return Ok(take_single(text, taker, Token::Blank(b' '), at, most));
+        }
+        if b == b'.' {
+            return Ok(take_single(text, taker, Token::Skipped, at, most));
+        }
+    }
     let Some((token, rest)) = item(place, text.unread()) else {
         return take_read(text, taker, place, at, most);
     };

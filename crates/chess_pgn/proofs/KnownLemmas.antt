@@ -1,176 +1,187 @@
--- The texts of the moves of a line, one more; and what is written of a line whose texts are known.
-use Rattle.std.proofs.Common.{◌≡◌, ◌<◌, ◌≤◌, ℕ, ◌+◌, ◌==◌, Bool, true, false, not, ◌||◌, List, [], ◌∷◌, ◌++◌, length, map, Option, Some, None, refl, sym, ap, subst, ◌∙◌, arith, append_assoc, append-nil, codes}
-use Rattle.std.specs.Prelude.{if◌then◌else◌, Ok, bytes_eq, is_none}
-use Rattle.std.proofs.lemmas.Slice.Eq.{bytes_eq-Decides}
-use Rattle.chess_types.specs.declared.board.man.Colour.{Colour}
-use Rattle.chess_types.specs.declared.board.man.Colour.TheVariants.{White, Black}
-use Rattle.chess_types.specs.declared.board.man.Man.{Man}
-use Rattle.chess_types.specs.board.Men.{opponent}
+-- Moves of which the texts are known.
+use Rattle.std.proofs.Common.{◌≡◌, ◌≤◌, ℕ, zero, suc, ◌-◌, ◌==◌, Bool, true, false, List, [], ◌∷◌, ◌++◌, length, reverse, Option, Some, None, Bor, IfSome, is_some, get_or, ltb, inl, inr, refl, sym, ap, subst, ◌∙◌, arith}
+use Rattle.std.specs.declared.boxed.Box.{Box}
+use Rattle.std.specs.Prelude.{if◌then◌else◌, option_map, slice_get}
+use Rattle.std.proofs.lemmas.Option.{slice_get_past, slice_get_read}
+use Rattle.std.proofs.lemmas.Bool.{cases_eq, cond-false, cond-true, eq-eqb, eqb-true, ltb-false, ltb-true, ne_eqb}
+use Rattle.std.proofs.lemmas.List.{reverse-append}
 use Rattle.chess_types.specs.board.MoveParts.{MoveParts}
-use Rattle.chess_types.specs.board.Position.{PositionParts, man_on, start}
-use Rattle.chess_types.specs.board.After.{after, after_by, number_after}
-use Rattle.chess_types.specs.board.Legal.{is_legal}
-use Rattle.chess_types.specs.board.Lines.{Line, extended, last, play}
+use Rattle.chess_types.specs.board.Position.{PositionParts, start}
+use Rattle.chess_types.specs.board.After.{after}
+use Rattle.chess_types.specs.board.Lines.{Line, extended, last}
 use Rattle.chess_types.proofs.PlayLaws.{last_extended}
-use Rattle.chess_types.proofs.MoveLemmas.{legal_pseudo, pseudo_man}
 use Rattle.chess_san.specs.Writing.{mark_text, san}
-use Rattle.chess_tree.specs.Forest.{Forest, Bare, Node, NodeParts, child}
-use Rattle.chess_tree.specs.Edits.{without_node}
-use Rattle.chess_tree.specs.GameTree.{is_move}
-use Rattle.std.specs.Option.{option_eq}
-use Rattle.std.proofs.lemmas.Bool.{and_parts, eqb-true, false≢true}
-use Rattle.chess_types.specs.declared.board.man.Kind.{Kind}
-use Rattle.chess_types.specs.board.Men.{kind_number}
-use Rattle.chess_types.specs.steps.ManCode.{kind_of, kind_of-number}
-use Rattle.chess_pgn.proofs.TaskLemmas.{first_node, no_nodes, none_is}
-use Rattle.chess_pgn.specs.Written.{comment_text, is_noted, moves_text, nags_text, node_text, number_text}
-use Rattle.chess_pgn.specs.steps.Adding.{Adds}
-use Rattle.chess_pgn.specs.steps.KnownTexts.{AreKnown, IsStick, Says, known_line, played_of}
-use Rattle.chess_pgn.specs.declared.lines.Lines.{Lines}
+use Rattle.chess_tree.specs.CursorLine.{GoesOn}
+use Rattle.chess_tree.specs.GameTree.{TreeParts, line_to}
+use Rattle.chess_pgn.proofs.TaskLemmas.{shortened_extended}
+use Rattle.chess_pgn.specs.steps.Following.{Follows}
+use Rattle.chess_pgn.specs.steps.KnownTexts.{AreKnown, IsKnown, known_at, line_at, way}
+use Rattle.chess_pgn.specs.steps.Tasks.{shortened}
+use Rattle.chess_pgn.specs.steps.Unmoved.{parts_so_far}
 use Rattle.chess_pgn.specs.declared.texts.Known.{Known}
-use Rattle.chess_fen.specs.Reading.{fen_reading}
-use Rattle.chess_fen.specs.Writing.{written}
-use Rattle.chess_pgn.proofs.FenTextLemmas.{usual}
-use Rattle.chess_pgn.proofs.AddLemmas.{adds_none, adds_on, adds_same}
 
-known_on : (p : PositionParts) (ks : List Known) (k : Known) → is_legal (play p (map played_of ks)) k.played ≡ true → k.text.bytes ≡ san (play p (map played_of ks)) k.played
-    → AreKnown p ks → AreKnown p (ks ++ k ∷ [])
-known_on p [] k h g a = (h, g, tt)
-known_on p (x ∷ xs) k h g a = (a.0, a.1, known_on (after p x.played) xs k h g a.2)
+-- ---- one more
 
-pub known_more : (ks ks' : List Known) (k : Known) (ms : List MoveParts) → ms ≡ map played_of ks → ks' ≡ ks ++ k ∷ [] → is_legal (last (known_line ms)) k.played ≡ true → k.text.bytes ≡ san (last (known_line ms)) k.played
-    → AreKnown start ks → AreKnown start ks'
-unfolding last
-known_more ks ks' k ms v e h g a =
-    subst (λ (x : List Known). AreKnown start x) (sym e)
-    (known_on start ks k (ap (λ (x : List MoveParts). is_legal (play start x) k.played) (sym v) ∙ h) (g ∙ ap (λ (x : List MoveParts). san (play start x) k.played) v) a)
+-- the way to an earlier one is as it was
+stays : (k : Known) (ks : List Known) (place : ℕ) → place ≤ length ks → way (k ∷ ks) place ≡ way ks place
+stays k ks place h = cond-false _ _ _ (ne_eqb place (suc (length ks)) (λ e. omega (arith, h, e)))
 
-moved : (p : PositionParts) (o : Option Man) (man : Man) (m : MoveParts) → o ≡ Some man → ((after_by p o m).side ≡ opponent p.side) × ((after_by p o m).number ≡ number_after p.side p.number)
-moved p None man m e = absurd cc
-moved p (Some x) man m e = (refl, refl)
+-- the way to the new one
+way_more : (k : Known) (ks : List Known) → way (k ∷ ks) (suc (length ks)) ≡ way ks k.before ++ k.played ∷ []
+way_more k ks = cond-true _ _ _ (eq-eqb (suc (length ks)) (suc (length ks)) refl)
 
-turned : (p : PositionParts) (m : MoveParts) → is_legal p m ≡ true → ((after p m).side ≡ opponent p.side) × ((after p m).number ≡ number_after p.side p.number)
-unfolding after
-turned p m h = let here = pseudo_man p m (legal_pseudo p m h) in moved p (man_on p m.from) here.0 m here.1
+-- ---- one of them
 
-at_most : (side : Colour) (number : ℕ) → number_after side number ≤ number + 1
-at_most White number = omega arith
-at_most Black number = omega arith
+pub record Here (ks : List Known) (place : ℕ) (k : Known) : Type 0 where
+  pub before : k.before ≤ length ks
+  pub within : place ≤ length ks
+  pub known : IsKnown (line_at ks k.before) k
+  pub moves : way ks place ≡ way ks k.before ++ k.played ∷ []
 
-some_is : (x y : NodeParts) → Some x ≡ Some y → x ≡ y
-some_is x y e = cc
+moved_way : (k : Known) (way1 way2 : List MoveParts) → way2 ≡ way1 → IsKnown (record { start = start; moves = way1 }) k → IsKnown (record { start = start; moves = way2 }) k
+moved_way k way1 way2 e = subst (λ (w : List MoveParts). IsKnown (record { start = start; moves = w }) k) (sym e)
 
-pub says_start : {A : Type 0} (a : Lines A) (f : Forest) (ks : List Known) → IsStick f ks → AreKnown start ks → length ks ≤ 20000 → Says f a a f true White 1 ks
-unfolding start
-says_start a f ks stick known few = record { p = start; more = []; adds = adds_none a; text = refl; stick = stick; known = known; side_is = refl; number_is = refl; room = omega (arith, few) }
+some_is : (y z : Known) → Some y ≡ Some z → y ≡ z
+some_is y z e = cc
 
-pub says_all : {A : Type 0} (first f : Forest) (a b : Lines A) (due : Bool) (side : Colour) (number : ℕ) → Says first a b f due side number [] → Adds a b (moves_text false true start first)
-says_all first f a b due side number s =
-    let none : moves_text false due s.p f ≡ [] = ap (λ (x : Forest). moves_text false due s.p x) s.stick in
-    adds_same a b s.more _ (sym (s.text ∙ ap (λ (x : List ℕ). s.more ++ x) none ∙ append-nil s.more)) s.adds
-
--- there is a node
-pub says_some : {A : Type 0} (first f : Forest) (a b : Lines A) (due : Bool) (side : Colour) (number : ℕ) (k : Known) (rest : List Known) → None ≡ child 0 f → Says first a b f due side number (k ∷ rest) → ⊥
-says_some first f a b due side number k rest e s =
-    let (nags, comment, below, is, others) : (nags comment : List ℕ) × (below : Forest) × (f ≡ Node k.played nags comment below Bare) × IsStick below rest = s.stick in
-    by k.played nags comment below (e ∙ ap (child 0) is)
-  where
-    by : (m : MoveParts) (nags comment : List ℕ) (below : Forest) → None ≡ child 0 (Node m nags comment below Bare) → ⊥
-    by m nags comment below e = absurd cc
-
-same_piece : (due : Bool) (side side' : Colour) (number number' : ℕ) (text text' nags nags' comment comment' : List ℕ) → side ≡ side' → number ≡ number' → text ≡ text' → nags ≡ nags' → comment ≡ comment'
-    → (codes " " ++ (number_text due side number ++ (text ++ (nags_text nags ++ comment_text comment)))) ≡ (codes " " ++ (number_text due side' number' ++ (text' ++ (nags_text nags' ++ comment_text comment'))))
-same_piece due side side' number number' text text' nags nags' comment comment' e1 e2 e3 e4 e5 = cc
-
-same_due : (nags nags' comment comment' : List ℕ) (f f' : Forest) → nags ≡ nags' → comment ≡ comment' → f ≡ f'
-    → (is_noted nags comment || not (is_none (child 0 f))) ≡ (is_noted nags' comment' || not (is_none (child 0 f')))
-same_due nags nags' comment comment' f f' e1 e2 e3 = cc
-
-same_rest : (a a' : List ℕ) (due due' : Bool) (q : PositionParts) (f f' : Forest) → a ≡ a' → due ≡ due' → f ≡ f' → a ++ moves_text false due q f ≡ a' ++ moves_text false due' q f'
-same_rest a a' due due' q f f' e1 e2 e3 = cc
-
-same_number : (side side' : Colour) (number number' : ℕ) → side ≡ side' → number ≡ number' → number_after side number ≡ number_after side' number'
-same_number side side' number number' e1 e2 = cc
-
--- and it is written
-pub says_on : {A : Type 0} (first f rest_nodes below : Forest) (found : Option NodeParts) (n : NodeParts) (a b c : Lines A) (due due' : Bool) (side side' : Colour) (number number' : ℕ) (k : Known) (rest : List Known) (nags comment text : List ℕ)
-    → found ≡ Some n → found ≡ child 0 f → rest_nodes ≡ without_node 0 f → nags ≡ n.nags → comment ≡ n.comment → below ≡ n.below → text ≡ k.text.bytes
-    → Adds b c (codes " " ++ (number_text due side number ++ (text ++ (nags_text nags ++ comment_text comment))))
-    → due' ≡ (is_noted nags comment || not (is_none (child 0 rest_nodes)))
-    → (number < 4294967295 → number' ≡ number_after side number)
-    → side' ≡ opponent side
-    → Says first a b f due side number (k ∷ rest) → Says first a c below due' side' number' rest
-says_on first f rest_nodes below found n a b c due due' side side' number number' k rest nags comment text some is others e1 e2 e3 e4 adds e5 e6 e7 s =
-    let (nags', comment', below', stick, on) : (nags' comment' : List ℕ) × (below' : Forest) × (f ≡ Node k.played nags' comment' below' Bare) × IsStick below' rest = s.stick in
-    let same : n ≡ record { move = Some k.played; nags = nags'; comment = comment'; below = below' } = some_is n _ (sym some ∙ is ∙ ap (child 0) stick) in
-    let same_nags : nags ≡ nags' = e1 ∙ ap (λ (x : NodeParts). x.nags) same in
-    let same_comment : comment ≡ comment' = e2 ∙ ap (λ (x : NodeParts). x.comment) same in
-    let same_below : below ≡ below' = e3 ∙ ap (λ (x : NodeParts). x.below) same in
-    let none : rest_nodes ≡ Bare = others ∙ ap (without_node 0) stick in
-    let legal : is_legal s.p k.played ≡ true = s.known.0 in
-    let said : text ≡ san s.p k.played = e4 ∙ s.known.1 in
-    let turn = turned s.p k.played legal in
-    let number_on : number' ≡ number_after side number = e6 (omega (arith, s.room)) in
-    let piece : List ℕ = codes " " ++ (number_text due side number ++ (text ++ (nags_text nags ++ comment_text comment))) in
-    let piece_is : piece ≡ node_text (codes " ") due s.p k.played nags' comment' =
-    same_piece due side s.p.side number s.p.number text (san s.p k.played) nags nags' comment comment' s.side_is s.number_is said same_nags same_comment in
-    let due_is : due' ≡ (is_noted nags' comment' || not (is_none (child 0 Bare))) = e5 ∙ same_due nags nags' comment comment' rest_nodes Bare same_nags same_comment none in
-    let whole : moves_text false due s.p f ≡ piece ++ moves_text false due' (after s.p k.played) below =
-    ap (λ (x : Forest). moves_text false due s.p x) stick ∙ sym (same_rest piece (node_text (codes " ") due s.p k.played nags' comment') due' (is_noted nags' comment' || not (is_none (child 0 Bare))) (after s.p k.played) below below' piece_is due_is same_below) in
+-- the last one
+here_last : (x : Known) (xs : List Known) (place : ℕ) → AreKnown (x ∷ xs) → place ≡ suc (length xs) → Here (x ∷ xs) place x
+here_last x xs place are at =
+    let same = stays x xs x.before are.0 in
     record {
-      p = after s.p k.played;
-      more = s.more ++ piece;
-      adds = adds_on a b c s.more piece s.adds adds;
-      text = s.text ∙ ap (λ (x : List ℕ). s.more ++ x) whole ∙ sym (append_assoc s.more piece (moves_text false due' (after s.p k.played) below));
-      stick = subst (λ (x : Forest). IsStick x rest) (sym same_below) on;
-      known = s.known.2;
-      side_is = e7 ∙ ap opponent s.side_is ∙ sym turn.0;
-      number_is = number_on ∙ same_number side s.p.side number s.p.number s.side_is s.number_is ∙ sym turn.1;
-      room = omega (arith, s.room, at_most side number, number_on);
+      before = omega (arith, are.0);
+      within = omega (arith, at);
+      known = moved_way x (way xs x.before) (way (x ∷ xs) x.before) same are.1;
+      moves = ap (way (x ∷ xs)) at ∙ way_more x xs ∙ ap (λ (w : List MoveParts). w ++ x.played ∷ []) (sym same);
     }
 
--- ---- the usual start
+-- an earlier one
+here_before : (x : Known) (xs : List Known) (place : ℕ) (k : Known) → Here xs place k → Here (x ∷ xs) place k
+here_before x xs place k h =
+    let same = stays x xs k.before h.before in
+    record {
+      before = omega (arith, h.before);
+      within = omega (arith, h.within);
+      known = moved_way k (way xs k.before) (way (x ∷ xs) k.before) same h.known;
+      moves = stays x xs place h.within ∙ h.moves ∙ ap (λ (w : List MoveParts). w ++ k.played ∷ []) (sym same);
+    }
 
-pub begins : (p q : PositionParts) (bytes slice : List ℕ) (r : Bool) → p ≡ q → bytes ≡ written p → slice ≡ bytes → fen_reading bytes ≡ Ok p → r ≡ bytes_eq slice (written start) → r ≡ true → q ≡ start
-begins p q bytes slice r same b e read eq holds =
-    sym same ∙ usual p (sym (ap fen_reading b) ∙ read) (sym b ∙ sym e ∙ (bytes_eq-Decides slice (written start)).0 (sym eq ∙ holds))
+here_by : (x : Known) (xs : List Known) (place : ℕ) (k : Known) (b : Bool) → AreKnown (x ∷ xs) → (known_at xs place ≡ Some k → Here xs place k) → b ≡ (place == suc (length xs)) → (if b then Some x else known_at xs place) ≡ Some k → Here (x ∷ xs) place k
+here_by x xs place k true are earlier b e = subst (λ (z : Known). Here (x ∷ xs) place z) (some_is x k e) (here_last x xs place are (eqb-true _ _ (sym b)))
+here_by x xs place k false are earlier b e = here_before x xs place k (earlier e)
 
--- ---- the only node
+pub here : (ks : List Known) (place : ℕ) (k : Known) → known_at ks place ≡ Some k → AreKnown ks → Here ks place k
+here [] place k e are = absurd cc
+here (x ∷ xs) place k e are = here_by x xs place k (place == suc (length xs)) are (λ h. here xs place k h are.2) refl e
 
-same_kind : (k l : Kind) → (kind_number k == kind_number l) ≡ true → k ≡ l
-same_kind k l e = sym (kind_of-number k) ∙ ap kind_of (eqb-true _ _ e) ∙ kind_of-number l
+-- to what isn't one of them there is no way
+none_by : (x : Known) (xs : List Known) (place : ℕ) (b : Bool) → (known_at xs place ≡ None → way xs place ≡ []) → (if b then Some x else known_at xs place) ≡ None → (if b then way xs x.before ++ x.played ∷ [] else way xs place) ≡ []
+none_by x xs place true earlier e = absurd cc
+none_by x xs place false earlier e = earlier e
 
-same_promo : (a b : Option Kind) → option_eq (λ k l. kind_number k == kind_number l) a b ≡ true → a ≡ b
-same_promo None None e = refl
-same_promo None (Some l) e = absurd (false≢true e)
-same_promo (Some k) None e = absurd (false≢true e)
-same_promo (Some k) (Some l) e = ap (λ (x : Kind). Some x) (same_kind k l e)
+none_way : (ks : List Known) (place : ℕ) → known_at ks place ≡ None → way ks place ≡ []
+none_way [] place e = refl
+none_way (x ∷ xs) place e = none_by x xs place (place == suc (length xs)) (none_way xs place) e
 
-same_move : (m n : MoveParts) → is_move m n ≡ true → m ≡ n
-same_move m n e =
-    let front = and_parts (m.from == n.from) _ e in
-    let back = and_parts (m.to == n.to) _ front.1 in
-    let from : m.from ≡ n.from = eqb-true _ _ front.0 in
-    let to : m.to ≡ n.to = eqb-true _ _ back.0 in
-    let promo = same_promo m.promo n.promo back.1 in
-    λ i. record { from = from i; to = to i; promo = promo i }
+none_at : (ks : List Known) → known_at ks 0 ≡ None
+none_at [] = refl
+none_at (x ∷ xs) = cond-false _ _ _ (ne_eqb 0 (suc (length xs)) (λ e. omega (arith, e))) ∙ none_at xs
 
-pub one_node : (f rest below : Forest) (found : Option NodeParts) (n : NodeParts) (move : Option MoveParts) (m played : MoveParts) (empty same : Bool) → found ≡ Some n → found ≡ child 0 f → rest ≡ without_node 0 f
-    → move ≡ Some m → move ≡ n.move → below ≡ n.below → empty ≡ is_none (child 0 rest) → empty ≡ true → same ≡ is_move m played → same ≡ true
-    → (nags : List ℕ) × (comment : List ℕ) × (f ≡ Node played nags comment below Bare)
-one_node f rest below found n move m played empty same some is others moved at under none holds eq t =
-    let first = first_node {nags = n.nags} {comment = n.comment} some is others moved at refl refl under in
-    let last : rest ≡ Bare = no_nodes rest (none_is (child 0 rest) empty none holds) in
-    (n.nags, n.comment, first.is ∙ ap (λ (x : Forest). Node m n.nags n.comment below x) last ∙ ap (λ (x : MoveParts). Node x n.nags n.comment below Bare) (same_move m played (sym eq ∙ t)))
+-- ---- by its place among all
 
-no_known : (ks : List Known) → length ks ≡ 0 → ks ≡ []
-no_known [] e = refl
-no_known (k ∷ ks) e = absurd (omega (arith, e))
+one_longer : {A : Type 0} (xs : List A) (x : A) → length (xs ++ x ∷ []) ≡ suc (length xs)
+one_longer [] x = refl
+one_longer (y ∷ xs) x = ap suc (one_longer xs x)
 
-pub stick_end : (nodes first : Forest) (rest all : List Known) (empty : Bool) → length rest ≡ 0 → empty ≡ is_none (child 0 nodes) → empty ≡ true → (IsStick nodes rest → IsStick first all) → IsStick first all
-stick_end nodes first rest all empty e h t f = f (subst (λ (r : List Known). IsStick nodes r) (sym (no_known rest e)) (no_nodes nodes (none_is (child 0 nodes) empty h t)))
+first_at : (ks : List Known) (x : Known) → known_at (ks ++ x ∷ []) 1 ≡ Some x
+first_at [] x = refl
+first_at (k ∷ ks) x = cond-false _ _ _ (ne_eqb 1 (suc (length (ks ++ x ∷ []))) (λ e. omega (arith, e, one_longer ks x))) ∙ first_at ks x
 
--- ---- the text of a move that was read, in one part or two
+later_at : (ks : List Known) (x : Known) (i : ℕ) → known_at (ks ++ x ∷ []) (suc (suc i)) ≡ known_at ks (suc i)
+later_at [] x i = cond-false _ _ _ (ne_eqb (suc (suc i)) 1 (λ e. omega (arith, e)))
+later_at (k ∷ ks) x i =
+    elim (cases_eq i (length ks)) [
+      | inl e ↦ cond-true _ _ _ (eq-eqb (suc (suc i)) (suc (length (ks ++ x ∷ []))) (ap suc (ap suc e ∙ sym (one_longer ks x)))) ∙ sym (cond-true _ _ _ (eq-eqb (suc i) (suc (length ks)) (ap suc e)))
+      | inr n ↦ cond-false _ _ _ (ne_eqb (suc (suc i)) (suc (length (ks ++ x ∷ []))) (λ e. n (omega (arith, e, one_longer ks x)))) ∙ later_at ks x i ∙ sym (cond-false _ _ _ (ne_eqb (suc i) (suc (length ks)) (λ e. n (omega (arith, e)))))
+    ]
+
+reversed : (x : Known) (xs : List Known) (place : ℕ) → known_at (reverse (x ∷ xs)) place ≡ known_at (reverse xs ++ x ∷ []) place
+reversed x xs place = ap (λ (l : List Known). known_at l place) (reverse-append (x ∷ []) xs)
+
+pub by_place : (items : List Known) (i : ℕ) → known_at (reverse items) (suc i) ≡ slice_get items i
+by_place [] i = refl
+by_place (x ∷ xs) zero = reversed x xs 1 ∙ first_at (reverse xs) x
+by_place (x ∷ xs) (suc i) = reversed x xs (suc (suc i)) ∙ later_at (reverse xs) x i ∙ by_place xs i
+
+pub got : (xs : List Known) (i : ℕ) (o : Option (Bor Known)) → is_some o ≡ ltb i (length xs) → IfSome o (λ x. x.now ≡ get_or xs i x.now) → option_map (λ x. x.now) o ≡ slice_get xs i
+got xs i None e h = sym (slice_get_past xs i (ltb-false i (length xs) (sym e)))
+got xs i (Some x) e h = sym (slice_get_read xs (length xs) i x.now refl (ltb-true i (length xs) (sym e)) h)
+
+pub no_place : (ks : List Known) (place : ℕ) → place ≡ 0 → None ≡ known_at ks place
+no_place ks place e = sym (ap (known_at ks) e ∙ none_at ks)
+
+pub at_place : (items slice ks : List Known) (place : ℕ) → slice ≡ items → reverse items ≡ ks → (place ≡ 0 → ⊥) → slice_get slice (place - 1) ≡ known_at ks place
+at_place items slice ks zero e v n = absurd (n refl)
+at_place items slice ks (suc i) e v n =
+    ap (λ (l : List Known). slice_get l (suc i - 1)) e ∙ ap (slice_get items) (omega arith) ∙ sym (by_place items i) ∙ ap (λ (l : List Known). known_at l (suc i)) v
+
+pub known_here : (items ks : List Known) (place : ℕ) (k : Known) → reverse items ≡ ks → AreKnown (reverse items) → known_at ks place ≡ Some k → Here ks place k
+known_here items ks place k v are e = here ks place k e (subst AreKnown v are)
+
+-- ---- lines
+
+-- the line to the one before it
+pub line_before : (ks : List Known) (place : ℕ) (k : Known) → Here ks place k → line_at ks k.before ≡ shortened (line_at ks place)
+line_before ks place k h = sym (ap (λ (w : List MoveParts). shortened (record { start = start; moves = w })) h.moves ∙ shortened_extended (line_at ks k.before) k.played)
+
+pub line_none : (ks : List Known) (place : ℕ) → known_at ks place ≡ None → line_at ks 0 ≡ shortened (line_at ks place)
+line_none ks place e = ap (λ (w : List MoveParts). record { start = start; moves = w }) (none_way ks 0 (none_at ks)) ∙ sym (ap (λ (w : List MoveParts). shortened (record { start = start; moves = w })) (none_way ks place e))
+
+pub line_here : (ks : List Known) (place before : ℕ) (k : Known) (m : MoveParts) → Here ks place k → k.before ≡ before → k.played ≡ m → line_at ks place ≡ extended (line_at ks before) m
+line_here ks place before k m h e p = ap (λ (w : List MoveParts). record { start = start; moves = w }) (h.moves ∙ (λ i. way ks (e i) ++ p i ∷ []))
+
+pub known_of : (ks : List Known) (place before : ℕ) (k : Known) → Here ks place k → k.before ≡ before → IsKnown (line_at ks before) k
+known_of ks place before k h e = subst (λ (n : ℕ). IsKnown (line_at ks n) k) e h.known
+
+pub line_start : (ks : List Known) → line_at ks 0 ≡ record { start = start; moves = [] }
+line_start ks = ap (λ (w : List MoveParts). record { start = start; moves = w }) (none_way ks 0 (none_at ks))
+
+-- ---- at a cursor
+
+pub some_if : {A P : Type 0} (o : Option A) → is_some o ≡ true → IfSome o (λ x. P) → P
+some_if None e h = absurd cc
+some_if (Some x) e h = h
+
+-- a step back
+pub went_back : {Z : Type 0} (at : Option ℕ) (place result : ℕ) (ks : List Known) (p : PositionParts) (held : Option (Box TreeParts Z)) (box : Box TreeParts Z) (old new : TreeParts) → at ≡ Some place → held ≡ Some box → old ≡ box.value → GoesOn new old
+    → Follows at ks (parts_so_far p held) → line_at ks result ≡ shortened (line_at ks place) → line_to new ≡ line_at ks result
+went_back {Z} at place result ks p held box old new e h o on follows b =
+    let here : Follows (Some place) ks (parts_so_far p (Some box)) = subst (λ (x : Option (Box TreeParts Z)). Follows (Some place) ks (parts_so_far p x)) h (subst (λ (x : Option ℕ). Follows x ks (parts_so_far p held)) e follows) in
+    sym (shortened_extended (line_to new) on.move) ∙ ap shortened (sym on.line ∙ ap line_to o ∙ here.0) ∙ sym b
+
+-- the move that was made last
+last_move : (ms : List MoveParts) (m : MoveParts) → slice_get (ms ++ m ∷ []) (length ms) ≡ Some m
+last_move [] m = refl
+last_move (n ∷ ms) m = last_move ms m
+
+some_move : (m n : MoveParts) → Some m ≡ Some n → m ≡ n
+some_move m n e = cc
+
+-- a step to a child
+pub stepped : (place next : ℕ) (ks : List Known) (old new : TreeParts) (depth : ℕ) (played : Option MoveParts) (m : MoveParts) → GoesOn old new → line_to old ≡ line_at ks place → depth ≡ length (line_to old).moves → played ≡ slice_get (line_to new).moves depth
+    → played ≡ Some m → line_at ks next ≡ extended (line_at ks place) m → line_to new ≡ line_at ks next
+stepped place next ks old new depth played m on follows d p some here =
+    let made : slice_get (line_to new).moves depth ≡ Some on.move = ap (λ (l : Line). slice_get l.moves depth) on.line ∙ ap (slice_get ((line_to old).moves ++ on.move ∷ [])) d ∙ last_move (line_to old).moves on.move in
+    let same : on.move ≡ m = some_move on.move m (sym made ∙ sym p ∙ some) in
+    on.line ∙ (λ i. extended (follows i) (same i)) ∙ sym here
+
+-- ---- the text of a move, in one part or two
+
+pub text_whole : (line l1 l2 l3 : Line) (m : MoveParts) (text mark : List ℕ) → l1 ≡ line → l2 ≡ l1 → l3 ≡ extended l2 m → text ++ mark_text (after (last l1) m) ≡ san (last l1) m → mark ≡ mark_text (last l3) → text ++ mark ≡ san (last line) m
+text_whole line l1 l2 l3 m text mark e1 e2 e3 whole e4 =
+    let k : mark_text (last l3) ≡ mark_text (after (last l1) m) =
+    ap (λ (l : Line). mark_text (last l)) e3 ∙ ap mark_text (last_extended l2 m) ∙ ap (λ (l : Line). mark_text (after (last l) m)) e2 in
+    ap (λ (b : List ℕ). text ++ b) (e4 ∙ k) ∙ whole ∙ ap (λ (l : Line). san (last l) m) e1
 
 pub marked_text : (line made known : Line) (m : MoveParts) (whole : Bool) (text final : List ℕ) → made ≡ extended line m → line ≡ known
     → (whole ≡ false → text ++ mark_text (after (last line) m) ≡ san (last line) m) → (whole ≡ true → text ≡ san (last line) m)

@@ -343,14 +343,14 @@ has_room texts xs lines h few = (let e = frames_long texts xs (reverse lines) h 
 less_one : (n : ℕ) → suc n - 1 ≡ n
 less_one n = omega arith
 
-pub open_goes : (t t' : TreeParts) (lines lines' : List Interrupted) (played : Bool) (comments : List ℕ) (from from' depth place : ℕ)
+pub open_goes : (t t' : TreeParts) (lines lines' : List Interrupted) (played : Bool) (comments : List ℕ) (from from' depth place known : ℕ)
     → length lines < 128 → played ≡ true → depth ≡ length t.path - 1 → place ≡ unwrap_or (slice_get t.path depth) 0
-    → lines' ≡ lines ++ record { depth = depth; place = place; from = from } ∷ [] → (t.path ≢ [] → t' ≡ at_path (parent t.path) t) → from' ≡ length comments
+    → lines' ≡ lines ++ record { depth = depth; place = place; known = known; from = from } ∷ [] → (t.path ≢ [] → t' ≡ at_path (parent t.path) t) → from' ≡ length comments
     → (start : PositionParts) (c : List ℕ) (f : Forest) (up : List ℕ) (l : Last) (here : PositionParts) (lead : List ℕ) (st : List Frame)
     → HoldsReading t lines played comments from (state start c f up l here lead st) → Next Open t' lines' false comments from' (state start c f up l here lead st)
-open_goes t t' lines lines' played comments from from' depth place few some ed epl el back ef start c f up None here lead st h = absurd (let k : true ≡ false = sym some ∙ h.played in cc)
-open_goes t t' lines lines' played comments from from' depth place few some ed epl el back ef start c f up (Some x) here lead st h =
-    let i : Interrupted = record { depth = depth; place = place; from = from } in
+open_goes t t' lines lines' played comments from from' depth place known few some ed epl el back ef start c f up None here lead st h = absurd (let k : true ≡ false = sym some ∙ h.played in cc)
+open_goes t t' lines lines' played comments from from' depth place known few some ed epl el back ef start c f up (Some x) here lead st h =
+    let i : Interrupted = record { depth = depth; place = place; known = known; from = from } in
     let y : Frame = record { up = up; place = x.0; before = x.1; here = here; lead = lead } in
     let et : t' ≡ at_path (parent t.path) t = back (λ z. not_nil up x.0 (sym h.path ∙ z)) in
     let deep : depth ≡ length up = ed ∙ ap (λ (z : List ℕ). length z - 1) h.path ∙ omega (arith, length-append up (x.0 ∷ [])) in

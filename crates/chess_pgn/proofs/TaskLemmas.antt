@@ -2,17 +2,18 @@
 use Rattle.std.proofs.Common.{◌≡◌, ◌≤◌, ℕ, Bool, true, false, not, ◌||◌, List, [], ◌∷◌, ◌++◌, length, map, Option, Some, None, refl, sym, ap, subst, ◌∙◌, arith, append_assoc, append-nil, codes, length-append}
 use Rattle.std.specs.Prelude.{Result, Ok, Err, OnOk, MatchOption, is_none}
 use Rattle.std.proofs.lemmas.List.{reverse-append}
+use Rattle.chess_types.specs.declared.board.man.Colour.{Colour}
 use Rattle.chess_types.specs.board.MoveParts.{MoveParts}
 use Rattle.chess_types.specs.board.Position.{PositionParts}
 use Rattle.chess_types.specs.board.After.{after}
 use Rattle.chess_types.specs.board.Legal.{is_legal}
 use Rattle.chess_types.specs.board.Lines.{Line, extended, last}
 use Rattle.chess_types.proofs.PlayLaws.{last_extended}
-use Rattle.chess_san.specs.Writing.{mark_text, san}
+use Rattle.chess_san.specs.Writing.{san}
 use Rattle.chess_tree.specs.Forest.{Forest, Bare, Node, NodeParts, child, height}
 use Rattle.chess_tree.specs.Edits.{without_node}
 use Rattle.chess_tree.specs.WellFormed.{AreSound}
-use Rattle.chess_pgn.specs.Written.{is_noted, moves_text, node_text}
+use Rattle.chess_pgn.specs.Written.{comment_text, is_noted, moves_text, nags_text, node_text, number_text}
 use Rattle.chess_pgn.specs.steps.Adding.{Adds}
 use Rattle.chess_pgn.specs.steps.Tasks.{Todo, Moves, Variations, Below, Close, Back, shortened, without_last, tasks_text, AreTasks}
 use Rattle.chess_pgn.specs.steps.TaskCode.{WritesSome, Done, returning, todo, todos}
@@ -28,13 +29,17 @@ without_last-append (n ∷ k ∷ moves) m = ap (λ (x : List MoveParts). n ∷ x
 pub shortened_extended : (line : Line) (m : MoveParts) → shortened (extended line m) ≡ line
 shortened_extended line m = ap (λ (x : List MoveParts). record { start = line.start; moves = x }) (without_last-append line.moves m)
 
--- a move's text in two parts, the second asked after the move
-pub text_whole : (line l1 l2 l3 : Line) (m : MoveParts) (text bytes mark bytes2 : List ℕ) → l1 ≡ line → l2 ≡ l1 → l3 ≡ extended l2 m → text ++ mark_text (after (last l1) m) ≡ san (last l1) m
-    → bytes ≡ text → bytes2 ≡ mark → mark ≡ mark_text (last l3) → bytes ++ bytes2 ≡ san (last line) m
-text_whole line l1 l2 l3 m text bytes mark bytes2 e1 e2 e3 whole e5 e6 e7 =
-    let k : mark_text (last l3) ≡ mark_text (after (last l1) m) =
-    ap (λ (l : Line). mark_text (last l)) e3 ∙ ap mark_text (last_extended l2 m) ∙ ap (λ (l : Line). mark_text (after (last l) m)) e2 in
-    ap (λ (b : List ℕ). b ++ bytes2) e5 ∙ ap (λ (b : List ℕ). text ++ b) (e6 ∙ e7 ∙ k) ∙ whole ∙ ap (λ (l : Line). san (last l) m) e1
+-- a node that is written, its move's text in two parts
+pub node_written : {A : Type 0} (l0 l1 l2 l3 l4 l5 l6 : Lines A) (opening : List ℕ) (due : Bool) (side : Colour) (number : ℕ) (text mark : List ℕ) (p : PositionParts) (m : MoveParts) (nags comment : List ℕ)
+    → side ≡ p.side → number ≡ p.number → text ++ mark ≡ san p m
+    → Adds l0 l1 opening → Adds l1 l2 (number_text due side number) → Adds l2 l3 text → Adds l3 l4 mark → Adds l4 l5 (nags_text nags) → Adds l5 l6 (comment_text comment)
+    → Adds l0 l6 (node_text opening due p m nags comment)
+node_written l0 l1 l2 l3 l4 l5 l6 opening due side number text mark p m nags comment e h k a0 a1 a2 a3 a4 a5 =
+    let numbered : Adds l1 l2 (number_text due p.side p.number) = adds_same l1 l2 _ _ (λ i. number_text due (e i) (h i)) a1 in
+    let spoken : Adds l2 l4 (san p m) = adds_same l2 l4 (text ++ mark) (san p m) k (adds_on l2 l3 l4 text mark a2 a3) in
+    adds_on l0 l1 l6 opening (number_text due p.side p.number ++ (san p m ++ (nags_text nags ++ comment_text comment))) a0
+    (adds_on l1 l2 l6 (number_text due p.side p.number) (san p m ++ (nags_text nags ++ comment_text comment)) numbered
+    (adds_on l2 l4 l6 (san p m) (nags_text nags ++ comment_text comment) spoken (adds_on l4 l5 l6 (nags_text nags) (comment_text comment) a4 a5)))
 
 -- the end of a variation
 pub step_close : {A E : Type 0} (r : Result (Unit {0}) E) (old new : Lines A) (line : Line) (ts : List Todo) → AreTasks line ts → OnOk r (Adds old new (codes ")")) → OnOk r (WritesSome old new line line (Close ∷ ts) ts)
@@ -44,15 +49,13 @@ step_close (Err x) old new line ts are adds = tt
 none_taken : (line line' : Line) → line.moves ≡ [] → line' ≡ line → line' ≡ shortened line
 none_taken line line' none same = same ∙ ap (λ (x : List MoveParts). record { start = line.start; moves = x }) (none ∙ sym (ap without_last none))
 
-popped : (o : Option MoveParts) (line line' : Line) → MatchOption o ((line.moves ≡ []) × (line' ≡ line)) (λ m. line ≡ extended line' m) → line' ≡ shortened line
+pub popped : (o : Option MoveParts) (line line' : Line) → MatchOption o ((line.moves ≡ []) × (line' ≡ line)) (λ m. line ≡ extended line' m) → line' ≡ shortened line
 popped None line line' e = none_taken line line' e.0 e.1
 popped (Some m) line line' e = sym (ap shortened e ∙ shortened_extended line' m)
 
 -- a move taken back
-pub step_back : {A : Type 0} (lines : Lines A) (o : Option MoveParts) (line line' : Line) (ts : List Todo) → AreTasks (shortened line) ts → MatchOption o ((line.moves ≡ []) × (line' ≡ line)) (λ m. line ≡ extended line' m)
-    → Adds lines lines [] → WritesSome lines lines line line' (Back ∷ ts) ts
-step_back lines o line line' ts are e adds =
-    let same = popped o line line' e in
+pub step_back : {A : Type 0} (lines : Lines A) (line line' : Line) (ts : List Todo) → AreTasks (shortened line) ts → line' ≡ shortened line → Adds lines lines [] → WritesSome lines lines line line' (Back ∷ ts) ts
+step_back lines line line' ts are same adds =
     record { more = []; adds = adds; text = ap (λ (l : Line). tasks_text l ts) (sym same); tasks = subst (λ (l : Line). AreTasks l ts) (sym same) are; smaller = omega arith }
 
 -- nothing is left side by side
@@ -155,6 +158,9 @@ pub steps_as : {A : Type 0} {old new : Lines A} {line line1 line2 : Line} {ts ts
 steps_as {old = old} {new} {line} {line1} {ts = ts} {ts2 = ts2} e h s =
     subst (λ (l : Line). WritesSome old new line l ts ts2) (sym e) (subst (λ (x : List Todo). WritesSome old new line line1 ts x) (sym h) s)
 
+pub lines_as : {A : Type 0} {old new1 new2 : Lines A} {line line1 : Line} {ts ts1 : List Todo} → new2 ≡ new1 → WritesSome old new1 line line1 ts ts1 → WritesSome old new2 line line1 ts ts1
+lines_as {A = A} {old = old} {line = line} {line1 = line1} {ts = ts} {ts1 = ts1} e s = subst (λ (x : Lines A). WritesSome old x line line1 ts ts1) (sym e) s
+
 pub todos_push : {A : Type 0} (items : List (Task A)) (t : Task A) → todos (items ++ t ∷ []) ≡ todo t ∷ todos items
 todos_push {A} items t = ap (λ (x : List (Task A)). map todo x) (reverse-append items (t ∷ []))
 
@@ -211,8 +217,8 @@ module _ {A : Type 0} {old new : Lines A} {line : Line} {f : Forest} {m : MovePa
       }
 
 -- a move that is made and taken back
-pub taken_back : (o : Option MoveParts) (line made line' : Line) (m : MoveParts) → made ≡ extended line m → MatchOption o ((made.moves ≡ []) × (line' ≡ made)) (λ n. made ≡ extended line' n) → line' ≡ line
-taken_back o line made line' m e h = popped o made line' h ∙ ap shortened e ∙ shortened_extended line m
+pub taken_back : (line made line' : Line) (m : MoveParts) → made ≡ extended line m → line' ≡ shortened made → line' ≡ line
+taken_back line made line' m e h = h ∙ ap shortened e ∙ shortened_extended line m
 
 pub todos_pushed : {A : Type 0} (items items' : List (Task A)) (t : Task A) → items' ≡ items ++ t ∷ [] → todos items' ≡ todo t ∷ todos items
 todos_pushed {A} items items' t e = ap (λ (x : List (Task A)). todos x) e ∙ todos_push items t

@@ -14,4 +14,6 @@ pub mod Next
 pub mod GameAt
 pub mod Unmoved
 pub mod KnownTexts
+pub mod Spelling
+pub mod Following
 pub mod PlainTexts

@@ -8,13 +8,13 @@
 mod basis;
 mod game;
 mod games;
-mod known_moves;
 mod laws;
 mod lines;
 mod movetext;
 mod others;
 mod plain;
 mod reader;
+mod speller;
 mod tags;
 mod texts;
 mod usual;

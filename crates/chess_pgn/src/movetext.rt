@@ -1,12 +1,14 @@
-ghost use Rattle.std.specs.Prelude.{◌≡◌, ◌++◌, ◌∷◌, Some, OnOk, IfOk, IsTrue, is_none, length, ◌<◌, not, ◌||◌, true, false, codes};
+ghost use Rattle.std.specs.Prelude.{◌≡◌, ◌++◌, ◌∷◌, [], Some, OnOk, IfOk, IfSome, IsTrue, is_none, length, ◌<◌, not, ◌||◌, true, false, codes};
+ghost use Rattle.chess_types.specs.board.Position as position;
 ghost use Rattle.chess_types.specs.board.Legal.{is_legal};
 ghost use Rattle.chess_types.specs.board.Lines.{extended, last};
-ghost use Rattle.chess_san.specs.Writing.{san};
 ghost use Rattle.chess_tree.specs.Forest.{child};
-ghost use Rattle.chess_pgn.specs.Written.{comment_text, is_noted, moves_text, nags_text, node_text, number_text, outcome_text};
+ghost use Rattle.chess_pgn.specs.Written.{comment_text, is_noted, movetext, moves_text, nags_text, node_text, number_text, outcome_text};
 ghost use Rattle.chess_pgn.specs.steps.Adding.{Adds};
 
 use crate::lines::Lines;
+use crate::speller::{Halt, Speller};
+use crate::texts::Texts;
 use chess_draws::Line;
 use chess_items::Outcome;
 use chess_key::KeyTable;
@@ -16,7 +18,7 @@ use itoa::Buffer;
 use std::alloc::{AllocError, Allocator};
 
 // The number of a move and its periods, where it is due.
-pub fn push_number<'a, A: Allocator>(
+fn push_number<'a, A: Allocator>(
     lines: &mut Lines<'a, A>,
     due: bool,
     side: Colour,
@@ -34,7 +36,7 @@ pub fn push_number<'a, A: Allocator>(
 }
 
 // Annotation numbers.
-pub fn push_nags<'a, A: Allocator>(lines: &mut Lines<'a, A>, nags: &[u8]) -> Result<(), AllocError>
+fn push_nags<'a, A: Allocator>(lines: &mut Lines<'a, A>, nags: &[u8]) -> Result<(), AllocError>
     ensures { OnOk result (Adds lines.old lines.new (nags_text nags.now)) }
 {
     for nag in nags {
@@ -45,7 +47,7 @@ pub fn push_nags<'a, A: Allocator>(lines: &mut Lines<'a, A>, nags: &[u8]) -> Res
 }
 
 // A comment, unless it is empty.
-pub fn push_comment<'a, A: Allocator>(
+fn push_comment<'a, A: Allocator>(
     lines: &mut Lines<'a, A>,
     comment: &[u8],
 ) -> Result<(), AllocError>
@@ -67,56 +69,35 @@ fn is_noted(notes: &Notes<'_>) -> bool
 }
 
 // Whether something is between a node's move and the next.
-pub fn is_parted<A: Allocator>(notes: &Notes<'_>, others: &Children<'_, '_, A>) -> bool
+fn is_parted<A: Allocator>(notes: &Notes<'_>, others: &Children<'_, '_, A>) -> bool
     ensures { result ≡ (is_noted notes.now.nags.now notes.now.comment.now || not (is_none (child 0 others.now))) }
 {
     is_noted(notes) || !others.is_empty()
 }
 
-// Makes a move, and writes its text: its mark is asked after it.
-fn push_text<'k, 'a, A: Allocator>(
+// Goes on by the move of a node, and writes it with its number where it is due, and its notes.
+fn push_move<'t, 'k, 'a, A: Allocator>(
     lines: &mut Lines<'a, A>,
-    line: &mut Line<'k, &'a A>,
-    played: Move,
-) -> Result<(), AllocError>
-    requires legal { IsTrue (is_legal (last line.old.line) played) }
-    requires few { length line.old.line.moves < 20000 }
-    requires still { line.old.looked ≡ 0 }
-    ensures adds { OnOk result (Adds lines.old lines.new (san (last line.old.line) played)) }
-    ensures line { OnOk result (line.new.line ≡ extended line.old.line played) }
-    ensures still { OnOk result (line.new.looked ≡ 0) }
-{
-    if line.reserve(1).is_err() {
-        return Err(AllocError);
-    }
-    let text = line.write_unmarked(played);
-    line.push_prepared(played);
-    lines.push(text.as_bytes())?;
-    lines.push(line.write_mark().as_bytes())
-}
-
-// Makes a move, and writes it with its number where it is due, and its notes.
-fn push_move<'k, 'a, A: Allocator>(
-    lines: &mut Lines<'a, A>,
-    line: &mut Line<'k, &'a A>,
+    speller: &mut Speller<'t, 'k, 'a, A>,
     opening: &[u8],
     due: bool,
+    node: u32,
     played: Move,
     notes: &Notes<'_>,
-) -> Result<(), AllocError>
-    requires legal { IsTrue (is_legal (last line.old.line) played) }
-    requires few { length line.old.line.moves < 20000 }
-    requires still { line.old.looked ≡ 0 }
-    ensures adds { OnOk result (Adds lines.old lines.new (node_text opening.now due (last line.old.line) played notes.now.nags.now notes.now.comment.now)) }
-    ensures line { OnOk result (line.new.line ≡ extended line.old.line played) }
-    ensures still { OnOk result (line.new.looked ≡ 0) }
+) -> Result<(), Halt>
+    requires legal { IsTrue (is_legal (last speller.old) played) }
+    requires few { length speller.old.moves < 20000 }
+    ensures adds { OnOk result (Adds lines.old lines.new (node_text opening.now due (last speller.old) played notes.now.nags.now notes.now.comment.now)) }
+    ensures line { OnOk result (speller.new ≡ extended speller.old played) }
 {
+    let spoken = speller.write(node as usize, played)?;
     lines.push(opening)?;
-    let setup = line.live().position();
-    push_number(lines, due, setup.side, setup.number)?;
-    push_text(lines, line, played)?;
+    push_number(lines, due, spoken.side, spoken.number)?;
+    lines.push(spoken.text.as_bytes())?;
+    lines.push(spoken.mark.as_bytes())?;
     push_nags(lines, notes.nags)?;
-    push_comment(lines, notes.comment)
+    push_comment(lines, notes.comment)?;
+    Ok(())
 }
 
 /// What is still to be written.
@@ -126,8 +107,8 @@ enum Task<'t, 'a, A: Allocator> {
     Moves(Children<'t, 'a, A>, bool),
     /// The same, as variations.
     Variations(Children<'t, 'a, A>),
-    /// The nodes below a move, which is still to be made.
-    Below(Move, Children<'t, 'a, A>, bool),
+    /// The nodes below that of a move, by its number, which is still to be made.
+    Below(Move, u32, Children<'t, 'a, A>, bool),
     /// The end of a variation.
     Close,
     /// A move taken back.
@@ -138,8 +119,8 @@ enum Task<'t, 'a, A: Allocator> {
 #[derive(Drop)]
 struct Writer<'t, 'k, 'a, A: Allocator> {
     lines: Lines<'a, A>,
-    /// The moves made, after which the next task goes on.
-    line: Line<'k, &'a A>,
+    /// The line after which the next task goes on.
+    speller: Speller<'t, 'k, 'a, A>,
     tasks: Vec<Task<'t, 'a, A>, &'a A>,
 }
 
@@ -148,30 +129,34 @@ impl<'t, 'k, 'a, A: Allocator> Writer<'t, 'k, 'a, A> {
     ghost use Rattle.chess_pgn.specs.steps.Tasks.{AreTasks, tasks_text};
     ghost use Rattle.chess_pgn.specs.steps.TaskCode.{WritesSome, returning, todo, todos};
 
+    // A task more, which is the next.
+    fn add(&mut self, task: Task<'t, 'a, A>) -> Result<(), AllocError>
+        ensures lines { self.new.lines ≡ self.old.lines }
+        ensures line { self.new.speller ≡ self.old.speller }
+        ensures tasks { OnOk result (self.new.tasks.items ≡ self.old.tasks.items ++ task.entry ∷ []) }
+    {
+        self.tasks.push(task)?;
+        Ok(())
+    }
+
     fn close(&mut self) -> Result<(), AllocError>
-        requires tasks { AreTasks self.old.line.line (tasks.Close ∷ todos self.old.tasks.items) }
-        requires still { self.old.line.looked ≡ 0 }
-        ensures steps { OnOk result (WritesSome self.old.lines self.new.lines self.old.line.line self.new.line.line (tasks.Close ∷ todos self.old.tasks.items) (todos self.new.tasks.items)) }
-        ensures still { OnOk result (self.new.line.looked ≡ 0) }
+        requires { AreTasks self.old.speller (tasks.Close ∷ todos self.old.tasks.items) }
+        ensures { OnOk result (WritesSome self.old.lines self.new.lines self.old.speller self.new.speller (tasks.Close ∷ todos self.old.tasks.items) (todos self.new.tasks.items)) }
     {
         self.lines.push(b")")
     }
 
     fn back(&mut self)
-        requires tasks { AreTasks self.old.line.line (tasks.Back ∷ todos self.old.tasks.items) }
-        requires still { self.old.line.looked ≡ 0 }
-        ensures steps { WritesSome self.old.lines self.new.lines self.old.line.line self.new.line.line (tasks.Back ∷ todos self.old.tasks.items) (todos self.new.tasks.items) }
-        ensures still { self.new.line.looked ≡ 0 }
+        requires { AreTasks self.old.speller (tasks.Back ∷ todos self.old.tasks.items) }
+        ensures { WritesSome self.old.lines self.new.lines self.old.speller self.new.speller (tasks.Back ∷ todos self.old.tasks.items) (todos self.new.tasks.items) }
     {
-        let _taken = self.line.pop();
+        self.speller.back();
     }
 
     // The first node, and the tasks of what is below it and of the others.
-    fn moves(&mut self, nodes: Children<'t, 'a, A>, due: bool) -> Result<(), AllocError>
-        requires tasks { AreTasks self.old.line.line (tasks.Moves nodes due ∷ todos self.old.tasks.items) }
-        requires still { self.old.line.looked ≡ 0 }
-        ensures steps { OnOk result (WritesSome self.old.lines self.new.lines self.old.line.line self.new.line.line (tasks.Moves nodes.entry due ∷ todos self.old.tasks.items) (todos self.new.tasks.items)) }
-        ensures still { OnOk result (self.new.line.looked ≡ 0) }
+    fn moves(&mut self, nodes: Children<'t, 'a, A>, due: bool) -> Result<(), Halt>
+        requires { AreTasks self.old.speller (tasks.Moves nodes due ∷ todos self.old.tasks.items) }
+        ensures { OnOk result (WritesSome self.old.lines self.new.lines self.old.speller self.new.speller (tasks.Moves nodes.entry due ∷ todos self.old.tasks.items) (todos self.new.tasks.items)) }
     {
         let mut others = nodes;
         let Some(node) = others.next() else {
@@ -181,24 +166,31 @@ impl<'t, 'k, 'a, A: Allocator> Writer<'t, 'k, 'a, A> {
             unreachable!();
         };
         let notes = node.notes();
-        push_move(&mut self.lines, &mut self.line, b" ", due, played, &notes)?;
+        let number = node.number();
+        push_move(
+            &mut self.lines,
+            &mut self.speller,
+            b" ",
+            due,
+            number,
+            played,
+            &notes,
+        )?;
         let due_below = is_parted(&notes, &others);
         if others.is_empty() {
-            return self.go_on(node.below(), due_below);
+            self.go_on(node.below(), due_below)?;
+            return Ok(());
         }
-        let _taken = self.line.pop();
-        self.tasks
-            .push(Task::Below(played, node.below(), due_below))?;
-        self.tasks.push(Task::Variations(others))?;
+        self.speller.back();
+        self.add(Task::Below(played, number, node.below(), due_below))?;
+        self.add(Task::Variations(others))?;
         Ok(())
     }
 
     // The first node as a variation, and the tasks of what is below it, of its end, and of the others.
-    fn variations(&mut self, nodes: Children<'t, 'a, A>) -> Result<(), AllocError>
-        requires tasks { AreTasks self.old.line.line (tasks.Variations nodes ∷ todos self.old.tasks.items) }
-        requires still { self.old.line.looked ≡ 0 }
-        ensures steps { OnOk result (WritesSome self.old.lines self.new.lines self.old.line.line self.new.line.line (tasks.Variations nodes.entry ∷ todos self.old.tasks.items) (todos self.new.tasks.items)) }
-        ensures still { OnOk result (self.new.line.looked ≡ 0) }
+    fn variations(&mut self, nodes: Children<'t, 'a, A>) -> Result<(), Halt>
+        requires { AreTasks self.old.speller (tasks.Variations nodes ∷ todos self.old.tasks.items) }
+        ensures { OnOk result (WritesSome self.old.lines self.new.lines self.old.speller self.new.speller (tasks.Variations nodes.entry ∷ todos self.old.tasks.items) (todos self.new.tasks.items)) }
     {
         let mut others = nodes;
         let Some(node) = others.next() else {
@@ -208,57 +200,63 @@ impl<'t, 'k, 'a, A: Allocator> Writer<'t, 'k, 'a, A> {
             unreachable!();
         };
         let notes = node.notes();
-        push_move(&mut self.lines, &mut self.line, b" (", true, played, &notes)?;
+        push_move(
+            &mut self.lines,
+            &mut self.speller,
+            b" (",
+            true,
+            node.number(),
+            played,
+            &notes,
+        )?;
         let due_below = is_noted(&notes);
-        self.tasks.push(Task::Variations(others))?;
-        self.tasks.push(Task::Close)?;
-        self.go_on(node.below(), due_below)
+        self.add(Task::Variations(others))?;
+        self.add(Task::Close)?;
+        self.go_on(node.below(), due_below)?;
+        Ok(())
     }
 
     // After a move that is made, leaves the tasks of what is below it and of taking it back; the last is left out where no task is
     // after it.
     fn go_on(&mut self, nodes: Children<'t, 'a, A>, due: bool) -> Result<(), AllocError>
         ensures lines { self.new.lines ≡ self.old.lines }
-        ensures line { self.new.line ≡ self.old.line }
+        ensures line { self.new.speller ≡ self.old.speller }
         ensures tasks { OnOk result (todos self.new.tasks.items ≡ tasks.Moves nodes.entry due ∷ returning self.old.tasks.items) }
     {
         if !self.tasks.is_empty() {
-            self.tasks.push(Task::Back)?;
+            self.add(Task::Back)?;
         }
-        self.tasks.push(Task::Moves(nodes, due))?;
-        Ok(())
+        self.add(Task::Moves(nodes, due))
     }
 
     // Makes a move whose notes and variations are written, and leaves the tasks of what is below it and of taking it back.
     fn below(
         &mut self,
         played: Move,
+        node: u32,
         nodes: Children<'t, 'a, A>,
         due: bool,
-    ) -> Result<(), AllocError>
-        requires tasks { AreTasks self.old.line.line (tasks.Below played nodes due ∷ todos self.old.tasks.items) }
-        requires still { self.old.line.looked ≡ 0 }
-        ensures steps { OnOk result (WritesSome self.old.lines self.new.lines self.old.line.line self.new.line.line (tasks.Below played nodes.entry due ∷ todos self.old.tasks.items) (todos self.new.tasks.items)) }
-        ensures still { OnOk result (self.new.line.looked ≡ 0) }
+    ) -> Result<(), Halt>
+        requires { AreTasks self.old.speller (tasks.Below played nodes due ∷ todos self.old.tasks.items) }
+        ensures { OnOk result (WritesSome self.old.lines self.new.lines self.old.speller self.new.speller (tasks.Below played nodes.entry due ∷ todos self.old.tasks.items) (todos self.new.tasks.items)) }
     {
-        if self.line.reserve(1).is_err() {
-            return Err(AllocError);
-        }
-        self.line.push_prepared(played);
-        self.go_on(nodes, due)
+        self.speller.go_on(node as usize, played)?;
+        self.go_on(nodes, due)?;
+        Ok(())
     }
 
-    fn step(&mut self, task: Task<'t, 'a, A>) -> Result<(), AllocError>
-        requires tasks { AreTasks self.old.line.line (todo task ∷ todos self.old.tasks.items) }
-        requires still { self.old.line.looked ≡ 0 }
-        ensures steps { OnOk result (WritesSome self.old.lines self.new.lines self.old.line.line self.new.line.line (todo task.entry ∷ todos self.old.tasks.items) (todos self.new.tasks.items)) }
-        ensures still { OnOk result (self.new.line.looked ≡ 0) }
+    fn step(&mut self, task: Task<'t, 'a, A>) -> Result<(), Halt>
+        requires { AreTasks self.old.speller (todo task ∷ todos self.old.tasks.items) }
+        ensures { OnOk result (WritesSome self.old.lines self.new.lines self.old.speller self.new.speller (todo task.entry ∷ todos self.old.tasks.items) (todos self.new.tasks.items)) }
     {
         match task {
             Task::Moves(nodes, due) => self.moves(nodes, due),
             Task::Variations(nodes) => self.variations(nodes),
-            Task::Below(played, nodes, due) => self.below(played, nodes, due),
-            Task::Close => self.close(),
+            Task::Below(played, node, nodes, due) => self.below(played, node, nodes, due),
+            Task::Close => {
+                self.close()?;
+                Ok(())
+            }
             Task::Back => {
                 self.back();
                 Ok(())
@@ -267,10 +265,9 @@ impl<'t, 'k, 'a, A: Allocator> Writer<'t, 'k, 'a, A> {
     }
 
     // Does all the tasks.
-    fn finish(&mut self) -> Result<(), AllocError>
-        requires tasks { AreTasks self.old.line.line (todos self.old.tasks.items) }
-        requires still { self.old.line.looked ≡ 0 }
-        ensures { OnOk result (Adds self.old.lines self.new.lines (tasks_text self.old.line.line (todos self.old.tasks.items))) }
+    fn finish(&mut self) -> Result<(), Halt>
+        requires { AreTasks self.old.speller (todos self.old.tasks.items) }
+        ensures { OnOk result (Adds self.old.lines self.new.lines (tasks_text self.old.speller (todos self.old.tasks.items))) }
     {
         while let Some(task) = self.tasks.pop() {
             self.step(task)?;
@@ -292,7 +289,7 @@ pub fn outcome_text(outcome: Outcome) -> &'static str
 }
 
 // The end of a movetext: how the game ended.
-pub fn push_outcome<'a, A: Allocator>(
+fn push_outcome<'a, A: Allocator>(
     lines: &mut Lines<'a, A>,
     outcome: Outcome,
 ) -> Result<(), AllocError>
@@ -302,40 +299,77 @@ pub fn push_outcome<'a, A: Allocator>(
     lines.push(outcome_text(outcome).as_bytes())
 }
 
+// The moves of a tree, of which a speller finds the texts from the beginning.
+fn push_moves<'t, 'k, 'a, A: Allocator>(
+    lines: Lines<'a, A>,
+    alloc: &'a A,
+    tree: &'t Tree<'a, A>,
+    speller: Speller<'t, 'k, 'a, A>,
+) -> Result<Lines<'a, A>, Halt>
+    requires start { speller ≡ record { start = tree.now.tree.start; moves = [] } }
+    ensures { IfOk result (λ after. Adds lines.entry after (moves_text false true tree.now.tree.start tree.now.tree.below)) }
+{
+    let _position = tree.position();
+    let mut writer = Writer {
+        lines,
+        speller,
+        tasks: Vec::new(alloc),
+    };
+    writer.add(Task::Moves(tree.root().below(), true))?;
+    writer.finish()?;
+    let Writer { lines, .. } = writer;
+    Ok(lines)
+}
+
 // The moves of a tree, which are made on a line.
-fn push_moves<'a, A: Allocator>(
+fn push_made<'a, A: Allocator>(
     lines: Lines<'a, A>,
     alloc: &'a A,
     tree: &Tree<'a, A>,
-) -> Result<Lines<'a, A>, AllocError>
+) -> Result<Lines<'a, A>, Halt>
     ensures { IfOk result (λ after. Adds lines.entry after (moves_text false true tree.now.tree.start tree.now.tree.below)) }
 {
     let table = KeyTable::new([0; 768]);
     let Ok(start) = tree.position().clone() else {
         unreachable!();
     };
-    let mut tasks = Vec::new(alloc);
-    tasks.push(Task::Moves(tree.root().below(), true))?;
-    let mut writer = Writer {
-        lines,
-        line: Line::start(alloc, start, &table),
-        tasks,
-    };
-    writer.finish()?;
-    let Writer { lines, .. } = writer;
-    Ok(lines)
+    let speller = Speller::making(Line::start(alloc, start, &table));
+    push_moves(lines, alloc, tree, speller)
 }
 
-// The moves of a tree, if it has any.
-pub fn push_any_moves<'a, A: Allocator>(
+// The moves of a tree, if it has any. Those of which the texts are known aren't made.
+fn push_any_moves<'a, A: Allocator>(
     lines: Lines<'a, A>,
     alloc: &'a A,
     tree: &Tree<'a, A>,
-) -> Result<Lines<'a, A>, AllocError>
+    texts: Option<&Texts<'a, A>>,
+) -> Result<Lines<'a, A>, Halt>
+    requires usual { IfSome texts (λ _. tree.now.tree.start ≡ position.start) }
     ensures { IfOk result (λ after. Adds lines.entry after (moves_text false true tree.now.tree.start tree.now.tree.below)) }
 {
     if tree.root().children() == 0 {
         return Ok(lines);
     }
-    push_moves(lines, alloc, tree)
+    match texts {
+        Some(texts) => push_moves(lines, alloc, tree, Speller::knowing(texts)),
+        None => push_made(lines, alloc, tree),
+    }
+}
+
+/// The movetext of a game, by the texts of its moves if they are given; they are of a game that begins as usual.
+pub fn push_movetext<'a, A: Allocator>(
+    lines: Lines<'a, A>,
+    alloc: &'a A,
+    tree: &Tree<'a, A>,
+    outcome: Outcome,
+    texts: Option<&Texts<'a, A>>,
+) -> Result<Lines<'a, A>, Halt>
+    requires usual { IfSome texts (λ _. tree.now.tree.start ≡ position.start) }
+    ensures { IfOk result (λ after. Adds lines.entry after (movetext tree.now.tree outcome)) }
+{
+    let mut lines = lines;
+    push_comment(&mut lines, tree.root().notes().comment)?;
+    let mut lines = push_any_moves(lines, alloc, tree, texts)?;
+    push_outcome(&mut lines, outcome)?;
+    Ok(lines)
 }

@@ -137,7 +137,7 @@ impl<'a, 'k, A: Allocator> Reader<'a, 'k, A> {
         }
     }
 
-    /// The texts of the moves of the line that was read, as far as they are known. They are forgotten.
+    /// The texts of the moves, as far as they are known. They are forgotten.
     pub fn take_texts(&mut self) -> Texts<'a, A>
         ensures { self.new ≡ self.old }
     {

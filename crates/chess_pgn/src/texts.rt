@@ -1,25 +1,29 @@
-//! The texts of the moves of a line, as a reader finds them out on its way.
+//! The texts of a game's moves, as a reader finds them out on its way.
 
-ghost use Rattle.std.specs.Prelude.{◌≡◌, ◌++◌, ◌∷◌, [], IsTrue, OnOk};
-ghost use Rattle.chess_types.specs.board.Legal.{is_legal};
-ghost use Rattle.chess_types.specs.board.Lines.{last};
+ghost use Rattle.std.specs.Prelude.{◌≡◌, ◌≤◌, ◌∷◌, [], IfOk, IfSome, IsTrue, length, option_map};
+ghost use Rattle.chess_types.specs.board.Lines.{extended, last};
 ghost use Rattle.chess_san.specs.Writing.{san};
-ghost use Rattle.chess_pgn.specs.steps.KnownTexts.{known_line};
+ghost use Rattle.chess_pgn.specs.steps.KnownTexts.{IsKnown, known_at, line_at};
+ghost use Rattle.chess_pgn.specs.steps.Tasks.{shortened};
 
 use arrayvec::ArrayString;
-use chess_types::Move;
+use chess_types::{Colour, Move};
 use std::alloc::{AllocError, Allocator};
 use std::marker::Model;
 
-/// A move and its text in standard algebraic notation.
+/// A move with its text in standard algebraic notation, and the side and the number of the position in which it is made.
 #[derive(Clone, Copy)]
 pub struct Known {
     pub played: Move,
     pub text: ArrayString<8>,
+    pub side: Colour,
+    pub number: u32,
+    /// Which one of the known moves comes before it, counted from 1; 0 where the game begins.
+    pub before: usize,
 }
 
-/// The texts of the moves of a line from the position in which a game begins unless its tags say otherwise, as far as they are known.
-/// Contracts see the moves.
+/// The texts of a game's moves, as far as they are known, in the order in which they were read. The game begins as usual.
+/// Contracts see them, the last one first.
 #[derive(Drop)]
 pub struct Texts<'a, A: Allocator> {
     known: Vec<Known, &'a A>,
@@ -28,23 +32,18 @@ pub struct Texts<'a, A: Allocator> {
 }
 
 impl<'a, A: Allocator> Model for Texts<'a, A> {
-    ghost use Rattle.std.specs.Prelude.{List, map};
-    ghost use Rattle.chess_types.specs.board.MoveParts.{MoveParts};
-    ghost use Rattle.chess_types.specs.board.Position.{start};
-    ghost use Rattle.chess_pgn.specs.steps.KnownTexts.{AreKnown, played_of};
+    ghost use Rattle.std.specs.Prelude.{List, reverse};
+    ghost use Rattle.chess_pgn.specs.declared.texts.Known.{Known as KnownOf};
+    ghost use Rattle.chess_pgn.specs.steps.KnownTexts.{AreKnown};
 
-    ghost Value = { List MoveParts };
+    ghost Value = { List KnownOf };
 
-    ghost view = { λ t. map played_of t.known.items };
+    ghost view = { λ t. reverse t.known.items };
 
-    ghost invariant = { λ t. AreKnown start t.known.items };
+    ghost invariant = { λ t. AreKnown (reverse t.known.items) };
 }
 
 impl<'a, A: Allocator> Texts<'a, A> {
-    ghost use Rattle.chess_types.specs.board.Position.{start};
-    ghost use Rattle.chess_pgn.specs.steps.KnownTexts.{AreKnown, played_of};
-    ghost use Rattle.std.specs.Prelude.{map};
-
     /// None. Takes no memory.
     pub fn new(alloc: &'a A) -> Texts<'a, A>
         ensures { result ≡ [] }
@@ -70,21 +69,63 @@ impl<'a, A: Allocator> Texts<'a, A> {
         self.wanted
     }
 
-    /// Adds a legal move of the last position, and its text.
-    pub(crate) fn add(&mut self, played: Move, text: ArrayString<8>) -> Result<(), AllocError>
-        requires legal { IsTrue (is_legal (last (known_line self.old)) played) }
-        requires text { text.bytes ≡ san (last (known_line self.old)) played }
-        ensures { OnOk result (self.new ≡ self.old ++ played ∷ []) }
-    {
-        self.known.push(Known { played, text })?;
-        Ok(())
+    /// Whether none is known.
+    pub(crate) fn is_empty(&self) -> bool {
+        self.known.is_empty()
     }
 
-    /// The moves with their texts.
-    pub(crate) fn known(&self) -> &[Known]
-        ensures moves { map played_of result.now ≡ self.now }
-        ensures texts { AreKnown start result.now }
+    /// Adds a move, and returns how many there are then.
+    pub(crate) fn add(&mut self, known: Known) -> Result<usize, AllocError>
+        requires before { known.before ≤ length self.old }
+        requires known { IsKnown (line_at self.old known.before) known }
+        ensures line { IfOk result (λ place. line_at self.new place ≡ extended (line_at self.old known.before) known.played) }
+        ensures within { IfOk result (λ place. place ≤ length self.new) }
     {
-        self.known.as_slice()
+        self.known.push(known)?;
+        Ok(self.known.len())
     }
+
+    /// Which one comes before that one, counted from 1; 0 where the game begins.
+    pub(crate) fn before(&self, place: usize) -> usize
+        ensures line { line_at self.now result ≡ shortened (line_at self.now place) }
+        ensures within { result ≤ length self.now }
+    {
+        let _ = &self.known;
+        match self.at(place) {
+            Some(known) => known.before,
+            None => 0,
+        }
+    }
+
+    // The one at that place, counted from 1.
+    fn at(&self, place: usize) -> Option<&Known>
+        ensures { option_map (λ k. k.now) result ≡ known_at self.now place }
+    {
+        if place == 0 {
+            return None;
+        }
+        self.known.get(place - 1)
+    }
+
+    /// The one at that place, counted from 1, if it is that move after that other one.
+    pub(crate) fn find(&self, place: usize, before: usize, played: Move) -> Option<Known>
+        ensures known { IfSome result (λ known. IsKnown (line_at self.now before) known) }
+        ensures played { IfSome result (λ known. known.played ≡ played) }
+        ensures line { IfSome result (λ _. line_at self.now place ≡ extended (line_at self.now before) played) }
+        ensures within { IfSome result (λ _. place ≤ length self.now) }
+    {
+        let _ = &self.known;
+        let known = self.at(place)?;
+        if known.before == before && is_move(known.played, played) {
+            return Some(*known);
+        }
+        None
+    }
+}
+
+// Whether the moves are the same, promotion and all.
+fn is_move(m: Move, n: Move) -> bool
+    ensures { IsTrue result → m ≡ n }
+{
+    m == n
 }

@@ -1,22 +1,21 @@
 ghost use Rattle.std.specs.Prelude.{◌≡◌, ◌++◌, ◌∷◌, [], if◌then◌else◌, bytes_eq, option_map, IfOk, IfErr, OnOk};
 ghost use Rattle.chess_items.specs.declared.fault.FaultKind.TheVariants.{Memory};
 ghost use Rattle.chess_fen.specs.Writing.{written};
-ghost use Rattle.chess_types.specs.board.Position.{start};
+ghost use Rattle.chess_types.specs.board.Position.{PositionParts, start};
 ghost use Rattle.chess_pgn.specs.Games.{untold};
 ghost use Rattle.chess_pgn.specs.Written.{behind_text, escaped, game_text, is_before, is_within, others_text, tag_text, tags_text};
 ghost use Rattle.chess_pgn.specs.steps.GameCode.{game_of, tags_of};
 
 use crate::game::Game;
-use crate::known_moves::push_movetext;
 use crate::lines::Lines;
-use crate::movetext::outcome_text;
+use crate::movetext::{outcome_text, push_movetext};
+use crate::speller::Halt;
 use crate::others::OtherTags;
 use crate::tags::Tags;
 use crate::texts::Texts;
-use crate::usual::is_usual;
+use crate::usual::start_of;
 use chess_items::{Outcome, PgnFault, is_escapable};
 use chess_tree::Tree;
-use chess_types::Position;
 use std::alloc::{AllocError, Allocator};
 
 /// The bytes for which a text has room before it is written, so that a short game's grows once.
@@ -111,20 +110,21 @@ fn push_others<'a, A: Allocator>(
     Ok(())
 }
 
-// The other tags, and among them the position in which a game begins, unless it is the usual one.
+// The other tags, and among them the FEN of the position in which a game begins, unless it is the usual one.
 fn push_behind<'a, A: Allocator>(
     text: &mut Vec<u8, &'a A>,
     others: &OtherTags<'a, A>,
-    start: &Position,
+    fen: &[u8],
+    is_usual: bool,
 ) -> Result<(), AllocError>
-    ensures { OnOk result (text.new.items ≡ text.old.items ++ behind_text others.now (written start.now)) }
+    requires usual { is_usual ≡ bytes_eq fen.now (written start) }
+    ensures { OnOk result (text.new.items ≡ text.old.items ++ behind_text others.now fen.now) }
 {
-    let fen = chess_fen::write(start);
-    if is_usual(fen.as_bytes()) {
+    if is_usual {
         return push_others(text, b"", None, others);
     }
     push_others(text, b"", Some(b"FEN"), others)?;
-    push_tag(text, b"FEN", fen.as_bytes())?;
+    push_tag(text, b"FEN", fen)?;
     push_others(text, b"FEN", Some(b"SetUp"), others)?;
     push_tag(text, b"SetUp", b"1")?;
     push_others(text, b"SetUp", None, others)
@@ -135,9 +135,11 @@ fn push_tags<'a, A: Allocator>(
     text: &mut Vec<u8, &'a A>,
     tags: &Tags<'a, A>,
     outcome: Outcome,
-    start: &Position,
+    fen: &[u8],
+    is_usual: bool,
 ) -> Result<(), AllocError>
-    ensures { OnOk result (text.new.items ≡ text.old.items ++ tags_text (tags_of tags.now) outcome start.now) }
+    requires usual { is_usual ≡ bytes_eq fen.now (written start) }
+    ensures { (p : PositionParts) → fen.now ≡ written p → OnOk result (text.new.items ≡ text.old.items ++ tags_text (tags_of tags.now) outcome p) }
 {
     push_tag(text, b"Event", tags.event.as_slice())?;
     push_tag(text, b"Site", tags.site.as_slice())?;
@@ -146,10 +148,29 @@ fn push_tags<'a, A: Allocator>(
     push_tag(text, b"White", tags.white.as_slice())?;
     push_tag(text, b"Black", tags.black.as_slice())?;
     push_tag(text, b"Result", outcome_text(outcome).as_bytes())?;
-    push_behind(text, &tags.others, start)
+    push_behind(text, &tags.others, fen, is_usual)
 }
 
-// The tags, an empty line, the movetext in lines of at most 79 bytes, and an empty line. Moves of which the texts are known aren't made.
+// The tags, an empty line, the movetext in lines of at most 79 bytes, and an empty line; by the texts of the moves, if they are given.
+fn write_by<'a, A: Allocator>(
+    alloc: &'a A,
+    tags: &Tags<'a, A>,
+    outcome: Outcome,
+    tree: &Tree<'a, A>,
+    texts: Option<&Texts<'a, A>>,
+) -> Result<Vec<u8, &'a A>, Halt>
+    ensures { IfOk result (λ text. text.items ≡ game_text (record { tags = tags_of tags.now; outcome = outcome; tree = tree.now.tree })) }
+{
+    let (fen, is_usual) = start_of(tree);
+    let mut text = Vec::new(alloc);
+    text.reserve(ROOM)?;
+    push_tags(&mut text, tags, outcome, fen.as_bytes(), is_usual)?;
+    let known = if is_usual { texts } else { None };
+    let lines = push_movetext(Lines::new(text)?, alloc, tree, outcome, known)?;
+    Ok(lines.finish()?)
+}
+
+// The same, by the texts that are known, if there are any. Where they are others than those of the game's moves, these are made.
 fn write_parts<'a, A: Allocator>(
     alloc: &'a A,
     tags: &Tags<'a, A>,
@@ -160,11 +181,17 @@ fn write_parts<'a, A: Allocator>(
     ensures ok { IfOk result (λ text. text.items ≡ game_text (record { tags = tags_of tags.now; outcome = outcome; tree = tree.now.tree })) }
     ensures memory { IfErr result (λ fault. fault ≡ record { place = 0; kind = Memory }) }
 {
-    let mut text = Vec::new(alloc);
-    text.reserve(ROOM)?;
-    push_tags(&mut text, tags, outcome, tree.position())?;
-    let lines = push_movetext(Lines::new(text)?, alloc, tree, outcome, texts)?;
-    Ok(lines.finish()?)
+    if !texts.is_empty() {
+        match write_by(alloc, tags, outcome, tree, Some(texts)) {
+            Ok(text) => return Ok(text),
+            Err(Halt::Memory) => return Err(AllocError.into()),
+            Err(Halt::Unknown) => {}
+        }
+    }
+    match write_by(alloc, tags, outcome, tree, None) {
+        Ok(text) => Ok(text),
+        Err(_) => Err(AllocError.into()),
+    }
 }
 
 /// The same as `write_game`, by the texts of moves that `Games::next_with` has found out, whichever they are: where they are those of

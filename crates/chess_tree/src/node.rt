@@ -1,4 +1,4 @@
-ghost use Rattle.std.specs.Prelude.{◌≡◌, is_none};
+ghost use Rattle.std.specs.Prelude.{◌≡◌, None, is_none};
 ghost use Rattle.chess_tree.specs.Forest.{child, count};
 ghost use Rattle.chess_tree.specs.Edits.{without_node};
 ghost use Rattle.chess_tree.specs.steps.Notes.{noted_in};
@@ -75,6 +75,14 @@ impl<'t, 'a, A: Allocator> NodeRef<'t, 'a, A> {
             return None;
         }
         Some(self.nodes.played(self.number))
+    }
+
+    /// Its number, at most 1,000,000, by which one finds what one keeps of it; the root's is 0. A node that is added gets the next, or
+    /// that of a node that was deleted, so what is found has to be compared.
+    pub fn number(&self) -> u32
+        ensures root { result ≡ 0 → self.now.move ≡ None }
+    {
+        self.number.number()
     }
 
     /// Its notes; the root has no annotation numbers.

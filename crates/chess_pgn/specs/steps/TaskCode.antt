@@ -11,7 +11,7 @@ use Rattle.chess_pgn.specs.declared.movetext.Task.TheVariants.{Moves, Variations
 abbrev pub todo : {A : Type 0} → Task A → Todo
 todo (Moves nodes due) = tasks.Moves nodes due
 todo (Variations nodes) = tasks.Variations nodes
-todo (Below m nodes due) = tasks.Below m nodes due
+todo (Below m node nodes due) = tasks.Below m nodes due
 todo Close = tasks.Close
 todo Back = tasks.Back
 

@@ -10,12 +10,13 @@ ghost use Rattle.chess_tree.specs.GameTree.{added, annotated_here, at_path, comm
 ghost use Rattle.chess_tree.specs.Plays.{IsAnswer, add_answer};
 ghost use Rattle.chess_tree.specs.WellFormed.{IsGameTree};
 ghost use Rattle.chess_tree.specs.declared.fault.TreeFault.TheVariants.{AtRoot, NoSuch};
-ghost use Rattle.chess_pgn.specs.steps.KnownTexts.{known_line};
+ghost use Rattle.chess_pgn.specs.steps.Following.{Follows};
+ghost use Rattle.chess_pgn.specs.steps.KnownTexts.{line_at};
 ghost use Rattle.chess_pgn.specs.steps.Readings.{said_here};
 ghost use Rattle.chess_pgn.specs.steps.Unmoved.{parts_so_far, unmoved};
 
-use crate::plain::{before, marked};
-use crate::texts::Texts;
+use crate::plain::{before as text_before, marked};
+use crate::texts::{Known, Texts};
 use chess_key::KeyTable;
 use chess_san::SanFault;
 use chess_tree::{Analysis, PlayFault, Tree, TreeFault};
@@ -33,9 +34,9 @@ pub struct Late<'a, 'k, A: Allocator> {
     /// Where the game begins.
     start: Position,
     begun: Option<Box<Analysis<'a, 'k, A>, &'a A>>,
-    /// The texts of the moves of the line to the cursor, as long as `follows` is true.
+    /// The texts of the moves so far, and which of them is the cursor's; `None` where that isn't known.
     texts: Texts<'a, A>,
-    follows: bool,
+    at: Option<usize>,
 }
 
 impl<'a, 'k, A: Allocator> Model for Late<'a, 'k, A> {
@@ -50,11 +51,9 @@ impl<'a, 'k, A: Allocator> Model for Late<'a, 'k, A> {
 
     ghost view = { λ l. parts_so_far l.start l.begun };
 
-    ghost use Rattle.std.specs.Prelude.{◌≡◌, true};
-    ghost use Rattle.chess_tree.specs.GameTree.{line_to};
-    ghost use Rattle.chess_pgn.specs.steps.KnownTexts.{known_line};
+    ghost use Rattle.chess_pgn.specs.steps.Following.{Follows};
 
-    ghost invariant = { λ l. (l.start.clock ≤ 99999) × (l.start.number ≤ 99999) × (l.follows ≡ true → line_to (parts_so_far l.start l.begun) ≡ known_line l.texts) };
+    ghost invariant = { λ l. (l.start.clock ≤ 99999) × (l.start.number ≤ 99999) × Follows l.at l.texts (parts_so_far l.start l.begun) };
 }
 
 // An analysis without a move. Apart from `begun`, whose frame is then small.
@@ -131,28 +130,68 @@ fn say<'a, 'k, A: Allocator>(
     set_comment(analysis, both.as_slice())
 }
 
-// Adds the legal move that a text names, and its text. The answer is that of the analysis, and whether the texts follow.
+// Adds the legal move that a text names, and its text after that of the one at `before`. Returns the analysis's answer, and which text it is.
 fn add_known<'a, 'k, A: Allocator>(
     analysis: &mut Analysis<'a, 'k, A>,
     texts: &mut Texts<'a, A>,
+    before: usize,
     m: Move,
     read: &[u8],
-) -> (Result<(), PlayFault>, bool)
+) -> (Result<(), PlayFault>, Option<usize>)
     requires legal { IsTrue (is_legal (last (line_to analysis.old)) m) }
     requires read { san_reading (last (line_to analysis.old)) read.now ≡ Ok m }
-    requires follows { line_to analysis.old ≡ known_line texts.old }
+    requires follows { line_to analysis.old ≡ line_at texts.old before }
+    requires within { before ≤ length texts.old }
     ensures answer { IsAnswer (add_answer analysis.old m) result.0 }
     ensures ok { OnOk result.0 (analysis.new ≡ added m analysis.old) }
     ensures line { OnOk result.0 (line_to analysis.new ≡ extended (line_to analysis.old) m) }
-    ensures follows { result.1 ≡ true → line_to analysis.new ≡ known_line texts.new }
+    ensures follows { Follows result.1 texts.new analysis.new }
 {
-    let (text, whole) = before(analysis, m, read);
+    let setup = analysis.live().position();
+    let (side, number) = (setup.side, setup.number);
+    let (text, whole) = text_before(analysis, m, read);
     if let Err(fault) = analysis.add_legal(m) {
-        return (Err(fault), false);
+        return (Err(fault), None);
     }
     let text = marked(analysis, text, whole);
-    let follows = texts.add(m, text).is_ok();
-    (Ok(()), follows)
+    let known = Known {
+        played: m,
+        text,
+        side,
+        number,
+        before,
+    };
+    (Ok(()), texts.add(known).ok())
+}
+
+// Steps to the child at that place, whose text is that known one, if it is after the one at `before`. Returns the analysis's answer, and
+// which text it is.
+fn step_known<'a, 'k, A: Allocator>(
+    analysis: &mut Analysis<'a, 'k, A>,
+    texts: &Texts<'a, A>,
+    before: Option<usize>,
+    place: u32,
+    known: usize,
+) -> (Result<(), TreeFault>, Option<usize>)
+    requires follows { Follows before texts.now analysis.old }
+    ensures ok { OnOk result.0 (analysis.new ≡ at_path (analysis.old.path ++ place ∷ []) analysis.old) }
+    ensures no_such { MatchResult result.0 (λ _. place < count (nodes_here analysis.old)) (λ fault. (fault ≡ NoSuch) × (count (nodes_here analysis.old) ≤ place)) }
+    ensures follows { Follows result.1 texts.now analysis.new }
+{
+    let depth = analysis.tree().depth();
+    if let Err(fault) = analysis.step(place) {
+        return (Err(fault), None);
+    }
+    let Some(before) = before else {
+        return (Ok(()), None);
+    };
+    let Some(played) = analysis.played(depth) else {
+        return (Ok(()), None);
+    };
+    if texts.find(known, before, played).is_none() {
+        return (Ok(()), None);
+    }
+    (Ok(()), Some(known))
 }
 
 impl<'a, 'k, A: Allocator> Late<'a, 'k, A> {
@@ -169,7 +208,7 @@ impl<'a, 'k, A: Allocator> Late<'a, 'k, A> {
             start,
             begun: None,
             texts: Texts::new(alloc),
-            follows: wanted,
+            at: if wanted { Some(0) } else { None },
         }
     }
 
@@ -181,7 +220,7 @@ impl<'a, 'k, A: Allocator> Late<'a, 'k, A> {
     {
         self.start = start;
         self.begun = None;
-        self.follows = false;
+        self.at = None;
     }
 
     /// The legal move at the cursor that a text names.
@@ -207,21 +246,25 @@ impl<'a, 'k, A: Allocator> Late<'a, 'k, A> {
         let Ok(mut analysis) = begun(self.alloc, self.table, &self.start, self.begun.take()) else {
             return Err(PlayFault::Memory);
         };
-        let (added, follows) = if self.follows {
-            add_known(&mut analysis, &mut self.texts, m, read)
-        } else {
-            (analysis.add_legal(m), false)
+        let (added, at) = match self.at {
+            Some(before) => add_known(&mut analysis, &mut self.texts, before, m, read),
+            None => (analysis.add_legal(m), None),
         };
-        self.follows = follows;
+        self.at = at;
         self.begun = Some(analysis);
         added
     }
 
-    /// The texts of the moves of the line to the cursor, as far as they are known. They are forgotten.
+    /// Which of the known texts is that of the cursor's move, if it is known; 0 where the game begins.
+    pub fn known(&self) -> usize {
+        self.at.unwrap_or(0)
+    }
+
+    /// The texts of the moves, as far as they are known. They are forgotten.
     pub fn take_texts(&mut self) -> Texts<'a, A>
         ensures { self.new ≡ self.old }
     {
-        self.follows = false;
+        self.at = None;
         mem::replace(&mut self.texts, Texts::new(self.alloc))
     }
 
@@ -274,33 +317,36 @@ impl<'a, 'k, A: Allocator> Late<'a, 'k, A> {
         ensures ok { OnOk result (self.new ≡ at_path (parent self.old.path) self.old) }
         ensures at_root { MatchResult result (λ _. 0 < length self.old.path) (λ fault. (fault ≡ AtRoot) × (self.old.path ≡ [])) }
     {
-        self.follows = false;
-        match &mut self.begun {
-            Some(analysis) => analysis.back(),
-            None => Err(TreeFault::AtRoot),
+        let Some(analysis) = &mut self.begun else {
+            return Err(TreeFault::AtRoot);
+        };
+        analysis.back()?;
+        if let Some(place) = self.at {
+            self.at = Some(self.texts.before(place));
         }
+        Ok(())
     }
 
     /// Steps back until the cursor is at most so many plies deep.
     pub fn back_to(&mut self, depth: u32)
         ensures { self.new ≡ at_path (take depth self.old.path) self.old }
     {
-        self.follows = false;
-        if let Some(analysis) = &mut self.begun {
-            analysis.back_to(depth);
+        while self.depth() > depth {
+            let _stepped = self.back();
         }
     }
 
-    /// Steps to the child at that place, from 0. `NoSuch` where there is none.
-    pub fn step(&mut self, place: u32) -> Result<(), TreeFault>
+    /// Steps to the child at that place, from 0, whose text is that known one, if it is known. `NoSuch` where there is none.
+    pub fn step(&mut self, place: u32, known: usize) -> Result<(), TreeFault>
         ensures ok { OnOk result (self.new ≡ at_path (self.old.path ++ place ∷ []) self.old) }
         ensures no_such { MatchResult result (λ _. place < count (nodes_here self.old)) (λ fault. (fault ≡ NoSuch) × (count (nodes_here self.old) ≤ place)) }
     {
-        self.follows = false;
-        match &mut self.begun {
-            Some(analysis) => analysis.step(place),
-            None => Err(TreeFault::NoSuch),
-        }
+        let Some(analysis) = &mut self.begun else {
+            return Err(TreeFault::NoSuch);
+        };
+        let (stepped, at) = step_known(analysis, &self.texts, self.at, place, known);
+        self.at = at;
+        stepped
     }
 
     /// The tree with its cursor.
@@ -314,7 +360,7 @@ impl<'a, 'k, A: Allocator> Late<'a, 'k, A> {
             start,
             begun,
             texts: _,
-            follows: _,
+            at: _,
         } = self;
         if let Some(analysis) = begun {
             return Ok(Box::into_inner(analysis).into_tree());

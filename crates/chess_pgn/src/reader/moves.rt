@@ -26,9 +26,10 @@ const DEEPEST: usize = 128;
 /// A line that a variation interrupts, after its last move.
 #[derive(Clone, Copy)]
 struct Interrupted {
-    /// How many plies come before that move, and its place among its siblings.
+    /// How many plies come before that move, its place among its siblings, and which known text is its own, if one is.
     depth: u32,
     place: u32,
+    known: usize,
     /// Where its comments begin in `comments`.
     from: usize,
 }
@@ -213,6 +214,7 @@ impl<'a, 'k, A: Allocator> Moves<'a, 'k, A> {
         self.interrupted.push(Interrupted {
             depth,
             place,
+            known: self.analysis.known(),
             from: self.from,
         })?;
         let _stepped = self.analysis.back();
@@ -231,7 +233,7 @@ impl<'a, 'k, A: Allocator> Moves<'a, 'k, A> {
         ensures played { self.new.played ≡ true }
     {
         self.analysis.back_to(line.depth);
-        let _stepped = self.analysis.step(line.place);
+        let _stepped = self.analysis.step(line.place, line.known);
         self.from = line.from;
         self.played = true;
     }
@@ -249,7 +251,7 @@ impl<'a, 'k, A: Allocator> Moves<'a, 'k, A> {
         Ok(())
     }
 
-    /// The texts of the moves of the line that is being read, as far as they are known. They are forgotten.
+    /// The texts of the moves, as far as they are known. They are forgotten.
     pub fn take_texts(&mut self) -> Texts<'a, A>
         ensures { self.new ≡ self.old }
     {

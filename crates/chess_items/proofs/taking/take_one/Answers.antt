@@ -1,15 +1,22 @@
 use Rattle.std.proofs.Common.{rules, ◌<◌, length, refl}
 use Rattle.chess_items.proofs.OfferLemmas.{found_within, seen_at_once, step_settled}
+use Rattle.chess_items.proofs.SingleLemmas.{space_single, period_single}
 use Rattle.chess_items.proofs.taking.take_one.Goals as goal
 
 pub overflow_sub-used : goal.overflow_sub-used
-overflow_sub-used g c = found_within _ c.unread.ensures c.in-Some.ensures c.unread-2.ensures
+overflow_sub-used g c = found_within _ c.unread-2.ensures c.in-Some-item.ensures c.unread-3.ensures
 
 pub settle-requires-clause-within : goal.settle-requires-clause-within
-settle-requires-clause-within g c = found_within _ c.unread.ensures c.in-Some.ensures refl
+settle-requires-clause-within g c = found_within _ c.unread-2.ensures c.in-Some-item.ensures refl
 
 pub returns-clause-steps : goal.returns-clause-steps
 returns-clause-steps g c =
-    let some : 0 < length c.in-Some.rest.now = search rules in
-    step_settled (seen_at_once c.requires c.unread.ensures c.in-Some.ensures some) c.unread.ensures c.in-Some.ensures c.unread-2.ensures
+    let some : 0 < length c.in-Some-item.rest.now = search rules in
+    step_settled (seen_at_once c.requires c.unread-2.ensures c.in-Some-item.ensures some) c.unread-2.ensures c.in-Some-item.ensures c.unread-3.ensures
     c.after-next.ensures c.is_white-white.ensures c.offer-answer.result c.offer-answer.ensures c.settle.ensures.step c.settle.ensures.text
+
+pub take_single-requires-clause-single : goal.take_single-requires-clause-single
+take_single-requires-clause-single g c = space_single c.unread.ensures c.if-b-eq32.true c.in-Some.ensures
+
+pub take_single-requires-then-b-eq46-clause-single : goal.take_single-requires-then-b-eq46-clause-single
+take_single-requires-then-b-eq46-clause-single g c = period_single c.unread.ensures c.if-b-eq46.true c.in-Some.ensures

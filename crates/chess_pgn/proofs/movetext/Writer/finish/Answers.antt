@@ -6,11 +6,7 @@ use Rattle.chess_pgn.proofs.TaskLemmas.{done_none, done_on, todos_pushed}
 use Rattle.chess_pgn.proofs.movetext.Writer.finish.Goals as goal
 
 pub loop-task-init : goal.loop-task-init
-loop-task-init g c =
-    record {
-      done = done_none c.args.self.now.lines c.args.self.now.line.line (todos c.args.self.now.tasks.items) c.requires.tasks (adds_none c.args.self.now.lines);
-      still = c.requires.still;
-    }
+loop-task-init g c = done_none c.args.self.now.lines c.args.self.now.speller (todos c.args.self.now.tasks.items) c.requires (adds_none c.args.self.now.lines)
 
 pub loop-task-preserved : goal.loop-task-preserved
 loop-task-preserved g c =
@@ -20,8 +16,5 @@ loop-task-preserved g c =
     let front = c.pop.new.self.items in
     let t = c.in-Some.task in
     let parted : todos old.tasks.items ≡ todo t ∷ todos front = todos_pushed front old.tasks.items t c.in-Some.ensures.items in
-    record {
-      done = done_on first.lines old.lines new.lines first.line.line old.line.line new.line.line (todos first.tasks.items) (todo t ∷ todos front) (todos new.tasks.items)
-          (subst (λ (x : List Todo). Done first.lines old.lines first.line.line old.line.line (todos first.tasks.items) x) parted c.loop-task.invariant.done) c.in_ok-step.ensures.steps;
-      still = c.in_ok-step.ensures.still;
-    }
+    done_on first.lines old.lines new.lines first.speller old.speller new.speller (todos first.tasks.items) (todo t ∷ todos front) (todos new.tasks.items)
+    (subst (λ (x : List Todo). Done first.lines old.lines first.speller old.speller (todos first.tasks.items) x) parted c.loop-task.invariant) c.in_ok-step.ensures

@@ -8,7 +8,7 @@ use Rattle.chess_pgn.proofs.reader.moves.Moves.open.Goals as goal
 pub returns-clause-steps : goal.returns-clause-steps
 returns-clause-steps g c = λ s h.
     let r = c.args.self.now in
-    open_goes r.analysis c.back-stepped.new.self r.interrupted.items c.push.new.self.items r.played r.comments.items r.from c.len-self.result c.saturating_sub-depth.result c.unwrap_or-place.result
+    open_goes r.analysis c.back-stepped.new.self r.interrupted.items c.push.new.self.items r.played r.comments.items r.from c.len-self.result c.saturating_sub-depth.result c.unwrap_or-place.result c.known.result
     (omega (arith, c.len.ensures, c.if-len-ge-DEEPEST.false)) c.if-not-self.false
     (c.saturating_sub-depth.ensures ∙ ap (λ (n : ℕ). n - 1) c.depth.ensures)
     (c.unwrap_or-place.ensures ∙ ap (λ (o : Option ℕ). unwrap_or o 0) c.path_at.ensures)

@@ -1,0 +1,14 @@
+use Rattle.std.proofs.Common.{arith}
+use Rattle.chess_tree.proofs.AnalysisLemmas.{back_to_on, back_to_smaller}
+use Rattle.chess_pgn.proofs.reader.late.Late.back_to.Goals as goal
+
+pub loop-self-smaller : goal.loop-self-smaller
+loop-self-smaller g c =
+    back_to_smaller c.args.self.now c.loop-self.self c.back-stepped.new.self c.args.depth c.back-stepped.result _ (omega (arith, c.loop-self-test.true, c.depth.ensures)) c.back-stepped.ensures.ok c.back-stepped.ensures.at_root
+
+pub loop-self-preserved : goal.loop-self-preserved
+loop-self-preserved g c =
+    let all =
+    back_to_on c.args.self.now c.loop-self.self c.back-stepped.new.self c.args.depth c.back-stepped.result _ (omega (arith, c.loop-self-test.true, c.depth.ensures)) c.back-stepped.ensures.ok c.back-stepped.ensures.at_root
+    c.loop-self.invariant.tree c.loop-self.invariant.front in
+    record { tree = all.0; front = all.1 }

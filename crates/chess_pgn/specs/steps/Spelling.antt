@@ -1,0 +1,16 @@
+-- The line that a speller follows.
+--   line_of   the one on which it makes moves, or the one to a known move
+--   IsStill   no move of the first is only looked at
+use Rattle.std.specs.Prelude.{◌≡◌, ⊤}
+use Rattle.chess_types.specs.board.Lines.{Line}
+use Rattle.chess_pgn.specs.steps.KnownTexts.{line_at}
+use Rattle.chess_pgn.specs.declared.speller.Way.{Way}
+use Rattle.chess_pgn.specs.declared.speller.Way.TheVariants.{Made, Known}
+
+abbrev pub line_of : {A : Type 0} → Way A → Line
+line_of (Made line) = line.line
+line_of (Known texts place) = line_at texts.now place
+
+abbrev pub IsStill : {A : Type 0} → Way A → Type 0
+IsStill (Made line) = line.looked ≡ 0
+IsStill (Known texts place) = ⊤
