@@ -1,4 +1,4 @@
-use Rattle.std.proofs.Common.{◌∙◌, ap, sym}
+use Rattle.std.proofs.Common.{◌∙◌}
 use Rattle.chess_types.specs.board.Lines.{last}
 use Rattle.chess_pgn.proofs.AddLemmas.{adds_same}
 use Rattle.chess_pgn.proofs.TaskLemmas.{node_written}

@@ -1,6 +1,5 @@
-use Rattle.std.proofs.Common.{◌≤◌, ◌∙◌, ap, bytes_eq, sym, subst}
-use Rattle.chess_types.specs.board.Position.{PositionParts, start}
-use Rattle.chess_fen.specs.Writing.{written}
+use Rattle.std.proofs.Common.{◌≤◌, ◌∙◌, sym, subst}
+use Rattle.chess_types.specs.board.Position.{PositionParts}
 use Rattle.chess_pgn.proofs.UsualLemmas.{is_start}
 use Rattle.chess_pgn.proofs.usual.start_of.Goals as goal
 

@@ -1,4 +1,4 @@
-use Rattle.std.proofs.Common.{◌≡◌, ◌∙◌, ap}
+use Rattle.std.proofs.Common.{◌∙◌, ap}
 use Rattle.chess_types.specs.board.Lines.{extended, last}
 use Rattle.chess_types.specs.board.Position.{PositionParts}
 use Rattle.chess_tree.specs.GameTree.{TreeParts, line_to}

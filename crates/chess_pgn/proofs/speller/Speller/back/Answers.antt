@@ -1,4 +1,4 @@
-use Rattle.std.proofs.Common.{◌≡◌, ◌∙◌, ap, sym}
+use Rattle.std.proofs.Common.{◌∙◌, ap, sym}
 use Rattle.chess_pgn.proofs.TaskLemmas.{popped}
 use Rattle.chess_pgn.specs.steps.Spelling.{line_of}
 use Rattle.chess_pgn.specs.steps.Tasks.{shortened}
