@@ -324,8 +324,7 @@ impl<'k, A: Allocator> Board<'k, A> {
         Ok(Some(used))
     }
 
-    // The attack counts of the colour. Not inlined, so that no other answer clears its text first.
-    #[inline(never)]
+    // The attack counts of the colour.
     fn counts<B: Allocator>(&self, colour: Colour, page: &mut OutputBuffer<B>)
         requires room { length page.old + 2600 ≤ 65536 }
         ensures { page.new ≡ page.old ++ (counts_of (last (line_to self.now)) colour ++ 10 ∷ []) }
@@ -341,8 +340,7 @@ impl<'k, A: Allocator> Board<'k, A> {
         page.put_line(eval_text(self.live()).as_str());
     }
 
-    // The FEN. Not inlined, so that no other answer clears its text first.
-    #[inline(never)]
+    // The FEN.
     fn fen<B: Allocator>(&self, page: &mut OutputBuffer<B>)
         requires room { length page.old + 2600 ≤ 65536 }
         ensures { page.new ≡ page.old ++ (written (last (line_to self.now)) ++ 10 ∷ []) }
@@ -350,8 +348,7 @@ impl<'k, A: Allocator> Board<'k, A> {
         page.put_line(chess_fen::write(&self.analysis.position()).as_str());
     }
 
-    // The legal moves. Not inlined, so that no other answer clears its text first.
-    #[inline(never)]
+    // The legal moves.
     fn moves<B: Allocator>(&mut self, page: &mut OutputBuffer<B>)
         requires room { length page.old + 2600 ≤ 65536 }
         ensures text { page.new ≡ page.old ++ (list_text (map move_text (legal_moves (last (line_to self.old)))) ++ 10 ∷ []) }
@@ -362,8 +359,7 @@ impl<'k, A: Allocator> Board<'k, A> {
         page.put(b"\n");
     }
 
-    // The squares of the men that check the side to move. Not inlined, so that no other answer clears its text first.
-    #[inline(never)]
+    // The squares of the men that check the side to move.
     fn checks<B: Allocator>(&self, page: &mut OutputBuffer<B>)
         requires room { length page.old + 2600 ≤ 65536 }
         ensures { page.new ≡ page.old ++ (checks_of (last (line_to self.now)) ++ 10 ∷ []) }
