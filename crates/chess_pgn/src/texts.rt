@@ -11,6 +11,9 @@ use chess_types::{Colour, Move};
 use std::alloc::{AllocError, Allocator};
 use std::marker::Model;
 
+/// The moves for which there is room once one is known, so that a usual game's grow once more at most.
+const ROOM: usize = 128;
+
 /// A move with its text in standard algebraic notation, and the side and the number of the position in which it is made.
 #[derive(Clone, Copy)]
 pub struct Known {
@@ -81,6 +84,9 @@ impl<'a, A: Allocator> Texts<'a, A> {
         ensures line { IfOk result (λ place. line_at self.new place ≡ extended (line_at self.old known.before) known.played) }
         ensures within { IfOk result (λ place. place ≤ length self.new) }
     {
+        if self.known.is_empty() {
+            self.known.reserve(ROOM)?;
+        }
         self.known.push(known)?;
         Ok(self.known.len())
     }
