@@ -15,6 +15,7 @@ use Rattle.chess_tree.specs.Edits.{without_node}
 use Rattle.chess_tree.specs.WellFormed.{AreSound}
 use Rattle.chess_pgn.specs.Written.{comment_text, is_noted, moves_text, nags_text, node_text, number_text}
 use Rattle.chess_pgn.specs.steps.Adding.{Adds}
+use Rattle.chess_pgn.specs.steps.Spelling.{spoken_text}
 use Rattle.chess_pgn.specs.steps.Tasks.{Todo, Moves, Variations, Below, Close, Back, shortened, without_last, tasks_text, AreTasks}
 use Rattle.chess_pgn.specs.steps.TaskCode.{WritesSome, Done, returning, todo, todos}
 use Rattle.chess_pgn.proofs.AddLemmas.{adds_none, adds_on, adds_same}
@@ -29,17 +30,20 @@ without_last-append (n ∷ k ∷ moves) m = ap (λ (x : List MoveParts). n ∷ x
 pub shortened_extended : (line : Line) (m : MoveParts) → shortened (extended line m) ≡ line
 shortened_extended line m = ap (λ (x : List MoveParts). record { start = line.start; moves = x }) (without_last-append line.moves m)
 
--- a node that is written, its move's text in two parts
-pub node_written : {A : Type 0} (l0 l1 l2 l3 l4 l5 l6 : Lines A) (opening : List ℕ) (due : Bool) (side : Colour) (number : ℕ) (text mark : List ℕ) (p : PositionParts) (m : MoveParts) (nags comment : List ℕ)
-    → side ≡ p.side → number ≡ p.number → text ++ mark ≡ san p m
-    → Adds l0 l1 opening → Adds l1 l2 (number_text due side number) → Adds l2 l3 text → Adds l3 l4 mark → Adds l4 l5 (nags_text nags) → Adds l5 l6 (comment_text comment)
-    → Adds l0 l6 (node_text opening due p m nags comment)
-node_written l0 l1 l2 l3 l4 l5 l6 opening due side number text mark p m nags comment e h k a0 a1 a2 a3 a4 a5 =
-    let numbered : Adds l1 l2 (number_text due p.side p.number) = adds_same l1 l2 _ _ (λ i. number_text due (e i) (h i)) a1 in
-    let spoken : Adds l2 l4 (san p m) = adds_same l2 l4 (text ++ mark) (san p m) k (adds_on l2 l3 l4 text mark a2 a3) in
-    adds_on l0 l1 l6 opening (number_text due p.side p.number ++ (san p m ++ (nags_text nags ++ comment_text comment))) a0
-    (adds_on l1 l2 l6 (number_text due p.side p.number) (san p m ++ (nags_text nags ++ comment_text comment)) numbered
-    (adds_on l2 l4 l6 (san p m) (nags_text nags ++ comment_text comment) spoken (adds_on l4 l5 l6 (nags_text nags) (comment_text comment) a4 a5)))
+three : (x y z t : List ℕ) → (x ++ (y ++ z)) ++ t ≡ x ++ (y ++ (z ++ t))
+three x y z t = append_assoc x (y ++ z) t ∙ ap (λ (s : List ℕ). x ++ s) (append_assoc y z t)
+
+-- a node that is written
+pub node_written : {A : Type 0} (l0 l1 l2 l3 : Lines A) (opening : List ℕ) (due : Bool) (p : PositionParts) (m : MoveParts) (nags comment : List ℕ)
+    → Adds l0 l1 (spoken_text opening due p m) → Adds l1 l2 (nags_text nags) → Adds l2 l3 (comment_text comment) → Adds l0 l3 (node_text opening due p m nags comment)
+node_written l0 l1 l2 l3 opening due p m nags comment a0 a1 a2 =
+    adds_same l0 l3 _ _ (three opening (number_text due p.side p.number) (san p m) (nags_text nags ++ comment_text comment)) (adds_on l0 l1 l3 (spoken_text opening due p m) (nags_text nags ++ comment_text comment) a0 (adds_on l1 l2 l3 (nags_text nags) (comment_text comment) a1 a2))
+
+-- a move that is written, its text in two parts
+pub spoken_whole : {A : Type 0} (l0 l1 l2 : Lines A) (opening : List ℕ) (due : Bool) (side : Colour) (number : ℕ) (text mark : List ℕ) (p : PositionParts) (m : MoveParts) → side ≡ p.side → number ≡ p.number → text ++ mark ≡ san p m
+    → Adds l0 l1 (opening ++ (number_text due side number ++ text)) → Adds l1 l2 mark → Adds l0 l2 (spoken_text opening due p m)
+spoken_whole l0 l1 l2 opening due side number text mark p m e h k a0 a1 =
+    adds_same l0 l2 _ _ (three opening (number_text due side number) text mark ∙ (λ i. opening ++ (number_text due (e i) (h i) ++ k i))) (adds_on l0 l1 l2 (opening ++ (number_text due side number ++ text)) mark a0 a1)
 
 -- the end of a variation
 pub step_close : {A E : Type 0} (r : Result (Unit {0}) E) (old new : Lines A) (line : Line) (ts : List Todo) → AreTasks line ts → OnOk r (Adds old new (codes ")")) → OnOk r (WritesSome old new line line (Close ∷ ts) ts)
@@ -92,9 +96,6 @@ pub first_legal : (p : PositionParts) (f : Forest) (m : MoveParts) (nags comment
 first_legal p f m nags comment below rest first are =
     let a : AreSound p (Node m nags comment below rest) = subst (λ (x : Forest). AreSound p x) first.is are in
     a.0
-
-three : (x y z t : List ℕ) → (x ++ (y ++ z)) ++ t ≡ x ++ (y ++ (z ++ t))
-three x y z t = append_assoc x (y ++ z) t ∙ ap (λ (s : List ℕ). x ++ s) (append_assoc y z t)
 
 four : (x y z u t : List ℕ) → (x ++ (y ++ (z ++ u))) ++ t ≡ x ++ (y ++ (z ++ (u ++ t)))
 four x y z u t = append_assoc x (y ++ (z ++ u)) t ∙ ap (λ (s : List ℕ). x ++ s) (three y z u t)

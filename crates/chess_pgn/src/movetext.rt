@@ -3,7 +3,7 @@ ghost use Rattle.chess_types.specs.board.Position as position;
 ghost use Rattle.chess_types.specs.board.Legal.{is_legal};
 ghost use Rattle.chess_types.specs.board.Lines.{extended, last};
 ghost use Rattle.chess_tree.specs.Forest.{child};
-ghost use Rattle.chess_pgn.specs.Written.{comment_text, is_noted, movetext, moves_text, nags_text, node_text, number_text, outcome_text};
+ghost use Rattle.chess_pgn.specs.Written.{comment_text, is_noted, movetext, moves_text, nags_text, node_text, outcome_text};
 ghost use Rattle.chess_pgn.specs.steps.Adding.{Adds};
 
 use crate::lines::Lines;
@@ -13,27 +13,9 @@ use chess_draws::Line;
 use chess_items::Outcome;
 use chess_key::KeyTable;
 use chess_tree::{Children, Notes, Tree};
-use chess_types::{Colour, Move};
+use chess_types::Move;
 use itoa::Buffer;
 use std::alloc::{AllocError, Allocator};
-
-// The number of a move and its periods, where it is due.
-fn push_number<'a, A: Allocator>(
-    lines: &mut Lines<'a, A>,
-    due: bool,
-    side: Colour,
-    number: u32,
-) -> Result<(), AllocError>
-    ensures { OnOk result (Adds lines.old lines.new (number_text due side number)) }
-{
-    let periods: &[u8] = match side {
-        Colour::White => b". ",
-        Colour::Black if due => b"... ",
-        Colour::Black => return Ok(()),
-    };
-    lines.push(Buffer::new().format(number).as_bytes())?;
-    lines.push(periods)
-}
 
 // Annotation numbers.
 fn push_nags<'a, A: Allocator>(lines: &mut Lines<'a, A>, nags: &[u8]) -> Result<(), AllocError>
@@ -90,11 +72,7 @@ fn push_move<'t, 'k, 'a, A: Allocator>(
     ensures adds { OnOk result (Adds lines.old lines.new (node_text opening.now due (last speller.old) played notes.now.nags.now notes.now.comment.now)) }
     ensures line { OnOk result (speller.new ≡ extended speller.old played) }
 {
-    let spoken = speller.write(node as usize, played)?;
-    lines.push(opening)?;
-    push_number(lines, due, spoken.side, spoken.number)?;
-    lines.push(spoken.text.as_bytes())?;
-    lines.push(spoken.mark.as_bytes())?;
+    speller.write(lines, opening, due, node as usize, played)?;
     push_nags(lines, notes.nags)?;
     push_comment(lines, notes.comment)?;
     Ok(())

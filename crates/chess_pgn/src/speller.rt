@@ -1,18 +1,20 @@
 //! The texts of the moves of a game that is written: known beforehand, or found by making the moves.
 
-ghost use Rattle.std.specs.Prelude.{◌≡◌, ◌<◌, ◌++◌, [], IfOk, IsTrue, OnOk, length};
+ghost use Rattle.std.specs.Prelude.{◌≡◌, ◌<◌, ◌++◌, [], IsTrue, OnOk, length};
 ghost use Rattle.chess_types.specs.board.Position.{start};
 ghost use Rattle.chess_types.specs.board.Legal.{is_legal};
 ghost use Rattle.chess_types.specs.board.Lines.{extended, last};
-ghost use Rattle.chess_san.specs.Writing.{mark_text, san};
-ghost use Rattle.chess_draws.specs.LineParts.{IsAsBefore};
+ghost use Rattle.chess_pgn.specs.Written.{number_text};
+ghost use Rattle.chess_pgn.specs.steps.Adding.{Adds};
 ghost use Rattle.chess_pgn.specs.steps.KnownTexts.{line_at};
+ghost use Rattle.chess_pgn.specs.steps.Spelling.{spoken_text};
 ghost use Rattle.chess_pgn.specs.steps.Tasks.{shortened};
 
+use crate::lines::Lines;
 use crate::texts::Texts;
-use arrayvec::ArrayString;
 use chess_draws::Line;
 use chess_types::{Colour, Move};
+use itoa::Buffer;
 use std::alloc::{AllocError, Allocator};
 use std::marker::Model;
 
@@ -29,15 +31,6 @@ impl From<AllocError> for Halt {
     fn from(_: AllocError) -> Halt {
         Halt::Memory
     }
-}
-
-/// A move as it is written, in two parts; and the side and the number of the position in which it is made.
-#[derive(Clone, Copy)]
-pub struct Spoken {
-    pub text: ArrayString<8>,
-    pub mark: ArrayString<1>,
-    pub side: Colour,
-    pub number: u32,
 }
 
 /// How the texts are found.
@@ -70,26 +63,54 @@ impl<'t, 'k, 'a, A: Allocator> Model for Speller<'t, 'k, 'a, A> {
     ghost invariant = { λ s. IsStill s.way };
 }
 
-// The mark after the move that was made last.
-#[tactic(auto, unfolding(chess_san::specs::Writing::mark_text))]
-fn mark<'k, 'a, A: Allocator>(line: &mut Line<'k, &'a A>) -> ArrayString<1>
-    ensures value { result.bytes ≡ mark_text (last line.old.line) }
-    ensures as_before { IsAsBefore line.old line.new }
+// The number of a move and its periods, where it is due.
+fn push_number<'a, A: Allocator>(
+    lines: &mut Lines<'a, A>,
+    due: bool,
+    side: Colour,
+    number: u32,
+) -> Result<(), AllocError>
+    ensures { OnOk result (Adds lines.old lines.new (number_text due side number)) }
 {
-    let mut mark = ArrayString::new();
-    mark.push_str(line.write_mark());
-    mark
+    let periods: &[u8] = match side {
+        Colour::White => b". ",
+        Colour::Black if due => b"... ",
+        Colour::Black => return Ok(()),
+    };
+    lines.push(Buffer::new().format(number).as_bytes())?;
+    lines.push(periods)
 }
 
-// Makes a move, which is written: its mark is asked after it.
-fn make<'k, 'a, A: Allocator>(line: &mut Line<'k, &'a A>, played: Move) -> Result<Spoken, Halt>
+// What comes before a move, its number where it is due, and its text.
+#[inline(always)]
+fn push_spoken<'a, A: Allocator>(
+    lines: &mut Lines<'a, A>,
+    opening: &[u8],
+    due: bool,
+    side: Colour,
+    number: u32,
+    text: &[u8],
+) -> Result<(), AllocError>
+    ensures { OnOk result (Adds lines.old lines.new (opening.now ++ (number_text due side number ++ text.now))) }
+{
+    lines.push(opening)?;
+    push_number(lines, due, side, number)?;
+    lines.push(text)
+}
+
+// Makes a move, and writes it: its mark is asked after it.
+fn make<'k, 'a, A: Allocator>(
+    line: &mut Line<'k, &'a A>,
+    lines: &mut Lines<'a, A>,
+    opening: &[u8],
+    due: bool,
+    played: Move,
+) -> Result<(), Halt>
     requires legal { IsTrue (is_legal (last line.old.line) played) }
     requires few { length line.old.line.moves < 20000 }
     requires still { line.old.looked ≡ 0 }
-    ensures text { IfOk result (λ s. s.text.bytes ++ s.mark.bytes ≡ san (last line.old.line) played) }
-    ensures side { IfOk result (λ s. s.side ≡ (last line.old.line).side) }
-    ensures number { IfOk result (λ s. s.number ≡ (last line.old.line).number) }
-    ensures line { IfOk result (λ _. line.new.line ≡ extended line.old.line played) }
+    ensures adds { OnOk result (Adds lines.old lines.new (spoken_text opening.now due (last line.old.line) played)) }
+    ensures line { OnOk result (line.new.line ≡ extended line.old.line played) }
     ensures still { line.new.looked ≡ 0 }
 {
     if line.reserve(1).is_err() {
@@ -99,36 +120,37 @@ fn make<'k, 'a, A: Allocator>(line: &mut Line<'k, &'a A>, played: Move) -> Resul
     let (side, number) = (setup.side, setup.number);
     let text = line.write_unmarked(played);
     line.push_prepared(played);
-    Ok(Spoken {
-        text,
-        mark: mark(line),
-        side,
-        number,
-    })
+    push_spoken(lines, opening, due, side, number, text.as_bytes())?;
+    lines.push(line.write_mark().as_bytes())?;
+    Ok(())
 }
 
-// Goes on by a known move, from the place of the one before it to its own.
-fn follow<A: Allocator>(
-    texts: &Texts<'_, A>,
+// Goes on by a known move, from the place of the one before it to its own, and writes it.
+fn follow<'a, A: Allocator>(
+    texts: &Texts<'a, A>,
     place: &mut usize,
+    lines: &mut Lines<'a, A>,
+    opening: &[u8],
+    due: bool,
     next: usize,
     played: Move,
-) -> Result<Spoken, Halt>
-    ensures text { IfOk result (λ s. s.text.bytes ++ s.mark.bytes ≡ san (last (line_at texts.now place.old)) played) }
-    ensures side { IfOk result (λ s. s.side ≡ (last (line_at texts.now place.old)).side) }
-    ensures number { IfOk result (λ s. s.number ≡ (last (line_at texts.now place.old)).number) }
-    ensures line { IfOk result (λ _. line_at texts.now place.new ≡ extended (line_at texts.now place.old) played) }
+) -> Result<(), Halt>
+    ensures adds { OnOk result (Adds lines.old lines.new (spoken_text opening.now due (last (line_at texts.now place.old)) played)) }
+    ensures line { OnOk result (line_at texts.now place.new ≡ extended (line_at texts.now place.old) played) }
 {
     let Some(known) = texts.find(next, *place, played) else {
         return Err(Halt::Unknown);
     };
     *place = next;
-    Ok(Spoken {
-        text: known.text,
-        mark: ArrayString::new(),
-        side: known.side,
-        number: known.number,
-    })
+    push_spoken(
+        lines,
+        opening,
+        due,
+        known.side,
+        known.number,
+        known.text.as_bytes(),
+    )?;
+    Ok(())
 }
 
 impl<'t, 'k, 'a, A: Allocator> Speller<'t, 'k, 'a, A> {
@@ -151,23 +173,29 @@ impl<'t, 'k, 'a, A: Allocator> Speller<'t, 'k, 'a, A> {
         }
     }
 
-    /// Goes on by a legal move, that of the node with that number, which is written.
-    pub fn write(&mut self, number: usize, played: Move) -> Result<Spoken, Halt>
+    /// Goes on by a legal move, that of the node with that number, and writes it after `opening`, its number where it is due.
+    #[inline(always)]
+    pub fn write(
+        &mut self,
+        lines: &mut Lines<'a, A>,
+        opening: &[u8],
+        due: bool,
+        node: usize,
+        played: Move,
+    ) -> Result<(), Halt>
         requires legal { IsTrue (is_legal (last self.old) played) }
         requires few { length self.old.moves < 20000 }
-        ensures text { IfOk result (λ s. s.text.bytes ++ s.mark.bytes ≡ san (last self.old) played) }
-        ensures side { IfOk result (λ s. s.side ≡ (last self.old).side) }
-        ensures number { IfOk result (λ s. s.number ≡ (last self.old).number) }
-        ensures line { IfOk result (λ _. self.new ≡ extended self.old played) }
+        ensures adds { OnOk result (Adds lines.old lines.new (spoken_text opening.now due (last self.old) played)) }
+        ensures line { OnOk result (self.new ≡ extended self.old played) }
     {
         match &mut self.way {
-            Way::Made(line) => make(line, played),
-            Way::Known(texts, place) => follow(texts, place, number, played),
+            Way::Made(line) => make(line, lines, opening, due, played),
+            Way::Known(texts, place) => follow(texts, place, lines, opening, due, node, played),
         }
     }
 
     /// The same, but the move is written already.
-    pub fn go_on(&mut self, number: usize, played: Move) -> Result<(), Halt>
+    pub fn go_on(&mut self, node: usize, played: Move) -> Result<(), Halt>
         requires legal { IsTrue (is_legal (last self.old) played) }
         requires few { length self.old.moves < 20000 }
         ensures line { OnOk result (self.new ≡ extended self.old played) }
@@ -180,7 +208,10 @@ impl<'t, 'k, 'a, A: Allocator> Speller<'t, 'k, 'a, A> {
                 line.push_prepared(played);
             }
             Way::Known(texts, place) => {
-                follow(texts, place, number, played)?;
+                if texts.find(node, *place, played).is_none() {
+                    return Err(Halt::Unknown);
+                }
+                *place = node;
             }
         }
         Ok(())

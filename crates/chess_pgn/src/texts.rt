@@ -114,16 +114,16 @@ impl<'a, A: Allocator> Texts<'a, A> {
     }
 
     /// The one at that place, counted from 1, if it is that move after that other one.
-    pub(crate) fn find(&self, place: usize, before: usize, played: Move) -> Option<Known>
-        ensures known { IfSome result (λ known. IsKnown (line_at self.now before) known) }
-        ensures played { IfSome result (λ known. known.played ≡ played) }
+    pub(crate) fn find(&self, place: usize, before: usize, played: Move) -> Option<&Known>
+        ensures known { IfSome result (λ known. IsKnown (line_at self.now before) known.now) }
+        ensures played { IfSome result (λ known. known.now.played ≡ played) }
         ensures line { IfSome result (λ _. line_at self.now place ≡ extended (line_at self.now before) played) }
         ensures within { IfSome result (λ _. place ≤ length self.now) }
     {
         let _ = &self.known;
         let known = self.at(place)?;
         if known.before == before && is_move(known.played, played) {
-            return Some(*known);
+            return Some(known);
         }
         None
     }
