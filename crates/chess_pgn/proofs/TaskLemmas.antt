@@ -1,5 +1,5 @@
 -- What each task writes, and the tasks that it leaves.
-use Rattle.std.proofs.Common.{◌≡◌, ◌≤◌, ℕ, Bool, true, false, not, ◌||◌, List, [], ◌∷◌, ◌++◌, length, map, Option, Some, None, refl, sym, ap, subst, ◌∙◌, arith, append_assoc, append-nil, codes, length-append}
+use Rattle.std.proofs.Common.{◌≡◌, ◌≤◌, ◌<◌, ◌+◌, ℕ, Bool, true, false, not, ◌||◌, List, [], ◌∷◌, ◌++◌, length, map, Option, Some, None, refl, sym, ap, subst, ◌∙◌, arith, append_assoc, append-nil, codes, length-append}
 use Rattle.std.specs.Prelude.{Result, Ok, Err, OnOk, MatchOption, is_none}
 use Rattle.std.proofs.lemmas.List.{reverse-append}
 use Rattle.chess_types.specs.declared.board.man.Colour.{Colour}
@@ -91,6 +91,17 @@ first_node {f} {rest} {below} {n = n} {m = m} {nags = nags} {comment = comment} 
         let s : n ≡ record { move = Some k; nags = nags; comment = comment; below = below } = some_is n _ e in
         let km : m ≡ k = some_move m k (h ∙ ap (λ (x : NodeParts). x.move) s) in
         record { is = parts k m nags a comment c below b next rest (sym km) (sym (e1 ∙ ap (λ (x : NodeParts). x.nags) s)) (sym (e2 ∙ ap (λ (x : NodeParts). x.comment) s)) (sym (e3 ∙ ap (λ (x : NodeParts). x.below) s)) (sym r) }
+
+-- each node has a move
+pub has_move : (f : Forest) {found : Option NodeParts} {n : NodeParts} {played : Option MoveParts} → found ≡ Some n → found ≡ child 0 f → played ≡ None → played ≡ n.move → ⊥
+has_move f {n = n} some is none move = by f n (sym some ∙ is) (sym none ∙ move)
+  where
+    by : (f : Forest) (n : NodeParts) → Some n ≡ child 0 f → None ≡ n.move → ⊥
+    by Bare n e h = cc
+    by (Node k nags comment below next) n e h = cc
+
+pub first_few : (p : PositionParts) (f : Forest) (m : MoveParts) (nags comment : List ℕ) (below rest : Forest) (n : ℕ) → First f m nags comment below rest → n + height f ≤ 20000 → n < 20000
+first_few p f m nags comment below rest n first deep = (let h : height f ≡ height (Node m nags comment below rest) = ap height first.is in omega (arith, deep, h))
 
 pub first_legal : (p : PositionParts) (f : Forest) (m : MoveParts) (nags comment : List ℕ) (below rest : Forest) → First f m nags comment below rest → AreSound p f → is_legal p m ≡ true
 first_legal p f m nags comment below rest first are =
@@ -245,7 +256,7 @@ steps_on (Err u) line2 ts2 e h k s = tt
 -- ---- all the tasks
 
 pub done_none : {A : Type 0} (lines : Lines A) (line : Line) (ts : List Todo) → AreTasks line ts → Adds lines lines [] → Done lines lines line line ts ts
-done_none lines line ts are adds = record { more = []; adds = adds; text = refl; tasks = are }
+done_none lines line ts are adds = record { more = []; adds = adds; text = refl; tasks = are; less = omega arith }
 
 pub done_on : {A : Type 0} (old mid new : Lines A) (line line1 line2 : Line) (ts ts1 ts2 : List Todo) → Done old mid line line1 ts ts1 → WritesSome mid new line1 line2 ts1 ts2 → Done old new line line2 ts ts2
 done_on old mid new line line1 line2 ts ts1 ts2 d s = record {
@@ -253,6 +264,16 @@ done_on old mid new line line1 line2 ts ts1 ts2 d s = record {
   adds = adds_on old mid new d.more s.more d.adds s.adds;
   text = d.text ∙ ap (λ (x : List ℕ). d.more ++ x) s.text ∙ sym (append_assoc d.more s.more (tasks_text line2 ts2));
   tasks = s.tasks;
+  less = omega (arith, d.less, s.smaller);
+}
+
+pub done_last : {A : Type 0} {old mid new : Lines A} {line line1 line2 : Line} {ts ts1 ts2 : List Todo} → Done old mid line line1 ts ts1 → WritesSome mid new line1 line2 ts1 ts2 → WritesSome old new line line2 ts ts2
+done_last {old = old} {mid} {new} {line2 = line2} {ts2 = ts2} d s = record {
+  more = d.more ++ s.more;
+  adds = adds_on old mid new d.more s.more d.adds s.adds;
+  text = d.text ∙ ap (λ (x : List ℕ). d.more ++ x) s.text ∙ sym (append_assoc d.more s.more (tasks_text line2 ts2));
+  tasks = s.tasks;
+  smaller = omega (arith, d.less, s.smaller);
 }
 
 pub done_all : {A : Type 0} (old new : Lines A) (line line' : Line) (ts ts' : List Todo) → Done old new line line' ts ts' → ts' ≡ [] → Adds old new (tasks_text line ts)

@@ -131,37 +131,38 @@ impl<'t, 'k, 'a, A: Allocator> Writer<'t, 'k, 'a, A> {
         self.speller.back();
     }
 
-    // The first node, and the tasks of what is below it and of the others.
+    // The nodes one after another, up to the first that has variations, and the tasks of these and of what is below it.
     fn moves(&mut self, nodes: Children<'t, 'a, A>, due: bool) -> Result<(), Halt>
         requires { AreTasks self.old.speller (tasks.Moves nodes due ∷ todos self.old.tasks.items) }
         ensures { OnOk result (WritesSome self.old.lines self.new.lines self.old.speller self.new.speller (tasks.Moves nodes.entry due ∷ todos self.old.tasks.items) (todos self.new.tasks.items)) }
     {
         let mut others = nodes;
-        let Some(node) = others.next() else {
-            return Ok(());
-        };
-        let Some(played) = node.move_at() else {
-            unreachable!();
-        };
-        let notes = node.notes();
-        let number = node.number();
-        push_move(
-            &mut self.lines,
-            &mut self.speller,
-            b" ",
-            due,
-            number,
-            played,
-            &notes,
-        )?;
-        let due_below = is_parted(&notes, &others);
-        if others.is_empty() {
-            self.go_on(node.below(), due_below)?;
-            return Ok(());
+        let mut due = due;
+        while let Some(node) = others.next() {
+            let Some(played) = node.move_at() else {
+                unreachable!();
+            };
+            let notes = node.notes();
+            let number = node.number();
+            push_move(
+                &mut self.lines,
+                &mut self.speller,
+                b" ",
+                due,
+                number,
+                played,
+                &notes,
+            )?;
+            due = is_parted(&notes, &others);
+            if !others.is_empty() {
+                self.speller.back();
+                self.add(Task::Below(played, number, node.below(), due))?;
+                self.add(Task::Variations(others))?;
+                return Ok(());
+            }
+            self.leave_back()?;
+            others = node.below();
         }
-        self.speller.back();
-        self.add(Task::Below(played, number, node.below(), due_below))?;
-        self.add(Task::Variations(others))?;
         Ok(())
     }
 
@@ -194,16 +195,25 @@ impl<'t, 'k, 'a, A: Allocator> Writer<'t, 'k, 'a, A> {
         Ok(())
     }
 
-    // After a move that is made, leaves the tasks of what is below it and of taking it back; the last is left out where no task is
-    // after it.
+    // After a move that is made, leaves the task of taking it back; none where no task is after it.
+    fn leave_back(&mut self) -> Result<(), AllocError>
+        ensures lines { self.new.lines ≡ self.old.lines }
+        ensures line { self.new.speller ≡ self.old.speller }
+        ensures tasks { OnOk result (todos self.new.tasks.items ≡ returning self.old.tasks.items) }
+    {
+        if !self.tasks.is_empty() {
+            self.add(Task::Back)?;
+        }
+        Ok(())
+    }
+
+    // The same, and the task of what is below the move before it.
     fn go_on(&mut self, nodes: Children<'t, 'a, A>, due: bool) -> Result<(), AllocError>
         ensures lines { self.new.lines ≡ self.old.lines }
         ensures line { self.new.speller ≡ self.old.speller }
         ensures tasks { OnOk result (todos self.new.tasks.items ≡ tasks.Moves nodes.entry due ∷ returning self.old.tasks.items) }
     {
-        if !self.tasks.is_empty() {
-            self.add(Task::Back)?;
-        }
+        self.leave_back()?;
         self.add(Task::Moves(nodes, due))
     }
 

@@ -1,5 +1,5 @@
 -- The tasks of the code, the next one last.
-use Rattle.std.specs.Prelude.{◌≡◌, ℕ, ◌<◌, List, [], ◌∷◌, ◌++◌, map, reverse}
+use Rattle.std.specs.Prelude.{◌≡◌, ℕ, ◌<◌, ◌≤◌, List, [], ◌∷◌, ◌++◌, map, reverse}
 use Rattle.chess_types.specs.board.Lines.{Line}
 use Rattle.chess_pgn.specs.steps.Adding.{Adds}
 use Rattle.chess_pgn.specs.steps.Tasks as tasks
@@ -31,9 +31,10 @@ pub record WritesSome {A : Type 0} (old new : Lines A) (line line' : Line) (ts t
   pub tasks : AreTasks line' ts'
   pub smaller : work ts' < work ts
 
--- So far some of the tasks' text is written, and the others write the rest.
+-- So far some of the tasks' text is written, the others write the rest, and no more is to be done.
 pub record Done {A : Type 0} (old new : Lines A) (line line' : Line) (ts ts' : List Todo) : Type 0 where
   pub more : List ℕ
   pub adds : Adds old new more
   pub text : tasks_text line ts ≡ more ++ tasks_text line' ts'
   pub tasks : AreTasks line' ts'
+  pub less : work ts' ≤ work ts
