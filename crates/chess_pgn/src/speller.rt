@@ -51,7 +51,6 @@ pub struct Speller<'t, 'k, 'a, A: Allocator> {
 impl<'t, 'k, 'a, A: Allocator> Model for Speller<'t, 'k, 'a, A> {
     ghost use Rattle.chess_types.specs.board.Lines.{Line};
     ghost use Rattle.chess_pgn.specs.steps.Spelling.{IsStill, line_of};
-
     ghost use Rattle.chess_types.specs.steps.LineCode.{coded_line};
 
     ghost Value = { Line };

@@ -10,6 +10,8 @@ returns-clause-follows g c =
     let old = c.args.analysis.now in
     let here = subst (λ (x : Option ℕ). Follows x ks old) c.in-Some.is c.requires.follows in
     let found = c.is_none.ensures ∙ ap not c.if-is_none.false in
-    let depth = c.depth-depth.ensures.line ∙ ap (λ (t : TreeParts). length (line_to t).moves) c.tree.ensures.tree in
-    (stepped c.in-Some.before c.args.known ks old c.step.new.self c.depth-depth.result c.played.result c.in-Some-played.played c.in_default.ensures.line here.0 depth c.played.ensures.value c.in-Some-played.is
-    (some_if c.find.result found c.find.ensures.line), some_if c.find.result found c.find.ensures.within)
+    let depth = c.depth-depth.ensures.line ∙ ap (λ (t : TreeParts). length (line_to t).moves) c.tree.ensures.tree in (
+      stepped c.in-Some.before c.args.known ks old c.step.new.self c.depth-depth.result c.played.result c.in-Some-played.played c.in_default.ensures.line here.0 depth c.played.ensures.value c.in-Some-played.is
+          (some_if c.find.result found c.find.ensures.line),
+      some_if c.find.result found c.find.ensures.within,
+    )
