@@ -12,7 +12,7 @@ use Rattle.chess_items.specs.declared.fault.PgnFault.{PgnFault}
 use Rattle.chess_loop.specs.RunEnds.{Broken}
 use Rattle.chess_loop.specs.steps.Sending.{Sent, SentOr}
 use Rattle.chess_loop.proofs.SendingLemmas.{sent_whole}
-use Rattle.chess_pgn.specs.Sources.{Fails, Games, GoesOn, HasFault, HasNone, ReadFails}
+use Rattle.chess_pgn.specs.Sources.{Fails, Games, GoesOn, HasFault, HasNone, IsPlaced, ReadFails}
 use Rattle.chess_pgn.specs.declared.games.GamesFault.TheVariants.{Pgn}
 use Rattle.chess_pgn.specs.declared.games.GamesFault.{GamesFault}
 use Rattle.chess_programs.specs.declared.collection.Failure.{Failure}
@@ -62,13 +62,25 @@ pub still_on : (fault : Option GamesFault) → fault ≡ None → GoesOn fault
 still_on fault e = subst (λ (f : Option GamesFault). GoesOn f) (sym e) tt
 
 -- a fault of the text
-pub no_lack : (kind : FaultKind) → is_lack kind ≡ false → kind ≢ Memory
+no_lack : (kind : FaultKind) → is_lack kind ≡ false → kind ≢ Memory
 no_lack kind not is = true≢false (sym (ap is_lack is) ∙ not)
 
-pub fails_there : {R : Type 0} (gives : R → List ℕ → R → Type 0) (failed : R → Bool) (ended : R → Type 0) (old new : AtHand R) (fault : PgnFault) → fault.kind ≢ Memory → HasFault gives failed ended old new (Pgn fault)
+fails_there : {R : Type 0} (gives : R → List ℕ → R → Type 0) (failed : R → Bool) (ended : R → Type 0) (old new : AtHand R) (fault : PgnFault) → fault.kind ≢ Memory → HasFault gives failed ended old new (Pgn fault)
     → Fails gives failed ended old new
 fails_there gives failed ended old new fault not (inl starves) = absurd (not starves.0)
 fails_there gives failed ended old new fault not (inr fails) = fails
+
+-- an entry that is no game
+pub bad_there : {R X : Type 0} (gives : R → List ℕ → R → Type 0) (failed : R → Bool) (ended : R → Type 0) (old new : Games R) (offset : ℕ) (fault : PgnFault) (result : Result X GamesFault) → result ≡ Err (Pgn fault) → is_lack fault.kind ≡ false
+    → offset ≡ old.text.used → IfErr result (λ f. IsPlaced old.text.used f) → IfErr result (λ f. HasFault gives failed ended old.text new.text f) → IfErr result (λ f. new.fault ≡ Some f) → IsThere gives failed ended old (Bad offset fault) new
+bad_there gives failed ended old new offset fault result is not here placed has stays =
+    let dark = no_lack fault.kind not in (
+      here,
+      dark,
+      err_holds (λ f. IsPlaced old.text.used f) result (Pgn fault) is placed,
+      fails_there gives failed ended old.text new.text fault dark (err_holds (λ f. HasFault gives failed ended old.text new.text f) result (Pgn fault) is has),
+      err_holds (λ f. new.fault ≡ Some f) result (Pgn fault) is stays,
+    )
 
 module _ {W E X : Type 0} (takes : W → List ℕ → W → Type 0) (failed : W → Bool) (w w' : W) where
   broken_if : (text : List ℕ) (r : Result X E) → true ≡ is_err r → SentOr takes failed w text [] w' r → Broken takes failed w text w'

@@ -1,5 +1,5 @@
 -- The events of a line, one after another.
-use Rattle.std.proofs.Common.{◌≡◌, ℕ, ◌+◌, ◌<◌, true, List, [], ◌∷◌, ◌++◌, length, take, get_or, refl, sym, ap, ◌∙◌, subst, append_assoc, append-nil}
+use Rattle.std.proofs.Common.{◌≡◌, ℕ, ◌+◌, ◌<◌, true, List, [], ◌∷◌, ◌++◌, length, take, get_or, refl, sym, ap, ◌∙◌, subst, append_assoc, append-nil, length-append}
 use Rattle.std.proofs.lemmas.List.{take_more}
 use Rattle.chess_uci.specs.declared.reply.Reply.{Reply}
 use Rattle.chess_uci.specs.Replies.{reply_text}
@@ -87,7 +87,7 @@ module _ {C : Type 0} (reads : C → ℕ → C → Type 0) (line : List ℕ) whe
       }
 
 -- one reply more on the page
-pub replies_on : (page page1 page2 : List ℕ) (rs : List Reply) (i : ℕ) (r : Reply) → i < length rs → r ≡ get_or rs i r → page1 ≡ page ++ reply_lines (take i rs)
+replies_on : (page page1 page2 : List ℕ) (rs : List Reply) (i : ℕ) (r : Reply) → i < length rs → r ≡ get_or rs i r → page1 ≡ page ++ reply_lines (take i rs)
     → page2 ≡ page1 ++ (reply_text r ++ 10 ∷ []) → page2 ≡ page ++ reply_lines (take (i + 1) rs)
 replies_on page page1 page2 rs i r within is so_far put =
     let more : reply_lines (take (i + 1) rs) ≡ reply_lines (take i rs) ++ (reply_text r ++ 10 ∷ []) =
@@ -96,3 +96,10 @@ replies_on page page1 page2 rs i r within is so_far put =
     ∙ ap (λ (t : List ℕ). reply_lines (take i rs) ++ t) (append-nil (reply_text r ++ 10 ∷ [])) in
     put ∙ ap (λ (t : List ℕ). t ++ (reply_text r ++ 10 ∷ [])) so_far ∙ append_assoc page (reply_lines (take i rs)) (reply_text r ++ 10 ∷ [])
     ∙ ap (λ (t : List ℕ). page ++ t) (sym more)
+
+pub reply_put : (page page1 page2 said : List ℕ) (rs : List Reply) (i : ℕ) (r : Reply) → i < length rs → r ≡ get_or rs i r → page1 ≡ page ++ reply_lines (take i rs) → said ≡ reply_text r →
+    page2 ≡ page1 ++ (said ++ 10 ∷ []) → (page2 ≡ page ++ reply_lines (take (i + 1) rs)) × (length page2 ≡ length page1 + (length said + 1))
+reply_put page page1 page2 said rs i r within is so_far text put = (
+  replies_on page page1 page2 rs i r within is so_far (put ∙ ap (λ (t : List ℕ). page1 ++ (t ++ 10 ∷ [])) text),
+  ap length put ∙ length-append page1 (said ++ 10 ∷ []) ∙ ap (λ (n : ℕ). length page1 + n) (length-append said (10 ∷ [])),
+)

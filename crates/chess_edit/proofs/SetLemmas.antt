@@ -1,5 +1,5 @@
 -- Tags looked up by their names once one is set.
-use Rattle.std.proofs.Common.{◌≡◌, ℕ, Bool, true, false, List, [], ◌∷◌, Option, Some, None, refl, sym, ap, subst, ◌∙◌, inl, inr}
+use Rattle.std.proofs.Common.{◌≡◌, ℕ, Bool, true, false, List, [], ◌∷◌, ◌++◌, Option, Some, None, refl, sym, ap, subst, ◌∙◌, inl, inr}
 use Rattle.std.specs.Prelude.{if◌then◌else◌, bytes_eq, codes, is_none}
 use Rattle.std.specs.Cmp.Lexicographic.{bytes_decides}
 use Rattle.std.proofs.lemmas.Bool.{cases_Bool, false_from_ne_true, true≢false}
@@ -63,6 +63,17 @@ set_after name key x other value old new is_other later =
           ∙ ap (λ (o : Option (List ℕ)). if bytes_eq name other then value else o) (sym (if_false (bytes_eq other key) (Some x) (tag_in other old) other_one))
     ]
 
+-- the first tags have other names
+abbrev AreOthers : List ℕ → Pairs → Type 0
+AreOthers name [] = Unit {0}
+AreOthers name (tag ∷ front) = (bytes_eq name tag.0 ≡ false) × AreOthers name front
+
+after_front : (name other : List ℕ) (value : Option (List ℕ)) (front old new : Pairs) → AreOthers name front → tag_in other new ≡ (if bytes_eq name other then value else tag_in other old) →
+    tag_in other (front ++ new) ≡ (if bytes_eq name other then value else tag_in other (front ++ old))
+after_front name other value [] old new others later = later
+after_front name other value ((key, x) ∷ front) old new others later =
+    set_after name key x other value (front ++ old) (front ++ new) others.0 (after_front name other value front old new others.1 later)
+
 -- ---- the six tags that each game has, and the others
 
 abbrev site_on : Tags → Pairs
@@ -80,104 +91,57 @@ white_on t = (codes "White", t.white) ∷ (codes "Black", t.black) ∷ t.others
 abbrev black_on : Tags → Pairs
 black_on t = (codes "Black", t.black) ∷ t.others
 
+abbrev before_date : Tags → Pairs
+before_date t = (codes "Event", t.event) ∷ (codes "Site", t.site) ∷ []
+
+abbrev before_round : Tags → Pairs
+before_round t = (codes "Event", t.event) ∷ (codes "Site", t.site) ∷ (codes "Date", t.date) ∷ []
+
+abbrev before_white : Tags → Pairs
+before_white t = (codes "Event", t.event) ∷ (codes "Site", t.site) ∷ (codes "Date", t.date) ∷ (codes "Round", t.round) ∷ []
+
+abbrev before_black : Tags → Pairs
+before_black t = (codes "Event", t.event) ∷ (codes "Site", t.site) ∷ (codes "Date", t.date) ∷ (codes "Round", t.round) ∷ (codes "White", t.white) ∷ []
+
+abbrev before_others : Tags → Pairs
+before_others t = (codes "Event", t.event) ∷ (codes "Site", t.site) ∷ (codes "Date", t.date) ∷ (codes "Round", t.round) ∷ (codes "White", t.white) ∷ (codes "Black", t.black) ∷ []
+
 pub set_event : (name value : List ℕ) (t : Tags) → bytes_eq name (codes "Event") ≡ true →
     IsSet name (Some value) t (record t { event = value })
 unfolding tag_value
-set_event name value t is =
-    let u : Tags = record t { event = value } in
-    record {
-      tags = λ other.
-          set_here name (codes "Event") value t.event other (site_on t) is;
-      ascend = λ a. a;
-    }
+set_event name value t is = record { tags = λ other. set_here name (codes "Event") value t.event other (site_on t) is; ascend = λ a. a }
 
 pub set_site : (name value : List ℕ) (t : Tags) → bytes_eq name (codes "Event") ≡ false → bytes_eq name (codes "Site") ≡ true →
     IsSet name (Some value) t (record t { site = value })
 unfolding tag_value
-set_site name value t n0 is =
-    let u : Tags = record t { site = value } in
-    record {
-      tags = λ other.
-          set_after name (codes "Event") t.event other (Some value) (site_on t) (site_on u) n0
-          (set_here name (codes "Site") value t.site other (date_on t) is);
-      ascend = λ a. a;
-    }
+set_site name value t n0 is = record { tags = λ other. after_front name other (Some value) ((codes "Event", t.event) ∷ []) (site_on t) (site_on (record t { site = value })) (n0, tt) (set_here name (codes "Site") value t.site other (date_on t) is); ascend = λ a. a }
 
 pub set_date : (name value : List ℕ) (t : Tags) → bytes_eq name (codes "Event") ≡ false → bytes_eq name (codes "Site") ≡ false → bytes_eq name (codes "Date") ≡ true →
     IsSet name (Some value) t (record t { date = value })
 unfolding tag_value
-set_date name value t n0 n1 is =
-    let u : Tags = record t { date = value } in
-    record {
-      tags = λ other.
-          set_after name (codes "Event") t.event other (Some value) (site_on t) (site_on u) n0
-          (set_after name (codes "Site") t.site other (Some value) (date_on t) (date_on u) n1
-          (set_here name (codes "Date") value t.date other (round_on t) is));
-      ascend = λ a. a;
-    }
+set_date name value t n0 n1 is = record { tags = λ other. after_front name other (Some value) (before_date t) (date_on t) (date_on (record t { date = value })) (n0, (n1, tt)) (set_here name (codes "Date") value t.date other (round_on t) is); ascend = λ a. a }
 
 pub set_round : (name value : List ℕ) (t : Tags) → bytes_eq name (codes "Event") ≡ false → bytes_eq name (codes "Site") ≡ false → bytes_eq name (codes "Date") ≡ false → bytes_eq name (codes "Round") ≡ true →
     IsSet name (Some value) t (record t { round = value })
 unfolding tag_value
-set_round name value t n0 n1 n2 is =
-    let u : Tags = record t { round = value } in
-    record {
-      tags = λ other.
-          set_after name (codes "Event") t.event other (Some value) (site_on t) (site_on u) n0
-          (set_after name (codes "Site") t.site other (Some value) (date_on t) (date_on u) n1
-          (set_after name (codes "Date") t.date other (Some value) (round_on t) (round_on u) n2
-          (set_here name (codes "Round") value t.round other (white_on t) is)));
-      ascend = λ a. a;
-    }
+set_round name value t n0 n1 n2 is = record { tags = λ other. after_front name other (Some value) (before_round t) (round_on t) (round_on (record t { round = value })) (n0, (n1, (n2, tt))) (set_here name (codes "Round") value t.round other (white_on t) is); ascend = λ a. a }
 
 pub set_white : (name value : List ℕ) (t : Tags) → bytes_eq name (codes "Event") ≡ false → bytes_eq name (codes "Site") ≡ false → bytes_eq name (codes "Date") ≡ false → bytes_eq name (codes "Round") ≡ false → bytes_eq name (codes "White") ≡ true →
     IsSet name (Some value) t (record t { white = value })
 unfolding tag_value
-set_white name value t n0 n1 n2 n3 is =
-    let u : Tags = record t { white = value } in
-    record {
-      tags = λ other.
-          set_after name (codes "Event") t.event other (Some value) (site_on t) (site_on u) n0
-          (set_after name (codes "Site") t.site other (Some value) (date_on t) (date_on u) n1
-          (set_after name (codes "Date") t.date other (Some value) (round_on t) (round_on u) n2
-          (set_after name (codes "Round") t.round other (Some value) (white_on t) (white_on u) n3
-          (set_here name (codes "White") value t.white other (black_on t) is))));
-      ascend = λ a. a;
-    }
+set_white name value t n0 n1 n2 n3 is = record { tags = λ other. after_front name other (Some value) (before_white t) (white_on t) (white_on (record t { white = value })) (n0, (n1, (n2, (n3, tt)))) (set_here name (codes "White") value t.white other (black_on t) is); ascend = λ a. a }
 
 pub set_black : (name value : List ℕ) (t : Tags) → bytes_eq name (codes "Event") ≡ false → bytes_eq name (codes "Site") ≡ false → bytes_eq name (codes "Date") ≡ false → bytes_eq name (codes "Round") ≡ false → bytes_eq name (codes "White") ≡ false → bytes_eq name (codes "Black") ≡ true →
     IsSet name (Some value) t (record t { black = value })
 unfolding tag_value
-set_black name value t n0 n1 n2 n3 n4 is =
-    let u : Tags = record t { black = value } in
-    record {
-      tags = λ other.
-          set_after name (codes "Event") t.event other (Some value) (site_on t) (site_on u) n0
-          (set_after name (codes "Site") t.site other (Some value) (date_on t) (date_on u) n1
-          (set_after name (codes "Date") t.date other (Some value) (round_on t) (round_on u) n2
-          (set_after name (codes "Round") t.round other (Some value) (white_on t) (white_on u) n3
-          (set_after name (codes "White") t.white other (Some value) (black_on t) (black_on u) n4
-          (set_here name (codes "Black") value t.black other t.others is)))));
-      ascend = λ a. a;
-    }
+set_black name value t n0 n1 n2 n3 n4 is = record { tags = λ other. after_front name other (Some value) (before_black t) (black_on t) (black_on (record t { black = value })) (n0, (n1, (n2, (n3, (n4, tt))))) (set_here name (codes "Black") value t.black other t.others is); ascend = λ a. a }
 
 -- one of the others
 pub set_other : (name : List ℕ) (value : Option (List ℕ)) (t : Tags) (others : Pairs) → bytes_eq name (codes "Event") ≡ false → bytes_eq name (codes "Site") ≡ false → bytes_eq name (codes "Date") ≡ false → bytes_eq name (codes "Round") ≡ false → bytes_eq name (codes "White") ≡ false → bytes_eq name (codes "Black") ≡ false →
     Sets name value t.others others → Ascend others → IsSet name value t (record t { others = others })
 unfolding tag_value
 set_other name value t others n0 n1 n2 n3 n4 n5 sets ascend =
-    let u : Tags = record t { others = others } in
-    record {
-      tags = λ other.
-          set_after name (codes "Event") t.event other value (site_on t) (site_on u) n0
-          (set_after name (codes "Site") t.site other value (date_on t) (date_on u) n1
-          (set_after name (codes "Date") t.date other value (round_on t) (round_on u) n2
-          (set_after name (codes "Round") t.round other value (white_on t) (white_on u) n3
-          (set_after name (codes "White") t.white other value (black_on t) (black_on u) n4
-          (set_after name (codes "Black") t.black other value t.others u.others n5
-          (sets other))))));
-      ascend = λ _. ascend;
-    }
+    record { tags = λ other. after_front name other value (before_others t) t.others others (n0, (n1, (n2, (n3, (n4, (n5, tt)))))) (sets other); ascend = λ _. ascend }
 
 -- ---- a tag of which a game without tags has none
 

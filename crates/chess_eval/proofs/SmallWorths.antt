@@ -1,5 +1,5 @@
 -- How small and how large the worths are: a king's for himself, and any other man's.
-use Rattle.std.proofs.Common.{ℕ, ◌*◌, ◌<◌, ◌≤◌, Bool, ℤ, pos, ◌+ℤ◌, ◌≤ℤ◌, neg_ℤ, Option, Some, None, arith}
+use Rattle.std.proofs.Common.{◌≡◌, ℕ, ◌*◌, ◌<◌, ◌≤◌, Bool, ℤ, pos, ◌+ℤ◌, ◌≤ℤ◌, neg_ℤ, to_z, of_z, w32, Option, Some, None, ap, ◌∙◌, arith}
 use Rattle.std.proofs.lemmas.Int.{ints}
 use Rattle.chess_types.specs.declared.board.man.Colour.{Colour}
 use Rattle.chess_types.specs.declared.board.man.Colour.TheVariants.{White, Black}
@@ -61,20 +61,37 @@ for_white_within White worth s = record { low = omega (arith, ints, s.low); high
 for_white_within Black worth s = record { low = omega (arith, ints, s.high); high = omega (arith, ints, s.low) }
 
 -- at least and at most so many
-pub record IsBetween (least most worth : ℤ) : Type 0 where
-  pub low : least ≤ℤ worth
-  pub high : worth ≤ℤ most
+record IsBetween (least most worth : ℤ) : Type 0 where
+  low : least ≤ℤ worth
+  high : worth ≤ℤ most
 
-pub middle_bounds : (man : Man) (square : ℕ) → square < 64 → IsBetween (neg_ℤ (pos 36)) (pos 903) (middle_of man square)
+middle_bounds : (man : Man) (square : ℕ) → square < 64 → IsBetween (neg_ℤ (pos 36)) (pos 903) (middle_of man square)
 middle_bounds man square h =
     let small = middle_small man square h in
     let one = bit_small (is_king man.kind) in
     record { low = omega (arith, ints, small.low); high = omega (arith, ints, small.high) }
 
-pub end_bounds : (man : Man) (square : ℕ) → square < 64 → IsBetween (pos 0) (pos 903) (end_of man square)
+end_bounds : (man : Man) (square : ℕ) → square < 64 → IsBetween (pos 0) (pos 903) (end_of man square)
 end_bounds man square h =
     let small = end_small man square h in
     record { low = small.low; high = omega (arith, ints, small.high) }
+
+-- what a table of 32-bit numbers has for the worth
+pub record IsRead (least most worth read : ℤ) : Type 0 where
+  pub value : read ≡ worth
+  pub low : least ≤ℤ read
+  pub high : read ≤ℤ most
+
+is_read : {least most worth found : ℤ} → IsBetween least most worth → neg_ℤ (pos 36) ≤ℤ least → most ≤ℤ pos 903 → found ≡ worth → IsRead least most worth (to_z w32 (of_z w32 found))
+is_read {worth = worth} {found = found} bounds least most same =
+    let value : to_z w32 (of_z w32 found) ≡ worth = omega (arith, ints, same, bounds.low, bounds.high, least, most) in
+    record { value = value; low = omega (arith, ints, value, bounds.low); high = omega (arith, ints, value, bounds.high) }
+
+pub middle_read : {found : ℤ} (man : Man) (square : ℕ) → square < 64 → found ≡ middle_of man square → IsRead (neg_ℤ (pos 36)) (pos 903) (middle_of man square) (to_z w32 (of_z w32 found))
+middle_read man square h same = is_read (middle_bounds man square h) (omega (arith, ints)) (omega (arith, ints)) same
+
+pub end_read : {found : ℤ} (man : Man) (square : ℕ) → square < 64 → found ≡ end_of man square → IsRead (pos 0) (pos 903) (end_of man square) (to_z w32 (of_z w32 found))
+end_read man square h same = is_read (end_bounds man square h) (omega (arith, ints)) (omega (arith, ints)) same
 
 -- whatever stands there
 balance_within : (worth : Man → ℕ → ℤ) (there : Option Man) (square : ℕ) → ((man : Man) → IsWithin 903 (worth man square)) → IsWithin 903 (balance_there worth there square)
@@ -88,6 +105,11 @@ middle_within there square h =
 pub end_within : (there : Option Man) (square : ℕ) → square < 64 → IsWithin 903 (balance_there end_of there square)
 end_within there square h =
     balance_within end_of there square (λ man. let b = end_bounds man square h in record { low = omega (arith, ints, b.low); high = b.high })
+
+-- the worth as White counts it
+pub white_is : {found white : ℤ} (worth : Man → ℕ → ℤ) (man : Man) (square : ℕ) → IsWithin 903 (balance_there worth (Some man) square) → white ≡ for_white man.colour found → found ≡ worth man square →
+    to_z w32 (of_z w32 white) ≡ balance_there worth (Some man) square
+white_is worth man square small is same = omega (arith, ints, is ∙ ap (for_white man.colour) same, small.low, small.high)
 
 pub record IsWeight (weight : ℤ) : Type 0 where
   pub low : pos 0 ≤ℤ weight

@@ -48,8 +48,8 @@ entry table worth man square is h =
     ∙ get_or-map-range_with_len (worth (man_of (number_of man))) 0 64 square square (pos 0) h (omega arith)
     ∙ ap (λ m. worth m square) (numbered man.colour man.kind).1
 
-pub middle_entry : (man : Man) (square : ℕ) → square < 64 → get_or (get_or MIDDLE (number_of man) []) square (pos 0) ≡ middle_of man square
-middle_entry man square h = entry MIDDLE middle_of man square middle_is h
+pub middle_entry : {number index : ℕ} (man : Man) (square : ℕ) → square < 64 → number ≡ number_of man → index ≡ square → get_or (get_or MIDDLE number []) index (pos 0) ≡ middle_of man square
+middle_entry man square h is at = rw (is, at) (entry MIDDLE middle_of man square middle_is h)
 
-pub end_entry : (man : Man) (square : ℕ) → square < 64 → get_or (get_or END (number_of man) []) square (pos 0) ≡ end_of man square
-end_entry man square h = entry END end_of man square end_is h
+pub end_entry : {number index : ℕ} (man : Man) (square : ℕ) → square < 64 → number ≡ number_of man → index ≡ square → get_or (get_or END number []) index (pos 0) ≡ end_of man square
+end_entry man square h is at = rw (is, at) (entry END end_of man square end_is h)

@@ -12,7 +12,7 @@ use Rattle.chess_items.specs.declared.outcome.Outcome.TheVariants.{WhiteWins, Bl
 use Rattle.chess_items.specs.declared.place.Place.{Place}
 use Rattle.chess_items.specs.declared.place.Place.TheVariants.{GameStart, LineStart, InLine, TagLineStart, InTag, InValue}
 use Rattle.chess_items.proofs.RunLemmas.{prefix_each, prefix_stops}
-use Rattle.chess_items.proofs.ItemLemmas.{at_line_start, at_tag_line, in_a_value, in_line_outside, in_tag_line, plain_byte, stands_outside, stands_in_tag, stands_in_value}
+use Rattle.chess_items.proofs.ItemLemmas.{may_stand_is, plain_byte, stands_outside, stands_in_tag, stands_in_value}
 
 -- the beginning of the input, and its item, which may be there
 abbrev pub Parted : (Item → Bool) → List ℕ → Item → List ℕ → Type 0
@@ -226,8 +226,8 @@ start_taken (b ∷ bytes) item next e =
 pub item_taken : (place : Place) (input : List ℕ) (item : Item) (next : List ℕ) → item_at place input ≡ Some (item, next) → Taken place input item next
 unfolding item_at
 item_taken GameStart input item next e = start_taken input item next e
-item_taken LineStart input item next e = at_place LineStart (stands_outside true) input item next (λ i s. at_line_start i ∙ s) (outside_taken true input item next e)
-item_taken InLine input item next e = at_place InLine (stands_outside false) input item next (λ i s. in_line_outside i ∙ s) (outside_taken false input item next e)
-item_taken TagLineStart input item next e = at_place TagLineStart (stands_in_tag true) input item next (λ i s. at_tag_line i ∙ s) (tag_taken true input item next e)
-item_taken InTag input item next e = at_place InTag (stands_in_tag false) input item next (λ i s. in_tag_line i ∙ s) (tag_taken false input item next e)
-item_taken InValue input item next e = at_place InValue stands_in_value input item next (λ i s. in_a_value i ∙ s) (value_taken input item next e)
+item_taken LineStart input item next e = at_place LineStart (stands_outside true) input item next (λ i s. may_stand_is LineStart i ∙ s) (outside_taken true input item next e)
+item_taken InLine input item next e = at_place InLine (stands_outside false) input item next (λ i s. may_stand_is InLine i ∙ s) (outside_taken false input item next e)
+item_taken TagLineStart input item next e = at_place TagLineStart (stands_in_tag true) input item next (λ i s. may_stand_is TagLineStart i ∙ s) (tag_taken true input item next e)
+item_taken InTag input item next e = at_place InTag (stands_in_tag false) input item next (λ i s. may_stand_is InTag i ∙ s) (tag_taken false input item next e)
+item_taken InValue input item next e = at_place InValue stands_in_value input item next (λ i s. may_stand_is InValue i ∙ s) (value_taken input item next e)

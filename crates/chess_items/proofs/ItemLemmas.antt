@@ -191,35 +191,29 @@ unfolding start_at
 at_start Mark text next s p = rw p refl
 at_start item text next s p = start_goes (text ++ next) item next (outside_goes true item text next s p)
 
-pub at_line_start : (item : Item) → may_stand LineStart item ≡ stands_outside true item
-at_line_start Mark = refl
-at_line_start _ = refl
+-- what may stand at a place
+abbrev pub stands_at : Place → Item → Bool
+stands_at GameStart = may_stand GameStart
+stands_at LineStart = stands_outside true
+stands_at InLine = stands_outside false
+stands_at TagLineStart = stands_in_tag true
+stands_at InTag = stands_in_tag false
+stands_at InValue = stands_in_value
 
-pub in_line_outside : (item : Item) → may_stand InLine item ≡ stands_outside false item
-in_line_outside Mark = refl
-in_line_outside _ = refl
-
-pub at_tag_line : (item : Item) → may_stand TagLineStart item ≡ stands_in_tag true item
-at_tag_line Mark = refl
-at_tag_line _ = refl
-
-pub in_tag_line : (item : Item) → may_stand InTag item ≡ stands_in_tag false item
-in_tag_line Mark = refl
-in_tag_line _ = refl
-
-pub in_a_value : (item : Item) → may_stand InValue item ≡ stands_in_value item
-in_a_value Mark = refl
-in_a_value _ = refl
+pub may_stand_is : (place : Place) (item : Item) → may_stand place item ≡ stands_at place item
+may_stand_is GameStart item = refl
+may_stand_is _ Mark = refl
+may_stand_is _ _ = refl
 
 -- what may stand at a place is found there
 pub item_goes : (place : Place) (item : Item) (text next : List ℕ) → IsItem place item text next → item_at place (text ++ next) ≡ Some (item, next)
 unfolding item_at start_at
 item_goes GameStart item text next p = at_start item text next p.stands p.spelled
-item_goes LineStart item text next p = outside_goes true item text next (sym (at_line_start item) ∙ p.stands) p.spelled
-item_goes InLine item text next p = outside_goes false item text next (sym (in_line_outside item) ∙ p.stands) p.spelled
-item_goes TagLineStart item text next p = tag_goes true item text next (sym (at_tag_line item) ∙ p.stands) p.spelled
-item_goes InTag item text next p = tag_goes false item text next (sym (in_tag_line item) ∙ p.stands) p.spelled
-item_goes InValue item text next p = value_goes item text next (sym (in_a_value item) ∙ p.stands) p.spelled
+item_goes LineStart item text next p = outside_goes true item text next (sym (may_stand_is LineStart item) ∙ p.stands) p.spelled
+item_goes InLine item text next p = outside_goes false item text next (sym (may_stand_is InLine item) ∙ p.stands) p.spelled
+item_goes TagLineStart item text next p = tag_goes true item text next (sym (may_stand_is TagLineStart item) ∙ p.stands) p.spelled
+item_goes InTag item text next p = tag_goes false item text next (sym (may_stand_is InTag item) ∙ p.stands) p.spelled
+item_goes InValue item text next p = value_goes item text next (sym (may_stand_is InValue item) ∙ p.stands) p.spelled
 
 -- no number and no marker begins with another byte than a digit
 pub letter_word : (text rest : List ℕ) (b : ℕ) → text ≡ b ∷ rest → is_digit b ≡ false → Word text ≡ word_item text

@@ -1,5 +1,5 @@
 -- Bytes of a source that are passed over, up to a section of tags.
-use Rattle.std.proofs.Common.{◌≡◌, ◌<◌, ◌≤◌, ℕ, ◌+◌, inl, inr, Bool, true, false, not, List, [], ◌∷◌, ◌++◌, length, refl, sym, ap, subst, ◌∙◌, arith, append_assoc, append-nil, length-append, Ok, Err}
+use Rattle.std.proofs.Common.{◌≡◌, ◌<◌, ◌≤◌, ℕ, ◌+◌, ◌-◌, inl, inr, Bool, true, false, not, List, [], ◌∷◌, ◌++◌, length, refl, sym, ap, subst, ◌∙◌, arith, append_assoc, append-nil, length-append, Ok, Err}
 use Rattle.std.proofs.lemmas.Bool.{false≢true}
 use Rattle.chess_items.specs.Coming.{AtHand, Came, unread}
 use Rattle.chess_items.specs.Sections.{PassesOver}
@@ -54,7 +54,7 @@ module _ {R : Type 0} (gives : R → List ℕ → R → Type 0) (ended : R → T
   }
 
   -- nothing came
-  pub shorter : (old new : AtHand R) → HasProlonged gives ended failed old new false → length (unread old) ≤ 1 → length (unread new) ≤ 1
+  shorter : (old new : AtHand R) → HasProlonged gives ended failed old new false → length (unread old) ≤ 1 → length (unread new) ≤ 1
   shorter old new h few =
       let n = ap length (h.longer ∙ ap (λ (x : List ℕ). unread old ++ x) (h.ended_now refl).1 ∙ append-nil (unread old)) in
       omega (arith, n, few)
@@ -85,6 +85,20 @@ module _ {R : Type 0} (gives : R → List ℕ → R → Type 0) (ended : R → T
     pub ended_so : now.has_ended ≡ true → ended now.source
     pub held : length (unread old) ≤ 65537 → length (unread now) ≤ 65537
 
+  -- The bytes at hand were looked at, and those before the section are used.
+  pub record Looked (old : AtHand R) (search : Search) (now : AtHand R) : Type 0 where
+    pub seeks : Seeks old search.feeds now
+    pub opens : 1 < search.left → opens_at search.feeds (unread now) ≡ true
+
+  -- Bytes were passed over, and as many are used.
+  pub record Passed (old new : AtHand R) : Type 0 where
+    pub count : ℕ
+    pub used : new.used ≡ old.used + count
+    pub passes : PassesOver gives failed old new count
+
+  pub passed_by : (old new : AtHand R) (p : Passed old new) (from to : ℕ) → from ≡ old.used → to ≡ new.used → PassesOver gives failed old new (to - from)
+  passed_by old new p from to e f = subst (PassesOver gives failed old new) (omega (arith, e, f, p.used)) p.passes
+
   module _ (old : AtHand R) where
     pub seeks_start : (old.has_ended ≡ true → ended old.source) → Seeks old More old
     seeks_start so = record {
@@ -100,7 +114,7 @@ module _ {R : Type 0} (gives : R → List ℕ → R → Type 0) (ended : R → T
     }
 
     -- each byte that came is passed over or at hand
-    pub seeks_count : (feeds : Feeds) (now : AtHand R) (s : Seeks old feeds now) → now.used ≡ old.used + length s.passed
+    seeks_count : (feeds : Feeds) (now : AtHand R) (s : Seeks old feeds now) → now.used ≡ old.used + length s.passed
     seeks_count feeds now s =
         let n = ap length s.parts in
         let a = length-append (unread old) s.bytes in
@@ -113,13 +127,13 @@ module _ {R : Type 0} (gives : R → List ℕ → R → Type 0) (ended : R → T
       whole : unread now ≡ q.sought.text ++ q.rest
       whole = sym at_hand ∙ q.sought.parts
 
-      pub rest_is : unread new ≡ q.rest
+      rest_is : unread new ≡ q.rest
       rest_is = kept q.sought.text q.rest whole (sym q.left)
 
       whole_now : unread now ≡ q.sought.text ++ unread new
       whole_now = whole ∙ ap (λ (x : List ℕ). q.sought.text ++ x) (sym rest_is)
 
-      pub seeks_kept : Seeks old search.feeds new
+      seeks_kept : Seeks old search.feeds new
       seeks_kept = record {
         bytes = s.bytes ++ [];
         came = came_append gives failed old now new s.bytes [] s.came (came_none gives failed now new source reads has_ended placed);
@@ -135,20 +149,28 @@ module _ {R : Type 0} (gives : R → List ℕ → R → Type 0) (ended : R → T
         held = λ few. let k = s.held few in let n = ap length whole_now in let m = length-append q.sought.text (unread new) in omega (arith, k, n, m);
       }
 
-      pub seeks_found : 1 < search.left → opens_at search.feeds (unread new) ≡ true
-      seeks_found some = ap (opens_at search.feeds) rest_is ∙ stays_open search.feeds q.rest q.stays (omega (arith, some, q.left))
+      pub looked : Looked old search new
+      looked = record {
+        seeks = seeks_kept;
+        opens = λ some. ap (opens_at search.feeds) rest_is ∙ stays_open search.feeds q.rest q.stays (omega (arith, some, q.left));
+      }
 
-    pub passes_found : (feeds : Feeds) (now : AtHand R) (s : Seeks old feeds now) → opens_at feeds (unread now) ≡ true → (count : ℕ) → count ≡ length s.passed → PassesOver gives failed old now count
-    passes_found feeds now s opened count e = record {
-      bytes = s.bytes;
-      came = s.came;
-      passed = s.passed;
-      parts = s.parts;
-      counted = sym e;
-      begins = inl (opens_section s.passed (unread now) (subst (λ (f : Feeds). opens_at f (unread now) ≡ true) s.feeds_now opened));
-      first = λ before after parts few. clear_first s.passed (unread now) before after (subst (λ (x : List ℕ). Clear More s.passed x) (append-nil (unread now)) (s.none [])) (sym s.parts ∙ parts) few;
-      held = s.held;
-      still = s.at_end;
+    -- a section begins
+    pub passes_found : (feeds : Feeds) (now : AtHand R) (s : Seeks old feeds now) → opens_at feeds (unread now) ≡ true → Passed old now
+    passes_found feeds now s opened = record {
+      count = length s.passed;
+      used = seeks_count feeds now s;
+      passes = record {
+        bytes = s.bytes;
+        came = s.came;
+        passed = s.passed;
+        parts = s.parts;
+        counted = refl;
+        begins = inl (opens_section s.passed (unread now) (subst (λ (f : Feeds). opens_at f (unread now) ≡ true) s.feeds_now opened));
+        first = λ before after parts few. clear_first s.passed (unread now) before after (subst (λ (x : List ℕ). Clear More s.passed x) (append-nil (unread now)) (s.none [])) (sym s.parts ∙ parts) few;
+        held = s.held;
+        still = s.at_end;
+      };
     }
 
     -- one read gives at most 65,536 bytes
@@ -175,24 +197,30 @@ module _ {R : Type 0} (gives : R → List ℕ → R → Type 0) (ended : R → T
     all_clear feeds now s few = clear_append More s.passed (unread now) [] (s.none []) (clear_short (feeds_behind More s.passed) (unread now) few)
 
     -- the source has ended, and all is used
-    module _ (feeds : Feeds) (now new : AtHand R) (s : Seeks old feeds now) (few : length (unread now) ≤ 1) (source : new.source ≡ now.source) (reads : new.reads ≡ now.reads) (has_ended : new.has_ended ≡ now.has_ended) (nothing : length (unread new) ≡ 0)
-        (used : new.used + 0 ≡ now.used + length (unread now)) where
-      pub end_count : new.used ≡ old.used + length (s.passed ++ unread now)
-      end_count = (let n = seeks_count feeds now s in let k = length-append s.passed (unread now) in omega (arith, n, k, used))
-
-      pub passes_end : now.has_ended ≡ true → (count : ℕ) → count ≡ length (s.passed ++ unread now) → PassesOver gives failed old new count
-      passes_end e count n = record {
+    passes_all : (feeds : Feeds) (now new : AtHand R) (s : Seeks old feeds now) → length (unread now) ≤ 1 → new.source ≡ now.source → new.reads ≡ now.reads → new.has_ended ≡ now.has_ended → length (unread new) ≡ 0 → new.used + 0 ≡ now.used + length (unread now) →
+        now.has_ended ≡ true → Passed old new
+    passes_all feeds now new s few source reads has_ended nothing used e = record {
+      count = length (s.passed ++ unread now);
+      used = (let n = seeks_count feeds now s in let k = length-append s.passed (unread now) in omega (arith, n, k, used));
+      passes = record {
         bytes = s.bytes ++ [];
         came = came_append gives failed old now new s.bytes [] s.came (came_none gives failed now new source reads has_ended (omega (arith, nothing, used)));
         passed = s.passed ++ unread now;
         parts = ap (λ (x : List ℕ). unread old ++ x) (append-nil s.bytes) ∙ s.parts ∙ sym (append-nil (s.passed ++ unread now)) ∙ ap (λ (x : List ℕ). (s.passed ++ unread now) ++ x) (sym (empty_is (unread new) nothing));
-        counted = sym n;
+        counted = refl;
         begins = inr (has_ended ∙ e, empty_is (unread new) nothing);
         first = λ before after parts less.
             clear_first (s.passed ++ unread now) [] before after (all_clear feeds now s few) (append-nil (s.passed ++ unread now) ∙ sym s.parts ∙ ap (λ (x : List ℕ). unread old ++ x) (sym (append-nil s.bytes)) ∙ parts) less;
         held = λ f. omega (arith, nothing);
         still = λ h. let a = s.at_end h in (append-nil s.bytes ∙ a.0, has_ended ∙ a.1);
-      }
+      };
+    }
+
+    -- one read more, which brought nothing
+    pub passes_end : (feeds : Feeds) (now more new : AtHand R) → Seeks old feeds now → length (unread now) ≤ 1 → HasProlonged gives ended failed now more false → new.source ≡ more.source → new.reads ≡ more.reads → new.has_ended ≡ more.has_ended → length (unread new) ≡ 0 →
+        new.used + 0 ≡ more.used + length (unread more) → Passed old new
+    passes_end feeds now more new s few h source reads has_ended nothing used =
+        passes_all feeds more new (seeks_on feeds now more false s few h) (shorter now more h few) source reads has_ended nothing used (h.ended_now refl).0
 
     -- no more bytes come
     pub seek_breaks : (feeds : Feeds) (now new : AtHand R) (s : Seeks old feeds now) → length (unread now) ≤ 1 → (e : Fault) → ReadBreaks gives failed now new e → SeekBreaks gives failed old new e

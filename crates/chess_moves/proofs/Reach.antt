@@ -42,14 +42,17 @@ module _ (p : PositionParts) (setup : IsSetup p) (kind : Kind) (from k : ℕ) (h
 
 module _ (p : PositionParts) (own : FinSet nat_cmp) (of_own : Gathers own (is_of p.side) (man_on p)) (xs : List ℕ) (xs_is : xs ≡ filter (contains own) squares) where
   -- a man of the side to move stands on each square
-  pub own_each : list_all (λ s. is_of p.side (man_on p s)) xs ≡ true
+  own_each : list_all (λ s. is_of p.side (man_on p s)) xs ≡ true
   unfolding squares
   own_each = ap (list_all (λ s. is_of p.side (man_on p s))) xs_is ∙ all_in (λ s. is_of p.side (man_on p s)) (contains own) 0 64 (λ s within in_set. sym (of_own s) ∙ in_set)
 
   -- and all legal moves are from them
-  pub own_listed : {list : List MoveParts} → list ≡ [] → Listed p [] list all_moves (flat_map moves_from xs)
+  own_listed : {list : List MoveParts} → list ≡ [] → Listed p [] list all_moves (flat_map moves_from xs)
   unfolding all_moves squares
   own_listed {list} none =
       let kept : filter (is_legal p) (flat_map moves_from (filter (contains own) squares)) ≡ filter (is_legal p) all_moves =
       pieces_kept (is_legal p) moves_from (contains own) 0 64 (λ s within out. from_other p s (sym (of_own s) ∙ out)) in
       record { is = ap (λ ys. ys ++ filter (is_legal p) (flat_map moves_from xs)) none ∙ ap (λ ys. filter (is_legal p) (flat_map moves_from ys)) xs_is ∙ kept }
+
+  pub own_first : {list : List MoveParts} → list ≡ [] → (list_all (λ s. is_of p.side (man_on p s)) xs ≡ true) × Listed p [] list all_moves (flat_map moves_from xs)
+  own_first none = (own_each, own_listed none)

@@ -39,6 +39,19 @@ use Rattle.chess_search.proofs.WindowLemmas.{decided, value-leaf, value-unchecke
 use Rattle.chess_search.proofs.QuietLemmas.{gives_none}
 use Rattle.chess_search.proofs.FreeLemmas.{alive, can_move}
 
+-- two numbers are the squares of a move
+pub record HasSquares (a b : ℕ) (m : MoveParts) : Type 0 where
+  pub from_is : a ≡ m.from
+  pub to_is : b ≡ m.to
+  pub from : m.from < 64
+  pub to : m.to < 64
+
+pub has_squares : {kept m : MoveParts} → kept ≡ m → kept.from < 64 → kept.to < 64 → HasSquares kept.from kept.to m
+has_squares same from to =
+    let from_is = ap (λ (x : MoveParts). x.from) same in
+    let to_is = ap (λ (x : MoveParts). x.to) same in
+    record { from_is = from_is; to_is = to_is; from = subst (λ x. x < 64) from_is from; to = subst (λ x. x < 64) to_is to }
+
 -- who doesn't go two squares doesn't castle
 no_castling : (c : Colour) (w : Wing) (m : MoveParts) (king : Bool) → (king && (m.to == m.from + 2 || m.from == m.to + 2)) ≡ false → (king && castles_to c w m) ≡ false
 no_castling c w m false h = refl

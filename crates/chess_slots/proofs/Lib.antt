@@ -1,6 +1,5 @@
 pub mod AlongLemmas
 pub mod GameLemmas
-pub mod ReplyLemmas
 pub mod ReportLemmas
 pub mod SectionLemmas
 pub mod SlotValues

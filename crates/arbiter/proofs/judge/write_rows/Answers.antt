@@ -1,11 +1,18 @@
 use Rattle.std.proofs.Common.{rules, ◌≡◌, ◌∙◌, ap, sym, arith, Some, Ok, Err}
-use Rattle.chess_pgn.specs.Sources.{HasFault, IsPlaced, NextGame}
+use Rattle.chess_pgn.specs.Sources.{HasFault, NextGame}
 use Rattle.chess_pgn.specs.declared.games.GamesFault.TheVariants.{Pgn, Read}
 use Rattle.chess_pgn.specs.steps.GameCode.{game_of}
-use Rattle.arbiter.specs.Collections.{Bad, Found, header_text}
-use Rattle.arbiter.proofs.JudgeLemmas.{ends_all, ends_at, ends_at_header, ends_many, ends_there, ends_unread, err_holds, fails_there, fault_more, found_game, game_more, goes_on_after, header_broken, header_sent, no_lack, none_yet, ok_holds, still_on}
+use Rattle.arbiter.specs.Collections.{Bad, Found, IsThere, header_text}
+use Rattle.arbiter.proofs.JudgeLemmas.{bad_there, ends_all, ends_at, ends_at_header, ends_many, ends_there, ends_unread, err_holds, fault_more, found_game, game_more, goes_on_after, header_broken, header_sent, none_yet, ok_holds, still_on}
+use Rattle.arbiter.proofs.judge.write_rows.Given.{Over}
 use Rattle.arbiter.proofs.judge.write_rows.Goals as goal
-use Rattle.arbiter.proofs.judge.write_rows.Goals.{in-Ok-Some+in_default, in-Err-Pgn+else-is_lack+in_default-fault+in_default-go_on}
+use Rattle.arbiter.proofs.judge.write_rows.Goals.{Else-is_lack, in-Ok-Some+in_default, in-Err-Pgn+else-is_lack+in_default-fault+in_default-go_on}
+
+-- the next entry is no game
+bad : (g : Over) (c : Else-is_lack g) → IsThere g.R.Source.gives g.R.Source.failed g.R.Source.ended c.loop-before.games (Bad c.used-offset.result c.in-Err-Pgn.fault) c.next.new.self
+bad g c =
+    bad_there g.R.Source.gives g.R.Source.failed g.R.Source.ended c.loop-before.games c.next.new.self c.used-offset.result c.in-Err-Pgn.fault c.next.result (c.in-Err-Pgn.is ∙ ap Err c.in-Err-Pgn.field-0-is)
+    (sym c.is_lack.ensures ∙ c.if-is_lack.false) c.used-offset.ensures (c.next.ensures.place c.loop-before.invariant.none) (c.next.ensures.fault c.loop-before.invariant.none) c.next.ensures.sticky
 
 pub returns-then-is_err : goal.returns-then-is_err
 returns-then-is_err g c =
@@ -48,32 +55,14 @@ returns-in-Err-Read g c =
 
 pub returns-in-Err-fault : goal.returns-in-Err-fault
 returns-in-Err-fault g c =
-    let is = c.in-Err-Pgn.is ∙ ap Err c.in-Err-Pgn.field-0-is in
-    let dark = no_lack c.in-Err-Pgn.fault.kind (sym c.is_lack.ensures ∙ c.if-is_lack.false) in
     ends_at g.R.Source.gives g.R.Source.failed g.R.Source.ended g.W.Sink.takes g.W.Sink.failed c.args.maker.now.asked c.loop-before.before c.loop-before.bad c.args.games.now c.loop-before.games c.args.writer.now c.loop-before.writer
-    c.loop-before.invariant.written (Bad c.used-offset.result c.in-Err-Pgn.fault) c.next.new.self (
-      c.used-offset.ensures,
-      dark,
-      err_holds (λ f. IsPlaced c.loop-before.games.text.used f) c.next.result (Pgn c.in-Err-Pgn.fault) is (c.next.ensures.place c.loop-before.invariant.none),
-      fails_there g.R.Source.gives g.R.Source.failed g.R.Source.ended c.loop-before.games.text c.next.new.self.text c.in-Err-Pgn.fault dark
-          (err_holds (λ f. HasFault g.R.Source.gives g.R.Source.failed g.R.Source.ended c.loop-before.games.text c.next.new.self.text f) c.next.result (Pgn c.in-Err-Pgn.fault) is (c.next.ensures.fault c.loop-before.invariant.none)),
-      err_holds (λ f. c.next.new.self.fault ≡ Some f) c.next.result (Pgn c.in-Err-Pgn.fault) is c.next.ensures.sticky,
-    )
+    c.loop-before.invariant.written (Bad c.used-offset.result c.in-Err-Pgn.fault) c.next.new.self (bad g (goal.at.returns-in-Err-fault g c).Else-is_lack)
     c.fault.new.writer c.in-Err-fault.failure c.requires.writer c.in-Err-fault.ensures
 
 pub returns-in-Err-go_on : goal.returns-in-Err-go_on
 returns-in-Err-go_on g c =
-    let is = c.in-Err-Pgn.is ∙ ap Err c.in-Err-Pgn.field-0-is in
-    let dark = no_lack c.in-Err-Pgn.fault.kind (sym c.is_lack.ensures ∙ c.if-is_lack.false) in
     ends_there g.R.Source.gives g.R.Source.failed g.R.Source.ended g.W.Sink.takes g.W.Sink.failed c.args.maker.now.asked c.loop-before.before c.loop-before.bad c.args.games.now c.loop-before.games c.args.writer.now c.loop-before.writer
-    c.loop-before.invariant.written (Bad c.used-offset.result c.in-Err-Pgn.fault) c.next.new.self (
-      c.used-offset.ensures,
-      dark,
-      err_holds (λ f. IsPlaced c.loop-before.games.text.used f) c.next.result (Pgn c.in-Err-Pgn.fault) is (c.next.ensures.place c.loop-before.invariant.none),
-      fails_there g.R.Source.gives g.R.Source.failed g.R.Source.ended c.loop-before.games.text c.next.new.self.text c.in-Err-Pgn.fault dark
-          (err_holds (λ f. HasFault g.R.Source.gives g.R.Source.failed g.R.Source.ended c.loop-before.games.text c.next.new.self.text f) c.next.result (Pgn c.in-Err-Pgn.fault) is (c.next.ensures.fault c.loop-before.invariant.none)),
-      err_holds (λ f. c.next.new.self.fault ≡ Some f) c.next.result (Pgn c.in-Err-Pgn.fault) is c.next.ensures.sticky,
-    )
+    c.loop-before.invariant.written (Bad c.used-offset.result c.in-Err-Pgn.fault) c.next.new.self (bad g (goal.at.returns-in-Err-go_on g c).Else-is_lack)
     c.fault.new.writer c.in_default-fault.ensures c.go_on.new.games c.in-Err-go_on.failure c.in-Err-go_on.ensures.fault
 
 pub returns : goal.returns
@@ -98,7 +87,6 @@ loop-before-preserved g c = elim c.match-next.branch [
       })
   | in-Err-Pgn+else-is_lack+in_default-fault+in_default-go_on w ↦
       let is = w.in-Err-Pgn.is ∙ ap Err w.in-Err-Pgn.field-0-is in
-      let dark = no_lack w.in-Err-Pgn.fault.kind (sym w.is_lack.ensures ∙ w.if-is_lack.false) in
       let stays = err_holds (λ f. c.next.new.self.fault ≡ Some f) c.next.result (Pgn w.in-Err-Pgn.fault) is c.next.ensures.sticky in
       rw (w.games-is, w.writer-is, w.bad-is) (record {
         sound = w.go_on.ensures.sound;
@@ -106,14 +94,9 @@ loop-before-preserved g c = elim c.match-next.branch [
         few = (let few = c.loop-before.invariant.few in omega (arith, few));
         written =
             fault_more g.R.Source.gives g.R.Source.failed g.R.Source.ended g.W.Sink.takes g.W.Sink.failed c.args.maker.now.asked c.loop-before.before c.loop-before.bad c.args.games.now c.loop-before.games c.args.writer.now c.loop-before.writer
-            c.loop-before.invariant.written c.used-offset.result w.in-Err-Pgn.fault c.next.new.self w.go_on.new.games w.fault.new.writer (
-              c.used-offset.ensures,
-              dark,
-              err_holds (λ f. IsPlaced c.loop-before.games.text.used f) c.next.result (Pgn w.in-Err-Pgn.fault) is (c.next.ensures.place c.loop-before.invariant.none),
-              fails_there g.R.Source.gives g.R.Source.failed g.R.Source.ended c.loop-before.games.text c.next.new.self.text w.in-Err-Pgn.fault dark
-                  (err_holds (λ f. HasFault g.R.Source.gives g.R.Source.failed g.R.Source.ended c.loop-before.games.text c.next.new.self.text f) c.next.result (Pgn w.in-Err-Pgn.fault) is (c.next.ensures.fault c.loop-before.invariant.none)),
-              stays,
-            )
+            c.loop-before.invariant.written c.used-offset.result w.in-Err-Pgn.fault c.next.new.self w.go_on.new.games w.fault.new.writer
+            (bad_there g.R.Source.gives g.R.Source.failed g.R.Source.ended c.loop-before.games c.next.new.self c.used-offset.result w.in-Err-Pgn.fault c.next.result is (sym w.is_lack.ensures ∙ w.if-is_lack.false) c.used-offset.ensures
+            (c.next.ensures.place c.loop-before.invariant.none) (c.next.ensures.fault c.loop-before.invariant.none) c.next.ensures.sticky)
             w.in_default-fault.ensures
             (goes_on_after g.R.Source.gives g.R.Source.failed g.R.Source.ended g.W.Sink.takes g.W.Sink.failed c.args.maker.now.asked c.next.new.self w.go_on.new.games (Pgn w.in-Err-Pgn.fault) w.in_default-go_on.ensures.passes.0 stays
             w.in_default-go_on.ensures.passes.1 w.in_default-go_on.ensures.good);

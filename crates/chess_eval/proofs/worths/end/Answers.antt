@@ -1,20 +1,9 @@
-use Rattle.std.proofs.Common.{◌≡◌, [], pos, get_or, arith}
-use Rattle.std.proofs.lemmas.Int.{ints}
-use Rattle.chess_eval.specs.declared.worths.TheConstants.{END}
-use Rattle.chess_eval.specs.Worth.{end_of}
+use Rattle.std.proofs.Common.{arith}
 use Rattle.chess_eval.proofs.Tables.{end_entry}
-use Rattle.chess_eval.proofs.SmallWorths.{end_bounds}
+use Rattle.chess_eval.proofs.SmallWorths.{end_read}
 use Rattle.chess_eval.proofs.worths.end.Goals as goal
 
-pub returns-clause-value : goal.returns-clause-value
-returns-clause-value c =
-    let entry : get_or (get_or END c.number.result []) c.index.result (pos 0) ≡ end_of c.args.man c.args.square =
-    rw (c.number.ensures.value, c.index.ensures.value) (end_entry c.args.man c.args.square (omega arith)) in
-    let bounds = end_bounds c.args.man c.args.square (omega arith) in
-    omega (arith, ints, entry, bounds.low, bounds.high)
-
-pub returns-clause-low : goal.returns-clause-low
-returns-clause-low c = omega (arith, ints, returns-clause-value c, (end_bounds c.args.man c.args.square (omega arith)).low)
-
-pub returns-clause-high : goal.returns-clause-high
-returns-clause-high c = omega (arith, ints, returns-clause-value c, (end_bounds c.args.man c.args.square (omega arith)).high)
+pub returns : goal.returns
+returns c =
+    let read = end_read c.args.man c.args.square (omega arith) (end_entry c.args.man c.args.square (omega arith) c.number.ensures.value c.index.ensures.value) in
+    record { value = read.value; low = read.low; high = read.high }

@@ -1,9 +1,8 @@
-use Rattle.std.proofs.Common.{◌≤◌, ◌+◌, [], length, filter, ap, ◌∙◌, refl, arith, zero-add}
-use Rattle.std.specs.List.{flat_map}
-use Rattle.chess_types.specs.board.Legal.{is_legal, moves_from, legal_moves}
+use Rattle.std.proofs.Common.{◌≤◌, ◌+◌, [], length, ap, ◌∙◌, refl, arith, zero-add}
+use Rattle.chess_types.specs.board.Legal.{legal_moves}
 use Rattle.chess_types.specs.board.Position.{PositionParts}
 use Rattle.chess_moves.proofs.Bound.{legal_few}
-use Rattle.chess_moves.proofs.Reach.{own_each, own_listed}
+use Rattle.chess_moves.proofs.Reach.{own_first}
 use Rattle.chess_moves.proofs.SetCounts.{count_split}
 use Rattle.chess_moves.proofs.Still.{still_first}
 use Rattle.chess_moves.proofs.counting.count_up_to.Goals as goal
@@ -12,16 +11,10 @@ use Rattle.chess_moves.proofs.counting.count_up_to.Goals.{After-count_from-count
 pub loop-from-init : goal.loop-from-init
 unfolding legal_moves
 loop-from-init c =
-    let p : PositionParts = c.args.live.now.position in
-    let xs = c.into_iter-from-iterator.ensures.into_iter_gives ∙ c.iter-from-items.ensures.value in
-    record {
-      can = tt;
-      finite = tt;
-      still = still_first;
-      own = own_each p c.own_men-own.result c.own_men-own.ensures.own c.into_iter-from-iterator.result xs;
-      left = zero-add (length (filter (is_legal p) (flat_map moves_from c.into_iter-from-iterator.result)))
-          ∙ ap length (own_listed p c.own_men-own.result c.own_men-own.ensures.own c.into_iter-from-iterator.result xs {list = []} refl).is;
-    }
+    let first =
+    own_first c.args.live.now.position c.own_men-own.result c.own_men-own.ensures.own c.into_iter-from-iterator.result
+    (c.into_iter-from-iterator.ensures.into_iter_gives ∙ c.iter-from-items.ensures.value) {list = []} refl in
+    record { can = tt; finite = tt; still = still_first; own = first.0; left = zero-add _ ∙ ap length first.1.is }
 
 -- with those of the next square there are no more than all
 counted : (c : After-count_from-count) → c.loop-from.count + c.count_from-count.result ≤ 432

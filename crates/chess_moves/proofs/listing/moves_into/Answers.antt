@@ -4,21 +4,16 @@ use Rattle.chess_types.specs.board.Legal.{moves_from, legal_moves}
 use Rattle.chess_types.specs.board.Position.{PositionParts}
 use Rattle.chess_moves.proofs.Bound.{legal_few}
 use Rattle.chess_moves.proofs.Pieces.{room_next, listed_end, next_piece}
-use Rattle.chess_moves.proofs.Reach.{own_each, own_listed}
+use Rattle.chess_moves.proofs.Reach.{own_first}
 use Rattle.chess_moves.proofs.Still.{still_first}
 use Rattle.chess_moves.proofs.listing.moves_into.Goals as goal
 
 pub loop-from-init : goal.loop-from-init
 loop-from-init c =
-    let p : PositionParts = c.args.live.now.position in
-    let xs = c.into_iter-from-iterator.ensures.into_iter_gives ∙ c.iter-from-items.ensures.value in
-    record {
-      can = tt;
-      finite = tt;
-      still = still_first;
-      own = own_each p c.own_men-own.result c.own_men-own.ensures.own c.into_iter-from-iterator.result xs;
-      listed = own_listed p c.own_men-own.result c.own_men-own.ensures.own c.into_iter-from-iterator.result xs c.clear.ensures;
-    }
+    let first =
+    own_first c.args.live.now.position c.own_men-own.result c.own_men-own.ensures.own c.into_iter-from-iterator.result
+    (c.into_iter-from-iterator.ensures.into_iter_gives ∙ c.iter-from-items.ensures.value) c.clear.ensures in
+    record { can = tt; finite = tt; still = still_first; own = first.0; listed = first.1 }
 
 pub add_from-requires-clause-room : goal.add_from-requires-clause-room
 unfolding legal_moves

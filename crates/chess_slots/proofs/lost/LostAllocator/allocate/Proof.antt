@@ -3,7 +3,7 @@ use Rattle.std.proofs.Common.{Err, refl, w64}
 use Rattle.std.specs.Prelude.{ℕ, ◌^◌, ◌<◌, false, [], ◌∷◌}
 use seplogic.Ra.Ura.{Ura}
 use mir.Syntax.{Ty}
-use mir.Val.{Val, vint, vptr}
+use mir.Val.{vint, vptr}
 use base.Logic.{SProp, ent}
 use base.Fml.{Lft, Share, ftrue, flft}
 use prog.Memory.{Memory}
@@ -40,20 +40,11 @@ stayed = (stay_dropped (RefOf (0 ∷ []) tt (plain (λ _. BP.the_row)) (λ _. tt
 module _ {M : Type 1} {𝓤 : Ura M} (𝓛 : Logic 𝓤) (at_mem : Memory → SProp 𝓤) (run : Routine → Fun 𝓤) (C : Calls 𝓤 𝓛.H) (Λ : Loops 𝓤 𝓛.H) (fm : FmC 𝓤 𝓛.H 𝓛.laws C) where
   open 𝓛 use {H}
 
-  abbrev Bound : Type 0
-  Bound = (walk_of 𝓛 F.ended stayed (F.clauses 𝓛 at_mem run)).Ghost
-
-  abbrev Pre : Bound → SProp 𝓤
-  Pre = (walk_of 𝓛 F.ended stayed (F.clauses 𝓛 at_mem run)).pre
-
-  abbrev Post : Bound → Val → SProp 𝓤
-  Post = (walk_of 𝓛 F.ended stayed (F.clauses 𝓛 at_mem run)).post
-
   module _ (κ : Lft) (q : Share) (r : (type_at {n = 1} (RefOf (0 ∷ []) tt (plain (λ _. BP.the_row)) (λ _. tt)) (κ, tt)).Denot) (n a : ℕ) (τ : Ty) where
-    abbrev bound : Bound
+    abbrev bound : (walk_of 𝓛 F.ended stayed (F.clauses 𝓛 at_mem run)).Ghost
     bound = (((κ, tt), (q, tt), tt, (r, (n, (a, tt))), (vptr r.ref_ptr.0 r.ref_ptr.1 ∷ [], (vint w64 n ∷ [], (vint w64 a ∷ [], tt)))), τ)
 
-    walk : n < 2 ^ 64 → a < 2 ^ 64 → ent 𝓤 (Pre bound) (WpFn 𝓤 H C Λ code.function (vptr r.ref_ptr.0 r.ref_ptr.1 ∷ vint w64 n ∷ vint w64 a ∷ []) (Post bound))
+    walk : n < 2 ^ 64 → a < 2 ^ 64 → ent 𝓤 ((walk_of 𝓛 F.ended stayed (F.clauses 𝓛 at_mem run)).pre bound) (WpFn 𝓤 H C Λ code.function (vptr r.ref_ptr.0 r.ref_ptr.1 ∷ vint w64 n ∷ vint w64 a ∷ []) ((walk_of 𝓛 F.ended stayed (F.clauses 𝓛 at_mem run)).post bound))
     walk fn fa =
         qed 𝓛 (((‵ (flft κ q) ⊛ ‵ ftrue) ⊛ ‵ (owns (types_at (F.signature).params (κ, tt)) bound.0.3 bound.0.4)) ∷ raw ((F.clauses 𝓛 at_mem run (κ, tt) bound.0.3).requires τ) ∷ []) ∵ split ! $ keep ! (0 ∷ []) $
         enter ! C Λ code.function (vptr r.ref_ptr.0 r.ref_ptr.1 ∷ vint w64 n ∷ vint w64 a ∷ []) _ $ alloc_all ! (λ l. pass_all ! refl ((tt, tt), ((tt, record { fits = fn }), ((tt, record { fits = fa }), tt))) $
@@ -64,7 +55,6 @@ module _ {M : Type 1} {𝓤 : Ura M} (𝓛 : Logic 𝓤) (at_mem : Memory → SP
 pub allocate_spec : {M : Type 1} → stated.statement M
 unfolding tables_of
 allocate_spec 𝓤 𝓛 𝓜 𝓡 wired =
-    let A = 𝓛.A in
     let 𝓣 : Tables 𝓤 𝓛.H = tables_of 𝓤 𝓛.H 𝓜 (tables 𝓤 𝓛.H 𝓜 𝓡 𝓡.env) in
     let held = F.clauses 𝓛 𝓜.mem 𝓡.returns in
     entered 𝓤 𝓛.H (triple_of 𝓛 F.signature (F.spec 𝓛 𝓜.mem 𝓡.returns)) 𝓣.C 𝓣.Λ #self code.function (code.unfolded 𝓤 𝓛.H 𝓜 𝓡 wired)

@@ -7,6 +7,8 @@ use Rattle.chess_san.specs.Writing.{san}
 use Rattle.chess_walk.specs.steps.Lines.{AreReplayable, before_move, replayed}
 use Rattle.chess_walk.specs.steps.Todos.{seen}
 use Rattle.chess_walk.proofs.ReplayLemmas.{before_short, replayed_long, stepped}
+use Rattle.chess_walk.proofs.replay.ReplayIterator.next.Given.{Over}
+use Rattle.chess_walk.proofs.replay.ReplayIterator.next.Goals.{After-go_before}
 use Rattle.chess_walk.proofs.replay.ReplayIterator.next.Goals as goal
 
 pub returns-in-Err-clause-goes : goal.returns-in-Err-clause-goes
@@ -17,28 +19,24 @@ returns-in-Err-clause-goes g c =
     let was : length (replayed c.self.inside.line.line c.self.inside.walk) ≡ length c.args.self.now = ap length c.self.view_is in
     record { on = λ _. (tt, tt, omega arith); keeps = tt; rests = λ _. tt }
 
-pub make-san-requires-clause-few : goal.make-san-requires-clause-few
-make-san-requires-clause-few g c =
+-- the line goes back to the visit's move, and has room for it
+short : (g : Over) (c : After-go_before g) →
+    (length c.go_before.new.line.line.moves < 20000) × (length c.go_before.new.line.line.moves ≤ length c.self.inside.line.line.moves + 1)
+short g c =
     let line = c.self.inside.line.line in
     let v = c.in-Ok.visit in
     let came : c.self.inside.walk ≡ seen v ∷ c.next.new.self = rw c.in-Ok.is at c.in_ok-visit.ensures.steps in
     let ready : AreReplayable line (seen v ∷ c.next.new.self) = subst (AreReplayable line) came c.self.invariant.0 in
     let is : c.go_before.new.line.line ≡ before_move line v.depth v.again = c.go_before.ensures.line ∙ ap (λ (l : Line). before_move l v.depth v.again) c.reserve.ensures.line in
-    let short = before_short line v.depth v.again ready.0.deep ready.0.few ready.0.again in
-    let long : length c.go_before.new.line.line.moves ≡ length (before_move line v.depth v.again).moves = ap (λ (l : Line). length l.moves) is in
-    omega (arith, long, short.0)
+    subst (λ (l : Line). (length l.moves < 20000) × (length l.moves ≤ length line.moves + 1)) (sym is) (before_short line v.depth v.again ready.0.deep ready.0.few ready.0.again)
+
+pub make-san-requires-clause-few : goal.make-san-requires-clause-few
+make-san-requires-clause-few g c = omega (arith, (short g (goal.at.make-san-requires-clause-few g c).After-go_before).0)
 
 pub make-san-requires-clause-room : goal.make-san-requires-clause-room
 make-san-requires-clause-room g c =
-    let line = c.self.inside.line.line in
-    let v = c.in-Ok.visit in
-    let came : c.self.inside.walk ≡ seen v ∷ c.next.new.self = rw c.in-Ok.is at c.in_ok-visit.ensures.steps in
-    let ready : AreReplayable line (seen v ∷ c.next.new.self) = subst (AreReplayable line) came c.self.invariant.0 in
-    let is : c.go_before.new.line.line ≡ before_move line v.depth v.again = c.go_before.ensures.line ∙ ap (λ (l : Line). before_move l v.depth v.again) c.reserve.ensures.line in
-    let short = before_short line v.depth v.again ready.0.deep ready.0.few ready.0.again in
-    let long : length c.go_before.new.line.line.moves ≡ length (before_move line v.depth v.again).moves = ap (λ (l : Line). length l.moves) is in
-    let room : length line.moves + 2 ≤ c.reserve.new.self.room = search rules in
-    omega (arith, long, short.1, room, c.go_before.ensures.room)
+    let room : length c.self.inside.line.line.moves + 2 ≤ c.reserve.new.self.room = search rules in
+    omega (arith, (short g (goal.at.make-san-requires-clause-room g c).After-go_before).1, room, c.go_before.ensures.room)
 
 pub returns-clause-steps : goal.returns-clause-steps
 returns-clause-steps g c =
