@@ -1,4 +1,4 @@
-"""The pages say what is so: what they name exists, and crates depend on what the map says."""
+"""The pages say what is so: what they name exists, crates depend on what the map says, and each definition has its line of explanation."""
 import glob
 import os
 import re
@@ -78,6 +78,24 @@ class Pages(unittest.TestCase):
                     for word in re.findall(r"[\w-]+", text):
                         with self.subTest(page=page, name=text):
                             self.assertTrue(word in self.words or word in ELSEWHERE or LETTERS.fullmatch(word))
+
+    def test_each_definition_is_explained(self):
+        """Each definition of specs/ has a comment before it or a row at the head of its file, and each row names what the file has."""
+        for path in self.files:
+            if not re.fullmatch(r"crates/\w+/specs/.*\.antt", path):
+                continue
+            head, body = re.fullmatch(r"((?:--[^\n]*\n)*)(.*)", text_of(path), flags=re.S).groups()
+            rows = re.findall(r"^--   (\S+(?:, \S+)*)  ", head, flags=re.M)
+            listed = {name for row in rows for name in row.split(", ")}
+            for name in listed:
+                with self.subTest(path=path, row=name):
+                    self.assertRegex(body, rf"(?<![\w-]){re.escape(name)}(?![\w-])")
+            lines = body.split("\n")
+            for before, line in zip([""] + lines, lines):
+                found = re.match(r"\s*(?:abbrev pub|unfoldable pub|pub record|pub data) (\S+)", line)
+                if found and found[1] not in listed:
+                    with self.subTest(path=path, definition=found[1]):
+                        self.assertRegex(before, r"^\s*(-- (?!----)|infix)")
 
     def test_crates_depend_on_what_the_map_says(self):
         known = dict(re.findall(r"^([a-z_]+)(?: staticlib)?:(.*)$", text_of("crates.txt"), flags=re.M))

@@ -4,7 +4,7 @@
 --   Loads       the same of a slot; an empty one is answered so
 use Rattle.std.specs.Prelude.{◌≡◌, ◌⊎◌, ℕ, List, Option, Some, None}
 use Rattle.chess_pgn.specs.Games.{Game}
-use Rattle.chess_pgn.specs.Reading.{IsAtFront}
+use Rattle.chess_pgn.specs.Reading.{BeginsWithGame}
 use Rattle.chess_tree.specs.GameTree.{TreeParts}
 use Rattle.chess_cli.specs.Loads.{from_root}
 use Rattle.chess_slots.specs.Codes.{empty_slot, ok}
@@ -14,7 +14,7 @@ use Rattle.chess_c.specs.Held.{Held, with_board}
 -- the game is there, or none is
 abbrev pub LoadsFrom : List ℕ → TreeParts → (code used used' : ℕ) → TreeParts → Type 0
 LoadsFrom text board code used used' board' =
-    ((code ≡ ok) × (game : Game) × IsAtFront text game used' × (board' ≡ from_root game.tree)) ⊎ ((board' ≡ board) × IsNone text code used used')
+    ((code ≡ ok) × (game : Game) × BeginsWithGame text game used' × (board' ≡ from_root game.tree)) ⊎ ((board' ≡ board) × IsNone text code used used')
 
 -- of what a slot holds
 abbrev pub Loads : List ℕ → Option Held → (code used used' : ℕ) → Option Held → Type 0

@@ -8,7 +8,7 @@ use Rattle.chess_items.specs.Coming.{AtHand, Breaks, Came, unread}
 use Rattle.chess_items.specs.declared.fault.PgnFault.{PgnFault}
 use Rattle.chess_items.proofs.BreakLemmas.{came_append, came_none, each_append}
 use Rattle.chess_pgn.specs.Games.{Game}
-use Rattle.chess_pgn.specs.Reading.{HasNoGame, IsAtFront, IsWhite}
+use Rattle.chess_pgn.specs.Reading.{HasNoGame, BeginsWithGame, IsWhite}
 use Rattle.chess_pgn.specs.Sources.{Fails, Games, GoesOn, HasFault, HasGame, HasNone, NextGame, Starves}
 use Rattle.chess_pgn.specs.Written.{game_text}
 use Rattle.chess_pgn.specs.steps.GameCode.{game_of}
@@ -34,9 +34,9 @@ not_before : (v w : Bool) → (v ≡ true → w ≡ true) → w ≡ false → v 
 not_before false w h e = refl
 not_before true w h e = absurd (false≢true (sym e ∙ h refl))
 
-are_more : (input : List ℕ) (games : List Game) (mid text rest : List ℕ) (game : Game) → AreGames input games mid → mid ≡ text ++ rest → IsAtFront mid game (length text) → AreGames input (games ++ game ∷ []) rest
+are_more : (input : List ℕ) (games : List Game) (mid text rest : List ℕ) (game : Game) → AreGames input games mid → mid ≡ text ++ rest → BeginsWithGame mid game (length text) → AreGames input (games ++ game ∷ []) rest
 are_more input [] mid text rest game e parts front =
-    (text, rest, e ∙ parts, subst (λ (z : List ℕ). IsAtFront z game (length text)) (sym e) front, refl)
+    (text, rest, e ∙ parts, subst (λ (z : List ℕ). BeginsWithGame z game (length text)) (sym e) front, refl)
 are_more input (g ∷ games) mid text rest game a parts front = (a.0, a.1, a.2, a.3, are_more a.1 games mid text rest game a.4 parts front)
 
 module _ {R : Type 0} (gives : R → List ℕ → R → Type 0) (failed : R → Bool) where

@@ -11,7 +11,7 @@ use Rattle.chess_types.specs.board.Texts.{move_text, square_text}
 use Rattle.chess_types.proofs.Runs.{filter_agree}
 use Rattle.chess_cli.specs.Gaps.{gapped, parted_by}
 use Rattle.chess_cli.specs.Answers.{list_text}
-use Rattle.chess_cli.specs.steps.Lists.{behind}
+use Rattle.chess_cli.specs.steps.Lists.{with_another}
 
 gapped-more : {X : Type 0} (gap : List ℕ) (text : X → List ℕ) (xs : List X) (x : X) →
     gapped gap (map text (xs ++ x ∷ [])) ≡ gapped gap (map text xs) ++ (gap ++ text x)
@@ -22,7 +22,7 @@ gapped-more gap text (y ∷ ys) x =
 
 -- one move more
 pub moves-more : (ms : List MoveParts) (m : MoveParts) →
-    behind (parted_by (codes " ") (map move_text ms)) (move_text m) ≡ parted_by (codes " ") (map move_text (ms ++ m ∷ []))
+    with_another (parted_by (codes " ") (map move_text ms)) (move_text m) ≡ parted_by (codes " ") (map move_text (ms ++ m ∷ []))
 moves-more [] m = sym (append-nil (move_text m))
 moves-more (n ∷ ms) m =
     append_assoc (move_text n) (gapped (codes " ") (map move_text ms)) (32 ∷ move_text m)
@@ -30,7 +30,7 @@ moves-more (n ∷ ms) m =
 
 -- one square more
 pub squares-more : (ss : List ℕ) (s : ℕ) →
-    behind (parted_by (codes " ") (map square_text ss)) (square_text s) ≡ parted_by (codes " ") (map square_text (ss ++ s ∷ []))
+    with_another (parted_by (codes " ") (map square_text ss)) (square_text s) ≡ parted_by (codes " ") (map square_text (ss ++ s ∷ []))
 squares-more [] s = sym (append-nil (square_text s))
 squares-more (t ∷ ss) s =
     append_assoc (square_text t) (gapped (codes " ") (map square_text ss)) (32 ∷ square_text s)
@@ -45,11 +45,11 @@ pub record Written (written : List ℕ) (all rest : List ℕ) : Type 0 where
 pub written-start : (all : List ℕ) → Written [] all all
 written-start all = record { seen = []; parts = refl; text = refl }
 
-pub written-more : (old new all rest : List ℕ) (s : ℕ) → Written old all (s ∷ rest) → new ≡ behind old (square_text s) → Written new all rest
+pub written-more : (old new all rest : List ℕ) (s : ℕ) → Written old all (s ∷ rest) → new ≡ with_another old (square_text s) → Written new all rest
 written-more old new all rest s w e = record {
   seen = w.seen ++ s ∷ [];
   parts = w.parts ∙ sym (append_assoc w.seen (s ∷ []) rest);
-  text = e ∙ ap (λ (t : List ℕ). behind t (square_text s)) w.text ∙ squares-more w.seen s;
+  text = e ∙ ap (λ (t : List ℕ). with_another t (square_text s)) w.text ∙ squares-more w.seen s;
 }
 
 pub same_squares : (f g : ℕ → Bool) → ((x : ℕ) → x < 64 → f x ≡ g x) → filter f squares ≡ filter g squares

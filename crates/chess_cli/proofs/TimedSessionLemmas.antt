@@ -6,7 +6,7 @@ use Rattle.byte_streams.specs.declared.source.Failed.{Failed}
 use Rattle.byte_streams.proofs.CallLemmas.{joined-more}
 use Rattle.chess_uci.specs.declared.reply.Reply.{Reply}
 use Rattle.chess_uci.specs.declared.event.Event.TheVariants.{Line as LineCode, Slice as SliceCode, Moment as MomentCode}
-use Rattle.chess_uci.specs.Commands.{asked}
+use Rattle.chess_uci.specs.Commands.{command_in}
 use Rattle.chess_uci.specs.Machine.{AsksForMemory, Event, Line, Starved, State, step}
 use Rattle.chess_uci.specs.Events.{Does, Follows}
 use Rattle.chess_cli.specs.declared.uci_command.timed_session.TimedSession.{TimedSession}
@@ -26,7 +26,7 @@ same_event h = ⊎_elim (λ p. p) (λ no. absurd no) h
 line_event : (line : List ℕ) (b : Bor (List ℕ)) (t u : State) (told : List Reply) → b.now ≡ line → Follows t (LineCode b) told u → (event : Event) × IsLineEvent line event × Does (step t event) told u
 line_event line b t u told e follows =
     ⊎_elim (λ (d : Does (step t (Line b.now)) told u). (Line b.now, inl (ap Line e), d))
-    (λ (d : AsksForMemory (asked b.now) × Does (step t (Starved b.now)) told u). (Starved b.now, inr (ap Starved e, subst (λ (l : List ℕ). AsksForMemory (asked l)) e d.0), d.1)) follows
+    (λ (d : AsksForMemory (command_in b.now) × Does (step t (Starved b.now)) told u). (Starved b.now, inr (ap Starved e, subst (λ (l : List ℕ). AsksForMemory (command_in l)) e d.0), d.1)) follows
 
 within : (bytes : List ℕ) → length bytes ≤ line_limit → leb (length bytes) line_limit ≡ true
 within bytes few = grind (arith, nat_tests, few)

@@ -21,9 +21,10 @@ use Rattle.chess_fen.specs.Reading.{fen_reading}
 use Rattle.chess_fen.specs.Writing.{written}
 use Rattle.chess_san.specs.declared.fault.SanFault.{SanFault}
 use Rattle.chess_san.specs.Naming.{san_reading}
+use Rattle.chess_draws.specs.Pushes.{most_plies}
 use Rattle.chess_search.specs.Best.{best}
 use Rattle.chess_search.specs.Scores.{score_text}
-use Rattle.chess_tree.specs.Forest.{Bare, count as count_children, moves_held}
+use Rattle.chess_tree.specs.Forest.{Bare, count as count_children, moves_held, most_moves}
 use Rattle.chess_tree.specs.Edits.{parent}
 use Rattle.chess_tree.specs.Comments.{has_brace, normalised}
 use Rattle.chess_tree.specs.GameTree.{TreeParts, added, annotated_here, at_path, commented_here, deleted, find, has, line_to, main_line, nodes_here, promoted_here}
@@ -100,8 +101,8 @@ set_effect (Err fault) = Refuses (BadFen fault)
 abbrev pub playing : TreeParts → MoveParts → Option ℕ → Effect
 playing t m (Some place) = Does (at_path (t.path ++ place ∷ []) t)
 playing t m None =
-    if nat_le 20000 (length t.path) then Refuses TooLong
-    else (if nat_le 1000000 (moves_held t.tree.below) then Refuses Full else Does (added m t))
+    if nat_le most_plies (length t.path) then Refuses TooLong
+    else (if nat_le most_moves (moves_held t.tree.below) then Refuses Full else Does (added m t))
 
 -- a move is made: to the first child that has it, else to a new one
 abbrev pub move_effect : TreeParts → MoveParts → Effect

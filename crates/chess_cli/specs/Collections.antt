@@ -12,7 +12,7 @@ use Rattle.std.specs.Prelude.{◌≡◌, ◌⊎◌, ℕ, ◌<◌, Bool, true, fa
 use Rattle.std.specs.List.{AllByRecursion}
 use Rattle.byte_streams.specs.Calls.{Calls, Carries, joined}
 use Rattle.chess_pgn.specs.Games.{Game}
-use Rattle.chess_pgn.specs.Reading.{HasNoGame, HasNoGameYet, IsAtFront, IsWhite}
+use Rattle.chess_pgn.specs.Reading.{HasNoGame, HasNoGameYet, BeginsWithGame, IsWhite}
 use Rattle.chess_pgn.specs.Written.{game_text}
 use Rattle.chess_loop.specs.RunEnds.{Broken}
 
@@ -25,7 +25,7 @@ games_text (game ∷ games) = game_text game ++ games_text games
 abbrev pub AreGames : List ℕ → List Game → List ℕ → Type 0
 AreGames input [] rest = input ≡ rest
 AreGames input (game ∷ games) rest =
-    (text others : List ℕ) × (input ≡ text ++ others) × IsAtFront input game (length text) × AreGames others games rest
+    (text others : List ℕ) × (input ≡ text ++ others) × BeginsWithGame input game (length text) × AreGames others games rest
 
 -- where all of the input was given, nothing comes next, and the source has ended
 pub record Collected {R : Type 0} (gives : R → List ℕ → R → Type 0) (read_failed : R → Bool) (ended : R → Type 0) (reader reader' : R) (games : List Game) : Type 0 where

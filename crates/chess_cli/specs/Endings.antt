@@ -1,8 +1,8 @@
 -- How a run of the board ends, one of a session, and one over a collection of games.
---   BoardEnds       the board's answers to the lines that were read are written, with so many reads at most
---   SittingEnds     so are a session's replies
---   CollectionEnds  so are the games that were read
---   ended_of        an end of the loop over lines, among these
+--   BoardEnds          the board's answers to the lines that were read are written, with so many reads at most
+--   TimedSessionEnds   so are a session's replies
+--   CollectionEnds     so are the games that were read
+--   ended_of           an end of the loop over lines, among these
 use Rattle.std.specs.Prelude.{◌≡◌, ◌≢◌, ◌⊎◌, ℕ, Bool, List}
 use Rattle.chess_items.specs.declared.fault.FaultKind.TheVariants as lacks
 use Rattle.chess_items.specs.declared.fault.PgnFault.{PgnFault}

@@ -5,6 +5,7 @@
 --   ReadAreGames      what is read one after the other are games, and their variations not too deep
 use Rattle.std.specs.Prelude.{◌≡◌, ℕ, ◌<◌, ◌≤◌, false, List, length, Some}
 use Rattle.std.specs.List.{AllByRecursion}
+use Rattle.chess_tree.specs.Forest.{most_moves}
 use Rattle.chess_pgn.specs.Games.{Game}
 use Rattle.chess_pgn.specs.Laws.{IsGame, nesting}
 use Rattle.chess_pgn.specs.Reading.{IsWhite}
@@ -14,7 +15,7 @@ use Rattle.chess_cli.specs.Numbers.{path_in, path_text}
 
 -- a path that is written is read as that path
 abbrev pub PathsAreReadBack : Type 0
-PathsAreReadBack = (path : List ℕ) → AllByRecursion (λ place. place < 1000000) path → path_in (path_text path) ≡ Some path
+PathsAreReadBack = (path : List ℕ) → AllByRecursion (λ place. place < most_moves) path → path_in (path_text path) ≡ Some path
 
 -- a game with at most 128 variations within one another
 abbrev pub IsShallow : Game → Type 0

@@ -10,6 +10,7 @@ use Rattle.std.specs.Char.{is_ascii_digit}
 use Rattle.std.specs.List.{list_all, slice_split}
 use Rattle.std.specs.Str.{bytes_eq, byte}
 use Rattle.std.specs.Str.Parse.{digits_value}
+use Rattle.chess_draws.specs.Pushes.{most_plies}
 use Rattle.chess_cli.specs.declared.board_command.numbers.PathWord.{PathWord}
 use Rattle.chess_cli.specs.declared.board_command.numbers.PathWord.TheVariants.{Read, TooLong, Malformed}
 use Rattle.chess_cli.specs.Gaps.{parted_by}
@@ -42,6 +43,6 @@ path_text (place ∷ path) = parted_by (codes ".") (map decimal (place ∷ path)
 
 -- How a word is read as a path, to go before these places.
 abbrev pub ReadsPath : List ℕ → List ℕ → PathWord → Type 0
-ReadsPath word places (Read count) = (count ≤ 20000) × (path_in word ≡ Some (take count places))
-ReadsPath word places TooLong = (longer : List ℕ) × (path_in word ≡ Some longer) × (20000 < length longer)
+ReadsPath word places (Read count) = (count ≤ most_plies) × (path_in word ≡ Some (take count places))
+ReadsPath word places TooLong = (longer : List ℕ) × (path_in word ≡ Some longer) × (most_plies < length longer)
 ReadsPath word places Malformed = path_in word ≡ None

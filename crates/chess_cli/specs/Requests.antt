@@ -149,10 +149,10 @@ asked_by None others other = other
 asked_by (Some request) others other = alone request others
 
 -- what the words of the line ask for
-abbrev pub asked : List ℕ → List (List ℕ) → Request
-asked line [] = Blank
-asked line (word ∷ others) = asked_by (alone_named word) others (with_rest word (rest_of line))
+abbrev pub request_in : List ℕ → List (List ℕ) → Request
+request_in line [] = Blank
+request_in line (word ∷ others) = asked_by (alone_named word) others (with_rest word (rest_of line))
 
 -- the request of a line, without the carriage return at its end
 abbrev pub request : List ℕ → Request
-request line = asked (without_return line) (words gaps (without_return line))
+request line = request_in (without_return line) (words gaps (without_return line))

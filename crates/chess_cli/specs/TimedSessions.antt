@@ -11,7 +11,7 @@
 use Rattle.std.specs.Prelude.{◌≡◌, ℕ, ◌<◌, ◌≤◌, nat_le, Bool, true, false, ◌&&◌, ◌||◌, not, ◌⊎◌, ⊤, List, [], ◌∷◌, ◌++◌, length, Option, is_some, codes}
 use Rattle.chess_uci.specs.declared.reply.Reply.{Reply}
 use Rattle.chess_uci.specs.Replies.{reply_text}
-use Rattle.chess_uci.specs.Commands.{asked}
+use Rattle.chess_uci.specs.Commands.{command_in}
 use Rattle.chess_uci.specs.Machine.{AsksForMemory, Event, Line, Starved, Slice, Moment, Search, State, beginning, is_infinite, is_waiting, depth_done}
 use Rattle.chess_uci.specs.Laws.{replies, after_events}
 use Rattle.chess_cli.specs.declared.uci_command.timed_session.TimedSession.{TimedSession}
@@ -62,7 +62,7 @@ WasFed s (moment ∷ moments) = (is_fed s ≡ true) × WasFed (after_events s (S
 
 -- the line, or, where it asks for memory, the line for which a growth is refused
 abbrev pub IsLineEvent : List ℕ → Event → Type 0
-IsLineEvent input event = (event ≡ Line input) ⊎ ((event ≡ Starved input) × AsksForMemory (asked input))
+IsLineEvent input event = (event ≡ Line input) ⊎ ((event ≡ Starved input) × AsksForMemory (command_in input))
 
 -- a line and some slices after it have been replied
 pub record AnsweredSoFar {C : Type 0} (reads : C → ℕ → C → Type 0) (s : State) (c : C) (input : List ℕ) (parts : List (List ℕ)) (t : State) (d : C) : Type 0 where

@@ -15,7 +15,7 @@ ghost use Rattle.chess_san.specs.Writing.{mark_text, san};
 ghost use Rattle.chess_draws.specs.declared.fault.LineFault.TheVariants.{Memory};
 ghost use Rattle.chess_draws.specs.Draws.{is_drawn, is_claimable};
 ghost use Rattle.chess_draws.specs.LineParts.{IsAsBefore, comparisons};
-ghost use Rattle.chess_draws.specs.Pushes.{AnswersPush, AnswersRoom, line_after};
+ghost use Rattle.chess_draws.specs.Pushes.{AnswersPush, AnswersRoom, line_after, most_plies};
 
 use crate::fault::LineFault;
 use crate::look_back::look_back;
@@ -124,7 +124,7 @@ impl<'k, A: Allocator> Line<'k, A> {
         requires none { self.old.looked ≡ 0 }
         ensures answer { AnswersPush self.old m result }
         ensures legal { OnOk result (IsTrue (is_legal_in (last self.old.line) m)) }
-        ensures few { OnOk result (length self.old.line.moves < 20000) }
+        ensures few { OnOk result (length self.old.line.moves < most_plies) }
         ensures ready { OnOk result (length self.old.line.moves < self.new.room) }
         ensures line { self.new.line ≡ self.old.line }
         ensures looked { self.new.looked ≡ 0 }
@@ -149,7 +149,7 @@ impl<'k, A: Allocator> Line<'k, A> {
         ensures answer { AnswersRoom self.old result }
         // It is what a push of a legal move answers, whichever.
         ensures push { (m : MoveParts) → is_legal_in (last self.old.line) m ≡ true → AnswersPush self.old m result }
-        ensures few { OnOk result (length self.old.line.moves < 20000) }
+        ensures few { OnOk result (length self.old.line.moves < most_plies) }
         ensures ready { OnOk result (length self.old.line.moves < self.new.room) }
         ensures line { self.new.line ≡ self.old.line }
         ensures looked { self.new.looked ≡ 0 }
@@ -193,7 +193,7 @@ impl<'k, A: Allocator> Line<'k, A> {
     pub fn push_prepared(&mut self, m: Move)
         requires none { self.old.looked ≡ 0 }
         requires legal { IsTrue (is_legal_in (last self.old.line) m) }
-        requires few { length self.old.line.moves < 20000 }
+        requires few { length self.old.line.moves < most_plies }
         requires room { length self.old.line.moves < self.old.room }
         ensures line { self.new.line ≡ extended self.old.line m }
         ensures looked { self.new.looked ≡ 0 }
@@ -284,7 +284,7 @@ impl<'k, A: Allocator> Line<'k, A> {
     pub fn plies(&self) -> u32
         requires none { self.now.looked ≡ 0 }
         ensures value { result ≡ length self.now.line.moves }
-        ensures at_most { result ≤ 20000 }
+        ensures at_most { result ≤ most_plies }
     {
         self.plies.len() as u32
     }

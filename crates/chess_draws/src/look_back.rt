@@ -1,5 +1,6 @@
 ghost use Rattle.std.specs.Prelude.{◌≡◌, ℕ, ◌+◌, ◌*◌, ◌++◌, ◌<◌, ◌≤◌, ◌/◌, drop, length, min};
 ghost use Rattle.chess_draws.specs.steps.LookBack.{first_same, came_back};
+ghost use Rattle.chess_draws.specs.Pushes.{most_plies};
 
 use crate::ply::Ply;
 use crate::repetition_key::RepetitionKey;
@@ -25,7 +26,7 @@ pub(crate) fn look_back(
     here: &RepetitionKey,
     clock: u32,
 ) -> (u32, u32)
-    requires few { length plies.now ≤ 20000 }
+    requires few { length plies.now ≤ most_plies }
     requires ahead { length looked.now ≤ 16 }
     ensures compared { result.1 ≡ min (length plies.now + length looked.now) clock / 2 }
     ensures count { result.0 ≡ came_back here.now (plies.now ++ looked.now) result.1 }

@@ -3,6 +3,7 @@
 ghost use Rattle.std.specs.Prelude.{◌≡◌, ◌≢◌, ◌<◌, ◌≤◌, ◌+◌, List, ℕ, [], false, true, length, Err, IfErr, MatchBool, OnErr, OnOk};
 ghost use Rattle.chess_types.specs.board.Legal.{is_legal};
 ghost use Rattle.chess_types.specs.board.Lines.{extended, last};
+ghost use Rattle.chess_draws.specs.Pushes.{most_plies};
 ghost use Rattle.chess_tree.specs.Comments.{IsComment};
 ghost use Rattle.chess_tree.specs.Edits.{change_below};
 ghost use Rattle.chess_tree.specs.Forest.{append, height};
@@ -68,7 +69,7 @@ fn add_node<'a, A: Allocator>(
     comment: &[u8],
 ) -> Result<(), TreeFault>
     requires legal { is_legal (last (line_to tree.old)) m ≡ true }
-    requires deep { length tree.old.path < 20000 }
+    requires deep { length tree.old.path < most_plies }
     requires comment { IsComment comment.now }
     ensures ok { OnOk result (tree.new ≡ with_node m nags.now comment.now tree.old) }
     ensures line { OnOk result (line_to tree.new ≡ extended (line_to tree.old) m) }
@@ -85,7 +86,7 @@ fn add_node<'a, A: Allocator>(
 // Adds the main line below a node at the cursor. Where that can't be, the first moves of it may have been added.
 fn grow<'a, A: Allocator>(tree: &mut Tree<'a, A>, node: NodeRef<'_, 'a, A>) -> Result<(), TreeFault>
     requires sound { AreSound (last (line_to tree.old)) node.below }
-    requires deep { length tree.old.path + height node.below ≤ 20000 }
+    requires deep { length tree.old.path + height node.below ≤ most_plies }
     ensures ok { OnOk result (tree.new.tree ≡ changed (change_below (λ f. append f (line_alone node.entry.below)) tree.old.path) tree.old.tree) }
     ensures err { OnErr result (Begun tree.old tree.new) }
 {
@@ -125,7 +126,7 @@ fn add_line<'a, A: Allocator>(
     node: NodeRef<'_, 'a, A>,
 ) -> Result<(), TreeFault>
     requires sound { AreSound (last (line_to tree.old)) node.below }
-    requires deep { length tree.old.path + height node.below ≤ 20000 }
+    requires deep { length tree.old.path + height node.below ≤ most_plies }
     ensures ok { OnOk result (tree.new.tree ≡ changed (change_below (λ f. append f (line_alone node.entry.below)) tree.old.path) tree.old.tree) }
     ensures err { OnErr result (tree.new.tree ≡ tree.old.tree) }
 {
@@ -147,12 +148,12 @@ fn go_along<'t, 'a, A: Allocator>(
     node: NodeRef<'t, 'a, A>,
 ) -> NodeRef<'t, 'a, A>
     requires sound { AreSound (last (line_to tree.old)) node.below }
-    requires deep { length tree.old.path + height node.below ≤ 20000 }
+    requires deep { length tree.old.path + height node.below ≤ most_plies }
     ensures same { tree.new.tree ≡ tree.old.tree }
     ensures goes { change_below (joined result.below) tree.new.path tree.old.tree.below ≡ change_below (joined node.entry.below) tree.old.path tree.old.tree.below }
     ensures ends { joined result.below (nodes_here tree.new) ≡ append (nodes_here tree.new) (line_alone result.below) }
     ensures sound { AreSound (last (line_to tree.new)) result.below }
-    ensures deep { length tree.new.path + height result.below ≤ 20000 }
+    ensures deep { length tree.new.path + height result.below ≤ most_plies }
 {
     let mut node = node;
     loop {

@@ -17,6 +17,7 @@ pub record IsWhole (part : Part) : Type 0 where
   pub first : part.first ≡ 1
   pub step : part.step ≡ 1
 
+-- between the two numbers
 abbrev pub is_slash : ℕ → Bool
 is_slash b = b == byte "/"
 

@@ -6,6 +6,7 @@ use Rattle.std.specs.Prelude.{◌≡◌, ◌⊎◌, ℕ, Bool, true, ◌==◌, �
 use Rattle.std.specs.Str.{byte}
 use Rattle.byte_streams.specs.Calls.{Carries}
 
+-- a byte from one to another, both included
 abbrev pub between : ℕ → ℕ → ℕ → Bool
 between low high b = nat_le low b && nat_le b high
 

@@ -1,5 +1,5 @@
 ghost use Rattle.std.specs.Prelude.{◌≡◌, ℕ, [], IfSome};
-ghost use Rattle.chess_pgn.specs.Reading.{IsAtFront};
+ghost use Rattle.chess_pgn.specs.Reading.{BeginsWithGame};
 ghost use Rattle.chess_pgn.specs.steps.GameCode.{game_of};
 
 use chess_attack::position;
@@ -101,7 +101,7 @@ pub fn variations(rt: &HostRuntime, text: &str) -> io::Result<()> {
 
 // The game at the start of a text.
 fn first_game<'a, A: Allocator>(alloc: &'a A, text: &str) -> Option<Game<'a, A>>
-    ensures { IfSome result (λ game. (used : ℕ) × IsAtFront text.now (game_of game) used) }
+    ensures { IfSome result (λ game. (used : ℕ) × BeginsWithGame text.now (game_of game) used) }
 {
     match read_game(alloc, text.as_bytes()) {
         Ok(Some((game, _))) => Some(game),

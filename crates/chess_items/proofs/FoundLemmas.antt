@@ -51,7 +51,7 @@ run_is p f bytes found e = e
 run_some : (p : ℕ → Bool) (b : ℕ) (bytes : List ℕ) → p b ≡ true → take (prefix_len p (b ∷ bytes)) (b ∷ bytes) ≢ []
 run_some p b bytes e h = (let h1 : take (1 + prefix_len p bytes) (b ∷ bytes) ≡ [] = rw e at h in let h2 = rw one-add at h1 in cc)
 
-run_of : (p : ℕ → Bool) (b : ℕ) (bytes : List ℕ) → p b ≡ true → IsRun p (take (prefix_len p (b ∷ bytes)) (b ∷ bytes)) (drop (prefix_len p (b ∷ bytes)) (b ∷ bytes))
+pub run_of : (p : ℕ → Bool) (b : ℕ) (bytes : List ℕ) → p b ≡ true → IsRun p (take (prefix_len p (b ∷ bytes)) (b ∷ bytes)) (drop (prefix_len p (b ∷ bytes)) (b ∷ bytes))
 run_of p b bytes e = record { some = run_some p b bytes e; each = prefix_each p (b ∷ bytes); stops = prefix_stops p (b ∷ bytes) }
 
 -- a run, whatever item it is

@@ -12,7 +12,7 @@ pub mod BreakLemmas
 pub mod ReadyLemmas
 pub mod MadeLemmas
 pub mod OfferLemmas
-pub mod SingleLemmas
+pub mod FirstLemmas
 pub mod TakingLemmas
 pub mod RefillLemmas
 pub mod BlankLemmas

@@ -7,7 +7,7 @@ use Rattle.byte_streams.proofs.CallLemmas.{Calls-more, joined-more}
 use Rattle.chess_items.specs.Items.{Item, TagOpen, is_white, may_stand, place_after}
 use Rattle.chess_items.specs.steps.ItemAt.{Found, item_at}
 use Rattle.chess_items.specs.steps.Deciding.{longer, Decides, is_open}
-use Rattle.chess_items.specs.steps.Singles.{IsSingle}
+use Rattle.chess_items.specs.steps.Firsts.{IsFirst}
 use Rattle.chess_items.specs.steps.Texts.{Oversized, Near, Needs, MadeReady, IsReady, Keeps}
 use Rattle.chess_items.specs.steps.Taking.{TakesOne, Brackets, Offered, UsesItem, Next, AfterStop, Settles, Steps, settled}
 use Rattle.chess_items.specs.declared.place.Place.{Place}
@@ -314,11 +314,12 @@ module _ {X : Type 0} {comes : X → List ℕ → X → Type 0} {at_hand : X →
             → Steps comes at_hand all sound size takes at most place old new t u (Ok one)
         step_settled {new} {one} a o is k = subst (λ (x : Step). Steps comes at_hand all sound size takes at most place old new t u (Ok x)) (sym is) (settles a o k)
 
--- an item of one byte, at once
-pub step_single : {X T : Type 0} {comes : X → List ℕ → X → Type 0} {at_hand : X → List ℕ} {all sound : X → Type 0} {size : X → ℕ} {takes : TakesOne T} {at most : ℕ} {old new : X} {t u : T} {item : Item} {again : List ℕ} {left : ℕ} {next : Place} {white : Bool} {one : Step}
-    (single : IsSingle (at_hand old) item) → sound old → again ≡ at_hand old → left ≡ length single.rest → next ≡ place_after InLine item → white ≡ is_white item → (a : Answer)
+-- the first item within a line, at once
+pub step_first : {X T : Type 0} {comes : X → List ℕ → X → Type 0} {at_hand : X → List ℕ} {all sound : X → Type 0} {size : X → ℕ} {takes : TakesOne T} {at most : ℕ} {old new : X} {t u : T} {item : Item} {again : List ℕ} {left : ℕ} {next : Place} {white : Bool} {one : Step}
+    (first : IsFirst (at_hand old) item left) → sound old → again ≡ at_hand old → next ≡ place_after InLine item → white ≡ is_white item → (a : Answer)
     → Offered takes at item (length again - left) most t u a → one ≡ settled a next (length again - left) white → Settles comes at_hand all sound size left a old new
     → Steps comes at_hand all sound size takes at most InLine old new t u (Ok one)
-step_single {comes = comes} {at_hand} {all} {sound} {size} {takes} {at} {most} {old} {new} {t} {u} {item} {again} {left} {next} {white} {one} single sure once_more l e h a =
+step_first {comes = comes} {at_hand} {all} {sound} {size} {takes} {at} {most} {old} {new} {t} {u} {item} {again} {left} {next} {white} {one} first sure once_more e h a =
+    let followed = first.followed in
     subst (λ (n : ℕ). Offered takes at item (length again - n) most t u a → one ≡ settled a next (length again - n) white → Settles comes at_hand all sound size n a old new → Steps comes at_hand all sound size takes at most InLine old new t u (Ok one))
-    (sym l) (λ o is k. step_settled (seen_at_once sure refl single.found single.some) refl single.found once_more e h a o is k)
+    (sym first.left) (λ o is k. step_settled (seen_at_once sure refl followed.found followed.some) refl followed.found once_more e h a o is k)

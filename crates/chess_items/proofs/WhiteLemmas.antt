@@ -1,7 +1,7 @@
 -- What is white byte by byte is white items.
 use Rattle.std.proofs.Common.{◌≡◌, ℕ, ◌+◌, Bool, true, false, not, cond, eqb, List, [], ◌∷◌, ◌++◌, length, Option, Some, None, is_some, refl, sym, ap, subst, ◌∙◌}
 use Rattle.std.proofs.lemmas.Bool.{eqb-true}
-use Rattle.chess_items.specs.Items.{Blank, Hidden, IsItem, IsToLineEnd, behind_blank, is_blank, is_in_tag, is_outside, starts_line}
+use Rattle.chess_items.specs.Items.{Blank, Hidden, IsItem, IsToLineEnd, place_after_blank, is_blank, is_in_tag, is_outside, starts_line}
 use Rattle.chess_items.specs.steps.Skipping.{white_byte, white_after, column_at}
 use Rattle.chess_items.specs.steps.Passing.{AreWhite}
 use Rattle.chess_items.specs.steps.Taking.{SpellsFrom}
@@ -23,17 +23,17 @@ Seen column.First bytes = (at : ℕ) (place : Place) → is_outside place ≡ tr
 Seen column.Later bytes = (at : ℕ) (place : Place) → is_outside place ≡ true → AreWhite at place bytes
 Seen column.Hidden bytes = Rest bytes
 
-outside_blank : (v : Bool) → behind_blank false v ≡ cond v LineStart InLine
+outside_blank : (v : Bool) → place_after_blank false v ≡ cond v LineStart InLine
 outside_blank true = refl
 outside_blank false = refl
 
-pub after_blank : (place : Place) (v : Bool) → is_outside place ≡ true → behind_blank (is_in_tag place) v ≡ cond v LineStart InLine
+pub after_blank : (place : Place) (v : Bool) → is_outside place ≡ true → place_after_blank (is_in_tag place) v ≡ cond v LineStart InLine
 after_blank GameStart v e = outside_blank v
 after_blank LineStart v e = outside_blank v
 after_blank InLine v e = outside_blank v
 after_blank _ v e = absurd cc
 
-pub stays_outside : (place : Place) (v : Bool) → is_outside place ≡ true → is_outside (behind_blank (is_in_tag place) v) ≡ true
+pub stays_outside : (place : Place) (v : Bool) → is_outside place ≡ true → is_outside (place_after_blank (is_in_tag place) v) ≡ true
 stays_outside place v out = ap is_outside (after_blank place v out) ∙ either v
   where
     either : (v : Bool) → is_outside (cond v LineStart InLine) ≡ true
@@ -50,7 +50,7 @@ blank_item place b bytes out e = record { stands = rw out refl; spelled = (e, re
 -- a byte of white space first
 blank_white : (at : ℕ) (place : Place) (b : ℕ) (bytes : List ℕ) (v : Bool) → is_outside place ≡ true → is_blank b ≡ true → eqb b 10 ≡ v → AreWhite (at + 1) (cond v LineStart InLine) bytes → AreWhite at place (b ∷ bytes)
 blank_white at place b bytes v out blank e w =
-    let there : behind_blank (is_in_tag place) (eqb b 10) ≡ cond v LineStart InLine = ap (behind_blank (is_in_tag place)) e ∙ after_blank place v out in (
+    let there : place_after_blank (is_in_tag place) (eqb b 10) ≡ cond v LineStart InLine = ap (place_after_blank (is_in_tag place)) e ∙ after_blank place v out in (
       (at, Blank b) ∷ w.0,
       w.1,
       (b ∷ [], bytes, refl, refl, blank_item place b bytes out blank, subst (λ (p : Place). SpellsFrom (at + 1) p bytes w.0 []) (sym there) w.2),
@@ -70,7 +70,7 @@ hidden_white : (at : ℕ) (place : Place) (b : ℕ) (bytes : List ℕ) → is_ou
 hidden_white at place b bytes out starts e r =
     let text = 37 ∷ r.line in
     let w = r.white (at + length text) in
-    let there : behind_blank (is_in_tag place) false ≡ InLine = after_blank place false out in (
+    let there : place_after_blank (is_in_tag place) false ≡ InLine = after_blank place false out in (
       (at, Hidden) ∷ w.0,
       w.1,
       (text, r.next, rw (eqb-true b 37 e) (ap (λ (x : List ℕ). 37 ∷ x) r.parts), refl, hidden_stands place r.line r.next starts r.is_line, subst (λ (p : Place). SpellsFrom (at + length text) p r.next w.0 []) (sym there) w.2),

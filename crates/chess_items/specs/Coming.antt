@@ -14,6 +14,7 @@ pub record AtHand (R : Type 0) : Type 0 where
   pub reads : ℕ
   pub used : ℕ
 
+-- the bytes that were read and not used yet
 abbrev pub unread : {R : Type 0} → AtHand R → List ℕ
 unread h = h.bytes
 

@@ -45,6 +45,7 @@ pub data Item : Type 0 where
 
 -- ---- bytes
 
+-- a byte from one to another, both included
 abbrev pub between : ℕ → ℕ → ℕ → Bool
 between low high b = nat_le low b && nat_le b high
 
@@ -52,9 +53,11 @@ between low high b = nat_le low b && nat_le b high
 unfoldable pub is_blank : ℕ → Bool
 is_blank b = between 9 13 b || b == 32
 
+-- 0 to 9
 unfoldable pub is_digit : ℕ → Bool
 is_digit b = between (byte "0") (byte "9") b
 
+-- A to Z and a to z
 abbrev pub is_letter : ℕ → Bool
 is_letter b = between (byte "A") (byte "Z") b || between (byte "a") (byte "z") b
 
@@ -71,9 +74,11 @@ is_word_byte b =
 unfoldable pub is_glyph : ℕ → Bool
 is_glyph b = b == byte "!" || b == byte "?"
 
+-- of a line: all but its end, the line feed
 abbrev pub in_line : ℕ → Bool
 in_line b = not (b == 10)
 
+-- of a comment between braces: all but the right brace
 abbrev pub in_braces : ℕ → Bool
 in_braces b = not (b == byte "}")
 
@@ -113,21 +118,25 @@ starts_line LineStart = true
 starts_line TagLineStart = true
 starts_line _ = false
 
+-- outside of tags
 abbrev pub is_outside : Place → Bool
 is_outside GameStart = true
 is_outside LineStart = true
 is_outside InLine = true
 is_outside _ = false
 
+-- between the parts of a tag
 abbrev pub is_in_tag : Place → Bool
 is_in_tag TagLineStart = true
 is_in_tag InTag = true
 is_in_tag _ = false
 
+-- in a tag's value
 abbrev pub is_in_value : Place → Bool
 is_in_value InValue = true
 is_in_value _ = false
 
+-- where a game begins
 abbrev pub is_game_start : Place → Bool
 is_game_start GameStart = true
 is_game_start _ = false
@@ -151,16 +160,16 @@ may_stand place (Stretch text) = is_in_value place
 may_stand place (Escaped b) = is_in_value place
 
 -- after a byte of white space, outside of tags and between the parts of one
-abbrev pub behind_blank : Bool → Bool → Place
-behind_blank false true = LineStart
-behind_blank false false = InLine
-behind_blank true true = TagLineStart
-behind_blank true false = InTag
+abbrev pub place_after_blank : Bool → Bool → Place
+place_after_blank false true = LineStart
+place_after_blank false false = InLine
+place_after_blank true true = TagLineStart
+place_after_blank true false = InTag
 
 abbrev pub place_after : Place → Item → Place
 place_after place Mark = LineStart
-place_after place (Blank b) = behind_blank (is_in_tag place) (b == 10)
-place_after place Hidden = behind_blank (is_in_tag place) false
+place_after place (Blank b) = place_after_blank (is_in_tag place) (b == 10)
+place_after place Hidden = place_after_blank (is_in_tag place) false
 place_after place TagOpen = InTag
 place_after place (Name text) = InTag
 place_after place Quote = if is_in_value place then InTag else InValue
@@ -201,6 +210,7 @@ pub record IsToLineEnd (line next : List ℕ) : Type 0 where
 abbrev pub is_escapable : ℕ → Bool
 is_escapable b = b == byte "\"" || b == byte "\\"
 
+-- the text spells the item before what comes next
 abbrev pub IsSpelled : Item → List ℕ → List ℕ → Type 0
 IsSpelled Mark text next = text ≡ 239 ∷ 187 ∷ 191 ∷ []
 IsSpelled (Blank b) text next = (is_blank b ≡ true) × (text ≡ b ∷ [])

@@ -9,4 +9,4 @@ pub mod Taking
 pub mod Skipping
 pub mod Passing
 pub mod Seeking
-pub mod Singles
+pub mod Firsts

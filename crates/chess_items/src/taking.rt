@@ -1,14 +1,16 @@
 //! Taking the items of a text, one after another.
 
 ghost use Rattle.std.specs.Prelude.{◌≡◌, ◌<◌, ◌≤◌, ◌+◌, length, take, IfErr, IfOk, IfSome, MatchBool, Ok};
+ghost use Rattle.chess_items.specs.Items.{Skipped, Word};
 ghost use Rattle.chess_items.specs.steps.Deciding.{Decides};
 ghost use Rattle.chess_items.specs.declared.place.Place.TheVariants.{InLine};
-ghost use Rattle.chess_items.specs.steps.Singles.{IsSingle, IsWithin};
+ghost use Rattle.chess_items.specs.steps.Firsts.{IsFirst, IsFollowed, IsWithin};
 ghost use Rattle.chess_items.specs.steps.Taking.{Offered, Settles, Steps, Ran, RunBreaks, settled};
 ghost use Rattle.chess_items.specs.steps.Texts.{BreaksAt};
 ghost use Rattle.chess_items.specs.steps.Tokens.{item_of};
 
 use crate::at_hand::Fault;
+use crate::class::Class;
 use crate::cut::is_undecided;
 use crate::fault::PgnFault;
 use crate::lexer::item;
@@ -161,10 +163,10 @@ fn take_read<X: Text, T: Taker>(
     Ok(settle(text, answer, next, used, white, left))
 }
 
-// The first byte, where it is within a line and another is after it.
+// The first byte and how many come after it, where it is within a line and some do.
 #[inline(always)]
-fn first_within(place: Place, bytes: &[u8]) -> Option<u8>
-    ensures { IfSome result (λ b. IsWithin place b bytes.now) }
+fn first_within(place: Place, bytes: &[u8]) -> Option<(u8, usize)>
+    ensures { IfSome result (λ first. IsWithin place first.0 first.1 bytes.now) }
 {
     if !matches!(place, Place::InLine) {
         return None;
@@ -173,23 +175,52 @@ fn first_within(place: Place, bytes: &[u8]) -> Option<u8>
     if rest.is_empty() {
         return None;
     }
-    Some(b)
+    Some((b, rest.len()))
 }
 
-// Takes an item of one byte within a line, with another byte after it.
+// A move's text within a line, and what follows it, where something does. It begins with no digit, as numbers and markers do.
 #[inline(always)]
-fn take_single<X: Text, T: Taker>(
+fn word_within(bytes: &[u8]) -> Option<(&[u8], &[u8])>
+    ensures { IfSome result (λ found. IsFollowed bytes.now (Word found.0.now) found.1.now) }
+{
+    let (&first, _) = bytes.split_first()?;
+    if !Class::Word.has(first) || Class::Digit.has(first) {
+        return None;
+    }
+    let (word, rest) = bytes.split_at(Class::Word.run_len(bytes));
+    if rest.is_empty() {
+        return None;
+    }
+    Some((word, rest))
+}
+
+// How many bytes follow a move number within a line, where some do.
+#[inline(always)]
+fn after_number(bytes: &[u8]) -> Option<usize>
+    ensures { IfSome result (λ left. IsFirst bytes.now Skipped left) }
+{
+    let (digits, rest) = bytes.split_at(Class::Digit.run_len(bytes));
+    let (&next, _) = rest.split_first()?;
+    if digits.is_empty() || Class::Word.has(next) {
+        return None;
+    }
+    Some(rest.len())
+}
+
+// Takes an item within a line, after which so many bytes are left.
+#[inline(always)]
+fn take_first<X: Text, T: Taker>(
     text: &mut X,
     taker: &mut T,
     token: Token<'_>,
+    left: usize,
     at: usize,
     most: usize,
 ) -> Step
     requires sound { X.sound text.old }
-    requires single { IsSingle (X.at_hand text.old) (item_of token) }
+    requires first { IsFirst (X.at_hand text.old) (item_of token) left }
     ensures steps { Steps X.comes X.at_hand X.all X.sound X.size T.takes at most InLine text.old text.new taker.old taker.new (Ok result) }
 {
-    let left = text.unread().len() - 1;
     let used = text.unread().len() - left;
     let next = Place::InLine.after(token);
     let white = token.is_white();
@@ -198,7 +229,7 @@ fn take_single<X: Text, T: Taker>(
 }
 
 // Takes one item, of at most `most` bytes. Where a byte is at hand after the first item, no read can change it, and it is taken at
-// once: so the bytes of nearly all items are looked at once. A space and a period, half of all items, are told by their byte alone.
+// once: so the bytes of nearly all items are looked at once. Within a line the most frequent items are known by their first byte.
 #[inline(always)]
 fn take_one<X: Text, T: Taker>(
     text: &mut X,
@@ -211,12 +242,21 @@ fn take_one<X: Text, T: Taker>(
     ensures steps { Steps X.comes X.at_hand X.all X.sound X.size T.takes at most place text.old text.new taker.old taker.new result }
     ensures broken { IfErr result (λ fault. BreaksAt X.comes X.at_hand X.breaks X.all X.sound place text.old text.new fault) }
 {
-    if let Some(b) = first_within(place, text.unread()) {
+    if let Some((b, left)) = first_within(place, text.unread()) {
         if b == b' ' {
-            return Ok(take_single(text, taker, Token::Blank(b' '), at, most));
+            return Ok(take_first(text, taker, Token::Blank(b' '), left, at, most));
         }
         if b == b'.' {
-            return Ok(take_single(text, taker, Token::Skipped, at, most));
+            return Ok(take_first(text, taker, Token::Skipped, left, at, most));
+        }
+        if let Some((word, rest)) = word_within(text.unread()) {
+            let left = rest.len();
+            let used = text.unread().len() - left;
+            let answer = offer(taker, at, Token::Word(word), used, most);
+            return Ok(settle(text, answer, Place::InLine, used, false, left));
+        }
+        if let Some(left) = after_number(text.unread()) {
+            return Ok(take_first(text, taker, Token::Skipped, left, at, most));
         }
     }
     let Some((token, rest)) = item(place, text.unread()) else {

@@ -5,7 +5,7 @@ use Rattle.memchr.specs.Find.{IsFirstByte, is_byte}
 use Rattle.byte_streams.specs.Calls.{joined}
 use Rattle.byte_streams.specs.declared.source.Failed.{Failed}
 use Rattle.chess_loop.specs.InputLines.{ended_lines, last_line, line_buffer}
-use Rattle.chess_loop.specs.RunEnds.{Broken, IsFront}
+use Rattle.chess_loop.specs.RunEnds.{Broken, IsPrefix}
 use Rattle.chess_loop.specs.Runs.{Runs, Counted, unwritten}
 use Rattle.chess_loop.specs.steps.Reads.{Holds, AnswersLine, Feeds, Finishes}
 use Rattle.chess_loop.specs.steps.LineSoFar.{LineSoFar}
@@ -90,7 +90,7 @@ module _ {S W : Type 0} (step cut : S → List ℕ → List (List ℕ) → S →
       → (going : Going step over takes failed begun piece old now line w0 page w1 rest)
       → IsFirstByte (is_byte 10) rest (Some at)
       → front ≡ take at rest
-      → IsFront (going.done ++ (going.kept ++ front) ∷ []) (ended_lines begun piece)
+      → IsPrefix (going.done ++ (going.kept ++ front) ∷ []) (ended_lines begun piece)
   front_next old now line w0 w1 page rest front at going first front_is = record {
     others = ended_lines [] (drop (at + 1) rest);
     whole = sym (line_next old now line w0 w1 page rest front at going first front_is);

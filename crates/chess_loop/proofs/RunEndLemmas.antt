@@ -3,7 +3,7 @@ use Rattle.std.specs.List.{AllByRecursion}
 use Rattle.std.proofs.Common.{◌≡◌, ℕ, ◌<◌, ◌≤◌, ◌⊎◌, Bool, true, true≢false, inl, inr, List, [], ◌∷◌, ◌++◌, length, sym, ap, ◌∙◌, append_assoc, append-nil, arith}
 use Rattle.byte_streams.specs.Calls.{Calls, joined}
 use Rattle.byte_streams.proofs.CallLemmas.{joined-append, Calls-left}
-use Rattle.chess_loop.specs.RunEnds.{Awaited, IsFront, EndsGood, EndsOver, EndsReadFault, EndsWriteFault, never}
+use Rattle.chess_loop.specs.RunEnds.{Awaited, IsPrefix, EndsGood, EndsOver, EndsReadFault, EndsWriteFault, never}
 use Rattle.chess_loop.specs.InputLines.{ended_lines, last_line, lines_of, line_buffer}
 use Rattle.chess_loop.proofs.EndLemmas.{length-joined}
 use Rattle.chess_loop.proofs.LineLemmas.{ended_lines-append}
@@ -78,7 +78,7 @@ module _ {S R W : Type 0} (step : S → List ℕ → List ℕ → S → Type 0) 
 
 -- the lines that were answered before the last read and since are the first of all
 pub lines_first : {R : Type 0} (ended : R → Type 0) (pieces : List (List ℕ)) (piece : List ℕ) (lines : List (List ℕ)) (r : R) → Awaited ended (line_buffer [] (joined pieces)) piece lines r
-    → IsFront (ended_lines [] (joined pieces) ++ lines) (lines_of (joined (pieces ++ piece ∷ [])))
+    → IsPrefix (ended_lines [] (joined pieces) ++ lines) (lines_of (joined (pieces ++ piece ∷ [])))
 lines_first ended pieces piece lines r (inl front) =
     let more : joined (pieces ++ piece ∷ []) ≡ joined pieces ++ piece = joined-append pieces (piece ∷ []) ∙ ap (λ (q : List ℕ). joined pieces ++ q) (append-nil piece) in
     let last = last_line (line_buffer [] (joined (pieces ++ piece ∷ []))) in

@@ -1,6 +1,6 @@
 -- The lines of some bytes: each ends with a line feed (byte 10), which the last may lack.
 --   ended_lines   the lines that end in the bytes
---   unfinished    what comes after the last line feed
+--   line_buffer   what comes after the last line feed
 --   lines_of      all lines: what comes after the last line feed is one too, unless it is nothing
 --   line_limit    the most bytes of a line that is taken; line_room, of one that is kept whatever memory there is
 use Rattle.std.specs.Prelude.{ℕ, ◌==◌, if◌then◌else◌, List, [], ◌∷◌, ◌++◌}

@@ -2,7 +2,7 @@
 -- text, from which state to which, and the states in which it takes no more lines.
 --   most_reads       the most reads of a run
 --   never            of a handler that takes lines to the end of the input
---   IsFront          these lines, and others after them, are those
+--   IsPrefix         these lines, and others after them, are those
 --   Awaited          which lines are answered from one read to the next: those that end in the piece, or at the end of the input the last
 --   Broken           a call failed, after a prefix of the text was written; it was the last
 --   EndsGood         the whole input was read, and the answers to its lines are written; no call failed
@@ -25,13 +25,13 @@ abbrev pub never : {S : Type 0} → S → Bool
 never state = false
 
 -- the first lines of all
-pub record IsFront (lines all : List (List ℕ)) : Type 0 where
+pub record IsPrefix (lines all : List (List ℕ)) : Type 0 where
   pub others : List (List ℕ)
   pub whole : lines ++ others ≡ all
 
 -- the lines that were answered before a call failed: some of those that had ended, or at the end the last one
 abbrev pub Awaited : {R : Type 0} → (R → Type 0) → List ℕ → List ℕ → List (List ℕ) → R → Type 0
-Awaited ended begun piece lines r = IsFront lines (ended_lines begun piece) ⊎ ((piece ≡ []) × (lines ≡ last_line begun) × ended r)
+Awaited ended begun piece lines r = IsPrefix lines (ended_lines begun piece) ⊎ ((piece ≡ []) × (lines ≡ last_line begun) × ended r)
 
 module _ {W : Type 0} (takes : W → List ℕ → W → Type 0) (failed : W → Bool) where
   pub record Broken (old : W) (text : List ℕ) (new : W) : Type 0 where
@@ -105,7 +105,7 @@ module _ {S R W : Type 0} (runs : S → List (List ℕ) → List ℕ → S → T
     pub well_read : read_failed r' ≡ false
     pub answers : runs beginning (ended_lines [] (joined pieces)) text middle
     pub awake : over middle ≡ false
-    pub front : IsFront lines (ended_lines (line_buffer [] (joined pieces)) piece)
+    pub front : IsPrefix lines (ended_lines (line_buffer [] (joined pieces)) piece)
     pub answers_last : runs middle lines more state
     pub is_over : over state ≡ true
     pub writes : Carries takes w (text ++ more) w'

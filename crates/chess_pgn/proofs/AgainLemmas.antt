@@ -19,7 +19,7 @@ use Rattle.chess_pgn.specs.Games.{Game}
 use Rattle.chess_pgn.specs.Grammar.{Derives, elements}
 use Rattle.chess_pgn.specs.Laws.{IsValue, NewIsGame, ReadIsGame, IsGame, WrittenIsRead, nesting}
 use Rattle.chess_pgn.specs.Layout.{in_lines}
-use Rattle.chess_pgn.specs.Reading.{IsAtFront, remarks}
+use Rattle.chess_pgn.specs.Reading.{BeginsWithGame, remarks}
 use Rattle.chess_pgn.specs.Written.{comment_text, game_text, moves_text, movetext, outcome_text, tags_text}
 use Rattle.chess_pgn.proofs.CountLemmas.{few_moves}
 use Rattle.chess_pgn.proofs.FenTextLemmas.{fen_value}
@@ -109,7 +109,7 @@ module _ (game : Game) (is : IsGame game) (few : nesting false game.tree.below �
       head : HasHead GameStart (given game) ending moves.between (before ++ (given_text (given game) ++ ((10 ∷ lines game) ++ 10 ∷ 10 ∷ rest))) (10 ∷ 10 ∷ rest)
       head = behind_blanks GameStart before (given game) ending moves.between (given_text (given game) ++ ((10 ∷ lines game) ++ 10 ∷ 10 ∷ rest)) (10 ∷ 10 ∷ rest) refl white heading
 
-      at_front : (used : ℕ) → used + 2 ≡ length (before ++ game_text game) → used ≤ 1048576 → IsAtFront (before ++ (game_text game ++ rest)) game used
+      at_front : (used : ℕ) → used + 2 ≡ length (before ++ game_text game) → used ≤ 1048576 → BeginsWithGame (before ++ (game_text game ++ rest)) game used
       at_front used counted small = record {
         items = head.head ++ ending;
         rest = 10 ∷ 10 ∷ rest;

@@ -8,7 +8,7 @@ use Rattle.chess_items.specs.declared.fault.FaultKind.TheVariants.{Memory}
 use Rattle.chess_items.specs.declared.fault.PgnFault.{PgnFault}
 use Rattle.chess_items.proofs.BreakLemmas.{all_came, breaking, brings, ends_truly, has_all}
 use Rattle.chess_pgn.specs.Games as games
-use Rattle.chess_pgn.specs.Reading.{HasNoGame, IsAnswered, IsAtFront, IsWhite}
+use Rattle.chess_pgn.specs.Reading.{HasNoGame, IsAnswered, BeginsWithGame, IsWhite}
 use Rattle.chess_pgn.specs.Sources.{HasFault}
 use Rattle.chess_pgn.specs.steps.GameAt.{FoundGame, IsFault, NotCome}
 use Rattle.chess_pgn.specs.steps.GameCode.{game_of}
@@ -26,7 +26,7 @@ module _ {X : Type 0} (at_hand : X → List ℕ) (all : X → Type 0) (old new :
   white_found (Some x) h w = absurd (white_no_game (at_hand old) (game_of x.0) x.1 w (whole_game at_hand all old new (Some x) h))
   white_found None h w = refl
 
-  pub only_found : {A : Type 0} (found : Option (Game A × ℕ)) → FoundGame (λ x bytes y. bytes ≡ []) at_hand all old new found → (game : games.Game) (used : ℕ) → IsAtFront (at_hand old) game used → IsAnswered game used (Ok found)
+  pub only_found : {A : Type 0} (found : Option (Game A × ℕ)) → FoundGame (λ x bytes y. bytes ≡ []) at_hand all old new found → (game : games.Game) (used : ℕ) → BeginsWithGame (at_hand old) game used → IsAnswered game used (Ok found)
   only_found {A} (Some x) h game used y = one_game (at_hand old) (game_of x.0) game x.1 used (whole_game at_hand all old new (Some x) h) y
   only_found {A} None h game used y = white_no_game (at_hand old) game used (whole_none at_hand all old new {A = A} None h refl) y
 
@@ -54,7 +54,7 @@ module _ {X : Type 0} (breaks : X → X → Type 0) (at_hand : X → List ℕ) (
   pub whole_fault : (told : GamesFault) (fault : PgnFault) → Faulty told → told ≡ Pgn fault → (fault.kind ≡ Memory) ⊎ HasNoGame (at_hand old)
   whole_fault told fault h e = fault_there fault (subst (λ (f : GamesFault). Faulty f) e h)
 
-  pub only_fault : (told : GamesFault) (fault : PgnFault) → Faulty told → told ≡ Pgn fault → (game : games.Game) (used : ℕ) → IsAtFront (at_hand old) game used → fault.kind ≡ Memory
+  pub only_fault : (told : GamesFault) (fault : PgnFault) → Faulty told → told ≡ Pgn fault → (game : games.Game) (used : ℕ) → BeginsWithGame (at_hand old) game used → fault.kind ≡ Memory
   only_fault told fault h e game used x = by (whole_fault told fault h e)
     where
       by : (fault.kind ≡ Memory) ⊎ HasNoGame (at_hand old) → fault.kind ≡ Memory

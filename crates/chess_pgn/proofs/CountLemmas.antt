@@ -12,7 +12,7 @@ use Rattle.chess_tree.specs.Forest.{Forest, Bare, Node, height, moves_held}
 use Rattle.chess_pgn.proofs.ExceedLemmas.{held_append}
 use Rattle.chess_pgn.specs.Games.{Game}
 use Rattle.chess_pgn.specs.Grammar.{Element, Close, Text, Line, End, Skip, Annotate, Say, Play, Vary, Part, elements, elements_of, meaning, move_in, nothing, said, varied, with_annotation, with_move_first, ◌>>=◌}
-use Rattle.chess_pgn.specs.Reading.{IsAtFront}
+use Rattle.chess_pgn.specs.Reading.{BeginsWithGame}
 
 -- ---- words
 
@@ -101,7 +101,7 @@ meaning_held (Vary variation line) (Some p) here r e =
     let t = texts_append (elements_of variation) (Close ∷ elements_of line) in
     subst (λ (x : Part). held x ≤ texts (elements_of variation ++ Close ∷ elements_of line)) (some_is (varied a.0.below a.0.comment b.0) r b.2) (omega (arith, h, k, v, t))
 
-pub few_moves : (input : List ℕ) (game : Game) (used : ℕ) → IsAtFront input game used → moves_held game.tree.below ≤ 524288
+pub few_moves : (input : List ℕ) (game : Game) (used : ℕ) → BeginsWithGame input game used → moves_held game.tree.below ≤ 524288
 few_moves input game used x =
     let g = x.gives in
     let d = g.derives in
@@ -119,5 +119,5 @@ pub record Fits (game : Game) : Type 0 where
   pub deep : height game.tree.below ≤ 20000
   pub many : moves_held game.tree.below ≤ 1000000
 
-pub fits : (input : List ℕ) (game : Game) (used : ℕ) → IsAtFront input game used → Fits game
+pub fits : (input : List ℕ) (game : Game) (used : ℕ) → BeginsWithGame input game used → Fits game
 fits input game used x = record { deep = x.within.deep; many = omega (arith, few_moves input game used x) }

@@ -13,7 +13,7 @@ use Rattle.chess_fen.specs.Writing.{written}
 use Rattle.chess_pgn.specs.Games.{Tags, tag_in}
 use Rattle.chess_pgn.specs.Laws.{HasTagTexts, IsOther, IsValue}
 use Rattle.chess_pgn.specs.Tags.{HasTags, is_own, start_in}
-use Rattle.chess_pgn.specs.Written.{behind_text, is_before, is_within, others_text, outcome_text, tag_text, tags_text}
+use Rattle.chess_pgn.specs.Written.{other_tags_text, is_before, is_within, others_text, outcome_text, tag_text, tags_text}
 use Rattle.chess_pgn.proofs.FenTextLemmas.{usual}
 use Rattle.chess_pgn.proofs.SplitLemmas.{both_true}
 use Rattle.chess_pgn.proofs.TagTextLemmas.{AreGood, IsGood, IsName, given_text}
@@ -109,7 +109,7 @@ given_append : (xs ys : Given) → given_text (xs ++ ys) ≡ given_text xs ++ gi
 given_append [] ys = refl
 given_append (tag ∷ xs) ys = ap (λ (x : List ℕ). tag_text tag.0 tag.1 ++ x) (given_append xs ys) ∙ sym (append_assoc (tag_text tag.0 tag.1) (given_text xs) (given_text ys))
 
-behind_is : (others : Given) (fen : List ℕ) → given_text (behind_given others fen) ≡ behind_text others fen
+behind_is : (others : Given) (fen : List ℕ) → given_text (behind_given others fen) ≡ other_tags_text others fen
 behind_is others fen = step (bytes_eq fen (written start))
   where
     step : (v : Bool) → given_text (if v then within [] None others else within [] (Some (codes "FEN")) others ++ ((codes "FEN", fen) ∷ (within (codes "FEN") (Some (codes "SetUp")) others ++ ((codes "SetUp", codes "1") ∷ within (codes "SetUp") None others))))

@@ -16,7 +16,7 @@ use Rattle.chess_items.specs.declared.taker.Taken.TheVariants.{GoesOn, Ends as A
 use Rattle.chess_items.proofs.FoundLemmas.{some_is, the}
 use Rattle.chess_items.proofs.SpellLemmas.{first_found, one_spelling, place_behind}
 use Rattle.chess_pgn.specs.Games.{Game}
-use Rattle.chess_pgn.specs.Reading.{Ends, Gives, HasBegun, IsAtFront, is_heading, is_movetext}
+use Rattle.chess_pgn.specs.Reading.{Ends, Gives, HasBegun, BeginsWithGame, is_heading, is_movetext}
 use Rattle.chess_pgn.specs.steps.ReaderCode.{Ended, MayNotEnd, Read, TakesItem, takes_when}
 use Rattle.chess_pgn.specs.declared.reader.Reader.{Reader}
 use Rattle.chess_pgn.proofs.ChainLemmas.{InHead, Moving, Progress}
@@ -100,7 +100,7 @@ there_long : (is js ks : List Item) (rest last : List ℕ) (g : Game) → js ≡
 there_long is js [] rest last g e s x = inl (same_game is js rest last g (e ∙ append-nil is) (sym s) x)
 there_long is js (k ∷ ks) rest last g e s x = inr (k, ks, s, subst (λ (z : List Item). Gives z last g) e x)
 
-pub game_there : (is : List Item) (input rest : List ℕ) (g : Game) (n : ℕ) → InParts is → Spells GameStart input is rest → (x : IsAtFront input g n) → There is rest g x.rest
+pub game_there : (is : List Item) (input rest : List ℕ) (g : Game) (n : ℕ) → InParts is → Spells GameStart input is rest → (x : BeginsWithGame input g n) → There is rest g x.rest
 game_there is input rest g n y s x = elim (either (length x.items) (length is)) [
   | inl le ↦ (let c = one_spelling GameStart input x.items is x.rest rest x.spelled s le in there_short is x.items c.0 rest x.rest g y c.1 c.2 x.gives)
   | inr le ↦ (let c = one_spelling GameStart input is x.items rest x.rest s x.spelled le in there_long is x.items c.0 rest x.rest g c.1 c.2 x.gives)
@@ -118,7 +118,7 @@ item_is found i j r q e h = ap (λ (z : Item × List ℕ). z.0) (some_is {A = It
 -- ---- the next item is refused
 
 module _ {A : Type 0} (is : List Item) (item : Item) (fault : PgnFault) (t u : Reader A) (p : Progress is t) (taken : TakesItem t item (Err fault) u) (kind : fault.kind ≡ Memory → ⊥)
-    (input rest next : List ℕ) (spelled : Spells GameStart input is rest) (found : item_at (place_behind GameStart is) rest ≡ the item next) (g : Game) (n : ℕ) (x : IsAtFront input g n) where
+    (input rest next : List ℕ) (spelled : Spells GameStart input is rest) (found : item_at (place_behind GameStart is) rest ≡ the item next) (g : Game) (n : ℕ) (x : BeginsWithGame input g n) where
   refused_by : There is rest g x.rest → ⊥
   refused_by (inl gives) = by (closes is t rest g gives p)
     where
@@ -136,7 +136,7 @@ module _ {A : Type 0} (is : List Item) (item : Item) (fault : PgnFault) (t u : R
 -- ---- what comes next is no item
 
 module _ {A : Type 0} (is : List Item) (t : Reader A) (p : Progress is t) (input rest : List ℕ) (spelled : Spells GameStart input is rest) (none : item_at (place_behind GameStart is) rest ≡ None) (some : rest ≡ [] → ⊥)
-    (g : Game) (n : ℕ) (x : IsAtFront input g n) where
+    (g : Game) (n : ℕ) (x : BeginsWithGame input g n) where
   aground_by : There is rest g x.rest → ⊥
   aground_by (inl gives) = by (closes is t rest g gives p)
     where
@@ -150,7 +150,7 @@ module _ {A : Type 0} (is : List Item) (t : Reader A) (p : Progress is t) (input
 
 -- ---- the text has ended
 
-module _ {A : Type 0} (is : List Item) (t : Reader A) (p : Progress is t) (not_yet : MayNotEnd t) (input rest : List ℕ) (spelled : Spells GameStart input is rest) (ended : rest ≡ []) (g : Game) (n : ℕ) (x : IsAtFront input g n) where
+module _ {A : Type 0} (is : List Item) (t : Reader A) (p : Progress is t) (not_yet : MayNotEnd t) (input rest : List ℕ) (spelled : Spells GameStart input is rest) (ended : rest ≡ []) (g : Game) (n : ℕ) (x : BeginsWithGame input g n) where
   out_by : There is rest g x.rest → ⊥
   out_by (inl gives) = unended is t p not_yet g (subst (λ (z : List ℕ). Gives is z g) ended gives)
   out_by (inr (k, ks, s, gives)) = none_some (k, s.1) (item_at (place_behind GameStart is) rest) (first_found (place_behind GameStart is) rest k ks x.rest s) (nothing_at (place_behind GameStart is) rest ended)
@@ -177,7 +177,7 @@ module _ {A : Type 0} (t u : Reader A) where
 
 module _ {A : Type 0} (is : List Item) (t u : Reader A) (p : Progress is t) (at : ℕ) (few : at ≤ 1048576) (input rest : List ℕ) (spelled : Spells GameStart input is rest) (counted : at + length rest ≡ length input)
     (over : Oversized (1048576 - at) (place_behind GameStart is) rest)
-    (bracket : (next : List ℕ) → item_at (place_behind GameStart is) rest ≡ the items.TagOpen next → TakesItem t items.TagOpen (Ok GoesOn) u ⊎ TakesItem t items.TagOpen (Ok AtEnd) u) (g : Game) (n : ℕ) (x : IsAtFront input g n) where
+    (bracket : (next : List ℕ) → item_at (place_behind GameStart is) rest ≡ the items.TagOpen next → TakesItem t items.TagOpen (Ok GoesOn) u ⊎ TakesItem t items.TagOpen (Ok AtEnd) u) (g : Game) (n : ℕ) (x : BeginsWithGame input g n) where
   over_by : There is rest g x.rest → ⊥
   over_by (inl gives) = by (closes is t rest g gives p)
     where

@@ -11,7 +11,7 @@ use Rattle.chess_items.proofs.SpellLemmas.{one_spelling, place_behind}
 use Rattle.chess_tree.specs.GameTree.{GameTree}
 use Rattle.chess_pgn.specs.Games.{Game}
 use Rattle.chess_pgn.specs.Grammar.{Derives, elements}
-use Rattle.chess_pgn.specs.Reading.{Ends, Gives, HasBegun, IsAtFront, IsWhite, is_heading, is_movetext, remarks}
+use Rattle.chess_pgn.specs.Reading.{Ends, Gives, HasBegun, BeginsWithGame, IsWhite, is_heading, is_movetext, remarks}
 use Rattle.chess_pgn.specs.Tags.{AreTags, HasTags, start_in}
 use Rattle.chess_pgn.proofs.DerivedLemmas.{only_one}
 use Rattle.chess_pgn.proofs.GivenLemmas.{tags_once}
@@ -162,7 +162,7 @@ abbrev Both : Game → Game → ℕ → ℕ → Type 0
 Both g h m n = (g ≡ h) × (m ≡ n)
 
 -- the shorter one first
-in_order : (input : List ℕ) (g h : Game) (m n : ℕ) → (x : IsAtFront input g m) (y : IsAtFront input h n) → length x.items ≤ length y.items → Both g h m n
+in_order : (input : List ℕ) (g h : Game) (m n : ℕ) → (x : BeginsWithGame input g m) (y : BeginsWithGame input h n) → length x.items ≤ length y.items → Both g h m n
 in_order input g h m n x y le =
     let c = one_spelling GameStart input x.items y.items x.rest y.rest x.spelled y.spelled le in
     let none = none_behind x.items c.0 x.rest y.rest g h x.gives (subst (λ (z : List Item). Gives z y.rest h) c.1 y.gives) c.2 in
@@ -178,7 +178,7 @@ pub either : (m n : ℕ) → (m ≤ n) ⊎ (n ≤ m)
 either m n = elim (eq-zero-or-pos (m - n)) [ inl z ↦ inl (omega (arith, z)) | inr p ↦ inr (omega (arith, p)) ]
 
 -- a text has one game at its front, and that takes so many bytes
-pub one_game : (input : List ℕ) (g h : Game) (m n : ℕ) → IsAtFront input g m → IsAtFront input h n → (g ≡ h) × (m ≡ n)
+pub one_game : (input : List ℕ) (g h : Game) (m n : ℕ) → BeginsWithGame input g m → BeginsWithGame input h n → (g ≡ h) × (m ≡ n)
 one_game input g h m n x y =
     elim (either (length x.items) (length y.items)) [ inl le ↦ in_order input g h m n x y le | inr le ↦ turned g h m n (in_order input h g n m y x le) ]
 
@@ -192,7 +192,7 @@ white_front (i ∷ is) ks e = more (is_white i) (list_all is_white (is ++ ks)) e
     more true b h f = f h
     more false b h f = absurd cc
 
-pub white_no_game : (input : List ℕ) (g : Game) (n : ℕ) → IsWhite input → IsAtFront input g n → ⊥
+pub white_no_game : (input : List ℕ) (g : Game) (n : ℕ) → IsWhite input → BeginsWithGame input g n → ⊥
 white_no_game input g n w x = elim (either (length x.items) (length w.items)) [
   | inl le ↦ (let c = one_spelling GameStart input x.items w.items x.rest [] x.spelled w.spelled le in apart (white_front x.items c.0 (ap (list_all is_white) (sym c.1) ∙ w.white)) x.some)
   | inr le ↦

@@ -76,7 +76,7 @@ first place item text next last rest es m h out is all =
       starts = h;
     }
 
-behind_outside : (v : Bool) → is_outside (items.behind_blank false v) ≡ true
+behind_outside : (v : Bool) → is_outside (items.place_after_blank false v) ≡ true
 behind_outside true = refl
 behind_outside false = refl
 

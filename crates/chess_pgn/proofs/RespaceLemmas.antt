@@ -1,12 +1,13 @@
 -- A text whose words are separated by single spaces, laid in lines: some of its spaces are line feeds, and nothing else changes.
 use Rattle.std.proofs.Common.{◌≡◌, ◌≢◌, ◌⊎◌, inl, inr, ℕ, ◌+◌, Bool, true, false, cond, leb, not, ◌&&◌, if◌then◌else◌, List, [], ◌∷◌, ◌++◌, length, refl, sym, ap, ◌∙◌, append_assoc, arith, codes}
 use Rattle.std.specs.List.{AllByRecursion}
-use Rattle.std.proofs.lemmas.Bool.{false≢true, lt-leb}
+use Rattle.std.proofs.lemmas.Bool.{false≢true}
 use Rattle.std.proofs.lemmas.Bool.Decides.{nat_tests}
 use Rattle.byte_streams.specs.Words.{is_gap, words, words_from}
 use Rattle.chess_tree.specs.Comments.{blanks, normalised}
 use Rattle.std.specs.List.{join_with_byte}
-use Rattle.chess_pgn.specs.Layout.{lay, laid, in_lines}
+use Rattle.chess_pgn.specs.Layout.{lay, in_lines, line_width}
+use Rattle.chess_pgn.proofs.LayLemmas.{first_line}
 
 -- the same byte, or a line feed in place of a space
 abbrev pub Fills : ℕ → ℕ → Type 0
@@ -68,7 +69,7 @@ lay_step false w ws s t p q = (inr (refl, refl), respaced_on w (parted ws) w t (
 
 respaced_lay : (ws : List (List ℕ)) (column : ℕ) → Respaced (parted ws) (lay column ws)
 respaced_lay [] column = refl
-respaced_lay (w ∷ ws) column = lay_step (leb (column + 1 + length w) 79) w ws _ _ (respaced_lay ws (column + 1 + length w)) (respaced_lay ws (length w))
+respaced_lay (w ∷ ws) column = lay_step (leb (column + 1 + length w) line_width) w ws _ _ (respaced_lay ws (column + 1 + length w)) (respaced_lay ws (length w))
 
 -- Single spaces, and none at the end; where a space stands before the text, none may begin it.
 abbrev pub is_single : Bool → List ℕ → Bool
@@ -95,12 +96,8 @@ parts (b ∷ text) = step (is_space b) refl (parts text)
       λ c begun one. rw e (r.1 c (begun ++ b ∷ []) (rw e at one) ∙ ap (λ (x : List ℕ). 32 ∷ c ∷ x) (append_assoc begun (b ∷ []) text)),
     )
 
-pub respaced_words : (text : List ℕ) → is_single true text ≡ true → Respaced (32 ∷ text) (lay 79 (words (codes " ") (32 ∷ text)))
-respaced_words text one = rw ((parts text).0 one) at (respaced_lay (words (codes " ") text) 79)
-
-first_line : (ws : List (List ℕ)) → ws ≢ [] → lay 79 ws ≡ 10 ∷ laid ws
-first_line [] some = absurd (some refl)
-first_line (w ∷ ws) some = rw (lt-leb (79 + 1 + length w) 79 (omega arith)) refl
+pub respaced_words : (text : List ℕ) → is_single true text ≡ true → Respaced (32 ∷ text) (lay line_width (words (codes " ") (32 ∷ text)))
+respaced_words text one = rw ((parts text).0 one) at (respaced_lay (words (codes " ") text) line_width)
 
 -- The text in lines, after a line feed, is the text respaced.
 pub filled : (text : List ℕ) → is_single true text ≡ true → words (codes " ") (32 ∷ text) ≢ [] → Respaced (32 ∷ text) (10 ∷ in_lines (32 ∷ text))

@@ -11,7 +11,7 @@ use Rattle.chess_items.specs.declared.place.Place.TheVariants.{GameStart}
 use Rattle.chess_items.proofs.BreakLemmas.{all_came, brings, has_all}
 use Rattle.chess_items.proofs.LocalLemmas.{text_shorter}
 use Rattle.chess_pgn.specs.Games as games
-use Rattle.chess_pgn.specs.Reading.{IsAtFront, IsWhite}
+use Rattle.chess_pgn.specs.Reading.{BeginsWithGame, IsWhite}
 use Rattle.chess_pgn.specs.Sources.{Games, GoesOn, HasFault, HasGame, HasNone, IsSound, NextGame, NotPassed}
 use Rattle.chess_pgn.specs.steps.GameAt.{FoundGame, HasCome, NoneCame}
 use Rattle.chess_pgn.specs.steps.GameCode.{game_of}
@@ -29,9 +29,9 @@ module _ {X : Type 0} (at_hand : X → List ℕ) (all : X → Type 0) (old new :
   none_white : NoneCame (λ x bytes y. bytes ≡ []) at_hand all old new → IsWhite (at_hand old)
   none_white h = subst (λ (z : List ℕ). IsWhite z) (ap (λ (z : List ℕ). at_hand old ++ z) (no_bytes old new h.pieces h.came) ∙ append-nil (at_hand old)) h.white
 
-  pub whole_game : {A : Type 0} (found : Option (Game A × ℕ)) → FoundGame (λ x bytes y. bytes ≡ []) at_hand all old new found → IfSome found (λ x. IsAtFront (at_hand old) (game_of x.0) x.1)
+  pub whole_game : {A : Type 0} (found : Option (Game A × ℕ)) → FoundGame (λ x bytes y. bytes ≡ []) at_hand all old new found → IfSome found (λ x. BeginsWithGame (at_hand old) (game_of x.0) x.1)
   whole_game (Some x) h =
-      subst (λ (z : List ℕ). IsAtFront z (game_of x.0) x.1) (ap (λ (z : List ℕ). at_hand old ++ (z ++ [])) (no_bytes old new h.pieces h.came) ∙ append-nil (at_hand old)) (h.reads [] (λ e. refl))
+      subst (λ (z : List ℕ). BeginsWithGame z (game_of x.0) x.1) (ap (λ (z : List ℕ). at_hand old ++ (z ++ [])) (no_bytes old new h.pieces h.came) ∙ append-nil (at_hand old)) (h.reads [] (λ e. refl))
   whole_game None h = tt
 
   pub whole_none : {A : Type 0} (found : Option (Game A × ℕ)) → FoundGame (λ x bytes y. bytes ≡ []) at_hand all old new found → found ≡ None → IsWhite (at_hand old)
@@ -58,7 +58,7 @@ items_some input (item ∷ is) rest s e =
     let others = spells_shorter (place_after GameStart item) s.1 is rest s.4 in
     omega (arith, first, others)
 
-front_some : (input : List ℕ) (game : games.Game) (used : ℕ) → IsAtFront input game used → 0 < used
+front_some : (input : List ℕ) (game : games.Game) (used : ℕ) → BeginsWithGame input game used → 0 < used
 front_some input game used f = (let k = items_some input f.items f.rest f.spelled f.some in omega (arith, k, f.counted))
 
 module _ {R : Type 0} (gives : R → List ℕ → R → Type 0) (failed : R → Bool) where
@@ -69,7 +69,7 @@ module _ {R : Type 0} (gives : R → List ℕ → R → Type 0) (failed : R → 
     text = h.text;
     some = (let k = front_some _ (game_of game) used (h.reads [] (λ e. refl)) in omega (arith, k, h.counted));
     parts = h.parts;
-    reads = λ more none. subst (λ (n : ℕ). IsAtFront (unread old ++ (joined h.pieces ++ more)) (game_of game) n) (sym h.counted) (h.reads more none);
+    reads = λ more none. subst (λ (n : ℕ). BeginsWithGame (unread old ++ (joined h.pieces ++ more)) (game_of game) n) (sym h.counted) (h.reads more none);
     near = h.near;
     needed = h.needed;
     still = h.still;

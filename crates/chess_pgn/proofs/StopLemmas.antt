@@ -26,7 +26,7 @@ use Rattle.chess_items.proofs.FoundLemmas.{the}
 use Rattle.chess_items.proofs.SpellLemmas.{place_behind}
 use Rattle.chess_items.proofs.TakingLemmas.{bare, ended_after, spells_bare}
 use Rattle.chess_pgn.specs.Games.{Game}
-use Rattle.chess_pgn.specs.Reading.{HasNoGameYet, IsAtFront, IsWhite}
+use Rattle.chess_pgn.specs.Reading.{HasNoGameYet, BeginsWithGame, IsWhite}
 use Rattle.chess_pgn.specs.steps.GameAt.{HasBroken, HasStarved, NotCome}
 use Rattle.chess_pgn.specs.steps.ReaderCode.{IsNew, MayNotEnd, TakesItem, Unanswered}
 use Rattle.chess_pgn.specs.declared.reader.Reader.{Reader}
@@ -89,7 +89,7 @@ module _ {X A : Type 0} (comes : X → List ℕ → X → Type 0) (at_hand : X �
     taken_so : (is : List (ℕ × Item)) (r : Reader A) → Takes takes t is r → Progress (bare is) r
     taken_so is r k = progress_all [] is t r (progress_new t new_reader) k
 
-    module _ (g : Game) (n : ℕ) (x : IsAtFront whole g n) where
+    module _ (g : Game) (n : ℕ) (x : BeginsWithGame whole g n) where
       run_refused : (fault : PgnFault) → (fault.kind ≡ Memory → ⊥) → RanUpTo comes at_hand all sound size takes limit old pieces new t u at place white (Err fault) → ⊥
       run_refused fault kind r =
           let is = bare r.items in
@@ -177,7 +177,7 @@ module _ {X A : Type 0} (comes : X → List ℕ → X → Type 0) (at_hand : X �
               ∙ append_assoc used_here.0 (at_hand mid) (joined w.pieces) ∙ ap (λ (z : List ℕ). used_here.0 ++ z) w.parts ∙ sym (append_assoc used_here.0 w.text (at_hand new));
           sound_still = well;
           none = λ more none g n x.
-              run_none r.pieces mid s.at s.place s.white (joined w.pieces ++ more) (none_before more none) g n (subst (λ (z : List ℕ). IsAtFront z g n) (regroup more) x) s.why fault kind r.after a;
+              run_none r.pieces mid s.at s.place s.white (joined w.pieces ++ more) (none_before more none) g n (subst (λ (z : List ℕ). BeginsWithGame z g n) (regroup more) x) s.why fault kind r.after a;
           dark = λ more none white.
               over_dark r.pieces mid s.at s.place s.white (joined w.pieces ++ more) (none_before more none) (subst (λ (z : List ℕ). IsWhite z) (regroup more) white) (at_hand mid ++ joined w.pieces) more
               (subst (λ (y : Stop). AfterRun comes at_hand all sound size takes limit old r.pieces mid t u s.at s.place s.white y) w.over r.after) (sym (append_assoc (at_hand mid) (joined w.pieces) more)) w.other;
@@ -237,7 +237,7 @@ module _ {X A : Type 0} (comes : X → List ℕ → X → Type 0) (at_hand : X �
       let whole : (at_hand old ++ joined (w.ran.pieces ++ w.broke.1)) ++ [] ≡ at_hand old ++ (joined w.ran.pieces ++ more) =
       append-nil (at_hand old ++ joined (w.ran.pieces ++ w.broke.1)) ∙ ap (λ (z : List ℕ). at_hand old ++ z) (joined-append w.ran.pieces w.broke.1)
       in
-      run_over comes at_hand all sound size old t w.last new_reader w.ran.pieces w.mid w.stopped.at w.stopped.place w.stopped.white more (λ e. absurd (w.broke.0 e)) g n (subst (λ (z : List ℕ). IsAtFront z g n) whole (x []))
+      run_over comes at_hand all sound size old t w.last new_reader w.ran.pieces w.mid w.stopped.at w.stopped.place w.stopped.white more (λ e. absurd (w.broke.0 e)) g n (subst (λ (z : List ℕ). BeginsWithGame z g n) whole (x []))
       (subst (λ (y : Stop). AfterRun comes at_hand all sound size takes_item 1048576 old w.ran.pieces w.mid t w.last w.stopped.at w.stopped.place w.stopped.white y) w.over w.ran.after)
 
   pub broken_come : PassBreaks comes at_hand all sound size takes_item 1048576 breaks old new t Read → HasBroken comes at_hand all sound breaks old new

@@ -11,7 +11,7 @@ use Rattle.chess_items.proofs.FoundLemmas.{the}
 use Rattle.chess_items.proofs.LocalLemmas.{decided_so_far, next_is, text_shorter, undecided_taken}
 use Rattle.chess_items.proofs.SpellLemmas.{first_found, one_spelling, place_behind}
 use Rattle.chess_pgn.specs.Games.{Game}
-use Rattle.chess_pgn.specs.Reading.{Gives, IsAtFront}
+use Rattle.chess_pgn.specs.Reading.{Gives, BeginsWithGame}
 use Rattle.chess_pgn.specs.declared.reader.Reader.{Reader}
 use Rattle.chess_pgn.proofs.ChainLemmas.{Progress}
 use Rattle.chess_pgn.proofs.NoGameLemmas.{closes, progress_parts, spelled_shorter}
@@ -33,7 +33,7 @@ ahead_long : (is js ks : List Item) (rest last : List ℕ) (g : Game) → js ≡
 ahead_long is js [] rest last g e s x = inl (sym s, same_game is js rest last g (e ∙ append-nil is) (sym s) x)
 ahead_long is js (k ∷ ks) rest last g e s x = inr (k, ks, s)
 
-ahead : (is : List Item) (input rest : List ℕ) (g : Game) (n : ℕ) → InParts is → Spells GameStart input is rest → (x : IsAtFront input g n) → Ahead is rest g x.rest
+ahead : (is : List Item) (input rest : List ℕ) (g : Game) (n : ℕ) → InParts is → Spells GameStart input is rest → (x : BeginsWithGame input g n) → Ahead is rest g x.rest
 ahead is input rest g n y s x = elim (either (length x.items) (length is)) [
   | inl le ↦ (let c = one_spelling GameStart input x.items is x.rest rest x.spelled s le in ahead_short is x.items c.0 rest x.rest g y c.1 c.2 x.gives)
   | inr le ↦ (let c = one_spelling GameStart input is x.items rest x.rest s x.spelled le in ahead_long is x.items c.0 rest x.rest g c.1 c.2 x.gives)
@@ -52,7 +52,7 @@ bracket_decides place bs out = λ more.
     bracket_found place out (bs ++ more) ∙ ap (λ (x : Found). longer x more) (sym (bracket_found place out bs))
 
 module _ {A : Type 0} (is : List Item) (t : Reader A) (p : Progress is t) (front rest : List ℕ) (spelled : (more : List ℕ) → Spells GameStart (front ++ more) is (rest ++ more)) (undecided : Decides (place_behind GameStart is) rest → ⊥)
-    (g : Game) (n : ℕ) (x : (more : List ℕ) → IsAtFront (front ++ more) g n) where
+    (g : Game) (n : ℕ) (x : (more : List ℕ) → BeginsWithGame (front ++ more) g n) where
   abbrev place : Place
   place = place_behind GameStart is
 

@@ -34,6 +34,7 @@ pub data Element : Type 0 where
   -- a move's text
   Text : List ℕ → Element
 
+-- the element of movetext that an item is
 abbrev pub element : Item → List Element
 element items.Skipped = Number ∷ []
 element (items.Nag n) = Annotation n ∷ []
@@ -55,6 +56,7 @@ pub data Line : Type 0 where
   -- a variation, and the rest of the line around it
   Vary : Line → Line → Line
 
+-- the elements of a line, one after another
 abbrev pub elements_of : Line → List Element
 elements_of End = []
 elements_of (Skip line) = Number ∷ elements_of line
@@ -88,6 +90,7 @@ pub record Part : Type 0 where
   pub beside : Forest
   pub below : Forest
 
+-- nothing after the move before
 abbrev pub nothing : Part
 nothing = record { nags = []; comment = []; beside = Bare; below = Bare }
 
@@ -121,6 +124,7 @@ abbrev pub ◌>>=◌ : {A B : Type 0} → Option A → (A → Option B) → Opti
 (Some x) >>= next = next x
 None >>= next = None
 
+-- the move, where a text names one
 abbrev pub ok_move : Result MoveParts SanFault → Option MoveParts
 ok_move (Ok m) = Some m
 ok_move (Err fault) = None

@@ -12,11 +12,12 @@ use Rattle.std.specs.List.{AllByRecursion}
 use Rattle.chess_types.specs.board.Board.{man_at}
 use Rattle.chess_types.specs.board.Position.{IsWellFormed, PositionParts}
 use Rattle.chess_items.specs.Items.{Each, in_line, is_blank, is_name_byte}
+use Rattle.chess_draws.specs.Pushes.{most_plies}
 use Rattle.chess_tree.specs.Comments.{IsComment}
-use Rattle.chess_tree.specs.Forest.{Forest, Bare, Node, height, moves_held}
+use Rattle.chess_tree.specs.Forest.{Forest, Bare, Node, height, moves_held, most_moves}
 use Rattle.chess_tree.specs.WellFormed.{AreSound}
 use Rattle.chess_pgn.specs.Games.{Game, Tags, untold}
-use Rattle.chess_pgn.specs.Reading.{IsAtFront}
+use Rattle.chess_pgn.specs.Reading.{BeginsWithGame}
 use Rattle.chess_pgn.specs.Tags.{Ascend, is_own}
 use Rattle.chess_pgn.specs.Written.{game_text}
 
@@ -57,8 +58,8 @@ pub record IsGame (game : Game) : Type 0 where
   pub comment : IsComment game.tree.comment
   pub moves : AreSound game.tree.start game.tree.below
   pub noted : AreNoted game.tree.below
-  pub deep : height game.tree.below ≤ 20000
-  pub many : moves_held game.tree.below ≤ 1000000
+  pub deep : height game.tree.below ≤ most_plies
+  pub many : moves_held game.tree.below ≤ most_moves
 
 -- Whatever white space stands before the text of a game, and whatever follows it, that game is there, up to the two line feeds at the
 -- text's end: where that isn't too long for a game, and no more than 128 variations are open at once. So do games whose texts stand one after
@@ -67,7 +68,7 @@ abbrev pub WrittenIsRead : Type 0
 WrittenIsRead =
     (game : Game) → IsGame game → nesting false game.tree.below ≤ 128
     → (before rest : List ℕ) (used : ℕ) → Each is_blank before → used + 2 ≡ length (before ++ game_text game) → used ≤ 1048576
-    → IsAtFront (before ++ (game_text game ++ rest)) game used
+    → BeginsWithGame (before ++ (game_text game ++ rest)) game used
 
 -- A game of which nothing is known yet, not even a move, is one.
 abbrev pub NewIsGame : Type 0
@@ -78,4 +79,4 @@ NewIsGame =
 -- What is read is a game, and no more variations are open at once than may be: so it is read again where it is written, unless its text is too
 -- long.
 abbrev pub ReadIsGame : Type 0
-ReadIsGame = (input : List ℕ) (game : Game) (used : ℕ) → IsAtFront input game used → IsGame game × (nesting false game.tree.below ≤ 128)
+ReadIsGame = (input : List ℕ) (game : Game) (used : ℕ) → BeginsWithGame input game used → IsGame game × (nesting false game.tree.below ≤ 128)

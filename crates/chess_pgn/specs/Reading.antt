@@ -1,17 +1,17 @@
 -- What the start of a text gives as a game (PGN 8).
---   is_heading   may stand before the movetext: a part of a tag, a comment, or white
---   is_movetext  may stand in movetext, and doesn't end it
---   remarks      the comments among some items, after others
---   Starts       movetext begins with an item that no head has
---   HasBegun     movetext has such an item
---   Ends         how a game ends: with its marker, or without one before a tag or at the end of the text
---   Gives        some items are a head, a movetext and an end: the head's tags are the game's and give its start, and the movetext derives its comments and moves
---   IsWithinLimits a game isn't too large to be read
---   IsAtFront    the items of a text's first bytes give a game
---   HasNoGame    no game is at the start of a text
---   HasNoGameYet no one game is at the start of every text that begins so
---   IsWhite      a text has white space, a mark and hidden lines alone
---   IsAnswered   a reader answers that game, unless there is no memory
+--   is_heading       may stand before the movetext: a part of a tag, a comment, or white
+--   is_movetext      may stand in movetext, and doesn't end it
+--   remarks          the comments among some items, after others
+--   Starts           movetext begins with an item that no head has
+--   HasBegun         movetext has such an item
+--   Ends             how a game ends: with its marker, or without one before a tag or at the end of the text
+--   Gives            some items are a head, a movetext and an end: the head's tags are the game's and give its start, and the movetext derives its comments and moves
+--   IsWithinLimits   a game isn't too large to be read
+--   BeginsWithGame   the items of a text's first bytes give a game
+--   HasNoGame        no game is at the start of a text
+--   HasNoGameYet     no one game is at the start of every text that begins so
+--   IsWhite          a text has white space, a mark and hidden lines alone
+--   IsAnswered       a reader answers that game, unless there is no memory
 use Rattle.std.specs.Prelude.{◌≡◌, ◌⊎◌, ℕ, ◌+◌, ◌≤◌, Bool, true, false, List, [], ◌∷◌, ◌++◌, length, Option, Some, None, Result, Ok, Err, ⊤}
 use Rattle.std.specs.List.{list_all}
 use Rattle.std.specs.Str.{byte}
@@ -22,6 +22,7 @@ use Rattle.chess_items.specs.declared.fault.PgnFault.{PgnFault}
 use Rattle.chess_items.specs.declared.outcome.Outcome.{Outcome}
 use Rattle.chess_items.specs.declared.outcome.Outcome.TheVariants.{Unfinished}
 use Rattle.chess_items.specs.declared.place.Place.TheVariants.{GameStart}
+use Rattle.chess_draws.specs.Pushes.{most_plies}
 use Rattle.chess_tree.specs.Comments.{normalised}
 use Rattle.chess_tree.specs.Forest.{height}
 use Rattle.chess_pgn.specs.Games.{Game}
@@ -49,6 +50,7 @@ is_movetext (items.Stretch text) = false
 is_movetext (items.Escaped b) = false
 is_movetext _ = true
 
+-- the comments before the movetext, after one item more
 abbrev pub lead_after : List ℕ → Item → List ℕ
 lead_after lead (items.Comment text) = comments_joined lead (normalised text)
 lead_after lead _ = lead
@@ -88,10 +90,10 @@ pub record Gives (is : List Item) (rest : List ℕ) (game : Game) : Type 0 where
 
 -- at most 20,000 plies in a line; so many bytes never have more moves than a tree holds
 pub record IsWithinLimits (game : Game) : Type 0 where
-  pub deep : height game.tree.below ≤ 20000
+  pub deep : height game.tree.below ≤ most_plies
 
 -- the first bytes, so many, at most 1,048,576, and not white alone; what follows them cuts no item short
-pub record IsAtFront (input : List ℕ) (game : Game) (used : ℕ) : Type 0 where
+pub record BeginsWithGame (input : List ℕ) (game : Game) (used : ℕ) : Type 0 where
   pub items : List Item
   pub rest : List ℕ
   pub spelled : Spells GameStart input items rest
@@ -102,10 +104,10 @@ pub record IsAtFront (input : List ℕ) (game : Game) (used : ℕ) : Type 0 wher
   pub within : IsWithinLimits game
 
 abbrev pub HasNoGame : List ℕ → Type 0
-HasNoGame input = (game : Game) (used : ℕ) → IsAtFront input game used → ⊥
+HasNoGame input = (game : Game) (used : ℕ) → BeginsWithGame input game used → ⊥
 
 abbrev pub HasNoGameYet : List ℕ → Type 0
-HasNoGameYet begun = (game : Game) (used : ℕ) → ((more : List ℕ) → IsAtFront (begun ++ more) game used) → ⊥
+HasNoGameYet begun = (game : Game) (used : ℕ) → ((more : List ℕ) → BeginsWithGame (begun ++ more) game used) → ⊥
 
 pub record IsWhite (input : List ℕ) : Type 0 where
   pub items : List Item

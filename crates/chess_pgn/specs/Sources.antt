@@ -19,7 +19,7 @@ use Rattle.chess_items.specs.Coming.{AtHand, Breaks, Came, unread}
 use Rattle.chess_items.specs.Sections.{StopsAt}
 use Rattle.chess_items.specs.declared.fault.FaultKind.TheVariants.{Memory}
 use Rattle.chess_pgn.specs.Games.{Game}
-use Rattle.chess_pgn.specs.Reading.{HasNoGame, HasNoGameYet, IsAtFront, IsWhite}
+use Rattle.chess_pgn.specs.Reading.{HasNoGame, HasNoGameYet, BeginsWithGame, IsWhite}
 use Rattle.chess_pgn.specs.declared.games.GamesFault.{GamesFault}
 use Rattle.chess_pgn.specs.declared.games.GamesFault.TheVariants.{Pgn, Read}
 
@@ -48,7 +48,7 @@ pub record HasGame {R : Type 0} (gives : R → List ℕ → R → Type 0) (faile
   pub text : List ℕ
   pub some : 0 < length text
   pub parts : unread old ++ bytes ≡ text ++ unread new
-  pub reads : (more : List ℕ) → (new.has_ended ≡ true → more ≡ []) → IsAtFront (unread old ++ (bytes ++ more)) game (length text)
+  pub reads : (more : List ℕ) → (new.has_ended ≡ true → more ≡ []) → BeginsWithGame (unread old ++ (bytes ++ more)) game (length text)
   pub near : length (unread old) ≤ 65537 → length (unread new) ≤ 65537
   pub needed : ReadsNeeded old bytes new
   pub still : old.has_ended ≡ true → (bytes ≡ []) × (new.has_ended ≡ true)

@@ -24,6 +24,7 @@ is_tag_gap (Blank b) = true
 is_tag_gap Hidden = true
 is_tag_gap _ = false
 
+-- nothing but what may be between the parts of a tag
 abbrev pub AreGaps : List Item → Type 0
 AreGaps = AllByRecursion (λ item. is_tag_gap item ≡ true)
 
@@ -33,14 +34,17 @@ is_value_part (Stretch text) = true
 is_value_part (Escaped b) = true
 is_value_part _ = false
 
+-- nothing but parts of a value
 abbrev pub AreValueParts : List Item → Type 0
 AreValueParts = AllByRecursion (λ item. is_value_part item ≡ true)
 
+-- what a part of a value stands for
 abbrev pub part_text : Item → List ℕ
 part_text (Stretch text) = text
 part_text (Escaped b) = b ∷ []
 part_text _ = []
 
+-- a tag's value
 abbrev pub value_text : List Item → List ℕ
 value_text [] = []
 value_text (item ∷ items) = part_text item ++ value_text items
@@ -63,6 +67,7 @@ abbrev pub may_part_tags : Item → Bool
 may_part_tags (Comment text) = true
 may_part_tags item = is_white item
 
+-- nothing but what may be between tags
 abbrev pub AreBetween : List Item → Type 0
 AreBetween = AllByRecursion (λ item. may_part_tags item ≡ true)
 
@@ -109,6 +114,7 @@ is_usual (Some value) = bytes_eq value (codes "0")
 abbrev pub fen_in : List (List ℕ × List ℕ) → Option (List ℕ)
 fen_in given = if is_usual (tag_in (codes "SetUp") given) then None else tag_in (codes "FEN") given
 
+-- the position, where a FEN is one
 abbrev pub position_in : Result PositionParts FenFault → Option PositionParts
 position_in (Ok p) = Some p
 position_in (Err fault) = None
@@ -118,5 +124,6 @@ abbrev pub start_by : Option (List ℕ) → Option PositionParts
 start_by None = Some start
 start_by (Some fen) = position_in (fen_reading fen)
 
+-- the position in which a game begins, by its tags
 abbrev pub start_in : List (List ℕ × List ℕ) → Option PositionParts
 start_in given = start_by (fen_in given)

@@ -1,11 +1,11 @@
 -- The export form of a game (PGN 3.2, 8.2).
---   others_text    the tags whose names are within two bounds
---   behind_text    the tags after the seven
---   tags_text      the tags, each on a line of its own (PGN 8.1.1)
---   node_text      a move with its number, where it is due, and its notes
---   moves_text     moves and variations, each after a space
---   movetext       the movetext on one line
---   game_text      the whole
+--   others_text       the tags whose names are within two bounds
+--   other_tags_text   the tags after the seven
+--   tags_text         the tags, each on a line of its own (PGN 8.1.1)
+--   node_text         a move with its number, where it is due, and its notes
+--   moves_text        moves and variations, each after a space
+--   movetext          the movetext on one line
+--   game_text         the whole
 -- A game's text is its tags, an empty line, the movetext in lines of at most 79 bytes, and an empty line.
 use Rattle.std.specs.Prelude.{ℕ, ◌||◌, ◌&&◌, not, if◌then◌else◌, Bool, true, false, List, [], ◌∷◌, ◌++◌, Option, Some, None, is_none, codes, bytes_eq, decimal}
 use Rattle.std.specs.Cmp.Lexicographic.{slice_cmp}
@@ -40,6 +40,7 @@ abbrev pub escaped : List ℕ → List ℕ
 escaped [] = []
 escaped (b ∷ value) = if is_escapable b then byte "\\" ∷ b ∷ escaped value else b ∷ escaped value
 
+-- a tag in export form (PGN 8.1): `[Name "value"]` and a line feed
 abbrev pub tag_text : List ℕ → List ℕ → List ℕ
 tag_text name value = codes "[" ++ (name ++ (codes " \"" ++ (escaped value ++ codes "\"]\n")))
 
@@ -59,8 +60,8 @@ others_text from to (tag ∷ tags) = (if is_within from to tag.0 then tag_text t
 
 -- The tags after the seven, by their names in ASCII order (PGN 8.1.1): the others, and the position in which a game begins, unless it is the
 -- usual one (PGN 9.7).
-abbrev pub behind_text : List (List ℕ × List ℕ) → List ℕ → List ℕ
-behind_text others fen =
+abbrev pub other_tags_text : List (List ℕ × List ℕ) → List ℕ → List ℕ
+other_tags_text others fen =
     if bytes_eq fen (written start) then others_text [] None others
     else others_text [] (Some (codes "FEN")) others
     ++ (tag_text (codes "FEN") fen
@@ -77,7 +78,7 @@ tags_text tags outcome p =
     ++ (tag_text (codes "Round") tags.round
     ++ (tag_text (codes "White") tags.white
     ++ (tag_text (codes "Black") tags.black
-    ++ (tag_text (codes "Result") (outcome_text outcome) ++ behind_text tags.others (written p)))))))
+    ++ (tag_text (codes "Result") (outcome_text outcome) ++ other_tags_text tags.others (written p)))))))
 
 -- ---- moves
 
@@ -101,10 +102,12 @@ comment_text (b ∷ text) = codes " {" ++ ((b ∷ text) ++ codes "}")
 abbrev pub node_text : List ℕ → Bool → PositionParts → MoveParts → List ℕ → List ℕ → List ℕ
 node_text opening due p m nags comment = opening ++ (number_text due p.side p.number ++ (san p m ++ (nags_text nags ++ comment_text comment)))
 
+-- a list that isn't empty
 abbrev pub is_some_text : List ℕ → Bool
 is_some_text [] = false
 is_some_text (b ∷ text) = true
 
+-- a move with annotations or a comment
 abbrev pub is_noted : List ℕ → List ℕ → Bool
 is_noted nags comment = is_some_text nags || is_some_text comment
 

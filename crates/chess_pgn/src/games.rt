@@ -6,7 +6,7 @@ ghost use Rattle.chess_items.specs.Sections.{PassesOver};
 ghost use Rattle.chess_items.specs.declared.fault.FaultKind.TheVariants.{Memory};
 ghost use Rattle.chess_pgn.specs.Games as games;
 ghost use Rattle.chess_pgn.specs.declared.games.GamesFault.TheVariants.{Pgn};
-ghost use Rattle.chess_pgn.specs.Reading.{HasNoGame, IsAnswered, IsAtFront, IsWhite};
+ghost use Rattle.chess_pgn.specs.Reading.{HasNoGame, IsAnswered, BeginsWithGame, IsWhite};
 ghost use Rattle.chess_pgn.specs.Sources.{GoesOn, HasFault, HasNone, IsPlaced, IsSound, NextGame, NotPassed};
 ghost use Rattle.chess_pgn.specs.steps.GameAt.{TakesGame};
 ghost use Rattle.chess_pgn.specs.steps.GameCode.{game_of};
@@ -121,13 +121,13 @@ pub fn read_game<'a, A: Allocator>(
     alloc: &'a A,
     input: &[u8],
 ) -> Result<Option<(Game<'a, A>, usize)>, PgnFault>
-    ensures game { IfOk result (λ found. IfSome found (λ x. IsAtFront input.now (game_of x.0) x.1)) }
+    ensures game { IfOk result (λ found. IfSome found (λ x. BeginsWithGame input.now (game_of x.0) x.1)) }
     ensures cursor { IfOk result (λ found. IfSome found (λ x. x.0.tree.path ≡ [])) }
     ensures none { result ≡ Ok None → IsWhite input.now }
     ensures white { IsWhite input.now → IfOk result (λ found. found ≡ None) × IfErr result (λ fault. fault.kind ≡ Memory) }
     ensures fault { IfErr result (λ fault. (fault.kind ≡ Memory) ⊎ HasNoGame input.now) }
     ensures memory { IfErr result (λ fault. fault.kind ≡ Memory → fault.place ≡ 0) }
-    ensures only { (game : games.Game) (used : ℕ) → IsAtFront input.now game used → IsAnswered game used result }
+    ensures only { (game : games.Game) (used : ℕ) → BeginsWithGame input.now game used → IsAnswered game used result }
 {
     let mut texts = Texts::unwanted(alloc);
     match take_game(alloc, &Basis::new(), &mut Whole { left: input }, &mut texts) {
@@ -225,7 +225,7 @@ impl<'a, R: Source, A: Allocator> Games<'a, R, A> {
     }
 
     // The fault that came, if one did.
-    fn told(&self) -> Option<GamesFault>
+    fn reported(&self) -> Option<GamesFault>
         ensures { result ≡ self.now.fault }
     {
         self.fault
@@ -307,7 +307,7 @@ impl<'a, R: Source, A: Allocator> Games<'a, R, A> {
         ensures fault { self.old.fault ≡ None → IfErr result (λ fault. HasFault R.gives R.failed R.ended self.old.text self.new.text fault) }
         ensures place { self.old.fault ≡ None → IfErr result (λ fault. IsPlaced self.old.text.used fault) }
     {
-        if let Some(fault) = self.told() {
+        if let Some(fault) = self.reported() {
             return Err(fault);
         }
         let used = self.used();

@@ -1,6 +1,6 @@
 ghost use Rattle.std.specs.Prelude.{◌≡◌, ◌<◌, ◌++◌, ◌∷◌, [], List, ℕ, length, codes, ◌≢◌, slice_set, vec_len, ◌+◌, ◌≤◌, IfOk, OnOk};
 ghost use Rattle.byte_streams.specs.Words.{words};
-ghost use Rattle.chess_pgn.specs.Layout.{in_lines};
+ghost use Rattle.chess_pgn.specs.Layout.{in_lines, line_width};
 
 use std::alloc::{AllocError, Allocator};
 
@@ -37,7 +37,7 @@ impl<'a, A: Allocator> Lines<'a, A> {
 
     // Ends the last word, of so many bytes, in its line.
     fn stay(&mut self, len: usize) -> Result<(), AllocError>
-        requires fits { self.old.column + 1 + len ≤ 79 }
+        requires fits { self.old.column + 1 + len ≤ line_width }
         ensures text { OnOk result (self.new.text.items ≡ self.old.text.items ++ 32 ∷ []) }
         ensures space { OnOk result (self.new.space ≡ length self.old.text.items) }
         ensures column { OnOk result (self.new.column ≡ self.old.column + 1 + len) }

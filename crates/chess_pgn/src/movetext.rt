@@ -2,6 +2,7 @@ ghost use Rattle.std.specs.Prelude.{◌≡◌, ◌++◌, ◌∷◌, [], Some, On
 ghost use Rattle.chess_types.specs.board.Position as position;
 ghost use Rattle.chess_types.specs.board.Legal.{is_legal};
 ghost use Rattle.chess_types.specs.board.Lines.{extended, last};
+ghost use Rattle.chess_draws.specs.Pushes.{most_plies};
 ghost use Rattle.chess_tree.specs.Forest.{child};
 ghost use Rattle.chess_pgn.specs.Written.{comment_text, is_noted, movetext, moves_text, nags_text, node_text, outcome_text};
 ghost use Rattle.chess_pgn.specs.steps.Adding.{Adds};
@@ -68,7 +69,7 @@ fn push_move<'t, 'k, 'a, A: Allocator>(
     notes: &Notes<'_>,
 ) -> Result<(), Halt>
     requires legal { IsTrue (is_legal (last speller.old) played) }
-    requires few { length speller.old.moves < 20000 }
+    requires few { length speller.old.moves < most_plies }
     ensures adds { OnOk result (Adds lines.old lines.new (node_text opening.now due (last speller.old) played notes.now.nags.now notes.now.comment.now)) }
     ensures line { OnOk result (speller.new ≡ extended speller.old played) }
 {

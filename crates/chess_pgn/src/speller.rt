@@ -4,6 +4,7 @@ ghost use Rattle.std.specs.Prelude.{◌≡◌, ◌<◌, ◌++◌, [], IsTrue, On
 ghost use Rattle.chess_types.specs.board.Position.{start};
 ghost use Rattle.chess_types.specs.board.Legal.{is_legal};
 ghost use Rattle.chess_types.specs.board.Lines.{extended, last};
+ghost use Rattle.chess_draws.specs.Pushes.{most_plies};
 ghost use Rattle.chess_pgn.specs.Written.{number_text};
 ghost use Rattle.chess_pgn.specs.steps.Adding.{Adds};
 ghost use Rattle.chess_pgn.specs.steps.KnownTexts.{line_at};
@@ -106,7 +107,7 @@ fn make<'k, 'a, A: Allocator>(
     played: Move,
 ) -> Result<(), Halt>
     requires legal { IsTrue (is_legal (last line.old.line) played) }
-    requires few { length line.old.line.moves < 20000 }
+    requires few { length line.old.line.moves < most_plies }
     requires still { line.old.looked ≡ 0 }
     ensures adds { OnOk result (Adds lines.old lines.new (spoken_text opening.now due (last line.old.line) played)) }
     ensures line { OnOk result (line.new.line ≡ extended line.old.line played) }
@@ -183,7 +184,7 @@ impl<'t, 'k, 'a, A: Allocator> Speller<'t, 'k, 'a, A> {
         played: Move,
     ) -> Result<(), Halt>
         requires legal { IsTrue (is_legal (last self.old) played) }
-        requires few { length self.old.moves < 20000 }
+        requires few { length self.old.moves < most_plies }
         ensures adds { OnOk result (Adds lines.old lines.new (spoken_text opening.now due (last self.old) played)) }
         ensures line { OnOk result (self.new ≡ extended self.old played) }
     {
@@ -196,7 +197,7 @@ impl<'t, 'k, 'a, A: Allocator> Speller<'t, 'k, 'a, A> {
     /// The same, but the move is written already.
     pub fn go_on(&mut self, node: usize, played: Move) -> Result<(), Halt>
         requires legal { IsTrue (is_legal (last self.old) played) }
-        requires few { length self.old.moves < 20000 }
+        requires few { length self.old.moves < most_plies }
         ensures line { OnOk result (self.new ≡ extended self.old played) }
     {
         match &mut self.way {

@@ -3,7 +3,7 @@ ghost use Rattle.chess_items.specs.declared.fault.FaultKind.TheVariants.{Memory}
 ghost use Rattle.chess_fen.specs.Writing.{written};
 ghost use Rattle.chess_types.specs.board.Position.{PositionParts, start};
 ghost use Rattle.chess_pgn.specs.Games.{untold};
-ghost use Rattle.chess_pgn.specs.Written.{behind_text, escaped, game_text, is_before, is_within, others_text, tag_text, tags_text};
+ghost use Rattle.chess_pgn.specs.Written.{other_tags_text, escaped, game_text, is_before, is_within, others_text, tag_text, tags_text};
 ghost use Rattle.chess_pgn.specs.steps.GameCode.{game_of, tags_of};
 
 use crate::game::Game;
@@ -111,14 +111,14 @@ fn push_others<'a, A: Allocator>(
 }
 
 // The other tags, and among them the FEN of the position in which a game begins, unless it is the usual one.
-fn push_behind<'a, A: Allocator>(
+fn push_other_tags<'a, A: Allocator>(
     text: &mut Vec<u8, &'a A>,
     others: &OtherTags<'a, A>,
     fen: &[u8],
     is_usual: bool,
 ) -> Result<(), AllocError>
     requires usual { is_usual ≡ bytes_eq fen.now (written start) }
-    ensures { OnOk result (text.new.items ≡ text.old.items ++ behind_text others.now fen.now) }
+    ensures { OnOk result (text.new.items ≡ text.old.items ++ other_tags_text others.now fen.now) }
 {
     if is_usual {
         return push_others(text, b"", None, others);
@@ -148,7 +148,7 @@ fn push_tags<'a, A: Allocator>(
     push_tag(text, b"White", tags.white.as_slice())?;
     push_tag(text, b"Black", tags.black.as_slice())?;
     push_tag(text, b"Result", outcome_text(outcome).as_bytes())?;
-    push_behind(text, &tags.others, fen, is_usual)
+    push_other_tags(text, &tags.others, fen, is_usual)
 }
 
 // The tags, an empty line, the movetext in lines of at most 79 bytes, and an empty line; by the texts of the moves, if they are given.

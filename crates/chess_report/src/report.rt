@@ -2,6 +2,7 @@ ghost use Rattle.std.specs.Prelude.{◌≡◌, ◌≤◌, ◌<◌, [], ◌||◌,
 ghost use Rattle.chess_types.specs.board.Legal.{is_legal};
 ghost use Rattle.chess_types.specs.board.Lines.{extended, last};
 ghost use Rattle.chess_types.specs.board.Outcome.{status, winner};
+ghost use Rattle.chess_draws.specs.Pushes.{most_plies};
 ghost use Rattle.chess_report.specs.MainLine.{as_far, main};
 ghost use Rattle.chess_report.specs.Findings.{agrees, first_fifty, first_over, first_threefold, fits, is_open, is_win_of, longest_quiet, most_repetitions, played_on};
 ghost use Rattle.chess_report.specs.steps.Tallies.{IsTally};
@@ -56,7 +57,7 @@ pub struct Report {
 fn push<A: Allocator>(line: &mut Line<'_, A>, played: Move) -> Result<(), AllocError>
     requires none { line.old.looked ≡ 0 }
     requires legal { is_legal (last line.old.line) played ≡ true }
-    requires few { length line.old.line.moves < 20000 }
+    requires few { length line.old.line.moves < most_plies }
     ensures line { OnOk result (line.new.line ≡ extended line.old.line played) }
     ensures none { OnOk result (line.new.looked ≡ 0) }
 {
@@ -75,7 +76,7 @@ fn follow<A: Allocator, B: Allocator>(
     requires start { line.old.line ≡ record { start = tree.now.tree.start; moves = [] } }
     requires none { line.old.looked ≡ 0 }
     requires sound { AreSound tree.now.tree.start tree.now.tree.below }
-    requires deep { height tree.now.tree.below ≤ 20000 }
+    requires deep { height tree.now.tree.below ≤ most_plies }
     ensures line { IfOk result (λ _. line.new.line ≡ main tree.now.tree) }
     ensures none { IfOk result (λ _. line.new.looked ≡ 0) }
     ensures tally { IfOk result (λ t. IsTally (main tree.now.tree) (suc (length (main tree.now.tree).moves)) t) }

@@ -5,7 +5,7 @@ use Rattle.std.proofs.lemmas.Bool.{true≢false}
 use Rattle.chess_items.specs.declared.fault.FaultKind.TheVariants.{Memory}
 use Rattle.chess_items.specs.declared.fault.PgnFault.{PgnFault}
 use Rattle.chess_pgn.specs.Games.{Game}
-use Rattle.chess_pgn.specs.Reading.{HasNoGame, IsAtFront, IsWhite}
+use Rattle.chess_pgn.specs.Reading.{HasNoGame, BeginsWithGame, IsWhite}
 use Rattle.chess_pgn.specs.Written.{game_text}
 use Rattle.chess_slots.specs.Games.{IsGame, IsPassed, PassesFrom, is_of_text}
 use Rattle.chess_slots.specs.Handed.{IsToldBy}
@@ -13,12 +13,12 @@ use Rattle.chess_slots.specs.declared.reports.GameReport.{GameReport}
 use Rattle.chess_slots.specs.Reports.{IsReport, IsReportedBy}
 
 pub game_told : (text : List ℕ) → (game : Game) → (code count count' used used' : ℕ) → (room room' : List ℕ)
-    → IsAtFront text game used' → IsToldBy (game_text game) code count count' room room' → IsGame text code count count' used used' room room'
+    → BeginsWithGame text game used' → IsToldBy (game_text game) code count count' room room' → IsGame text code count count' used used' room room'
 game_told text game code count count' used used' room room' at (inl handed) = inl (game, at, handed)
 game_told text game code count count' used used' room room' at (inr none) = inr (none.1, none.2, inr (inr none.0))
 
 pub report_told : (text : List ℕ) → (game : Game) → (code count count' used used' : ℕ) → (report report' : GameReport) → (room room' : List ℕ)
-    → IsAtFront text game used' → IsReportedBy game code count count' report report' room room' → IsReport text code count count' used used' report report' room room'
+    → BeginsWithGame text game used' → IsReportedBy game code count count' report report' room room' → IsReport text code count count' used used' report report' room room'
 report_told text game code count count' used used' report report' room room' at (inl handed) = inl (game, at, handed.0, handed.1)
 report_told text game code count count' used used' report report' room room' at (inr none) = inr (none.1, none.2, none.3, inr (inr none.0))
 
@@ -30,7 +30,7 @@ pub pass_told : (text : List ℕ) → (code used used' : ℕ) → HasNoGame text
 pass_told text code used used' none (inl passes) = inl (passes.0, inr (inr (none, passes.1, passes.2)))
 pass_told text code used used' none (inr memory) = inr memory
 
-pub pass_game : (text : List ℕ) → (game : Game) → (used used' : ℕ) → IsAtFront text game used' → IsPassed text 0 used used'
+pub pass_game : (text : List ℕ) → (game : Game) → (used used' : ℕ) → BeginsWithGame text game used' → IsPassed text 0 used used'
 pass_game text game used used' at = inl (refl, inl (game, at))
 
 pub pass_white : (text : List ℕ) → (used used' : ℕ) → IsWhite text → used' ≡ length text → IsPassed text 0 used used'

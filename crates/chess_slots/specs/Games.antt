@@ -12,7 +12,7 @@ use Rattle.chess_items.specs.declared.fault.FaultKind.TheVariants.{Memory}
 use Rattle.chess_items.specs.declared.fault.PgnFault.{PgnFault}
 use Rattle.chess_items.specs.Sections.{BeginsSection}
 use Rattle.chess_pgn.specs.Games.{Game}
-use Rattle.chess_pgn.specs.Reading.{HasNoGame, IsAtFront, IsWhite}
+use Rattle.chess_pgn.specs.Reading.{HasNoGame, BeginsWithGame, IsWhite}
 use Rattle.chess_pgn.specs.Written.{game_text}
 use Rattle.chess_slots.specs.Codes.{fault_code, no_game, no_memory, ok}
 use Rattle.chess_slots.specs.Handed.{IsHanded}
@@ -27,7 +27,7 @@ IsNone text code used used' = ((code ≡ no_game) × (used' ≡ used) × IsWhite
 
 -- the game at the start of the text is handed out
 abbrev pub IsFound : List ℕ → (code count' used' : ℕ) → (room room' : List ℕ) → Type 0
-IsFound text code count' used' room room' = (game : Game) × IsAtFront text game used' × IsHanded (game_text game) code count' room room'
+IsFound text code count' used' room room' = (game : Game) × BeginsWithGame text game used' × IsHanded (game_text game) code count' room room'
 
 -- what is answered of the game at the start of a text
 abbrev pub IsGame : List ℕ → (code count count' used used' : ℕ) → (room room' : List ℕ) → Type 0
@@ -55,5 +55,5 @@ pub record PassesFrom (text : List ℕ) (stop used' : ℕ) : Type 0 where
 -- how many bytes to pass over
 abbrev pub IsPassed : List ℕ → (code used used' : ℕ) → Type 0
 IsPassed text code used used' =
-    ((code ≡ ok) × (((game : Game) × IsAtFront text game used') ⊎ (IsWhite text × (used' ≡ length text)) ⊎ (HasNoGame text × (stop : ℕ) × PassesFrom text stop used')))
+    ((code ≡ ok) × (((game : Game) × BeginsWithGame text game used') ⊎ (IsWhite text × (used' ≡ length text)) ⊎ (HasNoGame text × (stop : ℕ) × PassesFrom text stop used')))
     ⊎ ((code ≡ no_memory) × (used' ≡ used))

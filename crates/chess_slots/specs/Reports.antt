@@ -20,7 +20,7 @@ use Rattle.chess_fen.specs.Writing.{written}
 use Rattle.chess_items.specs.declared.outcome.Outcome.{Outcome}
 use Rattle.chess_items.specs.declared.outcome.Outcome.TheVariants.{WhiteWins, BlackWins, Draw, Unfinished}
 use Rattle.chess_pgn.specs.Games.{Game}
-use Rattle.chess_pgn.specs.Reading.{IsAtFront}
+use Rattle.chess_pgn.specs.Reading.{BeginsWithGame}
 use Rattle.chess_report.specs.declared.report.Over.{Over}
 use Rattle.chess_report.specs.MainLine.{as_far, main}
 use Rattle.chess_report.specs.Findings.{agrees, first_fifty, first_over, first_threefold, longest_quiet, most_repetitions}
@@ -84,7 +84,7 @@ report_code game = line_report (main game.tree) game.outcome
 -- the report of the game at the start of the text, and the FEN of its last position
 abbrev pub IsReported : List ℕ → (code count' used' : ℕ) → (report' : GameReport) → (room room' : List ℕ) → Type 0
 IsReported text code count' used' report' room room' =
-    (game : Game) × IsAtFront text game used' × (report' ≡ report_code game) × IsHanded (written (last (main game.tree))) code count' room room'
+    (game : Game) × BeginsWithGame text game used' × (report' ≡ report_code game) × IsHanded (written (last (main game.tree))) code count' room room'
 
 -- of a game: the same, or there is no memory
 abbrev pub IsReportedBy : Game → (code count count' : ℕ) → (report report' : GameReport) → (room room' : List ℕ) → Type 0

@@ -5,6 +5,7 @@
 --   count       how many nodes stand side by side
 --   child       one of them, by its place from 0
 --   moves_held  how many nodes there are
+--   most_moves  the most nodes of a tree
 --   height      how many nodes the longest way down has
 use Rattle.std.specs.Prelude.{ℕ, zero, suc, ◌+◌, max, List, [], ◌∷◌, Option, Some, None}
 use Rattle.chess_types.specs.board.MoveParts.{MoveParts}
@@ -41,6 +42,10 @@ child (suc k) (Node m nags comment below next) = child k next
 abbrev pub moves_held : Forest → ℕ
 moves_held Bare = 0
 moves_held (Node m nags comment below next) = 1 + moves_held below + moves_held next
+
+-- the most moves of a tree
+abbrev pub most_moves : ℕ
+most_moves = 1000000
 
 -- the most moves on the way to a node
 abbrev pub height : Forest → ℕ

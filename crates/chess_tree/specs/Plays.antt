@@ -7,15 +7,16 @@ use Rattle.std.specs.Prelude.{◌≡◌, ◌⊎◌, ℕ, nat_le, not, if◌then�
 use Rattle.chess_types.specs.board.MoveParts.{MoveParts}
 use Rattle.chess_types.specs.board.Legal.{is_legal}
 use Rattle.chess_types.specs.board.Lines.{last}
+use Rattle.chess_draws.specs.Pushes.{most_plies}
 use Rattle.chess_tree.specs.declared.fault.PlayFault.{PlayFault}
 use Rattle.chess_tree.specs.declared.fault.PlayFault.TheVariants.{Illegal, TooLong, Full, Memory}
-use Rattle.chess_tree.specs.Forest.{moves_held}
+use Rattle.chess_tree.specs.Forest.{moves_held, most_moves}
 use Rattle.chess_tree.specs.GameTree.{TreeParts, added, at_path, find, line_to, nodes_here}
 
 -- a legal move by the child that has it: a new one is added to a node less than 20,000 plies deep, in a tree of fewer than 1,000,000 moves
 abbrev pub legal_answer : TreeParts → Option ℕ → Result (Unit {0}) PlayFault
 legal_answer t (Some place) = Ok tt
-legal_answer t None = if nat_le 20000 (length t.path) then Err TooLong else (if nat_le 1000000 (moves_held t.tree.below) then Err Full else Ok tt)
+legal_answer t None = if nat_le most_plies (length t.path) then Err TooLong else (if nat_le most_moves (moves_held t.tree.below) then Err Full else Ok tt)
 
 -- how `add` is answered where memory is found
 abbrev pub add_answer : TreeParts → MoveParts → Result (Unit {0}) PlayFault

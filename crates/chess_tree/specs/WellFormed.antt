@@ -6,7 +6,8 @@ use Rattle.std.specs.Prelude.{◌≡◌, ℕ, ◌<◌, ◌≤◌, true, List, []
 use Rattle.chess_types.specs.board.Position.{PositionParts, IsWellFormed}
 use Rattle.chess_types.specs.board.After.{after}
 use Rattle.chess_types.specs.board.Legal.{is_legal}
-use Rattle.chess_tree.specs.Forest.{Forest, Bare, Node, below_child, count, height, moves_held}
+use Rattle.chess_draws.specs.Pushes.{most_plies}
+use Rattle.chess_tree.specs.Forest.{Forest, Bare, Node, below_child, count, height, moves_held, most_moves}
 use Rattle.chess_tree.specs.Comments.{IsComment}
 use Rattle.chess_tree.specs.GameTree.{TreeParts}
 
@@ -27,6 +28,6 @@ pub record IsGameTree (t : TreeParts) : Type 0 where
   pub number : t.tree.start.number ≤ 99999
   pub comment : IsComment t.tree.comment
   pub moves : AreSound t.tree.start t.tree.below
-  pub deep : height t.tree.below ≤ 20000
-  pub many : moves_held t.tree.below ≤ 1000000
+  pub deep : height t.tree.below ≤ most_plies
+  pub many : moves_held t.tree.below ≤ most_moves
   pub cursor : Leads t.path t.tree.below

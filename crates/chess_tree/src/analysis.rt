@@ -1,9 +1,10 @@
 ghost use Rattle.std.specs.Prelude.{◌≡◌, ℕ, ◌<◌, ◌≤◌, [], length, true, Some, Err, IfErr, IfOk, IsTrue, Ok, OnErr, OnOk, nat_le, if◌then◌else◌};
 ghost use Rattle.chess_types.specs.board.Legal.{is_legal};
 ghost use Rattle.chess_types.specs.board.Lines.{extended, last};
+ghost use Rattle.chess_draws.specs.Pushes.{most_plies};
 ghost use Rattle.chess_tree.specs.declared.fault.TreeFault.TheVariants.{Memory};
 ghost use Rattle.chess_tree.specs.declared.fault.PlayFault.TheVariants.{Full as TreeFull, Memory as NoMemory};
-ghost use Rattle.chess_tree.specs.Forest.{Bare, moves_held};
+ghost use Rattle.chess_tree.specs.Forest.{Bare, moves_held, most_moves};
 ghost use Rattle.chess_tree.specs.GameTree.{added, at_path, find, line_to, nodes_here};
 ghost use Rattle.chess_tree.specs.WellFormed.{IsGameTree};
 ghost use Rattle.chess_tree.specs.Plays.{IsAnswer, add_answer, play_answer, played};
@@ -51,7 +52,7 @@ impl<'a, 'k, A: Allocator> Model for Analysis<'a, 'k, A> {
 
 // The refusal of a new move for which the line finds no memory: a full tree comes first.
 fn without_room<A: Allocator>(tree: &Tree<'_, A>) -> PlayFault
-    ensures { result ≡ (if nat_le 1000000 (moves_held tree.now.tree.below) then TreeFull else NoMemory) }
+    ensures { result ≡ (if nat_le most_moves (moves_held tree.now.tree.below) then TreeFull else NoMemory) }
 {
     if tree.is_full() {
         PlayFault::Full
@@ -63,9 +64,9 @@ fn without_room<A: Allocator>(tree: &Tree<'_, A>) -> PlayFault
 // Adds a legal move to the tree alone.
 fn grow<A: Allocator>(tree: &mut Tree<'_, A>, m: Move) -> Result<(), PlayFault>
     requires legal { is_legal (last (line_to tree.old)) m ≡ true }
-    requires deep { length tree.old.path < 20000 }
-    requires few { moves_held tree.old.tree.below ≤ 1000000 }
-    ensures answer { IsAnswer (if nat_le 1000000 (moves_held tree.old.tree.below) then Err TreeFull else Ok tt) result }
+    requires deep { length tree.old.path < most_plies }
+    requires few { moves_held tree.old.tree.below ≤ most_moves }
+    ensures answer { IsAnswer (if nat_le most_moves (moves_held tree.old.tree.below) then Err TreeFull else Ok tt) result }
     ensures ok { OnOk result (tree.new ≡ added m tree.old) }
     ensures line { OnOk result (line_to tree.new ≡ extended (line_to tree.old) m) }
     ensures err { OnErr result (tree.new ≡ tree.old) }

@@ -1,5 +1,5 @@
 ghost use Rattle.std.specs.Prelude.{◌≡◌, ◌<◌, ◌≤◌, ◌++◌, ◌∷◌, [], nat_le, nat_lt, true, false, length, slice_index, IfOk, IsOk, OnOk, OnErr};
-ghost use Rattle.chess_tree.specs.Forest.{below_at, count, height, moves_held};
+ghost use Rattle.chess_tree.specs.Forest.{below_at, count, height, moves_held, most_moves};
 ghost use Rattle.chess_tree.specs.Edits.{parent};
 ghost use Rattle.chess_tree.specs.GameTree.{find, node_of};
 ghost use Rattle.chess_tree.specs.steps.Rooted.{added_root, annotated_root, commented_root, deleted_root, leaf, path_root, promoted_root, root_shown};
@@ -100,8 +100,8 @@ impl<'a, A: Allocator> Arena<'a, A> {
 
     /// Whether it holds 1,000,000 nodes beside the root.
     pub(crate) fn is_full(&self) -> bool
-        ensures full { result ≡ nat_le 1000000 (moves_held self.now.root.below) }
-        ensures few { moves_held self.now.root.below ≤ 1000000 }
+        ensures full { result ≡ nat_le most_moves (moves_held self.now.root.below) }
+        ensures few { moves_held self.now.root.below ≤ most_moves }
     {
         self.free == NodeId::root() && self.nodes.len() == MOST_NODES
     }
@@ -189,7 +189,7 @@ impl<'a, A: Allocator> Arena<'a, A> {
 
     /// Appends a child with that move at the cursor, and steps into it.
     pub(crate) fn add(&mut self, played: Move) -> Result<(), AllocError>
-        requires { moves_held self.old.root.below < 1000000 }
+        requires { moves_held self.old.root.below < most_moves }
         ensures ok { OnOk result (self.new ≡ added_root played self.old) }
         ensures err { OnErr result (self.new ≡ self.old) }
     {

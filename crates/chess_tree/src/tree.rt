@@ -1,8 +1,9 @@
 ghost use Rattle.std.specs.Prelude.{◌≡◌, ◌<◌, ◌≤◌, ◌++◌, ◌∷◌, [], nat_le, true, length, Err, MatchResult, IfOk, IfErr, OnOk, OnErr};
 ghost use Rattle.chess_types.specs.board.Legal.{is_legal};
 ghost use Rattle.chess_types.specs.board.Lines.{extended, last};
+ghost use Rattle.chess_draws.specs.Pushes.{most_plies};
 ghost use Rattle.chess_tree.specs.declared.fault.TreeFault.TheVariants.{NoSuch, AtRoot, Full, Memory};
-ghost use Rattle.chess_tree.specs.Forest.{Bare, count, height, moves_held};
+ghost use Rattle.chess_tree.specs.Forest.{Bare, count, height, moves_held, most_moves};
 ghost use Rattle.chess_tree.specs.Edits.{parent};
 ghost use Rattle.chess_tree.specs.GameTree.{added, at_path, line_to, nodes_here};
 ghost use Rattle.chess_tree.specs.WellFormed.{IsGameTree};
@@ -79,7 +80,7 @@ impl<'a, A: Allocator> Tree<'a, A> {
     /// At least how many plies the deepest node is from the root, at most 20,000.
     pub(crate) fn room(&self) -> u32
         ensures room { height self.now.tree.below ≤ result }
-        ensures few { result ≤ 20000 }
+        ensures few { result ≤ most_plies }
     {
         self.nodes.room().min(20_000) as u32
     }
@@ -98,7 +99,7 @@ impl<'a, A: Allocator> Tree<'a, A> {
 
     /// Whether the tree holds 1,000,000 moves.
     pub fn is_full(&self) -> bool
-        ensures { result ≡ nat_le 1000000 (moves_held self.now.tree.below) }
+        ensures { result ≡ nat_le most_moves (moves_held self.now.tree.below) }
     {
         self.nodes.is_full()
     }
@@ -107,12 +108,12 @@ impl<'a, A: Allocator> Tree<'a, A> {
     /// 20,000 plies deep. `Full` where the tree holds 1,000,000 moves, else `Memory` where there is none.
     pub fn add(&mut self, played: Move) -> Result<(), TreeFault>
         requires legal { is_legal (last (line_to self.old)) played ≡ true }
-        requires deep { length self.old.path < 20000 }
+        requires deep { length self.old.path < most_plies }
         ensures ok { OnOk result (self.new ≡ added played self.old) }
         ensures line { OnOk result (line_to self.new ≡ extended (line_to self.old) played) }
         ensures err { OnErr result (self.new ≡ self.old) }
-        ensures full { moves_held self.old.tree.below ≡ 1000000 → result ≡ Err Full }
-        ensures memory { moves_held self.old.tree.below < 1000000 → IfErr result (λ fault. fault ≡ Memory) }
+        ensures full { moves_held self.old.tree.below ≡ most_moves → result ≡ Err Full }
+        ensures memory { moves_held self.old.tree.below < most_moves → IfErr result (λ fault. fault ≡ Memory) }
     {
         if self.nodes.is_full() {
             return Err(TreeFault::Full);

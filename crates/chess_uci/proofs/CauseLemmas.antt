@@ -7,7 +7,7 @@ use Rattle.chess_types.specs.board.Legal.{legal_moves}
 use Rattle.chess_types.specs.board.Lines.{Line as GameLine, last}
 use Rattle.chess_search.specs.Best.{best}
 use Rattle.chess_uci.specs.Placing.{placed}
-use Rattle.chess_uci.specs.Commands.{Command, Idle, Position, Go, SetOption, asked, without_memory, claims_set}
+use Rattle.chess_uci.specs.Commands.{Command, Idle, Position, Go, SetOption, command_in, without_memory, claims_set}
 use Rattle.chess_uci.specs.Go.{fields}
 use Rattle.chess_uci.specs.Machine.{Event, Line, Starved, Slice, Moment, Search, State, Step, step, live_step, line_step, idle_command, busy_command, go_among, placed_at, set_claims, slice_step, slice_if, sliced, complete, moment_step, end_if, is_reached, begun}
 use Rattle.chess_uci.specs.Laws.{one, best_moves, cause, by_depth, by_time, by_line, by_command, at_once, is_stop}
@@ -79,8 +79,8 @@ moment_cause s None = refl
 moment_cause s (Some x) = end_cause (is_reached x.end s.moment) x
 
 live_cause : (s : State) (event : Event) → best_moves (live_step s event).0 ≡ one (cause s event)
-live_cause s (Line bytes) = line_cause s s.search (asked bytes)
-live_cause s (Starved bytes) = line_cause s s.search (without_memory (asked bytes))
+live_cause s (Line bytes) = line_cause s s.search (command_in bytes)
+live_cause s (Starved bytes) = line_cause s s.search (without_memory (command_in bytes))
 live_cause s Slice = slice_step_cause s s.search
 live_cause s (Moment moment) = moment_cause (record s { moment = max s.moment moment }) s.search
 

@@ -8,7 +8,7 @@ use Rattle.chess_types.specs.board.Lines.{Line as GameLine, last}
 use Rattle.chess_search.specs.Best.{best}
 use Rattle.chess_uci.specs.Placing.{placed}
 use Rattle.chess_uci.specs.declared.reply.Reply.{Reply}
-use Rattle.chess_uci.specs.Commands.{Command, Position, Go, Stop, Quit, SetOption, asked, without_memory, claims_set}
+use Rattle.chess_uci.specs.Commands.{Command, Position, Go, Stop, Quit, SetOption, command_in, without_memory, claims_set}
 use Rattle.chess_uci.specs.Go.{fields}
 use Rattle.chess_uci.specs.Machine.{Event, Line, Starved, Slice, Moment, Search, State, Step, Turn, step, step_if, live_step, line_step, idle_command, busy_command, go_among, placed_at, set_claims, slice_step, slice_if, sliced, complete, moment_step, end_if, is_reached, begun}
 use Rattle.chess_uci.specs.Laws.{replies, after_events, one, best_moves, is_best_move, is_go, is_quit, says_go, says_quit, running, is_taken, taken, unfinished}
@@ -85,8 +85,8 @@ moment_step_both s (Some x) e = end_both (is_reached x.end s.moment) x
 
 live_both : (s : State) (event : Event) → says_quit event ≡ false →
     both (live_step s event) ≡ one (is_taken false (is_some s.search) (says_go event)) + running s
-live_both s (Line bytes) q = line_both s s.search (asked bytes) refl q
-live_both s (Starved bytes) q = line_both s s.search (without_memory (asked bytes)) refl q
+live_both s (Line bytes) q = line_both s s.search (command_in bytes) refl q
+live_both s (Starved bytes) q = line_both s s.search (without_memory (command_in bytes)) refl q
 live_both s Slice q = slice_step_both s s.search refl
 live_both s (Moment moment) q = moment_step_both (record s { moment = max s.moment moment }) s.search refl
 
@@ -106,8 +106,8 @@ live_quit s (Some x) Quit q = refl
 live_quit s _ _ q = cc
 
 live_step_quit : (s : State) (event : Event) → says_quit event ≡ true → live_step s event ≡ ([], record s { ended = true; search = None })
-live_step_quit s (Line bytes) q = live_quit s s.search (asked bytes) q
-live_step_quit s (Starved bytes) q = live_quit s s.search (without_memory (asked bytes)) q
+live_step_quit s (Line bytes) q = live_quit s s.search (command_in bytes) q
+live_step_quit s (Starved bytes) q = live_quit s s.search (without_memory (command_in bytes)) q
 live_step_quit s Slice q = cc
 live_step_quit s (Moment moment) q = cc
 
@@ -163,8 +163,8 @@ no_quit_is_go Quit q = refl
 no_quit_is_go _ q = cc
 
 not_go : (event : Event) → says_quit event ≡ true → says_go event ≡ false
-not_go (Line bytes) q = no_quit_is_go (asked bytes) q
-not_go (Starved bytes) q = no_quit_is_go (without_memory (asked bytes)) q
+not_go (Line bytes) q = no_quit_is_go (command_in bytes) q
+not_go (Starved bytes) q = no_quit_is_go (without_memory (command_in bytes)) q
 not_go Slice q = refl
 not_go (Moment moment) q = refl
 

@@ -6,7 +6,7 @@ use Rattle.chess_types.specs.board.Legal.{legal_moves}
 use Rattle.chess_types.specs.board.Lines.{Line as GameLine, last}
 use Rattle.chess_search.specs.Best.{best}
 use Rattle.chess_uci.specs.Placing.{placed}
-use Rattle.chess_uci.specs.Commands.{Command, Idle, Uci, IsReady, NewGame, Position, Unplaced, Go, Stop, Quit, SetOption, asked, without_memory, claims_set}
+use Rattle.chess_uci.specs.Commands.{Command, Idle, Uci, IsReady, NewGame, Position, Unplaced, Go, Stop, Quit, SetOption, command_in, without_memory, claims_set}
 use Rattle.chess_uci.specs.Go.{fields}
 use Rattle.chess_uci.specs.Machine.{Event, Line, Starved, Slice, Moment, Search, State, Step, Turn, beginning, step, step_if, live_step, line_step, idle_command, busy_command, go_among, placed_at, set_claims, slice_step, slice_if, sliced, complete, moment_step, end_if, is_reached, chosen, begun}
 use Rattle.chess_uci.specs.Laws.{after_events, Each, TellsBest, TellsTheBest, finished, best_done}
@@ -100,8 +100,8 @@ moment_good s moment None k e = (k, tt)
 moment_good s moment (Some x) k e = end_good s.line moment (is_reached x.end s.moment) x (subst (IsKept s.line) e k)
 
 live_good : (s : State) (event : Event) → IsKept s.line s.search → Good s.line s.search event (live_step s event)
-live_good s (Line bytes) k = line_good s (Line bytes) s.search (asked bytes) k refl (λ y. refl)
-live_good s (Starved bytes) k = line_good s (Starved bytes) s.search (without_memory (asked bytes)) k refl (λ y. refl)
+live_good s (Line bytes) k = line_good s (Line bytes) s.search (command_in bytes) k refl (λ y. refl)
+live_good s (Starved bytes) k = line_good s (Starved bytes) s.search (without_memory (command_in bytes)) k refl (λ y. refl)
 live_good s Slice k = slice_step_good s s.search k refl
 live_good s (Moment moment) k = moment_good (record s { moment = max s.moment moment }) moment s.search k refl
 

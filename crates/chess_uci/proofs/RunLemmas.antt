@@ -2,7 +2,7 @@
 use Rattle.std.proofs.Common.{◌≡◌, ℕ, Bool, true, false, List, [], ◌∷◌, ◌++◌, Option, Some, None, refl, sym, ap, ◌∙◌, append_assoc, append-nil, arith}
 use Rattle.chess_uci.specs.declared.reply.Reply.{Reply}
 use Rattle.chess_uci.specs.declared.reply.Reply.TheVariants.{ReadyOk}
-use Rattle.chess_uci.specs.Commands.{IsReady, Quit, asked}
+use Rattle.chess_uci.specs.Commands.{IsReady, Quit, command_in}
 use Rattle.chess_uci.specs.Machine.{Event, Line, Search, State, Step, step, line_step, beginning}
 use Rattle.chess_uci.specs.Laws.{replies, after_events, is_quit, says_quit, AnswersEachGo, AnswersAtTheEnd, IsReadyAlone, SilentAfterQuit}
 use Rattle.chess_uci.proofs.CountLemmas.{step_live, step_quit, replies-ended, counted}
@@ -22,7 +22,7 @@ line_ready : (s : State) (x : Option Search) → line_step s x IsReady ≡ (Read
 line_ready s None = refl
 line_ready s (Some x) = refl
 
-pub step_ready : (s : State) (line : List ℕ) → asked line ≡ IsReady → s.ended ≡ false → step s (Line line) ≡ (ReadyOk ∷ [], s)
+pub step_ready : (s : State) (line : List ℕ) → command_in line ≡ IsReady → s.ended ≡ false → step s (Line line) ≡ (ReadyOk ∷ [], s)
 step_ready s line is live = step_live s (Line line) live ∙ ap (line_step s s.search) is ∙ line_ready s s.search
 
 pub ready_alone : IsReadyAlone
@@ -34,10 +34,10 @@ ready_alone before later line is live =
       after-append beginning before (Line line ∷ later) ∙ ap (λ (t : Step). after_events t.1 later) at ∙ sym (after-append beginning before later),
     )
 
-quit_said : (line : List ℕ) → asked line ≡ Quit → says_quit (Line line) ≡ true
+quit_said : (line : List ℕ) → command_in line ≡ Quit → says_quit (Line line) ≡ true
 quit_said line is = ap is_quit is
 
-silent : (s : State) (ended : Bool) (line : List ℕ) (later : List Event) → s.ended ≡ ended → asked line ≡ Quit → replies s (Line line ∷ later) ≡ []
+silent : (s : State) (ended : Bool) (line : List ℕ) (later : List Event) → s.ended ≡ ended → command_in line ≡ Quit → replies s (Line line ∷ later) ≡ []
 silent s true line later end is = replies-ended s (Line line ∷ later) end
 silent s false line later live is =
     let at : step s (Line line) ≡ ([], record s { ended = true; search = None }) = step_quit s (Line line) live (quit_said line is) in

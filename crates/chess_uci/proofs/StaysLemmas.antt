@@ -4,7 +4,7 @@ use Rattle.std.specs.Prelude.{nat_lt}
 use Rattle.chess_types.specs.board.MoveParts.{MoveParts}
 use Rattle.chess_types.specs.board.Lines.{Line as GameLine}
 use Rattle.chess_search.specs.Best.{best}
-use Rattle.chess_uci.specs.Commands.{Command, Stop, Quit, asked, without_memory}
+use Rattle.chess_uci.specs.Commands.{Command, Stop, Quit, command_in, without_memory}
 use Rattle.chess_uci.specs.Machine.{Event, Line, Starved, Slice, Moment, Search, State, Step, beginning, step_if, live_step, line_step, busy_command, slice_step, slice_if, sliced, complete, moment_step, end_if, is_reached}
 use Rattle.chess_uci.specs.Laws.{after_events, KeepsSearching, SearchStays}
 
@@ -37,8 +37,8 @@ abbrev Stays : State → Search → Step → Type 0
 Stays s x t = KeepsSearching s.line x t.1.line t.1.search
 
 live_stays : (s : State) (event : Event) (x : Search) → s.search ≡ Some x → Stays s x (live_step s event)
-live_stays s (Line bytes) x e = subst (λ (y : Option Search). Stays s x (line_step s y (asked bytes))) (sym e) (busy_stays s x (asked bytes) e)
-live_stays s (Starved bytes) x e = subst (λ (y : Option Search). Stays s x (line_step s y (without_memory (asked bytes)))) (sym e) (busy_stays s x (without_memory (asked bytes)) e)
+live_stays s (Line bytes) x e = subst (λ (y : Option Search). Stays s x (line_step s y (command_in bytes))) (sym e) (busy_stays s x (command_in bytes) e)
+live_stays s (Starved bytes) x e = subst (λ (y : Option Search). Stays s x (line_step s y (without_memory (command_in bytes)))) (sym e) (busy_stays s x (without_memory (command_in bytes)) e)
 live_stays s Slice x e = subst (λ (y : Option Search). Stays s x (slice_step y s)) (sym e) (slice_stays s.line (nat_lt x.searched (length x.roots)) x)
 live_stays s (Moment moment) x e =
     let t : State = record s { moment = max s.moment moment } in

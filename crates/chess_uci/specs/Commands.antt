@@ -2,7 +2,7 @@
 --   gaps         the bytes that part words
 --   Command      what may be asked for
 --   named        the command that a word names, with the words after it
---   asked        what a line asks for
+--   command_in   what a line asks for
 --   claims_set   what the words after `setoption` set the option Claims to
 use Rattle.std.specs.Prelude.{ℕ, Bool, true, false, ◌||◌, ◌&&◌, if◌then◌else◌, List, [], ◌∷◌, map, Option, Some, None, unwrap_or, codes}
 use Rattle.std.specs.Char.{to_ascii_lowercase}
@@ -55,8 +55,8 @@ command [] = Idle
 command (word ∷ others) = unwrap_or (named word others) (command others)
 
 -- the command of a line
-abbrev pub asked : List ℕ → Command
-asked line = command (words gaps line)
+abbrev pub command_in : List ℕ → Command
+command_in line = command (words gaps line)
 
 -- the same, where memory is refused: a position alone takes some
 abbrev pub without_memory : Command → Command

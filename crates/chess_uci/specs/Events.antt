@@ -7,7 +7,7 @@ use Rattle.std.specs.Prelude.{◌≡◌, ◌⊎◌, List}
 use Rattle.chess_uci.specs.declared.reply.Reply.{Reply}
 use Rattle.chess_uci.specs.declared.event.Event.{Event as EventCode}
 use Rattle.chess_uci.specs.declared.event.Event.TheVariants.{Line as LineCode, Slice as SliceCode, Moment as MomentCode}
-use Rattle.chess_uci.specs.Commands.{asked}
+use Rattle.chess_uci.specs.Commands.{command_in}
 use Rattle.chess_uci.specs.Machine.{State, Step, Event, Line, Slice, Moment, Starved, AsksForMemory, step}
 
 -- the event that the code passes
@@ -22,7 +22,7 @@ Does t replies new = (replies ≡ t.0) × (new ≡ t.1)
 
 -- the step of a line for which a growth was refused: only of one that asks for memory
 abbrev pub Starves : State → EventCode → List Reply → State → Type 0
-Starves old (LineCode line) replies new = AsksForMemory (asked line.now) × Does (step old (Starved line.now)) replies new
+Starves old (LineCode line) replies new = AsksForMemory (command_in line.now) × Does (step old (Starved line.now)) replies new
 Starves old _ replies new = ⊥
 
 -- what an event leads to: its step, or that of a refused growth

@@ -17,7 +17,7 @@ use Rattle.chess_types.specs.board.Lines.{Line as GameLine, last}
 use Rattle.chess_search.specs.Best.{best}
 use Rattle.chess_uci.specs.declared.reply.Reply.{Reply}
 use Rattle.chess_uci.specs.declared.reply.Reply.TheVariants.{ReadyOk, Info, BestMove}
-use Rattle.chess_uci.specs.Commands.{Command, IsReady, Go, Stop, Quit, asked, without_memory}
+use Rattle.chess_uci.specs.Commands.{Command, IsReady, Go, Stop, Quit, command_in, without_memory}
 use Rattle.chess_uci.specs.Go.{fields}
 use Rattle.chess_uci.specs.Machine.{Event, Line, Starved, Slice, Moment, Search, State, beginning, step, is_reached, chosen}
 
@@ -57,15 +57,15 @@ is_quit _ = false
 
 -- the event is a line that says `go`
 abbrev pub says_go : Event → Bool
-says_go (Line bytes) = is_go (asked bytes)
-says_go (Starved bytes) = is_go (without_memory (asked bytes))
+says_go (Line bytes) = is_go (command_in bytes)
+says_go (Starved bytes) = is_go (without_memory (command_in bytes))
 says_go Slice = false
 says_go (Moment moment) = false
 
 -- the event is a line that says `quit`
 abbrev pub says_quit : Event → Bool
-says_quit (Line bytes) = is_quit (asked bytes)
-says_quit (Starved bytes) = is_quit (without_memory (asked bytes))
+says_quit (Line bytes) = is_quit (command_in bytes)
+says_quit (Starved bytes) = is_quit (without_memory (command_in bytes))
 says_quit Slice = false
 says_quit (Moment moment) = false
 
@@ -127,8 +127,8 @@ by_line l (Some x) command = is_stop command
 
 -- a search ends by its last depth, by time or by `stop`, or a `go` is answered at once
 abbrev pub cause : State → Event → Bool
-cause s (Line bytes) = by_line s.line s.search (asked bytes)
-cause s (Starved bytes) = by_line s.line s.search (without_memory (asked bytes))
+cause s (Line bytes) = by_line s.line s.search (command_in bytes)
+cause s (Starved bytes) = by_line s.line s.search (without_memory (command_in bytes))
 cause s Slice = by_depth s.search
 cause s (Moment moment) = by_time s.search (max s.moment moment)
 
@@ -144,7 +144,7 @@ abbrev pub IsReadyAlone : Type 0
 IsReadyAlone =
     (before later : List Event) (line : List ℕ) →
     let s = after_events beginning before in
-    asked line ≡ IsReady → s.ended ≡ false →
+    command_in line ≡ IsReady → s.ended ≡ false →
     (replies beginning (before ++ Line line ∷ later) ≡ replies beginning before ++ ReadyOk ∷ replies s later)
     × (replies beginning (before ++ later) ≡ replies beginning before ++ replies s later)
     × (after_events beginning (before ++ Line line ∷ later) ≡ after_events beginning (before ++ later))
@@ -153,7 +153,7 @@ IsReadyAlone =
 abbrev pub SilentAfterQuit : Type 0
 SilentAfterQuit =
     (before later : List Event) (line : List ℕ) →
-    asked line ≡ Quit → replies beginning (before ++ Line line ∷ later) ≡ replies beginning before
+    command_in line ≡ Quit → replies beginning (before ++ Line line ∷ later) ≡ replies beginning before
 
 -- the best at the last completed depth
 abbrev pub best_done : GameLine → Search → ℕ → Option (MoveParts × ℤ)

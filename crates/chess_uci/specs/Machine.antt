@@ -20,7 +20,7 @@ use Rattle.chess_types.specs.board.Lines.{Line as GameLine, last}
 use Rattle.chess_search.specs.Best.{best}
 use Rattle.chess_uci.specs.declared.reply.Reply.{Reply}
 use Rattle.chess_uci.specs.declared.reply.Reply.TheVariants.{Name, Author, ClaimsOption, UciOk, ReadyOk, Refused, OutOfMemory, Busy, Info, BestMove}
-use Rattle.chess_uci.specs.Commands.{Command, Idle, Uci, IsReady, NewGame, Position, Unplaced, Go, Stop, Quit, SetOption, asked, without_memory, claims_set}
+use Rattle.chess_uci.specs.Commands.{Command, Idle, Uci, IsReady, NewGame, Position, Unplaced, Go, Stop, Quit, SetOption, command_in, without_memory, claims_set}
 use Rattle.chess_uci.specs.Go.{fields, is_named, budget, last_depth}
 use Rattle.chess_uci.specs.Placing.{Grows, start_line, placed}
 
@@ -226,8 +226,8 @@ moment_step (Some x) s = turned (end_if (is_reached x.end s.moment) x) s
 
 -- what an event does to a session that has not ended
 abbrev pub live_step : State → Event → Step
-live_step s (Line bytes) = line_step s s.search (asked bytes)
-live_step s (Starved bytes) = line_step s s.search (without_memory (asked bytes))
+live_step s (Line bytes) = line_step s s.search (command_in bytes)
+live_step s (Starved bytes) = line_step s s.search (without_memory (command_in bytes))
 live_step s Slice = slice_step s.search s
 live_step s (Moment moment) = moment_step s.search (record s { moment = max s.moment moment })
 

@@ -15,6 +15,7 @@ use Rattle.chess_types.specs.board.Legal.{legal_moves}
 use Rattle.chess_types.specs.board.Lines.{Line, last, extended}
 use Rattle.chess_fen.specs.declared.fault.FenFault.{FenFault}
 use Rattle.chess_fen.specs.Reading.{fen_reading}
+use Rattle.chess_draws.specs.Pushes.{most_plies}
 
 -- no move is made from the position
 abbrev pub from_position : PositionParts → Line
@@ -67,7 +68,7 @@ named_move line word = find (λ m. bytes_eq word (move_text m)) (legal_moves (la
 -- a line has at most 20,000 moves
 abbrev pub line_with_move : Line → Option MoveParts → Option Line
 line_with_move line None = None
-line_with_move line (Some m) = if nat_le 20000 (length line.moves) then None else Some (extended line m)
+line_with_move line (Some m) = if nat_le most_plies (length line.moves) then None else Some (extended line m)
 
 -- the line with the move of one word more, if the word names one
 abbrev pub line_with_word : Option Line → List ℕ → Option Line

@@ -1,6 +1,6 @@
 ghost use Rattle.std.specs.Prelude.{◌≡◌};
 ghost use Rattle.byte_streams.specs.Words.{words};
-ghost use Rattle.chess_uci.specs.Commands.{gaps, asked as asked_of, named as named_by, is_idle, same_word, truth_in, claims_set};
+ghost use Rattle.chess_uci.specs.Commands.{gaps, command_in, named as named_by, is_idle, same_word, truth_in, claims_set};
 ghost use Rattle.chess_uci.specs.steps.Commands.{command_of, named_of};
 
 use byte_streams::split_word;
@@ -56,8 +56,8 @@ fn named<'a>(word: &[u8], rest: &'a [u8]) -> Option<Command<'a>>
 }
 
 /// What the line asks for: its first word that is a command decides.
-pub(crate) fn asked(line: &[u8]) -> Command<'_>
-    ensures { command_of result ≡ asked_of line.now }
+pub(crate) fn read_command(line: &[u8]) -> Command<'_>
+    ensures { command_of result ≡ command_in line.now }
 {
     let mut rest = line;
     while let Some((word, others)) = split_word(rest, GAPS) {

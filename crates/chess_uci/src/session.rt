@@ -1,13 +1,13 @@
 ghost use Rattle.std.specs.Prelude.{◌≡◌, ◌⊎◌, max, None, true, is_some};
 ghost use Rattle.byte_streams.specs.Words.{words};
-ghost use Rattle.chess_uci.specs.Commands.{gaps, asked as asked_of, claims_set as claims_set_of, without_memory, Unplaced};
+ghost use Rattle.chess_uci.specs.Commands.{gaps, command_in, claims_set as claims_set_of, without_memory, Unplaced};
 ghost use Rattle.chess_uci.specs.Placing.{Grows, placed};
 ghost use Rattle.chess_uci.specs.Machine.{beginning, slice_step, moment_step, line_step, idle_command, placed_at, go, quit, set_claims, introduction, is_infinite, is_waiting, depth_done, so_far, AsksForMemory, IsAhead};
 ghost use Rattle.chess_uci.specs.steps.Commands.{command_of};
 ghost use Rattle.chess_uci.specs.Events.{Does, Follows};
 ghost use Rattle.chess_search.specs.Slices.{IsInRange};
 
-use crate::command::{Command, asked, claims_set};
+use crate::command::{Command, claims_set, read_command};
 use crate::event::Event;
 use crate::fields::read_fields;
 use crate::go::{behind, budget, last_depth};
@@ -212,10 +212,10 @@ impl<'a, A: Allocator> Session<'a, A> {
 
     // Obeys a line.
     fn obey(&mut self, line: &[u8]) -> ArrayVec<Reply, 4>
-        ensures { Does (line_step self.old self.old.search (asked_of line.now)) result.items self.new
-            ⊎ (AsksForMemory (asked_of line.now) × Does (line_step self.old self.old.search (without_memory (asked_of line.now))) result.items self.new) }
+        ensures { Does (line_step self.old self.old.search (command_in line.now)) result.items self.new
+            ⊎ (AsksForMemory (command_in line.now) × Does (line_step self.old self.old.search (without_memory (command_in line.now))) result.items self.new) }
     {
-        let command = asked(line);
+        let command = read_command(line);
         if self.searching() {
             self.obey_busy(command)
         } else {

@@ -1,4 +1,5 @@
 ghost use Rattle.std.specs.Prelude.{◌≡◌, ◌≤◌, IfSome};
+ghost use Rattle.chess_draws.specs.Pushes.{most_plies};
 ghost use Rattle.chess_tree.specs.Forest.{height};
 ghost use Rattle.chess_tree.specs.GameTree.{root_node};
 ghost use Rattle.chess_walk.specs.Order.{node_along};
@@ -12,7 +13,7 @@ pub fn node_at<'t, 'a, A: Allocator>(
     path: &[u32],
 ) -> Option<NodeRef<'t, 'a, A>>
     ensures node { result ≡ node_along path.now (root_node tree.now.tree) }
-    ensures high { IfSome result (λ node. height node.below ≤ 20000) }
+    ensures high { IfSome result (λ node. height node.below ≤ most_plies) }
 {
     let _ = tree.position();
     let mut node = tree.root();

@@ -3,6 +3,7 @@ ghost use Rattle.std.specs.Iterator.{at_most};
 ghost use Rattle.chess_types.specs.board.Legal.{is_legal};
 ghost use Rattle.chess_types.specs.board.Lines.{extended, last};
 ghost use Rattle.chess_san.specs.Writing.{san};
+ghost use Rattle.chess_draws.specs.Pushes.{most_plies};
 ghost use Rattle.chess_walk.specs.Replays.{GivesPlayed, main_played, played};
 ghost use Rattle.chess_walk.specs.steps.Lines.{IsLegalAgain, before_move, shortened};
 
@@ -72,7 +73,7 @@ fn back_to<A: Allocator>(line: &mut Line<'_, A>, plies: u32)
 fn go_before<A: Allocator>(line: &mut Line<'_, A>, depth: u32, again: Option<Move>)
     requires still { line.old.looked ≡ 0 }
     requires deep { 1 ≤ depth }
-    requires few { depth ≤ 20000 }
+    requires few { depth ≤ most_plies }
     requires legal { IsLegalAgain line.old.line depth again }
     requires room { length line.old.line.moves < line.old.room }
     ensures line { line.new.line ≡ before_move line.old.line depth again }
@@ -92,7 +93,7 @@ fn go_before<A: Allocator>(line: &mut Line<'_, A>, depth: u32, again: Option<Mov
 fn make<A: Allocator>(line: &mut Line<'_, A>, m: Move) -> ArrayString<8>
     requires still { line.old.looked ≡ 0 }
     requires legal { is_legal (last line.old.line) m ≡ true }
-    requires few { length line.old.line.moves < 20000 }
+    requires few { length line.old.line.moves < most_plies }
     requires room { length line.old.line.moves < line.old.room }
     ensures text { result.bytes ≡ san (last line.old.line) m }
     ensures line { line.new.line ≡ extended line.old.line m }

@@ -1,5 +1,6 @@
 ghost use Rattle.std.specs.Prelude.{◌≡◌, ◌+◌, ◌<◌, ◌≤◌, ◌∷◌, ◌++◌, [], true, false, length, vec_len, vec_capacity, is_none, if◌then◌else◌, IfOk, None};
 ghost use Rattle.std.specs.Iterator.{at_most};
+ghost use Rattle.chess_draws.specs.Pushes.{most_plies};
 ghost use Rattle.chess_tree.specs.Forest.{child, height};
 ghost use Rattle.chess_walk.specs.Order.{Gives, of_main, visits};
 ghost use Rattle.chess_walk.specs.declared.walk.Kind.TheVariants as kind;
@@ -273,7 +274,7 @@ impl<'t, 'a, A: Allocator> Walk<'t, 'a, A> {
 
     /// All nodes below a node, to which depths count from it. Want of memory is answered.
     pub fn below(alloc: &'a A, node: &NodeRef<'t, 'a, A>) -> Result<Walk<'t, 'a, A>, AllocError>
-        requires { height node.now.below ≤ 20000 }
+        requires { height node.now.below ≤ most_plies }
         ensures { IfOk result (λ walk. walk ≡ visits false 1 0 None node.now.below) }
     {
         Walk::over(alloc, line(1, 0, None, node.below()))

@@ -53,10 +53,12 @@ abbrev pub IsGameOf : Option Held → List ℕ → (code count count' used used'
 IsGameOf None text code count count' used used' room room' new = (code ≡ empty_slot) × (new ≡ None) × (count' ≡ count) × (used' ≡ used) × (room' ≡ room)
 IsGameOf (Some held) text code count count' used used' room room' new = IsGame text code count count' used used' room room' × (new ≡ Some held)
 
+-- the same, of a session that a slot holds
 abbrev pub IsPassedOf : Option Held → List ℕ → (code used used' : ℕ) → Option Held → Type 0
 IsPassedOf None text code used used' new = (code ≡ empty_slot) × (new ≡ None) × (used' ≡ used)
 IsPassedOf (Some held) text code used used' new = IsPassed text code used used' × (new ≡ Some held)
 
+-- the same, of a session that a slot holds
 abbrev pub IsReportOf : Option Held → List ℕ → (code count count' used used' : ℕ) → (report report' : GameReport) → (room room' : List ℕ) → Option Held → Type 0
 IsReportOf None text code count count' used used' report report' room room' new =
     (code ≡ empty_slot) × (new ≡ None) × (count' ≡ count) × (used' ≡ used) × (report' ≡ report) × (room' ≡ room)

@@ -1,61 +1,26 @@
--- The lines of the input, answered one by one as their bytes are read.
-use Rattle.std.proofs.Common.{◌≡◌, ℕ, ◌==◌, inl, inr, Option, Some, IfSome, List, [], ◌∷◌, ◌++◌, refl, sym, ap, subst, ◌∙◌, append_assoc, append-nil}
-use Rattle.std.specs.Io.KnownBytes.{Appends, Consumes, IsAtEnd, Keeps}
-use Rattle.std.proofs.KnownBytes.{Appends-nil, Appends-trans, Appends-kept, Consumes-nil, Consumes-trans, Consumes-whole}
-use Rattle.std.proofs.lemmas.Bool.{cases_Bool}
-use Rattle.perft.specs.InputLines.{lines_from, line_after, kept, line_text, text_after, texts, answers}
+-- The answer to a line of the input.
+use Rattle.std.proofs.Common.{◌≡◌, ◌≢◌, ◌<◌, ◌≤◌, ℕ, List, [], ◌∷◌, ◌++◌, length, leb, Bool, true, false, Some, None, Result, Ok, Err, refl, ap, arith}
+use Rattle.std.proofs.lemmas.Bool.Decides.{nat_tests}
+use Rattle.byte_streams.specs.declared.source.Failed.{Failed}
+use Rattle.chess_loop.specs.Runs.{InOne}
+use Rattle.chess_loop.specs.steps.Reads.{StepOr}
+use Rattle.chess_loop.specs.steps.Sending.{Sends, SendsParts}
+use Rattle.chess_loop.proofs.SendingLemmas.{sends_one}
+use Rattle.perft.specs.Lines.{Answers, ended_by_feed, kept, line_text}
 
--- What was read is `given`, of which `begun` comes after the last line feed; the lines before it are answered by `done`.
--- Whatever comes next, what is still to be answered is as if all came at once.
-pub record Underway (x0 x w0 w line : Option (List ℕ)) : Type 0 where
-  pub given : List ℕ
-  pub begun : List ℕ
-  pub done : List ℕ
-  pub read : Consumes x0 x given
-  pub written : Appends w0 w done
-  pub line_is : line ≡ kept begun
-  pub whole : (rest : List ℕ) → done ++ texts (lines_from begun rest) ≡ answers (given ++ rest)
+pub long_kept : (line : List ℕ) → 1024 < length line → line_text None ≡ line_text (kept line)
+long_kept line long = (let over : leb (length line) 1024 ≡ false = grind (arith, nat_tests, long) in rw over refl)
 
-pub start : (x0 x w line : Option (List ℕ)) → x ≡ x0 → line ≡ Some [] → Underway x0 x w w line
-start x0 x w line same none = record {
-  given = [];
-  begun = [];
-  done = [];
-  read = rw same (Consumes-nil x0);
-  written = Appends-nil w;
-  line_is = none;
-  whole = λ rest. refl;
-}
+pub short_kept : (line : List ℕ) → length line ≤ 1024 → kept line ≡ Some line
+short_kept line short = (let within : leb (length line) 1024 ≡ true = grind (arith, nat_tests, short) in rw within refl)
 
-texts_on : (begun : List ℕ) (b : ℕ) (rest : List ℕ) → texts (lines_from begun (b ∷ rest)) ≡ text_after begun b ++ texts (lines_from (line_after begun b) rest)
-texts_on begun b rest = elim (cases_Bool (b == 10)) [ inl feed ↦ rw feed refl | inr other ↦ rw other refl ]
+pub fed : (text : List ℕ) → text ≢ [] → text ++ 10 ∷ [] ≡ ended_by_feed text
+fed [] some = absurd (some refl)
+fed (b ∷ text) some = refl
 
--- one byte more
-pub on : {x0 x w0 w line : Option (List ℕ)} → (so : Underway x0 x w0 w line) → (b : ℕ) (y v new : Option (List ℕ)) → Consumes x y (b ∷ []) →
-    new ≡ kept (line_after so.begun b) → Appends w v (text_after so.begun b) → Underway x0 y w0 v new
-on {x0} {x} {w0} {w} {line} so b y v new read new_is written =
-    let text : List ℕ = text_after so.begun b in
-    record {
-      given = so.given ++ b ∷ [];
-      begun = line_after so.begun b;
-      done = so.done ++ text;
-      read = Consumes-trans x0 x y so.given (b ∷ []) so.read read;
-      written = Appends-trans w0 w v so.done text so.written written;
-      line_is = new_is;
-      whole = λ rest.
-          append_assoc so.done text (texts (lines_from (line_after so.begun b) rest))
-          ∙ ap (λ (t : List ℕ). so.done ++ t) (sym (texts_on so.begun b rest))
-          ∙ so.whole (b ∷ rest)
-          ∙ ap answers (sym (append_assoc so.given (b ∷ []) rest));
-    }
-
--- the end of the input, and the answer to what comes after the last line feed
-pub finished : {x0 x w0 w line : Option (List ℕ)} → Underway x0 x w0 w line → (v u : Option (List ℕ)) → IsAtEnd x → Appends w v (line_text line) → Keeps v u →
-    IfSome x0 (λ given. Appends w0 u (answers given))
-finished {x0} {x} {w0} {w} {line} so v u at_end written kept_is =
-    let text : List ℕ = line_text (kept so.begun) in
-    let took : Appends w v text = subst (λ (l : Option (List ℕ)). Appends w v (line_text l)) so.line_is written in
-    let all : Appends w0 u (so.done ++ text) = Appends-kept w0 v u (so.done ++ text) (Appends-trans w0 w v so.done text so.written took) kept_is in
-    let is : so.done ++ text ≡ answers so.given =
-    ap (λ (t : List ℕ). so.done ++ t) (sym (append-nil text)) ∙ so.whole [] ∙ ap answers (append-nil so.given) in
-    Consumes-whole x0 x so.given (λ (given : List ℕ). Appends w0 u (answers given)) so.read at_end (subst (λ (t : List ℕ). Appends w0 u t) is all)
+module _ {S W : Type 0} (takes : W → List ℕ → W → Type 0) (failed : W → Bool) where
+  -- a text is sent in one part
+  pub answers_one : (s : S) (bytes text page page1 : List ℕ) (w w1 : W) (result : Result (Unit {0}) Failed) → text ≡ line_text (kept bytes) → Sends takes failed page w text page1 w1 result
+      → (parts : List (List ℕ)) × StepOr (InOne Answers) (InOne Answers) takes failed s bytes parts s result × SendsParts takes failed page w parts page1 w1 result
+  answers_one s bytes text page page1 w w1 (Ok x) said sends = (text ∷ [], (text, (said, refl), refl), sends_one takes failed w w1 page text page1 (Ok x) sends)
+  answers_one s bytes text page page1 w w1 (Err e) said sends = (text ∷ [], (text, (said, refl), refl), sends_one takes failed w w1 page text page1 (Err e) sends)

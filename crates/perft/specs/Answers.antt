@@ -1,10 +1,10 @@
 -- The answers to the lines `DEPTH FEN`.
---   gaps         the bytes that part words: space, tab and carriage return
+--   gaps         the bytes that separate words: space, tab and carriage return
 --   depth_in     the depth that a word writes, 0 to 16
 --   fault_text   `fault N NAME`
 --   count_text   the number of leaves at the depth, at most 2^64 - 1, or the fault of the FEN
 --   answer_for   the same, or the fault of the depth
---   answer_to    of the words `DEPTH FEN`; `behind`, what comes after the first word of a line
+--   answer_to    of the words `DEPTH FEN`; `after_first`, what comes after the first word of a line
 --   is_full      the word asks for every leaf to be made
 --   answer       of a whole line, without its line feed; nothing for a line without words
 use Rattle.std.specs.Prelude.{ℕ, ◌-◌, ◌^◌, min, Bool, if◌then◌else◌, List, [], ◌∷◌, ◌++◌, Option, Some, None, Result, Ok, Err, codes, decimal, bytes_eq}
@@ -39,8 +39,8 @@ answer_for None fen = codes "fault Depth"
 answer_for (Some depth) fen = count_text depth (fen_reading fen)
 
 -- what comes after the first word
-abbrev pub behind : List ℕ → List ℕ
-behind line = after_word gaps (skip_gaps gaps line)
+abbrev pub after_first : List ℕ → List ℕ
+after_first line = after_word gaps (skip_gaps gaps line)
 
 -- the first word is the depth, and what comes after it the FEN
 abbrev pub answer_to : List (List ℕ) → List ℕ → List ℕ
@@ -56,8 +56,8 @@ abbrev pub answer_by : List (List ℕ) → List ℕ → List ℕ
 answer_by [] line = []
 answer_by (word ∷ more) line =
     if is_full word
-    then answer_to (words gaps (behind line)) (trimmed gaps (behind (behind line)))
-    else answer_to (word ∷ more) (trimmed gaps (behind line))
+    then answer_to (words gaps (after_first line)) (trimmed gaps (after_first (after_first line)))
+    else answer_to (word ∷ more) (trimmed gaps (after_first line))
 
 -- the answer to a line; nothing for a line without words
 unfoldable pub answer : List ℕ → List ℕ

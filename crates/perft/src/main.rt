@@ -11,31 +11,39 @@
 #![tactic(auto)]
 
 mod answer;
+mod counter;
 mod leaves;
-mod lines;
 #[cfg(test)]
 mod tests;
 
-use lines::answer_lines;
-use std::io;
-use std::io::BufReader;
+use byte_streams::{FromRead, ToWrite};
+use chess_loop::RunEnd;
+use counter::count_leaves;
 use std::process::ExitCode;
 
 /// The status where memory or a stream failed.
 const FAILED: u8 = 3;
 
-fn run(rt: &HostRuntime) -> io::Result<()> {
-    let reader = BufReader::new(rt.alloc(), rt.stdin())?;
-    answer_lines(reader, &mut rt.stdout())
+// What is written on the standard error, if the run ended early.
+fn message(ended: RunEnd) -> Option<&'static str> {
+    match ended {
+        RunEnd::Good => None,
+        RunEnd::ReadFault => Some("read fault"),
+        RunEnd::WriteFault => Some("write fault"),
+        RunEnd::Memory => Some("out of memory"),
+    }
 }
 
 fn main(rt: HostRuntime) -> ExitCode {
-    match run(&rt) {
-        Ok(()) => ExitCode::SUCCESS,
-        Err(error) => {
-            // A fault of the standard error is ignored.
-            let _ = eprintln!(rt; "{error}");
-            ExitCode::from(FAILED)
-        }
-    }
+    let ended = count_leaves(
+        &rt.alloc(),
+        &mut FromRead::new(rt.stdin()),
+        &mut ToWrite::new(rt.stdout()),
+    );
+    let Some(message) = message(ended) else {
+        return ExitCode::SUCCESS;
+    };
+    // A fault of the standard error is ignored.
+    let _ = eprintln!(rt; "{message}");
+    ExitCode::from(FAILED)
 }

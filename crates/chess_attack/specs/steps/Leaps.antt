@@ -2,7 +2,7 @@
 --   is_off                      a file or a rank is so many further on than another, up or down
 --   lands                       a square is so many files and ranks from another
 --   leap_on                     1 on that square; leap_sides, to both sides; leap_corners, also upwards and downwards
---   leap_knight, _king, _pawn   the leaps of each kind
+--   leap_king, leap_pawn        the leaps of a king and of a pawn
 use Rattle.std.specs.Prelude.{ℕ, ◌+◌, ◌==◌, Bool, ◌&&◌}
 use Rattle.chess_types.specs.declared.board.man.Colour.{Colour}
 use Rattle.chess_types.specs.declared.board.man.Colour.TheVariants.{White, Black}

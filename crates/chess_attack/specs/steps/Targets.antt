@@ -1,7 +1,7 @@
 -- The squares that a man attacks, gathered in a set of squares.
 --   Grows                            a set grows by the squares that pass a test
 --   lands_aside                     a leap to either side; lands_around, also upwards or downwards
---   lands_knight, _king, _pawn      one of the leaps of each kind
+--   lands_king, lands_pawn          one of the leaps of a king and of a pawn
 --   slides_along                    a kind slides to a square along an axis; slides_from, along one of the four
 use Rattle.std.specs.Prelude.{ℕ, ◌≡◌, ◌<◌, Bool, ◌&&◌, ◌||◌}
 use Rattle.std.specs.Ordering.{nat_cmp}

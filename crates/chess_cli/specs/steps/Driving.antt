@@ -15,6 +15,7 @@ abbrev pub Happened : State → Event → State → List ℕ → List ℕ → Ty
 Happened s event t page page1 = (told : List Reply) × Follows s event told t × (page1 ≡ page ++ reply_lines told)
 
 module _ {A C W : Type 0} (reads : C → ℕ → C → Type 0) (takes : W → List ℕ → W → Type 0) (failed : W → Bool) (line : List ℕ) where
+  -- a line is answered, or answering it broke off
   abbrev pub SoFarOr : {X E : Type 0} → TimedSession A C → List (List ℕ) → TimedSession A C → Result X E → Type 0
   SoFarOr old parts new (Ok x) = AnsweredSoFar reads old.session old.clock line parts new.session new.clock × (is_fed new.session ≡ false)
   SoFarOr old parts new (Err e) = AnsweredSoFar reads old.session old.clock line parts new.session new.clock

@@ -2,6 +2,6 @@
 use Rattle.std.specs.Prelude.{ℕ, List, [], ◌∷◌, ◌++◌}
 
 -- the text, and the next one after a space, where there is a text already
-abbrev pub behind : List ℕ → List ℕ → List ℕ
-behind [] next = next
-behind (byte ∷ bytes) next = (byte ∷ bytes) ++ 32 ∷ next
+abbrev pub with_another : List ℕ → List ℕ → List ℕ
+with_another [] next = next
+with_another (byte ∷ bytes) next = (byte ∷ bytes) ++ 32 ∷ next

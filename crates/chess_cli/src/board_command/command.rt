@@ -259,7 +259,7 @@ fn with_rest<'a>(word: &[u8], rest: &'a [u8]) -> Command<'a>
 }
 
 /// What the line asks for.
-pub fn asked(line: &[u8]) -> Command<'_>
+pub fn read_command(line: &[u8]) -> Command<'_>
     ensures { request_of result ≡ request line.now }
 {
     let Some((word, rest)) = split_word(without_return(line), GAPS) else {

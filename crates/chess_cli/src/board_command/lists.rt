@@ -4,7 +4,7 @@ ghost use Rattle.arrayvec.specs.ArrayString.{array_string_len};
 ghost use Rattle.chess_types.specs.board.Squares.{squares};
 ghost use Rattle.chess_types.specs.board.Texts.{move_text, square_text};
 ghost use Rattle.chess_cli.specs.Answers.{list_text};
-ghost use Rattle.chess_cli.specs.steps.Lists.{behind};
+ghost use Rattle.chess_cli.specs.steps.Lists.{with_another};
 
 use arrayvec::ArrayString;
 use chess_loop::OutputBuffer;
@@ -12,9 +12,9 @@ use chess_types::{Move, Square, SquareSet};
 use std::alloc::Allocator;
 
 // Another text, after a space where it isn't the first.
-fn push_behind<const N: usize>(text: &mut ArrayString<N>, next: &str)
+fn push_word<const N: usize>(text: &mut ArrayString<N>, next: &str)
     requires { array_string_len text.old + 1 + length next.now ≤ N }
-    ensures bytes { text.new.bytes ≡ behind text.old.bytes next.now }
+    ensures bytes { text.new.bytes ≡ with_another text.old.bytes next.now }
     ensures len { array_string_len text.new ≤ array_string_len text.old + 1 + length next.now }
 {
     if text.is_empty() {
@@ -90,7 +90,7 @@ pub fn squares_text(set: &SquareSet) -> ArrayString<192>
 {
     let mut text = ArrayString::new();
     for square in set.iter() {
-        push_behind(&mut text, square.text().as_str());
+        push_word(&mut text, square.text().as_str());
     }
     if text.is_empty() {
         text.push_str("none");

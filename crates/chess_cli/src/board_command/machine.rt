@@ -11,7 +11,7 @@ ghost use Rattle.chess_types.specs.board.Position.{start, man_on};
 ghost use Rattle.chess_eval.specs.Evaluation.{evaluation};
 ghost use Rattle.chess_items.specs.declared.fault.FaultKind.TheVariants.{Memory};
 ghost use Rattle.chess_pgn.specs.Games.{Game};
-ghost use Rattle.chess_pgn.specs.Reading.{HasNoGame, IsAtFront, IsWhite};
+ghost use Rattle.chess_pgn.specs.Reading.{HasNoGame, BeginsWithGame, IsWhite};
 ghost use Rattle.chess_tree.specs.Forest.{count as count_children};
 ghost use Rattle.chess_tree.specs.Edits.{parent};
 ghost use Rattle.chess_tree.specs.GameTree.{TreeParts, annotated_here, at_path, deleted, line_to, main_line, nodes_here, promoted_here};
@@ -27,9 +27,10 @@ ghost use Rattle.chess_san.specs.Naming.{san_reading};
 ghost use Rattle.chess_san.specs.Writing.{san};
 ghost use Rattle.chess_search.specs.Best.{best};
 ghost use Rattle.chess_fen.specs.Writing.{written};
+ghost use Rattle.chess_draws.specs.Pushes.{most_plies};
 
 use super::answer::{Pending, put_done, put_refused};
-use super::command::{Command, asked};
+use super::command::{Command, read_command};
 use super::lists::{put_moves, squares_text};
 use super::numbers::{PLACES, PathWord, depth_in, read_path};
 use super::outcomes::{best_text, claims_text, status_text};
@@ -73,7 +74,7 @@ impl<'k, A: Allocator> Model for Board<'k, A> {
 
     ghost use Rattle.std.specs.Prelude.{◌≡◌, vec_len};
 
-    ghost invariant = { λ b. vec_len b.places ≡ 20000 };
+    ghost invariant = { λ b. vec_len b.places ≡ most_plies };
 }
 
 // The position in which a game begins.
@@ -214,7 +215,7 @@ impl<'k, A: Allocator> Board<'k, A> {
         ensures reply { MayAnswer (IsOnPage result self.new page.old page.new) self.old (request line.now) self.new }
         ensures game { result ≡ Pending.Game → request line.now ≡ Pgn }
     {
-        match asked(line) {
+        match read_command(line) {
             Command::Blank => {}
             Command::New => put_done(page, self.begin(start_position())),
             Command::Set(fen) => put_done(page, self.set(fen)),
@@ -304,7 +305,7 @@ impl<'k, A: Allocator> Board<'k, A> {
     ///
     /// The first fault of the text, with its place in bytes from the text's beginning; `8 Memory` has place 0.
     pub fn load(&mut self, text: &[u8]) -> Result<Option<usize>, PgnFault>
-        ensures game { IfOk result (λ found. IfSome found (λ used. (game : Game) × IsAtFront text.now game used × (self.new ≡ from_root game.tree))) }
+        ensures game { IfOk result (λ found. IfSome found (λ used. (game : Game) × BeginsWithGame text.now game used × (self.new ≡ from_root game.tree))) }
         ensures none { result ≡ Ok None → IsWhite text.now × (self.new ≡ self.old) }
         ensures fault { IfErr result (λ fault. (fault.kind ≡ Memory) ⊎ HasNoGame text.now) }
         ensures err { IfErr result (λ _. self.new ≡ self.old) }

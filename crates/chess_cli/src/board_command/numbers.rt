@@ -1,6 +1,7 @@
 ghost use Rattle.std.specs.Prelude.{◌≡◌, ◌≤◌, IfSome, length};
 ghost use Rattle.std.specs.Char.{is_ascii_digit};
 ghost use Rattle.std.specs.List.{list_all};
+ghost use Rattle.chess_draws.specs.Pushes.{most_plies};
 ghost use Rattle.chess_cli.specs.Numbers.{depth_in, is_number, number_in, ReadsPath};
 
 /// The most places of a path: no node of a tree is deeper.
@@ -59,7 +60,7 @@ pub enum PathWord {
 /// Reads the path that the word writes: `-` for the root's, else child numbers from 0, separated by periods. It is put before the
 /// places, of which there are 20,000.
 pub fn read_path(word: &[u8], places: &mut [u32]) -> PathWord
-    requires { length places.old ≡ 20000 }
+    requires { length places.old ≡ most_plies }
     ensures { ReadsPath word.now places.new result }
 {
     if word == b"-".as_slice() {

@@ -2,7 +2,7 @@ ghost use Rattle.std.specs.Prelude.{◌≡◌, ◌≢◌, ◌≤◌, ◌<◌, �
 ghost use Rattle.chess_items.specs.declared.fault.PgnFault.{PgnFault};
 ghost use Rattle.chess_tree.specs.GameTree.{TreeParts};
 ghost use Rattle.chess_cli.specs.Answers.{Answers, beginning};
-ghost use Rattle.chess_loop.specs.RunEnds.{IsFront, most_reads};
+ghost use Rattle.chess_loop.specs.RunEnds.{IsPrefix, most_reads};
 ghost use Rattle.chess_loop.specs.InputLines.{lines_of, ended_lines};
 ghost use Rattle.chess_loop.specs.Runs.{Runs};
 
@@ -28,7 +28,7 @@ pub fn board_over_bytes<A: Allocator>(
         × (reader.old.left ≡ given ++ reader.new.left) × ((reader.new.failed ≡ true) ⊎ (most_reads ≤ length given))
         × Runs Answers beginning (ended_lines [] given) text state × (writer.new.taken ≡ writer.old.taken ++ text) × (writer.new.failed ≡ false) }
     ensures write_fault { result ≡ Ended.WriteFault → (given : List ℕ) × (lines : List (List ℕ)) × (text : List ℕ) × (front : List ℕ) × (rest : List ℕ) × (state : TreeParts)
-        × (reader.old.left ≡ given ++ reader.new.left) × IsFront lines (lines_of given)
+        × (reader.old.left ≡ given ++ reader.new.left) × IsPrefix lines (lines_of given)
         × Runs Answers beginning lines text state × (text ≡ front ++ rest) × (0 < length rest) × (writer.new.taken ≡ writer.old.taken ++ front)
         × (reader.new.failed ≡ false) × (writer.new.failed ≡ true) }
     ensures memory { result ≡ Ended.Memory → (reader.new ≡ reader.old) × (writer.new ≡ writer.old) }

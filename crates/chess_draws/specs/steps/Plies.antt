@@ -15,6 +15,7 @@ use Rattle.chess_play.specs.Records.{record_of}
 use Rattle.chess_draws.specs.declared.ply.Ply.{Ply}
 use Rattle.chess_draws.specs.declared.repetition_key.RepetitionKey.{RepetitionKey}
 use Rattle.chess_draws.specs.steps.RepetitionKeys.{IsMenOf, IsKeyOf}
+use Rattle.chess_draws.specs.Pushes.{most_plies}
 
 -- the ply is that of a legal move in the position, between squares of the board
 pub record IsPly (p : PositionParts) (ply : Ply) : Type 0 where
@@ -48,5 +49,5 @@ pub record IsLine (start : PositionParts) (plies : List Ply) (live : LiveParts) 
 -- at most 20,000 plies, and at most 16 more that are only looked at
 pub record IsHeld (start : PositionParts) (plies looked : List Ply) (live : LiveParts) (here : RepetitionKey) : Type 0 where
   pub line : IsLine start (plies ++ looked) live here
-  pub few : length plies ≤ 20000
+  pub few : length plies ≤ most_plies
   pub ahead : length looked ≤ 16

@@ -40,6 +40,7 @@ abbrev pub AfterAll : {R : Type 0} → ℕ → Place → AtHand R → Bool → T
 AfterAll most place new true = Decides place (unread new) ⊎ (new.has_ended ≡ true)
 AfterAll most place new false = (most < length (unread new)) × (Decides place (unread new) → ⊥)
 
+-- bytes were read until those at hand decide the next item, or all were read, or there are too many
 pub record HasRead {R : Type 0} (gives : R → List ℕ → R → Type 0) (ended : R → Type 0) (failed : R → Bool) (most : ℕ) (place : Place) (old new : AtHand R) (is_ready : Bool) : Type 0 where
   pub pieces : List (List ℕ)
   pub calls : Calls gives old.source pieces new.source
@@ -63,6 +64,7 @@ abbrev pub AfterReading : {R : Type 0} → (R → Type 0) → List (List ℕ) �
 AfterReading ended pieces new true = (unread new ≡ joined pieces) × (0 < length pieces) × (new.has_ended ≡ false)
 AfterReading ended pieces new false = (unread new ≡ []) × (joined pieces ≡ []) × (new.has_ended ≡ true) × ended new.source
 
+-- all bytes at hand are used, and others were read, or none are left
 pub record HasRefilled {R : Type 0} (gives : R → List ℕ → R → Type 0) (ended : R → Type 0) (failed : R → Bool) (old new : AtHand R) (has_more : Bool) : Type 0 where
   pub pieces : List (List ℕ)
   pub calls : Calls gives old.source pieces new.source

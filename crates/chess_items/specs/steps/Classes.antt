@@ -4,6 +4,7 @@ use Rattle.chess_items.specs.Items.{in_braces, in_line, is_digit, is_glyph, is_n
 use Rattle.chess_items.specs.declared.class.Class.{Class}
 use Rattle.chess_items.specs.declared.class.Class.TheVariants.{Braced, Digit, Glyph, Line, Name, Plain, Word}
 
+-- the bytes of a class
 abbrev pub has_byte : Class → ℕ → Bool
 has_byte Word = is_word_byte
 has_byte Digit = is_digit

@@ -34,6 +34,7 @@ outside_open start (b ∷ bytes) =
     else (if is_blank b then false
     else (if is_glyph b then list_all is_glyph bytes && nat_lt (length bytes) 2 else sign_open start b bytes))
 
+-- the first item reaches the end of the bytes and may go on, between the parts of a tag
 unfoldable pub tag_open : Bool → List ℕ → Bool
 tag_open start [] = true
 tag_open start (b ∷ bytes) =
@@ -43,10 +44,12 @@ tag_open start (b ∷ bytes) =
     else (if b == byte "]" then false
     else (if b == byte "%" then start && list_all in_line bytes else false))))
 
+-- the same after a backslash in a value
 abbrev pub escape_open : List ℕ → Bool
 escape_open [] = true
 escape_open (b ∷ bytes) = false
 
+-- the same in a tag's value
 unfoldable pub value_open : List ℕ → Bool
 value_open [] = true
 value_open (b ∷ bytes) =
@@ -60,6 +63,7 @@ mark_open [] = true
 mark_open (b ∷ []) = b == 187
 mark_open (b ∷ c ∷ bytes) = false
 
+-- the same where a game begins
 unfoldable pub start_open : List ℕ → Bool
 start_open [] = true
 start_open (b ∷ bytes) = if b == 239 then mark_open bytes else outside_open true (b ∷ bytes)

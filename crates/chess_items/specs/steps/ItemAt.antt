@@ -8,6 +8,7 @@ use Rattle.chess_items.specs.declared.outcome.Outcome.TheVariants.{Unfinished}
 use Rattle.chess_items.specs.declared.place.Place.{Place}
 use Rattle.chess_items.specs.declared.place.Place.TheVariants.{GameStart, LineStart, InLine, TagLineStart, InTag, InValue}
 
+-- an item and what follows it, or none
 abbrev pub Found : Type 0
 Found = Option (Item × List ℕ)
 
@@ -15,39 +16,50 @@ Found = Option (Item × List ℕ)
 unfoldable pub run_at : (ℕ → Bool) → (List ℕ → List ℕ → Found) → List ℕ → Found
 run_at p f bytes = let n = prefix_len p bytes in f (take n bytes) (drop n bytes)
 
+-- what a run of word bytes is
 abbrev pub word_found : List ℕ → List ℕ → Found
 word_found text rest = Some (word_item text, rest)
 
+-- an annotation number, where it is one
 abbrev pub nag_found : Option ℕ → List ℕ → Found
 nag_found (Some n) rest = Some (Nag n, rest)
 nag_found None rest = None
 
+-- a number below 256
 abbrev pub small : ℕ → Option ℕ
 small n = if nat_lt n 256 then Some n else None
 
+-- what a run of digits after a $ is
 abbrev pub digits_found : List ℕ → List ℕ → Found
 digits_found [] rest = None
 digits_found (d ∷ ds) rest = nag_found (small (digits_value 0 (d ∷ ds))) rest
 
+-- what a run of ! and ? is
 abbrev pub glyph_found : List ℕ → List ℕ → Found
 glyph_found text rest = nag_found (glyph_value text) rest
 
+-- what a line after a % is
 abbrev pub hidden_found : List ℕ → List ℕ → Found
 hidden_found line rest = Some (Hidden, rest)
 
+-- what a line after a ; is
 abbrev pub line_found : List ℕ → List ℕ → Found
 line_found line rest = Some (Comment (map without_brace line), rest)
 
+-- what is before a right brace, after a left one; nothing where there is no right brace
 abbrev pub braces_found : List ℕ → List ℕ → Found
 braces_found text [] = None
 braces_found text (b ∷ rest) = Some (Comment text, rest)
 
+-- what a run of name bytes is in a tag
 abbrev pub name_found : List ℕ → List ℕ → Found
 name_found text rest = Some (Name text, rest)
 
+-- what a run of plain bytes is in a value
 abbrev pub stretch_found : List ℕ → List ℕ → Found
 stretch_found text rest = Some (Stretch text, rest)
 
+-- after a %, which hides a line in the first column only
 abbrev pub hidden_at : Bool → List ℕ → Found
 hidden_at start bytes = if start then run_at in_line hidden_found bytes else None
 
@@ -106,6 +118,7 @@ unfoldable pub start_at : List ℕ → Found
 start_at [] = None
 start_at (b ∷ bytes) = if b == 239 then mark_at bytes else outside_at true (b ∷ bytes)
 
+-- the first item at a place
 unfoldable pub item_at : Place → List ℕ → Found
 item_at GameStart bytes = start_at bytes
 item_at LineStart bytes = outside_at true bytes

@@ -39,6 +39,7 @@ module _ {X T : Type 0} (comes : X → List ℕ → X → Type 0) (at_hand : X �
     pub text : List ℕ
     pub parts : at_hand mid ++ joined pieces ≡ text ++ at_hand new
 
+  -- a run of items ended, and white space alone was not taken for a game
   pub record Passed (limit : ℕ) (old new : X) (t u : T) (stopped : Stopped) : Type 0 where
     pub mid : X
     pub ran : Ran comes at_hand all sound size takes limit old mid t u (Ok stopped)

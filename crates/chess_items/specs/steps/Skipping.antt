@@ -10,11 +10,13 @@ use Rattle.chess_items.specs.declared.blanks.Column.{Column}
 use Rattle.chess_items.specs.declared.blanks.Column.TheVariants.{First, Later, Hidden}
 use Rattle.chess_items.specs.declared.place.Place.{Place}
 
+-- the column after a byte of white space or of a hidden line; none after another
 unfoldable pub white_byte : Column → ℕ → Option Column
 white_byte Hidden b = if b == 10 then Some First else Some Hidden
 white_byte First b = if b == 10 then Some First else (if is_blank b then Some Later else (if b == byte "%" then Some Hidden else None))
 white_byte Later b = if b == 10 then Some First else (if is_blank b then Some Later else None)
 
+-- the same, where all bytes before were such
 abbrev pub white_next : Option Column → ℕ → Option Column
 white_next None b = None
 white_next (Some column) b = white_byte column b
@@ -28,10 +30,12 @@ abbrev pub column_at : Place → Column
 column_at place = if starts_line place then First else Later
 
 module _ {X : Type 0} (comes : X → List ℕ → X → Type 0) (at_hand : X → List ℕ) (all sound : X → Type 0) where
+  -- all that was left is white, or something else comes
   abbrev pub AfterSkip : Place → X → List (List ℕ) → X → Bool → Type 0
   AfterSkip place old pieces new true = (is_some (white_after (Some (column_at place)) (at_hand old ++ joined pieces)) ≡ true) × all new × (at_hand new ≡ []) × sound new × (all old → joined pieces ≡ [])
   AfterSkip place old pieces new false = (white_after (Some (column_at place)) (at_hand old ++ joined pieces) ≡ None) × sound new × (all old → (joined pieces ≡ []) × all new) × (text : List ℕ) × (at_hand old ++ joined pieces ≡ text ++ at_hand new)
 
+  -- bytes were read until one is no white space, or to the end
   pub record Skipped (place : Place) (old new : X) (is_white : Bool) : Type 0 where
     pub pieces : List (List ℕ)
     pub came : Calls comes old pieces new

@@ -49,6 +49,7 @@ abbrev pub behind : Place → List (ℕ × Item) → Place
 behind place [] = place
 behind place (x ∷ items) = behind (place_after place x.1) items
 
+-- each item is white space, a mark or a hidden line
 abbrev pub all_white : List (ℕ × Item) → Bool
 all_white items = list_all (λ (x : ℕ × Item). is_white x.1) items
 
@@ -119,6 +120,7 @@ module _ {X T : Type 0} (comes : X → List ℕ → X → Type 0) (at_hand : X �
     pub over : Whatever new (λ more. Oversized most place (at_hand new ++ more))
     pub bracket : Whatever new (λ more. (rest : List ℕ) → item_at place (at_hand new ++ more) ≡ Some (TagOpen, rest) → Brackets takes at t u)
 
+  -- why no item is used
   abbrev pub AfterStop : ℕ → ℕ → Place → X → X → T → T → Stop → Type 0
   AfterStop at most place old new t u stop.Full = ⊥
   AfterStop at most place old new t u stop.Left = (item : Item) × Next place old new item × takes t at item (Ok Leaves) u
@@ -127,6 +129,7 @@ module _ {X T : Type 0} (comes : X → List ℕ → X → Type 0) (at_hand : X �
   AfterStop at most place old new t u stop.NoItem = NoNext most place new × (u ≡ t)
   AfterStop at most place old new t u stop.TooLarge = RunsPast at most place new t u
 
+  -- one item is used, or none
   abbrev pub AfterStep : ℕ → ℕ → Place → X → List (List ℕ) → X → T → T → Step → Type 0
   AfterStep at most place old pieces new t u (step.On next used white) =
       (item : Item) × UsesItem most place old pieces new item used × takes t at item (Ok GoesOn) u × (next ≡ place_after place item) × (white ≡ is_white item)
@@ -134,6 +137,7 @@ module _ {X T : Type 0} (comes : X → List ℕ → X → Type 0) (at_hand : X �
       (item : Item) × UsesItem most place old pieces new item used × takes t at item (Ok Ends) u × (next ≡ place_after place item) × (white ≡ is_white item)
   AfterStep at most place old pieces new t u (step.Stops why) = Rests old pieces new × AfterStop at most place old new t u why × Needs at_hand all place old (joined pieces) new
 
+  -- bytes came, and one item is used, or none
   pub record Stepped (at most : ℕ) (place : Place) (old new : X) (t u : T) (one : Step) : Type 0 where
     pub pieces : List (List ℕ)
     pub came : Calls comes old pieces new
@@ -218,6 +222,7 @@ module _ {X T : Type 0} (comes : X → List ℕ → X → Type 0) (at_hand : X �
     pub taken : Takes takes t items mid
     pub exceeds : RunsPast at (limit - at) place new mid u
 
+  -- why no more items are used
   abbrev pub AfterRun : ℕ → X → List (List ℕ) → X → T → T → ℕ → Place → Bool → Stop → Type 0
   AfterRun limit old pieces new t u at place white stop.Full = RanFull limit old pieces new t u at place white
   AfterRun limit old pieces new t u at place white stop.Left = RanUpTo limit old pieces new t u at place white (Ok Leaves)
@@ -226,6 +231,7 @@ module _ {X T : Type 0} (comes : X → List ℕ → X → Type 0) (at_hand : X �
   AfterRun limit old pieces new t u at place white stop.NoItem = RanAground limit old pieces new t u at place white
   AfterRun limit old pieces new t u at place white stop.TooLarge = RanOver limit old pieces new t u at place white
 
+  -- bytes came, and items are used up to where it stopped
   pub record RanOn (limit : ℕ) (old new : X) (t u : T) (s : Stopped) : Type 0 where
     pub pieces : List (List ℕ)
     pub came : Calls comes old pieces new

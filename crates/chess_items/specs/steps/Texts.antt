@@ -49,6 +49,7 @@ BreaksAt comes at_hand breaks all sound place old new Memory = BreaksOff comes b
 BreaksAt comes at_hand breaks all sound place old new Read = Broke comes at_hand breaks all sound place old new
 
 module _ {X : Type 0} (comes : X → List ℕ → X → Type 0) (at_hand : X → List ℕ) (all sound : X → Type 0) (size : X → ℕ) where
+  -- the bytes at hand decide the next item, or no more come
   pub record IsReady (most : ℕ) (place : Place) (old : X) (more : List ℕ) (new : X) : Type 0 where
     pub longer : at_hand new ≡ at_hand old ++ more
     pub decided : Decides place (at_hand new) ⊎ all new
@@ -69,10 +70,12 @@ module _ {X : Type 0} (comes : X → List ℕ → X → Type 0) (at_hand : X →
     pub sound_still : sound new
     pub held : length (at_hand old) ≤ most + 65536 → length (at_hand new) ≤ most + 65536
 
+  -- they do, or too many are at hand
   abbrev pub AfterCame : ℕ → Place → X → List ℕ → X → Bool → Type 0
   AfterCame most place old more new true = IsReady most place old more new
   AfterCame most place old more new false = IsOver most place old more new
 
+  -- bytes came until one of the two is so
   pub record Made (most : ℕ) (place : Place) (old new : X) (is_ready : Bool) : Type 0 where
     pub more : List ℕ
     pub came : comes old more new
@@ -90,10 +93,12 @@ module _ {X : Type 0} (comes : X → List ℕ → X → Type 0) (at_hand : X →
     pub sound_still : sound new
     pub smaller : size new + length (at_hand old) ≤ size old + left
 
+  -- others are at hand, or none come
   abbrev pub AfterRefill : X → List ℕ → X → Bool → Type 0
   AfterRefill old more new true = (at_hand new ≡ more) × sound new × (size new + 1 ≤ size old) × (all old → ⊥)
   AfterRefill old more new false = (at_hand new ≡ []) × (more ≡ []) × all new × sound new
 
+  -- all bytes at hand are used, and others came, or none do
   pub record Refill (old new : X) (has_more : Bool) : Type 0 where
     pub more : List ℕ
     pub came : comes old more new

@@ -7,6 +7,7 @@ use Rattle.chess_items.specs.steps.ItemAt.{Found}
 use Rattle.chess_items.specs.declared.token.Token.{Token}
 use Rattle.chess_items.specs.declared.token.Token.TheVariants.{Mark, Blank, Hidden, Braced, Line, Skipped, Word, Nag, Open, Close, Marker, TagOpen, TagClose, Name, Quote, Stretch, Escaped}
 
+-- the item of a token
 abbrev pub item_of : Token → Item
 item_of Mark = items.Mark
 item_of (Blank b) = items.Blank b
@@ -26,6 +27,7 @@ item_of Quote = items.Quote
 item_of (Stretch text) = items.Stretch text.now
 item_of (Escaped b) = items.Escaped b
 
+-- what the code finds, in the words of the definition
 abbrev pub found : Option (Token × Bor (List ℕ)) → Found
 found None = None
 found (Some x) = Some (item_of x.0, x.1.now)

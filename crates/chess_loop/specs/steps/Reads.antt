@@ -6,7 +6,7 @@
 use Rattle.std.specs.Prelude.{◌≡◌, ℕ, ◌<◌, ◌≤◌, ◌+◌, min, Bool, true, false, ◌⊎◌, List, [], length, Result, Ok, Err}
 use Rattle.chess_loop.specs.Runs.{Runs, Counted, Partly, Whole}
 use Rattle.chess_loop.specs.InputLines.{line_limit, line_room}
-use Rattle.chess_loop.specs.RunEnds.{Broken, IsFront}
+use Rattle.chess_loop.specs.RunEnds.{Broken, IsPrefix}
 use Rattle.chess_loop.specs.InputLines.{ended_lines, last_line, line_buffer}
 use Rattle.chess_loop.specs.steps.LineSoFar.{LineSoFar}
 use Rattle.chess_loop.specs.steps.Sending.{Sent, SendsParts}
@@ -17,6 +17,7 @@ pub record Holds (line : LineSoFar) (bytes : List ℕ) : Type 0 where
   pub kept : ((line.kept ≡ bytes) × (length bytes ≤ line_limit)) ⊎ ((length line.kept < line.seen) × (line_room < length bytes))
 
 module _ {S W : Type 0} (step cut : S → List ℕ → List (List ℕ) → S → Type 0) (takes : W → List ℕ → W → Type 0) (failed : W → Bool) where
+  -- a line is answered, or answering it broke off
   abbrev pub StepOr : {X E : Type 0} → S → List ℕ → List (List ℕ) → S → Result X E → Type 0
   StepOr old line parts new (Ok x) = step old line parts new
   StepOr old line parts new (Err e) = cut old line parts new
@@ -29,14 +30,15 @@ module _ {S W : Type 0} (step cut : S → List ℕ → List (List ℕ) → S →
   pub record Fed (over : S → Bool) (begun piece : List ℕ) (old new : S) (line : LineSoFar) (text page : List ℕ) : Type 0 where
     pub lines : List (List ℕ)
     pub most : ℕ
-    pub front : IsFront lines (ended_lines begun piece)
+    pub front : IsPrefix lines (ended_lines begun piece)
     pub runs : Runs (Counted step) (old, 0) lines text (new, most)
     pub late : length page ≤ most
     pub rest : (over new ≡ true) ⊎ ((over new ≡ false) × (lines ≡ ended_lines begun piece) × Holds line (line_buffer begun piece))
 
+  -- answering the lines of a piece broke off
   pub record FedPartly (begun piece : List ℕ) (old new : S) (text rest : List ℕ) : Type 0 where
     pub lines : List (List ℕ)
-    pub front : IsFront lines (ended_lines begun piece)
+    pub front : IsPrefix lines (ended_lines begun piece)
     pub runs : Partly step cut old lines text rest new
 
   -- what is on the page is sent, too

@@ -15,6 +15,7 @@ module _ {W : Type 0} (takes : W → List ℕ → W → Type 0) (failed : W → 
     pub whole : front ++ page ≡ text
     pub well : failed new ≡ failed old
 
+  -- a text is sent, or sending it broke off
   abbrev pub SentOr : {X E : Type 0} → W → List ℕ → List ℕ → W → Result X E → Type 0
   SentOr old text page new (Ok x) = Sent old text page new
   SentOr old text page new (Err e) = Broken takes failed old text new

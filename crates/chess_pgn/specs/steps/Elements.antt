@@ -16,6 +16,7 @@ pub record Frame : Type 0 where
   pub here : PositionParts
   pub lead : List ℕ
 
+-- the path to the last move of an interrupted line
 abbrev pub path_of : Frame → List ℕ
 path_of x = x.up ++ x.place ∷ []
 
@@ -23,6 +24,7 @@ path_of x = x.up ++ x.place ∷ []
 abbrev pub Last : Type 0
 Last = Option (ℕ × PositionParts)
 
+-- that move
 abbrev pub last_of : Frame → Last
 last_of x = Some (x.place, x.before)
 
@@ -31,6 +33,7 @@ abbrev pub end_of : List ℕ → Last → List ℕ
 end_of up None = up
 end_of up (Some x) = up ++ x.0 ∷ []
 
+-- the position before the last move of a line, where it has one
 abbrev pub before_of : Last → Option PositionParts
 before_of None = None
 before_of (Some x) = Some x.1

@@ -12,7 +12,7 @@
 use Rattle.std.specs.Prelude.{◌≡◌, ◌⊎◌, ◌≤◌, ℕ, List, [], ◌++◌, length, Option, Some, None, Result, Ok, Err}
 use Rattle.byte_streams.specs.Calls.{Calls, joined}
 use Rattle.chess_items.specs.declared.fault.FaultKind.TheVariants.{Memory}
-use Rattle.chess_pgn.specs.Reading.{HasNoGame, HasNoGameYet, IsAtFront, IsWhite}
+use Rattle.chess_pgn.specs.Reading.{HasNoGame, HasNoGameYet, BeginsWithGame, IsWhite}
 use Rattle.chess_pgn.specs.steps.GameCode.{game_of}
 use Rattle.chess_pgn.specs.declared.game.Game.{Game}
 use Rattle.chess_pgn.specs.declared.games.GamesFault.{GamesFault}
@@ -26,7 +26,7 @@ module _ {X : Type 0} (comes : X → List ℕ → X → Type 0) (at_hand : X →
   pub record HasCome {A : Type 0} (old new : X) (game : Game A) (used : ℕ) : Type 0 where
     pub pieces : List (List ℕ)
     pub came : Calls comes old pieces new
-    pub reads : (more : List ℕ) → (all new → more ≡ []) → IsAtFront (at_hand old ++ (joined pieces ++ more)) (game_of game) used
+    pub reads : (more : List ℕ) → (all new → more ≡ []) → BeginsWithGame (at_hand old ++ (joined pieces ++ more)) (game_of game) used
     pub text : List ℕ
     pub parts : at_hand old ++ joined pieces ≡ text ++ at_hand new
     pub counted : length text ≡ used
@@ -58,6 +58,7 @@ module _ {X : Type 0} (comes : X → List ℕ → X → Type 0) (at_hand : X →
     pub dark : (more : List ℕ) → (all new → more ≡ []) → IsWhite (at_hand old ++ (joined pieces ++ more)) → ⊥
     pub still : all old → (joined pieces ≡ []) × all new
 
+  -- memory was wanted
   pub record HasStarved (old new : X) : Type 0 where
     pub pieces : List (List ℕ)
     pub came : Calls comes old pieces new

@@ -34,6 +34,7 @@ pub record Heading : Type 0 where
 abbrev pub fresh : List (List ℕ × List ℕ) → Heading
 fresh read = record { read = read; part = Nothing; name = []; value = [] }
 
+-- at another part of a tag
 abbrev pub in_part : Part → Heading → Heading
 in_part part h = record { read = h.read; part = part; name = h.name; value = h.value }
 
@@ -41,37 +42,46 @@ in_part part h = record { read = h.read; part = part; name = h.name; value = h.v
 abbrev pub longer : List ℕ → Heading → Heading
 longer text h = record { read = h.read; part = Value; name = h.name; value = h.value ++ text }
 
+-- after a tag's name
 abbrev pub named : List ℕ → Heading → Heading
 named name h = record { read = h.read; part = Opening; name = h.name ++ name; value = h.value }
 
+-- after a tag's right bracket: it is read
 abbrev pub closed : Heading → Heading
 closed h = fresh (h.read ++ (h.name, h.value) ∷ [])
 
+-- after the left bracket comes the name
 abbrev pub name_step : Heading → Item → Option Heading
 name_step h (items.Name name) = Some (named name h)
 name_step h _ = None
 
+-- then a quotation mark
 abbrev pub opening_step : Heading → Item → Option Heading
 opening_step h items.Quote = Some (in_part Value h)
 opening_step h _ = None
 
+-- then the value, up to a quotation mark
 abbrev pub value_step : Heading → Item → Option Heading
 value_step h (items.Stretch text) = Some (longer text h)
 value_step h (items.Escaped b) = Some (longer (b ∷ []) h)
 value_step h items.Quote = Some (in_part Closing h)
 value_step h _ = None
 
+-- then the right bracket
 abbrev pub closing_step : Heading → Item → Option Heading
 closing_step h items.TagClose = Some (closed h)
 closing_step h _ = None
 
+-- a left bracket begins a tag
 abbrev pub opened : Heading → Item → Option Heading
 opened h items.TagOpen = Some (in_part Name h)
 opened h _ = None
 
+-- between tags
 abbrev pub outside_step : Heading → Item → Option Heading
 outside_step h item = if may_part_tags item then Some h else opened h item
 
+-- the heading after an item, by the part at which it is; none where the item may not be there
 abbrev pub step_in : Part → Heading → Item → Option Heading
 step_in Name h item = name_step h item
 step_in Opening h item = opening_step h item
@@ -132,6 +142,7 @@ Closes old new =
 abbrev pub is_first_fen : List ℕ → List (List ℕ × List ℕ) → Bool
 is_first_fen name kept = bytes_eq name (codes "FEN") && is_none (tag_in name kept)
 
+-- the item ends the first tag FEN
 abbrev pub ends_fen : Part → Item → List ℕ → List (List ℕ × List ℕ) → Bool
 ends_fen Closing items.TagClose name kept = is_first_fen name kept
 ends_fen _ _ name kept = false
@@ -142,6 +153,7 @@ fen_place old item = if ends_fen old.part item old.name.items old.found.tags the
 
 -- ---- the start
 
+-- the position of a FEN, or the fault at its tag
 abbrev pub start_read : ℕ → Result PositionParts FenFault → Result (Option PositionParts) PgnFault
 start_read at (Ok p) = Ok (Some p)
 start_read at (Err fault) = Err (record { place = at; kind = Fen })

@@ -13,6 +13,7 @@ HasKind (Pgn fault) Read = ⊥
 HasKind Read (Pgn other) = ⊥
 HasKind Read Read = ⊤
 
+-- want of memory stays, and is reported again
 abbrev pub staying_kind : GamesFault → FaultKind → Option GamesFault
 staying_kind fault Memory = Some fault
 staying_kind fault _ = None

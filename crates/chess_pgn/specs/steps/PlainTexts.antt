@@ -11,9 +11,11 @@ use Rattle.chess_types.specs.board.After.{is_castling}
 use Rattle.chess_san.specs.declared.form.Origin.{Origin}
 use Rattle.chess_san.specs.Writing.{captures, pawn_text, piece_text}
 
+-- nothing said of where a man comes from
 abbrev pub nowhere : Origin
 nowhere = record { file = None; rank = None }
 
+-- the text of a move that isn't castling and needs no square of origin
 abbrev pub plain_step : PositionParts → Kind → Man → MoveParts → List ℕ
 plain_step p Pawn man m = pawn_text (captures p man m) m
 plain_step p kind man m = piece_text kind nowhere (captures p man m) m.to

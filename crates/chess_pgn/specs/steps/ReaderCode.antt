@@ -37,6 +37,7 @@ use Rattle.chess_pgn.specs.declared.reader.moves.Moves.{Moves}
 abbrev pub MovesOn : {A : Type 0} → List Element → Moves A → Moves A → Type 0
 MovesOn some old new = (s : Reading) → Stands old s → (s' : Reading) × Stands new s' × Goes some s s'
 
+-- an item of movetext is read
 pub record Read {A : Type 0} (item : Item) (old new : Reader A) : Type 0 where
   pub stands : is_movetext item ≡ true
   pub moves : MovesOn (element item) old.moves new.moves
@@ -44,12 +45,14 @@ pub record Read {A : Type 0} (item : Item) (old new : Reader A) : Type 0 where
   pub outcome : new.outcome ≡ old.outcome
   pub header : new.header ≡ old.header
 
+-- a marker ends the game
 pub record Ended {A : Type 0} (item : Item) (old new : Reader A) : Type 0 where
   pub marker : item ≡ items.Marker new.outcome
   pub closed : old.moves.interrupted.items ≡ []
   pub moves : new.moves ≡ old.moves
   pub header : new.header ≡ old.header
 
+-- the bracket of the next game's tag ends the game, and is left
 pub record Left {A : Type 0} (item : Item) (old new : Reader A) : Type 0 where
   pub bracket : item ≡ items.TagOpen
   pub closed : old.moves.interrupted.items ≡ []
@@ -78,6 +81,7 @@ Moved item (Ok Ends) old new = Ended item old new
 Moved item (Ok Leaves) old new = Left item old new
 Moved item (Err fault) old new = RefusesItem item fault.kind old.moves
 
+-- the item at which a game ends
 abbrev pub ending_item : Option Outcome → Item
 ending_item (Some outcome) = items.Marker outcome
 ending_item None = items.TagOpen
@@ -88,6 +92,7 @@ ending_item None = items.TagOpen
 abbrev pub TakesPart : {A : Type 0} → Item → Header A → Header A → Type 0
 TakesPart item old new = HeadsOn item old new ⊎ ((may_part_tags item ≡ true) × (is_begun old.part ≡ false) × (new ≡ old))
 
+-- an item before the movetext is read
 pub record Headed {A : Type 0} (item : Item) (old new : Reader A) : Type 0 where
   pub heading : is_heading item ≡ true
   pub tags : TakesPart item old.header new.header
@@ -122,11 +127,13 @@ RefusesFirst {A = A} item kind old = NoStart old.header ⊎ ((between : Reader A
 abbrev pub HeadsGame : {A : Type 0} → Item → Result Taken PgnFault → Reader A → Reader A → Type 0
 HeadsGame {A = A} item result old new = ((result ≡ Ok GoesOn) × Headed item old new) ⊎ ((is_heading item ≡ false) × (between : Reader A) × BeginsMoves old between × Moved item result between new)
 
+-- what becomes of an item, in movetext or before it
 abbrev pub takes_when : {A : Type 0} → Bool → Item → Result Taken PgnFault → Reader A → Reader A → Type 0
 takes_when true item result old new = Moved item result old new
 takes_when false item (Ok taken) old new = HeadsGame item (Ok taken) old new
 takes_when false item (Err fault) old new = (fault.kind ≡ Memory) ⊎ (Strays item fault old.header ⊎ ((is_heading item ≡ false) × RefusesFirst item fault.kind old))
 
+-- what becomes of an item that the reader is offered
 abbrev pub TakesItem : {A : Type 0} → Reader A → Item → Result Taken PgnFault → Reader A → Type 0
 TakesItem old item result new = takes_when old.moving item result old new
 
@@ -163,6 +170,7 @@ Finishes {A = A} old new = (game : Game A) → Closed new game → Finished old 
 abbrev pub MayNotEnd : {A : Type 0} → Reader A → Type 0
 MayNotEnd reader = (is_begun reader.header.part ≡ true) ⊎ ((reader.moves.interrupted.items ≢ []) ⊎ ((reader.moving ≡ false) × NoStart reader.header))
 
+-- no game is answered
 abbrev pub Unanswered : {A : Type 0} → Stop → Reader A → PgnFault → Type 0
 Unanswered stop.Full reader fault = fault.kind ≡ Memory
 Unanswered stop.Left reader fault = fault.kind ≡ Memory

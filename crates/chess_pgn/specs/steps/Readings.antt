@@ -15,7 +15,8 @@ use Rattle.chess_types.specs.board.Position.{PositionParts}
 use Rattle.chess_types.specs.board.Lines.{last}
 use Rattle.chess_items.specs.declared.fault.FaultKind.{FaultKind}
 use Rattle.chess_items.specs.declared.fault.FaultKind.TheVariants.{Memory, TooLarge}
-use Rattle.chess_tree.specs.Forest.{Forest, Bare, height, moves_held}
+use Rattle.chess_draws.specs.Pushes.{most_plies}
+use Rattle.chess_tree.specs.Forest.{Forest, Bare, height, moves_held, most_moves}
 use Rattle.chess_tree.specs.Comments.{normalised}
 use Rattle.chess_tree.specs.GameTree.{TreeParts, moves_along}
 use Rattle.chess_tree.specs.WellFormed.{Leads}
@@ -35,9 +36,11 @@ pub record Reading : Type 0 where
   pub lead : List ℕ
   pub interrupted : List Frame
 
+-- what the elements give from a state of reading
 abbrev pub goes_on : List Element → Reading → Option (List ℕ × Forest)
 goes_on es s = run es s.comment s.forest s.up s.last_move s.here s.lead s.interrupted
 
+-- no line is interrupted
 abbrev pub is_nil : List Interrupted → Bool
 is_nil [] = true
 is_nil (i ∷ is) = false
@@ -49,6 +52,7 @@ abbrev pub comment_at : List ℕ → List ℕ → List ℕ → List ℕ
 comment_at [] comment text = comments_joined comment text
 comment_at (k ∷ path) comment text = comment
 
+-- the same below the root
 abbrev pub forest_at : List ℕ → List ℕ → Forest → Forest
 forest_at [] text f = f
 forest_at (k ∷ path) text f = hang (k ∷ path) (say text) f
@@ -77,11 +81,13 @@ Pends texts (x ∷ xs) (i ∷ is) =
 abbrev pub position_at : PositionParts → Forest → List ℕ → PositionParts
 position_at start f path = last (record { start = start; moves = moves_along path f })
 
+-- an interrupted line is in the tree
 pub record IsFrame (start : PositionParts) (f : Forest) (x : Frame) : Type 0 where
   pub there : Leads (path_of x) f
   pub here : x.here ≡ position_at start f (path_of x)
   pub before : x.before ≡ position_at start f x.up
 
+-- each of them is
 abbrev pub AreFrames : PositionParts → Forest → List Frame → Type 0
 AreFrames start f [] = ⊤
 AreFrames start f (x ∷ xs) = IsFrame start f x × AreFrames start f xs
@@ -99,6 +105,7 @@ BeginsAtRoot None (x ∷ xs) up = ⊤
 
 -- ---- the reader
 
+-- what the reader keeps is that state of reading
 pub record HoldsReading (t : TreeParts) (lines : List Interrupted) (has_move : Bool) (comments : List ℕ) (behind : ℕ) (s : Reading) : Type 0 where
   pub start : t.tree.start ≡ s.start
   pub comment : t.tree.comment ≡ s.comment
@@ -132,7 +139,7 @@ FailsWith some moves = (s : Reading) → Stands moves s → (es : List Element) 
 
 abbrev pub Exceeds : {A : Type 0} → List Element → Moves A → Type 0
 Exceeds some moves =
-    (s : Reading) → Stands moves s → (es : List Element) (c : List ℕ) (f : Forest) → goes_on (some ++ es) s ≡ Some (c, f) → (20000 < height f) ⊎ (1000000 < moves_held f)
+    (s : Reading) → Stands moves s → (es : List Element) (c : List ℕ) (f : Forest) → goes_on (some ++ es) s ≡ Some (c, f) → (most_plies < height f) ⊎ (most_moves < moves_held f)
 
 abbrev pub RefusesElements : {A : Type 0} → List Element → FaultKind → Moves A → Type 0
 RefusesElements some Memory moves = ⊤
@@ -141,7 +148,7 @@ RefusesElements some kind moves = FailsWith some moves
 
 -- no move is added at the cursor: it is as deep as any, or the tree holds as many as any
 abbrev pub AtLimit : TreeParts → Type 0
-AtLimit t = (20000 ≤ length t.path) ⊎ (1000000 ≤ moves_held t.tree.below)
+AtLimit t = (most_plies ≤ length t.path) ⊎ (most_moves ≤ moves_held t.tree.below)
 
 -- why a move isn't added that is legal
 abbrev pub IsRoomFault : FaultKind → Bool → TreeParts → Type 0

@@ -8,6 +8,7 @@ use Rattle.chess_pgn.specs.declared.lines.Lines.{Lines}
 use Rattle.chess_pgn.specs.declared.movetext.Task.{Task}
 use Rattle.chess_pgn.specs.declared.movetext.Task.TheVariants.{Moves, Variations, Below, Close, Back}
 
+-- what a task of the writer is to do
 abbrev pub todo : {A : Type 0} → Task A → Todo
 todo (Moves nodes due) = tasks.Moves nodes due
 todo (Variations nodes) = tasks.Variations nodes
@@ -15,6 +16,7 @@ todo (Below m node nodes due) = tasks.Below m nodes due
 todo Close = tasks.Close
 todo Back = tasks.Back
 
+-- what all are to do, the next first
 abbrev pub todos : {A : Type 0} → List (Task A) → List Todo
 todos items = map todo (reverse items)
 

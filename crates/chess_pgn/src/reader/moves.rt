@@ -177,7 +177,7 @@ impl<'a, 'k, A: Allocator> Moves<'a, 'k, A> {
     }
 
     // Whether the comments are the cursor's: after a move, and before the first move of the game.
-    fn is_behind_move(&self) -> bool
+    fn is_after_move(&self) -> bool
         ensures { result ≡ (self.now.played || is_nil self.now.interrupted.items) }
     {
         self.played || self.interrupted.is_empty()
@@ -191,7 +191,7 @@ impl<'a, 'k, A: Allocator> Moves<'a, 'k, A> {
         let Ok(m) = self.analysis.read_move(text)? else {
             return Err(at_place(at, FaultKind::Move));
         };
-        self.note_if(self.is_behind_move())?;
+        self.note_if(self.is_after_move())?;
         if let Err(fault) = self.add(at, m, text) {
             return Err(fault);
         }

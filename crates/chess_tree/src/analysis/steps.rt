@@ -1,4 +1,5 @@
 ghost use Rattle.std.specs.Prelude.{◌≡◌, ◌<◌, ◌≤◌, ◌++◌, ◌∷◌, [], take, true, false, length, MatchResult, OnErr, OnOk};
+ghost use Rattle.chess_draws.specs.Pushes.{most_plies};
 ghost use Rattle.chess_tree.specs.declared.fault.TreeFault.TheVariants.{AtRoot, NoSuch};
 ghost use Rattle.chess_tree.specs.Forest.{count};
 ghost use Rattle.chess_tree.specs.Edits.{parent};
@@ -69,7 +70,7 @@ impl<'a, 'k, A: Allocator> Analysis<'a, 'k, A> {
         ensures line { OnOk result (line_to self.new ≡ line_along path.now self.old.tree) }
         ensures err { OnErr result (self.new ≡ self.old) }
         ensures no_such { MatchResult result (λ _. has path.now self.old.tree.below ≡ true) (λ fault. (fault ≡ NoSuch) × (has path.now self.old.tree.below ≡ false)) }
-        ensures short { OnOk result (length path.now ≤ 20000) }
+        ensures short { OnOk result (length path.now ≤ most_plies) }
     {
         if !self.tree.has(path) {
             return Err(TreeFault::NoSuch);

@@ -1,6 +1,7 @@
 ghost use Rattle.std.specs.Prelude.{◌≡◌, ◌<◌, ◌≤◌, [], length, IfOk, OnErr};
 ghost use Rattle.chess_tree.specs.steps.Entries.{leaf_entry, entry_at, with_parent};
 ghost use Rattle.chess_tree.specs.steps.Freed.{IsLoosened, IsPool, IsPut};
+ghost use Rattle.chess_tree.specs.Forest.{most_moves};
 
 use super::node_id::NodeId;
 use super::nodes::Nodes;
@@ -37,7 +38,7 @@ pub(crate) fn put<A: Allocator>(
     place: u32,
 ) -> Result<NodeId, AllocError>
     requires pool { IsPool nodes.old free.old }
-    requires room { free.old ≡ 0 → length nodes.old ≤ 1000000 }
+    requires room { free.old ≡ 0 → length nodes.old ≤ most_moves }
     requires few { length nodes.old ≤ 1000001 }
     ensures ok { IfOk result (λ number. IsPut nodes.old free.old (leaf_entry played parent place) nodes.new free.new number) }
     ensures few { length nodes.new ≤ 1000001 }

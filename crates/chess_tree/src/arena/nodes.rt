@@ -2,6 +2,7 @@ ghost use Rattle.std.specs.Prelude.{◌≡◌, ◌<◌, ◌≤◌, ◌-◌, ◌+
 ghost use Rattle.std.proofs.Common.{set};
 ghost use Rattle.chess_tree.specs.steps.Grove.{no_move};
 ghost use Rattle.chess_tree.specs.steps.Entries.{leaf_entry, entry_at, moved_first, with_children, with_parent, with_place};
+ghost use Rattle.chess_tree.specs.Forest.{most_moves};
 
 use super::node_id::NodeId;
 use super::slot::{Below, Slot};
@@ -131,7 +132,7 @@ impl<'a, A: Allocator> Nodes<'a, A> {
         parent: NodeId,
         place: u32,
     ) -> Result<(), AllocError>
-        requires { length self.old ≤ 1000000 }
+        requires { length self.old ≤ most_moves }
         ensures ok { OnOk result (self.new ≡ self.old ++ leaf_entry played parent place ∷ []) }
         ensures err { OnErr result (self.new ≡ self.old) }
     {

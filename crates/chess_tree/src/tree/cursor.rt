@@ -3,6 +3,7 @@ ghost use Rattle.chess_tree.specs.declared.fault.TreeFault.TheVariants.{Memory, 
 ghost use Rattle.chess_tree.specs.Forest.{count};
 ghost use Rattle.chess_types.specs.board.Legal.{is_legal};
 ghost use Rattle.chess_types.specs.board.Lines.{last};
+ghost use Rattle.chess_draws.specs.Pushes.{most_plies};
 ghost use Rattle.chess_tree.specs.GameTree.{at_path, find, has, line_along, line_to, main_line, moves_along, nodes_here};
 ghost use Rattle.chess_tree.specs.CursorLine.{GoesOn};
 
@@ -15,7 +16,7 @@ impl<'a, A: Allocator> Tree<'a, A> {
     /// How many plies the cursor is below the root, at most 20,000.
     pub fn depth(&self) -> u32
         ensures value { result ≡ length self.now.path }
-        ensures at_most { result ≤ 20000 }
+        ensures at_most { result ≤ most_plies }
         ensures line { result ≡ length (line_to self.now).moves }
     {
         self.nodes.depth() as u32

@@ -11,6 +11,7 @@ use Rattle.chess_types.specs.board.MoveParts.{MoveParts}
 use Rattle.chess_types.specs.board.Legal.{is_legal}
 use Rattle.chess_types.specs.board.Lines.{Line, extended, last}
 use Rattle.chess_types.specs.steps.LineCode.{coded_line}
+use Rattle.chess_draws.specs.Pushes.{most_plies}
 use Rattle.chess_walk.specs.Order.{Visit}
 use Rattle.chess_walk.specs.Replays.{Played}
 use Rattle.chess_walk.specs.steps.Code.{coded_visit}
@@ -49,7 +50,7 @@ pub record IsReplayable (line : Line) (v : Visit) : Type 0 where
   pub move : MoveParts
   pub there : v.node.move ≡ Some move
   pub legal : is_legal (last (before_move line v.depth v.again)) move ≡ true
-  pub few : v.depth ≤ 20000
+  pub few : v.depth ≤ most_plies
 
 -- and so has each after it
 abbrev pub AreReplayable : Line → List Visit → Type 0

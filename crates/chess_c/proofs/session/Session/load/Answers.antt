@@ -2,7 +2,7 @@ use Rattle.std.proofs.Common.{◌≡◌, ◌⊎◌, ℕ, List, IfSome, Ok, sym, 
 use Rattle.chess_items.specs.declared.fault.FaultKind.TheVariants.{Memory}
 use Rattle.chess_items.specs.declared.fault.PgnFault.{PgnFault}
 use Rattle.chess_pgn.specs.Games.{Game}
-use Rattle.chess_pgn.specs.Reading.{HasNoGame, IsAtFront}
+use Rattle.chess_pgn.specs.Reading.{HasNoGame, BeginsWithGame}
 use Rattle.chess_tree.specs.GameTree.{TreeParts}
 use Rattle.chess_cli.specs.Loads.{from_root}
 use Rattle.chess_slots.specs.Codes.{fault_code, ok}
@@ -12,10 +12,10 @@ use Rattle.chess_c.proofs.session.Session.load.Goals as goal
 use Rattle.chess_c.proofs.session.Session.load.Goals.{in-Ok-Some, in-Ok-None, in-Err}
 
 found : (text : List ℕ) → (board board' : TreeParts) → (code used used' taken : ℕ) → code ≡ ok → used' ≡ taken
-    → (game : Game) × IsAtFront text game taken × (board' ≡ from_root game.tree) → LoadsFrom text board code used used' board'
+    → (game : Game) × BeginsWithGame text game taken × (board' ≡ from_root game.tree) → LoadsFrom text board code used used' board'
 found text board board' code used used' taken is same game =
     let (tree, front, new) = game in
-    inl (is, tree, subst (λ u. IsAtFront text tree u) (sym same) front, new)
+    inl (is, tree, subst (λ u. BeginsWithGame text tree u) (sym same) front, new)
 
 refused : (text : List ℕ) → (fault : PgnFault) → (code used used' : ℕ) → code ≡ fault_code fault.kind → used' ≡ fault.place
     → (fault.kind ≡ Memory) ⊎ HasNoGame text → IsNone text code used used'
@@ -30,7 +30,7 @@ returns-clause-board c =
     elim c.match-load.branch [
       | in-Ok-Some w ↦
           found text board c.load.new.self c.match-load.result c.args.used.now c.match-load.used w.in-Ok-Some.taken w.result-is w.used-is
-          (subst (λ field. IfSome field (λ taken. (game : Game) × IsAtFront text game taken × (c.load.new.self ≡ from_root game.tree))) w.in-Ok-Some.field-0-is w.in-Ok-Some.ensures.game)
+          (subst (λ field. IfSome field (λ taken. (game : Game) × BeginsWithGame text game taken × (c.load.new.self ≡ from_root game.tree))) w.in-Ok-Some.field-0-is w.in-Ok-Some.ensures.game)
       | in-Ok-None w ↦
           let (white, as_it_was) = c.load.ensures.none (w.in-Ok-None.is ∙ ap Ok w.in-Ok-None.field-0-is) in
           inr (as_it_was ∙ same, inl (w.result-is, w.used-is, white))

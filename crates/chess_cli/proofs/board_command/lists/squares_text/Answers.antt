@@ -2,7 +2,7 @@ use Rattle.std.proofs.Common.{◌≡◌, ◌≤◌, ℕ, List, sym, ap, ◌∙�
 use Rattle.std.specs.FinSet.{contains}
 use Rattle.arrayvec.specs.ArrayString.{array_string_len}
 use Rattle.chess_types.specs.board.Squares.{squares}
-use Rattle.chess_cli.specs.steps.Lists.{behind}
+use Rattle.chess_cli.specs.steps.Lists.{with_another}
 use Rattle.chess_cli.proofs.ListLemmas.{Written, written-start, written-more, squares_few}
 use Rattle.chess_cli.proofs.board_command.lists.squares_text.Goals as goal
 
@@ -29,7 +29,7 @@ loop-square-preserved c =
     record {
       can = tt;
       finite = tt;
-      written = written-more c.loop-square.text.bytes c.push_behind.new.text.bytes all c.next.new.self c.in-Some.square before
-          (c.push_behind.ensures.bytes ∙ ap (behind c.loop-square.text.bytes) name);
-      len = omega (arith, two, fewer, c.push_behind.ensures.len, c.loop-square.invariant.len);
+      written = written-more c.loop-square.text.bytes c.push_word.new.text.bytes all c.next.new.self c.in-Some.square before
+          (c.push_word.ensures.bytes ∙ ap (with_another c.loop-square.text.bytes) name);
+      len = omega (arith, two, fewer, c.push_word.ensures.len, c.loop-square.invariant.len);
     }

@@ -18,9 +18,9 @@ returns-clause-steps g c = λ s h.
     let r = c.args.self.now in
     let said = normalised (drop (min r.from (length r.comments.items)) r.comments.items) in
     rw ((ok_of c.add.result c.in_default-add.not-Err c.add.ensures.played), (ok_of c.add.result c.in_default-add.not-Err c.add.ensures.interrupted), c.in_ok-note_if.ensures.interrupted, (ok_of c.add.result c.in_default-add.not-Err c.add.ensures.comments), (ok_of c.add.result c.in_default-add.not-Err c.add.ensures.from), c.in_ok-note_if.ensures.from)
-    (text_goes r.analysis c.note_if.new.self.analysis c.add.new.self.analysis r.interrupted.items r.played c.is_behind_move.result r.comments.items c.note_if.new.self.comments.items r.from c.args.text.now c.in-Ok.m
-    (sym c.in_ok-m.ensures.value ∙ c.in-Ok.is) c.is_behind_move.ensures
-    (c.in_ok-note_if.ensures.analysis ∙ ap (λ (z : TreeParts). if c.is_behind_move.result then said_here said z else z) c.read_move.ensures.as_before)
+    (text_goes r.analysis c.note_if.new.self.analysis c.add.new.self.analysis r.interrupted.items r.played c.is_after_move.result r.comments.items c.note_if.new.self.comments.items r.from c.args.text.now c.in-Ok.m
+    (sym c.in_ok-m.ensures.value ∙ c.in-Ok.is) c.is_after_move.ensures
+    (c.in_ok-note_if.ensures.analysis ∙ ap (λ (z : TreeParts). if c.is_after_move.result then said_here said z else z) c.read_move.ensures.as_before)
     c.in_ok-note_if.ensures.comments (ok_of c.add.result c.in_default-add.not-Err c.add.ensures.analysis) (ok_of c.add.result c.in_default-add.not-Err c.add.ensures.line) s h)
 
 pub returns-in_default-clause-refuses : goal.returns-in_default-clause-refuses
@@ -32,8 +32,8 @@ pub returns-in-Err-clause-refuses : goal.returns-in-Err-clause-refuses
 returns-in-Err-clause-refuses g c =
     let r = c.args.self.now in
     refuses_room (grammar.Text c.args.text.now ∷ []) c.in-Err.fault.kind r
-    (room_exceeds r.analysis c.note_if.new.self.analysis r.interrupted.items r.played c.is_behind_move.result r.comments.items r.from c.args.text.now (normalised (drop (min r.from (length r.comments.items)) r.comments.items)) c.in-Ok.m c.in-Err.fault.kind
-    (c.in_ok-note_if.ensures.analysis ∙ ap (λ (z : TreeParts). if c.is_behind_move.result then said_here (normalised (drop (min r.from (length r.comments.items)) r.comments.items)) z else z) c.read_move.ensures.as_before)
+    (room_exceeds r.analysis c.note_if.new.self.analysis r.interrupted.items r.played c.is_after_move.result r.comments.items r.from c.args.text.now (normalised (drop (min r.from (length r.comments.items)) r.comments.items)) c.in-Ok.m c.in-Err.fault.kind
+    (c.in_ok-note_if.ensures.analysis ∙ ap (λ (z : TreeParts). if c.is_after_move.result then said_here (normalised (drop (min r.from (length r.comments.items)) r.comments.items)) z else z) c.read_move.ensures.as_before)
     (legal_of c.in_ok-m.field-0 c.in-Ok.m (λ m. is_legal (last (line_to r.analysis)) m ≡ true) c.in_ok-m.ensures.legal c.in-Ok.is) c.in-Err.ensures.room)
 
 pub add-requires : goal.add-requires

@@ -1,0 +1,7 @@
+use Rattle.perft.proofs.LineLemmas.{answers_one}
+use Rattle.perft.proofs.counter.CounterLineHandler.answer.Goals as goal
+
+pub returns : goal.returns
+returns g c = λ bytes holds.
+    answers_one g.W.Sink.takes g.W.Sink.failed c.args.self.now bytes c.as_bytes.result.now c.args.page.now c.send.new.page c.args.writer.now c.send.new.writer c.send.result
+    (search rules) c.send.ensures

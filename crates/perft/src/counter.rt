@@ -1,0 +1,105 @@
+ghost use Rattle.std.specs.Prelude.{◌≡◌, ℕ, List, [], ◌∷◌, false};
+ghost use Rattle.chess_loop.specs.steps.Readings.{ReadAs};
+ghost use Rattle.perft.specs.Lines.{CountEnds, kept, line_text};
+
+use crate::answer::answer;
+use arrayvec::ArrayString;
+use byte_streams::{Failed, Sink, Source};
+use chess_key::KeyTable;
+use chess_loop::{LineBuffer, LineHandler, OutputBuffer, Reading, RunEnd, run};
+use std::alloc::Allocator;
+
+/// The most bytes of a line, without its line feed.
+const LINE_LIMIT: usize = 1024;
+
+/// The most reads of a run.
+const READS: u64 = 1 << 40;
+
+/// What is written for a line.
+type Text = ArrayString<65>;
+
+/// Answers each line by the leaves that it asks for. The keys take no part in the counts.
+#[derive(Drop)]
+pub struct Counter {
+    table: KeyTable,
+}
+
+// What is written for a line that is too long.
+fn long_line() -> Text
+    ensures { result.bytes ≡ line_text None }
+{
+    let mut text = Text::new();
+    text.push_str("fault LongLine\n");
+    text
+}
+
+// What is written for a line.
+fn whole_line(table: &KeyTable, line: &[u8]) -> Text
+    ensures { result.bytes ≡ line_text (kept line.now) }
+{
+    if line.len() > LINE_LIMIT {
+        return long_line();
+    }
+    let mut text = Text::new();
+    let said = answer(table, line);
+    if said.is_empty() {
+        return text;
+    }
+    text.push_str(said.as_str());
+    text.push_str("\n");
+    text
+}
+
+// What is written for a line, however it was read.
+fn read_line(table: &KeyTable, reading: Reading<'_>) -> Text
+    ensures { (bytes : List ℕ) → ReadAs bytes reading.entry → result.bytes ≡ line_text (kept bytes) }
+{
+    match reading {
+        Reading::Whole(line) => whole_line(table, line),
+        Reading::TooLong | Reading::NoMemory => long_line(),
+    }
+}
+
+impl LineHandler for Counter {
+    ghost use Rattle.std.specs.Prelude.{false};
+    ghost use Rattle.chess_loop.specs.Runs.{InOne};
+    ghost use Rattle.perft.specs.Lines.{Answers};
+
+    ghost step = { InOne Answers };
+
+    ghost cut = { InOne Answers };
+
+    ghost over = { λ counter. false };
+
+    // An answer may be long in coming, so it is written at once.
+    fn answer<A: Allocator, W: Sink>(
+        &mut self,
+        line: &LineBuffer<A>,
+        page: &mut OutputBuffer<A>,
+        writer: &mut W,
+    ) -> Result<(), Failed> {
+        let text = read_line(&self.table, line.reading());
+        page.send(text.as_str().as_bytes(), writer)
+    }
+
+    fn is_over(&self) -> bool {
+        false
+    }
+}
+
+/// Answers the lines of the reader on the writer, each as soon as it is counted, until the input ends. `Memory` where there is none to begin with; then
+/// nothing was read or written.
+pub fn count_leaves<A: Allocator, R: Source, W: Sink>(
+    alloc: &A,
+    reader: &mut R,
+    writer: &mut W,
+) -> RunEnd
+    requires reader { R.failed reader.old ≡ false }
+    requires writer { W.failed writer.old ≡ false }
+    ensures { CountEnds R.gives R.failed W.takes W.failed R.ended result reader.old reader.new writer.old writer.new }
+{
+    let mut counter = Counter {
+        table: KeyTable::fixed(),
+    };
+    run(alloc, &mut counter, reader, writer, READS)
+}

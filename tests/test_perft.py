@@ -1,0 +1,36 @@
+"""The program `perft`: each answer as soon as it is counted, and how a run ends early."""
+import os
+import subprocess
+import unittest
+
+import runs
+
+PERFT = f"{runs.TOP}/crates/perft/out/perft"
+START = "rnbqkbnr/pppppppp/8/8/8/8/PPPPPPPP/RNBQKBNR w KQkq - 0 1"
+
+
+class Perft(unittest.TestCase):
+    def ended(self, **streams):
+        return subprocess.run([PERFT], capture_output="stdout" not in streams, stderr=subprocess.PIPE if "stdout" in streams else None, timeout=runs.MOST_SECONDS, **streams)
+
+    def test_counts(self):
+        ended = self.ended(input=f"3 {START}\n\nfull 2 {START}\r\n17 {START}\n{'9' * 70_000}\n0 {START}".encode())
+        self.assertEqual((ended.returncode, ended.stdout, ended.stderr), (0, b"8902\n400\nfault Depth\nfault LongLine\n1\n", b""))
+
+    def test_an_answer_comes_before_the_next_line_is_given(self):
+        with subprocess.Popen([PERFT], stdin=subprocess.PIPE, stdout=subprocess.PIPE) as program:
+            for depth, leaves in ((1, b"20\n"), (2, b"400\n")):
+                program.stdin.write(f"{depth} {START}\n".encode())
+                program.stdin.flush()
+                self.assertEqual(program.stdout.readline(), leaves)
+
+    def test_a_folder_as_input(self):
+        folder = os.open("/", os.O_RDONLY)
+        self.addCleanup(os.close, folder)
+        ended = self.ended(stdin=folder)
+        self.assertEqual((ended.returncode, ended.stdout, ended.stderr), (3, b"", b"read fault\n"))
+
+    def test_a_full_device_as_output(self):
+        with open("/dev/full", "wb") as full:
+            ended = self.ended(input=f"1 {START}\n".encode(), stdout=full)
+        self.assertEqual((ended.returncode, ended.stderr), (3, b"write fault\n"))
