@@ -1,9 +1,15 @@
 -- The words of some bytes: the longest runs of bytes that are no gaps.
---   is_gap   the byte is one of the gaps
---   words    the words, in order; none is empty
---   trimmed  the bytes without the gaps at their ends
+--   white_space        the bytes of white space
+--   is_gap             the byte is one of the gaps
+--   words              the words, in order; none is empty
+--   after_first_word   what comes after the first of them
+--   trimmed            the bytes without the gaps at their ends
 use Rattle.std.specs.Prelude.{ℕ, Bool, ◌==◌, if◌then◌else◌, List, [], ◌∷◌, ◌++◌, reverse}
 use Rattle.std.specs.List.{list_any}
+
+-- from the horizontal tab to the carriage return, and the space
+abbrev pub white_space : List ℕ
+white_space = 9 ∷ 10 ∷ 11 ∷ 12 ∷ 13 ∷ 32 ∷ []
 
 -- the byte is one of those that separate words
 abbrev pub is_gap : List ℕ → ℕ → Bool
@@ -38,6 +44,10 @@ first_word gaps (b ∷ bs) = if is_gap gaps b then [] else b ∷ first_word gaps
 abbrev pub after_word : List ℕ → List ℕ → List ℕ
 after_word gaps [] = []
 after_word gaps (b ∷ bs) = if is_gap gaps b then b ∷ bs else after_word gaps bs
+
+-- the same, where gaps may come before it
+abbrev pub after_first_word : List ℕ → List ℕ → List ℕ
+after_first_word gaps bytes = after_word gaps (skip_gaps gaps bytes)
 
 -- the bytes without the gaps at their end
 abbrev pub without_last_gaps : List ℕ → List ℕ → List ℕ

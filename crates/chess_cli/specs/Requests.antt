@@ -3,7 +3,7 @@ use Rattle.std.specs.Prelude.{ℕ, ◌-◌, ◌==◌, nat_le, if◌then◌else�
 use Rattle.std.specs.Str.{bytes_eq}
 use Rattle.chess_types.specs.declared.board.man.Colour.{Colour}
 use Rattle.chess_types.specs.declared.board.man.Colour.TheVariants.{White, Black}
-use Rattle.byte_streams.specs.Words.{words, skip_gaps, after_word, trimmed}
+use Rattle.byte_streams.specs.Words.{words, after_first_word, trimmed}
 use Rattle.chess_cli.specs.Numbers.{number_in, depth_in, path_in}
 
 -- what a line asks of the board
@@ -72,7 +72,7 @@ without_return line = if slice_index line (length line - 1) == 13 then take (len
 
 -- what comes after the first word
 abbrev pub rest_of : List ℕ → List ℕ
-rest_of line = after_word gaps (skip_gaps gaps line)
+rest_of line = after_first_word gaps line
 
 -- a command that stands alone
 abbrev pub alone : Request → List (List ℕ) → Request

@@ -4,7 +4,8 @@ use Rattle.std.proofs.Math.Seq.{take-append_seam}
 use Rattle.std.proofs.lemmas.List.{take_all, take-append-drop, drop-drop, length-drop}
 use Rattle.byte_streams.specs.Calls.{Carries}
 use Rattle.byte_streams.proofs.CallLemmas.{Carries-none, Carries-append, Carries-more}
-use Rattle.chess_games.specs.Pieces.{OpensTag, IsMarked, IsCut}
+use Rattle.chess_items.specs.Sections.{OpensTag}
+use Rattle.chess_games.specs.Pieces.{IsMarked, IsCut}
 
 -- a list from a place on, as a slice up to its end
 pub up_to_end : (n : ℕ) (xs : List ℕ) → n ≤ length xs → take (length xs - n) (drop n xs) ≡ drop n xs

@@ -2,7 +2,9 @@
 
 ghost use Rattle.std.specs.Prelude.{◌≡◌, ℕ, ◌<◌, ◌≤◌, true, List, [], ◌∷◌, ◌++◌, length, vec_len, IfOk, OnOk};
 ghost use Rattle.byte_streams.specs.Calls.{Carries};
-ghost use Rattle.chess_games.specs.Pieces.{IsCut, IsMarked, OpensTag, is_name_byte};
+ghost use Rattle.chess_items.specs.Items.{is_name_byte};
+ghost use Rattle.chess_items.specs.Sections.{OpensTag};
+ghost use Rattle.chess_games.specs.Pieces.{IsCut, IsMarked};
 
 use crate::put::put;
 use byte_streams::{Sink, Source};
@@ -75,7 +77,7 @@ fn is_blank(b: u8) -> bool {
 }
 
 // A byte of a tag's name.
-#[tactic(auto, unfolding(crate::specs::Pieces::is_name_byte))]
+#[tactic(auto, unfolding(chess_items::specs::Items::is_name_byte, chess_items::specs::Items::is_digit))]
 fn is_name_byte(b: u8) -> bool
     ensures { result ≡ is_name_byte b }
 {

@@ -6,11 +6,11 @@
 --   IsComment    the text of a comment: normalised, and without a right brace
 use Rattle.std.specs.Prelude.{◌≡◌, ℕ, Bool, false, ◌==◌, List, [], ◌∷◌, ◌++◌}
 use Rattle.std.specs.List.{join_with_byte, list_any}
-use Rattle.byte_streams.specs.Words.{words}
+use Rattle.byte_streams.specs.Words.{white_space, words}
 
 -- from the horizontal tab to the carriage return, and the space
 abbrev pub blanks : List ℕ
-blanks = 9 ∷ 10 ∷ 11 ∷ 12 ∷ 13 ∷ 32 ∷ []
+blanks = white_space
 
 -- each run of white space is one space, and there is none at the ends
 unfoldable pub normalised : List ℕ → List ℕ

@@ -19,7 +19,7 @@ use Rattle.chess_draws.specs.LineParts.{LineParts}
 use Rattle.chess_uci.specs.declared.placing.PlaceFault.{PlaceFault}
 use Rattle.chess_uci.specs.declared.placing.PlaceFault.TheVariants.{Refused, Memory as NoMemory}
 use Rattle.chess_uci.specs.steps.Places.{Places, Begins}
-use Rattle.chess_uci.specs.Placing.{named_move, line_with_move, line_with_word, line_played, begun_by, before_moves, behind_moves, placed, spaced, names_fen, AddsMove, Grows}
+use Rattle.chess_uci.specs.Placing.{named_move, line_with_move, line_with_word, line_played, begun_by, before_moves, after_moves, placed, spaced, names_fen, AddsMove, Grows}
 
 -- each move whose text it is, is what was read of it
 abbrev pub Complete : List ℕ → Option MoveParts → Type 0
@@ -174,13 +174,13 @@ words_refused X Y start now later last word all rest others NoMemory so_far firs
 
 -- and where the line doesn't begin
 pub beginning_refused : (words : List (List ℕ)) (fault : PlaceFault) → Begins (names_fen (before_moves words) ≡ true) (begun_by (before_moves words)) (Err fault) → Begins (Grows words) (placed words) (Err fault)
-beginning_refused words Refused none = ap (λ l. line_played l (behind_moves words)) none ∙ played_none (behind_moves words)
+beginning_refused words Refused none = ap (λ l. line_played l (after_moves words)) none ∙ played_none (after_moves words)
 beginning_refused words NoMemory grows = inl grows
 
 -- and where its moves lead to none
-pub playing_refused : (X : Type 0) (words moves : List (List ℕ)) (line later : Line) (fault : PlaceFault) → begun_by (before_moves words) ≡ Some line → moves ≡ behind_moves words →
+pub playing_refused : (X : Type 0) (words moves : List (List ℕ)) (line later : Line) (fault : PlaceFault) → begun_by (before_moves words) ≡ Some line → moves ≡ after_moves words →
     Places {X = X} (AddsMove (Some line) moves) (line_played (Some line) moves) later (Err fault) → Begins (Grows words) (placed words) (Err fault)
-playing_refused X words moves line later Refused begun is none = ap (λ l. line_played l (behind_moves words)) begun ∙ ap (line_played (Some line)) (sym is) ∙ none
+playing_refused X words moves line later Refused begun is none = ap (λ l. line_played l (after_moves words)) begun ∙ ap (line_played (Some line)) (sym is) ∙ none
 playing_refused X words moves line later NoMemory begun is adds = inr (rw (begun, ← is) adds)
 
 -- a word of a FEN

@@ -1,5 +1,5 @@
 -- What a line of a session asks for (the UCI protocol's text).
---   gaps         the bytes that part words
+--   gaps         the bytes that separate words
 --   Command      what may be asked for
 --   named        the command that a word names, with the words after it
 --   command_in   what a line asks for
@@ -7,11 +7,11 @@
 use Rattle.std.specs.Prelude.{ℕ, Bool, true, false, ◌||◌, ◌&&◌, if◌then◌else◌, List, [], ◌∷◌, map, Option, Some, None, unwrap_or, codes}
 use Rattle.std.specs.Char.{to_ascii_lowercase}
 use Rattle.std.specs.Str.{bytes_eq}
-use Rattle.byte_streams.specs.Words.{words}
+use Rattle.byte_streams.specs.Words.{white_space, words}
 
 -- from the horizontal tab to the carriage return, and the space
 abbrev pub gaps : List ℕ
-gaps = 9 ∷ 10 ∷ 11 ∷ 12 ∷ 13 ∷ 32 ∷ []
+gaps = white_space
 
 -- what a line asks of the engine
 pub data Command : Type 0 where

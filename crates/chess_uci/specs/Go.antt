@@ -99,9 +99,9 @@ abbrev pub fields : List (List ℕ) → Fields
 fields words = (fold read_word (record { fields = no_fields; wanted = None }) words).fields
 
 -- the words after the last `searchmoves`
-abbrev pub behind : List (List ℕ) → List (List ℕ) → List (List ℕ)
-behind found [] = found
-behind found (word ∷ words) = if is_searchmoves word then behind words words else behind found words
+abbrev pub after_searchmoves : List (List ℕ) → List (List ℕ) → List (List ℕ)
+after_searchmoves found [] = found
+after_searchmoves found (word ∷ words) = if is_searchmoves word then after_searchmoves words words else after_searchmoves found words
 
 -- the text stands among the words before the first that has a meaning of its own
 abbrev pub is_listed : List ℕ → List (List ℕ) → Bool
@@ -110,7 +110,7 @@ is_listed text (word ∷ words) = if is_name word then false else bytes_eq word 
 
 -- the text is one of the words after `searchmoves`
 abbrev pub is_named : List (List ℕ) → List ℕ → Bool
-is_named words text = is_listed text (behind [] words)
+is_named words text = is_listed text (after_searchmoves [] words)
 
 -- the time and the increment of the side to move
 abbrev pub time_of : Fields → Colour → Option ℕ

@@ -35,9 +35,9 @@ before_moves [] = []
 before_moves (word ∷ words) = if is_moves word then [] else word ∷ before_moves words
 
 -- the words after the first `moves`
-abbrev pub behind_moves : List (List ℕ) → List (List ℕ)
-behind_moves [] = []
-behind_moves (word ∷ words) = if is_moves word then words else behind_moves words
+abbrev pub after_moves : List (List ℕ) → List (List ℕ)
+after_moves [] = []
+after_moves (word ∷ words) = if is_moves word then words else after_moves words
 
 -- where there is a position and no fault
 abbrev pub if_read : Result PositionParts FenFault → Option Line
@@ -81,7 +81,7 @@ line_played line words = fold line_with_word line words
 
 -- the line of a `position`, if its words give one
 abbrev pub placed : List (List ℕ) → Option Line
-placed words = line_played (begun_by (before_moves words)) (behind_moves words)
+placed words = line_played (begun_by (before_moves words)) (after_moves words)
 
 -- `fen` and a word of a FEN
 abbrev pub names_fen : List (List ℕ) → Bool
@@ -98,4 +98,4 @@ pub record AddsMove (begun : Option Line) (moves : List (List ℕ)) : Type 0 whe
 
 -- a position that takes memory: it has a FEN, or moves to add
 abbrev pub Grows : List (List ℕ) → Type 0
-Grows words = (names_fen (before_moves words) ≡ true) ⊎ AddsMove (begun_by (before_moves words)) (behind_moves words)
+Grows words = (names_fen (before_moves words) ≡ true) ⊎ AddsMove (begun_by (before_moves words)) (after_moves words)

@@ -1,7 +1,7 @@
 ghost use Rattle.std.specs.Prelude.{◌≡◌, ◌≤◌, []};
 ghost use Rattle.byte_streams.specs.Words.{words};
 ghost use Rattle.chess_uci.specs.Commands.{gaps};
-ghost use Rattle.chess_uci.specs.Go.{is_searchmoves, is_name, behind, is_listed, share, budget, last_depth};
+ghost use Rattle.chess_uci.specs.Go.{is_searchmoves, is_name, after_searchmoves, is_listed, share, budget, last_depth};
 
 use crate::command::GAPS;
 use crate::fields::{Fields, name_of};
@@ -24,8 +24,8 @@ fn is_name(word: &[u8]) -> bool
 }
 
 /// What comes after the last `searchmoves`.
-pub(crate) fn behind(text: &[u8]) -> &[u8]
-    ensures { words gaps result.now ≡ behind [] (words gaps text.now) }
+pub(crate) fn after_searchmoves(text: &[u8]) -> &[u8]
+    ensures { words gaps result.now ≡ after_searchmoves [] (words gaps text.now) }
 {
     let mut found: &[u8] = &[];
     let mut rest = text;

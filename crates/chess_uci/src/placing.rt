@@ -3,7 +3,7 @@ ghost use Rattle.chess_types.specs.board.Position.{start};
 ghost use Rattle.byte_streams.specs.Words.{words};
 ghost use Rattle.chess_fen.specs.Reading.{fen_reading};
 ghost use Rattle.chess_uci.specs.Commands.{gaps};
-ghost use Rattle.chess_uci.specs.Placing.{is_moves, before_moves, behind_moves, start_line, spaced, if_read, begun_by, line_with_word, line_played, placed, names_fen, AddsMove, Grows};
+ghost use Rattle.chess_uci.specs.Placing.{is_moves, before_moves, after_moves, start_line, spaced, if_read, begun_by, line_with_word, line_played, placed, names_fen, AddsMove, Grows};
 ghost use Rattle.chess_uci.specs.steps.Places.{Places, Begins};
 
 use crate::command::GAPS;
@@ -38,8 +38,8 @@ pub(crate) fn start_line<'a, A: Allocator>(alloc: &'a A, table: &'a KeyTable) ->
 }
 
 // What comes after the first `moves`; nothing where there is none.
-fn behind_moves(text: &[u8]) -> &[u8]
-    ensures { words gaps result.now ≡ behind_moves (words gaps text.now) }
+fn after_moves(text: &[u8]) -> &[u8]
+    ensures { words gaps result.now ≡ after_moves (words gaps text.now) }
 {
     let mut rest = text;
     while let Some((word, others)) = split_word(rest, GAPS) {
@@ -159,7 +159,7 @@ pub(crate) fn place<'a, A: Allocator>(
     ensures placed { Begins (Grows (words gaps text.now)) (placed (words gaps text.now)) result }
 {
     match begin(alloc, table, text) {
-        Ok(mut line) => match play(&mut line, behind_moves(text)) {
+        Ok(mut line) => match play(&mut line, after_moves(text)) {
             Ok(()) => Ok(line),
             Err(fault) => Err(fault),
         },

@@ -10,7 +10,7 @@ ghost use Rattle.chess_search.specs.Slices.{IsInRange};
 use crate::command::{Command, claims_set, read_command};
 use crate::event::Event;
 use crate::fields::read_fields;
-use crate::go::{behind, budget, last_depth};
+use crate::go::{after_searchmoves, budget, last_depth};
 use crate::placing::{PlaceFault, place, start_line};
 use crate::reply::Reply;
 use crate::roots::roots_among;
@@ -155,7 +155,7 @@ impl<'a, A: Allocator> Session<'a, A> {
         }
         let side = self.line.live().position().side;
         self.search = Some(Search {
-            slices: Slices::start(1, roots_among(moves, behind(rest)), self.claims),
+            slices: Slices::start(1, roots_among(moves, after_searchmoves(rest)), self.claims),
             last: last_depth(fields, side),
             infinite: fields.infinite,
             begin: self.moment,

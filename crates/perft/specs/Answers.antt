@@ -4,13 +4,13 @@
 --   fault_text   `fault N NAME`
 --   count_text   the number of leaves at the depth, at most 2^64 - 1, or the fault of the FEN
 --   answer_for   the same, or the fault of the depth
---   answer_to    of the words `DEPTH FEN`; `after_first`, what comes after the first word of a line
+--   answer_to    of the words `DEPTH FEN`
 --   is_full      the word asks for every leaf to be made
 --   answer       of a whole line, without its line feed; nothing for a line without words
 use Rattle.std.specs.Prelude.{ℕ, ◌-◌, ◌^◌, min, Bool, if◌then◌else◌, List, [], ◌∷◌, ◌++◌, Option, Some, None, Result, Ok, Err, codes, decimal, bytes_eq}
 use Rattle.std.specs.List.{find, range_with_len}
 use Rattle.chess_types.specs.board.Position.{PositionParts}
-use Rattle.byte_streams.specs.Words.{words, skip_gaps, after_word, trimmed}
+use Rattle.byte_streams.specs.Words.{words, after_first_word, trimmed}
 use Rattle.chess_fen.specs.declared.fault.FenFault.{FenFault}
 use Rattle.chess_fen.specs.Faults.{number_of, name_of}
 use Rattle.chess_fen.specs.Reading.{fen_reading}
@@ -38,10 +38,6 @@ abbrev pub answer_for : Option ℕ → List ℕ → List ℕ
 answer_for None fen = codes "fault Depth"
 answer_for (Some depth) fen = count_text depth (fen_reading fen)
 
--- what comes after the first word
-abbrev pub after_first : List ℕ → List ℕ
-after_first line = after_word gaps (skip_gaps gaps line)
-
 -- the first word is the depth, and what comes after it the FEN
 abbrev pub answer_to : List (List ℕ) → List ℕ → List ℕ
 answer_to [] fen = codes "fault Depth"
@@ -56,8 +52,8 @@ abbrev pub answer_by : List (List ℕ) → List ℕ → List ℕ
 answer_by [] line = []
 answer_by (word ∷ more) line =
     if is_full word
-    then answer_to (words gaps (after_first line)) (trimmed gaps (after_first (after_first line)))
-    else answer_to (word ∷ more) (trimmed gaps (after_first line))
+    then answer_to (words gaps (after_first_word gaps line)) (trimmed gaps (after_first_word gaps (after_first_word gaps line)))
+    else answer_to (word ∷ more) (trimmed gaps (after_first_word gaps line))
 
 -- the answer to a line; nothing for a line without words
 unfoldable pub answer : List ℕ → List ℕ

@@ -1,7 +1,7 @@
 ghost use Rattle.std.specs.Prelude.{◌≡◌, ◌≤◌, ◌-◌, length, decimal, IfSome};
 ghost use Rattle.chess_fen.specs.Reading.{fen_reading};
-ghost use Rattle.byte_streams.specs.Words.{words, trimmed};
-ghost use Rattle.perft.specs.Answers.{answer, answer_to, after_first, count_text, depth_in, fault_text, gaps, is_full};
+ghost use Rattle.byte_streams.specs.Words.{after_first_word, words, trimmed};
+ghost use Rattle.perft.specs.Answers.{answer, answer_to, count_text, depth_in, fault_text, gaps, is_full};
 
 use crate::leaves::{LastPly, leaves};
 use arrayvec::ArrayString;
@@ -65,7 +65,7 @@ fn count(table: &KeyTable, depth: u32, fen: &[u8], last: LastPly) -> Answer
 
 /// The answer to a line `DEPTH FEN`: the number of leaves, or the first fault, of the depth or of the FEN.
 fn answer_depth(table: &KeyTable, line: &[u8], last: LastPly) -> Answer
-    ensures { result.bytes ≡ answer_to (words gaps line.now) (trimmed gaps (after_first line.now)) }
+    ensures { result.bytes ≡ answer_to (words gaps line.now) (trimmed gaps (after_first_word gaps line.now)) }
 {
     let mut text = Answer::new();
     let Some((word, rest)) = split_word(line, GAPS) else {

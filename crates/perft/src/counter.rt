@@ -1,4 +1,4 @@
-ghost use Rattle.std.specs.Prelude.{◌≡◌, ℕ, List, [], ◌∷◌, false};
+ghost use Rattle.std.specs.Prelude.{◌≡◌, ℕ, List, None, false};
 ghost use Rattle.chess_loop.specs.steps.Readings.{ReadAs};
 ghost use Rattle.perft.specs.Lines.{CountEnds, kept, line_text};
 

@@ -16,7 +16,7 @@ invariant_of-self-2 g c =
       | else-is_empty-via-then-is_empty+else-not-fields w ↦ inr (grind (arith, nat_tests, w.if-not-fields.false))
       | else-is_empty-via-else-is_empty w ↦ inl (grind (arith, nat_tests))
     ] in (
-      going_starts c.self.inside.line.line c.moves-moves.new.self.line c.self.inside.claims (λ m. is_listed (move_text m) (words gaps c.behind.result.now)) moves _
+      going_starts c.self.inside.line.line c.moves-moves.new.self.line c.self.inside.claims (λ m. is_listed (move_text m) (words gaps c.after_searchmoves.result.now)) moves _
           c.moves-moves.ensures.listed c.moves-moves.ensures.as_before.line
           (rw c.roots_among.ensures at c.start.ensures) c.last_depth.ensures.deep c.last_depth.ensures.shallow some,
       omega arith,
