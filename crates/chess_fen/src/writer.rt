@@ -10,22 +10,33 @@ use arrayvec::ArrayString;
 use chess_types::{Colour, Man, Position, Rights, Square};
 use itoa::Buffer;
 
+// An ASCII character. The bound shows the compiler that it takes one byte.
+#[inline(always)]
+fn push_ascii(text: &mut ArrayString<128>, c: char)
+    requires ascii { c < 128 }
+    requires room { array_string_len text.old + 1 ≤ 128 }
+    ensures bytes { text.new.bytes ≡ text.old.bytes ++ c ∷ [] }
+    ensures len { array_string_len text.new ≡ array_string_len text.old + 1 }
+{
+    text.push(char::from((c as u8).min(127)));
+}
+
 // The digit of a run of empty squares, where there is one.
-fn push_run(text: &mut ArrayString<71>, run: u8)
+fn push_run(text: &mut ArrayString<128>, run: u8)
     requires few { run ≤ 8 }
-    requires room { array_string_len text.old + run ≤ 71 }
+    requires room { array_string_len text.old + run ≤ 128 }
     ensures bytes { text.new.bytes ≡ text.old.bytes ++ run_text run }
     ensures len { array_string_len text.new ≤ array_string_len text.old + run }
 {
     if run > 0 {
-        text.push(char::from(b'0' + run));
+        push_ascii(text, char::from(b'0' + run));
     }
 }
 
 // What stands on the next square, after a run of empty squares that isn't written yet; how long the run is then.
-fn push_cell(text: &mut ArrayString<71>, run: u8, cell: Option<Man>) -> u8
+fn push_cell(text: &mut ArrayString<128>, run: u8, cell: Option<Man>) -> u8
     requires few { run < 8 }
-    requires room { array_string_len text.old + run + 1 ≤ 71 }
+    requires room { array_string_len text.old + run + 1 ≤ 128 }
     ensures bytes { (cells : List (Option Man)) → text.new.bytes ++ cells_text result cells ≡ text.old.bytes ++ cells_text run (cell ∷ cells) }
     ensures len { array_string_len text.new + result ≤ array_string_len text.old + run + 1 }
     ensures grows { result ≤ run + 1 }
@@ -34,21 +45,21 @@ fn push_cell(text: &mut ArrayString<71>, run: u8, cell: Option<Man>) -> u8
         None => run + 1,
         Some(man) => {
             push_run(text, run);
-            text.push(man.letter());
+            push_ascii(text, man.letter());
             0
         }
     }
 }
 
 // A rank, from file a.
-fn push_rank(text: &mut ArrayString<71>, cells: &[Option<Man>])
+fn push_rank(text: &mut ArrayString<128>, cells: &[Option<Man>])
     requires eight { length cells.now ≡ 8 }
-    requires room { array_string_len text.old + 8 ≤ 71 }
+    requires room { array_string_len text.old + 8 ≤ 128 }
     ensures bytes { text.new.bytes ≡ text.old.bytes ++ cells_text 0 cells.now }
     ensures len { array_string_len text.new ≤ array_string_len text.old + 8 }
 {
     if let [None, None, None, None, None, None, None, None] = cells {
-        text.push('8');
+        push_ascii(text, '8');
         return;
     }
     let mut run = 0;
@@ -59,8 +70,9 @@ fn push_rank(text: &mut ArrayString<71>, cells: &[Option<Man>])
 }
 
 // The men, the eighth rank first.
-fn placement_text(cells: &[Option<Man>; 64]) -> ArrayString<71>
+fn placement_text(cells: &[Option<Man>; 64]) -> ArrayString<128>
     ensures bytes { result.bytes ≡ placement_text (man_at (board_of cells.now)) }
+    ensures len { array_string_len result ≤ 71 }
     ensures on_board { (s : ℕ) → 64 ≤ s → man_at (board_of cells.now) s ≡ None }
 {
     let mut text = ArrayString::new();
@@ -130,8 +142,7 @@ pub fn write(position: &Position) -> ArrayString<128>
     ensures read_back { position.now.clock ≤ 99999 → position.now.number ≤ 99999 → fen_reading result.bytes ≡ Ok position.now }
 {
     let setup = position.setup();
-    let mut text = ArrayString::new();
-    text.push_str(&placement_text(setup.placement.cells()));
+    let mut text = placement_text(setup.placement.cells());
     text.push_str(" ");
     text.push_str(side_text(setup.side));
     text.push_str(" ");

@@ -55,7 +55,7 @@ fn each_answer_is_written_at_once(rt: HostRuntime) {
     let mut writer = ToBytes::refusing_after(&mut room, 20, 1, WriteFailure::Fails);
     let ended = count_leaves(&rt.alloc(), &mut FromBytes::new(TWO, 100), &mut writer);
     assert_eq!(rt; ended, RunEnd::WriteFault);
-    assert_eq!(rt; writer.taken(), b"14\n");
+    assert_eq!(rt; writer.taken(), b"14\n".as_slice());
 }
 
 #[test]
@@ -65,5 +65,5 @@ fn a_read_that_fails_ends_the_run(rt: HostRuntime) {
     let mut reader = FromBytes::failing_after(TWO, 50, 1);
     let ended = count_leaves(&rt.alloc(), &mut reader, &mut writer);
     assert_eq!(rt; ended, RunEnd::ReadFault);
-    assert_eq!(rt; writer.taken(), b"14\n");
+    assert_eq!(rt; writer.taken(), b"14\n".as_slice());
 }
