@@ -17,7 +17,7 @@ use Rattle.chess_items.proofs.OfferLemmas.{found_within}
 by_byte : (place : Place) (b c left : ℕ) (bytes hand : List ℕ) (item : Item) → ((rest : List ℕ) → item_at InLine (c ∷ rest) ≡ Some (item, rest)) → bytes ≡ hand → b ≡ c → IsWithin place b left bytes → IsFirst hand item left
 by_byte place b c left bytes hand item is same e w =
     let whole : hand ≡ c ∷ w.rest = sym same ∙ w.is ∙ ap (λ (x : ℕ). x ∷ w.rest) e in
-    record { rest = w.rest; followed = record { found = sym (ap (item_at InLine) whole ∙ is w.rest); some = w.some }; left = w.left }
+    record { rest = w.rest; followed = record { found = sym (ap (item_at InLine) whole ∙ is w.rest); some = w.some }; counted = w.counted }
 
 space : (rest : List ℕ) → item_at InLine (32 ∷ rest) ≡ Some (Blank 32, rest)
 unfolding item_at outside_at is_word_byte is_name_byte is_digit is_blank
@@ -80,11 +80,11 @@ number_first {bytes} {digits} {rest} {more} {b} {n} {left} en ed er e some not e
     record {
       rest = rest;
       followed = record { found = sym (ap (item_at InLine) whole ∙ number_goes digits rest b more some each e not); some = (let l = ap length e in omega (arith, l)) };
-      left = el;
+      counted = el;
     }
 
 -- what is left is a part of the bytes
 pub left_within : {hand again : List ℕ} {item : Item} {left : ℕ} → IsFirst hand item left → again ≡ hand → left ≤ length again
 left_within {hand} {again} {item} {left} first once_more =
     let w = found_within InLine refl first.followed.found once_more in
-    omega (arith, w, first.left)
+    omega (arith, w, first.counted)

@@ -322,4 +322,4 @@ pub step_first : {X T : Type 0} {comes : X → List ℕ → X → Type 0} {at_ha
 step_first {comes = comes} {at_hand} {all} {sound} {size} {takes} {at} {most} {old} {new} {t} {u} {item} {again} {left} {next} {white} {one} first sure once_more e h a =
     let followed = first.followed in
     subst (λ (n : ℕ). Offered takes at item (length again - n) most t u a → one ≡ settled a next (length again - n) white → Settles comes at_hand all sound size n a old new → Steps comes at_hand all sound size takes at most InLine old new t u (Ok one))
-    (sym first.left) (λ o is k. step_settled (seen_at_once sure refl followed.found followed.some) refl followed.found once_more e h a o is k)
+    (sym first.counted) (λ o is k. step_settled (seen_at_once sure refl followed.found followed.some) refl followed.found once_more e h a o is k)

@@ -13,7 +13,7 @@ pub record IsWithin (place : Place) (b left : ℕ) (bytes : List ℕ) : Type 0 w
   pub rest : List ℕ
   pub is : bytes ≡ b ∷ rest
   pub some : 0 < length rest
-  pub left : left ≡ length rest
+  pub counted : left ≡ length rest
 
 pub record IsFollowed (bytes : List ℕ) (item : Item) (rest : List ℕ) : Type 0 where
   pub found : Some (item, rest) ≡ item_at InLine bytes
@@ -22,4 +22,4 @@ pub record IsFollowed (bytes : List ℕ) (item : Item) (rest : List ℕ) : Type 
 pub record IsFirst (bytes : List ℕ) (item : Item) (left : ℕ) : Type 0 where
   pub rest : List ℕ
   pub followed : IsFollowed bytes item rest
-  pub left : left ≡ length rest
+  pub counted : left ≡ length rest

@@ -3,17 +3,36 @@ use Rattle.chess_items.proofs.OfferLemmas.{found_within, seen_at_once, step_sett
 use Rattle.chess_items.proofs.FirstLemmas.{space_first, period_first}
 use Rattle.chess_items.proofs.taking.take_one.Goals as goal
 
-pub overflow_sub-used : goal.overflow_sub-used
-overflow_sub-used g c = found_within _ c.unread-2.ensures c.in-Some-item.ensures c.unread-3.ensures
+-- ---- any item
 
-pub settle-requires-clause-within : goal.settle-requires-clause-within
-settle-requires-clause-within g c = found_within _ c.unread-2.ensures c.in-Some-item.ensures refl
+pub overflow_sub-used-2 : goal.overflow_sub-used-2
+overflow_sub-used-2 g c = found_within _ c.unread-2.ensures c.in-Some-item.ensures c.unread-3.ensures
+
+pub settle-requires-2-clause-within : goal.settle-requires-2-clause-within
+settle-requires-2-clause-within g c = found_within _ c.unread-2.ensures c.in-Some-item.ensures refl
 
 pub returns-clause-steps : goal.returns-clause-steps
 returns-clause-steps g c =
     let some : 0 < length c.in-Some-item.rest.now = search rules in
     step_settled (seen_at_once c.requires c.unread-2.ensures c.in-Some-item.ensures some) c.unread-2.ensures c.in-Some-item.ensures c.unread-3.ensures
-    c.after-next.ensures c.is_white-white.ensures c.offer-answer.result c.offer-answer.ensures c.settle.ensures.step c.settle.ensures.text
+    c.after-next.ensures c.is_white-white.ensures c.offer-answer-2.result c.offer-answer-2.ensures c.settle-2.ensures.step c.settle-2.ensures.text
+
+-- ---- a move's text within a line
+
+pub overflow_sub-used : goal.overflow_sub-used
+overflow_sub-used g c = found_within _ c.unread-in-Some.ensures c.in-Some-word_within.ensures.found c.unread-in-Some-word_within.ensures
+
+pub settle-requires-clause-within : goal.settle-requires-clause-within
+settle-requires-clause-within g c = found_within _ c.unread-in-Some.ensures c.in-Some-word_within.ensures.found refl
+
+pub returns-in-Some-word_within-clause-steps : goal.returns-in-Some-word_within-clause-steps
+returns-in-Some-word_within-clause-steps g c =
+    let followed = c.in-Some-word_within.ensures in
+    rw (c.in-Some.ensures.here)
+    (step_settled (seen_at_once c.requires c.unread-in-Some.ensures followed.found followed.some) c.unread-in-Some.ensures followed.found c.unread-in-Some-word_within.ensures
+    refl refl c.offer-answer.result c.offer-answer.ensures c.settle.ensures.step c.settle.ensures.text)
+
+-- ---- others that are known by their first byte
 
 pub take_first-requires-clause-first : goal.take_first-requires-clause-first
 take_first-requires-clause-first g c = space_first c.unread.ensures c.if-b-eq32.true c.in-Some.ensures
