@@ -75,6 +75,15 @@ def board(name, *pairs, **also):
     return Run(name, ["board"], "".join(f"{line}\n" for line in lines), output, **also)
 
 
+def board_rows(path):
+    """Runs of `board` in a file: `# ` and a name, lines after `< `, each with the lines of its answer after `> `."""
+    with open(path, encoding="utf-8", newline="\n") as rows:
+        for text in rows.read().split("\n\n"):
+            lines = text.rstrip("\n").split("\n")
+            given, output = ("".join(f"{line[2:]}\n" for line in lines if line[:1] == mark) for mark in "<>")
+            yield Run(lines[0].removeprefix("# ").rstrip("."), ["board"], given, output)
+
+
 def pgn(name, given, output, **also):
     return Run(name, ["pgn"], given, output, **also)
 
@@ -120,6 +129,7 @@ RUNS = [
           "pgn", SEVEN_TAGS % "*" + "\n1. e4 $1 {a b} 1... e5 *\n"),
     board("the longest comment", "comment " + "a" * 1_048_568, "ok", "eval", "0"),
     board("the longest line", "a" * 1_048_576, "refused 6 Command", "a" * 1_048_577, "refused 8 LongLine", "eval", "0"),
+    *board_rows(f"{TOP}/tests/board.txt"),
     Run("the last line lacks its line feed", ["board"], "new\neval", "ok\n0\n"),
     Run("a carriage return is dropped", ["board"], "new\r\neval\r\n", "ok\n0\n"),
     # Games

@@ -1,9 +1,7 @@
 mod games;
 mod growths;
 mod hostile;
-mod lines;
 mod long;
 mod runs;
 mod sessions;
-mod tree;
 mod unending;

@@ -1,5 +1,4 @@
 //! Games that are read and written, and the game of the board.
-use crate::tests::runs::assert_answers;
 use byte_streams::{FromBytes, ToBytes, WriteFailure};
 use chess_cli::{Ended, collection_laws, pgn};
 use chess_pgn::{FaultKind, PgnFault};
@@ -199,64 +198,4 @@ fn writes_each_game_that_was_read(rt: HostRuntime) {
     let mut reader = FromBytes::failing_after(SEVERAL, 1, 44);
     assert_eq!(rt; pgn(rt.alloc(), &mut reader, &mut writer), Ended::Good);
     assert_eq!(rt; writer.taken(), SEVERAL_WRITTEN);
-}
-
-#[test]
-fn tells_the_whole_game(rt: HostRuntime) {
-    let input =
-        b"play e4\nplay e5\nback\nplay c5\npromote\nback\nstep 1\ndelete\npgn x\npgn\npath\n";
-    let output = b"\
-ok
-ok
-ok
-ok
-ok
-ok
-ok
-ok
-refused 7 Argument
-[Event \"?\"]
-[Site \"?\"]
-[Date \"????.??.??\"]
-[Round \"?\"]
-[White \"?\"]
-[Black \"?\"]
-[Result \"*\"]
-
-1. e4 c5 *
-
-0
-";
-    assert_answers(&rt, rt.alloc(), input, output);
-}
-
-#[test]
-fn tells_the_notes_of_a_game(rt: HostRuntime) {
-    let input =
-        b"new\nplay e4\nnag 1\ncomment a  b\nplay e5\nstart\nend\npath\ngoto 0\npath\ncomment }\ngoto 0.1\npgn\n";
-    let output = b"\
-ok
-ok
-ok
-ok
-ok
-ok
-ok
-0.0
-ok
-0
-refused 4 BadComment
-refused 1 NoSuch
-[Event \"?\"]
-[Site \"?\"]
-[Date \"????.??.??\"]
-[Round \"?\"]
-[White \"?\"]
-[Black \"?\"]
-[Result \"*\"]
-
-1. e4 $1 {a b} 1... e5 *
-
-";
-    assert_answers(&rt, rt.alloc(), input, output);
 }

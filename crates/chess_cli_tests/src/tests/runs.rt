@@ -3,8 +3,6 @@ use byte_streams::{Failed, FromBytes, Source, ToBytes, WriteFailure};
 use chess_cli::{Ended, Kept, board, board_over_bytes, counts_text, eval_text};
 use chess_types::{Colour, Square};
 use linked_list_allocator::LocalHeap;
-use std::alloc::Allocator;
-use std::process::Abort;
 use std::test::Fail;
 
 /// Lines of every kind: commands, blank lines, wrong words, both line ends, and a last line without a line feed.
@@ -40,15 +38,6 @@ ok
 const TWO_LINES: usize = 284;
 
 const ONE_LINE: usize = 142;
-
-/// The board answers the input, read and written in pieces, with the output.
-pub(crate) fn assert_answers<A: Allocator>(rt: &impl Abort, alloc: A, input: &[u8], output: &[u8]) {
-    let mut reader = FromBytes::new(input, 4096);
-    let mut room = [0; 1200];
-    let mut writer = ToBytes::new(&mut room, 4096);
-    assert_eq!(rt; board(alloc, &mut reader, &mut writer), Ended::Good);
-    assert!(rt; writer.taken() == output);
-}
 
 #[test]
 fn answers_in_pieces_of_any_size(rt: HostRuntime) -> Result<(), Fail> {
@@ -279,48 +268,6 @@ fn tells_how_it_ended(rt: HostRuntime) {
         assert_eq!(rt; ended.status(), status);
         assert!(rt; ended.message().as_str() == message);
     }
-}
-
-/// Sets each position, and asks for its FEN, its moves and its checks.
-#[test]
-fn answers_by_the_laws(rt: HostRuntime) {
-    let input = b"set rnbqkbnr/pppppppp/8/8/8/8/PPPPPPPP/RNBQKBNR  w qkQK -\nfen\n\
-        set 4k3/8/8/8/8/8/8/3K3R w KQ - 0100 00\nfen\n\
-        set 4k3/8/8/8/8/8/8/4K3 w - e6 0 0\nfen\nset 4k3/8/8/8/8/8/8/4K3 w - z9 0 1\nfen\n\
-        set 4k3/8/8/8/8/8/8/4K3 w KK - 0 1\nset 4k3/8/8/8/8/8/8/4K3 w - - 100000 1\n\
-        set 4k3/8/8/8/8/8/8/4K3 w -\t- 0 1\n\
-        set 8/8/8/K1pP3r/8/8/8/4k3 w - c6 0 2\nmoves\nfen\n\
-        set 8/8/8/8/k2Pp2Q/8/8/3K4 b - d3 0 1\nmoves\n\
-        set 4k3/P7/8/8/8/8/8/4K3 w - - 0 1\nmoves\nchecks\n\
-        set R3k2r/8/8/8/8/8/8/4K2R b Kk - 0 1\nchecks\n\
-        set rnb1kbnr/pppp1ppp/8/4p3/6Pq/5P2/PPPPP2P/RNBQKBNR w KQkq - 1 3\nmoves\nchecks\n";
-    let output = b"\
-ok
-rnbqkbnr/pppppppp/8/8/8/8/PPPPPPPP/RNBQKBNR w KQkq - 0 1
-ok
-4k3/8/8/8/8/8/8/3K3R w - - 100 1
-ok
-4k3/8/8/8/8/8/8/4K3 w - - 0 1
-refused 8 Target
-4k3/8/8/8/8/8/8/4K3 w - - 0 1
-refused 7 Castling
-refused 9 Counter
-refused 1 Fields
-ok
-a5a4 a5b5 a5a6 a5b6 d5d6
-8/8/8/K1pP3r/8/8/8/4k3 w - c6 0 2
-ok
-a4a3 a4b3 a4b4 a4a5 a4b5 e4e3
-ok
-e1d1 e1f1 e1d2 e1e2 e1f2 a7a8q a7a8r a7a8b a7a8n
-none
-ok
-a8
-ok
-none
-h4
-";
-    assert_answers(&rt, rt.alloc(), input, output);
 }
 
 /// Tells other numbers than those of any position.
