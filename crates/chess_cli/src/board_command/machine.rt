@@ -27,7 +27,6 @@ ghost use Rattle.chess_san.specs.Naming.{san_reading};
 ghost use Rattle.chess_san.specs.Writing.{san};
 ghost use Rattle.chess_search.specs.Best.{best};
 ghost use Rattle.chess_fen.specs.Writing.{written};
-ghost use Rattle.chess_draws.specs.Pushes.{most_plies};
 
 use super::answer::{Pending, put_done, put_refused};
 use super::command::{Command, read_command};
@@ -73,6 +72,8 @@ impl<'k, A: Allocator> Model for Board<'k, A> {
     ghost view = { λ b. b.analysis };
 
     ghost use Rattle.std.specs.Prelude.{◌≡◌, vec_len};
+
+    ghost use Rattle.chess_draws.specs.Pushes.{most_plies};
 
     ghost invariant = { λ b. vec_len b.places ≡ most_plies };
 }
