@@ -72,7 +72,6 @@ impl<'k, A: Allocator> Model for Board<'k, A> {
     ghost view = { λ b. b.analysis };
 
     ghost use Rattle.std.specs.Prelude.{◌≡◌, vec_len};
-
     ghost use Rattle.chess_draws.specs.Pushes.{most_plies};
 
     ghost invariant = { λ b. vec_len b.places ≡ most_plies };
