@@ -185,7 +185,7 @@ const SHOWN: &[(FenFault, &str)] = &[
 ];
 
 #[test]
-fn tells_the_faults(rt: HostRuntime) -> Result<(), Fail> {
+fn describes_the_faults(rt: HostRuntime) -> Result<(), Fail> {
     for (fault, text) in SHOWN {
         let shown = format!(in rt.alloc(); "{} {}: {fault}", fault.number(), fault.name())?;
         assert!(rt; shown.as_str() == *text);

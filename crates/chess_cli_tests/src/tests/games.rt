@@ -90,7 +90,7 @@ fn stops_at_a_failing_write(rt: HostRuntime) -> Result<(), Fail> {
 
 /// The next game has a fault, and a text without any has none.
 #[test]
-fn tells_a_fault_behind_a_game(rt: HostRuntime) {
+fn reports_a_fault_after_a_game(rt: HostRuntime) {
     let mut room = [0; 400];
     let mut writer = ToBytes::new(&mut room, 400);
     let ended = pgn(

@@ -258,7 +258,7 @@ fn ends_without_memory(rt: HostRuntime) -> Result<(), Fail> {
 }
 
 #[test]
-fn tells_how_it_ended(rt: HostRuntime) {
+fn reports_how_it_ended(rt: HostRuntime) {
     for (ended, status, message) in [
         (Ended::Good, 0, ""),
         (Ended::ReadFault, 3, "read fault"),
@@ -270,7 +270,7 @@ fn tells_how_it_ended(rt: HostRuntime) {
     }
 }
 
-/// Tells other numbers than those of any position.
+/// Keeps other numbers than those of any position.
 struct Nines;
 
 impl Kept for Nines {
@@ -290,7 +290,7 @@ impl Kept for Nines {
 }
 
 #[test]
-fn texts_of_the_numbers_told(rt: HostRuntime) {
+fn texts_of_any_numbers(rt: HostRuntime) {
     assert!(rt; eval_text(&Nines).as_str() == "-7");
     let text = counts_text(&Nines, Colour::White);
     let rank = "9 9 9 9 9 9 9 9";

@@ -47,7 +47,7 @@ fn assert_replies<A: Allocator>(
 }
 
 #[test]
-fn tells_who_it_is(rt: HostRuntime) {
+fn identifies_itself(rt: HostRuntime) {
     let output =
         b"id name chess_uci 1\nid author chess_uci project\noption name Claims type check default false\nuciok\nreadyok\n";
     assert_replies(
@@ -159,7 +159,7 @@ fn stops_at_a_failing_read(rt: HostRuntime) -> Result<(), Fail> {
     Ok(())
 }
 
-/// A front of the replies is written.
+/// A prefix of the replies is written.
 #[test]
 fn stops_at_a_failing_write(rt: HostRuntime) -> Result<(), Fail> {
     for refusal in [WriteFailure::Fails, WriteFailure::TakesNothing] {
@@ -211,8 +211,8 @@ fn readings_before_a_write<A: Allocator>(rt: &impl Abort, alloc: A, input: &[u8]
 /// What was replied is written before the next slice: `readyok` before the first, and the report of depth 1 before the 21st.
 #[test]
 fn writes_before_it_searches_on(rt: HostRuntime) {
-    let told = readings_before_a_write(&rt, rt.alloc(), b"go depth 3\n");
-    assert!(rt; told == 21);
-    let ready = readings_before_a_write(&rt, rt.alloc(), b"isready\ngo depth 3\n");
-    assert!(rt; ready == 2);
+    let readings = readings_before_a_write(&rt, rt.alloc(), b"go depth 3\n");
+    assert!(rt; readings == 21);
+    let readings = readings_before_a_write(&rt, rt.alloc(), b"isready\ngo depth 3\n");
+    assert!(rt; readings == 2);
 }

@@ -11,16 +11,12 @@ const GAME: &[u8] = b"1.e4 e5 (1...c5 2.Nf3 {x  y} $1) 2.Nf3 *";
 /// How many moves follow the first position of the game that a text begins with, if there is one.
 type Begun = Result<Option<u32>, PgnFault>;
 
-fn front_by<A: Allocator>(alloc: &A, text: &[u8]) -> Begun {
+fn read_start<A: Allocator>(alloc: &A, text: &[u8]) -> Begun {
     match read_game(alloc, text) {
         Ok(None) => Ok(None),
         Ok(Some((game, _))) => Ok(Some(game.tree.child_count())),
         Err(fault) => Err(fault),
     }
-}
-
-fn read_start<A: Allocator>(alloc: &A, text: &[u8]) -> Begun {
-    front_by(alloc, text)
 }
 
 fn fault(place: u64, kind: FaultKind) -> Begun {
@@ -49,7 +45,7 @@ fn start_of_game(rt: &impl Abort, count: usize) -> &'static [u8] {
 }
 
 #[test]
-fn each_front_of_a_game(rt: HostRuntime) {
+fn each_prefix_of_a_game(rt: HostRuntime) {
     for count in 0..=GAME.len() {
         let begun = read_start(&rt.alloc(), start_of_game(&rt, count));
         assert!(&rt; begun == wanted(count), "the first {count} bytes");
@@ -67,16 +63,16 @@ fn comment<'a, A: Allocator>(alloc: &'a A, letters: usize) -> Result<Vec<u8, &'a
 }
 
 /// What a comment of so many letters begins with.
-fn front_of_comment<A: Allocator>(alloc: &A, letters: usize) -> Result<Begun, AllocError> {
+fn start_of_comment<A: Allocator>(alloc: &A, letters: usize) -> Result<Begun, AllocError> {
     let text = comment(alloc, letters)?;
     Ok(read_start(alloc, text.as_slice()))
 }
 
 #[test]
 fn the_longest_game(rt: HostRuntime) -> Result<(), Fail> {
-    let begun = front_of_comment(&rt.alloc(), 1_048_573)?;
+    let begun = start_of_comment(&rt.alloc(), 1_048_573)?;
     assert!(&rt; begun == Ok(Some(0)));
-    let begun = front_of_comment(&rt.alloc(), 1_048_574)?;
+    let begun = start_of_comment(&rt.alloc(), 1_048_574)?;
     assert!(&rt; begun == fault(1_048_576, FaultKind::TooLarge));
     Ok(())
 }
@@ -110,7 +106,7 @@ fn is_written_again<A: Allocator>(
     wanted: (usize, u32),
 ) -> Result<(), PgnFault> {
     let written = written(rt, alloc, text, wanted)?;
-    assert!(rt; front_by(alloc, written.as_slice()) == Ok(Some(wanted.1)));
+    assert!(rt; read_start(alloc, written.as_slice()) == Ok(Some(wanted.1)));
     Ok(())
 }
 

@@ -57,7 +57,7 @@ fn assert_in_pieces<A: Allocator>(
 }
 
 /// The text begins so, as a whole and in pieces.
-fn assert_front<A: Allocator>(rt: &impl Abort, alloc: &A, text: &[u8], wanted: Found) {
+fn assert_start<A: Allocator>(rt: &impl Abort, alloc: &A, text: &[u8], wanted: Found) {
     assert!(rt; found_at_start(alloc, text) == wanted);
     assert_in_pieces(rt, alloc, text, 3, wanted);
     assert_in_pieces(rt, alloc, text, 65_536, wanted);
@@ -110,7 +110,7 @@ fn assert_long<A: Allocator>(
     wanted: Found,
 ) -> Result<(), AllocError> {
     let text = long_text(alloc, first, filler, 200_000, last)?;
-    assert_front(rt, alloc, text.as_slice(), wanted);
+    assert_start(rt, alloc, text.as_slice(), wanted);
     Ok(())
 }
 
@@ -129,7 +129,7 @@ const TOO_LARGE: Found = Err(PgnFault {
 });
 
 /// What comes after a comment that leaves five bytes up to the limit, and how the text begins.
-const BEHIND_A_COMMENT: &[(&[u8], Found)] = &[
+const AFTER_A_COMMENT: &[(&[u8], Found)] = &[
     (b"{aaa}*", TOO_LARGE),
     (b"{aa}*", Ok(Some(LIMIT))),
     (b"{aaaaaaa", TOO_LARGE),
@@ -163,7 +163,7 @@ const BEHIND_A_COMMENT: &[(&[u8], Found)] = &[
 ];
 
 /// What comes after whitespace that leaves five bytes up to the limit: as long as nothing else has come, it is passed over.
-const BEHIND_SPACES: &[(&[u8], Found)] = &[
+const AFTER_SPACES: &[(&[u8], Found)] = &[
     (b"", Ok(None)),
     (b" \n%x", Ok(None)),
     (b"     \n%abcdefg\n  \n%", Ok(None)),
@@ -191,13 +191,13 @@ fn assert_with<A: Allocator>(
 ) -> Result<(), AllocError> {
     let length = text.len();
     text.extend_from_slice(after)?;
-    assert_front(rt, alloc, text.as_slice(), wanted);
+    assert_start(rt, alloc, text.as_slice(), wanted);
     text.truncate(length);
     Ok(())
 }
 
 /// A text with each of these after it begins so.
-fn assert_behind<A: Allocator>(
+fn assert_each_after<A: Allocator>(
     rt: &impl Abort,
     alloc: &A,
     text: &mut Vec<u8, &A>,
@@ -213,15 +213,15 @@ fn assert_behind<A: Allocator>(
 fn games_up_to_the_limit(rt: HostRuntime) -> Result<(), Fail> {
     let alloc = rt.alloc();
     let mut text = long_text(&alloc, b"{", b'a', LIMIT - 7, b"}")?;
-    assert_behind(&rt, &alloc, &mut text, BEHIND_A_COMMENT)?;
+    assert_each_after(&rt, &alloc, &mut text, AFTER_A_COMMENT)?;
     Ok(())
 }
 
 #[test]
-fn white_space_behind_the_limit(rt: HostRuntime) -> Result<(), Fail> {
+fn whitespace_after_the_limit(rt: HostRuntime) -> Result<(), Fail> {
     let alloc = rt.alloc();
     let mut text = long_text(&alloc, b"", b' ', LIMIT - 5, b"")?;
-    assert_behind(&rt, &alloc, &mut text, BEHIND_SPACES)?;
+    assert_each_after(&rt, &alloc, &mut text, AFTER_SPACES)?;
     Ok(())
 }
 

@@ -284,7 +284,7 @@ const LATER_FAULTS: &[(&[u8], u32, u64, FaultKind)] = &[
 ];
 
 /// A fault is reported again by each later call.
-fn assert_told_again<A: Allocator>(rt: &impl Abort, alloc: &A) {
+fn assert_reported_again<A: Allocator>(rt: &impl Abort, alloc: &A) {
     let wanted = refused(2, FaultKind::Variation);
     let mut games = Games::new(alloc, FromBytes::new(b"* (1. e4) *", 1));
     let (count, fault) = count_games(&mut games, 3);
@@ -296,8 +296,8 @@ fn assert_told_again<A: Allocator>(rt: &impl Abort, alloc: &A) {
 }
 
 #[test]
-fn a_fault_is_told_again(rt: HostRuntime) {
-    assert_told_again(&rt, &rt.alloc());
+fn a_fault_is_reported_again(rt: HostRuntime) {
+    assert_reported_again(&rt, &rt.alloc());
     let none = all_games(&rt.alloc(), b"", 1);
     assert!(&rt; none.0 == 0);
     assert!(&rt; none.1.is_none());

@@ -28,8 +28,8 @@ fn search<A: Allocator>(
 }
 
 /// Whether that is the text of the best move, and of its score.
-fn is_told(best: Option<(Move, i32)>, told: Option<(&str, &str)>) -> bool {
-    match (best, told) {
+fn is_written(best: Option<(Move, i32)>, wanted: Option<(&str, &str)>) -> bool {
+    match (best, wanted) {
         (Some((m, value)), Some((text, score))) => {
             m.text().as_str() == text && score_text(value).as_str() == score
         }
@@ -70,9 +70,9 @@ const CLAIMED: &[u8] = b"4k3/8/8/8/8/8/8/R3K3 w - - 99 60";
 
 #[test]
 fn names_the_first_of_greatest_value(rt: HostRuntime) {
-    for (fen, depth, claims, told) in BEST {
+    for (fen, depth, claims, wanted) in BEST {
         let (best, _) = search(&rt, rt.alloc(), fen, *depth, *claims);
-        assert!(rt; is_told(best, *told));
+        assert!(rt; is_written(best, *wanted));
     }
 }
 

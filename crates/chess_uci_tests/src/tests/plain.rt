@@ -226,7 +226,7 @@ impl<'a, A: Allocator> Plain<'a, A> {
         }
     }
 
-    fn tell(&mut self, running: Running, best: Move, value: i32) -> Replies {
+    fn report(&mut self, running: Running, best: Move, value: i32) -> Replies {
         let depth = running.depth;
         let info = Reply::Info { depth, best, value };
         let is_last = depth >= running.going.last;
@@ -270,7 +270,7 @@ impl<'a, A: Allocator> Plain<'a, A> {
             return silence();
         }
         match self.best_of_first(line, depth, claims, roots) {
-            Some((best, value)) => self.tell(running, best, value),
+            Some((best, value)) => self.report(running, best, value),
             None => silence(),
         }
     }

@@ -35,7 +35,7 @@ use Look::{DepthDone, Ended, Infinite, Searching, SoFar, Waiting};
 use Row::{Line, Moment, Shows, Slices, Unheard};
 
 /// Whether the event is replied these lines.
-fn is_told<A: Allocator>(session: &mut Session<'_, A>, event: Event, want: &[&[u8]]) -> bool {
+fn is_replied<A: Allocator>(session: &mut Session<'_, A>, event: Event, want: &[&[u8]]) -> bool {
     let replies = session.event(event);
     for (reply, line) in replies.as_slice().iter().zip(want.iter()) {
         if reply.write().as_bytes() != *line {
@@ -46,13 +46,17 @@ fn is_told<A: Allocator>(session: &mut Session<'_, A>, event: Event, want: &[&[u
 }
 
 /// Whether of so many slices the last alone is replied anything, and it these lines.
-fn are_told<A: Allocator>(session: &mut Session<'_, A>, number: u32, want: &[&[u8]]) -> bool {
+fn last_is_replied<A: Allocator>(
+    session: &mut Session<'_, A>,
+    number: u32,
+    want: &[&[u8]],
+) -> bool {
     for _ in 1..number {
-        if !is_told(session, Event::Slice, &[]) {
+        if !is_replied(session, Event::Slice, &[]) {
             return false;
         }
     }
-    is_told(session, Event::Slice, want)
+    is_replied(session, Event::Slice, want)
 }
 
 /// So many slices, whatever is replied.
@@ -85,9 +89,9 @@ fn is_seen<A: Allocator>(rt: &impl Abort, session: &Session<'_, A>, look: Look) 
 /// Whether the row is right.
 fn holds<A: Allocator>(rt: &impl Abort, session: &mut Session<'_, A>, row: Row) -> bool {
     match row {
-        Line(line, want) => is_told(session, Event::Line(line), want),
-        Moment(moment, want) => is_told(session, Event::Moment(moment), want),
-        Slices(number, want) => are_told(session, number, want),
+        Line(line, want) => is_replied(session, Event::Line(line), want),
+        Moment(moment, want) => is_replied(session, Event::Moment(moment), want),
+        Slices(number, want) => last_is_replied(session, number, want),
         Unheard(number) => {
             unheard(session, number);
             true
@@ -486,9 +490,9 @@ fn places_twenty_thousand_plies(rt: HostRuntime) -> Result<(), Fail> {
     let mut text = Vec::new(&alloc);
     text.extend_from_slice(b"position startpos moves")?;
     put_times(&mut text, b" g1f3 g8f6 f3g1 f6g8", 5_000)?;
-    assert!(rt; is_told(&mut session, Event::Line(text.as_slice()), &[]));
+    assert!(rt; is_replied(&mut session, Event::Line(text.as_slice()), &[]));
     text.extend_from_slice(b" g1f3")?;
-    assert!(rt; is_told(&mut session, Event::Line(text.as_slice()), REFUSED));
+    assert!(rt; is_replied(&mut session, Event::Line(text.as_slice()), REFUSED));
     run(&rt, &mut session, LONGEST_KEPT);
     Ok(())
 }
