@@ -93,6 +93,8 @@ def played(*moves):
     return [text for move in moves for text in (f"play {move}", "ok")]
 
 
+# Four plies after which the men are as before.
+KNIGHTS = played("g1f3", "g8f6", "f3g1", "f6g8")
 FOOLS_MATE = played("f3", "e5", "g4", "Qh4")
 SCHOLARS = "1. e4 e5 2. Bc4 Nc6 3. Qh5 Nf6 4. Qxf7#"
 
@@ -129,6 +131,10 @@ RUNS = [
           "pgn", SEVEN_TAGS % "*" + "\n1. e4 $1 {a b} 1... e5 *\n"),
     board("the longest comment", "comment " + "a" * 1_048_568, "ok", "eval", "0"),
     board("the longest line", "a" * 1_048_576, "refused 6 Command", "a" * 1_048_577, "refused 8 LongLine", "eval", "0"),
+    board("a line of 20,000 plies", *KNIGHTS * 5_000, "play g1f3", "refused 2 TooLong", "start", "ok",
+          "goto 0" + ".0" * 19_999, "ok", "play g1f3", "refused 2 TooLong",
+          "goto 0" + ".0" * 20_000, "refused 1 NoSuch", "goto 0" + ".0" * 20_000 + ".", "refused 7 Argument",
+          "start", "ok", "end", "ok", "goto 0", "ok", "delete", "ok", "path", "-", "end", "ok", "path", "-"),
     *board_rows(f"{TOP}/tests/board.txt"),
     Run("the last line lacks its line feed", ["board"], "new\neval", "ok\n0\n"),
     Run("a carriage return is dropped", ["board"], "new\r\neval\r\n", "ok\n0\n"),
@@ -152,11 +158,16 @@ RUNS = [
     Run("a session says who it is", ["uci"], "uci\njoho isready\nquit\nisready\n",
         "id name chess_uci 1\nid author chess_uci project\noption name Claims type check default false\nuciok\nreadyok\n"),
     Run("the end of the input ends a session", ["uci"], "isready", "readyok\n"),
-    Run("a search to a depth", ["uci"], "position startpos moves e2e4\ngo depth 1\n", "info depth 1 score cp 10 pv b8c6\nbestmove b8c6\n"),
+    Run("searches to a depth", ["uci"], "position startpos moves e2e4\ngo depth 1\ngo depth 2\n",
+        "info depth 1 score cp 10 pv b8c6\nbestmove b8c6\n"
+        "info depth 1 score cp 10 pv b8c6\ninfo depth 2 score cp -8 pv b8c6\nbestmove b8c6\n"),
     Run("a search of a few moves", ["uci"], "go depth 1 searchmoves e2e4 d2d4\n", "info depth 1 score cp 8 pv d2d4\nbestmove d2d4\n"),
     Run("a position without a move", ["uci"],
         "position fen rnb1kbnr/pppp1ppp/8/4p3/6Pq/5P2/PPPPP2P/RNBQKBNR w KQkq - 1 3\ngo depth 3\nposition startpos moves e2e5\n",
         "bestmove 0000\ninfo string position refused\n"),
+    Run("positions that are refused", ["uci"], "position startpos moves e2e5\nposition fen 8/8 w\ngo depth 1",
+        "info string position refused\ninfo string position refused\ninfo depth 1 score cp 18 pv b1c3\nbestmove b1c3\n"),
+    Run("the longest line of a session", ["uci"], "a" * 1_048_576 + "\nisready\n", "readyok\n"),
     Run("a line too long for a session", ["uci"], "a" * 1_048_577 + "\nisready\n", "info string line too long\nreadyok\n"),
     # Streams that fail
     Run("board: a folder is no input", ["board"], reads_folder=True, error="read fault\n", status=3),

@@ -1,7 +1,6 @@
 mod games;
 mod growths;
 mod hostile;
-mod long;
 mod runs;
 mod sessions;
 mod unending;

@@ -88,26 +88,6 @@ fn stops_at_a_failing_write(rt: HostRuntime) -> Result<(), Fail> {
     Ok(())
 }
 
-/// The next game has a fault, and a text without any has none.
-#[test]
-fn reports_a_fault_after_a_game(rt: HostRuntime) {
-    let mut room = [0; 400];
-    let mut writer = ToBytes::new(&mut room, 400);
-    let ended = pgn(
-        rt.alloc(),
-        &mut FromBytes::new(b"* (1. e4) *", 400),
-        &mut writer,
-    );
-    assert_eq!(rt; ended.status(), 2);
-    assert_eq!(rt; ended.message().as_str(), "fault 2 4 Variation");
-    assert_eq!(rt; Some(writer.taken()), SEVERAL_WRITTEN.get(..96));
-    let mut room = [0; 400];
-    let mut writer = ToBytes::new(&mut room, 400);
-    let ended = pgn(rt.alloc(), &mut FromBytes::new(b"", 400), &mut writer);
-    assert_eq!(rt; ended, Ended::Good);
-    assert_eq!(rt; writer.taken().len(), 0);
-}
-
 /// Five games, and how many bytes have to be read until each of them is whole, whatever follows.
 const SEVERAL: &[u8] = b"* 1. e4 *\n1-0 {x} e4 e5 [Event \"y\"] d4 0-1\n";
 

@@ -1,6 +1,5 @@
 //! Other key tables, little memory, and lines up to the limit.
 use crate::tests::games;
-use crate::tests::runs::Letters;
 use crate::tests::sessions::STOPPED;
 use byte_streams::{FromBytes, ToBytes};
 use chess_cli::{Ended, board, board_with, pgn, uci, uci_with};
@@ -129,25 +128,4 @@ fn games_in_little_memory(rt: HostRuntime) -> Result<(), Fail> {
     }
     assert!(rt; refused > 3 && good > 3);
     Ok(())
-}
-
-/// A session skips a line over the limit.
-#[test]
-fn a_session_skips_a_long_line(rt: HostRuntime) {
-    for (letters, wanted) in [
-        (1_048_576usize, b"".as_slice()),
-        (1_048_577, b"info string line too long\n".as_slice()),
-    ] {
-        let mut reader = Letters {
-            left: letters,
-            has_ended: false,
-        };
-        let mut room = [0; 100];
-        let mut writer = ToBytes::new(&mut room, 100);
-        assert_eq!(rt;
-            uci(rt.alloc(), &mut reader, &mut writer, STOPPED),
-            Ended::Good
-        );
-        assert_eq!(rt; writer.taken(), wanted);
-    }
 }

@@ -64,49 +64,6 @@ fn answers_over_bytes(rt: HostRuntime) -> Result<(), Fail> {
     Ok(())
 }
 
-/// A FEN that is refused leaves the counts as they were.
-#[test]
-fn refuses_and_keeps_the_position(rt: HostRuntime) -> Result<(), Fail> {
-    let refused: [(&[u8], &[u8]); 8] = [
-        (b"", b"refused 1 Fields\n"),
-        (
-            b"rnbqkbnrr/pppppppp/8/8/8/8/PPPPPPPP/RNBQKBNR w KQkq - 0 1",
-            b"refused 2 Placement\n",
-        ),
-        (
-            b"rnbqkbnr/pppppppp/44/8/8/8/PPPPPPPP/RNBQKBNR w KQkq - 0 1",
-            b"refused 2 Placement\n",
-        ),
-        (b"8/8/8/8/8/8/8/K7 w - - 0 1", b"refused 3 Kings\n"),
-        (b"P3k3/8/8/8/8/8/8/4K3 w - - 0 1", b"refused 4 PawnRank\n"),
-        (
-            b"rnbqkbnr/pppppppp/8/8/8/P7/PPPPPPPP/RNBQKBNR w KQkq - 0 1",
-            b"refused 5 TooManyMen\n",
-        ),
-        (b"4k3/8/8/8/8/8/8/4K3 x - - 0 1", b"refused 6 Side\n"),
-        (b"4k3/8/8/8/8/8/8/4R1K1 w - - 0 1", b"refused 10 InCheck\n"),
-    ];
-    for (fen, answer) in refused {
-        let mut input = Vec::from_slice(
-            rt.alloc(),
-            b"set 4k3/8/8/8/8/8/8/R3K3 w - - 0 1\ncounts w\nset ",
-        )?;
-        input.extend_from_slice(fen)?;
-        input.extend_from_slice(b"\ncounts w\n")?;
-        let mut reader = FromBytes::new(input.as_slice(), 100);
-        let mut room = [0; 400];
-        let mut writer = ToBytes::new(&mut room, 100);
-        assert_eq!(rt; board(rt.alloc(), &mut reader, &mut writer), Ended::Good);
-        let after_ok = &writer.taken()[..];
-        assert!(rt; after_ok.len() == 3 + ONE_LINE + answer.len() + ONE_LINE);
-        let (before, others) = after_ok[3..].split_at(ONE_LINE);
-        let (said, after) = others.split_at(answer.len());
-        assert_eq!(rt; said, answer);
-        assert_eq!(rt; before, after);
-    }
-    Ok(())
-}
-
 /// The lines that had ended are answered, and what had begun is not.
 #[test]
 fn stops_at_a_failing_read(rt: HostRuntime) -> Result<(), Fail> {
@@ -169,9 +126,9 @@ fn stops_where_the_room_ends(rt: HostRuntime) -> Result<(), Fail> {
 
 /// Gives so many times one letter, and then a line feed and a line of its own, a thousand bytes at a call.
 #[derive(Drop)]
-pub(crate) struct Letters {
-    pub(crate) left: usize,
-    pub(crate) has_ended: bool,
+struct Letters {
+    left: usize,
+    has_ended: bool,
 }
 
 impl Source for Letters {

@@ -46,30 +46,6 @@ fn assert_replies<A: Allocator>(
     }
 }
 
-#[test]
-fn identifies_itself(rt: HostRuntime) {
-    let output =
-        b"id name chess_uci 1\nid author chess_uci project\noption name Claims type check default false\nuciok\nreadyok\n";
-    assert_replies(
-        &rt,
-        &rt.alloc(),
-        STOPPED,
-        b"uci\njoho isready\r\nquit\nisready\n",
-        output,
-    );
-}
-
-#[test]
-fn searches_to_the_last_depth(rt: HostRuntime) {
-    assert_replies(
-        &rt,
-        &rt.alloc(),
-        STOPPED,
-        b"position startpos moves e2e4\ngo depth 1\ngo depth 2\n",
-        b"info depth 1 score cp 10 pv b8c6\nbestmove b8c6\ninfo depth 1 score cp 10 pv b8c6\ninfo depth 2 score cp -8 pv b8c6\nbestmove b8c6\n",
-    );
-}
-
 /// The budget ends a search between two roots: the first root is named where no depth is complete.
 #[test]
 fn searches_up_to_the_budget(rt: HostRuntime) {
@@ -113,17 +89,6 @@ fn waits_for_stop(rt: HostRuntime) {
         STOPPED,
         b"position fen rnb1kbnr/pppp1ppp/8/4p3/6Pq/5P2/PPPPP2P/RNBQKBNR w KQkq - 1 3\ngo depth 3\ngo infinite\nstop\n",
         b"bestmove 0000\nbestmove 0000\n",
-    );
-}
-
-#[test]
-fn refuses_positions(rt: HostRuntime) {
-    assert_replies(
-        &rt,
-        &rt.alloc(),
-        STOPPED,
-        b"position startpos moves e2e5\nposition fen 8/8 w\ngo depth 1",
-        b"info string position refused\ninfo string position refused\ninfo depth 1 score cp 18 pv b1c3\nbestmove b1c3\n",
     );
 }
 
