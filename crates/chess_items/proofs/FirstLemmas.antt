@@ -1,5 +1,5 @@
 -- Items within a line that are known by their first byte.
-use Rattle.std.proofs.Common.{◌≡◌, ◌≢◌, ◌<◌, ◌≤◌, inr, ℕ, List, [], ◌∷◌, ◌++◌, take, drop, length, Some, true, false, refl, sym, ap, subst, ◌∙◌, arith}
+use Rattle.std.proofs.Common.{◌≡◌, ◌≢◌, ◌<◌, ◌≤◌, inr, ℕ, List, [], ◌∷◌, ◌++◌, take, drop, length, Some, true, false, refl, sym, ap, ◌∙◌, arith}
 use Rattle.std.specs.List.{list_all, prefix_len}
 use Rattle.std.proofs.lemmas.List.{take-append-drop}
 use Rattle.chess_items.specs.Items.{Item, Blank, Skipped, Word, Each, IsRun, is_blank, is_digit, is_glyph, is_name_byte, is_word_byte, word_item}
