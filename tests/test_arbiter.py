@@ -104,6 +104,16 @@ class Arbiter(unittest.TestCase):
         self.assertEqual((bad["number"], bad["plies"], bad["fault"]), (2, None, "Move"))
         self.assertEqual(list(good), list(rows("*")[0]))
 
+    def test_a_line_of_json_to_the_byte(self):
+        text = f'*\n\n[White "a"]\n\n{BLACK_MATES}1-0\n\n[Site "?"]\n\n1. e5 *\n'
+        self.assertEqual(judged(text, "--findings", "--format", "jsonl").stdout.decode(),
+            '{"number":2,"offset":1,"white":"a","black":"?","event":"?","date":"????.??.??","plies":4,"result":"1-0","status":"mate","winner":"black",'
+            '"over_ply":null,"over_why":null,"threefold_ply":null,"fifty_ply":null,"repetitions":1,"quiet":1,"agrees":false,'
+            '"fen":"rnb1kbnr/pppp1ppp/8/4p3/6Pq/5P2/PPPPP2P/RNBQKBNR w KQkq - 1 3","fault_place":null,"fault":null}\n'
+            '{"number":3,"offset":39,"white":null,"black":null,"event":null,"date":null,"plies":null,"result":null,"status":null,"winner":null,'
+            '"over_ply":null,"over_why":null,"threefold_ply":null,"fifty_ply":null,"repetitions":null,"quiet":null,"agrees":null,"fen":null,'
+            '"fault_place":56,"fault":"Move"}\n')
+
     def test_bytes_of_a_tag_stay(self):
         self.assertEqual(rows(b'[White "M\xfcller"] *')[0]["white"], "Müller")
 

@@ -167,6 +167,17 @@ class Pieces(unittest.TestCase):
         large = subprocess.run([GAMES, "--cut", "500"], input=text, capture_output=True, check=True).stdout.split(b"\0")
         self.assertTrue(all(len(piece) >= 500 for piece in large[:-1]))
 
+    def test_where_no_game_ends(self):
+        for text in ('*\n[A "b"]', "*\n\n[%b]", 'e4\n\n[A "b"]', '* {\n\n[A "b"]}', '* ; c\n\n[A "b"]', '{\n\n[A "b"]} *\n\n[A "b"]', 'e41-0\n\n[A "b"]'):
+            with self.subTest(text=text):
+                self.assertEqual(subprocess.run([GAMES, "--cut", "1"], input=text.encode(), capture_output=True, check=True).stdout.decode(), text)
+
+    def test_a_piece_has_its_least_bytes_and_ends_with_its_game(self):
+        first, second, third = '1-0\r\n\r\n', '[A "b"]\n\ne4 *\n\n', '[A "c"]\n'
+        for least in ("1", "5"):
+            cut = subprocess.run([GAMES, "--cut", least], input=(first + second + third).encode(), capture_output=True, check=True).stdout
+            self.assertEqual(cut.decode(), "\0".join((first, second, third)))
+
     def test_a_zero_byte_is_refused(self):
         ran = subprocess.run([GAMES, "--cut", "1"], input=b"{\0} *", capture_output=True)
         self.assertEqual((ran.returncode, ran.stderr), (3, b"a zero byte in the input\n"))
@@ -186,6 +197,12 @@ class GoodGames(unittest.TestCase):
         collection = "".join(games())
         ran = self.run_games(collection)
         self.assertEqual((ran.stdout, ran.stderr, ran.returncode), (self.good_alone(collection), "", 0))
+
+    def test_no_good_game(self):
+        for text, status, reports in ((" \n", 0, 0), ("x", 2, 1), ('[A "\n\n[B "', 2, 2)):
+            with self.subTest(text=text):
+                ran = self.run_games(text)
+                self.assertEqual((ran.stdout, ran.returncode, len(ran.stderr.splitlines())), ("", status, reports))
 
     def test_bad_games_are_reported_by_number_and_place(self):
         good = games()
@@ -207,10 +224,19 @@ class GoodGames(unittest.TestCase):
         self.assertEqual(sorted(game for share in shares for game in share), sorted(one))
         self.assertEqual(shares[0], [one[number if number < 7 else number - 1] for number in range(0, len(one) + 1, 3)])
 
+    def test_a_part_of_few_games(self):
+        collection = "*\n\n" + BAD + '[Site "?"]\n\n*\n'
+        both = self.run_games(collection)
+        for part, good, bad in (("1/1", 2, 1), ("2/2", 0, 1), ("1/3", 1, 0), ("4/4", 0, 0)):
+            with self.subTest(part=part):
+                ran = self.run_games(collection, "--part", part)
+                self.assertEqual((ran.stdout, ran.returncode), (both.stdout[:len(both.stdout) * good // 2], 2 * bad))
+
     def test_words(self):
         self.assertEqual(self.run_games("", "--progress").returncode, 0)
         self.assertIn("--progress", self.run_games("", "--help").stdout)
-        for words in (["x"], ["--part", "4/3"], ["--part", "0/3"], ["--cut", "0"], ["--cut", "x"]):
+        wrong_parts = [["--part", part] for part in ("4/3", "0/3", "3", "a/b", "1/0", "1/2/3", "")]
+        for words in (["x"], *wrong_parts, *(["--cut", size] for size in ("0", "x", "-1", ""))):
             wrong = self.run_games("", *words)
             self.assertEqual((wrong.returncode, wrong.stdout), (1, ""))
 

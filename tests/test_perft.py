@@ -17,12 +17,33 @@ class Perft(unittest.TestCase):
         ended = self.ended(input=f"3 {START}\n\nfull 2 {START}\r\n17 {START}\n{'9' * 70_000}\n0 {START}".encode())
         self.assertEqual((ended.returncode, ended.stdout, ended.stderr), (0, b"8902\n400\nfault Depth\nfault LongLine\n1\n", b""))
 
+    def test_a_line_has_at_most_1024_bytes(self):
+        """With a line feed and without one, and white space alone as well."""
+        small = "8/2p5/3p4/KP5r/1R3p1k/8/4P1P1/8 w - -"
+        rows = [("0" * 1024, "fault Depth\n"), ("0" * 1025, "fault LongLine\n"), (f"\n \t\r\n02 {small} 0 1\n", "fault Depth\n"),
+                (" " * 1025 + "\n1 " + small, "fault LongLine\n14\n"), (f" 2\t{small}\r\n", "191\n")]
+        for text, answers in rows:
+            for end in ("", "\n"):
+                with self.subTest(text=text[:40], end=end):
+                    ended = self.ended(input=(text + end).encode())
+                    self.assertEqual((ended.returncode, ended.stdout.decode()), (0, answers))
+
     def test_an_answer_comes_before_the_next_line_is_given(self):
         with subprocess.Popen([PERFT], stdin=subprocess.PIPE, stdout=subprocess.PIPE) as program:
             for depth, leaves in ((1, b"20\n"), (2, b"400\n")):
                 program.stdin.write(f"{depth} {START}\n".encode())
                 program.stdin.flush()
                 self.assertEqual(program.stdout.readline(), leaves)
+
+    def test_an_answer_comes_before_the_next_is_counted(self):
+        """Both lines come in one piece; the second would take years."""
+        with subprocess.Popen([PERFT], stdin=subprocess.PIPE, stdout=subprocess.PIPE) as program:
+            try:
+                program.stdin.write(f"1 {START}\n16 {START}\n".encode())
+                program.stdin.flush()
+                self.assertEqual(program.stdout.readline(), b"20\n")
+            finally:
+                program.kill()
 
     def test_a_folder_as_input(self):
         folder = os.open("/", os.O_RDONLY)

@@ -2,7 +2,7 @@ ghost use Rattle.std.specs.Prelude.{◌≡◌, option_map};
 ghost use Rattle.arbiter.specs.Cells.{Number, Text, Truth, Nothing, cell_of, maybe};
 
 /// What a row has in a column.
-#[derive(Clone, Copy, Debug)]
+#[derive(Clone, Copy)]
 pub enum Value<'v> {
     Number(u64),
     /// A text of the program's own.
@@ -14,7 +14,7 @@ pub enum Value<'v> {
 }
 
 /// A column's name, and what a row has there.
-#[derive(Clone, Copy, Debug)]
+#[derive(Clone, Copy)]
 pub struct Cell<'v> {
     pub name: &'static str,
     pub value: Value<'v>,

@@ -17,7 +17,7 @@ use chess_report::Report;
 use std::alloc::{AllocError, Global};
 
 /// Which rows are written, and how.
-#[derive(Clone, Copy, Debug, PartialEq, Eq)]
+#[derive(Clone, Copy)]
 pub struct Asked {
     pub format: Format,
     /// Only the games that have a finding, and those that can't be read.

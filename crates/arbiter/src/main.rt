@@ -7,8 +7,6 @@ mod cell;
 mod columns;
 mod judge;
 mod row;
-#[cfg(test)]
-mod tests;
 mod words;
 
 use byte_streams::{FromRead, ToWrite};

@@ -6,7 +6,7 @@ use std::alloc::Global;
 use std::convert::AsStr;
 
 /// What the program is to do.
-#[derive(Clone, Copy, Debug, PartialEq, Eq)]
+#[derive(Clone, Copy)]
 pub struct Words {
     pub asked: Asked,
     /// A line on the standard error once a second.

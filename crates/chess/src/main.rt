@@ -3,8 +3,6 @@
 #![tactic(auto)]
 
 mod clock;
-#[cfg(test)]
-mod tests;
 mod words;
 
 use byte_streams::{FromRead, ToWrite};

@@ -4,7 +4,7 @@ use std::alloc::Global;
 use std::convert::AsStr;
 
 /// The engine that the program's words ask for.
-#[derive(Clone, Copy, Debug, PartialEq, Eq)]
+#[derive(Clone, Copy)]
 pub enum Asked {
     Board,
     Uci,

@@ -3,8 +3,6 @@
 
 mod joining;
 mod tags;
-#[cfg(test)]
-mod tests;
 
 pub use joining::{JoinFault, join};
 pub use tags::{TagFault, clear_tag, set_tag};

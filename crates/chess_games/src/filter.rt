@@ -14,7 +14,7 @@ use chess_programs::{Failure, GAMES, Progress, fault_of};
 use std::alloc::Allocator;
 
 /// What is asked of a run over games.
-#[derive(Clone, Copy, Debug, PartialEq, Eq)]
+#[derive(Clone, Copy)]
 pub struct Wanted {
     /// The games that are written or reported.
     pub part: Part,

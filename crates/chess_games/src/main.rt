@@ -9,8 +9,6 @@ mod cut;
 mod filter;
 mod part;
 mod put;
-#[cfg(test)]
-mod tests;
 mod words;
 
 use byte_streams::{FromRead, ToWrite};

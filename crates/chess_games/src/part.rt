@@ -7,7 +7,7 @@ ghost use Rattle.chess_games.specs.Parts.{IsNumber, IsPart, IsWhole, is_in};
 use std::marker::Model;
 
 /// Every `step`-th game, from the one with the number `first`; both count from 1, and `first` is at most `step`.
-#[derive(Clone, Copy, Debug, PartialEq, Eq)]
+#[derive(Clone, Copy)]
 pub struct Part {
     first: u64,
     step: u64,

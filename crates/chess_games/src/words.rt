@@ -6,7 +6,7 @@ use std::alloc::Global;
 use std::convert::AsStr;
 
 /// What the program is to do.
-#[derive(Clone, Copy, Debug, PartialEq, Eq)]
+#[derive(Clone, Copy)]
 pub enum Words {
     /// Games are read, with a line on the standard error once a second where that is asked for.
     Filter { wanted: Wanted, progress: bool },

@@ -4,8 +4,6 @@
 
 mod copy;
 mod ended;
-#[cfg(test)]
-mod tests;
 mod texts;
 
 pub use copy::copy_line;

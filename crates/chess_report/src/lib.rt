@@ -6,7 +6,5 @@
 
 mod report;
 mod tally;
-#[cfg(test)]
-mod tests;
 
 pub use report::{Over, Report};

@@ -12,6 +12,3 @@ mod walk;
 pub use node::node_at;
 pub use replay::{Replay, Replayed};
 pub use walk::{Visit, Walk};
-
-#[cfg(test)]
-mod tests;

@@ -13,8 +13,6 @@
 mod answer;
 mod counter;
 mod leaves;
-#[cfg(test)]
-mod tests;
 
 use byte_streams::{FromRead, ToWrite};
 use chess_loop::RunEnd;

@@ -1,4 +1,4 @@
-use crate::{JoinFault, TagFault, clear_tag, join, set_tag};
+use chess_edit::{JoinFault, TagFault, clear_tag, join, set_tag};
 use chess_pgn::{Game, read_game, write_game};
 use chess_types::Position;
 
@@ -88,13 +88,13 @@ fn games_are_joined(rt: HostRuntime) {
 fn other_starts_are_refused(rt: HostRuntime) {
     let alloc = rt.alloc();
     let Ok(Some((mut game, _))) = read_game(&alloc, b"1. e4 *") else {
-        return;
+        panic!(rt; "no game");
     };
     let Ok(Some((other, _))) = read_game(
         &alloc,
         b"[FEN \"8/8/8/8/8/8/K1k5/8 w - - 0 1\"]\n\n1. Ka3 *",
     ) else {
-        return;
+        panic!(rt; "no game");
     };
     assert!(rt; join(&mut game, &other) == Err(JoinFault::Start));
 }

@@ -1,7 +1,7 @@
-use crate::{Replay, Walk, node_at};
 use chess_key::KeyTable;
 use chess_tree::{Analysis, Tree};
 use chess_types::{Move, Position};
+use chess_walk::{Replay, Walk, node_at};
 use std::alloc::Global;
 use std::process::Abort;
 

@@ -1,10 +1,10 @@
 ghost use Rattle.std.specs.Prelude.{◌≡◌, IfSome};
 ghost use Rattle.chess_types.specs.board.Position.{start};
 
-use crate::{copy_line, move_texts, outcome, outcome_by};
 use chess_draws::Line;
 use chess_items::Outcome;
 use chess_key::KeyTable;
+use chess_lines::{copy_line, move_texts, outcome, outcome_by};
 use chess_types::{Position, Status};
 use std::alloc::Global;
 

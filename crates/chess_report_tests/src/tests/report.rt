@@ -1,6 +1,6 @@
-use crate::report::Report;
 use chess_key::KeyTable;
 use chess_pgn::read_game;
+use chess_report::Report;
 use chess_types::Status;
 
 #[test]
@@ -8,10 +8,8 @@ fn a_mate(rt: HostRuntime) {
     let alloc = rt.alloc();
     let table = KeyTable::fixed();
     let Ok(Some((game, _))) = read_game(&alloc, b"1. f3 e5 2. g4 Qh4# 1-0") else {
-        return;
+        panic!(rt; "no game");
     };
-    let Ok(report) = Report::of(alloc, &game, &table) else {
-        return;
-    };
+    let report = Report::of(alloc, &game, &table).expect(&rt, "memory");
     assert!(rt; report.plies == 4 && report.status == Status::Mate && !report.agrees);
 }

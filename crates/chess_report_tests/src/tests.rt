@@ -1,0 +1,4 @@
+mod edit;
+mod lines;
+mod report;
+mod walk;
