@@ -3,7 +3,6 @@
 The answers are those of the FIDE Laws, of the PGN standard and of the UCI protocol, as docs/FORMATS.md has them.
 """
 import dataclasses
-import functools
 import os
 import subprocess
 
@@ -102,6 +101,8 @@ RUNS = [
     # The words
     Run("no word is refused", [], output="", error=None, status=1, of_error=("Usage",)),
     Run("another word is refused", ["boards"], output="", error=None, status=1, of_error=("boards",)),
+    Run("an empty word is refused", [""], output="", error=None, status=1, of_error=("board, uci, pgn",)),
+    Run("a word with a dash is refused", ["board", "--versions"], output="", error=None, status=1, of_error=("--versions",)),
     Run("two words are refused", ["board", "board"], output="", error=None, status=1, of_error=("board",)),
     Run("help is on the standard output", ["--help"], output=None, status=1, of_output=(f"Jatshegi {VERSION}", "play MOVE", "pgn  ", "perft", "docs/FORMATS.md")),
     Run("the version is on the standard output", ["--version"], output=f"chess {VERSION}\n", status=1),
@@ -179,9 +180,12 @@ RUNS = [
 ]
 
 
-@functools.cache
-def make_libraries():
-    """Makes the libraries for C and Python, once."""
-    made = subprocess.run([f"{TOP}/tools/libraries"], stdin=subprocess.DEVNULL, capture_output=True, text=True)
+def make(tool, *words):
+    """Runs one of tools/ to make what tests need, once: in this process, or in the one that began it."""
+    mark = f"JATSHEGI_{tool.upper()}"
+    if mark in os.environ:
+        return
+    made = subprocess.run([f"{TOP}/tools/{tool}", *words], stdin=subprocess.DEVNULL, capture_output=True, text=True)
     if made.returncode:
-        raise AssertionError(f"tools/libraries: {made.stdout[-2000:]}{made.stderr[-2000:]}")
+        raise AssertionError(f"tools/{tool}: {made.stdout[-2000:]}{made.stderr[-2000:]}")
+    os.environ[mark] = "made"

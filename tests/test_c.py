@@ -16,7 +16,7 @@ def called(*words, **also):
 
 
 def setUpModule():
-    runs.make_libraries()
+    runs.make("libraries")
 
 
 class Library(unittest.TestCase):

@@ -18,7 +18,7 @@ PACKAGE = f"{runs.TOP}/python"
 
 
 def setUpModule():
-    runs.make_libraries()
+    runs.make("libraries")
     sys.path.insert(0, PACKAGE)
     global jatshegi
     jatshegi = importlib.import_module("jatshegi")

@@ -92,11 +92,18 @@ class TheRelease(unittest.TestCase):
 
     def test_the_libraries_are_those_just_built(self):
         """To the byte under the same kit and compiler; under others test_c and test_python try both."""
-        runs.make_libraries()
+        runs.make("libraries")
         if (manifest()[0]["kit"], manifest()[0]["cc"]) != (tool_version("rt", "version"), tool_version("cc", "--version")):
             self.skipTest("the release was built by another kit or compiler")
         for name in LIBRARIES:
             self.assertEqual(sum_of(read(f"{runs.TOP}/release/{SYSTEM}/lib/{name}")), sum_of(read(f"{runs.TOP}/out/{name}")), name)
+
+    def test_the_module_of_the_page_is_the_one_just_built(self):
+        """To the byte under the same kit; tests/test_web.py tries it."""
+        if manifest()[0]["kit"] != tool_version("rt", "version"):
+            self.skipTest("the module was built by another kit")
+        runs.make("prove", "--wasm", "chess_web")
+        self.assertEqual(sum_of(read(f"{runs.TOP}/web/jatshegi.wasm")), sum_of(read(f"{runs.TOP}/crates/chess_web/out/chess_web.wasm")))
 
 
 class ADifference(unittest.TestCase):
@@ -213,16 +220,24 @@ class TheCommand(unittest.TestCase):
         self.assert_refused("there is no release/MANIFEST")
 
     def build_by(self, script):
-        """A path with a stand-in for the kit's command, which does this."""
-        os.mkdir(f"{self.top}/kit")
-        with open(f"{self.top}/kit/rt", "w", encoding="utf-8") as file:
-            file.write(f"#!/bin/sh\n{script}\n")
-        os.chmod(f"{self.top}/kit/rt", 0o755)
-        return f"{self.top}/kit:{BARE['PATH']}"
+        """A path with a stand-in for the kit, which proves anything, and links the program by this script."""
+        kit = f"{self.top}/kit"
+        os.makedirs(f"{kit}/bin")
+        made = 'for word; do [ "$last" = -o ] && made=$word; last=$word; done\n'
+        for path, text in (
+            ("KIT-ID", "a kit"),
+            ("rt", f"#!/bin/sh\necho '{kit}/START-HERE.md'\n"),
+            ("bin/rattle", f'#!/bin/sh\n{made}case "$*" in *--statements*) mkdir "$made" ;; *) : >"$made" ;; esac\n'),
+            ("bin/rattle-link", f"#!/bin/sh\n{made}{script}\n"),
+        ):
+            with open(f"{kit}/{path}", "w", encoding="utf-8") as file:
+                file.write(text)
+            os.chmod(f"{kit}/{path}", 0o755)
+        return f"{kit}:{BARE['PATH']}"
 
     def test_changed_sources_are_built_once(self):
         self.change("crates/chess_types/src/lib.rt", b"//!", b"//! ")
-        path = self.build_by(f'echo built >>"{self.top}/builds"; cp "{runs.BUILT}" out/chess')
+        path = self.build_by(f'echo built >>"{self.top}/builds"; cp "{runs.BUILT}" "$made"')
         status, output, error = self.answers(path=path)
         self.assertEqual((status, output), (0, "ok\n0\n"))
         self.assertRegex(error, r"\Achess: crates/chess_types/src/lib.rt is not as it was .*minutes")
@@ -239,7 +254,7 @@ class TheCommand(unittest.TestCase):
         self.assertIn("error: not proved", error)
 
     def test_a_build_on_purpose(self):
-        path = self.build_by(f'cp "{runs.BUILT}" out/chess')
+        path = self.build_by(f'cp "{runs.BUILT}" "$made"')
         for words in (["--build"],):
             status, _, error = self.answers(words=words, path=path)
             self.assertEqual(status, 0, error)
