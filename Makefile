@@ -2,7 +2,7 @@
 #
 #     make install                        into /usr/local
 #     make install PREFIX=/usr DESTDIR=d  into the folder d, as a package would have it
-#     make uninstall                      with the same words: removes exactly those files, and the folders that are empty then
+#     make uninstall                      with the same words: removes what was installed, and the folders that were made for it
 #     make packages                       the Debian package, the tarball and the wheel, into out/
 
 PREFIX = /usr/local
@@ -13,9 +13,11 @@ INCLUDEDIR = $(PREFIX)/include
 DATADIR = $(PREFIX)/share
 MANDIR = $(DATADIR)/man
 DOCDIR = $(DATADIR)/doc/jatshegi
-PYTHONDIR = $(PREFIX)/lib/python3/dist-packages
+# Where they are empty, tools/install has Debian's folders for PREFIX=/usr, else those below PREFIX that python3 and zsh look into.
+PYTHONDIR =
+ZSHDIR =
 
-export PREFIX DESTDIR BINDIR LIBDIR INCLUDEDIR DATADIR MANDIR DOCDIR PYTHONDIR
+export PREFIX DESTDIR BINDIR LIBDIR INCLUDEDIR DATADIR MANDIR DOCDIR PYTHONDIR ZSHDIR
 
 help:
 	@sed -n 's/^# \{0,1\}//p' Makefile

@@ -7,8 +7,10 @@ import subprocess
 import sys
 import tempfile
 import unittest
+import zipfile
 
 import runs
+import test_web
 
 # The system's own folders: no kit is on this path.
 BARE = "/usr/bin:/bin"
@@ -45,6 +47,21 @@ def make(*words):
     if ran.returncode:
         raise AssertionError(ran.stdout + ran.stderr)
     return ran.stdout
+
+
+def copied(to):
+    """A copy of what an install and the packages need of the clone."""
+    return shutil.copytree(runs.TOP, to, ignore=shutil.ignore_patterns("crates", ".git", "out"), symlinks=True)
+
+
+def spoil(path):
+    with open(path, "ab") as file:
+        file.write(b"\0")
+
+
+def package_of(laid):
+    """The folder of the Python package among the paths that an install prints."""
+    return next(os.path.dirname(os.path.dirname(it)) for it in laid.splitlines() if it.endswith("/jatshegi/__init__.py"))
 
 
 def paths_below(folder):
@@ -94,19 +111,19 @@ class Used(unittest.TestCase):
         words = "import jatshegi; board = jatshegi.Board(); board.push_san('e4'); print(jatshegi.__version__, len(board.legal_moves), jatshegi.__file__)"
         ran = called(sys.executable, "-c", words, env={"PYTHONPATH": folder})
         self.assertEqual(ran.stdout.split(), [runs.VERSION, "20", f"{folder}/jatshegi/__init__.py"], ran.stderr)
-        shutil.rmtree(f"{folder}/jatshegi/__pycache__", ignore_errors=True)
 
 
 class Installed(Used):
     def test_installed_used_and_taken_out(self):
         there = f"{self.folder}/there"
         os.mkdir(there)
-        laid = make("install", f"PREFIX={there}").splitlines()
-        self.assertEqual(sorted(os.path.relpath(it, there) for it in laid if it.startswith("/")), [it for it in paths_below(there) if not os.path.isdir(f"{there}/{it}") or os.path.islink(f"{there}/{it}")])
+        laid = make("install", f"PREFIX={there}")
+        files = sorted(os.path.relpath(it, there) for it in laid.splitlines() if it.startswith("/"))
+        self.assertEqual(files, [it for it in paths_below(there) if not os.path.isdir(f"{there}/{it}") or os.path.islink(f"{there}/{it}")])
+        self.assertEqual("`ldconfig`" in laid, os.geteuid() == 0)
         self.assert_programs(f"{there}/bin")
         self.assert_links(f"{there}/lib")
-        self.assert_imports(f"{there}/lib/python3/dist-packages")
-        self.assertIn("jatshegi.wasm", os.listdir(f"{there}/share/jatshegi/web"))
+        self.assert_imports(package_of(laid))
         make("uninstall", f"PREFIX={there}")
         self.assertEqual(paths_below(there), [])
 
@@ -118,18 +135,91 @@ class Installed(Used):
         for _ in range(2):
             make("install", "PREFIX=/usr", f"DESTDIR={there}")
         self.assert_programs(f"{there}/usr/bin")
+        with open(f"{there}/usr/share/jatshegi/installed", encoding="utf-8") as file:
+            self.assertNotIn(there, file.read())
         make("uninstall", "PREFIX=/usr", f"DESTDIR={there}")
         self.assertEqual(paths_below(there), ["usr", "usr/bin", "usr/bin/other"])
 
-    def test_a_changed_file_is_not_installed(self):
-        top = f"{self.folder}/clone"
-        shutil.copytree(runs.TOP, top, ignore=shutil.ignore_patterns("crates", ".git", "out"), symlinks=True)
-        with open(f"{top}/release/x86_64-linux/bin/perft", "ab") as file:
-            file.write(b"\0")
-        ran = called("make", "-C", top, "install", f"PREFIX={self.folder}/there")
+    def test_what_was_imported_is_taken_out(self):
+        there = f"{self.folder}/there"
+        os.mkdir(there)
+        package = package_of(make("install", f"PREFIX={there}"))
+        self.assert_imports(package)
+        self.assertTrue(os.path.exists(f"{package}/jatshegi/__pycache__"))
+        make("uninstall", f"PREFIX={there}")
+        self.assertEqual(paths_below(there), [])
+
+    def test_without_the_release_it_is_taken_out(self):
+        there, top = f"{self.folder}/there", copied(f"{self.folder}/clone")
+        os.mkdir(there)
+        make("install", f"PREFIX={there}")
+        shutil.rmtree(f"{top}/release")
+        ran = called("make", "-C", top, "uninstall", f"PREFIX={there}")
+        self.assertEqual((ran.returncode, ran.stderr, paths_below(there)), (0, "", []))
+        ran = called("make", "-C", top, "uninstall", f"PREFIX={there}")
         self.assertNotEqual(ran.returncode, 0)
-        self.assertIn("release/x86_64-linux/bin/perft is not the file that release/MANIFEST names", ran.stderr)
-        self.assertFalse(os.path.exists(f"{self.folder}/there"))
+        self.assertIn(f"there is no list {there}/share/jatshegi/installed", ran.stderr)
+
+    def test_below_links_to_folders_it_is_taken_out(self):
+        there = f"{self.folder}/there"
+        for name in ("lib", "share"):
+            os.makedirs(f"{there}/elsewhere/{name}")
+            os.symlink(f"elsewhere/{name}", f"{there}/{name}")
+        before = paths_below(there)
+        self.assert_imports(package_of(make("install", f"PREFIX={there}")))
+        # (and one that becomes a link after the install)
+        os.rename(f"{there}/bin", f"{there}/elsewhere/bin")
+        os.symlink("elsewhere/bin", f"{there}/bin")
+        make("uninstall", f"PREFIX={there}")
+        self.assertEqual(paths_below(there), sorted([*before, "bin", "elsewhere/bin"]))
+
+    def test_folders_that_were_there_stay(self):
+        there = f"{self.folder}/there"
+        for name in ("bin", "share/man/man1"):
+            os.makedirs(f"{there}/{name}")
+        before = paths_below(there)
+        for _ in range(2):
+            make("install", f"PREFIX={there}")
+        make("uninstall", f"PREFIX={there}")
+        self.assertEqual(paths_below(there), before)
+
+    def test_python_and_zsh_look_there(self):
+        """Of the default, of Debian's packages, and of a user's own folder."""
+        looks = called("python3", "-c", "import site; print(*site.getsitepackages())").stdout.split()
+        if "/usr/local/lib/python3" not in " ".join(looks):
+            self.skipTest("this Python looks for nothing in /usr/local")
+        for prefix, zsh in (("/usr/local", "site-functions"), ("/usr", "vendor-completions")):
+            laid = make("install", f"PREFIX={prefix}", f"DESTDIR={self.folder}/there")
+            self.assertIn(package_of(laid).removeprefix(f"{self.folder}/there"), looks)
+            self.assertIn(f"{self.folder}/there{prefix}/share/zsh/{zsh}/_chess", laid.splitlines())
+        ran = called("make", "-C", runs.TOP, "install", f"PREFIX={self.folder}/.local", env={"HOME": self.folder})
+        self.assertEqual(ran.returncode, 0, ran.stderr)
+        ran = called("python3", "-c", "import jatshegi; print(jatshegi.__file__)", env={"HOME": self.folder})
+        self.assertTrue(ran.stdout.startswith(f"{self.folder}/.local/lib/"), ran.stderr)
+
+    def test_a_changed_file_is_not_installed(self):
+        for path in ("release/x86_64-linux/bin/perft", "include/jatshegi.h", "python/jatshegi/pgn.py"):
+            with self.subTest(path=path), tempfile.TemporaryDirectory() as folder:
+                top = copied(f"{folder}/clone")
+                spoil(f"{top}/{path}")
+                installs, packs = called("make", "-C", top, "install", f"PREFIX={folder}/there"), called("make", "-C", top, "packages")
+                self.assertNotEqual((installs.returncode, packs.returncode), (0, 0))
+                self.assertEqual(installs.stderr.splitlines()[0], f"install: {path} is not the file that release/MANIFEST names")
+                self.assertEqual(packs.stderr.splitlines()[0], installs.stderr.splitlines()[0])
+                self.assertNotIn("Traceback", installs.stderr + packs.stderr)
+                self.assertFalse(os.path.exists(f"{folder}/there"))
+
+    def test_the_page_plays(self):
+        test_web.wants_browser()
+        make("install", f"PREFIX={self.folder}/there")
+        server = test_web.serve(f"{self.folder}/there/share/jatshegi/web")
+        self.addCleanup(test_web.stop, server)
+        browser = test_web.new_browser(self.folder)
+        self.addCleanup(browser.quit)
+        page = test_web.Page(browser, server)
+        page.open()
+        page.drag("e2", "e4")
+        page.until_moves("1. e4")
 
     def test_the_manual_pages(self):
         """Each is well formed and named after its program; the library's names every function of the header."""
@@ -159,11 +249,14 @@ class Packages(Used):
                 raise unittest.SkipTest(f"{tool} is not on the path")
         cls.made = tempfile.TemporaryDirectory()
         cls.addClassCleanup(cls.made.cleanup)
-        cls.packages = [cls.packed(f"{cls.made.name}/{it}") for it in ("one", "two")]
+        # The other is packed where a library has been built since.
+        copy = copied(f"{cls.made.name}/clone")
+        spoil(f"{copy}/python/jatshegi/libjatshegi.so")
+        cls.packages = [cls.packed(runs.TOP, f"{cls.made.name}/one"), cls.packed(copy, f"{cls.made.name}/other")]
 
     @classmethod
-    def packed(cls, folder):
-        ran = called(f"{runs.TOP}/tools/packages", folder)
+    def packed(cls, top, folder):
+        ran = called(f"{top}/tools/packages", folder)
         if ran.returncode:
             raise AssertionError(ran.stdout + ran.stderr)
         return ran.stdout.split()
@@ -173,6 +266,19 @@ class Packages(Used):
         for one, other in zip(*self.packages):
             with open(one, "rb") as first, open(other, "rb") as second:
                 self.assertTrue(first.read() == second.read(), one)
+
+    def test_each_has_the_released_library(self):
+        with open(f"{runs.TOP}/release/x86_64-linux/lib/libjatshegi.so.0", "rb") as file:
+            library = file.read()
+        for packages in self.packages:
+            with zipfile.ZipFile(packages[2]) as wheel:
+                self.assertTrue(wheel.read("jatshegi/libjatshegi.so") == library)
+
+    def test_none_has_the_list_of_an_install(self):
+        for package, words in zip(self.packages[0], (["dpkg-deb", "--contents"], ["tar", "-tf"])):
+            paths = called(*words, package).stdout
+            self.assertIn("share/jatshegi/web/index.html", paths)
+            self.assertNotIn("jatshegi/installed", paths)
 
     def test_the_debian_package(self):
         package = self.packages[0][0]
@@ -200,6 +306,64 @@ class Packages(Used):
             self.skipTest("pip is not installed")
         self.assertEqual(ran.returncode, 0, ran.stderr)
         self.assert_imports(f"{self.folder}/there")
+
+
+class GetIt(Used):
+    """README's commands to get it, each as it stands there; what they want of the system are stand-ins, so that all goes into a folder."""
+
+    def setUp(self):
+        super().setUp()
+        for tool in ("make", "dpkg-deb", "xz", "strip"):
+            self.wants(tool)
+        self.top = copied(f"{self.folder}/clone")
+        self.there, self.unpacked, tools = (f"{self.folder}/{it}" for it in ("there", "unpacked", "tools"))
+        os.mkdir(tools)
+        for name, text in (
+            ("sudo", 'exec "$@"'),
+            ("ldconfig", ""),
+            ("dpkg", f'test "$1" = -i && exec dpkg-deb -x "$2" "{self.unpacked}"'),
+            ("make", f'case "$*" in install|uninstall) set -- "$@" "DESTDIR={self.there}" ;; esac\nexec /usr/bin/make "$@"'),
+        ):
+            with open(f"{tools}/{name}", "w", encoding="utf-8") as file:
+                file.write(f"#!/bin/sh\n{text}\n")
+            os.chmod(f"{tools}/{name}", 0o755)
+        self.env = {"PATH": f"{tools}:{BARE}", "HOME": self.folder, "PIP_NO_INDEX": "1", "PIP_DISABLE_PIP_VERSION_CHECK": "1"}
+
+    def ran(self, line):
+        ran = called("sh", "-c", line, cwd=self.top, env=self.env)
+        self.assertEqual(ran.returncode, 0, f"{line}\n{ran.stdout}{ran.stderr}")
+        return ran.stdout
+
+    def installed(self, line):
+        self.assert_imports(package_of(self.ran(line)))
+        self.assert_programs(f"{self.there}/usr/local/bin")
+        self.ran("make uninstall")
+        self.assertEqual(paths_below(self.there), [])
+
+    def packed(self, line):
+        self.ran(line)
+        self.assert_programs(f"{self.unpacked}/usr/bin")
+
+    def unpacked_here(self, line):
+        self.ran(line)
+        self.assert_programs(f"{self.top}/jatshegi-{runs.VERSION}-x86_64-linux/bin")
+
+    def in_an_environment(self, line):
+        if called("python3", "-c", "import ensurepip, venv").returncode:
+            self.skipTest("python3-venv is not installed")
+        self.ran(line)
+        shown = self.ran("here/bin/python -c 'import jatshegi; print(jatshegi.__file__, len(jatshegi.Board().legal_moves))'")
+        self.assertRegex(shown, rf"\A{re.escape(self.top)}/here/lib/.*/jatshegi/__init__.py 20\n\Z")
+
+    def test_each_command(self):
+        with open(f"{runs.TOP}/README.md", encoding="utf-8") as file:
+            section = re.search(r"^## Get it\n(.*?)^## ", file.read(), re.M | re.S)[1]
+        lines = re.findall(r"^    (\S.*)$", section, re.M)
+        ways = {"sudo make install": self.installed, "make packages": self.packed, "tar -xf": self.unpacked_here, "python3 -m venv": self.in_an_environment}
+        self.assertEqual([next((way for way in ways if line.startswith(way)), line) for line in lines], list(ways))
+        for line, way in zip(lines, ways.values()):
+            with self.subTest(line=line):
+                way(line)
 
 
 if __name__ == "__main__":

@@ -18,10 +18,12 @@ BARE = {"PATH": "/usr/bin:/bin"}
 
 
 def manifest(top=runs.TOP):
-    """The manifest's words, each with the rest of its line; the files by their paths; the page's module."""
+    """The manifest's words, each with the rest of its line; the files by their paths; the page's module; the sources that are installed, by their paths."""
     with open(f"{top}/release/MANIFEST", encoding="utf-8") as text:
         lines = [line.split(maxsplit=1) for line in text.read().splitlines() if not line.startswith("#")]
-    return {word: rest for word, rest in lines if word not in ("file", "module")}, {rest.split()[0]: rest.split()[1:] for word, rest in lines if word == "file"}, next(rest.split() for word, rest in lines if word == "module")
+    files, modules, sources = ([rest.split() for word, rest in lines if word == wanted] for wanted in ("file", "module", "source"))
+    words = {word: rest for word, rest in lines if word not in ("file", "module", "source")}
+    return words, {path: rest for path, *rest in files}, modules[0], {path: rest for path, *rest in sources}
 
 
 def sum_of(data):
@@ -77,6 +79,14 @@ class TheRelease(unittest.TestCase):
         path, size, digest = manifest()[2]
         data = read(f"{runs.TOP}/{path}")
         self.assertEqual((path, len(data), sum_of(data)), ("web/jatshegi.wasm", int(size), digest))
+
+    def test_the_header_and_the_package_are_as_the_manifest_says(self):
+        """`make install` takes no others, and so do the packages."""
+        package = {f"python/jatshegi/{name}" for name in os.listdir(f"{runs.TOP}/python/jatshegi") if name.endswith(".py")}
+        self.assertEqual(set(manifest()[3]), {"include/jatshegi.h"} | package)
+        for path, (size, digest) in manifest()[3].items():
+            data = read(f"{runs.TOP}/{path}")
+            self.assertEqual((len(data), sum_of(data)), (int(size), digest), f"{path}: make release/ anew: tools/release")
 
     def test_the_program_is_the_one_just_built(self):
         self.assertIsNone(difference(f"{runs.TOP}/release/{PROGRAM}", runs.BUILT, manifest()[0]["kit"], tool_version("rt", "version")))

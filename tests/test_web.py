@@ -66,21 +66,35 @@ class Handler(http.server.SimpleHTTPRequestHandler):
         pass
 
 
-def setUpModule():
-    if not os.path.exists(f"{WEB}/jatshegi.wasm"):
-        raise unittest.SkipTest("web/jatshegi.wasm is not there: make it with tools/web")
+def wants_browser():
     install()
     if not has_browser():
         raise unittest.SkipTest(f"these packages are missing: {' '.join(PACKAGES)}")
+
+
+def serve(folder, handler=Handler):
+    """Serves the folder to this machine, and returns the server, which `stop` ends."""
+    it = http.server.ThreadingHTTPServer(("127.0.0.1", 0), functools.partial(handler, directory=folder))
+    threading.Thread(target=it.serve_forever, daemon=True).start()
+    return it
+
+
+def stop(it):
+    it.shutdown()
+    it.server_close()
+
+
+def setUpModule():
+    if not os.path.exists(f"{WEB}/jatshegi.wasm"):
+        raise unittest.SkipTest("web/jatshegi.wasm is not there: make it with tools/web")
+    wants_browser()
     global server
-    server = http.server.ThreadingHTTPServer(("127.0.0.1", 0), functools.partial(Handler, directory=WEB))
-    threading.Thread(target=server.serve_forever, daemon=True).start()
+    server = serve(WEB)
 
 
 def tearDownModule():
     if "server" in globals():
-        server.shutdown()
-        server.server_close()
+        stop(server)
 
 
 def new_browser(folder, *more):
@@ -102,14 +116,15 @@ def chess(*words, given):
 
 
 class Page:
-    """A page and what a person does with it."""
+    """A page and what a person does with it: that of the clone, or that of another server."""
 
-    def __init__(self, browser):
+    def __init__(self, browser, of=None):
         self.browser = browser
+        self.port = (of or server).server_port
 
     def open(self, fragment=""):
         self.browser.get("about:blank")
-        self.browser.get(f"http://127.0.0.1:{server.server_address[1]}/{fragment}")
+        self.browser.get(f"http://127.0.0.1:{self.port}/{fragment}")
         self.until(lambda: self.script("return document.documentElement.dataset.ready") == "yes", "the page is ready")
 
     def script(self, text, *words):
@@ -495,7 +510,7 @@ class InTheBrowser(unittest.TestCase):
     def test_a_browser_without_64_bit_memories_is_told_so(self):
         added = self.browser.execute_cdp_cmd("Page.addScriptToEvaluateOnNewDocument", {"source": "WebAssembly.validate = () => false"})
         try:
-            self.browser.get(f"http://127.0.0.1:{server.server_address[1]}/index.html")
+            self.browser.get(f"http://127.0.0.1:{server.server_port}/index.html")
             self.page.until(lambda: "no 64-bit WebAssembly memories" in self.page.text("lacking"), "it is said")
             self.assertFalse(self.page.at("main").is_displayed())
         finally:
@@ -716,8 +731,7 @@ class InFirefox(unittest.TestCase):
                 self.send_response(204)
                 self.end_headers()
 
-        around = http.server.ThreadingHTTPServer(("127.0.0.1", 0), functools.partial(Driven, directory=WEB))
-        threading.Thread(target=around.serve_forever, daemon=True).start()
+        around = serve(WEB, Driven)
         with tempfile.TemporaryDirectory() as folder:
             words = ["firefox-esr", "--headless", "--no-remote", "--profile", folder, f"http://127.0.0.1:{around.server_port}/driver.html"]
             browser = subprocess.Popen(words, stdout=subprocess.DEVNULL, stderr=subprocess.DEVNULL, env={**os.environ, "HOME": folder})
@@ -726,8 +740,7 @@ class InFirefox(unittest.TestCase):
             finally:
                 browser.terminate()
                 browser.wait()
-                around.shutdown()
-                around.server_close()
+                stop(around)
         self.assertEqual(first, "rnbqkbnr/pppppppp/8/8/8/8/PPPPPPPP/RNBQKBNR w KQkq - 0 1")
         self.assertEqual(fen, "rnb1kbnr/pppp1ppp/8/4p3/6Pq/5P2/PPPPP2P/RNBQKBNR w KQkq - 1 3")
         self.assertIn("mate", status.lower())
