@@ -16,3 +16,4 @@ pub mod RankTurns
 pub mod FileTurns
 pub mod TurnLines
 pub mod CastledLemmas
+pub mod SearchLemmas

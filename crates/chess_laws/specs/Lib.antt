@@ -5,3 +5,4 @@ pub mod MoveLaws
 pub mod OutcomeLaws
 pub mod TextLaws
 pub mod MirrorLaws
+pub mod SearchLaws

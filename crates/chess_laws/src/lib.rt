@@ -1,4 +1,4 @@
-//! Laws of the Laws: what the definitions of `chess_types/specs/board` say of one another. That those definitions are the Laws of Chess has to be
+//! Laws of the Laws: what the definitions of `chess_types/specs/board` say of one another, and those of the search of the best move's worth. That those definitions are the Laws of Chess has to be
 //! believed; a law that is proved of them is a part of that belief less.
 //!
 //! Each law is the clause of a function that does nothing; its statement is in `specs/`.
@@ -9,6 +9,7 @@ mod flip;
 mod mirror;
 mod moves;
 mod outcomes;
+mod searches;
 mod texts;
 
 pub use dead::dead_laws;
@@ -16,4 +17,5 @@ pub use flip::flip_laws;
 pub use mirror::mirror_laws;
 pub use moves::move_laws;
 pub use outcomes::outcome_laws;
+pub use searches::search_laws;
 pub use texts::text_laws;

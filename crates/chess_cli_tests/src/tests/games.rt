@@ -179,3 +179,18 @@ fn writes_each_game_that_was_read(rt: HostRuntime) {
     assert_eq!(rt; pgn(rt.alloc(), &mut reader, &mut writer), Ended::Good);
     assert_eq!(rt; writer.taken(), SEVERAL_WRITTEN);
 }
+
+/// Nothing is read after a fault: the read that would fail there isn't made.
+#[test]
+fn reads_no_further_than_a_fault(rt: HostRuntime) {
+    let fault = PgnFault {
+        place: 2,
+        kind: FaultKind::Variation,
+    };
+    for (calls, wanted) in [(2u64, Ended::ReadFault), (3, Ended::Input(fault))] {
+        let mut room = [0; 400];
+        let mut writer = ToBytes::new(&mut room, 400);
+        let mut reader = FromBytes::failing_after(b"* (1. e4) *", 1, calls);
+        assert!(rt; pgn(rt.alloc(), &mut reader, &mut writer) == wanted);
+    }
+}

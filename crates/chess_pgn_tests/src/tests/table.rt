@@ -30,6 +30,15 @@ type Written = (&'static str, &'static str, &'static str, &'static str);
 
 /// Collections, and the export forms of their games.
 const ROWS: &[(&str, &[Written])] = &[
+    // Three games, of twelve bytes together.
+    (
+        "*\n1. e4 *1-0",
+        &[
+            (UNKNOWN, "*", "", "*"),
+            (UNKNOWN, "*", "", "1. e4 *"),
+            (UNKNOWN, "1-0", "", "1-0"),
+        ],
+    ),
     // A promotion to each kind, and with a capture.
     (
         "[SetUp \"1\"]\n\

@@ -372,6 +372,12 @@ fn keeps_its_line_without_memory(rt: HostRuntime) -> Result<(), Fail> {
 
 const E2E4: &[&[u8]] = &[b"info depth 1 score cp 8 pv e2e4", b"bestmove e2e4"];
 
+const AFTER_E4: &[Row] = &[
+    Line(b"position startpos moves e2e4", &[]),
+    Line(b"go depth 1", &[]),
+    Slices(20, &[b"info depth 1 score cp 10 pv b8c6", b"bestmove b8c6"]),
+];
+
 const ASKED_FOR: &[Row] = &[
     Line(b"go depth 1 searchmoves e2e4", &[]),
     Slices(1, E2E4),
@@ -395,6 +401,7 @@ const ASKED_FOR: &[Row] = &[
 /// A `go` line of which one slice is enough tells this move.
 #[test]
 fn reads_what_go_asks_for(rt: HostRuntime) {
+    run_all(&rt, &rt.alloc(), AFTER_E4);
     run_all(&rt, &rt.alloc(), ASKED_FOR);
 }
 
