@@ -40,6 +40,7 @@ class Run:
     # What the standard input or output is, where it is another than a pipe.
     reads_folder: bool = False
     writes_to_full: bool = False
+    writes_to_closed: bool = False
 
 
 @dataclasses.dataclass
@@ -62,6 +63,13 @@ def run(program, it):
     elif it.writes_to_full:
         with open("/dev/full", "wb") as full:
             ran = subprocess.run([program, *it.words], input=given, **{**streams, "stdout": full})
+    elif it.writes_to_closed:
+        reader, writer = os.pipe()
+        os.close(reader)
+        try:
+            ran = subprocess.run([program, *it.words], input=given, **{**streams, "stdout": writer})
+        finally:
+            os.close(writer)
     else:
         ran = subprocess.run([program, *it.words], input=given, **streams)
     return Ended(ran.stdout or b"", ran.stderr, ran.returncode)
@@ -177,15 +185,17 @@ RUNS = [
     Run("board: no room for the answers", ["board"], "new\n", writes_to_full=True, error="write fault\n", status=3),
     Run("uci: no room for the replies", ["uci"], "isready\n", writes_to_full=True, error="write fault\n", status=3),
     Run("pgn: no room for the games", ["pgn"], "*\n", writes_to_full=True, error="write fault\n", status=3),
+    Run("board: a closed output", ["board"], "new\n", writes_to_closed=True, error="write fault\n", status=3),
+    Run("uci: a closed output", ["uci"], "isready\n", writes_to_closed=True, error="write fault\n", status=3),
+    Run("pgn: a closed output", ["pgn"], "*\n", writes_to_closed=True, error="write fault\n", status=3),
 ]
 
 
 def make(tool, *words):
-    """Runs one of tools/ to make what tests need, once: in this process, or in the one that began it."""
-    mark = f"JATSHEGI_{tool.upper()}"
-    if mark in os.environ:
-        return
-    made = subprocess.run([f"{TOP}/tools/{tool}", *words], stdin=subprocess.DEVNULL, capture_output=True, text=True)
-    if made.returncode:
-        raise AssertionError(f"tools/{tool}: {made.stdout[-2000:]}{made.stderr[-2000:]}")
-    os.environ[mark] = "made"
+    """Runs a tool that makes what tests need, unless this process or its parent has run it; an error where that failed."""
+    mark = "_".join(["JATSHEGI", tool, *(it.lstrip("-") for it in words if it != "--gate")]).upper()
+    if mark not in os.environ:
+        made = subprocess.run([f"{TOP}/tools/{tool}", *words], stdin=subprocess.DEVNULL, capture_output=True, text=True)
+        os.environ[mark] = f"tools/{tool}: {made.stdout[-2000:]}{made.stderr[-2000:]}" if made.returncode else ""
+    if os.environ[mark]:
+        raise AssertionError(os.environ[mark])

@@ -29,7 +29,7 @@ def games():
 
 
 def collection(rounds):
-    """Games with their tags in every order, some with carriage returns, some without tags or marker, and each so manieth one that can't be read."""
+    """Games with their tags in every order, some with carriage returns, some without tags or marker, and every few games one that can't be read."""
     odd = [BAD, "1. d4 *\n\n", '[Site "no marker"]\n\n1. c4\n\n', '[FEN "8/8"]\n\n1. e4 *\n\n', '[White "x"\n[Black "y"]\n\n1. e4 1-0\n\n', '[White "a"]\n\n1. e4 1-0\n% [hidden "line"]\n\n']
     texts = []
     for number in range(rounds):

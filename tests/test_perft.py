@@ -1,5 +1,6 @@
 """The program `perft`: each answer as soon as it is counted, and how a run ends early."""
 import os
+import select
 import subprocess
 import unittest
 
@@ -41,6 +42,7 @@ class Perft(unittest.TestCase):
             try:
                 program.stdin.write(f"1 {START}\n16 {START}\n".encode())
                 program.stdin.flush()
+                self.assertTrue(select.select([program.stdout], [], [], runs.MOST_SECONDS)[0], "no answer comes")
                 self.assertEqual(program.stdout.readline(), b"20\n")
             finally:
                 program.kill()

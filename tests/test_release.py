@@ -5,6 +5,7 @@ import pty
 import shutil
 import subprocess
 import tempfile
+import time
 import unittest
 
 import runs
@@ -229,15 +230,15 @@ class TheCommand(unittest.TestCase):
         shutil.rmtree(f"{self.top}/release")
         self.assert_refused("there is no release/MANIFEST")
 
-    def build_by(self, script):
-        """A path with a stand-in for the kit, which proves anything, and links the program by this script."""
+    def build_by(self, script, proof=":"):
+        """A path with a stand-in for the kit, which proves a crate by one script, `$3` its name, and links the program by another."""
         kit = f"{self.top}/kit"
         os.makedirs(f"{kit}/bin")
         made = 'for word; do [ "$last" = -o ] && made=$word; last=$word; done\n'
         for path, text in (
             ("KIT-ID", "a kit"),
             ("rt", f"#!/bin/sh\necho '{kit}/START-HERE.md'\n"),
-            ("bin/rattle", f'#!/bin/sh\n{made}case "$*" in *--statements*) mkdir "$made" ;; *) : >"$made" ;; esac\n'),
+            ("bin/rattle", f'#!/bin/sh\n{made}{proof} || exit 1\ncase "$*" in *--statements*) mkdir "$made" && : >"$made/format" ;; *) : >"$made" ;; esac\n'),
             ("bin/rattle-link", f"#!/bin/sh\n{made}{script}\n"),
         ):
             with open(f"{kit}/{path}", "w", encoding="utf-8") as file:
@@ -263,9 +264,35 @@ class TheCommand(unittest.TestCase):
         self.assertEqual((status, output), (126, ""))
         self.assertIn("error: not proved", error)
 
+    def test_a_library_that_is_not_proved(self):
+        self.change("crates/chess_types/src/lib.rt", b"//!", b"//! ")
+        status, output, error = self.answers(path=self.build_by(":", '[ "$3" != chess_san ]'))
+        self.assertEqual((status, output), (126, ""))
+        self.assertIn("chess_san is not proved and built", error)
+        self.assertNotIn("chess_draws", error)
+
+    def test_another_program_in_its_place_is_built_again(self):
+        path = self.build_by(f'cp "{runs.BUILT}" "$made"')
+        for _ in range(2):
+            self.assertEqual(self.answers(words=["--build"], path=path)[0], 0)
+            self.assertEqual(read(f"{self.top}/crates/chess/out/chess"), read(runs.BUILT))
+            with open(f"{self.top}/crates/chess/out/chess", "wb") as file:
+                file.write(b"another program")
+
+    def test_a_build_that_is_ended_ends_its_proofs(self):
+        path = self.build_by(":", f'echo "$$" >>"{self.top}/proofs" && exec sleep 600')
+        build = subprocess.Popen([f"{self.top}/build"], stdin=subprocess.DEVNULL, stderr=subprocess.DEVNULL, env={"PATH": path})
+        end = time.monotonic() + 60
+        while not os.path.exists(f"{self.top}/proofs") and time.monotonic() < end:
+            time.sleep(0.05)
+        build.terminate()
+        self.assertNotEqual(build.wait(timeout=60), 0)
+        time.sleep(0.5)
+        for number in read(f"{self.top}/proofs").split():
+            self.assertFalse(os.path.exists(f"/proc/{int(number)}"))
+
     def test_a_build_on_purpose(self):
         path = self.build_by(f'cp "{runs.BUILT}" "$made"')
-        for words in (["--build"],):
-            status, _, error = self.answers(words=words, path=path)
-            self.assertEqual(status, 0, error)
-            self.assertTrue(os.path.exists(f"{self.top}/crates/chess/out/chess.made"))
+        status, _, error = self.answers(words=["--build"], path=path)
+        self.assertEqual(status, 0, error)
+        self.assertTrue(os.path.exists(f"{self.top}/crates/chess/out/chess.made"))
