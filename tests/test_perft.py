@@ -29,6 +29,13 @@ class Perft(unittest.TestCase):
                     ended = self.ended(input=(text + end).encode())
                     self.assertEqual((ended.returncode, ended.stdout.decode()), (0, answers))
 
+    def test_words(self):
+        for words, output, error in ((["--version"], f"perft {runs.VERSION}\n", ""), (["--help"], f"Jatshegi {runs.VERSION}", ""), (["4"], "", "error: ")):
+            with self.subTest(words=words):
+                ended = subprocess.run([PERFT, *words], stdin=subprocess.DEVNULL, capture_output=True, text=True, timeout=runs.MOST_SECONDS)
+                self.assertEqual(ended.returncode, 1)
+                self.assertTrue(ended.stdout.startswith(output) and ended.stderr.startswith(error), ended)
+
     def test_an_answer_comes_before_the_next_line_is_given(self):
         with subprocess.Popen([PERFT], stdin=subprocess.PIPE, stdout=subprocess.PIPE) as program:
             for depth, leaves in ((1, b"20\n"), (2, b"400\n")):

@@ -17,7 +17,7 @@ use chess_items::is;
 use chess_pgn::Game;
 use chess_tree::{NodeRef, Tree, TreeFault};
 use chess_types::Move;
-use std::alloc::{AllocError, Allocator};
+use std::alloc::Allocator;
 use thiserror::Error;
 
 /// Why one game isn't joined to another.

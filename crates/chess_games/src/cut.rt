@@ -1,6 +1,6 @@
 //! A collection cut into pieces of whole games, so that many processes read them.
 
-ghost use Rattle.std.specs.Prelude.{◌≡◌, ℕ, ◌<◌, ◌≤◌, true, List, [], ◌∷◌, ◌++◌, length, vec_len, IfOk, OnOk};
+ghost use Rattle.std.specs.Prelude.{◌≡◌, ℕ, ◌<◌, true, List, [], ◌∷◌, ◌++◌, length, vec_len, IfOk, OnOk};
 ghost use Rattle.byte_streams.specs.Calls.{Carries};
 ghost use Rattle.chess_items.specs.Items.{is_name_byte};
 ghost use Rattle.chess_items.specs.Sections.{OpensTag};

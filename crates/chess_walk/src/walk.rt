@@ -82,7 +82,7 @@ fn resumed<A: Allocator>(node: &NodeRef<'_, '_, A>, others: &Children<'_, '_, A>
 }
 
 impl<'t, 'a, A: Allocator> Todo<'t, 'a, A> {
-    ghost use Rattle.chess_walk.specs.steps.Todos.{AreFit, Fits, all_left, is_some_node, left_as, left_of, seen};
+    ghost use Rattle.chess_walk.specs.steps.Todos.{AreFit, Fits, all_left, is_some_node, left_of, seen};
 
     // Keeps nodes for later, unless there is none.
     fn keep(self, todo: &mut Vec<Todo<'t, 'a, A>, &'a A>)

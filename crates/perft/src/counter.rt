@@ -99,7 +99,7 @@ pub fn count_leaves<A: Allocator, R: Source, W: Sink>(
     ensures { CountEnds R.gives R.failed W.takes W.failed R.ended result reader.old reader.new writer.old writer.new }
 {
     let mut counter = Counter {
-        table: KeyTable::fixed(),
+        table: KeyTable::new([0; 768]),
     };
     run(alloc, &mut counter, reader, writer, READS)
 }

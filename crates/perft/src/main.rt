@@ -7,20 +7,26 @@
 //! taken back. A line that asks for none is answered by its fault: `fault LongLine` for one of over
 //! 1,024 bytes, `fault Depth` for another first word, or the number and the name of the FEN's fault, as `fault 7 Castling`. A
 //! line without words takes no answer. Where there is no memory, or a stream fails, a message goes to the standard error and
-//! the exit status is 3.
+//! the exit status is 3. The program takes no word but `--help` and `--version`.
 #![tactic(auto)]
 
 mod answer;
 mod counter;
 mod leaves;
+mod words;
 
 use byte_streams::{FromRead, ToWrite};
 use chess_loop::RunEnd;
+use chess_programs::{FAILED, Refused, read_words};
 use counter::count_leaves;
 use std::process::ExitCode;
+use words::parse_words;
 
-/// The status where memory or a stream failed.
-const FAILED: u8 = 3;
+// Reads the program's words.
+fn asked(rt: &HostRuntime) -> Result<(), Refused> {
+    let words = read_words(rt)?;
+    parse_words(rt.alloc(), words.as_slice())
+}
 
 // What is written on the standard error, if the run ended early.
 fn message(ended: RunEnd) -> Option<&'static str> {
@@ -33,6 +39,9 @@ fn message(ended: RunEnd) -> Option<&'static str> {
 }
 
 fn main(rt: HostRuntime) -> ExitCode {
+    if let Err(refused) = asked(&rt) {
+        return refused.end(&rt);
+    }
     let ended = count_leaves(
         &rt.alloc(),
         &mut FromRead::new(rt.stdin()),

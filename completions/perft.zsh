@@ -1,0 +1,4 @@
+#compdef perft
+_arguments \
+    '(- :)'{-h,--help}'[print help]' \
+    '(- :)'{-V,--version}'[print version]'
