@@ -8,8 +8,8 @@
 //! With a word, the name of one call, that call alone is made, a thousand times for each position of the list, or for each of its legal
 //! moves: `is_legal`, `make` (and taken back), `write_move`, `read_move`, `moves`, `count_legal`, `write_fen`, `read_fen`; `nothing`
 //! makes none. `best` and a depth, 1 to 16 plies, searches the start position and four middlegames; with a number from 0 to 4 after it, that
-//! one of them. `read`, `walk` and `replay` read a game from the standard input, and go over its nodes not at all, by a `Walk`, or by a
-//! `Replay`. A counter of instructions beside the program shows what a call or a search costs (docs/SPEED.md).
+//! one of them. `read`, `write`, `walk` and `replay` read a game from the standard input, and leave it, write it, or go over its nodes by a
+//! `Walk` or by a `Replay`. A counter of instructions beside the program shows what a call or a search costs (docs/SPEED.md).
 #![tactic(auto)]
 
 ghost use Rattle.std.specs.Prelude.{◌≤◌};
@@ -165,7 +165,7 @@ fn main(rt: HostRuntime) -> io::Result<()> {
             let which = words.get(3).map(|_| number(words.get(3)));
             search_each(&rt, number(words.get(2)), which)
         }
-        Some(word) if matches!(word.as_str(), "read" | "walk" | "replay") => {
+        Some(word) if matches!(word.as_str(), "read" | "write" | "walk" | "replay") => {
             go_over(&rt, word.as_str())
         }
         Some(word) => measure(&rt, word.as_str()),

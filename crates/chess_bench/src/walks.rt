@@ -1,5 +1,5 @@
 use chess_key::KeyTable;
-use chess_pgn::read_game;
+use chess_pgn::{read_game, write_game};
 use chess_walk::{Replay, Walk};
 use std::io;
 use std::io::Read;
@@ -32,13 +32,27 @@ fn replayed(rt: &HostRuntime, text: &[u8]) -> io::Result<()> {
     println!(rt; "{nodes} nodes")
 }
 
-/// Reads the game at the start of the standard input, and goes over its nodes: by a `Walk`, by a `Replay`, or not at all.
+// The bytes of a game's export form.
+fn written(rt: &HostRuntime, text: &[u8]) -> io::Result<()> {
+    let alloc = rt.alloc();
+    let Ok(Some((game, _))) = read_game(&alloc, text) else {
+        return println!(rt; "no game");
+    };
+    let Ok(export) = write_game(&alloc, &game) else {
+        return println!(rt; "out of memory");
+    };
+    let bytes = export.len();
+    println!(rt; "{bytes} bytes")
+}
+
+/// Reads the game at the start of the standard input, and writes it, goes over its nodes by a `Walk` or a `Replay`, or leaves it.
 pub fn go_over(rt: &HostRuntime, word: &str) -> io::Result<()> {
     let mut text = Vec::new(rt.alloc());
     let _bytes = rt.stdin().read_to_end(&mut text)?;
     match word {
         "walk" => walked(rt, text.as_slice()),
         "replay" => replayed(rt, text.as_slice()),
+        "write" => written(rt, text.as_slice()),
         _ => {
             let alloc = rt.alloc();
             let is_read = matches!(read_game(&alloc, text.as_slice()), Ok(Some(_)));

@@ -1,2 +1,2 @@
 -- A lemma on the first of some roots.
-pub mod FrontLemmas
+pub mod FirstLemmas

@@ -131,7 +131,7 @@ impl<'a, A: Allocator> Plain<'a, A> {
     }
 
     /// The best of so many of the first roots of a `go` line.
-    #[tactic(auto, using(crate::proofs::FrontLemmas::first_legal))]
+    #[tactic(auto, using(crate::proofs::FirstLemmas::first_legal))]
     fn best_of_first(
         &self,
         go: u64,
