@@ -57,6 +57,10 @@ class Library(unittest.TestCase):
         for folder in ("out", "release/x86_64-linux/lib"):
             self.assertIn(" 0 failed", self.assert_ends_well(program, env={"LD_LIBRARY_PATH": f"{runs.TOP}/{folder}"}), folder)
 
+    def test_every_function_of_the_released_archive(self):
+        program = self.build(["cc", "-std=c11"], "every.c", ["release/x86_64-linux/lib/libjatshegi.a"])
+        self.assertIn(" 0 failed", self.assert_ends_well(program))
+
     def test_the_program_of_the_page(self):
         with open(f"{runs.TOP}/docs/C.md", encoding="utf-8") as page:
             source = page.read().split("```c\n")[1].split("```")[0]
