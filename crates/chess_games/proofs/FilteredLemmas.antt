@@ -1,5 +1,5 @@
 -- Games read and written one after another.
-use Rattle.std.proofs.Common.{◌≡◌, ℕ, ◌+◌, ◌≤◌, Bool, true, false, if◌then◌else◌, List, [], ◌∷◌, ◌++◌, length, refl, sym, ap, subst, ◌∙◌, arith, append_assoc, append-nil, Option, Result, Ok, Err, Some, None}
+use Rattle.std.proofs.Common.{◌≡◌, ℕ, ◌+◌, ◌≤◌, Bool, true, false, if◌then◌else◌, List, [], ◌∷◌, ◌++◌, length, refl, sym, ap, subst, ◌∙◌, arith, append_assoc, append-nil, Option, Result, Ok, Err, Some}
 use Rattle.std.specs.Prelude.{IfErr, IfOk, IfSome}
 use Rattle.byte_streams.specs.Calls.{Carries}
 use Rattle.byte_streams.proofs.CallLemmas.{Carries-none, Carries-append}

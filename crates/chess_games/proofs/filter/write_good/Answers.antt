@@ -1,9 +1,9 @@
-use Rattle.std.proofs.Common.{◌≡◌, ℕ, ◌+◌, if◌then◌else◌, [], Ok, Err, Some, None, sym, ap, subst, ◌∙◌}
+use Rattle.std.proofs.Common.{◌≡◌, ◌+◌, if◌then◌else◌, [], Ok, Some, sym, ap, subst, ◌∙◌}
 use Rattle.byte_streams.specs.Calls.{Carries}
 use Rattle.chess_pgn.specs.Sources.{HasFault, IsSound}
 use Rattle.chess_pgn.specs.Written.{game_text}
 use Rattle.chess_pgn.specs.steps.GameCode.{game_of}
-use Rattle.chess_games.proofs.FilteredLemmas.{SoFar, none_yet, one_good, one_bad, all_read, read_one, read_fault, if_ok}
+use Rattle.chess_games.proofs.FilteredLemmas.{SoFar, one_good, one_bad, all_read, read_one, read_fault, if_ok}
 use Rattle.chess_games.proofs.filter.write_good.Goals as goal
 use Rattle.chess_games.proofs.filter.write_good.Goals.{in-Ok-Some+in_ok-write_if-in-Ok-Some, in-Err+in_ok-fault-in-Err+in_ok-pass-in-Err}
 
