@@ -287,9 +287,12 @@ class TheCommand(unittest.TestCase):
             time.sleep(0.05)
         build.terminate()
         self.assertNotEqual(build.wait(timeout=60), 0)
-        time.sleep(0.5)
-        for number in read(f"{self.top}/proofs").split():
-            self.assertFalse(os.path.exists(f"/proc/{int(number)}"))
+        # (build doesn't wait for what it has ended)
+        left = {int(number) for number in read(f"{self.top}/proofs").split()}
+        while left and time.monotonic() < end:
+            left = {number for number in left if os.path.exists(f"/proc/{number}")}
+            time.sleep(0.05)
+        self.assertEqual(left, set())
 
     def test_a_build_on_purpose(self):
         path = self.build_by(f'cp "{runs.BUILT}" "$made"')
