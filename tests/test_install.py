@@ -309,7 +309,7 @@ class Packages(Used):
 
 
 class GetIt(Used):
-    """README's commands to get it, each as it stands there; what they want of the system are stand-ins, so that all goes into a folder."""
+    """README's commands to get it, each as it is there, with stand-ins for what they want of the system, so that all goes into a folder."""
 
     def setUp(self):
         super().setUp()
