@@ -3,7 +3,7 @@ use Rattle.std.proofs.Common.{◌≡◌, ℕ, Bool, true, false, if◌then◌els
 use Rattle.std.specs.Prelude.{IfSome, is_some, option_map}
 use Rattle.chess_types.specs.declared.board.outcome.Status.{Status}
 use Rattle.chess_types.specs.board.Lines.{Line}
-use Rattle.chess_types.specs.board.Outcome.{status}
+use Rattle.chess_types.specs.board.Outcome.{status, status_text}
 use Rattle.chess_fen.specs.Writing.{written}
 use Rattle.chess_pgn.specs.Games.{Game}
 use Rattle.chess_report.specs.MainLine.{as_far, main}
@@ -12,7 +12,7 @@ use Rattle.chess_report.specs.declared.report.Over.{Over}
 use Rattle.chess_report.specs.declared.report.Report.{Report}
 use Rattle.arbiter.specs.Cells.{Cell, row_text}
 use Rattle.arbiter.specs.Collections.{Found, row_of}
-use Rattle.arbiter.specs.Rows.{early, empty_cells, fault_names, has_finding, heading_cells, line_cells, place_cells, status_text}
+use Rattle.arbiter.specs.Rows.{early, empty_cells, fault_names, has_finding, heading_cells, line_cells, place_cells}
 use Rattle.arbiter.specs.declared.judge.Asked.{Asked}
 use Rattle.arbiter.specs.steps.Reports.{IsReportOf, is_finding, report_cells}
 

@@ -8,29 +8,19 @@ use Rattle.std.specs.Prelude.{ℕ, nat_lt, Bool, not, ◌||◌, if◌then◌else
 use Rattle.chess_types.specs.declared.board.man.Colour.{Colour}
 use Rattle.chess_types.specs.declared.board.man.Colour.TheVariants.{White, Black}
 use Rattle.chess_types.specs.declared.board.outcome.Status.{Status}
-use Rattle.chess_types.specs.declared.board.outcome.Status.TheVariants.{Mate, Stalemate, Dead, Fivefold, Seventyfive, Play}
 use Rattle.chess_types.specs.board.Lines.{Line, last}
-use Rattle.chess_types.specs.board.Outcome.{status, winner}
+use Rattle.chess_types.specs.board.Outcome.{status, status_text, winner}
 use Rattle.chess_fen.specs.Writing.{written}
 use Rattle.chess_items.specs.declared.fault.PgnFault.{PgnFault}
 use Rattle.chess_items.specs.Faults.{name_of}
 use Rattle.chess_items.specs.declared.outcome.Outcome.{Outcome}
 use Rattle.chess_pgn.specs.Games.{Game, Tags, tag_value}
-use Rattle.chess_pgn.specs.Written.{outcome_text}
+use Rattle.chess_items.specs.Markers.{outcome_text}
 use Rattle.chess_report.specs.MainLine.{as_far, main}
 use Rattle.chess_report.specs.Findings.{agrees, first_fifty, first_over, first_threefold, longest_quiet, most_repetitions}
 use Rattle.arbiter.specs.Cells.{Cell, Number, Text, Truth, Nothing, maybe}
 
 -- ---- what a row says
-
--- the word of a status
-abbrev pub status_text : Status → List ℕ
-status_text Mate = codes "mate"
-status_text Stalemate = codes "stalemate"
-status_text Dead = codes "dead"
-status_text Fivefold = codes "fivefold"
-status_text Seventyfive = codes "seventyfive"
-status_text Play = codes "play"
 
 -- the word of a side
 abbrev pub colour_text : Colour → List ℕ

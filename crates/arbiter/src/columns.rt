@@ -1,48 +1,22 @@
 ghost use Rattle.std.specs.Prelude.{◌≡◌, ◌++◌, map, option_map, IfOk};
+ghost use Rattle.chess_types.specs.board.Outcome.{status_text};
 ghost use Rattle.chess_fen.specs.Writing.{written};
-ghost use Rattle.chess_pgn.specs.Written.{outcome_text};
 ghost use Rattle.chess_pgn.specs.steps.GameCode.{tags_of};
 ghost use Rattle.arbiter.specs.Cells.{cell_of, row_text};
-ghost use Rattle.arbiter.specs.Rows.{colour_text, empty_cells, fault_cells, fault_names, heading_cells, place_cells, status_text};
+ghost use Rattle.arbiter.specs.Rows.{colour_text, empty_cells, fault_cells, fault_names, heading_cells, place_cells};
 ghost use Rattle.arbiter.specs.steps.Reports.{is_finding, report_cells};
 
 use crate::cell::{Cell, any_number, any_text, any_word, nothing, number, text, truth, word};
 use crate::row::{Format, row_bytes};
-use chess_pgn::{Game, Outcome, PgnFault};
+use chess_pgn::{Game, PgnFault};
 use chess_programs::Place;
 use chess_report::{Over, Report};
-use chess_types::{Colour, Status};
+use chess_types::Colour;
 use std::alloc::{AllocError, Allocator, Global};
 
 /// The row of the names of the columns, as comma-separated values.
 pub const HEADER: &str =
     "number,offset,white,black,event,date,plies,result,status,winner,over_ply,over_why,threefold_ply,fifty_ply,repetitions,quiet,agrees,fen,fault_place,fault\r\n";
-
-// The word of a marker.
-fn outcome_text(outcome: Outcome) -> &'static str
-    ensures { result.now ≡ outcome_text outcome }
-{
-    match outcome {
-        Outcome::WhiteWins => "1-0",
-        Outcome::BlackWins => "0-1",
-        Outcome::Draw => "1/2-1/2",
-        Outcome::Unfinished => "*",
-    }
-}
-
-// The word of a status.
-fn status_text(status: Status) -> &'static str
-    ensures { result.now ≡ status_text status }
-{
-    match status {
-        Status::Mate => "mate",
-        Status::Stalemate => "stalemate",
-        Status::Dead => "dead",
-        Status::Fivefold => "fivefold",
-        Status::Seventyfive => "seventyfive",
-        Status::Play => "play",
-    }
-}
 
 // The word of a side.
 fn colour_text(colour: Colour) -> &'static str
@@ -86,7 +60,7 @@ fn over_why(over: Option<Over>) -> Option<&'static str>
     ensures { option_map (λ text. text.now) result ≡ option_map (λ o. status_text o.why) over }
 {
     match over {
-        Some(over) => Some(status_text(over.why)),
+        Some(over) => Some(over.why.name()),
         None => None,
     }
 }
@@ -109,8 +83,8 @@ fn game_cells<'v, A: Allocator>(
         any_text("event", game.tag(b"Event")),
         any_text("date", game.tag(b"Date")),
         number("plies", report.plies as u64),
-        word("result", outcome_text(report.marker)),
-        word("status", status_text(report.status)),
+        word("result", report.marker.marker()),
+        word("status", report.status.name()),
         any_word("winner", winner_text(report.winner)),
         any_number("over_ply", over_ply(over)),
         any_word("over_why", over_why(over)),

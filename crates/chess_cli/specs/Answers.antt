@@ -14,7 +14,7 @@ use Rattle.chess_types.specs.board.Position.{PositionParts, man_on, start}
 use Rattle.chess_types.specs.board.Legal.{is_legal, legal_moves}
 use Rattle.chess_types.specs.board.Lines.{Line, last}
 use Rattle.chess_types.specs.board.Repetition.{repetitions}
-use Rattle.chess_types.specs.board.Outcome.{status, claims, claims_with}
+use Rattle.chess_types.specs.board.Outcome.{status, status_text, claims, claims_with}
 use Rattle.chess_eval.specs.Evaluation.{evaluation}
 use Rattle.chess_fen.specs.declared.fault.FenFault.{FenFault}
 use Rattle.chess_fen.specs.Reading.{fen_reading}
@@ -36,7 +36,7 @@ use Rattle.chess_cli.specs.declared.board_command.refusal.Refusal.TheVariants.{F
 use Rattle.chess_cli.specs.Refusals.{number_of, name_of, san_refusal}
 use Rattle.chess_cli.specs.Gaps.{parted_by}
 use Rattle.chess_cli.specs.Numbers.{path_text}
-use Rattle.chess_cli.specs.Outcomes.{status_text, claims_text}
+use Rattle.chess_cli.specs.Outcomes.{claims_text}
 use Rattle.chess_cli.specs.Requests.{Request, Blank, New, Set, Counts, Eval, Fen, Moves, Checks, Play, Back, Step, Start, End, Goto, Path, Promote, Delete, Comment, Nag, Count, Status, Claims, Claim, Best, Pgn, Unknown, Malformed, request}
 
 -- the answer where all is done and nothing was asked for

@@ -20,7 +20,8 @@ use Rattle.chess_pgn.specs.Grammar.{Derives, elements}
 use Rattle.chess_pgn.specs.Laws.{IsValue, NewIsGame, ReadIsGame, IsGame, WrittenIsRead, nesting}
 use Rattle.chess_pgn.specs.Layout.{in_lines}
 use Rattle.chess_pgn.specs.Reading.{BeginsWithGame, remarks}
-use Rattle.chess_pgn.specs.Written.{comment_text, game_text, moves_text, movetext, outcome_text, tags_text}
+use Rattle.chess_items.specs.Markers.{outcome_text}
+use Rattle.chess_pgn.specs.Written.{comment_text, game_text, moves_text, movetext, tags_text}
 use Rattle.chess_pgn.proofs.CountLemmas.{few_moves}
 use Rattle.chess_pgn.proofs.FenTextLemmas.{fen_value}
 use Rattle.chess_pgn.proofs.ForestLemmas.{AreWritable, comment_piece, forest_piece}

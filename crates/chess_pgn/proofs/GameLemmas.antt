@@ -8,7 +8,8 @@ use Rattle.chess_items.specs.Items.{is_escapable}
 use Rattle.chess_items.specs.declared.outcome.Outcome.{Outcome}
 use Rattle.chess_items.specs.declared.outcome.Outcome.TheVariants.{WhiteWins, BlackWins, Draw, Unfinished}
 use Rattle.chess_tree.specs.GameTree.{GameTree}
-use Rattle.chess_pgn.specs.Written.{comment_text, escaped, is_within, movetext, moves_text, others_text, outcome_text, tag_text}
+use Rattle.chess_items.specs.Markers.{outcome_text}
+use Rattle.chess_pgn.specs.Written.{comment_text, escaped, is_within, movetext, moves_text, others_text, tag_text}
 use Rattle.chess_pgn.specs.steps.OtherCode.{shown}
 
 -- one part after another; the last may fail

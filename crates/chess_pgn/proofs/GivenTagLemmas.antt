@@ -13,7 +13,8 @@ use Rattle.chess_fen.specs.Writing.{written}
 use Rattle.chess_pgn.specs.Games.{Tags, tag_in}
 use Rattle.chess_pgn.specs.Laws.{HasTagTexts, IsOther, IsValue}
 use Rattle.chess_pgn.specs.Tags.{HasTags, is_own, start_in}
-use Rattle.chess_pgn.specs.Written.{other_tags_text, is_before, is_within, others_text, outcome_text, tag_text, tags_text}
+use Rattle.chess_items.specs.Markers.{outcome_text}
+use Rattle.chess_pgn.specs.Written.{other_tags_text, is_before, is_within, others_text, tag_text, tags_text}
 use Rattle.chess_pgn.proofs.FenTextLemmas.{usual}
 use Rattle.chess_pgn.proofs.SplitLemmas.{both_true}
 use Rattle.chess_pgn.proofs.TagTextLemmas.{AreGood, IsGood, IsName, given_text}

@@ -20,7 +20,8 @@ use Rattle.chess_pgn.specs.Grammar.{Derives, Element, End, elements, few_are_ope
 use Rattle.chess_pgn.specs.Laws.{AreNoted, nesting}
 use Rattle.chess_pgn.specs.Reading.{Starts, is_movetext, remarks}
 use Rattle.chess_pgn.specs.Tags.{AreBetween}
-use Rattle.chess_pgn.specs.Written.{comment_text, is_noted, moves_text, movetext, node_text, outcome_text}
+use Rattle.chess_items.specs.Markers.{outcome_text}
+use Rattle.chess_pgn.specs.Written.{comment_text, is_noted, moves_text, movetext, node_text}
 use Rattle.chess_pgn.specs.steps.Hanging.{below}
 use Rattle.chess_pgn.proofs.ForestLemmas.{AreWritable, braced, forest_elements, forest_piece, node_elements, node_words}
 use Rattle.chess_pgn.proofs.HangLemmas.{joined-nil}

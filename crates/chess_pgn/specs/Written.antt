@@ -18,7 +18,7 @@ use Rattle.chess_types.specs.board.Position.{PositionParts, start}
 use Rattle.chess_types.specs.board.After.{after}
 use Rattle.chess_items.specs.Items.{is_escapable}
 use Rattle.chess_items.specs.declared.outcome.Outcome.{Outcome}
-use Rattle.chess_items.specs.declared.outcome.Outcome.TheVariants.{WhiteWins, BlackWins, Draw, Unfinished}
+use Rattle.chess_items.specs.Markers.{outcome_text}
 use Rattle.chess_tree.specs.Forest.{Forest, Bare, Node, child}
 use Rattle.chess_tree.specs.GameTree.{GameTree}
 use Rattle.chess_fen.specs.Writing.{written}
@@ -27,13 +27,6 @@ use Rattle.chess_pgn.specs.Games.{Tags, Game}
 use Rattle.chess_pgn.specs.Layout.{in_lines}
 
 -- ---- tags
-
--- how the game ended (PGN 8.2.6)
-abbrev pub outcome_text : Outcome → List ℕ
-outcome_text WhiteWins = codes "1-0"
-outcome_text BlackWins = codes "0-1"
-outcome_text Draw = codes "1/2-1/2"
-outcome_text Unfinished = codes "*"
 
 -- a quotation mark and a backslash stand after a backslash (PGN 7)
 abbrev pub escaped : List ℕ → List ℕ

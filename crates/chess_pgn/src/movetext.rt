@@ -4,7 +4,8 @@ ghost use Rattle.chess_types.specs.board.Legal.{is_legal};
 ghost use Rattle.chess_types.specs.board.Lines.{extended, last};
 ghost use Rattle.chess_draws.specs.Pushes.{most_plies};
 ghost use Rattle.chess_tree.specs.Forest.{child};
-ghost use Rattle.chess_pgn.specs.Written.{comment_text, is_noted, movetext, moves_text, nags_text, node_text, outcome_text};
+ghost use Rattle.chess_items.specs.Markers.{outcome_text};
+ghost use Rattle.chess_pgn.specs.Written.{comment_text, is_noted, movetext, moves_text, nags_text, node_text};
 ghost use Rattle.chess_pgn.specs.steps.Adding.{Adds};
 
 use crate::lines::Lines;
@@ -265,18 +266,6 @@ impl<'t, 'k, 'a, A: Allocator> Writer<'t, 'k, 'a, A> {
     }
 }
 
-/// How a game ended.
-pub fn outcome_text(outcome: Outcome) -> &'static str
-    ensures { result.now ≡ outcome_text outcome }
-{
-    match outcome {
-        Outcome::WhiteWins => "1-0",
-        Outcome::BlackWins => "0-1",
-        Outcome::Draw => "1/2-1/2",
-        Outcome::Unfinished => "*",
-    }
-}
-
 // The end of a movetext: how the game ended.
 fn push_outcome<'a, A: Allocator>(
     lines: &mut Lines<'a, A>,
@@ -285,7 +274,7 @@ fn push_outcome<'a, A: Allocator>(
     ensures { OnOk result (Adds lines.old lines.new (codes " " ++ outcome_text outcome)) }
 {
     lines.push(b" ")?;
-    lines.push(outcome_text(outcome).as_bytes())
+    lines.push(outcome.marker().as_bytes())
 }
 
 // The moves of a tree, of which a speller finds the texts from the beginning.

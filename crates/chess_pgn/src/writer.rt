@@ -8,7 +8,7 @@ ghost use Rattle.chess_pgn.specs.steps.GameCode.{game_of, tags_of};
 
 use crate::game::Game;
 use crate::lines::Lines;
-use crate::movetext::{outcome_text, push_movetext};
+use crate::movetext::push_movetext;
 use crate::others::OtherTags;
 use crate::speller::Halt;
 use crate::tags::Tags;
@@ -147,7 +147,7 @@ fn push_tags<'a, A: Allocator>(
     push_tag(text, b"Round", tags.round.as_slice())?;
     push_tag(text, b"White", tags.white.as_slice())?;
     push_tag(text, b"Black", tags.black.as_slice())?;
-    push_tag(text, b"Result", outcome_text(outcome).as_bytes())?;
+    push_tag(text, b"Result", outcome.marker().as_bytes())?;
     push_other_tags(text, &tags.others, fen, is_usual)
 }
 

@@ -3,14 +3,14 @@
 --   IsReportOf    a report is that of a game
 use Rattle.std.specs.Prelude.{◌≡◌, ℕ, Bool, not, ◌||◌, is_some, List, [], ◌∷◌, length, codes, option_map, IfSome}
 use Rattle.chess_types.specs.board.Lines.{last}
-use Rattle.chess_types.specs.board.Outcome.{status, winner}
+use Rattle.chess_types.specs.board.Outcome.{status, winner, status_text}
 use Rattle.chess_pgn.specs.Games.{Game}
-use Rattle.chess_pgn.specs.Written.{outcome_text}
+use Rattle.chess_items.specs.Markers.{outcome_text}
 use Rattle.chess_report.specs.MainLine.{as_far, main}
 use Rattle.chess_report.specs.Findings.{agrees, first_fifty, first_over, first_threefold, longest_quiet, most_repetitions, played_on}
 use Rattle.chess_report.specs.declared.report.Report.{Report}
 use Rattle.arbiter.specs.Cells.{Cell, Number, Text, Truth, maybe}
-use Rattle.arbiter.specs.Rows.{colour_text, status_text}
+use Rattle.arbiter.specs.Rows.{colour_text}
 
 -- what a report says, whose last position has that FEN
 abbrev pub report_cells : Report → List ℕ → List Cell

@@ -6,7 +6,7 @@ ghost use Rattle.chess_types.specs.board.Attack.{checks_from};
 ghost use Rattle.chess_types.specs.board.Legal.{is_legal, legal_moves};
 ghost use Rattle.chess_types.specs.board.Lines.{last};
 ghost use Rattle.chess_types.specs.board.Repetition.{repetitions};
-ghost use Rattle.chess_types.specs.board.Outcome.{status, claims, claims_with};
+ghost use Rattle.chess_types.specs.board.Outcome.{status, status_text, claims, claims_with};
 ghost use Rattle.chess_types.specs.board.Position.{start, man_on};
 ghost use Rattle.chess_eval.specs.Evaluation.{evaluation};
 ghost use Rattle.chess_items.specs.declared.fault.FaultKind.TheVariants.{Memory};
@@ -16,7 +16,7 @@ ghost use Rattle.chess_tree.specs.Forest.{count as count_children};
 ghost use Rattle.chess_tree.specs.Edits.{parent};
 ghost use Rattle.chess_tree.specs.GameTree.{TreeParts, annotated_here, at_path, deleted, line_to, main_line, nodes_here, promoted_here};
 ghost use Rattle.chess_cli.specs.Loads.{from_root};
-ghost use Rattle.chess_cli.specs.Outcomes.{claims_text, status_text};
+ghost use Rattle.chess_cli.specs.Outcomes.{claims_text};
 ghost use Rattle.chess_cli.specs.Numbers.{depth_in, path_in};
 ghost use Rattle.chess_cli.specs.Answers.{Answers, Does, HasEffect, HasEffectSurely, Tells, MayAnswer, beginning, checks_of, claim_effect, comment_effect, counts_of, if_it_exists, list_text, move_effect, not_at_root, play_effect, set_effect, reply, tree_from};
 ghost use Rattle.chess_cli.specs.steps.Replies.{IsGameText, IsOnPage, best_effect, path_effect};
@@ -32,7 +32,7 @@ use super::answer::{Pending, put_done, put_refused};
 use super::command::{Command, read_command};
 use super::lists::{put_moves, squares_text};
 use super::numbers::{PLACES, PathWord, depth_in, read_path};
-use super::outcomes::{best_text, claims_text, status_text};
+use super::outcomes::{best_text, claims_text};
 use super::path::write_path;
 use super::refusal::Refusal;
 use super::texts::{counts_text, eval_text};
@@ -468,7 +468,7 @@ impl<'k, A: Allocator> Board<'k, A> {
         ensures text { page.new ≡ page.old ++ (status_text (status (line_to self.old)) ++ 10 ∷ []) }
         ensures state { self.new ≡ self.old }
     {
-        page.put_line(status_text(self.analysis.status()));
+        page.put_line(self.analysis.status().name());
     }
 
     // The draws that may be claimed.

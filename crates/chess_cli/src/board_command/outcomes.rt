@@ -1,26 +1,11 @@
 ghost use Rattle.std.specs.Prelude.{◌≡◌, ◌≤◌, length};
 ghost use Rattle.chess_search.specs.Slices.{IsInRange};
-ghost use Rattle.chess_cli.specs.Outcomes.{claims_text, status_text};
+ghost use Rattle.chess_cli.specs.Outcomes.{claims_text};
 ghost use Rattle.chess_cli.specs.Answers.{best_text};
 
 use arrayvec::ArrayString;
 use chess_search::score_text;
-use chess_types::{Claims, Move, Status};
-
-/// How a game stands.
-pub fn status_text(status: Status) -> &'static str
-    ensures value { result.now ≡ status_text status }
-    ensures short { length result.now ≤ 11 }
-{
-    match status {
-        Status::Mate => "mate",
-        Status::Stalemate => "stalemate",
-        Status::Dead => "dead",
-        Status::Fivefold => "fivefold",
-        Status::Seventyfive => "seventyfive",
-        Status::Play => "play",
-    }
-}
+use chess_types::{Claims, Move};
 
 /// The draws that may be claimed, or `none`.
 pub fn claims_text(claims: Claims) -> &'static str

@@ -1,11 +1,12 @@
 -- How a line stands, and which draws may be claimed (FIDE Laws, articles 5.1, 5.2, 9.2, 9.3 and 9.6).
 --   status_at     the first that holds of mate, stalemate, dead, fivefold, seventyfive and play, from the position and its repetitions
 --   status        of a line
+--   status_text   the word of how a line stands
 --   winner        the side that has mated the other
 --   claims_at     what may be claimed in play
 --   claims        of a line; claims_with, with a named move that is not made yet
 -- After dead, fivefold and seventyfive the game is over, but analysis may go on: further moves are made as ever.
-use Rattle.std.specs.Prelude.{ℕ, nat_le, Bool, true, false, ◌&&◌, if◌then◌else◌, List, [], ◌∷◌, Option, Some, None}
+use Rattle.std.specs.Prelude.{ℕ, nat_le, Bool, true, false, ◌&&◌, if◌then◌else◌, List, [], ◌∷◌, Option, Some, None, codes}
 use Rattle.chess_types.specs.declared.board.outcome.Status.{Status}
 use Rattle.chess_types.specs.declared.board.outcome.Status.TheVariants.{Mate, Stalemate, Dead, Fivefold, Seventyfive, Play}
 use Rattle.chess_types.specs.declared.board.outcome.Claims.{Claims}
@@ -34,6 +35,15 @@ status_at p count =
 -- how the game of the line has ended, or that it goes on
 unfoldable pub status : Line → Status
 status line = status_at (last line) (repetitions line)
+
+-- the word for it
+abbrev pub status_text : Status → List ℕ
+status_text Mate = codes "mate"
+status_text Stalemate = codes "stalemate"
+status_text Dead = codes "dead"
+status_text Fivefold = codes "fivefold"
+status_text Seventyfive = codes "seventyfive"
+status_text Play = codes "play"
 
 -- the game goes on
 abbrev pub is_play : Status → Bool

@@ -1,3 +1,6 @@
+ghost use Rattle.std.specs.Prelude.{◌≡◌, ◌≤◌, length};
+ghost use Rattle.chess_types.specs.board.Outcome.{status_text};
+
 /// How a game stands: decided, drawn, or still in play (FIDE Laws 5.1.1, 5.2.1, 5.2.2, 9.6.1, 9.6.2).
 #[derive(Clone, Copy, Debug, PartialEq, Eq)]
 pub enum Status {
@@ -13,6 +16,23 @@ pub enum Status {
     Seventyfive,
     /// The game goes on.
     Play,
+}
+
+impl Status {
+    /// The word for it: `mate`, `stalemate`, `dead`, `fivefold`, `seventyfive` or `play`.
+    pub fn name(self) -> &'static str
+        ensures value { result.now ≡ status_text self }
+        ensures short { length result.now ≤ 11 }
+    {
+        match self {
+            Status::Mate => "mate",
+            Status::Stalemate => "stalemate",
+            Status::Dead => "dead",
+            Status::Fivefold => "fivefold",
+            Status::Seventyfive => "seventyfive",
+            Status::Play => "play",
+        }
+    }
 }
 
 /// Which draws the side to move may claim.

@@ -1,6 +1,7 @@
 use Rattle.std.proofs.Common.{true, false, ◌++◌, ◌∙◌, ap, codes}
 use Rattle.chess_tree.specs.Forest.{NodeParts}
-use Rattle.chess_pgn.specs.Written.{comment_text, moves_text, outcome_text}
+use Rattle.chess_items.specs.Markers.{outcome_text}
+use Rattle.chess_pgn.specs.Written.{comment_text, moves_text}
 use Rattle.chess_pgn.proofs.AddLemmas.{adds_on, adds_same}
 use Rattle.chess_pgn.proofs.movetext.push_movetext.Goals as goal
 

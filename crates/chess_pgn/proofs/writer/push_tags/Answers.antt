@@ -1,6 +1,7 @@
 use Rattle.std.proofs.Common.{rules, ◌≡◌, ◌++◌, List, ℕ, OnOk, codes, subst}
 use Rattle.chess_fen.specs.Writing.{written}
-use Rattle.chess_pgn.specs.Written.{other_tags_text, outcome_text, tag_text}
+use Rattle.chess_items.specs.Markers.{outcome_text}
+use Rattle.chess_pgn.specs.Written.{other_tags_text, tag_text}
 use Rattle.chess_pgn.proofs.GameLemmas.{named, then}
 use Rattle.chess_pgn.proofs.writer.push_tags.Goals as goal
 
