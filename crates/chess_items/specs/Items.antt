@@ -11,6 +11,7 @@ use Rattle.std.specs.List.{AllByRecursion, list_all}
 use Rattle.std.specs.Str.{byte}
 use Rattle.chess_items.specs.declared.outcome.Outcome.{Outcome}
 use Rattle.chess_items.specs.declared.outcome.Outcome.TheVariants.{WhiteWins, BlackWins, Draw, Unfinished}
+use Rattle.chess_items.specs.Markers.{outcome_text}
 use Rattle.chess_items.specs.declared.place.Place.{Place}
 use Rattle.chess_items.specs.declared.place.Place.TheVariants.{GameStart, LineStart, InLine, TagLineStart, InTag, InValue}
 
@@ -103,7 +104,7 @@ glyph_value text =
 unfoldable pub word_item : List ℕ → Item
 word_item text =
     if list_all is_digit text then Skipped
-    else (if bytes_eq text (codes "1-0") then Marker WhiteWins else (if bytes_eq text (codes "0-1") then Marker BlackWins else (if bytes_eq text (codes "1/2-1/2") then Marker Draw else Word text)))
+    else (if bytes_eq text (outcome_text WhiteWins) then Marker WhiteWins else (if bytes_eq text (outcome_text BlackWins) then Marker BlackWins else (if bytes_eq text (outcome_text Draw) then Marker Draw else Word text)))
 
 -- a byte of a comment after a ;, which might stand between braces
 abbrev pub without_brace : ℕ → ℕ
