@@ -100,6 +100,14 @@ pub struct Rights {
 }
 
 impl Rights {
+    /// None of the rights.
+    pub const NONE: Rights = Rights {
+        white_king: false,
+        white_queen: false,
+        black_king: false,
+        black_queen: false,
+    };
+
     /// Whether the colour may still castle to that wing.
     pub fn holds(self, colour: Colour, wing: Wing) -> bool
         ensures { result ≡ holds self colour wing }
@@ -155,11 +163,7 @@ impl Clone for Setup {
     fn clone(&self) -> Result<Setup, AllocError> {
         Ok(Setup {
             placement: self.placement.clone()?,
-            side: self.side,
-            rights: self.rights,
-            target: self.target,
-            clock: self.clock,
-            number: self.number,
+            ..*self
         })
     }
 }
