@@ -1,6 +1,6 @@
 ghost use Rattle.std.specs.Prelude.{◌≡◌, ◌<◌, replicate, ⊤};
 ghost use Rattle.chess_types.specs.declared.board.man.Kind.TheVariants.{Pawn};
-ghost use Rattle.chess_types.specs.board.Position.{OpponentNotInCheck, back_rank, by_wing, cell_of, holds, home_square, king_home, rook_home, start, start_cells};
+ghost use Rattle.chess_types.specs.board.Position.{OpponentNotInCheck, back_rank, cell_of, holds, home_square, king_home, rook_home, start, start_cells};
 ghost use Rattle.chess_types.specs.board.Pseudo.{castles_to, crossed, reached};
 ghost use Rattle.chess_types.specs.board.After.{is_castling};
 ghost use Rattle.std.specs.Cmp.{partial_equiv_from_equiv};
@@ -24,36 +24,33 @@ pub enum Wing {
     QueenSide,
 }
 
-// The square of a file on the rank where the colour's king begins, the first or the eighth.
-#[inline(always)]
-fn home_square(colour: Colour, file: u8) -> Square
-    requires { file < 8 }
-    ensures { result ≡ home_square colour file }
-{
-    Square::from_index(match colour {
-        Colour::White => file,
-        Colour::Black => 56 + file,
-    })
-}
-
 impl Colour {
     /// Where the king stands as a game begins: e1 or e8.
     pub fn king_home(self) -> Square
         ensures { result ≡ king_home self }
     {
-        home_square(self, 4)
+        Square::from_index(match self {
+            Colour::White => 4,
+            Colour::Black => 60,
+        })
     }
 }
 
 impl Wing {
-    // One of two files, by the wing.
+    // The square of one of two files, by the wing, on the rank where the colour's king begins.
     #[inline(always)]
-    fn file_of(self, king_side: u8, queen_side: u8) -> u8
-        ensures { result ≡ by_wing self king_side queen_side }
+    fn home_square(self, colour: Colour, king_side: u8, queen_side: u8) -> Square
+        requires king_side { king_side < 8 }
+        requires queen_side { queen_side < 8 }
+        ensures { result ≡ home_square colour self king_side queen_side }
     {
-        match self {
+        let file = match self {
             Wing::KingSide => king_side,
             Wing::QueenSide => queen_side,
+        };
+        match colour {
+            Colour::White => Square::from_index(file),
+            Colour::Black => Square::from_index(56 + file),
         }
     }
 
@@ -61,21 +58,21 @@ impl Wing {
     pub fn rook_home(self, colour: Colour) -> Square
         ensures { result ≡ rook_home colour self }
     {
-        home_square(colour, self.file_of(7, 0))
+        self.home_square(colour, 7, 0)
     }
 
     /// The square that the king crosses when it castles to that wing, and that the rook comes to: f1, d1, f8 or d8.
     pub fn crossed(self, colour: Colour) -> Square
         ensures { result ≡ crossed colour self }
     {
-        home_square(colour, self.file_of(5, 3))
+        self.home_square(colour, 5, 3)
     }
 
     /// The square that the king reaches when it castles to that wing: g1, c1, g8 or c8.
     pub fn reached(self, colour: Colour) -> Square
         ensures { result ≡ reached colour self }
     {
-        home_square(colour, self.file_of(6, 2))
+        self.home_square(colour, 6, 2)
     }
 
     /// Whether the move goes from the king's home to the square that castling to that wing reaches (FIDE Laws 3.8.2).
