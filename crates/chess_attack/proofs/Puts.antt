@@ -9,6 +9,7 @@ use Rattle.chess_types.specs.board.Board.{Board, Men, man_at}
 use Rattle.chess_types.specs.board.Men.{same_colour}
 use Rattle.chess_types.specs.board.Squares.{line_of, is_between}
 use Rattle.chess_types.specs.board.Attack.{attacks_as, count}
+use Rattle.chess_attack.specs.declared.change.Change.{Change}
 use Rattle.chess_attack.specs.declared.change.Change.TheVariants.{Raise, Lower}
 use Rattle.chess_attack.specs.declared.way.Way.{Way}
 use Rattle.chess_attack.specs.declared.way.Way.TheVariants.{Up, Down}
@@ -96,14 +97,6 @@ module _ (bare full : Board) (at : ℕ) (man : Man) (adds : Adds (man_at bare) (
       (old mid : KeptCounts) → AreCounts old bare → Moves Raise old mid (own man (man_at bare) at) → HasRoomFor Lower mid (cut (man_at bare) at)
   put_cut old mid agrees more c s hs = omega (arith, agrees.each c s hs, more c s hs, whole c s hs, same_own c s)
 
-  -- and the counts are those with the man
-  pub put_counts :
-      (old mid new : KeptCounts) → AreCounts old bare → Moves Raise old mid (own man (man_at bare) at) →
-      Moves Lower mid new (cut (man_at bare) at) → AreCounts new full
-  put_counts old mid new agrees more less = record {
-    each = λ c s hs. omega (arith, agrees.each c s hs, more c s hs, less c s hs, whole c s hs, same_own c s);
-  }
-
   -- his attacks can go
   pub clear_own : (old : KeptCounts) → AreCounts old full → HasRoomFor Lower old (own man (man_at full) at)
   clear_own old agrees c s hs = omega (arith, agrees.each c s hs, own_counted (man_at full) at man c s adds.on_board adds.here)
@@ -114,10 +107,23 @@ module _ (bare full : Board) (at : ℕ) (man : Man) (adds : Adds (man_at bare) (
   clear_cut old mid agrees less c s hs =
       omega (arith, agrees.each c s hs, less c s hs, whole c s hs, same_cut c s, count_small (man_at bare) c s)
 
-  -- and the counts are those without the man
-  pub clear_counts :
-      (old mid new : KeptCounts) → AreCounts old full → Moves Lower old mid (own man (man_at full) at) →
-      Moves Raise mid new (cut (man_at full) at) → AreCounts new bare
-  clear_counts old mid new agrees less more = record {
+  -- the board on which he is put, or from which he is taken
+  abbrev pub at_first : Change → Board
+  at_first Raise = bare
+  at_first Lower = full
+
+  -- the change of those through his square
+  abbrev pub the_other : Change → Change
+  the_other Raise = Lower
+  the_other Lower = Raise
+
+  -- and the counts are those of the board afterwards
+  pub counts_after :
+      (change : Change) (old mid new : KeptCounts) → AreCounts old (at_first change) → Moves change old mid (own man (man_at (at_first change)) at) →
+      Moves (the_other change) mid new (cut (man_at (at_first change)) at) → AreCounts new (at_first (the_other change))
+  counts_after Raise old mid new agrees more less = record {
+    each = λ c s hs. omega (arith, agrees.each c s hs, more c s hs, less c s hs, whole c s hs, same_own c s);
+  }
+  counts_after Lower old mid new agrees less more = record {
     each = λ c s hs. omega (arith, agrees.each c s hs, less c s hs, more c s hs, whole c s hs, same_cut c s);
   }

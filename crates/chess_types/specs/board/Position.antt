@@ -1,5 +1,7 @@
 -- A position, and which positions are well formed (FIDE Laws, articles 2.2, 3.7, 3.8.2 and 3.9; PGN 16.1.3).
 --   PositionParts       the six fields of a position
+--   king_home, rook_home   where kings and rooks stand as a game begins
+--   by_wing, home_square   one of two files, by the wing; the square of it on the rank where a side's king begins
 --   is_explained        a pawn of the other side has just passed over the target
 --   IsSetup             every part of 'well formed' but the last
 --   OpponentNotInCheck  the last: the side not to move isn't in check
@@ -38,12 +40,19 @@ abbrev pub king_home : Colour → ℕ
 king_home White = 4
 king_home Black = 60
 
--- where the rook of that side of the board is as a game begins
+-- one of two files, by the side of the board
+abbrev pub by_wing : Wing → ℕ → ℕ → ℕ
+by_wing KingSide king_side queen_side = king_side
+by_wing QueenSide king_side queen_side = queen_side
+
+-- the square of that file on the rank where the colour's king begins, rank 1 or 8
+abbrev pub home_square : Colour → Wing → ℕ → ℕ → ℕ
+home_square White wing king_side queen_side = by_wing wing king_side queen_side
+home_square Black wing king_side queen_side = 56 + by_wing wing king_side queen_side
+
+-- where the rook of that side of the board is as a game begins: h1, a1, h8, a8
 abbrev pub rook_home : Colour → Wing → ℕ
-rook_home White KingSide = 7
-rook_home White QueenSide = 0
-rook_home Black KingSide = 63
-rook_home Black QueenSide = 56
+rook_home colour wing = home_square colour wing 7 0
 
 -- the castling right
 abbrev pub holds : Rights → Colour → Wing → Bool

@@ -18,7 +18,7 @@ use Rattle.chess_types.specs.board.Men.{same_colour, opponent, is_king}
 use Rattle.chess_types.specs.board.Attack.{leaps, attacks_as, is_clear, is_attacked}
 use Rattle.chess_types.specs.board.MoveParts.{MoveParts}
 use Rattle.chess_types.specs.board.Texts.{names_promotion}
-use Rattle.chess_types.specs.board.Position.{PositionParts, man_on, king_home, rook_home, holds}
+use Rattle.chess_types.specs.board.Position.{PositionParts, man_on, home_square, king_home, rook_home, holds}
 
 -- a man of the other side stands there, which isn't its king: a king is never taken (1.4.1)
 abbrev pub is_capturable : Colour → Option Man → Bool
@@ -73,17 +73,11 @@ pawn_promotion_fits side m = if rank_of m.to == last_rank side then is_some m.pr
 
 -- the square that the king crosses when it castles: f1, d1, f8, d8
 abbrev pub crossed : Colour → Wing → ℕ
-crossed White KingSide = 5
-crossed White QueenSide = 3
-crossed Black KingSide = 61
-crossed Black QueenSide = 59
+crossed colour wing = home_square colour wing 5 3
 
 -- the square that it reaches: g1, c1, g8, c8
 abbrev pub reached : Colour → Wing → ℕ
-reached White KingSide = 6
-reached White QueenSide = 2
-reached Black KingSide = 62
-reached Black QueenSide = 58
+reached colour wing = home_square colour wing 6 2
 
 -- from the king's home two squares towards that wing's rook
 abbrev pub castles_to : Colour → Wing → MoveParts → Bool

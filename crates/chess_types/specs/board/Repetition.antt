@@ -7,6 +7,7 @@
 -- No key of a position occurs here.
 use Rattle.std.specs.Prelude.{ℕ, ◌==◌, Bool, true, false, not, ◌&&◌, if◌then◌else◌, Option, Some, None, count_by}
 use Rattle.std.specs.List.{list_all, list_any}
+use Rattle.std.specs.Option.{option_eq}
 use Rattle.chess_types.specs.declared.board.man.Man.{Man}
 use Rattle.chess_types.specs.declared.board.position.Rights.{Rights}
 use Rattle.chess_types.specs.board.Squares.{squares}
@@ -24,10 +25,7 @@ same_bool false b = not b
 
 -- nothing on both squares, or men of one colour and kind
 abbrev pub same_man : Option Man → Option Man → Bool
-same_man None None = true
-same_man None (Some n) = false
-same_man (Some m) None = false
-same_man (Some m) (Some n) = same_colour m.colour n.colour && same_kind m.kind n.kind
+same_man = option_eq (λ m n. same_colour m.colour n.colour && same_kind m.kind n.kind)
 
 -- all four rights agree
 abbrev pub same_rights : Rights → Rights → Bool
@@ -37,10 +35,7 @@ same_rights r s =
 
 -- none in both, or one square
 abbrev pub same_target : Option ℕ → Option ℕ → Bool
-same_target None None = true
-same_target None (Some t) = false
-same_target (Some s) None = false
-same_target (Some s) (Some t) = s == t
+same_target = option_eq (λ s t. s == t)
 
 -- the man captures on the target
 abbrev pub takes_target : PositionParts → Option Man → MoveParts → Bool

@@ -54,14 +54,7 @@ impl Clone for Draft {
 
     /// The same six fields; never an error.
     fn clone(&self) -> Result<Draft, AllocError> {
-        Ok(Draft {
-            men: self.men,
-            side: self.side,
-            rights: self.rights,
-            target: self.target,
-            clock: self.clock,
-            number: self.number,
-        })
+        Ok(Draft { ..*self })
     }
 }
 
@@ -131,12 +124,7 @@ impl Draft {
         Draft {
             men: [None; 64],
             side: Colour::White,
-            rights: Rights {
-                white_king: false,
-                white_queen: false,
-                black_king: false,
-                black_queen: false,
-            },
+            rights: Rights::NONE,
             target: None,
             clock: 0,
             number: 1,

@@ -54,10 +54,7 @@ impl Clone for Placement {
 
     /// The same men on the same squares; never an error.
     fn clone(&self) -> Result<Placement, AllocError> {
-        Ok(Placement {
-            cells: self.cells,
-            kept: self.kept,
-        })
+        Ok(Placement { ..*self })
     }
 }
 

@@ -1,6 +1,6 @@
-ghost use Rattle.std.specs.Prelude.{◌≡◌, replicate, ⊤};
+ghost use Rattle.std.specs.Prelude.{◌≡◌, ◌<◌, replicate, ⊤};
 ghost use Rattle.chess_types.specs.declared.board.man.Kind.TheVariants.{Pawn};
-ghost use Rattle.chess_types.specs.board.Position.{OpponentNotInCheck, back_rank, cell_of, holds, king_home, rook_home, start, start_cells};
+ghost use Rattle.chess_types.specs.board.Position.{OpponentNotInCheck, back_rank, cell_of, holds, home_square, king_home, rook_home, start, start_cells};
 ghost use Rattle.chess_types.specs.board.Pseudo.{castles_to, crossed, reached};
 ghost use Rattle.chess_types.specs.board.After.{is_castling};
 ghost use Rattle.std.specs.Cmp.{partial_equiv_from_equiv};
@@ -37,40 +37,42 @@ impl Colour {
 }
 
 impl Wing {
+    // The square of one of two files, by the wing, on the rank where the colour's king begins.
+    #[inline(always)]
+    fn home_square(self, colour: Colour, king_side: u8, queen_side: u8) -> Square
+        requires king_side { king_side < 8 }
+        requires queen_side { queen_side < 8 }
+        ensures { result ≡ home_square colour self king_side queen_side }
+    {
+        let file = match self {
+            Wing::KingSide => king_side,
+            Wing::QueenSide => queen_side,
+        };
+        match colour {
+            Colour::White => Square::from_index(file),
+            Colour::Black => Square::from_index(56 + file),
+        }
+    }
+
     /// Where that wing's rook stands as a game begins: h1, a1, h8 or a8.
     pub fn rook_home(self, colour: Colour) -> Square
         ensures { result ≡ rook_home colour self }
     {
-        Square::from_index(match (colour, self) {
-            (Colour::White, Wing::KingSide) => 7,
-            (Colour::White, Wing::QueenSide) => 0,
-            (Colour::Black, Wing::KingSide) => 63,
-            (Colour::Black, Wing::QueenSide) => 56,
-        })
+        self.home_square(colour, 7, 0)
     }
 
     /// The square that the king crosses when it castles to that wing, and that the rook comes to: f1, d1, f8 or d8.
     pub fn crossed(self, colour: Colour) -> Square
         ensures { result ≡ crossed colour self }
     {
-        Square::from_index(match (colour, self) {
-            (Colour::White, Wing::KingSide) => 5,
-            (Colour::White, Wing::QueenSide) => 3,
-            (Colour::Black, Wing::KingSide) => 61,
-            (Colour::Black, Wing::QueenSide) => 59,
-        })
+        self.home_square(colour, 5, 3)
     }
 
     /// The square that the king reaches when it castles to that wing: g1, c1, g8 or c8.
     pub fn reached(self, colour: Colour) -> Square
         ensures { result ≡ reached colour self }
     {
-        Square::from_index(match (colour, self) {
-            (Colour::White, Wing::KingSide) => 6,
-            (Colour::White, Wing::QueenSide) => 2,
-            (Colour::Black, Wing::KingSide) => 62,
-            (Colour::Black, Wing::QueenSide) => 58,
-        })
+        self.home_square(colour, 6, 2)
     }
 
     /// Whether the move goes from the king's home to the square that castling to that wing reaches (FIDE Laws 3.8.2).
@@ -100,6 +102,14 @@ pub struct Rights {
 }
 
 impl Rights {
+    /// None of the rights.
+    pub const NONE: Rights = Rights {
+        white_king: false,
+        white_queen: false,
+        black_king: false,
+        black_queen: false,
+    };
+
     /// Whether the colour may still castle to that wing.
     pub fn holds(self, colour: Colour, wing: Wing) -> bool
         ensures { result ≡ holds self colour wing }

@@ -206,10 +206,10 @@ impl SquareSet {
         ensures found { IfSome result (IsHighest self) }
         ensures none { IfNone result ((s : ℕ) → set.contains self s ≡ false) }
     {
-        if self.bits == 0 {
-            return None;
+        match self.bits.checked_ilog2() {
+            Some(last) => Some(Square::from_index(last as u8)),
+            None => None,
         }
-        Some(Square::from_index((63 - self.bits.leading_zeros()) as u8))
     }
 
     /// The squares in ascending order, a1 first and h8 last.

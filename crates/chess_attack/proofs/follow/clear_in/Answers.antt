@@ -1,9 +1,10 @@
 use Rattle.std.proofs.Common.{sym, ◌∙◌, arith}
 use Rattle.std.specs.FinMap.{remove}
 use Rattle.chess_types.specs.board.Board.{Board, man_at}
+use Rattle.chess_attack.specs.declared.change.Change.TheVariants.{Lower}
 use Rattle.chess_attack.specs.KeptCounts.{AreCounts, Worked}
 use Rattle.chess_attack.proofs.Added.{Adds, adds_clear}
-use Rattle.chess_attack.proofs.Puts.{clear_own, clear_cut, clear_counts}
+use Rattle.chess_attack.proofs.Puts.{clear_own, clear_cut, counts_after}
 use Rattle.chess_attack.proofs.Shown.{shown}
 use Rattle.chess_attack.proofs.Work.{worked_more}
 use Rattle.chess_attack.proofs.follow.clear_in.Goals as goal
@@ -29,7 +30,7 @@ pub returns-in-Some-clause-agrees : goal.returns-in-Some-clause-agrees
 returns-in-Some-clause-agrees c =
     let board : Board = c.args.before.now in
     let after : Board = remove board c.args.at in
-    clear_counts after board c.args.at c.in-Some.man (adds (goal.at.returns-in-Some-clause-agrees c).In-Some) c.args.tally.now c.mark.new.tally c.update_x_rays.new.tally
+    counts_after after board c.args.at c.in-Some.man (adds (goal.at.returns-in-Some-clause-agrees c).In-Some) Lower c.args.tally.now c.mark.new.tally c.update_x_rays.new.tally
     c.requires.agrees c.mark.ensures.counts c.update_x_rays.ensures.counts
 
 pub returns-in-Some-clause-at_most : goal.returns-in-Some-clause-at_most

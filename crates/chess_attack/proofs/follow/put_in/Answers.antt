@@ -1,9 +1,10 @@
 use Rattle.std.proofs.Common.{arith}
 use Rattle.std.specs.FinMap.{insert}
 use Rattle.chess_types.specs.board.Board.{Board, man_at}
+use Rattle.chess_attack.specs.declared.change.Change.TheVariants.{Raise}
 use Rattle.chess_attack.specs.KeptCounts.{AreCounts, Worked}
 use Rattle.chess_attack.proofs.Added.{Adds, adds_put}
-use Rattle.chess_attack.proofs.Puts.{put_own, put_cut, put_counts}
+use Rattle.chess_attack.proofs.Puts.{put_own, put_cut, counts_after}
 use Rattle.chess_attack.proofs.Shown.{shown}
 use Rattle.chess_attack.proofs.Work.{worked_more}
 use Rattle.chess_attack.proofs.follow.put_in.Goals as goal
@@ -31,7 +32,7 @@ pub returns-clause-agrees : goal.returns-clause-agrees
 returns-clause-agrees c =
     let board : Board = c.args.before.now in
     let after : Board = insert board c.args.at c.args.man in
-    put_counts board after c.args.at c.args.man (adds (goal.at.returns-clause-agrees c).Start) c.args.tally.now c.mark.new.tally c.update_x_rays.new.tally
+    counts_after board after c.args.at c.args.man (adds (goal.at.returns-clause-agrees c).Start) Raise c.args.tally.now c.mark.new.tally c.update_x_rays.new.tally
     c.requires.agrees c.mark.ensures.counts c.update_x_rays.ensures.counts
 
 pub returns-clause-at_most : goal.returns-clause-at_most

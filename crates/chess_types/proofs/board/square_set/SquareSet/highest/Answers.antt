@@ -1,9 +1,10 @@
-use Rattle.std.proofs.Common.{arith}
 use Rattle.chess_types.proofs.BitLemmas.{no_bits, highest-set_of}
 use Rattle.chess_types.proofs.board.square_set.SquareSet.highest.Goals as goal
 
-pub returns-then-self-eq0-clause-none : goal.returns-then-self-eq0-clause-none
-returns-then-self-eq0-clause-none c = no_bits c.self.view_is c.if-self-eq0.true
+pub returns-in-None-clause-none : goal.returns-in-None-clause-none
+returns-in-None-clause-none c = no_bits c.self.view_is c.in-None.ensures.none
 
-pub returns-clause-found : goal.returns-clause-found
-returns-clause-found c = rw (← c.self.view_is, c.from_index.ensures) (highest-set_of c.self.inside.bits (omega arith) c.self.invariant)
+pub returns-in-Some-clause-found : goal.returns-in-Some-clause-found
+returns-in-Some-clause-found c =
+    let top = c.in-Some.ensures in
+    rw (← c.self.view_is, c.from_index.ensures) (highest-set_of c.self.inside.bits c.in-Some.last top.bound top.power_le top.next_power_gt)
