@@ -3,7 +3,7 @@ use Rattle.std.proofs.Common.{ℕ, ◌≤◌, ◌++◌, Bool, true, false, List,
 use Rattle.std.specs.List.{Contains}
 use Rattle.std.proofs.lemmas.List.{length-append}
 use Rattle.chess_types.specs.declared.board.man.Kind.{Kind}
-use Rattle.chess_types.specs.declared.board.man.Kind.TheVariants.{Pawn, Knight, Bishop, Rook, Queen, King}
+use Rattle.chess_types.specs.declared.board.man.Kind.TheVariants.{Pawn}
 use Rattle.chess_types.specs.declared.board.man.Man.{Man}
 use Rattle.chess_types.specs.declared.board.position.Wing.TheVariants.{KingSide, QueenSide}
 use Rattle.chess_types.specs.board.MoveParts.{MoveParts}
@@ -84,11 +84,7 @@ piece_short sort origin taken to =
 
 step_short : (p : PositionParts) (kind : Kind) (man : Man) (m : MoveParts) → length (step_text p kind man m) ≤ 6
 step_short p Pawn man m = pawn_short (captures p man m) m
-step_short p Knight man m = piece_short Knight (origin_of p Knight m) (captures p man m) m.to
-step_short p Bishop man m = piece_short Bishop (origin_of p Bishop m) (captures p man m) m.to
-step_short p Rook man m = piece_short Rook (origin_of p Rook m) (captures p man m) m.to
-step_short p Queen man m = piece_short Queen (origin_of p Queen m) (captures p man m) m.to
-step_short p King man m = piece_short King (origin_of p King m) (captures p man m) m.to
+step_short p kind man m = piece_short kind (origin_of p kind m) (captures p man m) m.to
 
 by_castling : (a b : Bool) (text : List ℕ) → length text ≤ 6 → length (if a then codes "O-O" else (if b then codes "O-O-O" else text)) ≤ 6
 by_castling true b text h = omega arith

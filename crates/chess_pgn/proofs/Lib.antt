@@ -48,5 +48,4 @@ pub mod SoundItemLemmas
 pub mod SoundMoveLemmas
 pub mod AgainLemmas
 pub mod UsualLemmas
-pub mod PlainLemmas
 pub mod KnownLemmas

@@ -16,4 +16,3 @@ pub mod Unmoved
 pub mod KnownTexts
 pub mod Spelling
 pub mod Following
-pub mod PlainTexts

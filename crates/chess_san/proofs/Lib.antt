@@ -9,3 +9,4 @@ pub mod LawLemmas
 pub mod ListLemmas
 pub mod GoesLemmas
 pub mod OriginLemmas
+pub mod GlanceLemmas

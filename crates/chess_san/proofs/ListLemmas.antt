@@ -1,9 +1,11 @@
 -- The legal moves to one square that become one thing, by the squares where they begin.
-use Rattle.std.proofs.Common.{◌≡◌, ◌≢◌, ℕ, zero, suc, ◌+◌, ◌<◌, ◌≤◌, ◌==◌, Bool, true, false, ◌&&◌, ◌||◌, List, [], ◌∷◌, ◌++◌, map, filter, Option, Some, None, refl, sym, ap, ◌∙◌, arith, inl, inr, length}
+use Rattle.std.proofs.Common.{◌≡◌, ◌≢◌, ℕ, zero, suc, ◌+◌, ◌<◌, ◌≤◌, ◌==◌, Bool, true, false, not, ◌&&◌, ◌||◌, List, [], ◌∷◌, ◌++◌, map, filter, Option, Some, None, refl, sym, ap, ◌∙◌, arith, inl, inr, length, ltb}
+use Rattle.std.specs.Prelude.{if◌then◌else◌}
 use Rattle.std.specs.List.{list_any, range_with_len, flat_map}
 use Rattle.std.specs.Ordering.{nat_cmp}
-use Rattle.std.specs.FinSet.{FinSet, contains}
-use Rattle.std.proofs.lemmas.Bool.{cases_Bool, cases_eq, true≢false, false_from_ne_true, and_parts, ne_eqb}
+use Rattle.std.specs.FinSet.{FinSet, contains, intersection, contains-intersection}
+use Rattle.std.proofs.lemmas.Bool.{cases_Bool, cases_eq, true≢false, false_from_ne_true, and_parts, lt-ltb, ne_eqb}
+use Rattle.std.proofs.lemmas.Cmp.{nat_cmp_total}
 use Rattle.std.proofs.lemmas.List.Elements.{filter-append}
 use Rattle.chess_types.specs.declared.board.man.Kind.{Kind}
 use Rattle.chess_types.specs.declared.board.man.Kind.TheVariants.{Pawn, Knight, Bishop, Rook, Queen, King}
@@ -15,11 +17,12 @@ use Rattle.chess_types.specs.board.Position.{PositionParts}
 use Rattle.chess_types.specs.board.Legal.{is_legal, legal_moves, promotions, moves_between, moves_from, all_moves}
 use Rattle.chess_moves.specs.steps.Targets.{move_to}
 use Rattle.chess_san.specs.declared.form.Form.{Form}
-use Rattle.chess_san.specs.Naming.{names}
+use Rattle.chess_san.specs.Naming.{becomes, names}
 use Rattle.chess_san.specs.Writing.{is_rival}
 use Rattle.chess_san.specs.steps.Origins.{Begins, BeginsAmong, Comes, ComesBy, from_each, legal_and}
 use Rattle.chess_moves.proofs.Candidates.{pseudo_names}
 use Rattle.chess_types.proofs.MoveLemmas.{legal_pseudo}
+use Rattle.chess_san.proofs.SameLemmas.{becomes_itself}
 
 filter_filter : (t l : MoveParts → Bool) (xs : List MoveParts) → filter t (filter l xs) ≡ filter (λ m. t m && l m) xs
 filter_filter t l [] = refl
@@ -47,32 +50,24 @@ module _ (test : MoveParts → Bool) (to : ℕ) (promo : Option Kind)
   unfolding promotions
   between_none a b h = rw (other_to a b None h, other_to a b (Some Queen) h, other_to a b (Some Rook) h, other_to a b (Some Bishop) h, other_to a b (Some Knight) h) refl
 
+  own_name : (a : ℕ) (named : Option Kind) → names_promotion named ≡ false → test (move_to a to named) ≡ false
+  own_name a named h = false_from_ne_true _ (λ e. true≢false (sym (goes (move_to a to named) e).2 ∙ h))
+
+  -- of some names only the wanted one counts
+  named_only : (a : ℕ) (names : List (Option Kind)) → filter test (map (move_to a to) names) ≡ filter test (map (move_to a to) (filter (becomes promo) names))
+  named_only a [] = refl
+  named_only a (named ∷ names) =
+      elim (cases_Bool (becomes promo named)) [
+        | inl same ↦ rw same (ap (λ (ms : List MoveParts). if test (move_to a to named) then move_to a to named ∷ ms else ms) (named_only a names))
+        | inr other ↦ rw (other, other_name a named (λ e. true≢false (sym (ap (becomes promo) e ∙ becomes_itself promo) ∙ other))) (named_only a names)
+      ]
+
 is_named : (test : MoveParts → Bool) (a to : ℕ) (promo : Option Kind) → ((m : MoveParts) → test m ≡ true → (m.to ≡ to) × (m.promo ≡ promo) × (names_promotion m.promo ≡ true)) →
     filter test (moves_between a to) ≡ filter test (move_to a to promo ∷ [])
 unfolding promotions
-is_named test a to None goes =
-    let other = other_name test to None goes a in
-    rw (other (Some Queen) (λ e. cc), other (Some Rook) (λ e. cc), other (Some Bishop) (λ e. cc), other (Some Knight) (λ e. cc)) refl
-is_named test a to (Some Queen) goes =
-    let other = other_name test to (Some Queen) goes a in
-    rw (other None (λ e. cc), other (Some Rook) (λ e. cc), other (Some Bishop) (λ e. cc), other (Some Knight) (λ e. cc)) refl
-is_named test a to (Some Rook) goes =
-    let other = other_name test to (Some Rook) goes a in
-    rw (other None (λ e. cc), other (Some Queen) (λ e. cc), other (Some Bishop) (λ e. cc), other (Some Knight) (λ e. cc)) refl
-is_named test a to (Some Bishop) goes =
-    let other = other_name test to (Some Bishop) goes a in
-    rw (other None (λ e. cc), other (Some Queen) (λ e. cc), other (Some Rook) (λ e. cc), other (Some Knight) (λ e. cc)) refl
-is_named test a to (Some Knight) goes =
-    let other = other_name test to (Some Knight) goes a in
-    rw (other None (λ e. cc), other (Some Queen) (λ e. cc), other (Some Rook) (λ e. cc), other (Some Bishop) (λ e. cc)) refl
-is_named test a to (Some Pawn) goes =
-    let other = other_name test to (Some Pawn) goes a in
-    let own : test (move_to a to (Some Pawn)) ≡ false = false_from_ne_true _ (λ e. true≢false (sym (goes (move_to a to (Some Pawn)) e).2)) in
-    rw (own, other None (λ e. cc), other (Some Queen) (λ e. cc), other (Some Rook) (λ e. cc), other (Some Bishop) (λ e. cc), other (Some Knight) (λ e. cc)) refl
-is_named test a to (Some King) goes =
-    let other = other_name test to (Some King) goes a in
-    let own : test (move_to a to (Some King)) ≡ false = false_from_ne_true _ (λ e. true≢false (sym (goes (move_to a to (Some King)) e).2)) in
-    rw (own, other None (λ e. cc), other (Some Queen) (λ e. cc), other (Some Rook) (λ e. cc), other (Some Bishop) (λ e. cc), other (Some Knight) (λ e. cc)) refl
+is_named test a to (Some Pawn) goes = named_only test to (Some Pawn) goes a promotions ∙ rw (own_name test to (Some Pawn) goes a (Some Pawn) refl) refl
+is_named test a to (Some King) goes = named_only test to (Some King) goes a promotions ∙ rw (own_name test to (Some King) goes a (Some King) refl) refl
+is_named test a to promo goes = named_only test to promo goes a promotions
 
 module _ (test : MoveParts → Bool) (to : ℕ) (promo : Option Kind)
     (goes : (m : MoveParts) → test m ≡ true → (m.to ≡ to) × (m.promo ≡ promo) × (names_promotion m.promo ≡ true)) where
@@ -171,3 +166,24 @@ any_from test to promo (x ∷ xs) = ap (λ (b : Bool). test x || b) (any_from te
 pub none_from : (to : ℕ) (promo : Option Kind) (xs : List ℕ) → (length xs == 0) ≡ is_without (from_each to promo xs)
 none_from to promo [] = refl
 none_from to promo (x ∷ xs) = ne_eqb (length (x ∷ xs)) 0 (λ e. omega (arith, e))
+
+-- what holds of some of a set holds of one that another set has too
+any_in : (test : ℕ → Bool) (set common : FinSet nat_cmp) (a n : ℕ) → ((s : ℕ) → s < a + n → contains common s ≡ (contains set s && test s)) →
+    not (length (filter (contains common) (range_with_len a n)) == 0) ≡ list_any test (filter (contains set) (range_with_len a n))
+any_in test set common a zero same = refl
+any_in test set common a (suc n) same =
+    let rest = any_in test set common (a + 1) n (λ s low. same s (omega arith)) in
+    let here : contains common a ≡ (contains set a && test a) = same a (omega arith) in
+    elim (cases_Bool (contains set a)) [
+      | inl held ↦ elim (cases_Bool (test a)) [
+        | inl passes ↦ rw (held, passes, here ∙ (λ i. held i && passes i)) (ap not (ne_eqb (length (a ∷ filter (contains common) (range_with_len (a + 1) n))) 0 (λ e. omega (arith, e))))
+        | inr out ↦ rw (held, out, here ∙ (λ i. held i && out i)) rest
+      ]
+      | inr other ↦ rw (other, here ∙ (λ i. other i && test a)) rest
+    ]
+
+pub any_common : (test : ℕ → Bool) (set line : FinSet nat_cmp) → ((s : ℕ) → contains line s ≡ (ltb s 64 && test s)) →
+    not (length (filter (contains (intersection set line)) squares) == 0) ≡ list_any test (filter (contains set) squares)
+unfolding squares
+any_common test set line on =
+    any_in test set (intersection set line) 0 64 (λ s low. contains-intersection nat_cmp_total set line s ∙ ap (λ b. contains set s && b) (on s ∙ ap (λ b. b && test s) (lt-ltb s 64 low)))

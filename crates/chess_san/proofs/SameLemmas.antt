@@ -95,7 +95,7 @@ followed course m h =
     let c = and_parts _ _ b.0 in
     record { to = eqb-true _ _ c.0; file = c.1; rank = b.1; promo = became course.promo m.promo a.1 }
 
-becomes_itself : (a : Option Kind) → becomes a a ≡ true
+pub becomes_itself : (a : Option Kind) → becomes a a ≡ true
 becomes_itself None = refl
 becomes_itself (Some k) = eq-eqb _ _ refl
 

@@ -8,7 +8,7 @@ use Rattle.std.specs.Char.{to_ascii_uppercase}
 use Rattle.std.specs.Str.{byte}
 use Rattle.std.specs.List.{list_any}
 use Rattle.chess_types.specs.declared.board.man.Kind.{Kind}
-use Rattle.chess_types.specs.declared.board.man.Kind.TheVariants.{Pawn, Knight, Bishop, Rook, Queen, King}
+use Rattle.chess_types.specs.declared.board.man.Kind.TheVariants.{Pawn}
 use Rattle.chess_types.specs.declared.board.man.Man.{Man}
 use Rattle.chess_types.specs.declared.board.position.Wing.TheVariants.{KingSide, QueenSide}
 use Rattle.chess_types.specs.board.Squares.{file_of, rank_of}
@@ -52,10 +52,14 @@ share_file moves from = list_any (λ n. file_of n.from == file_of from) moves
 abbrev pub share_rank : List MoveParts → ℕ → Bool
 share_rank moves from = list_any (λ n. rank_of n.from == rank_of from) moves
 
+-- nothing said of where a man comes from
+abbrev pub nowhere : Origin
+nowhere = record { file = None; rank = None }
+
 -- nothing where there is none; the file, where none shares it; else the rank, where none shares that; else both
 abbrev pub origin_by : (none file rank : Bool) → ℕ → Origin
 origin_by none file rank from =
-    if none then record { file = None; rank = None }
+    if none then nowhere
     else (if not file then record { file = Some (file_of from); rank = None }
     else (if not rank then record { file = None; rank = Some (rank_of from) }
     else record { file = Some (file_of from); rank = Some (rank_of from) }))
@@ -89,21 +93,25 @@ pawn_text taken m = file_letter (if taken then Some (file_of m.from) else None) 
 unfoldable pub piece_text : Kind → Origin → Bool → ℕ → List ℕ
 piece_text kind origin taken to = piece_letter kind ∷ (file_letter origin.file ++ (rank_digit origin.rank ++ (capture_text taken ++ square_text to)))
 
+-- a man of the kind that doesn't castle, where that distinguishes it from others
+abbrev pub step_by : PositionParts → Kind → Origin → Man → MoveParts → List ℕ
+step_by p Pawn origin man m = pawn_text (captures p man m) m
+step_by p kind origin man m = piece_text kind origin (captures p man m) m.to
+
 -- a man that doesn't castle
 abbrev pub step_text : PositionParts → Kind → Man → MoveParts → List ℕ
-step_text p Pawn man m = pawn_text (captures p man m) m
-step_text p Knight man m = piece_text Knight (origin_of p Knight m) (captures p man m) m.to
-step_text p Bishop man m = piece_text Bishop (origin_of p Bishop m) (captures p man m) m.to
-step_text p Rook man m = piece_text Rook (origin_of p Rook m) (captures p man m) m.to
-step_text p Queen man m = piece_text Queen (origin_of p Queen m) (captures p man m) m.to
-step_text p King man m = piece_text King (origin_of p King m) (captures p man m) m.to
+step_text p kind man m = step_by p kind (origin_of p kind m) man m
+
+-- the text of a man's move without its mark of check or mate, where that distinguishes it from others
+abbrev pub text_by : PositionParts → Man → Origin → MoveParts → List ℕ
+text_by p man origin m =
+    if is_castling man KingSide m then codes "O-O"
+    else (if is_castling man QueenSide m then codes "O-O-O" else step_by p man.kind origin man m)
 
 -- the text of a move without its mark of check or mate
 abbrev pub bare_text : PositionParts → Option Man → MoveParts → List ℕ
 bare_text p None m = []
-bare_text p (Some man) m =
-    if is_castling man KingSide m then codes "O-O"
-    else (if is_castling man QueenSide m then codes "O-O-O" else step_text p man.kind man m)
+bare_text p (Some man) m = text_by p man (origin_of p man.kind m) m
 
 -- # where the side to move is mated, else + where it is in check
 unfoldable pub mark_text : PositionParts → List ℕ

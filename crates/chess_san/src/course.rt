@@ -186,7 +186,7 @@ fn wing_in(text: &[u8]) -> Option<Wing>
 }
 
 // The bytes without + and # at their end.
-fn without_marks(text: &[u8]) -> &[u8]
+pub(crate) fn without_marks(text: &[u8]) -> &[u8]
     ensures { result.now ≡ without_last_gaps marks text.now }
 {
     let mut rest = text;

@@ -8,11 +8,13 @@
 mod course;
 mod fault;
 mod form;
+mod glance;
 mod names;
 mod origins;
 mod reader;
 mod writer;
 
 pub use fault::SanFault;
+pub use glance::at_a_glance;
 pub use reader::read;
 pub use writer::{write, write_mark, write_unmarked};

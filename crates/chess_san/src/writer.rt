@@ -10,7 +10,7 @@ ghost use Rattle.chess_types.specs.board.After.{after};
 ghost use Rattle.chess_types.specs.board.Legal.{is_legal};
 ghost use Rattle.chess_san.specs.steps.Origins.{Begins, BeginsAmong, legal_and};
 ghost use Rattle.chess_san.specs.Naming.{named, san_reading};
-ghost use Rattle.chess_san.specs.Writing.{piece_letter, captures, capture_text, file_letter, rank_digit, becoming_text, pawn_text, piece_text, rivals, is_rival, origin_by, origin_among, mark_text, bare_text, san};
+ghost use Rattle.chess_san.specs.Writing.{piece_letter, captures, capture_text, file_letter, rank_digit, becoming_text, pawn_text, piece_text, rivals, is_rival, origin_by, origin_among, mark_text, text_by, bare_text, san};
 
 use crate::form::Origin;
 use crate::names::is_kind;
@@ -81,24 +81,14 @@ fn are_none(others: SquareSet) -> bool
 fn share_file(others: SquareSet, from: Square) -> bool
     ensures { result ≡ list_any (λ s. file_of s == file_of from) (filter (contains others) squares) }
 {
-    for other in others.iter() {
-        if other.file() == from.file() {
-            return true;
-        }
-    }
-    false
+    !are_none(others.intersection(SquareSet::file(from.file())))
 }
 
 /// Whether one of them is on the rank of the square.
 fn share_rank(others: SquareSet, from: Square) -> bool
     ensures { result ≡ list_any (λ s. rank_of s == rank_of from) (filter (contains others) squares) }
 {
-    for other in others.iter() {
-        if other.rank() == from.rank() {
-            return true;
-        }
-    }
-    false
+    !are_none(others.intersection(SquareSet::rank(from.rank())))
 }
 
 /// What distinguishes a man from others: whether there are none, and whether one of them shares its file, or its rank (PGN 8.2.3.4).
@@ -108,10 +98,7 @@ fn origin_by(none: bool, file: bool, rank: bool, from: Square) -> Origin
     ensures rank { IfSome result.rank (λ r. r < 8) }
 {
     if none {
-        Origin {
-            file: None,
-            rank: None,
-        }
+        Origin::NOWHERE
     } else if !file {
         Origin {
             file: Some(from.file()),
@@ -244,15 +231,12 @@ fn piece_text(kind: Kind, origin: Origin, taken: bool, to: Square) -> ArrayStrin
     text
 }
 
-// The text of a man's move without the mark of check or mate.
-fn bare_text(live: &mut Live, man: Man, m: Move) -> ArrayString<8>
-    requires here { man_on live.old.position m.from ≡ Some man }
-    requires clock { live.old.position.clock ≤ 1000000 }
-    requires number { live.old.position.number ≤ 1000000 }
-    ensures bytes { result.bytes ≡ bare_text live.old.position (Some man) m }
+// The text of a man's move without the mark of check or mate, where that distinguishes him from others.
+pub(crate) fn text_by(setup: &Setup, man: Man, origin: Origin, m: Move) -> ArrayString<8>
+    requires file { IfSome origin.file (λ f. f < 8) }
+    requires rank { IfSome origin.rank (λ r. r < 8) }
+    ensures bytes { result.bytes ≡ text_by setup.now man origin m }
     ensures len { array_string_len result ≤ 6 }
-    ensures position { live.new.position ≡ live.old.position }
-    ensures words { live.new.words ≡ live.old.words }
 {
     if Wing::KingSide.is_castling(man, m) {
         let mut text = ArrayString::new();
@@ -264,14 +248,30 @@ fn bare_text(live: &mut Live, man: Man, m: Move) -> ArrayString<8>
         text.push_str("O-O-O");
         return text;
     }
-    let taken = captures(live.position(), man, m);
+    let taken = captures(setup, man, m);
     match man.kind {
         Kind::Pawn => pawn_text(taken, m),
         Kind::Knight | Kind::Bishop | Kind::Rook | Kind::Queen | Kind::King => {
-            let origin = origin_of(live, man.kind, m.from, m.to);
             piece_text(man.kind, origin, taken, m.to)
         }
     }
+}
+
+// The text of a man's move without the mark of check or mate.
+fn bare_text(live: &mut Live, man: Man, m: Move) -> ArrayString<8>
+    requires here { man_on live.old.position m.from ≡ Some man }
+    requires clock { live.old.position.clock ≤ 1000000 }
+    requires number { live.old.position.number ≤ 1000000 }
+    ensures bytes { result.bytes ≡ bare_text live.old.position (Some man) m }
+    ensures len { array_string_len result ≤ 6 }
+    ensures position { live.new.position ≡ live.old.position }
+    ensures words { live.new.words ≡ live.old.words }
+{
+    if man.kind.is_pawn() {
+        return text_by(live.position(), man, Origin::NOWHERE, m);
+    }
+    let origin = origin_of(live, man.kind, m.from, m.to);
+    text_by(live.position(), man, origin, m)
 }
 
 /// The mark after the text of the move that led to a position: `+` where its king is in check, `#` where it is mated,
@@ -294,10 +294,11 @@ pub fn write_mark(live: &mut Live) -> &'static str
     }
 }
 
-fn man_at(setup: &Setup, square: Square) -> Option<Man>
-    ensures { result ≡ man_on setup.now square }
+/// The man that makes the move.
+pub(crate) fn man_of(setup: &Setup, m: Move) -> Option<Man>
+    ensures { result ≡ man_on setup.now m.from }
 {
-    setup.placement.get(square)
+    setup.placement.get(m.from)
 }
 
 /// The text of a legal move in standard algebraic notation (PGN 8.2.3) without its mark, at most 6 bytes: `write_mark`, asked after the
@@ -312,7 +313,7 @@ pub fn write_unmarked(live: &mut Live, m: Move) -> ArrayString<8>
     ensures position { live.new.position ≡ live.old.position }
     ensures words { live.new.words ≡ live.old.words }
 {
-    match man_at(live.position(), m.from) {
+    match man_of(live.position(), m) {
         None => unreachable!(),
         Some(man) => bare_text(live, man, m),
     }

@@ -3,11 +3,12 @@ ghost use Rattle.std.specs.List.{All};
 ghost use Rattle.chess_types.specs.board.Legal.{is_legal};
 ghost use Rattle.chess_types.specs.board.Lines.{last};
 ghost use Rattle.chess_draws.specs.LineParts.{IsAsBefore};
-ghost use Rattle.chess_search.specs.Best.{best};
+ghost use Rattle.chess_search.specs.Best.{IsAsked, best};
 ghost use Rattle.chess_search.specs.Slices.{IsInRange, HasBorder};
 ghost use Rattle.chess_search.specs.Value.{worth};
 ghost use Rattle.chess_search.specs.Asked.{trees_below};
-ghost use Rattle.chess_search.specs.steps.Windows.{best_above};
+ghost use Rattle.chess_search.specs.steps.Asking.{Asks};
+ghost use Rattle.chess_search.specs.steps.Windows.{IsFloor, best_above};
 
 use crate::guess::guess;
 use crate::nodes::Nodes;
@@ -27,20 +28,14 @@ impl Searcher {
         roots: &[Move],
         depth: u8,
     ) -> Option<(Move, i32)>
-        requires none { line.old.looked ≡ 0 }
-        requires legal { All (λ m. is_legal (last line.old.line) m ≡ true) roots.now }
-        requires deep { 1 ≤ depth }
-        requires shallow { depth ≤ 16 }
-        requires least { neg_ℤ (pos 30001) ≤ℤ least }
-        requires below { least ≤ℤ pos 30000 }
+        requires asked { IsAsked line.old depth roots.now }
+        requires least { IsFloor least }
         requires kept { IsInRange kept }
         requires border { HasBorder kept }
         ensures best { result ≡ best_above (worth self.old.claims (depth - 1) line.old.line 0) least kept roots.now }
         ensures in_range { IsInRange result }
         ensures border { HasBorder result }
-        ensures at_least { min (self.old.nodes + length roots.now) (2 ^ 64 - 1) ≤ self.new.nodes }
-        ensures at_most { self.new.nodes ≤ self.old.nodes + trees_below self.old.claims (depth - 1) line.old.line roots.now }
-        ensures claims { self.new.claims ≡ self.old.claims }
+        ensures asked { Asks (length roots.now) (trees_below self.old.claims (depth - 1) line.old.line roots.now) self.old self.new }
         ensures line { IsAsBefore line.old line.new }
     {
         let mut best = kept;
@@ -58,15 +53,11 @@ impl Searcher {
         roots: &[Move],
         depth: u8,
     ) -> Option<(Move, i32)>
-        requires none { line.old.looked ≡ 0 }
-        requires legal { All (λ m. is_legal (last line.old.line) m ≡ true) roots.now }
-        requires deep { 1 ≤ depth }
-        requires shallow { depth ≤ 16 }
+        requires asked { IsAsked line.old depth roots.now }
         ensures best { result ≡ best self.old.claims depth line.old.line roots.now }
         ensures in_range { IsInRange result }
         ensures border { HasBorder result }
-        ensures at_least { min (self.old.nodes + length roots.now) (2 ^ 64 - 1) ≤ self.new.nodes }
-        ensures at_most { self.new.nodes ≤ self.old.nodes + trees_below self.old.claims (depth - 1) line.old.line roots.now }
+        ensures asked { Asks (length roots.now) (trees_below self.old.claims (depth - 1) line.old.line roots.now) self.old self.new }
         ensures line { IsAsBefore line.old line.new }
     {
         if roots.is_empty() {
@@ -93,10 +84,7 @@ pub fn best_counted<A: Allocator>(
     nodes: &mut Nodes,
     claims: bool,
 ) -> Option<(Move, i32)>
-    requires none { line.old.looked ≡ 0 }
-    requires deep { 1 ≤ depth }
-    requires shallow { depth ≤ 16 }
-    requires roots { All (λ m. is_legal (last line.old.line) m ≡ true) roots.now.items }
+    requires asked { IsAsked line.old depth roots.now.items }
     ensures best { result ≡ best claims depth line.old.line roots.now.items }
     ensures in_range { IsInRange result }
     ensures border { HasBorder result }
@@ -118,10 +106,7 @@ pub fn best<A: Allocator>(
     depth: u8,
     roots: &ArrayVec<Move, 432>,
 ) -> Option<(Move, i32)>
-    requires none { line.old.looked ≡ 0 }
-    requires deep { 1 ≤ depth }
-    requires shallow { depth ≤ 16 }
-    requires roots { All (λ m. is_legal (last line.old.line) m ≡ true) roots.now.items }
+    requires asked { IsAsked line.old depth roots.now.items }
     ensures best { result ≡ best false depth line.old.line roots.now.items }
     ensures in_range { IsInRange result }
     ensures border { HasBorder result }

@@ -5,13 +5,13 @@ use Rattle.std.specs.List.{Contains}
 use Rattle.std.proofs.lemmas.Bool.{and_parts, and_from, or_from, true≢false, eqb-true, eq-eqb, cases_Bool, not_from_false}
 use Rattle.byte_streams.specs.Words.{without_last_gaps}
 use Rattle.chess_types.specs.declared.board.man.Kind.{Kind}
-use Rattle.chess_types.specs.declared.board.man.Kind.TheVariants.{Pawn, Knight, Bishop, Rook, Queen, King}
+use Rattle.chess_types.specs.declared.board.man.Kind.TheVariants.{Pawn}
 use Rattle.chess_types.specs.declared.board.man.Man.{Man}
 use Rattle.chess_types.specs.declared.board.position.Wing.{Wing}
 use Rattle.chess_types.specs.declared.board.position.Wing.TheVariants.{KingSide, QueenSide}
 use Rattle.chess_types.specs.declared.board.man.Colour.{Colour}
 use Rattle.chess_types.specs.board.Men.{is_pawn, is_king, is_king_of, kings_of, same_colour}
-use Rattle.chess_types.proofs.SameLemmas.{king_no_pawn, same_self}
+use Rattle.chess_types.proofs.SameLemmas.{same_self}
 use Rattle.chess_attack.proofs.Kings.{one_king}
 use Rattle.chess_types.specs.board.MoveParts.{MoveParts}
 use Rattle.chess_types.specs.board.Position.{IsSetup, PositionParts, man_on}
@@ -24,31 +24,29 @@ use Rattle.chess_san.specs.declared.form.Form.{Form}
 use Rattle.chess_san.specs.declared.form.Form.TheVariants.{Piece}
 use Rattle.chess_san.specs.Forms.{bare_form, form_in, marks}
 use Rattle.chess_san.specs.Naming.{is_castles, is_kind, names, reading_by, san_reading, the_one}
-use Rattle.chess_san.specs.Writing.{bare_text, captures, is_rival, mark_text, origin_among, piece_text, rivals, san, step_text}
+use Rattle.chess_san.specs.Writing.{bare_text, captures, is_rival, mark_text, nowhere, origin_among, origin_of, piece_text, rivals, san, step_by, text_by}
 use Rattle.chess_san.proofs.ReadLemmas.{piece_read, step_course}
 use Rattle.chess_san.proofs.SameLemmas.{Mover, follows_own, kind_is, mover, plain_promo}
-use Rattle.chess_pgn.specs.steps.PlainTexts.{nowhere, plain_step, plain_text}
 
-same_text : (p : PositionParts) (man : Man) (m : MoveParts) → plain_step p man.kind man m ≡ step_text p man.kind man m → plain_text p man m ≡ bare_text p (Some man) m
-same_text p man m e = ap (λ (x : List ℕ). if is_castling man KingSide m then codes "O-O" else (if is_castling man QueenSide m then codes "O-O-O" else x)) e
+-- a pawn's text is the same whatever distinguishes others
+step_pawn : (p : PositionParts) (kind : Kind) (origin : Origin) (man : Man) (m : MoveParts) → is_pawn kind ≡ true → step_by p kind nowhere man m ≡ step_by p kind origin man m
+step_pawn p Pawn origin man m h = refl
+step_pawn p _ origin man m h = absurd (true≢false (sym h))
 
-step_pawn : (p : PositionParts) (kind : Kind) (man : Man) (m : MoveParts) → is_pawn kind ≡ true → plain_step p kind man m ≡ step_text p kind man m
-step_pawn p Pawn man m h = refl
-step_pawn p _ man m h = absurd (true≢false (sym h))
+pub pawn_text_is : (p : PositionParts) (man : Man) (m : MoveParts) → is_pawn man.kind ≡ true → text_by p man nowhere m ≡ bare_text p (Some man) m
+pawn_text_is p man m h =
+    ap (λ (x : List ℕ). if is_castling man KingSide m then codes "O-O" else (if is_castling man QueenSide m then codes "O-O-O" else x))
+    (step_pawn p man.kind (origin_of p man.kind m) man m h)
 
+-- who has no rival is not distinguished
 nobody : (from : ℕ) → origin_among [] from ≡ nowhere
 unfolding origin_among
 nobody from = refl
 
-step_piece : (p : PositionParts) (kind : Kind) (man : Man) (m : MoveParts) → is_pawn kind ≡ false → rivals p kind m.from m.to ≡ [] → plain_step p kind man m ≡ step_text p kind man m
-step_piece p Pawn man m h none = absurd (true≢false h)
-step_piece p Knight man m h none = ap (λ (o : Origin). piece_text Knight o (captures p man m) m.to) (sym (ap (λ (r : List MoveParts). origin_among r m.from) none ∙ nobody m.from))
-step_piece p Bishop man m h none = ap (λ (o : Origin). piece_text Bishop o (captures p man m) m.to) (sym (ap (λ (r : List MoveParts). origin_among r m.from) none ∙ nobody m.from))
-step_piece p Rook man m h none = ap (λ (o : Origin). piece_text Rook o (captures p man m) m.to) (sym (ap (λ (r : List MoveParts). origin_among r m.from) none ∙ nobody m.from))
-step_piece p Queen man m h none = ap (λ (o : Origin). piece_text Queen o (captures p man m) m.to) (sym (ap (λ (r : List MoveParts). origin_among r m.from) none ∙ nobody m.from))
-step_piece p King man m h none = ap (λ (o : Origin). piece_text King o (captures p man m) m.to) (sym (ap (λ (r : List MoveParts). origin_among r m.from) none ∙ nobody m.from))
+alone_text_is : (p : PositionParts) (man : Man) (m : MoveParts) → rivals p man.kind m.from m.to ≡ [] → text_by p man nowhere m ≡ bare_text p (Some man) m
+alone_text_is p man m none = ap (λ (o : Origin). text_by p man o m) (sym (ap (λ (r : List MoveParts). origin_among r m.from) none ∙ nobody m.from))
 
-plain_piece : (p : PositionParts) (kind : Kind) (man : Man) (m : MoveParts) → is_pawn kind ≡ false → plain_step p kind man m ≡ piece_text kind nowhere (captures p man m) m.to
+plain_piece : (p : PositionParts) (kind : Kind) (man : Man) (m : MoveParts) → is_pawn kind ≡ false → step_by p kind nowhere man m ≡ piece_text kind nowhere (captures p man m) m.to
 plain_piece p Pawn man m h = absurd (true≢false h)
 plain_piece p _ man m h = refl
 
@@ -130,30 +128,30 @@ king_alone p m kind one on king here =
 
 -- ---- the text
 
-whole : (p : PositionParts) (m : MoveParts) (man : Man) (text : List ℕ) → man_on p m.from ≡ Some man → text ≡ plain_text p man m → plain_text p man m ≡ bare_text p (Some man) m
+whole : (p : PositionParts) (m : MoveParts) (man : Man) (text : List ℕ) → man_on p m.from ≡ Some man → text ≡ text_by p man nowhere m → text_by p man nowhere m ≡ bare_text p (Some man) m
     → text ++ mark_text (after p m) ≡ san p m
 unfolding san
 whole p m man text here is same = ap (λ (x : List ℕ). x ++ mark_text (after p m)) (is ∙ same ∙ sym (ap (λ (o : Option Man). bare_text p o m) here))
 
-pub pawn_whole : (p : PositionParts) (m : MoveParts) (man : Man) (text : List ℕ) → man_on p m.from ≡ Some man → text ≡ plain_text p man m → is_pawn man.kind ≡ true
+pub pawn_whole : (p : PositionParts) (m : MoveParts) (man : Man) (text : List ℕ) → man_on p m.from ≡ Some man → text ≡ text_by p man nowhere m → is_pawn man.kind ≡ true
     → text ++ mark_text (after p m) ≡ san p m
-pawn_whole p m man text here is h = whole p m man text here is (same_text p man m (step_pawn p man.kind man m h))
+pawn_whole p m man text here is h = whole p m man text here is (pawn_text_is p man m h)
 
-pub king_whole : (p : PositionParts) (m : MoveParts) (man : Man) (text : List ℕ) → man_on p m.from ≡ Some man → text ≡ plain_text p man m → is_king man.kind ≡ true
+pub king_whole : (p : PositionParts) (m : MoveParts) (man : Man) (text : List ℕ) → man_on p m.from ≡ Some man → text ≡ text_by p man nowhere m → is_king man.kind ≡ true
     → IsSetup p → m.from < 64 → is_legal p m ≡ true → text ++ mark_text (after p m) ≡ san p m
 king_whole p m man text here is king setup on legal =
     let a = mover p m legal in
     let same : a.man ≡ man = some_man a.man man (sym a.here ∙ here) in
     let at : is_king_of p.side (man_on p m.from) ≡ true = king_here p m a (ap (λ (x : Man). is_king x.kind) same ∙ king) in
-    whole p m man text here is (same_text p man m (step_piece p man.kind man m (king_no_pawn man.kind king) (king_alone p m man.kind (setup.kings p.side) on king at)))
+    whole p m man text here is (alone_text_is p man m (king_alone p m man.kind (setup.kings p.side) on king at))
   where
     some_man : (x y : Man) → Some x ≡ Some y → x ≡ y
     some_man x y e = cc
 
-not_castled : (p : PositionParts) (man : Man) (m : MoveParts) → is_king man.kind ≡ false → plain_text p man m ≡ plain_step p man.kind man m
+not_castled : (p : PositionParts) (man : Man) (m : MoveParts) → is_king man.kind ≡ false → text_by p man nowhere m ≡ step_by p man.kind nowhere man m
 not_castled p man m h = rw (no_castling man KingSide m h, no_castling man QueenSide m h) refl
 
-pub piece_whole : (p : PositionParts) (m : MoveParts) (man : Man) (text read : List ℕ) → man_on p m.from ≡ Some man → text ≡ plain_text p man m → is_pawn man.kind ≡ false → is_king man.kind ≡ false
+pub piece_whole : (p : PositionParts) (m : MoveParts) (man : Man) (text read : List ℕ) → man_on p m.from ≡ Some man → text ≡ text_by p man nowhere m → is_pawn man.kind ≡ false → is_king man.kind ≡ false
     → m.to < 64 → san_reading p read ≡ Ok m → without_last_gaps marks read ≡ text → text ++ mark_text (after p m) ≡ san p m
 unfolding san_reading form_in form
 piece_whole p m man text read here is pawn king on reads bare =
@@ -162,4 +160,4 @@ piece_whole p m man text read here is pawn king on reads bare =
     let formed : bare_form (without_last_gaps marks read) ≡ Some (form p man.kind m pawn king) =
     ap bare_form same ∙ piece_read nowhere (captures p man m) m.to tt tt on man.kind pawn in
     let none = no_rivals p man.kind m pawn king (sym (ap (reading_by p) formed) ∙ reads) in
-    whole p m man text here is (same_text p man m (step_piece p man.kind man m pawn none))
+    whole p m man text here is (alone_text_is p man m none)
