@@ -4,7 +4,7 @@ use Rattle.std.specs.Prelude.{◌⊎◌, not, Result, Ok, Err, is_ok, OnOk, OnEr
 use Rattle.std.proofs.lemmas.Bool.{false≢true}
 use Rattle.std.proofs.lemmas.Bool.Decides.{nat_tests}
 use Rattle.std.proofs.lemmas.List.{length-append}
-use Rattle.std.proofs.lemmas.Option.{same_Some}
+use Rattle.std.proofs.lemmas.Option.{none-some, same_Some}
 use Rattle.chess_types.specs.board.MoveParts.{MoveParts}
 use Rattle.chess_types.specs.board.Legal.{is_legal}
 use Rattle.chess_types.specs.board.Lines.{Line, extended, last}
@@ -21,7 +21,7 @@ use Rattle.chess_tree.specs.Edits.{annotated, commented, parent, promoted, witho
 use Rattle.chess_tree.specs.Comments.{IsComment, has_brace, normalised}
 use Rattle.chess_tree.specs.GameTree.{GameTree, TreeParts, added, annotated_here, at_path, commented_here, commented_tree, deleted, find, has, here, line_to, nodes_here, promoted_here}
 use Rattle.chess_tree.specs.CursorLine.{GoesOn}
-use Rattle.chess_tree.specs.Plays.{IsAnswer, add_answer}
+use Rattle.chess_tree.specs.Plays.{Adds, IsAnswer, Plays, add_answer, led_to, legal_answer, play_answer, played}
 use Rattle.chess_tree.specs.WellFormed.{IsGameTree}
 use Rattle.chess_tree.specs.steps.Analysed.{IsAnalysed}
 use Rattle.chess_tree.proofs.EditLemmas as edits
@@ -144,6 +144,22 @@ no_longer t path game there = omega (arith, path_le_height path t.tree.below (ha
 
 pub found_line : (t new : TreeParts) (place : ℕ) (m : MoveParts) → new ≡ at_path (t.path ++ place ∷ []) t → Some place ≡ find m (nodes_here t) → line_to new ≡ extended (line_to t) m
 found_line t new place m e found = ap line_to e ∙ line_on t place m (find_some m (nodes_here t) place (sym found)).1
+
+-- to a child that has it
+pub plays_there : (t new : TreeParts) (m : MoveParts) → play_answer t m ≡ Ok tt → new ≡ played m t → line_to new ≡ extended (line_to t) m → Plays m t (Ok tt) new
+plays_there t new m answer is line = record { answer = inl (sym answer); found = λ _ _. refl; ok = is; line = line; err = tt }
+
+-- to a new one
+pub plays_new : (r : Result (Unit {0}) PlayFault) (t old new : TreeParts) (m : MoveParts) → find m (nodes_here t) ≡ None → old ≡ t → Adds m old r new → Plays m t r new
+plays_new r t old new m none same adds =
+    let is : Adds m t r new = subst (λ (x : TreeParts). Adds m x r new) same adds in
+    record {
+      answer = subst (λ (o : Option ℕ). IsAnswer (if not (is_legal (last (line_to t)) m) then Err Illegal else legal_answer t o) r) (sym none) is.answer;
+      found = λ place there. absurd (none-some place (sym none ∙ there));
+      ok = subst (λ (o : Option ℕ). OnOk r (new ≡ led_to m t o)) (sym none) is.ok;
+      line = is.line;
+      err = is.err;
+    }
 
 -- ---- a move that is added
 

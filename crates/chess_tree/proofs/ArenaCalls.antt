@@ -15,7 +15,7 @@ use Rattle.chess_tree.specs.steps.Laid.{IsArena, seen, standing, uses, Same}
 use Rattle.chess_tree.specs.steps.Freed.{IsPool, IsPut}
 use Rattle.chess_tree.specs.steps.Notes.{IsNotedAt}
 use Rattle.chess_tree.specs.steps.Writes.{detached, lifted}
-use Rattle.chess_tree.specs.steps.Siblings.{AreThere, IsFind, IsOwner, Owner}
+use Rattle.chess_tree.specs.steps.Siblings.{HasChild, IsFind, IsOwner, Owner}
 use Rattle.chess_tree.proofs.EditLemmas.{deeper, height_annotated, height_commented, height_node, path_le_height}
 use Rattle.chess_tree.proofs.TimesLemmas.{tally_same, tally_is, times_deep}
 use Rattle.chess_tree.proofs.LinkLemmas.{linked_one}
@@ -306,16 +306,17 @@ module _ (nodes : List Entry) (noted : ℕ → Noted) (free here : ℕ) (trail :
       )
 
   -- the parent's children
-  pub parent_there : (at place : ℕ) → 0 < length z.path → at ≡ (entry_at nodes here).parent → place ≡ (entry_at nodes here).place
-      → (at < length nodes) × (place < length (entry_at nodes at).children) × (length (entry_at nodes at).children ≤ 1000001)
-  parent_there at place h ea ep =
+  pub has_child : (at place : ℕ) → 0 < length z.path → at ≡ (entry_at nodes here).parent → place ≡ (entry_at nodes here).place → HasChild nodes at place
+  has_child at place h ea ep =
       let w = hangs h in
       let b = under_at w.init a.game in
       let o = subst (λ (x : ℕ). Owner nodes x b) (sym ea) w.owner in
-      (o.there, omega (arith, ep, w.place_is, w.short, count_is nodes at b o), omega (arith, few_children nodes at b o, a.few))
-
-  pub parent_children : (at : ℕ) → 0 < length z.path → at ≡ (entry_at nodes here).parent → AreThere nodes at
-  parent_children at h ea = let w = hangs h in are_there nodes at (under_at w.init a.game) (subst (λ (x : ℕ). Owner nodes x (under_at w.init a.game)) (sym ea) w.owner)
+      record {
+        node = o.there;
+        child = omega (arith, ep, w.place_is, w.short, count_is nodes at b o);
+        children = are_there nodes at b o;
+        few = omega (arith, few_children nodes at b o, a.few);
+      }
 
   -- ---- places
 

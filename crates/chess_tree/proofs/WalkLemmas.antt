@@ -1,13 +1,15 @@
 -- Walks of the cursor: to the root, along the main continuations, and along a path.
-use Rattle.std.proofs.Common.{◌≡◌, ℕ, zero, suc, ◌+◌, ◌<◌, ◌≤◌, ◌&&◌, Bool, true, false, nat_lt, List, [], ◌∷◌, ◌++◌, length, get_or, take, drop, Option, None, Some, refl, sym, subst, ap, ◌∙◌, arith, append_assoc, append-nil}
-use Rattle.std.specs.Prelude.{Result, Ok, Err, is_ok, OnOk, OnErr, MatchResult}
+use Rattle.std.proofs.Common.{◌≡◌, ℕ, zero, suc, ◌+◌, ◌<◌, ◌≤◌, ◌&&◌, Bool, true, false, nat_lt, List, [], ◌∷◌, ◌++◌, length, get_or, take, drop, Option, None, Some, refl, sym, ap, ◌∙◌, arith, append_assoc, append-nil}
+use Rattle.std.specs.Prelude.{Result, Ok, Err, is_ok}
 use Rattle.std.proofs.lemmas.Bool.{and_parts, false≢true}
 use Rattle.std.proofs.lemmas.Bool.Decides.{nat_tests}
 use Rattle.std.proofs.lemmas.List.{at_drop_more}
 use Rattle.std.proofs.lemmas.Option.{none-some}
 use Rattle.chess_tree.specs.Forest.{Forest, Bare, Node, NodeParts, below_at, below_child, child, count}
+use Rattle.chess_tree.specs.declared.fault.TreeFault.{TreeFault}
+use Rattle.chess_tree.specs.Calls.{GoesToEnd, StepsDown, StepsUp}
 use Rattle.chess_tree.specs.Edits.{parent}
-use Rattle.chess_tree.specs.GameTree.{TreeParts, at_path, has, line_to, main_line, moves_along, nodes_here}
+use Rattle.chess_tree.specs.GameTree.{TreeParts, at_path, has, line_to, main_line, nodes_here}
 use Rattle.chess_tree.specs.WellFormed.{Leads}
 use Rattle.chess_tree.proofs.LineLemmas.{along_append}
 
@@ -60,6 +62,14 @@ has_place (k ∷ path) zero f h within =
     grind (arith, nat_tests)
 has_place (k ∷ path) (suc i) f h within = has_place path i (below_child k f) (and_parts (nat_lt k (count f)) (has path (below_child k f)) h).1 (omega arith)
 
+-- where there is a node at a path, each step on the way finds its child
+pub goes_on : (path : List ℕ) (i : ℕ) (start now : TreeParts) → has path start.tree.below ≡ true → i < length path → now.tree ≡ start.tree → now.path ≡ take i path
+    → count (nodes_here now) ≤ get_or path i 0 → ⊥
+goes_on path i start now there within tree path_is none =
+    let some = has_place path i start.tree.below there within in
+    let same : nodes_here now ≡ below_at (take i path) start.tree.below = λ j. below_at (path_is j) (tree j).below in
+    omega (arith, some, none, ap count same)
+
 -- ---- to the root
 
 pub length_parent : (path : List ℕ) → 0 < length path → length (parent path) + 1 ≡ length path
@@ -67,11 +77,10 @@ length_parent [] h = absurd (omega arith)
 length_parent (k ∷ []) h = omega arith
 length_parent (k ∷ j ∷ path) h = omega (arith, length_parent (j ∷ path) (omega arith))
 
-pub back_smaller : {E : Type 0} (r : Result (Unit {0}) E) (Q : E → Type 0) (old new : TreeParts) → is_ok r ≡ true
-    → OnOk r (new ≡ at_path (parent old.path) old)
-    → MatchResult r (λ _. 0 < length old.path) Q → length new.path < length old.path
-back_smaller (Ok x) Q old new is ok some = omega (arith, ap (λ (t : TreeParts). length t.path) ok, length_parent old.path some)
-back_smaller (Err x) Q old new is ok some = absurd (false≢true is)
+pub back_smaller : (r : Result (Unit {0}) TreeFault) (old new : TreeParts) → is_ok r ≡ true → StepsUp (λ t. at_path (parent t.path) t) old r new
+    → length new.path < length old.path
+back_smaller (Ok x) old new is up = omega (arith, ap (λ (t : TreeParts). length t.path) up.ok, length_parent old.path up.at_root)
+back_smaller (Err x) old new is up = absurd (false≢true is)
 
 -- ---- along the main continuations
 
@@ -95,35 +104,34 @@ pub record Ending (start now : TreeParts) : Type 0 where
   pub tree : now.tree ≡ start.tree
   pub path : now.path ++ main_line (nodes_here now) ≡ start.path ++ main_line (nodes_here start)
 
--- a step to child 0 stays on it, and less is left
-pub ending_on : {E : Type 0} (r : Result (Unit {0}) E) (F : E → Type 0) (start old new : TreeParts) (place : ℕ) → is_ok r ≡ true
-    → OnOk r (new ≡ at_path (old.path ++ place ∷ []) old)
-    → MatchResult r (λ _. place < count (nodes_here old)) (λ fault. F fault × (count (nodes_here old) ≤ place)) → place ≡ 0 → Ending start old
-    → (length (main_line (nodes_here new)) < length (main_line (nodes_here old))) × Ending start new
-ending_on (Ok x) F start old new place is ok some zeroth so =
-    let step : new ≡ at_path (old.path ++ 0 ∷ []) old = subst (λ (k : ℕ). new ≡ at_path (old.path ++ k ∷ []) old) zeroth ok in
-    let left = stepped old.path old.tree.below (omega (arith, some, zeroth)) in (
-      omega (arith, ap (λ (t : TreeParts). length (main_line (nodes_here t))) step, ap length left),
-      record {
-        tree = ap (λ (t : TreeParts). t.tree) step ∙ so.tree;
-        path = ap (λ (t : TreeParts). t.path ++ main_line (nodes_here t)) step
-            ∙ append_assoc old.path (0 ∷ []) (main_line (below_at (old.path ++ 0 ∷ []) old.tree.below)) ∙ ap (λ (p : List ℕ). old.path ++ p) (sym left) ∙ so.path;
-      },
-    )
-ending_on (Err x) F start old new place is ok some zeroth so = absurd (false≢true is)
+-- a step to child 0 leaves less
+pub ending_smaller : (r : Result (Unit {0}) TreeFault) (old new : TreeParts) → is_ok r ≡ true → StepsDown 0 old r new
+    → length (main_line (nodes_here new)) < length (main_line (nodes_here old))
+ending_smaller (Ok x) old new is down =
+    omega (arith, ap (λ (t : TreeParts). length (main_line (nodes_here t))) down.ok, ap length (stepped old.path old.tree.below down.no_such))
+ending_smaller (Err x) old new is down = absurd (false≢true is)
+
+-- and stays on it
+pub ending_on : (r : Result (Unit {0}) TreeFault) (start old new : TreeParts) → is_ok r ≡ true → StepsDown 0 old r new → Ending start old → Ending start new
+ending_on (Ok x) start old new is down so = record {
+  tree = ap (λ (t : TreeParts). t.tree) down.ok ∙ so.tree;
+  path = ap (λ (t : TreeParts). t.path ++ main_line (nodes_here t)) down.ok
+      ∙ append_assoc old.path (0 ∷ []) (main_line (below_at (old.path ++ 0 ∷ []) old.tree.below))
+      ∙ ap (λ (p : List ℕ). old.path ++ p) (sym (stepped old.path old.tree.below down.no_such)) ∙ so.path;
+}
+ending_on (Err x) start old new is down so = absurd (false≢true is)
 
 -- where there is no child 0, it ends
-pub ending_there : {E : Type 0} (r : Result (Unit {0}) E) (F : E → Type 0) (start old new : TreeParts) (place : ℕ) → is_ok r ≡ false
-    → OnErr r (new ≡ old)
-    → MatchResult r (λ _. place < count (nodes_here old)) (λ fault. F fault × (count (nodes_here old) ≤ place)) → place ≡ 0 → Ending start old
-    → (new ≡ at_path (start.path ++ main_line (nodes_here start)) start)
-    × ((line_to new).moves ≡ (line_to start).moves ++ moves_along (main_line (nodes_here start)) (nodes_here start))
-ending_there (Ok x) F start old new place is err none zeroth so = absurd (false≢true (sym is))
-ending_there (Err x) F start old new place is err none zeroth so =
-    let last = main_none (nodes_here old) (omega (arith, none.1, zeroth)) in
+pub ending_there : (r : Result (Unit {0}) TreeFault) (start old new : TreeParts) → is_ok r ≡ false → StepsDown 0 old r new → Ending start old → GoesToEnd start new
+ending_there (Ok x) start old new is down so = absurd (false≢true (sym is))
+ending_there (Err x) start old new is down so =
+    let last = main_none (nodes_here old) (omega (arith, down.no_such.1)) in
     let path : old.path ≡ start.path ++ main_line (nodes_here start) = sym (ap (λ (p : List ℕ). old.path ++ p) last ∙ append-nil old.path) ∙ so.path in
-    let there = err ∙ (λ i. record { tree = so.tree i; path = path i }) in
-    (there, ap (λ (t : TreeParts). (line_to t).moves) there ∙ along_append start.path (main_line (nodes_here start)) start.tree.below)
+    let there = down.err ∙ (λ i. record { tree = so.tree i; path = path i }) in
+    record {
+      path = there;
+      line = ap (λ (t : TreeParts). (line_to t).moves) there ∙ along_append start.path (main_line (nodes_here start)) start.tree.below;
+    }
 
 -- where there is a node, the path leads to it
 pub has_leads : (path : List ℕ) (f : Forest) → has path f ≡ true → Leads path f

@@ -6,5 +6,6 @@ pub mod Comments
 pub mod GameTree
 pub mod WellFormed
 pub mod CursorLine
+pub mod Calls
 pub mod Plays
 pub mod steps

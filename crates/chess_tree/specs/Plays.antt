@@ -3,10 +3,11 @@
 --   play_answer   the same where a child that has the move is stepped to
 --   played        the tree and the cursor once a move is played
 --   IsAnswer      want of memory is answered only where nothing else is wrong
-use Rattle.std.specs.Prelude.{◌≡◌, ◌⊎◌, ℕ, nat_le, not, if◌then◌else◌, [], ◌∷◌, ◌++◌, length, Option, None, Some, Result, Ok, Err}
+--   Adds, Plays   what the calls answer and leave
+use Rattle.std.specs.Prelude.{◌≡◌, ◌⊎◌, ℕ, nat_le, not, if◌then◌else◌, [], ◌∷◌, ◌++◌, length, Option, None, Some, Result, Ok, Err, OnErr, OnOk}
 use Rattle.chess_types.specs.board.MoveParts.{MoveParts}
 use Rattle.chess_types.specs.board.Legal.{is_legal}
-use Rattle.chess_types.specs.board.Lines.{last}
+use Rattle.chess_types.specs.board.Lines.{extended, last}
 use Rattle.chess_draws.specs.Pushes.{most_plies}
 use Rattle.chess_tree.specs.declared.fault.PlayFault.{PlayFault}
 use Rattle.chess_tree.specs.declared.fault.PlayFault.TheVariants.{Illegal, TooLong, Full, Memory}
@@ -38,3 +39,18 @@ played m t = led_to m t (find m (nodes_here t))
 -- this answer, or for want of memory `Memory`
 abbrev pub IsAnswer : Result (Unit {0}) PlayFault → Result (Unit {0}) PlayFault → Type 0
 IsAnswer answer result = (result ≡ answer) ⊎ ((answer ≡ Ok tt) × (result ≡ Err Memory))
+
+-- A move is added and stepped into. All is as before where it is refused.
+pub record Adds (m : MoveParts) (old : TreeParts) (result : Result (Unit {0}) PlayFault) (new : TreeParts) : Type 0 where
+  pub answer : IsAnswer (add_answer old m) result
+  pub ok : OnOk result (new ≡ added m old)
+  pub line : OnOk result (line_to new ≡ extended (line_to old) m)
+  pub err : OnErr result (new ≡ old)
+
+-- A move is played. A step to a child that has it takes no memory. All is as before where it is refused.
+pub record Plays (m : MoveParts) (old : TreeParts) (result : Result (Unit {0}) PlayFault) (new : TreeParts) : Type 0 where
+  pub answer : IsAnswer (play_answer old m) result
+  pub found : (place : ℕ) → find m (nodes_here old) ≡ Some place → result ≡ Ok tt
+  pub ok : OnOk result (new ≡ played m old)
+  pub line : OnOk result (line_to new ≡ extended (line_to old) m)
+  pub err : OnErr result (new ≡ old)

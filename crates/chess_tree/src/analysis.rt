@@ -1,4 +1,4 @@
-ghost use Rattle.std.specs.Prelude.{◌≡◌, ℕ, ◌<◌, ◌≤◌, [], length, true, Some, Err, IfErr, IfOk, IsTrue, Ok, OnErr, OnOk, nat_le, if◌then◌else◌};
+ghost use Rattle.std.specs.Prelude.{◌≡◌, ◌<◌, ◌≤◌, [], length, true, false, None, Err, IfErr, IfOk, IsTrue, Ok, OnErr, OnOk, nat_le, if◌then◌else◌};
 ghost use Rattle.chess_types.specs.board.Legal.{is_legal};
 ghost use Rattle.chess_types.specs.board.Lines.{extended, last};
 ghost use Rattle.chess_draws.specs.Pushes.{most_plies};
@@ -7,7 +7,7 @@ ghost use Rattle.chess_tree.specs.declared.fault.PlayFault.TheVariants.{Full as 
 ghost use Rattle.chess_tree.specs.Forest.{Bare, moves_held, most_moves};
 ghost use Rattle.chess_tree.specs.GameTree.{added, at_path, find, line_to, nodes_here};
 ghost use Rattle.chess_tree.specs.WellFormed.{IsGameTree};
-ghost use Rattle.chess_tree.specs.Plays.{IsAnswer, add_answer, play_answer, played};
+ghost use Rattle.chess_tree.specs.Plays.{Adds, IsAnswer, Plays, play_answer, played};
 
 mod asked;
 mod edits;
@@ -159,27 +159,37 @@ impl<'a, 'k, A: Allocator> Analysis<'a, 'k, A> {
         self.line.position()
     }
 
+    // Steps to the first child that has the move, if there is one. It takes no memory.
+    #[tactic(auto, using(crate::proofs::AnalysisLemmas::found_line))]
+    fn follow(&mut self, m: Move) -> bool
+        ensures answer { result ≡ true → play_answer self.old m ≡ Ok tt }
+        ensures played { result ≡ true → self.new ≡ played m self.old }
+        ensures line { result ≡ true → line_to self.new ≡ extended (line_to self.old) m }
+        ensures none { result ≡ false → find m (nodes_here self.old) ≡ None }
+        ensures stays { result ≡ false → self.new ≡ self.old }
+    {
+        let Some(place) = self.tree.find(m) else {
+            return false;
+        };
+        let Ok(()) = self.step(place) else {
+            unreachable!();
+        };
+        true
+    }
+
     /// Plays a move: steps to the first child that has it, else adds it.
     ///
     /// # Errors
     ///
     /// Those of `add`; none where a child has the move. All is then as before.
-    #[tactic(auto, using(crate::proofs::AnalysisLemmas::found_line))]
+    #[tactic(auto, using(crate::proofs::AnalysisLemmas::plays_there, crate::proofs::AnalysisLemmas::plays_new))]
     pub fn play(&mut self, m: Move) -> Result<(), PlayFault>
-        ensures answer { IsAnswer (play_answer self.old m) result }
-        // A step takes no memory.
-        ensures found { (place : ℕ) → find m (nodes_here self.old) ≡ Some place → result ≡ Ok tt }
-        ensures ok { OnOk result (self.new ≡ played m self.old) }
-        ensures line { OnOk result (line_to self.new ≡ extended (line_to self.old) m) }
-        ensures err { OnErr result (self.new ≡ self.old) }
+        ensures { Plays m self.old result self.new }
     {
-        let Some(place) = self.tree.find(m) else {
-            return self.add(m);
-        };
-        let Ok(()) = self.step(place) else {
-            unreachable!();
-        };
-        Ok(())
+        if self.follow(m) {
+            return Ok(());
+        }
+        self.add(m)
     }
 
     /// The same with a move that is known to be legal, as `read_move` answers it: it isn't asked again.
@@ -187,23 +197,15 @@ impl<'a, 'k, A: Allocator> Analysis<'a, 'k, A> {
     /// # Errors
     ///
     /// Those of `add_legal`; none where a child has the move. All is then as before.
-    #[tactic(auto, using(crate::proofs::AnalysisLemmas::found_line))]
+    #[tactic(auto, using(crate::proofs::AnalysisLemmas::plays_there, crate::proofs::AnalysisLemmas::plays_new))]
     pub fn play_legal(&mut self, m: Move) -> Result<(), PlayFault>
         requires legal { IsTrue (is_legal (last (line_to self.old)) m) }
-        ensures answer { IsAnswer (play_answer self.old m) result }
-        // A step takes no memory.
-        ensures found { (place : ℕ) → find m (nodes_here self.old) ≡ Some place → result ≡ Ok tt }
-        ensures ok { OnOk result (self.new ≡ played m self.old) }
-        ensures line { OnOk result (line_to self.new ≡ extended (line_to self.old) m) }
-        ensures err { OnErr result (self.new ≡ self.old) }
+        ensures { Plays m self.old result self.new }
     {
-        let Some(place) = self.tree.find(m) else {
-            return self.add_legal(m);
-        };
-        if self.step(place).is_err() {
-            unreachable!();
+        if self.follow(m) {
+            return Ok(());
         }
-        Ok(())
+        self.add_legal(m)
     }
 
     /// Adds a move as a child of its own, after the others, whether or not one of them has it, and steps into it.
@@ -213,10 +215,7 @@ impl<'a, 'k, A: Allocator> Analysis<'a, 'k, A> {
     /// `Illegal` where the move isn't legal, else `TooLong` where the cursor is 20,000 plies deep, else `Full` where the tree holds
     /// 1,000,000 moves, else `Memory` where there is none. All is then as before.
     pub fn add(&mut self, m: Move) -> Result<(), PlayFault>
-        ensures answer { IsAnswer (add_answer self.old m) result }
-        ensures ok { OnOk result (self.new ≡ added m self.old) }
-        ensures line { OnOk result (line_to self.new ≡ extended (line_to self.old) m) }
-        ensures err { OnErr result (self.new ≡ self.old) }
+        ensures { Adds m self.old result self.new }
     {
         if !self.line.is_legal(m) {
             return Err(PlayFault::Illegal);
@@ -231,10 +230,7 @@ impl<'a, 'k, A: Allocator> Analysis<'a, 'k, A> {
     /// Those of `add` but `Illegal`. All is then as before.
     pub fn add_legal(&mut self, m: Move) -> Result<(), PlayFault>
         requires legal { IsTrue (is_legal (last (line_to self.old)) m) }
-        ensures answer { IsAnswer (add_answer self.old m) result }
-        ensures ok { OnOk result (self.new ≡ added m self.old) }
-        ensures line { OnOk result (line_to self.new ≡ extended (line_to self.old) m) }
-        ensures err { OnErr result (self.new ≡ self.old) }
+        ensures { Adds m self.old result self.new }
     {
         match self.line.make_room() {
             Ok(()) => {}

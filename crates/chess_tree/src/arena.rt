@@ -216,8 +216,7 @@ impl<'a, A: Allocator> Arena<'a, A> {
         ensures { self.new ≡ deleted_root self.old }
     {
         let child = self.here;
-        let at = self.nodes.parent(child);
-        let place = self.nodes.place(child);
+        let (at, place) = siblings::seat(&self.nodes, child);
         siblings::detach(&mut self.nodes, at, place);
         let_go(&mut self.nodes, &mut self.free, child);
         let Some(_gone) = self.trail.pop() else {
@@ -231,8 +230,7 @@ impl<'a, A: Allocator> Arena<'a, A> {
         requires { 0 < length self.old.path }
         ensures { self.new ≡ promoted_root self.old }
     {
-        let at = self.nodes.parent(self.here);
-        let place = self.nodes.place(self.here);
+        let (at, place) = siblings::seat(&self.nodes, self.here);
         siblings::lift(&mut self.nodes, at, place);
     }
 

@@ -1,13 +1,13 @@
-ghost use Rattle.std.specs.Prelude.{◌≡◌, ◌<◌, ◌≤◌, ◌++◌, ◌∷◌, [], nat_le, true, length, Err, MatchResult, IfOk, IfErr, OnOk, OnErr};
+ghost use Rattle.std.specs.Prelude.{◌≡◌, ◌<◌, ◌≤◌, [], nat_le, true, length, Err, MatchResult, IfOk, IfErr, OnOk, OnErr};
 ghost use Rattle.chess_types.specs.board.Legal.{is_legal};
 ghost use Rattle.chess_types.specs.board.Lines.{extended, last};
 ghost use Rattle.chess_draws.specs.Pushes.{most_plies};
-ghost use Rattle.chess_tree.specs.declared.fault.TreeFault.TheVariants.{NoSuch, AtRoot, Full, Memory};
+ghost use Rattle.chess_tree.specs.declared.fault.TreeFault.TheVariants.{AtRoot, Full, Memory};
 ghost use Rattle.chess_tree.specs.Forest.{Bare, count, height, moves_held, most_moves};
 ghost use Rattle.chess_tree.specs.Edits.{parent};
 ghost use Rattle.chess_tree.specs.GameTree.{added, at_path, line_to, nodes_here};
 ghost use Rattle.chess_tree.specs.WellFormed.{IsGameTree};
-ghost use Rattle.chess_tree.specs.CursorLine.{GoesOn};
+ghost use Rattle.chess_tree.specs.Calls.{StepsDown, StepsUp};
 
 mod comment;
 mod cursor;
@@ -122,12 +122,20 @@ impl<'a, A: Allocator> Tree<'a, A> {
         Ok(())
     }
 
+    // Refuses what the root has none of.
+    #[inline(always)]
+    fn below_root(&self) -> Result<(), TreeFault>
+        ensures { MatchResult result (λ _. 0 < length self.now.path) (λ fault. (fault ≡ AtRoot) × (self.now.path ≡ [])) }
+    {
+        if self.nodes.depth() == 0 {
+            return Err(TreeFault::AtRoot);
+        }
+        Ok(())
+    }
+
     /// Steps to the child at that place, from 0. `NoSuch` where there is none.
     pub fn step(&mut self, place: u32) -> Result<(), TreeFault>
-        ensures ok { OnOk result (self.new ≡ at_path (self.old.path ++ place ∷ []) self.old) }
-        ensures line { OnOk result (GoesOn self.old self.new) }
-        ensures err { OnErr result (self.new ≡ self.old) }
-        ensures no_such { MatchResult result (λ _. place < count (nodes_here self.old)) (λ fault. (fault ≡ NoSuch) × (count (nodes_here self.old) ≤ place)) }
+        ensures { StepsDown place self.old result self.new }
     {
         if !self.nodes.down(place) {
             return Err(TreeFault::NoSuch);
@@ -137,14 +145,9 @@ impl<'a, A: Allocator> Tree<'a, A> {
 
     /// Steps to the parent. `AtRoot` at the root.
     pub fn back(&mut self) -> Result<(), TreeFault>
-        ensures ok { OnOk result (self.new ≡ at_path (parent self.old.path) self.old) }
-        ensures line { OnOk result (GoesOn self.new self.old) }
-        ensures err { OnErr result (self.new ≡ self.old) }
-        ensures at_root { MatchResult result (λ _. 0 < length self.old.path) (λ fault. (fault ≡ AtRoot) × (self.old.path ≡ [])) }
+        ensures { StepsUp (λ t. at_path (parent t.path) t) self.old result self.new }
     {
-        if self.nodes.depth() == 0 {
-            return Err(TreeFault::AtRoot);
-        }
+        self.below_root()?;
         self.nodes.up();
         Ok(())
     }

@@ -103,6 +103,9 @@ first_heights (Node m nags comment b next) rest node is rest_is =
 
 -- ---- what is kept after a visit
 
+pub kept_one : (v : Visit) (first old one whole : List Visit) → whole ≡ v ∷ first → one ≡ first ++ old → whole ++ old ≡ v ∷ one
+kept_one v first old one whole is kept = ap (λ (vs : List Visit). vs ++ old) is ∙ ap (λ (vs : List Visit). v ∷ vs) (sym kept)
+
 pub kept_two : (v : Visit) (first second old one two whole : List Visit) → whole ≡ v ∷ (first ++ second) → one ≡ second ++ old → two ≡ first ++ one → whole ++ old ≡ v ∷ two
 kept_two v first second old one two whole is kept kept_more =
     ap (λ (vs : List Visit). vs ++ old) is ∙ ap (λ (vs : List Visit). v ∷ vs) (append_assoc first second old ∙ ap (λ (vs : List Visit). first ++ vs) (sym kept) ∙ sym kept_more)

@@ -105,6 +105,27 @@ fn make<A: Allocator>(line: &mut Line<'_, A>, m: Move) -> ArrayString<8>
 }
 
 impl<'t, 'k, 'a, A: Allocator> Replay<'t, 'k, 'a, A> {
+    ghost use Rattle.chess_walk.specs.steps.Lines.{AreReplayable, replayed};
+
+    // A walk that begins at the root of a tree, with the moves made.
+    fn over(
+        alloc: &'a A,
+        table: &'k KeyTable,
+        tree: &Tree<'a, A>,
+        walk: Walk<'t, 'a, A>,
+    ) -> Replay<'t, 'k, 'a, A>
+        requires { AreReplayable (record { start = tree.now.tree.start; moves = [] }) walk }
+        ensures { result ≡ replayed (record { start = tree.now.tree.start; moves = [] }) walk.entry }
+    {
+        let Ok(start) = tree.position().clone() else {
+            unreachable!();
+        };
+        Replay {
+            walk,
+            line: Line::start(alloc, start, table),
+        }
+    }
+
     /// All nodes of a tree but the root. Keys are kept by the words of the table. Want of memory is answered.
     pub fn of(
         alloc: &'a A,
@@ -113,14 +134,9 @@ impl<'t, 'k, 'a, A: Allocator> Replay<'t, 'k, 'a, A> {
     ) -> Result<Replay<'t, 'k, 'a, A>, AllocError>
         ensures { IfOk result (λ replay. replay ≡ played false (record { start = tree.now.tree.start; moves = [] }) 1 0 None tree.now.tree.below) }
     {
-        let Ok(start) = tree.position().clone() else {
-            unreachable!();
-        };
+        let _ = tree.position();
         let walk = Walk::of(alloc, tree)?;
-        Ok(Replay {
-            walk,
-            line: Line::start(alloc, start, table),
-        })
+        Ok(Replay::over(alloc, table, tree, walk))
     }
 
     /// The nodes of a tree's main line but the root. Keys are kept by the words of the table. Want of memory is answered.
@@ -131,14 +147,9 @@ impl<'t, 'k, 'a, A: Allocator> Replay<'t, 'k, 'a, A> {
     ) -> Result<Replay<'t, 'k, 'a, A>, AllocError>
         ensures { IfOk result (λ replay. replay ≡ main_played (record { start = tree.now.tree.start; moves = [] }) 1 tree.now.tree.below) }
     {
-        let Ok(start) = tree.position().clone() else {
-            unreachable!();
-        };
+        let _ = tree.position();
         let walk = Walk::main_line(alloc, tree)?;
-        Ok(Replay {
-            walk,
-            line: Line::start(alloc, start, table),
-        })
+        Ok(Replay::over(alloc, table, tree, walk))
     }
 }
 

@@ -84,6 +84,25 @@ fn resumed<A: Allocator>(node: &NodeRef<'_, '_, A>, others: &Children<'_, '_, A>
 impl<'t, 'a, A: Allocator> Todo<'t, 'a, A> {
     ghost use Rattle.chess_walk.specs.steps.Todos.{AreFit, Fits, all_left, is_some_node, left_of, seen};
 
+    // Nodes side by side, by what is known of them.
+    fn of(
+        kind: Kind,
+        depth: u32,
+        level: u32,
+        again: Option<Move>,
+        nodes: Children<'t, 'a, A>,
+    ) -> Todo<'t, 'a, A>
+        ensures { result ≡ record { kind = kind; depth = depth; level = level; again = again; nodes = nodes.entry } }
+    {
+        Todo {
+            kind,
+            depth,
+            level,
+            again,
+            nodes,
+        }
+    }
+
     // Keeps nodes for later, unless there is none.
     fn keep(self, todo: &mut Vec<Todo<'t, 'a, A>, &'a A>)
         requires room { vec_len todo.old < vec_capacity todo.old }
@@ -100,93 +119,6 @@ impl<'t, 'a, A: Allocator> Todo<'t, 'a, A> {
         todo.push_reserved(self);
     }
 
-    // The first of a main line; what follows it is kept.
-    fn main(self, todo: &mut Vec<Todo<'t, 'a, A>, &'a A>) -> Visit<'t, 'a, A>
-        requires kind { self.kind ≡ kind.Main }
-        requires room { vec_len todo.old + 1 < vec_capacity todo.old }
-        requires fits { Fits self }
-        requires fit { AreFit todo.old.items }
-        ensures left { left_of self.entry ++ all_left todo.old.items ≡ seen result ∷ all_left todo.new.items }
-        ensures fit { AreFit todo.new.items }
-    {
-        let Todo {
-            depth,
-            mut nodes,
-            ..
-        } = self;
-        let Some(node) = nodes.next() else {
-            unreachable!();
-        };
-        main_line(depth + 1, node.below()).keep(todo);
-        Visit {
-            depth,
-            level: 0,
-            begins: false,
-            again: None,
-            node,
-        }
-    }
-
-    // The first of a line; the others are kept as variations, and what follows it for after them.
-    fn line(self, todo: &mut Vec<Todo<'t, 'a, A>, &'a A>) -> Visit<'t, 'a, A>
-        requires kind { self.kind ≡ kind.Line }
-        requires room { vec_len todo.old + 1 < vec_capacity todo.old }
-        requires fits { Fits self }
-        requires fit { AreFit todo.old.items }
-        ensures left { left_of self.entry ++ all_left todo.old.items ≡ seen result ∷ all_left todo.new.items }
-        ensures fit { AreFit todo.new.items }
-    {
-        let Todo {
-            depth,
-            level,
-            again,
-            mut nodes,
-            ..
-        } = self;
-        let Some(node) = nodes.next() else {
-            unreachable!();
-        };
-        let goes_on = resumed(&node, &nodes);
-        line(depth + 1, level, goes_on, node.below()).keep(todo);
-        variations(depth, level + 1, nodes).keep(todo);
-        Visit {
-            depth,
-            level,
-            begins: false,
-            again,
-            node,
-        }
-    }
-
-    // The first of some variations; what follows it is kept, and the others for after that.
-    fn variation(self, todo: &mut Vec<Todo<'t, 'a, A>, &'a A>) -> Visit<'t, 'a, A>
-        requires kind { self.kind ≡ kind.Variations }
-        requires room { vec_len todo.old + 1 < vec_capacity todo.old }
-        requires fits { Fits self }
-        requires fit { AreFit todo.old.items }
-        ensures left { left_of self.entry ++ all_left todo.old.items ≡ seen result ∷ all_left todo.new.items }
-        ensures fit { AreFit todo.new.items }
-    {
-        let Todo {
-            depth,
-            level,
-            mut nodes,
-            ..
-        } = self;
-        let Some(node) = nodes.next() else {
-            unreachable!();
-        };
-        variations(depth, level, nodes).keep(todo);
-        line(depth + 1, level, None, node.below()).keep(todo);
-        Visit {
-            depth,
-            level,
-            begins: true,
-            again: None,
-            node,
-        }
-    }
-
     // The first; the others and what follows are kept.
     fn visit(self, todo: &mut Vec<Todo<'t, 'a, A>, &'a A>) -> Visit<'t, 'a, A>
         requires room { vec_len todo.old + 1 < vec_capacity todo.old }
@@ -195,72 +127,58 @@ impl<'t, 'a, A: Allocator> Todo<'t, 'a, A> {
         ensures left { left_of self.entry ++ all_left todo.old.items ≡ seen result ∷ all_left todo.new.items }
         ensures fit { AreFit todo.new.items }
     {
-        match self.kind {
-            Kind::Main => self.main(todo),
-            Kind::Line => self.line(todo),
-            Kind::Variations => self.variation(todo),
+        let Todo {
+            kind,
+            depth,
+            level,
+            again,
+            mut nodes,
+        } = self;
+        let Some(node) = nodes.next() else {
+            unreachable!();
+        };
+        let (level, begins, again) = match kind {
+            Kind::Main => {
+                Todo::of(Kind::Main, depth + 1, 0, None, node.below()).keep(todo);
+                (0, false, None)
+            }
+            Kind::Line => {
+                let goes_on = resumed(&node, &nodes);
+                Todo::of(Kind::Line, depth + 1, level, goes_on, node.below()).keep(todo);
+                Todo::of(Kind::Variations, depth, level + 1, None, nodes).keep(todo);
+                (level, false, again)
+            }
+            Kind::Variations => {
+                Todo::of(Kind::Variations, depth, level, None, nodes).keep(todo);
+                Todo::of(Kind::Line, depth + 1, level, None, node.below()).keep(todo);
+                (level, true, None)
+            }
+        };
+        Visit {
+            depth,
+            level,
+            begins,
+            again,
+            node,
         }
     }
 }
 
-// Nodes of which the first is on the main line.
-fn main_line<'t, 'a, A: Allocator>(depth: u32, nodes: Children<'t, 'a, A>) -> Todo<'t, 'a, A>
-    ensures { result ≡ record { kind = kind.Main; depth = depth; level = 0; again = None; nodes = nodes.entry } }
-{
-    Todo {
-        kind: Kind::Main,
-        depth,
-        level: 0,
-        again: None,
-        nodes,
-    }
-}
-
-// Nodes of which the first is on a line, and the others are variations.
-fn line<'t, 'a, A: Allocator>(
-    depth: u32,
-    level: u32,
-    again: Option<Move>,
-    nodes: Children<'t, 'a, A>,
-) -> Todo<'t, 'a, A>
-    ensures { result ≡ record { kind = kind.Line; depth = depth; level = level; again = again; nodes = nodes.entry } }
-{
-    Todo {
-        kind: Kind::Line,
-        depth,
-        level,
-        again,
-        nodes,
-    }
-}
-
-// Nodes that are variations.
-fn variations<'t, 'a, A: Allocator>(
-    depth: u32,
-    level: u32,
-    nodes: Children<'t, 'a, A>,
-) -> Todo<'t, 'a, A>
-    ensures { result ≡ record { kind = kind.Variations; depth = depth; level = level; again = None; nodes = nodes.entry } }
-{
-    Todo {
-        kind: Kind::Variations,
-        depth,
-        level,
-        again: None,
-        nodes,
-    }
-}
-
 impl<'t, 'a, A: Allocator> Walk<'t, 'a, A> {
-    ghost use Rattle.chess_walk.specs.steps.Todos.{Fits, is_some_node, left_of};
+    ghost use Rattle.chess_walk.specs.steps.Todos.{least_apart, left_as};
 
-    // A walk over nodes.
-    fn over(alloc: &'a A, first: Todo<'t, 'a, A>) -> Result<Walk<'t, 'a, A>, AllocError>
-        requires fits { is_some_node first.nodes ≡ true → Fits first }
-        ensures { IfOk result (λ walk. walk ≡ left_of first.entry) }
+    // A walk over nodes side by side, to which depths count from the one above them.
+    fn over(
+        alloc: &'a A,
+        kind: Kind,
+        nodes: Children<'t, 'a, A>,
+    ) -> Result<Walk<'t, 'a, A>, AllocError>
+        requires level { least_apart kind ≤ 1 }
+        requires height { height nodes ≤ most_plies }
+        ensures { IfOk result (λ walk. walk ≡ left_as kind 1 0 None nodes.entry) }
     {
         let mut todo = Vec::with_capacity(alloc, 1)?;
-        first.keep(&mut todo);
+        Todo::of(kind, 1, 0, None, nodes).keep(&mut todo);
         Ok(Walk { todo })
     }
 
@@ -269,7 +187,7 @@ impl<'t, 'a, A: Allocator> Walk<'t, 'a, A> {
         ensures { IfOk result (λ walk. walk ≡ visits false 1 0 None tree.now.tree.below) }
     {
         let _ = tree.position();
-        Walk::over(alloc, line(1, 0, None, tree.root().below()))
+        Walk::over(alloc, Kind::Line, tree.root().below())
     }
 
     /// All nodes below a node, to which depths count from it. Want of memory is answered.
@@ -277,7 +195,7 @@ impl<'t, 'a, A: Allocator> Walk<'t, 'a, A> {
         requires { height node.now.below ≤ most_plies }
         ensures { IfOk result (λ walk. walk ≡ visits false 1 0 None node.now.below) }
     {
-        Walk::over(alloc, line(1, 0, None, node.below()))
+        Walk::over(alloc, Kind::Line, node.below())
     }
 
     /// The nodes of a tree's main line but the root. Want of memory is answered.
@@ -285,7 +203,7 @@ impl<'t, 'a, A: Allocator> Walk<'t, 'a, A> {
         ensures { IfOk result (λ walk. walk ≡ of_main 1 tree.now.tree.below) }
     {
         let _ = tree.position();
-        Walk::over(alloc, main_line(1, tree.root().below()))
+        Walk::over(alloc, Kind::Main, tree.root().below())
     }
 
     /// Ends the walk: no node is given any more.

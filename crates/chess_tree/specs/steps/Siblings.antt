@@ -2,6 +2,7 @@
 --   Owner       the nodes below that one
 --   IsOwner     there are such nodes
 --   AreThere    the numbers of its children are those of nodes
+--   HasChild    it has a child at that place
 --   IsFind      the first of them with a move
 use Rattle.std.specs.Prelude.{◌≡◌, ℕ, ◌<◌, ◌≤◌, List, length, Option}
 use Rattle.std.proofs.Common.{get_or}
@@ -30,6 +31,13 @@ IsOwner nodes at = (below : Grove) × Owner nodes at below
 -- each of its children is a node
 abbrev pub AreThere : List Entry → ℕ → Type 0
 AreThere nodes at = (k : ℕ) → k < length (entry_at nodes at).children → get_or (entry_at nodes at).children k 0 < length nodes
+
+-- it is a node, each of its children is one, and there is one at the place
+pub record HasChild (nodes : List Entry) (at place : ℕ) : Type 0 where
+  pub node : at < length nodes
+  pub child : place < length (entry_at nodes at).children
+  pub children : AreThere nodes at
+  pub few : length (entry_at nodes at).children ≤ 1000001
 
 -- the place of the first child with that move
 abbrev pub IsFind : List Entry → ℕ → MoveParts → Option ℕ → Type 0

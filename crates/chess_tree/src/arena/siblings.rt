@@ -2,7 +2,7 @@ ghost use Rattle.std.specs.Prelude.{◌≡◌, ◌<◌, ◌≤◌, ◌+◌, ◌-
 ghost use Rattle.std.proofs.Common.{get_or};
 ghost use Rattle.chess_tree.specs.GameTree.{find, is_move};
 ghost use Rattle.chess_tree.specs.steps.Entries.{entry_at};
-ghost use Rattle.chess_tree.specs.steps.Siblings.{AreThere, IsFind, IsOwner};
+ghost use Rattle.chess_tree.specs.steps.Siblings.{AreThere, HasChild, IsFind, IsOwner};
 ghost use Rattle.chess_tree.specs.steps.Writes.{detached, lifted, placed};
 
 use super::node_id::NodeId;
@@ -51,12 +51,18 @@ fn renumber<A: Allocator>(nodes: &mut Nodes<'_, A>, at: NodeId, from: u32, to: u
     }
 }
 
+/// Whose child a node is, and at which place.
+pub(crate) fn seat<A: Allocator>(nodes: &Nodes<'_, A>, child: NodeId) -> (NodeId, u32)
+    requires { child < length nodes.now }
+    ensures parent { result.0 ≡ (entry_at nodes.now child).parent }
+    ensures place { result.1 ≡ (entry_at nodes.now child).place }
+{
+    (nodes.parent(child), nodes.place(child))
+}
+
 /// Takes the child at a place out of the children of a node. It goes over those after it.
 pub(crate) fn detach<A: Allocator>(nodes: &mut Nodes<'_, A>, at: NodeId, place: u32)
-    requires node { at < length nodes.old }
-    requires child { place < length (entry_at nodes.old at).children }
-    requires children { AreThere nodes.old at }
-    requires few { length (entry_at nodes.old at).children ≤ 1000001 }
+    requires { HasChild nodes.old at place }
     ensures { nodes.new ≡ detached at place nodes.old }
 {
     nodes.remove_child(at, place);
@@ -66,10 +72,7 @@ pub(crate) fn detach<A: Allocator>(nodes: &mut Nodes<'_, A>, at: NodeId, place: 
 
 /// Moves the child at a place before the other children of a node. It goes over those before it.
 pub(crate) fn lift<A: Allocator>(nodes: &mut Nodes<'_, A>, at: NodeId, place: u32)
-    requires node { at < length nodes.old }
-    requires child { place < length (entry_at nodes.old at).children }
-    requires children { AreThere nodes.old at }
-    requires few { length (entry_at nodes.old at).children ≤ 1000001 }
+    requires { HasChild nodes.old at place }
     ensures { nodes.new ≡ lifted at place nodes.old }
 {
     nodes.move_first(at, place);

@@ -1,7 +1,6 @@
-ghost use Rattle.std.specs.Prelude.{◌≡◌, [], true, false, Ok, Err, IfOk, IfErr, IsOk, OnOk, OnErr};
-ghost use Rattle.chess_tree.specs.declared.fault.TreeFault.TheVariants.{BadComment, Memory};
-ghost use Rattle.chess_tree.specs.Comments.{has_brace, normalised, with_next_word};
-ghost use Rattle.chess_tree.specs.GameTree.{commented_here, line_to};
+ghost use Rattle.std.specs.Prelude.{◌≡◌, [], IfOk, IsOk, OnOk};
+ghost use Rattle.chess_tree.specs.Calls.{Comments};
+ghost use Rattle.chess_tree.specs.Comments.{normalised, with_next_word};
 
 use super::Tree;
 use crate::fault::TreeFault;
@@ -39,12 +38,7 @@ impl<'a, A: Allocator> Tree<'a, A> {
     /// Sets the comment at the cursor (PGN 8.2.5): the words of the text with one space between two; an empty one removes it.
     /// `BadComment` where a right brace stands in it, else `Memory` where there is none; a text without words takes none.
     pub fn set_comment(&mut self, text: &[u8]) -> Result<(), TreeFault>
-        ensures ok { OnOk result (self.new ≡ commented_here (normalised text.now) self.old) }
-        ensures line { line_to self.new ≡ line_to self.old }
-        ensures err { OnErr result (self.new ≡ self.old) }
-        ensures bad_comment { has_brace text.now ≡ true → result ≡ Err BadComment }
-        ensures memory { has_brace text.now ≡ false → IfErr result (λ fault. fault ≡ Memory) }
-        ensures no_words { has_brace text.now ≡ false → normalised text.now ≡ [] → result ≡ Ok tt }
+        ensures { Comments text.now self.old result self.new }
     {
         if text.contains(&b'}') {
             return Err(TreeFault::BadComment);

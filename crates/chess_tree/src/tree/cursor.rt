@@ -4,7 +4,8 @@ ghost use Rattle.chess_tree.specs.Forest.{count};
 ghost use Rattle.chess_types.specs.board.Legal.{is_legal};
 ghost use Rattle.chess_types.specs.board.Lines.{last};
 ghost use Rattle.chess_draws.specs.Pushes.{most_plies};
-ghost use Rattle.chess_tree.specs.GameTree.{at_path, find, has, line_along, line_to, main_line, moves_along, nodes_here};
+ghost use Rattle.chess_tree.specs.GameTree.{at_path, find, has, line_along, line_to, nodes_here};
+ghost use Rattle.chess_tree.specs.Calls.{GoesTo, GoesToEnd};
 ghost use Rattle.chess_tree.specs.CursorLine.{GoesOn};
 
 use super::Tree;
@@ -68,9 +69,9 @@ impl<'a, A: Allocator> Tree<'a, A> {
     }
 
     /// Steps along the main continuations to a node without children.
+    #[tactic(auto, using(crate::proofs::WalkLemmas::ending_smaller, crate::proofs::WalkLemmas::ending_on))]
     pub fn end(&mut self)
-        ensures path { self.new ≡ at_path (self.old.path ++ main_line (nodes_here self.old)) self.old }
-        ensures line { (line_to self.new).moves ≡ (line_to self.old).moves ++ moves_along (main_line (nodes_here self.old)) (nodes_here self.old) }
+        ensures { GoesToEnd self.old self.new }
     {
         while self.step(0).is_ok() {}
     }
@@ -89,16 +90,24 @@ impl<'a, A: Allocator> Tree<'a, A> {
         true
     }
 
-    /// Steps to the node at that path from the root. `NoSuch` where there is none; the cursor stays then.
-    pub fn goto(&mut self, path: &[u32]) -> Result<(), TreeFault>
-        ensures ok { OnOk result (self.new ≡ at_path path.now self.old) }
-        ensures line { OnOk result (line_to self.new ≡ line_along path.now self.old.tree) }
-        ensures err { OnErr result (self.new ≡ self.old) }
-        ensures no_such { MatchResult result (λ _. has path.now self.old.tree.below ≡ true) (λ fault. (fault ≡ NoSuch) × (has path.now self.old.tree.below ≡ false)) }
+    // Refuses a path that leads to no node, as none of more than 20,000 plies does.
+    pub(crate) fn check_path(&self, path: &[u32]) -> Result<(), TreeFault>
+        ensures there { MatchResult result (λ _. has path.now self.now.tree.below ≡ true) (λ fault. (fault ≡ NoSuch) × (has path.now self.now.tree.below ≡ false)) }
+        ensures short { OnOk result (length path.now ≤ most_plies) }
     {
+        let _ = &self.start;
         if !self.has(path) {
             return Err(TreeFault::NoSuch);
         }
+        Ok(())
+    }
+
+    /// Steps to the node at that path from the root. `NoSuch` where there is none, as at each of more
+    /// than 20,000 plies; the cursor stays then.
+    pub fn goto(&mut self, path: &[u32]) -> Result<(), TreeFault>
+        ensures { GoesTo path.now self.old result self.new }
+    {
+        self.check_path(path)?;
         self.start();
         for place in path {
             let Ok(()) = self.step(*place) else {

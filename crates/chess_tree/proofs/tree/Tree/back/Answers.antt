@@ -1,9 +1,14 @@
-use Rattle.std.proofs.Common.{arith}
+use Rattle.std.proofs.Common.{rules}
 use Rattle.chess_tree.proofs.KeptLemmas.{kept_up}
 use Rattle.chess_tree.proofs.tree.Tree.back.Goals as goal
 
 pub invariant_of-self : goal.invariant_of-self
-invariant_of-self g c = (kept_up _ _ c.self.invariant _ (omega (arith, c.if-depth-eq0.false, c.depth.ensures)) c.up.ensures).0
+invariant_of-self g c = (kept_up _ _ c.self.invariant _ (rw (← c.self.view_is) at c.in_ok-below_root.ensures) c.up.ensures).0
 
-pub returns-clause-line : goal.returns-clause-line
-returns-clause-line g c = rw (← c.self.view_is) (kept_up _ _ c.self.invariant _ (omega (arith, c.if-depth-eq0.false, c.depth.ensures)) c.up.ensures).1
+pub returns : goal.returns
+returns g c = record {
+  ok = search rules;
+  line = rw (← c.self.view_is) (kept_up _ _ c.self.invariant _ (rw (← c.self.view_is) at c.in_ok-below_root.ensures) c.up.ensures).1;
+  err = tt;
+  at_root = c.in_ok-below_root.ensures;
+}

@@ -1,12 +1,7 @@
-use Rattle.std.proofs.Common.{take, sym, ap, ◌∙◌, arith}
-use Rattle.chess_tree.specs.Forest.{below_at, count}
-use Rattle.chess_tree.specs.GameTree.{GameTree}
-use Rattle.chess_tree.proofs.WalkLemmas.{has_place}
+use Rattle.chess_tree.proofs.WalkLemmas.{goes_on}
 use Rattle.chess_tree.proofs.tree.Tree.goto.Goals as goal
 
 pub unreachable-requires : goal.unreachable-requires
 unreachable-requires g c =
-    let within = has_place c.args.path.now c.loop-place.place-index c.args.self.now.tree.below (sym c.has.ensures ∙ c.if-not-has.false) c.loop-place-test.true in
-    let there = ap (λ p. count (below_at p c.loop-place.self.tree.below)) c.loop-place.invariant.path in
-    let tree = ap (λ (t : GameTree). count (below_at (take c.loop-place.place-index c.args.path.now) t.below)) c.loop-place.invariant.tree in
-    omega (arith, within, there, tree, c.in_default.ensures.no_such.1)
+    goes_on c.args.path.now c.loop-place.place-index c.args.self.now c.loop-place.self c.in_ok-check_path.ensures.there c.loop-place-test.true c.loop-place.invariant.tree c.loop-place.invariant.path
+    c.in_default.ensures.no_such.1
