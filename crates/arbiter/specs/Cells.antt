@@ -83,7 +83,6 @@ row_text Jsonl cells = print (object cells) ++ codes "\n"
 -- what a value is
 abbrev pub value_of : values.Value → Value
 value_of (variant.Number n) = Number n
-value_of (variant.Word text) = Text text.now
 value_of (variant.Text text) = Text text.now
 value_of (variant.Truth b) = Truth b
 value_of variant.Nothing = Nothing

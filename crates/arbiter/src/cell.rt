@@ -5,8 +5,6 @@ ghost use Rattle.arbiter.specs.Cells.{Number, Text, Truth, Nothing, cell_of, may
 #[derive(Clone, Copy)]
 pub enum Value<'v> {
     Number(u64),
-    /// A text of the program's own.
-    Word(&'static str),
     /// A text of any bytes.
     Text(&'v [u8]),
     Truth(bool),
@@ -44,20 +42,14 @@ pub fn any_number<'v>(name: &'static str, value: Option<u32>) -> Cell<'v>
 pub fn word<'v>(name: &'static str, value: &'static str) -> Cell<'v>
     ensures { cell_of result ≡ (name.now, Text value.now) }
 {
-    Cell {
-        name,
-        value: Value::Word(value),
-    }
+    text(name, value.as_bytes())
 }
 
 /// A text of the program's own, if it is there.
 pub fn any_word<'v>(name: &'static str, value: Option<&'static str>) -> Cell<'v>
     ensures { cell_of result ≡ (name.now, maybe Text (option_map (λ v. v.now) value.entry)) }
 {
-    match value {
-        Some(value) => word(name, value),
-        None => nothing(name),
-    }
+    any_text(name, value.map(|value| value.as_bytes()))
 }
 
 /// A text of any bytes.

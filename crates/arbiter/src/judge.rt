@@ -3,7 +3,7 @@ ghost use Rattle.chess_items.specs.Sections.{PassesOver};
 ghost use Rattle.chess_pgn.specs.Sources.{GoesOn, IsSound};
 ghost use Rattle.chess_pgn.specs.steps.GameCode.{game_of};
 ghost use Rattle.arbiter.specs.Collections.{Bad, Found, JudgeEnds, header_text, row_of};
-ghost use Rattle.arbiter.specs.steps.Judging.{NotOn, WritesText, is_lack};
+ghost use Rattle.arbiter.specs.steps.Judging.{IsReady, NotOn, WritesText, is_lack};
 ghost use Rattle.arbiter.specs.steps.Reports.{IsReportOf};
 
 use crate::columns::{HEADER, fault_row, game_row, has_finding};
@@ -134,9 +134,7 @@ fn write_rows<R: Source, W: Sink>(
     writer: &mut W,
     progress: &mut Progress<'_>,
 ) -> Result<u64, Failure>
-    requires sound { IsSound R.ended games.old }
-    requires none { games.old.fault ≡ None }
-    requires writer { W.failed writer.old ≡ false }
+    requires { IsReady R.ended W.failed games.old writer.old }
     ensures { JudgeEnds R.gives R.failed R.ended W.takes W.failed maker.now.asked games.old games.new writer.old writer.new result }
 {
     if write_all(writer, header(maker.asked.format)).is_err() {
@@ -188,9 +186,7 @@ pub fn judge<R: Source, W: Sink>(
     writer: &mut W,
     progress: &mut Progress<'_>,
 ) -> Result<u64, Failure>
-    requires sound { IsSound R.ended games.old }
-    requires none { games.old.fault ≡ None }
-    requires writer { W.failed writer.old ≡ false }
+    requires { IsReady R.ended W.failed games.old writer.old }
     ensures { JudgeEnds R.gives R.failed R.ended W.takes W.failed asked games.old games.new writer.old writer.new result }
 {
     let table = KeyTable::fixed();

@@ -31,7 +31,6 @@ fn push(fields: &mut ByteRecord, value: Value<'_>) -> Result<(), AllocError>
 {
     match value {
         Value::Number(number) => fields.push_field(Buffer::new().format(number).as_bytes()),
-        Value::Word(text) => fields.push_field(text.as_bytes()),
         Value::Text(text) => fields.push_field(text),
         Value::Truth(truth) => fields.push_field(if truth { b"true" } else { b"false" }),
         Value::Nothing => fields.push_field(b""),
@@ -94,7 +93,6 @@ fn put_value(alloc: Global, writer: &mut Writer, value: Value<'_>) -> Result<(),
 {
     match value {
         Value::Number(number) => writer.u64(number),
-        Value::Word(text) => put_text(alloc, writer, text.as_bytes()),
         Value::Text(text) => put_text(alloc, writer, text),
         Value::Truth(truth) => writer.boolean(truth),
         Value::Nothing => writer.null(),

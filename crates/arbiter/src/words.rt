@@ -1,7 +1,7 @@
 use crate::judge::Asked;
 use crate::row::Format;
-use chess_programs::{Refused, VERSION, why_refused};
-use clap::{Arg, ArgAction, Command, Error};
+use chess_programs::{Refused, VERSION, flag, progress_flag, why_refused};
+use clap::{Arg, Command, Error};
 use std::alloc::Global;
 use std::convert::AsStr;
 
@@ -23,27 +23,22 @@ whether the marker agrees. A game that can't be read has a row with its fault. d
 status is 0, 2 where a game could not be read, 1 for wrong words, 3 where a stream or memory failed.";
 
 fn matched<S: AsStr>(alloc: Global, words: &[S]) -> Result<Words, Error> {
-    let findings = Arg::new(alloc, "findings")
-        .long("findings")
-        .help(
-            "only games that went on after they were over, whose marker disagrees with the board, or that can't be read",
-        )
-        .action(ArgAction::SetTrue);
+    let findings = flag(
+        alloc,
+        "findings",
+        "only games that went on after they were over, whose marker disagrees with the board, or that can't be read",
+    );
     let format = Arg::new(alloc, "format")
         .long("format")
         .help("comma-separated values with a header row (RFC 4180), or a JSON object a line")
         .value_parser(["csv", "jsonl"].as_slice());
-    let progress = Arg::new(alloc, "progress")
-        .long("progress")
-        .help("bytes and games so far, once a second, on the standard error")
-        .action(ArgAction::SetTrue);
     let command = Command::new(alloc, "arbiter")
         .about(ABOUT)
         .version(VERSION)
         .after_help(AFTER)
         .arg(findings)?
         .arg(format)?
-        .arg(progress)?;
+        .arg(progress_flag(alloc))?;
     let matches = command.try_get_matches_from(words)?;
     let format = match matches.get_str("format") {
         Some("jsonl") => Format::Jsonl,

@@ -89,9 +89,6 @@ module _ {R : Type 0} {gives : R → List ℕ → R → Type 0} {failed : R → 
   many : (new : AtHand R) → new ≡ now → now.reads ≡ 0 → Breaks gives failed now new
   many new same none = inr (ap (λ (x : AtHand R). x.source) same, none)
 
-  pub off_many : now.reads ≡ 0 → Off now Read
-  off_many none = (not_ended, bytes ∷ [], now, (now, came, refl), many now refl none, not_all)
-
   -- no buffer could be made
   off_poor : (new : AtHand R) → new ≡ now → Off new Memory
   off_poor new same = (not_ended, bytes ∷ [], (now, came, sym same))
@@ -104,12 +101,6 @@ module _ {R : Type 0} {gives : R → List ℕ → R → Type 0} {failed : R → 
     where
       one : Came gives failed now r.piece new
       one = record { pieces = r.piece ∷ []; calls = (new.source, r.call, refl); whole = append-nil r.piece; counted = r.counted; small = r.small; placed = r.placed; well = r.after.0; each = λ e. (r.after.1, tt); ended_still = λ e. absurd (not_all e) }
-
-  pub off_fault : (ended : R → Type 0) (new : AtHand R) (e : Fault) → Tries gives ended failed now new (Err e) → Off new e
-  off_fault ended new Read (inl p) = (let wrong : Read ≡ Memory = err_is Read Memory p.0 in cc)
-  off_fault ended new Read (inr r) = (not_ended, bytes ∷ [], now, (now, came, refl), fails ended new r, not_all)
-  off_fault ended new Memory (inl p) = off_poor new p.1
-  off_fault ended new Memory (inr r) = off_read ended new r
 
   -- the bytes at hand don't decide the item that they begin with
   module _ (ended : R → Type 0) (place : Place) (longer : unread now ≡ unread old ++ bytes) (undecided : Decides place (unread now) → ⊥) where

@@ -4,7 +4,7 @@ use Rattle.std.specs.List.{prefix_len, list_all}
 use Rattle.std.proofs.lemmas.Bool.{ltb-false}
 use Rattle.std.proofs.lemmas.Bool.Decides.{nat_tests}
 use Rattle.std.proofs.lemmas.List.{take-append-drop}
-use Rattle.chess_items.specs.Items.{Each, digits_value, glyph_value, in_braces, in_line, is_blank, is_digit, is_escapable, is_glyph, is_name_byte, is_plain, is_word_byte}
+use Rattle.chess_items.specs.Items.{Blank, Each, digits_value, glyph_value, in_braces, in_line, is_blank, is_digit, is_escapable, is_glyph, is_name_byte, is_plain, is_word_byte}
 use Rattle.chess_items.specs.steps.ItemAt.{Found, run_at, word_found, nag_found, small, digits_found, glyph_found, hidden_found, line_found, braces_found, name_found, stretch_found, hidden_at, sign_at, outside_at, tag_at, escaped_at, value_at, mark_at, start_at, item_at}
 use Rattle.chess_items.specs.steps.Deciding.{longer, Decides, sign_open, outside_open, tag_open, escape_open, value_open, mark_open, start_open, is_open}
 use Rattle.chess_items.specs.declared.place.Place.{Place}
@@ -178,23 +178,28 @@ sign_closed start b bytes more e =
     agree (eqb b 36) _ _ _ _ _ _ more e (λ w h. digits_closed bytes more h) (λ w e.
     one_more (eqb b 40) _ _ _ _ more refl (one_more (eqb b 41) _ _ _ _ more refl (one_more (eqb b 42) _ _ _ _ more refl (one_more (eqb b 46) _ _ _ _ more refl (one_more (eqb b 91) _ _ _ _ more refl refl))))))))
 
+-- a run of a class, a blank, or what else begins with the byte
+run_or_closed : (p : ℕ → Bool) (f : List ℕ → List ℕ → Found) → Natural f → (b : ℕ) (bytes more : List ℕ) (o : Bool) (x y : Found) → cond (p b) (list_all p bytes) (cond (is_blank b) false o) ≡ false → (o ≡ false → x ≡ longer y more)
+    → cond (p b) (run_at p f (b ∷ bytes ++ more)) (cond (is_blank b) (Some (Blank b, bytes ++ more)) x) ≡ longer (cond (p b) (run_at p f (b ∷ bytes)) (cond (is_blank b) (Some (Blank b, bytes)) y)) more
+run_or_closed p f natural b bytes more o x y e other =
+    agree (p b) _ _ _ _ _ _ more e (λ w h. run_closed p f (b ∷ bytes) more natural (rw w h)) (λ w e.
+    agree (is_blank b) _ _ _ _ _ _ more e (λ w h. refl) (λ w h. other h))
+
 outside_closed : (start : Bool) (front more : List ℕ) → outside_open start front ≡ false → outside_at start (front ++ more) ≡ longer (outside_at start front) more
 unfolding outside_open outside_at
 outside_closed start [] more e = absurd cc
 outside_closed start (b ∷ bytes) more e =
-    agree (is_word_byte b) _ _ _ _ _ _ more e (λ w h. run_closed is_word_byte word_found (b ∷ bytes) more word_natural (rw w h)) (λ w e.
-    agree (is_blank b) _ _ _ _ _ _ more e (λ w h. refl) (λ w e.
-    agree (is_glyph b) _ _ _ _ _ _ more e (λ w h. glyph_closed b bytes more w h) (λ w e. sign_closed start b bytes more e)))
+    run_or_closed is_word_byte word_found word_natural b bytes more _ _ _ e (λ e.
+    agree (is_glyph b) _ _ _ _ _ _ more e (λ w h. glyph_closed b bytes more w h) (λ w e. sign_closed start b bytes more e))
 
 tag_closed : (start : Bool) (front more : List ℕ) → tag_open start front ≡ false → tag_at start (front ++ more) ≡ longer (tag_at start front) more
 unfolding tag_open tag_at
 tag_closed start [] more e = absurd cc
 tag_closed start (b ∷ bytes) more e =
-    agree (is_name_byte b) _ _ _ _ _ _ more e (λ w h. run_closed is_name_byte name_found (b ∷ bytes) more name_natural (rw w h)) (λ w e.
-    agree (is_blank b) _ _ _ _ _ _ more e (λ w h. refl) (λ w e.
+    run_or_closed is_name_byte name_found name_natural b bytes more _ _ _ e (λ e.
     agree (eqb b 34) _ _ _ _ _ _ more e (λ w h. refl) (λ w e.
     agree (eqb b 93) _ _ _ _ _ _ more e (λ w h. refl) (λ w e.
-    agree (eqb b 37) _ _ _ _ _ _ more e (λ w h. hidden_closed start bytes more h) (λ w e. refl)))))
+    agree (eqb b 37) _ _ _ _ _ _ more e (λ w h. hidden_closed start bytes more h) (λ w e. refl))))
 
 escape_closed : (bytes more : List ℕ) → escape_open bytes ≡ false → escaped_at (bytes ++ more) ≡ longer (escaped_at bytes) more
 escape_closed [] more e = absurd cc

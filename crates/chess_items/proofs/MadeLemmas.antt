@@ -3,12 +3,13 @@ use Rattle.std.proofs.Common.{◌≡◌, ◌⊎◌, ℕ, ◌+◌, ◌≤◌, inl
 use Rattle.byte_streams.specs.Calls.{joined}
 use Rattle.chess_items.specs.steps.Deciding.{Decides}
 use Rattle.chess_items.specs.Coming.{AtHand, unread}
-use Rattle.chess_items.specs.steps.AtHands.{Needed, HasRead, Readied}
+use Rattle.chess_items.specs.steps.AtHands.{Brought, Needed, HasRead, Readied}
 use Rattle.chess_items.specs.steps.Texts.{Near, Needs, AfterCame, MadeReady}
 use Rattle.chess_items.specs.declared.at_hand.Fault.{Fault}
 use Rattle.chess_items.specs.declared.place.Place.{Place}
 use Rattle.chess_items.proofs.BreakLemmas.{brings, ends_truly, has_all, size_at_hand}
 use Rattle.chess_items.proofs.ReadLemmas.{joined_small}
+use Rattle.chess_items.proofs.ReadyLemmas.{so_far}
 
 near_on : (place : Place) (front p all : List ℕ) → length p ≤ 65536 → (Decides place front → ⊥) → Near place (front ++ p) all → Near place front all
 near_on place front p all small undecided (inl e) = inr (front, p, e, small, undecided)
@@ -47,38 +48,38 @@ module _ {R : Type 0} (gives : R → List ℕ → R → Type 0) (ended : R → T
       let l : length (unread new) ≡ length (unread old) + length (joined pieces) = ap length e ∙ length-append (unread old) (joined pieces) in
       omega (arith, k, l, counted)
 
-  asks : (is_ready : Bool) (r : HasRead gives ended failed most place old new is_ready) → Needs unread (has_all gives failed) place old (joined r.pieces) new
-  asks is_ready r = by (last_of most place (unread old) r.pieces r.needed)
+  asks : (b : Brought gives ended failed most place old new) → Needs unread (has_all gives failed) place old (joined b.pieces) new
+  asks b = by (last_of most place (unread old) b.pieces b.needed)
     where
-      by : (r.pieces ≡ []) ⊎ LastOf place (unread old) r.pieces → Needs unread (has_all gives failed) place old (joined r.pieces) new
-      by (inl e) = inl (ap joined e, r.quiet e)
-      by (inr h) = inr (h.0, h.1, h.2, h.3, h.4, λ e. h.5 (r.at_end e).0)
+      by : (b.pieces ≡ []) ⊎ LastOf place (unread old) b.pieces → Needs unread (has_all gives failed) place old (joined b.pieces) new
+      by (inl e) = inl (ap joined e, b.quiet e)
+      by (inr h) = inr (h.0, h.1, h.2, h.3, h.4, λ e. h.5 (b.at_end e).0)
 
-  came_after : (is_ready : Bool) (r : HasRead gives ended failed most place old new is_ready) → AfterCame (brings gives failed) unread (has_all gives failed) (ends_truly gives failed ended) (size_at_hand gives failed) most place old (joined r.pieces) new is_ready
+  came_after : (is_ready : Bool) (r : HasRead gives ended failed most place old new is_ready) → AfterCame (brings gives failed) unread (has_all gives failed) (ends_truly gives failed ended) (size_at_hand gives failed) most place old (joined r.brought.pieces) new is_ready
   came_after false r = record {
-    longer = r.whole;
+    longer = r.brought.whole;
     over = r.after.0;
     undecided = r.after.1;
-    asked = asks false r;
-    at_end = λ e. (ap joined (r.at_end e).0, (r.at_end e).1);
-    sound_still = r.ended_so;
-    held = (λ few. rw (r.whole) (held_of most place (unread old) r.pieces r.needed few));
+    asked = asks r.brought;
+    at_end = λ e. (ap joined (r.brought.at_end e).0, (r.brought.at_end e).1);
+    sound_still = r.brought.ended_so;
+    held = (λ few. rw (r.brought.whole) (held_of most place (unread old) r.brought.pieces r.brought.needed few));
   }
   came_after true r = record {
-    longer = r.whole;
+    longer = r.brought.whole;
     decided = r.after;
-    near = rw (r.whole) (near_of most place (unread old) r.pieces r.needed);
-    asked = asks true r;
-    at_end = λ e. (ap joined (r.at_end e).0, (r.at_end e).1);
-    sound_still = r.ended_so;
-    no_larger = size_falls r.pieces r.needed r.counted r.whole;
-    held = (λ few. rw (r.whole) (held_of most place (unread old) r.pieces r.needed few));
+    near = rw (r.brought.whole) (near_of most place (unread old) r.brought.pieces r.brought.needed);
+    asked = asks r.brought;
+    at_end = λ e. (ap joined (r.brought.at_end e).0, (r.brought.at_end e).1);
+    sound_still = r.brought.ended_so;
+    no_larger = size_falls r.brought.pieces r.brought.needed r.brought.counted r.brought.whole;
+    held = (λ few. rw (r.brought.whole) (held_of most place (unread old) r.brought.pieces r.brought.needed few));
   }
 
   pub made_ready : (result : Result Bool Fault) → Readied gives ended failed most place old new result → MadeReady (brings gives failed) unread (has_all gives failed) (ends_truly gives failed ended) (size_at_hand gives failed) most place old new result
   made_ready (Err e) r = tt
   made_ready (Ok is_ready) r = record {
-    more = joined r.pieces;
-    came = record { pieces = r.pieces; calls = r.calls; whole = refl; counted = r.counted; small = joined_small most place (unread old) r.pieces r.needed; placed = r.placed; well = r.well; each = r.each; ended_still = λ e. (r.at_end e).1 };
+    more = joined r.brought.pieces;
+    came = so_far r.brought;
     after = came_after is_ready r;
   }

@@ -4,16 +4,14 @@ use Rattle.std.proofs.lemmas.List.{take-append-drop, take-append-le}
 use Rattle.std.specs.Str.{byte}
 use Rattle.byte_streams.specs.Calls.{Calls, joined}
 use Rattle.byte_streams.proofs.CallLemmas.{Calls-more, joined-more}
-use Rattle.chess_items.specs.Items.{Item, TagOpen, is_white, may_stand, place_after}
+use Rattle.chess_items.specs.Items.{Item, TagOpen, may_stand}
 use Rattle.chess_items.specs.steps.ItemAt.{Found, item_at}
 use Rattle.chess_items.specs.steps.Deciding.{longer, Decides, is_open}
 use Rattle.chess_items.specs.steps.Firsts.{IsFirst}
 use Rattle.chess_items.specs.steps.Texts.{Oversized, Near, Needs, MadeReady, IsReady, Keeps}
-use Rattle.chess_items.specs.steps.Taking.{TakesOne, Brackets, Offered, UsesItem, Next, AfterStop, Settles, Steps, settled}
+use Rattle.chess_items.specs.steps.Taking.{TakesOne, Brackets, Offered, UsesItem, Next, AfterStop, Settles, Steps}
 use Rattle.chess_items.specs.declared.place.Place.{Place}
 use Rattle.chess_items.specs.declared.place.Place.TheVariants.{InLine}
-use Rattle.chess_items.specs.declared.taking.Answer.{Answer}
-use Rattle.chess_items.specs.declared.taking.Answer.TheVariants as answer
 use Rattle.chess_items.specs.declared.taking.Stop.{Stop}
 use Rattle.chess_items.specs.declared.taking.Stop.TheVariants as stop
 use Rattle.chess_items.specs.declared.taking.Step.{Step}
@@ -252,7 +250,7 @@ module _ {X : Type 0} {comes : X → List ℕ → X → Type 0} {at_hand : X →
             })
 
         -- it isn't used
-        step_stops : (why : Stop) (u : T) → Offered takes at item used most t u (answer.Stops why) → Steps comes at_hand all sound size takes at most place old mid t u (Ok (step.Stops why))
+        step_stops : (why : Stop) (u : T) → Offered takes at most place item used t u (step.Stops why) → Steps comes at_hand all sound size takes at most place old mid t u (Ok (step.Stops why))
         step_stops stop.Left u o = stops stop.Left u (item, next_item, o)
         step_stops (stop.Refused fault) u o = stops (stop.Refused fault) u (item, next_item, o)
         step_stops stop.TooLarge u o = step_over o.0 u o.1
@@ -303,23 +301,26 @@ module _ {X : Type 0} {comes : X → List ℕ → X → Type 0} {at_hand : X →
         all_calls : Calls comes old pieces new
         all_calls = Calls-more comes old mid new ready.pieces [] ready.came k.came
 
-      module _ {T : Type 0} {takes : TakesOne T} {at : ℕ} {t u : T} {next : Place} {white : Bool} (e : next ≡ place_after place item) (h : white ≡ is_white item) where
-        settles : {new : X} (a : Answer) → Offered takes at item used most t u a → Settles comes at_hand all sound size (length rest) a mid new
-            → Steps comes at_hand all sound size takes at most place old new t u (Ok (settled a next used white))
-        settles {new} answer.GoesOn o k = record { pieces = pieces k; came = all_calls k; after = (item, uses k o.1, o.0, e, h) }
-        settles {new} answer.Ends o k = record { pieces = pieces k; came = all_calls k; after = (item, uses k o.1, o.0, e, h) }
-        settles {new} (answer.Stops why) o k = subst (λ (x : X). Steps comes at_hand all sound size takes at most place old x t u (Ok (step.Stops why))) (sym k) (step_stops why u o)
+        uses_as : {T : Type 0} {takes : TakesOne T} (len : ℕ) → used ≤ most → len ≡ used → UsesItem comes at_hand all sound size takes most place old pieces new item len
+        uses_as {takes = takes} len few e = subst (λ (n : ℕ). UsesItem comes at_hand all sound size takes most place old pieces new item n) (sym e) (uses few)
 
-        pub step_settled : {new : X} {one : Step} (a : Answer) → Offered takes at item used most t u a → one ≡ settled a next used white → Settles comes at_hand all sound size (length rest) a mid new
+      module _ {T : Type 0} {takes : TakesOne T} {at : ℕ} {t u : T} where
+        settles : {new : X} (one : Step) → Offered takes at most place item used t u one → Settles comes at_hand all sound size (length rest) one mid new → Steps comes at_hand all sound size takes at most place old new t u (Ok one)
+        settles {new} (step.On next len white) o k = record { pieces = pieces k; came = all_calls k; after = (item, uses_as k len o.1 o.2, o.0, o.3, o.4) }
+        settles {new} (step.Full next len white) o k = record { pieces = pieces k; came = all_calls k; after = (item, uses_as k len o.1 o.2, o.0, o.3, o.4) }
+        settles {new} (step.Stops why) o k = subst (λ (x : X). Steps comes at_hand all sound size takes at most place old x t u (Ok (step.Stops why))) (sym k) (step_stops why u o)
+
+        pub step_settled : {new : X} {one : Step} (offered : Step) → Offered takes at most place item used t u offered → one ≡ offered → Settles comes at_hand all sound size (length rest) offered mid new
             → Steps comes at_hand all sound size takes at most place old new t u (Ok one)
-        step_settled {new} {one} a o is k = subst (λ (x : Step). Steps comes at_hand all sound size takes at most place old new t u (Ok x)) (sym is) (settles a o k)
+        step_settled {new} offered o is k = subst (λ (x : Step). Steps comes at_hand all sound size takes at most place old new t u (Ok x)) (sym is) (settles offered o k)
 
 -- the first item within a line, at once
-pub step_first : {X T : Type 0} {comes : X → List ℕ → X → Type 0} {at_hand : X → List ℕ} {all sound : X → Type 0} {size : X → ℕ} {takes : TakesOne T} {at most : ℕ} {old new : X} {t u : T} {item : Item} {again : List ℕ} {left : ℕ} {next : Place} {white : Bool} {one : Step}
-    (first : IsFirst (at_hand old) item left) → sound old → again ≡ at_hand old → next ≡ place_after InLine item → white ≡ is_white item → (a : Answer)
-    → Offered takes at item (length again - left) most t u a → one ≡ settled a next (length again - left) white → Settles comes at_hand all sound size left a old new
-    → Steps comes at_hand all sound size takes at most InLine old new t u (Ok one)
-step_first {comes = comes} {at_hand} {all} {sound} {size} {takes} {at} {most} {old} {new} {t} {u} {item} {again} {left} {next} {white} {one} first sure once_more e h a =
+pub step_first : {X T : Type 0} {comes : X → List ℕ → X → Type 0} {at_hand : X → List ℕ} {all sound : X → Type 0} {size : X → ℕ} {takes : TakesOne T} {at most : ℕ} {place : Place} {old new : X} {t u : T} {item : Item} {again : List ℕ} {left : ℕ} {one : Step}
+    (first : IsFirst (at_hand old) item left) → sound old → place ≡ InLine → again ≡ at_hand old → (offered : Step)
+    → Offered takes at most place item (length again - left) t u offered → one ≡ offered → Settles comes at_hand all sound size left offered old new
+    → Steps comes at_hand all sound size takes at most place old new t u (Ok one)
+step_first {comes = comes} {at_hand} {all} {sound} {size} {takes} {at} {most} {place} {old} {new} {t} {u} {item} {again} {left} {one} first sure here once_more offered =
     let followed = first.followed in
-    subst (λ (n : ℕ). Offered takes at item (length again - n) most t u a → one ≡ settled a next (length again - n) white → Settles comes at_hand all sound size n a old new → Steps comes at_hand all sound size takes at most InLine old new t u (Ok one))
-    (sym first.counted) (λ o is k. step_settled (seen_at_once sure refl followed.found followed.some) refl followed.found once_more e h a o is k)
+    subst (λ (p : Place). Offered takes at most p item (length again - left) t u offered → one ≡ offered → Settles comes at_hand all sound size left offered old new → Steps comes at_hand all sound size takes at most p old new t u (Ok one)) (sym here)
+    (subst (λ (n : ℕ). Offered takes at most InLine item (length again - n) t u offered → one ≡ offered → Settles comes at_hand all sound size n offered old new → Steps comes at_hand all sound size takes at most InLine old new t u (Ok one))
+    (sym first.counted) (λ o is k. step_settled (seen_at_once sure refl followed.found followed.some) refl followed.found once_more offered o is k))

@@ -2,7 +2,7 @@
 use Rattle.std.proofs.Common.{◌≡◌, ◌<◌, ◌⊎◌, inl, inr, ℕ, zero, suc, take, Bool, true, false, cond, eqb, ◌&&◌, List, [], ◌∷◌, ◌++◌, length, map, Option, Some, None, refl, sym, ap, subst, ◌∙◌, MatchBool, arith, append-nil}
 use Rattle.std.specs.List.{list_all}
 use Rattle.std.proofs.lemmas.Bool.{ltb-true, lt-ltb}
-use Rattle.chess_items.specs.Items.{Item, Hidden, Comment, Nag, Marker, Name, Stretch, Escaped, Mark, Quote}
+use Rattle.chess_items.specs.Items.{Item, Blank, Hidden, Comment, Nag, Marker, Name, Stretch, Escaped, Mark, Quote}
 use Rattle.chess_items.specs.Items.{digits_value, glyph_value, in_braces, in_line, is_blank, is_digit, is_glyph, is_name_byte, is_plain, is_word_byte, word_item, without_brace}
 use Rattle.chess_items.specs.steps.ItemAt.{Found, run_at, word_found, nag_found, small, digits_found, glyph_found, hidden_found, line_found, braces_found, name_found, stretch_found, hidden_at, sign_at, outside_at, tag_at, escaped_at, value_at, mark_at, start_at, item_at}
 use Rattle.chess_items.specs.steps.Deciding.{longer, Decides, sign_open, outside_open, tag_open, escape_open, value_open, mark_open, start_open, is_open}
@@ -130,6 +130,14 @@ sign_grows start b bytes e =
     choose (eqb b 123) _ _ _ _ _ _ e (λ w h. (125, braces_grow bytes h)) (λ w e.
     choose (eqb b 36) _ _ _ _ _ _ e (λ w h. (let two = both _ _ h in (49, digits_grow bytes two.0 (ltb-true _ _ two.1)))) (λ w e. absurd cc))))
 
+-- a run of a class, or what else begins with the byte, but for a blank
+run_or_grows : (p : ℕ → Bool) (f : List ℕ → List ℕ → Found) (g : List ℕ → Item) → ((w : List ℕ) → f w [] ≡ Some (g w, [])) → (b : ℕ) (bytes : List ℕ) (o : Bool) (x : ℕ → Found) (y : Found)
+    → cond (p b) (list_all p bytes) (cond (is_blank b) false o) ≡ true → (o ≡ true → (c : ℕ) × Differs (x c) y (c ∷ []))
+    → (c : ℕ) × Differs (cond (p b) (run_at p f (b ∷ bytes ++ c ∷ [])) (cond (is_blank b) (Some (Blank b, bytes ++ c ∷ [])) (x c))) (cond (p b) (run_at p f (b ∷ bytes)) (cond (is_blank b) (Some (Blank b, bytes)) y)) (c ∷ [])
+run_or_grows p f g some b bytes o x y e other =
+    choose (p b) _ _ _ _ _ _ e (λ w h. (b, run_grows p f g (b ∷ bytes) b some w (rw (w, h) refl))) (λ w e.
+    choose (is_blank b) _ _ _ _ _ _ e (λ w h. absurd cc) (λ w h. other h))
+
 nothing_outside : (start : Bool) → Grows (outside_at start) []
 unfolding outside_at sign_at is_word_byte is_name_byte is_digit is_blank is_glyph
 nothing_outside start = (42, apart (Marker Unfinished) [])
@@ -138,9 +146,8 @@ outside_grows : (start : Bool) (front : List ℕ) → outside_open start front �
 unfolding outside_open outside_at
 outside_grows start [] e = nothing_outside start
 outside_grows start (b ∷ bytes) e =
-    choose (is_word_byte b) _ _ _ _ _ _ e (λ w h. (b, run_grows is_word_byte word_found word_item (b ∷ bytes) b (λ w. refl) w (rw (w, h) refl))) (λ w e.
-    choose (is_blank b) _ _ _ _ _ _ e (λ w h. absurd cc) (λ w e.
-    choose (is_glyph b) _ _ _ _ _ _ e (λ w h. (let two = both _ _ h in (b, glyphs_grow b bytes w two.0 (ltb-true _ _ two.1)))) (λ w e. sign_grows start b bytes e)))
+    run_or_grows is_word_byte word_found word_item (λ w. refl) b bytes _ _ _ e (λ e.
+    choose (is_glyph b) _ _ _ _ _ _ e (λ w h. (let two = both _ _ h in (b, glyphs_grow b bytes w two.0 (ltb-true _ _ two.1)))) (λ w e. sign_grows start b bytes e))
 
 nothing_in_tag : (start : Bool) → Grows (tag_at start) []
 unfolding tag_at is_name_byte is_digit is_blank
@@ -150,11 +157,10 @@ tag_grows : (start : Bool) (front : List ℕ) → tag_open start front ≡ true 
 unfolding tag_open tag_at
 tag_grows start [] e = nothing_in_tag start
 tag_grows start (b ∷ bytes) e =
-    choose (is_name_byte b) _ _ _ _ _ _ e (λ w h. (b, run_grows is_name_byte name_found Name (b ∷ bytes) b (λ w. refl) w (rw (w, h) refl))) (λ w e.
-    choose (is_blank b) _ _ _ _ _ _ e (λ w h. absurd cc) (λ w e.
+    run_or_grows is_name_byte name_found Name (λ w. refl) b bytes _ _ _ e (λ e.
     choose (eqb b 34) _ _ _ _ _ _ e (λ w h. absurd cc) (λ w e.
     choose (eqb b 93) _ _ _ _ _ _ e (λ w h. absurd cc) (λ w e.
-    choose (eqb b 37) _ _ _ _ _ _ e (λ w h. (37, hidden_grows start bytes h)) (λ w e. absurd cc)))))
+    choose (eqb b 37) _ _ _ _ _ _ e (λ w h. (37, hidden_grows start bytes h)) (λ w e. absurd cc))))
 
 escape_grows : (bytes : List ℕ) → escape_open bytes ≡ true → Grows escaped_at bytes
 escape_grows [] e = (34, ends (Escaped 34) (Stretch (92 ∷ [])) 34)

@@ -32,6 +32,6 @@ joined_small most place front (p ∷ pieces) n =
 pub kept_at : (bytes : List ℕ) (used left len : ℕ) (text rest : List ℕ) → drop used bytes ≡ text ++ rest → length rest ≡ left → len ≡ length bytes → drop (len - left) bytes ≡ rest
 kept_at bytes used left len text rest e n h = rw h (kept bytes used left text rest e n)
 
-pub empty_is : (xs : List ℕ) → length xs ≡ 0 → xs ≡ []
+pub empty_is : {A : Type 0} (xs : List A) → length xs ≡ 0 → xs ≡ []
 empty_is [] e = refl
 empty_is (x ∷ xs) e = absurd (omega arith)

@@ -1,44 +1,59 @@
 -- All bytes at hand are used, and one read brings more.
-use Rattle.std.proofs.Common.{◌≡◌, ℕ, ◌+◌, ◌≤◌, Bool, true, false, not, List, [], ◌∷◌, ◌++◌, length, refl, sym, ap, subst, ◌∙◌, arith, append-nil, Result, Ok, Err}
+use Rattle.std.proofs.Common.{◌≡◌, ℕ, ◌+◌, ◌≤◌, Bool, true, false, List, [], ◌∷◌, ◌++◌, length, refl, sym, ap, subst, ◌∙◌, arith, Result, Ok, Err}
+use Rattle.std.specs.Prelude.{IfErr}
 use Rattle.std.proofs.lemmas.Bool.{false≢true}
-use Rattle.byte_streams.specs.Calls.{joined}
-use Rattle.chess_items.specs.Coming.{AtHand, unread}
-use Rattle.chess_items.specs.steps.AtHands.{Reads, AfterReading, HasRefilled, Refilled}
+use Rattle.byte_streams.specs.Calls.{Calls, joined}
+use Rattle.chess_items.specs.Coming.{AtHand, Came, unread}
+use Rattle.chess_items.specs.steps.AtHands.{AfterReading, HasRefilled, Refilled}
+use Rattle.chess_items.specs.steps.Seeking.{HasProlonged, Prolonged, ReadBreaks}
 use Rattle.chess_items.specs.steps.Texts.{BreaksOff, Refills}
 use Rattle.chess_items.specs.steps.Texts as texts
 use Rattle.chess_items.specs.declared.at_hand.Fault.{Fault}
-use Rattle.chess_items.proofs.BreakLemmas.{brings, came_none, ends_truly, has_all, size_at_hand}
+use Rattle.chess_items.specs.declared.at_hand.Fault.TheVariants.{Memory, Read}
+use Rattle.chess_items.proofs.BreakLemmas.{breaking, brings, came_none, ends_truly, has_all, size_at_hand}
 use Rattle.chess_items.proofs.ReadLemmas.{empty_is}
-
-pub not_ended : {a b : Bool} → b ≡ a → b ≡ false → a ≡ true → ⊥
-not_ended same goes e = false≢true (sym goes ∙ same ∙ e)
 
 -- so many bytes are left
 pub placed_now : (used left len before : ℕ) → len ≡ left → used + left ≡ before → used + len ≡ before
 placed_now used left len before e h = omega (arith, e, h)
 
-module _ {R : Type 0} (gives : R → List ℕ → R → Type 0) (ended : R → Type 0) (failed : R → Bool) (old mid new : AtHand R) (goes : mid.has_ended ≡ false) (source : mid.source ≡ old.source) (reads : mid.reads ≡ old.reads) (has_ended : mid.has_ended ≡ old.has_ended)
+-- nothing is at hand, and then a read brings more bytes, or breaks off
+module _ {R : Type 0} (gives : R → List ℕ → R → Type 0) (ended : R → Type 0) (failed : R → Bool) (old mid new : AtHand R) (source : mid.source ≡ old.source) (reads : mid.reads ≡ old.reads) (has_ended : mid.has_ended ≡ old.has_ended)
     (placed : mid.used + length (unread mid) ≡ old.used + length (unread old)) where
-  refill_after : (v : Bool) → new.has_ended ≡ v → (r : Reads gives ended failed mid new (Ok tt)) → length (unread mid) ≡ 0 → AfterReading ended (r.piece ∷ []) new (not v)
-  refill_after false e r none =
-      let whole : unread new ≡ r.piece ++ [] = r.after.0 ∙ ap (λ (x : List ℕ). x ++ r.piece) (empty_is (unread mid) none) ∙ sym (append-nil r.piece) in
-      (whole, omega arith, e)
-  refill_after true e r none =
-      let nothing : r.piece ≡ [] = r.after.2 e in
-      (r.after.0 ∙ rw (empty_is (unread mid) none) nothing, rw nothing refl, e, r.after.1 e)
+  refill_after : (has_more : Bool) (h : HasProlonged gives ended failed mid new has_more) → length (unread mid) ≡ 0 → AfterReading ended h.came.pieces new has_more
+  refill_after true h none =
+      (h.longer ∙ ap (λ (x : List ℕ). x ++ h.bytes) (empty_is (unread mid) none) ∙ sym h.came.whole, (let f = h.fewer refl in omega (arith, f, h.came.counted)), h.goes_on refl)
+  refill_after false h none =
+      let e = h.ended_now refl in
+      (h.longer ∙ rw (empty_is (unread mid) none) e.1, h.came.whole ∙ e.1, e.0, h.ended_so e.0)
 
-  pub refilled : (r : Reads gives ended failed mid new (Ok tt)) → length (unread mid) ≡ 0 → Refilled gives ended failed old new (Ok (not new.has_ended))
-  refilled r none = record {
-    pieces = r.piece ∷ [];
-    calls = (new.source, subst (λ x. gives x r.piece new.source) source r.call, refl);
-    counted = omega (arith, r.counted, reads);
-    small = (let n = ap length (append-nil r.piece) in omega (arith, n, r.small));
-    placed = (let n = ap length (append-nil r.piece) in omega (arith, n, r.placed, placed));
-    well = r.after.3 ∙ ap failed source;
-    at_end = λ e. absurd (not_ended has_ended goes e);
-    each = λ e. (r.after.4 e, tt);
-    after = refill_after new.has_ended refl r none;
+  pub refilled : (result : Result Bool Fault) → length (unread mid) ≡ 0 → Prolonged gives ended failed mid new result → Refilled gives ended failed old new result
+  refilled (Err e) none p = tt
+  refilled (Ok has_more) none h = record {
+    pieces = h.came.pieces;
+    calls = subst (λ (x : R). Calls gives x h.came.pieces new.source) source h.came.calls;
+    counted = omega (arith, h.came.counted, reads);
+    small = rw h.came.whole h.came.small;
+    placed = (let n = ap length h.came.whole in omega (arith, n, h.came.placed, placed));
+    well = h.came.well ∙ ap failed source;
+    at_end = λ e. (empty_is h.came.pieces (let n = h.no_read (has_ended ∙ e) in omega (arith, n, h.came.counted)), (h.at_end (has_ended ∙ e)).1);
+    each = h.came.each;
+    after = refill_after has_more h none;
   }
+
+  first : Came gives failed old [] mid
+  first = came_none gives failed old mid source reads has_ended placed
+
+  not_ended : mid.has_ended ≡ false → mid.has_ended ≡ true → ⊥
+  not_ended goes e = false≢true (sym goes ∙ e)
+
+  off : (fault : Fault) → ReadBreaks gives failed mid new fault → BreaksOff (brings gives failed) (breaking gives failed) (has_all gives failed) old new fault
+  off Memory b = ((λ e. not_ended b.0 (has_ended ∙ e)), [] ∷ b.1 ∷ [], (mid, first, (new, b.2, refl)))
+  off Read b = ((λ e. not_ended b.0 (has_ended ∙ e)), [] ∷ [], mid, (mid, first, refl), b.1, not_ended b.0)
+
+  pub broken : (result : Result Bool Fault) → IfErr result (λ fault. ReadBreaks gives failed mid new fault) → IfErr result (λ fault. BreaksOff (brings gives failed) (breaking gives failed) (has_all gives failed) old new fault)
+  broken (Ok has_more) b = tt
+  broken (Err fault) b = off fault b
 
 module _ {R : Type 0} (gives : R → List ℕ → R → Type 0) (ended : R → Type 0) (failed : R → Bool) (old new : AtHand R) where
   some_pieces : (pieces : List (List ℕ)) → 1 ≤ length pieces → pieces ≡ [] → ⊥
@@ -61,22 +76,8 @@ module _ {R : Type 0} (gives : R → List ℕ → R → Type 0) (ended : R → T
     after = refills_after has_more r;
   }
 
--- the source has ended
 module _ {R : Type 0} (gives : R → List ℕ → R → Type 0) (ended : R → Type 0) (failed : R → Bool) (old new : AtHand R) (source : new.source ≡ old.source) (reads : new.reads ≡ old.reads) (same : new.has_ended ≡ old.has_ended)
     (placed : new.used + length (unread new) ≡ old.used + length (unread old)) where
-  pub none_refilled : new.has_ended ≡ true → (old.has_ended ≡ true → ended old.source) → length (unread new) ≡ 0 → Refilled gives ended failed old new (Ok false)
-  none_refilled e so none = record {
-    pieces = [];
-    calls = sym source;
-    counted = omega (arith, reads);
-    small = omega arith;
-    placed = omega (arith, placed);
-    well = ap failed source;
-    at_end = λ h. (refl, e);
-    each = λ h. tt;
-    after = (empty_is (unread new) none, refl, e, subst ended (sym source) (so (sym same ∙ e)));
-  }
-
   -- the first bytes are used
   pub keeps : (left : ℕ) → ((text rest : List ℕ) → unread old ≡ text ++ rest → length rest ≡ left → unread new ≡ rest) → (old.has_ended ≡ true → ended old.source) → length (unread new) ≡ left
       → texts.Keeps (brings gives failed) unread (has_all gives failed) (ends_truly gives failed ended) (size_at_hand gives failed) left old new

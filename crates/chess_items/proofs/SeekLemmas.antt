@@ -18,6 +18,10 @@ unnot : (v : Bool) → not v ≡ false → v ≡ true
 unnot true e = refl
 unnot false e = absurd cc
 
+unnot_true : (v : Bool) → not v ≡ true → v ≡ false
+unnot_true true e = absurd cc
+unnot_true false e = refl
+
 module _ {R : Type 0} (gives : R → List ℕ → R → Type 0) (ended : R → Type 0) (failed : R → Bool) where
   -- ---- one read
 
@@ -37,6 +41,8 @@ module _ {R : Type 0} (gives : R → List ℕ → R → Type 0) (ended : R → T
     };
     longer = r.after.0;
     at_end = λ e. absurd (false≢true (sym goes ∙ e));
+    no_read = λ e. absurd (false≢true (sym goes ∙ e));
+    goes_on = λ h. unnot_true new.has_ended h;
     ended_so = r.after.1;
     ended_now = λ e. let h = unnot new.has_ended e in (h, r.after.2 h);
     fewer = λ e. r.counted;
@@ -48,6 +54,8 @@ module _ {R : Type 0} (gives : R → List ℕ → R → Type 0) (ended : R → T
     came = came_none gives failed old old refl refl refl refl;
     longer = sym (append-nil (unread old));
     at_end = λ h. (refl, e);
+    no_read = λ h. refl;
+    goes_on = λ h. absurd (false≢true h);
     ended_so = so;
     ended_now = λ h. (e, refl);
     fewer = λ h. absurd (false≢true h);
@@ -62,8 +70,9 @@ module _ {R : Type 0} (gives : R → List ℕ → R → Type 0) (ended : R → T
   pub broke_by : (old new : AtHand R) (e : Fault) → old.has_ended ≡ false → Tries gives ended failed old new (Err e) → ReadBreaks gives failed old new e
   broke_by old new Read goes (inl p) = (let wrong : Read ≡ Memory = err_is Read Memory p.0 in cc)
   broke_by old new Read goes (inr r) = (goes, inl (subst (λ (p : List ℕ). gives old.source p new.source) r.after.1 r.call, r.after.0))
-  broke_by old new Memory goes (inl p) = ([], came_none gives failed old new (ap (λ (h : AtHand R). h.source) p.1) (ap (λ (h : AtHand R). h.reads) p.1) (ap (λ (h : AtHand R). h.has_ended) p.1) (ap (λ (h : AtHand R). h.used + length (unread h)) p.1))
+  broke_by old new Memory goes (inl p) = (goes, [], came_none gives failed old new (ap (λ (h : AtHand R). h.source) p.1) (ap (λ (h : AtHand R). h.reads) p.1) (ap (λ (h : AtHand R). h.has_ended) p.1) (ap (λ (h : AtHand R). h.used + length (unread h)) p.1))
   broke_by old new Memory goes (inr r) = (
+    goes,
     r.piece,
     record { pieces = r.piece ∷ []; calls = (new.source, r.call, refl); whole = append-nil r.piece; counted = r.counted; small = r.small; placed = r.placed; well = r.after.0; each = λ e. (r.after.1, tt); ended_still = λ e. absurd (false≢true (sym goes ∙ e)) },
   )
@@ -224,7 +233,7 @@ module _ {R : Type 0} (gives : R → List ℕ → R → Type 0) (ended : R → T
 
     -- no more bytes come
     pub seek_breaks : (feeds : Feeds) (now new : AtHand R) (s : Seeks old feeds now) → length (unread now) ≤ 1 → (e : Fault) → ReadBreaks gives failed now new e → SeekBreaks gives failed old new e
-    seek_breaks feeds now new s few Memory b = (s.bytes ++ b.0, came_append gives failed old now new s.bytes b.0 s.came b.1)
+    seek_breaks feeds now new s few Memory b = (s.bytes ++ b.1, came_append gives failed old now new s.bytes b.1 s.came b.2)
     seek_breaks feeds now new s few Read b = record {
       bytes = s.bytes;
       before = now;

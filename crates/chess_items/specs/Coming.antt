@@ -3,7 +3,8 @@
 --           its bytes were used
 --   Came    reads of at most 65,536 bytes each gave these bytes, and none of them failed; before the end each gave a byte
 --   Breaks  the next read failed, or there may be no more: of a new source, 2^40 were made
-use Rattle.std.specs.Prelude.{◌≡◌, ◌⊎◌, ◌<◌, ◌≤◌, ℕ, ◌+◌, ◌*◌, Bool, true, false, List, [], length}
+--   BreaksWhere  bytes came, and then a read broke off before the source's end; of the bytes that were at hand and those that came, this holds
+use Rattle.std.specs.Prelude.{◌≡◌, ◌⊎◌, ◌<◌, ◌≤◌, ℕ, ◌+◌, ◌*◌, Bool, true, false, List, [], ◌++◌, length}
 use Rattle.std.specs.List.{AllByRecursion}
 use Rattle.byte_streams.specs.Calls.{Calls, joined}
 
@@ -32,3 +33,11 @@ pub record Came {R : Type 0} (gives : R → List ℕ → R → Type 0) (failed :
 
 abbrev pub Breaks : {R : Type 0} → (R → List ℕ → R → Type 0) → (R → Bool) → AtHand R → AtHand R → Type 0
 Breaks gives failed old new = (gives old.source [] new.source × (failed new.source ≡ true)) ⊎ ((new.source ≡ old.source) × (old.reads ≡ 0))
+
+pub record BreaksWhere {R : Type 0} (none_in : List ℕ → Type 0) (gives : R → List ℕ → R → Type 0) (failed : R → Bool) (old new : AtHand R) : Type 0 where
+  pub bytes : List ℕ
+  pub before : AtHand R
+  pub came : Came gives failed old bytes before
+  pub breaks : Breaks gives failed before new
+  pub not_ended : before.has_ended ≡ false
+  pub none : none_in (unread old ++ bytes)

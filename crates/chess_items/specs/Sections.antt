@@ -7,10 +7,10 @@
 --   PassesOver     bytes are used up to the first place where a section begins, or all of them where none does
 --   StopsAt        bytes came, and then a read failed or there may be no more; no section begins among them
 -- Where the search begins counts as after an empty line. Comments are not looked for, so a bracket in one may begin a section.
-use Rattle.std.specs.Prelude.{◌≡◌, ◌⊎◌, ◌<◌, ◌≤◌, ℕ, ◌+◌, ◌==◌, if◌then◌else◌, Bool, true, false, List, [], ◌∷◌, ◌++◌, length}
+use Rattle.std.specs.Prelude.{◌≡◌, ◌⊎◌, ◌<◌, ◌≤◌, ℕ, ◌+◌, ◌==◌, if◌then◌else◌, Bool, true, List, [], ◌∷◌, ◌++◌, length}
 use Rattle.std.specs.List.{list_all}
 use Rattle.std.specs.Str.{byte}
-use Rattle.chess_items.specs.Coming.{AtHand, Breaks, Came, unread}
+use Rattle.chess_items.specs.Coming.{AtHand, BreaksWhere, Came, unread}
 use Rattle.chess_items.specs.Items.{is_blank, is_name_byte}
 
 abbrev pub line_feeds : List ℕ → ℕ
@@ -42,10 +42,5 @@ pub record PassesOver {R : Type 0} (gives : R → List ℕ → R → Type 0) (fa
   pub held : length (unread old) ≤ 65537 → length (unread new) ≤ 65537
   pub still : old.has_ended ≡ true → (bytes ≡ []) × (new.has_ended ≡ true)
 
-pub record StopsAt {R : Type 0} (gives : R → List ℕ → R → Type 0) (failed : R → Bool) (old new : AtHand R) : Type 0 where
-  pub bytes : List ℕ
-  pub before : AtHand R
-  pub came : Came gives failed old bytes before
-  pub breaks : Breaks gives failed before new
-  pub not_ended : before.has_ended ≡ false
-  pub none : HasNoSection (unread old ++ bytes)
+abbrev pub StopsAt : {R : Type 0} → (R → List ℕ → R → Type 0) → (R → Bool) → AtHand R → AtHand R → Type 0
+StopsAt gives failed old new = BreaksWhere HasNoSection gives failed old new

@@ -227,16 +227,7 @@ impl<'a, R: Source, A: Allocator> AtHand<'a, R, A> {
         ensures broken { IfErr result (λ fault. BreaksOff (λ s bytes t. Came R.gives R.failed s bytes t) (λ s t. Breaks R.gives R.failed s t) (λ s. s.has_ended ≡ true) self.old self.new fault) }
     {
         self.keep(0);
-        if self.is_at_end() {
-            return Ok(false);
-        }
-        if self.reads_left() == 0 {
-            return Err(Fault::Read);
-        }
-        if let Err(fault) = self.read_on() {
-            return Err(fault);
-        }
-        Ok(!self.is_at_end())
+        self.read_more()
     }
 
     // Reads once, and keeps what is at hand. False where the source has ended.

@@ -5,7 +5,7 @@ ghost use Rattle.chess_items.specs.Items.{Skipped, Word};
 ghost use Rattle.chess_items.specs.steps.Deciding.{Decides};
 ghost use Rattle.chess_items.specs.declared.place.Place.TheVariants.{InLine};
 ghost use Rattle.chess_items.specs.steps.Firsts.{IsFirst, IsFollowed, IsWithin};
-ghost use Rattle.chess_items.specs.steps.Taking.{Offered, Settles, Steps, Ran, RunBreaks, settled};
+ghost use Rattle.chess_items.specs.steps.Taking.{Offered, Settles, Steps, Ran, RunBreaks};
 ghost use Rattle.chess_items.specs.steps.Texts.{BreaksAt};
 ghost use Rattle.chess_items.specs.steps.Tokens.{item_of};
 
@@ -55,12 +55,12 @@ enum Step {
     Stops(Stop),
 }
 
-/// What becomes of an item that is offered.
+/// Where the next item stands: its place, how many bytes are used before it, and how many it may have.
 #[derive(Clone, Copy)]
-enum Answer {
-    GoesOn,
-    Ends,
-    Stops(Stop),
+struct Spot {
+    place: Place,
+    at: usize,
+    most: usize,
 }
 
 /// Whether there are more than `most` bytes, and the first `most + 1` don't decide the item.
@@ -75,73 +75,54 @@ fn exceeds(place: Place, bytes: &[u8], most: usize) -> bool
     is_undecided(place, &bytes[..most + 1], 0)
 }
 
-// Offers an item of so many bytes, which may be at most `most`. A bracket is offered even after the limit, since it may be left.
+// Offers an item of so many bytes. A bracket is offered even after the limit, since it may be left.
 #[inline(always)]
-fn offer<T: Taker>(taker: &mut T, at: usize, token: Token<'_>, used: usize, most: usize) -> Answer
-    ensures { Offered T.takes at (item_of token.entry) used most taker.old taker.new result }
+fn offer<T: Taker>(taker: &mut T, spot: Spot, token: Token<'_>, used: usize) -> Step
+    ensures { Offered T.takes spot.at spot.most spot.place (item_of token.entry) used taker.old taker.new result }
 {
-    if used > most && !matches!(token, Token::TagOpen) {
-        return Answer::Stops(Stop::TooLarge);
+    if used > spot.most && !matches!(token, Token::TagOpen) {
+        return Step::Stops(Stop::TooLarge);
     }
-    match taker.take(at, token) {
-        Err(fault) => Answer::Stops(Stop::Refused(fault)),
-        Ok(Taken::Leaves) => Answer::Stops(Stop::Left),
+    match taker.take(spot.at, token) {
+        Err(fault) => Step::Stops(Stop::Refused(fault)),
+        Ok(Taken::Leaves) => Step::Stops(Stop::Left),
         Ok(Taken::GoesOn) => {
-            if used > most {
-                return Answer::Stops(Stop::TooLarge);
+            if used > spot.most {
+                return Step::Stops(Stop::TooLarge);
             }
-            Answer::GoesOn
+            Step::On(spot.place.after(token), used, token.is_white())
         }
         Ok(Taken::Ends) => {
-            if used > most {
-                return Answer::Stops(Stop::TooLarge);
+            if used > spot.most {
+                return Step::Stops(Stop::TooLarge);
             }
-            Answer::Ends
+            Step::Full(spot.place.after(token), used, token.is_white())
         }
     }
 }
 
-// What an offer comes to: the item is used, all but `left` of the bytes at hand with it, or nothing is.
+// The same step: where its item is used, so are all but `left` of the bytes at hand.
 #[inline(always)]
-fn settle<X: Text>(
-    text: &mut X,
-    answer: Answer,
-    next: Place,
-    used: usize,
-    white: bool,
-    left: usize,
-) -> Step
+fn settle<X: Text>(text: &mut X, step: Step, left: usize) -> Step
     requires within { left ≤ length (X.at_hand text.old) }
     requires sound { X.sound text.old }
-    ensures step { result ≡ settled answer next used white }
-    ensures text { Settles X.comes X.at_hand X.all X.sound X.size left answer text.old text.new }
+    ensures step { result ≡ step }
+    ensures text { Settles X.comes X.at_hand X.all X.sound X.size left step text.old text.new }
 {
-    match answer {
-        Answer::Stops(why) => Step::Stops(why),
-        Answer::GoesOn => {
-            text.keep(left);
-            Step::On(next, used, white)
-        }
-        Answer::Ends => {
-            text.keep(left);
-            Step::Full(next, used, white)
-        }
+    match step {
+        Step::Stops(_) => {}
+        Step::On(_, _, _) | Step::Full(_, _, _) => text.keep(left),
     }
+    step
 }
 
-// Takes one item, of at most `most` bytes, once those at hand decide it or no more come.
-fn take_read<X: Text, T: Taker>(
-    text: &mut X,
-    taker: &mut T,
-    place: Place,
-    at: usize,
-    most: usize,
-) -> Result<Step, Fault>
+// Takes one item, once the bytes at hand decide it or no more come.
+fn take_read<X: Text, T: Taker>(text: &mut X, taker: &mut T, spot: Spot) -> Result<Step, Fault>
     requires { X.sound text.old }
-    ensures steps { Steps X.comes X.at_hand X.all X.sound X.size T.takes at most place text.old text.new taker.old taker.new result }
-    ensures broken { IfErr result (λ fault. BreaksAt X.comes X.at_hand X.breaks X.all X.sound place text.old text.new fault) }
+    ensures steps { Steps X.comes X.at_hand X.all X.sound X.size T.takes spot.at spot.most spot.place text.old text.new taker.old taker.new result }
+    ensures broken { IfErr result (λ fault. BreaksAt X.comes X.at_hand X.breaks X.all X.sound spot.place text.old text.new fault) }
 {
-    match text.ready(place, most) {
+    match text.ready(spot.place, spot.most) {
         Err(fault) => return Err(fault),
         Ok(false) => return Ok(Step::Stops(Stop::TooLarge)),
         Ok(true) => {}
@@ -149,18 +130,16 @@ fn take_read<X: Text, T: Taker>(
     if text.unread().is_empty() {
         return Ok(Step::Stops(Stop::End));
     }
-    let Some((token, rest)) = item(place, text.unread()) else {
-        if exceeds(place, text.unread(), most) {
+    let Some((token, rest)) = item(spot.place, text.unread()) else {
+        if exceeds(spot.place, text.unread(), spot.most) {
             return Ok(Step::Stops(Stop::TooLarge));
         }
         return Ok(Step::Stops(Stop::NoItem));
     };
     let left = rest.len();
     let used = text.unread().len() - left;
-    let next = place.after(token);
-    let white = token.is_white();
-    let answer = offer(taker, at, token, used, most);
-    Ok(settle(text, answer, next, used, white, left))
+    let step = offer(taker, spot, token, used);
+    Ok(settle(text, step, left))
 }
 
 // The first byte and how many come after it, where it is within a line and some do.
@@ -212,65 +191,60 @@ fn after_number(bytes: &[u8]) -> Option<usize>
 fn take_first<X: Text, T: Taker>(
     text: &mut X,
     taker: &mut T,
+    spot: Spot,
     token: Token<'_>,
     left: usize,
-    at: usize,
-    most: usize,
 ) -> Step
     requires sound { X.sound text.old }
+    requires here { spot.place ≡ InLine }
     requires first { IsFirst (X.at_hand text.old) (item_of token) left }
-    ensures steps { Steps X.comes X.at_hand X.all X.sound X.size T.takes at most InLine text.old text.new taker.old taker.new (Ok result) }
+    ensures steps { Steps X.comes X.at_hand X.all X.sound X.size T.takes spot.at spot.most spot.place text.old text.new taker.old taker.new (Ok result) }
 {
     let used = text.unread().len() - left;
-    let next = Place::InLine.after(token);
-    let white = token.is_white();
-    let answer = offer(taker, at, token, used, most);
-    settle(text, answer, next, used, white, left)
+    let step = offer(taker, spot, token, used);
+    settle(text, step, left)
 }
 
-// Takes one item, of at most `most` bytes. Where a byte is at hand after the first item, no read can change it, and it is taken at
+// Takes one item. Where a byte is at hand after the first item, no read can change it, and it is taken at
 // once: so the bytes of nearly all items are looked at once. Within a line the most frequent items are known by their first byte.
 #[inline(always)]
-fn take_one<X: Text, T: Taker>(
-    text: &mut X,
-    taker: &mut T,
-    place: Place,
-    at: usize,
-    most: usize,
-) -> Result<Step, Fault>
+fn take_one<X: Text, T: Taker>(text: &mut X, taker: &mut T, spot: Spot) -> Result<Step, Fault>
     requires { X.sound text.old }
-    ensures steps { Steps X.comes X.at_hand X.all X.sound X.size T.takes at most place text.old text.new taker.old taker.new result }
-    ensures broken { IfErr result (λ fault. BreaksAt X.comes X.at_hand X.breaks X.all X.sound place text.old text.new fault) }
+    ensures steps { Steps X.comes X.at_hand X.all X.sound X.size T.takes spot.at spot.most spot.place text.old text.new taker.old taker.new result }
+    ensures broken { IfErr result (λ fault. BreaksAt X.comes X.at_hand X.breaks X.all X.sound spot.place text.old text.new fault) }
 {
-    if let Some((b, left)) = first_within(place, text.unread()) {
+    if let Some((b, left)) = first_within(spot.place, text.unread()) {
+        let spot = Spot {
+            place: Place::InLine,
+            at: spot.at,
+            most: spot.most,
+        };
         if b == b' ' {
-            return Ok(take_first(text, taker, Token::Blank(b' '), left, at, most));
+            return Ok(take_first(text, taker, spot, Token::Blank(b' '), left));
         }
         if b == b'.' {
-            return Ok(take_first(text, taker, Token::Skipped, left, at, most));
+            return Ok(take_first(text, taker, spot, Token::Skipped, left));
         }
         if let Some((word, rest)) = word_within(text.unread()) {
             let left = rest.len();
             let used = text.unread().len() - left;
-            let answer = offer(taker, at, Token::Word(word), used, most);
-            return Ok(settle(text, answer, Place::InLine, used, false, left));
+            let step = offer(taker, spot, Token::Word(word), used);
+            return Ok(settle(text, step, left));
         }
         if let Some(left) = after_number(text.unread()) {
-            return Ok(take_first(text, taker, Token::Skipped, left, at, most));
+            return Ok(take_first(text, taker, spot, Token::Skipped, left));
         }
     }
-    let Some((token, rest)) = item(place, text.unread()) else {
-        return take_read(text, taker, place, at, most);
+    let Some((token, rest)) = item(spot.place, text.unread()) else {
+        return take_read(text, taker, spot);
     };
     if rest.is_empty() {
-        return take_read(text, taker, place, at, most);
+        return take_read(text, taker, spot);
     }
     let left = rest.len();
     let used = text.unread().len() - left;
-    let next = place.after(token);
-    let white = token.is_white();
-    let answer = offer(taker, at, token, used, most);
-    Ok(settle(text, answer, next, used, white, left))
+    let step = offer(taker, spot, token, used);
+    Ok(settle(text, step, left))
 }
 
 /// Takes items while the taker wants more, of at most `limit` bytes together.
@@ -284,7 +258,12 @@ pub fn run<X: Text, T: Taker>(text: &mut X, taker: &mut T, limit: usize) -> Resu
     let mut at = 0usize;
     let mut white = true;
     loop {
-        match take_one(text, taker, place, at, limit - at) {
+        let spot = Spot {
+            place,
+            at,
+            most: limit - at,
+        };
+        match take_one(text, taker, spot) {
             Err(fault) => return Err(fault),
             Ok(Step::Stops(why)) => {
                 return Ok(Stopped {

@@ -8,7 +8,7 @@ mod words;
 
 pub use collection::{Failure, GAMES, Place, fault_of};
 pub use progress::Progress;
-pub use words::{Refused, read_words, why_refused};
+pub use words::{Refused, flag, option, progress_flag, read_words, why_refused};
 
 /// The version of the programs and the libraries, as the file VERSION has it.
 pub const VERSION: &str = "0.2.0";

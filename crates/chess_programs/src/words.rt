@@ -1,6 +1,6 @@
 use crate::{FAILED, WORDS_REFUSED};
-use clap::Error;
 use clap::error::ErrorKind;
+use clap::{Arg, ArgAction, Error};
 use std::alloc::{AllocError, Global};
 use std::process::ExitCode;
 use std::rt::Env;
@@ -61,6 +61,31 @@ pub fn why_refused(alloc: Global, error: Error) -> Refused {
         Ok(text) => Refused::Words(text),
         Err(AllocError) => Refused::Memory,
     }
+}
+
+/// `--name`, which may be there.
+pub fn flag<'a>(alloc: Global, name: &'a str, help: &'a str) -> Arg<'a> {
+    Arg::new(alloc, name)
+        .long(name)
+        .help(help)
+        .action(ArgAction::SetTrue)
+}
+
+/// `--name VALUE`, which may be there.
+pub fn option<'a>(alloc: Global, name: &'a str, help: &'a str) -> Arg<'a> {
+    Arg::new(alloc, name)
+        .long(name)
+        .help(help)
+        .action(ArgAction::Set)
+}
+
+/// `--progress`, where `Progress` is asked for.
+pub fn progress_flag<'a>(alloc: Global) -> Arg<'a> {
+    flag(
+        alloc,
+        "progress",
+        "bytes and games so far, once a second, on the standard error",
+    )
 }
 
 /// The words that the program was called with, its name first.

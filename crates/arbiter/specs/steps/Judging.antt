@@ -2,14 +2,15 @@
 --   WritesText  a text is written, or a prefix of it, or there is no memory for it
 --   is_lack     want of memory
 --   NotOn       reading doesn't go on after a fault
+--   IsReady     nothing is read yet, and reading and writing may begin
 --   SoFar       games were found, one after another, and their rows are written
-use Rattle.std.specs.Prelude.{◌≡◌, ℕ, Bool, true, false, List, [], length, Result, Ok, Err, ⊤}
+use Rattle.std.specs.Prelude.{◌≡◌, ℕ, Bool, true, false, List, [], length, None, Result, Ok, Err, ⊤}
 use Rattle.chess_loop.specs.RunEnds.{Broken}
 use Rattle.chess_loop.specs.steps.Sending.{Sent}
 use Rattle.chess_items.specs.Sections.{StopsAt}
 use Rattle.chess_items.specs.declared.fault.FaultKind.{FaultKind}
 use Rattle.chess_items.specs.declared.fault.FaultKind.TheVariants.{Memory}
-use Rattle.chess_pgn.specs.Sources.{Games}
+use Rattle.chess_pgn.specs.Sources.{Games, IsSound}
 use Rattle.chess_programs.specs.declared.collection.Failure.{Failure}
 use Rattle.chess_programs.specs.declared.collection.Failure.TheVariants as by
 use Rattle.arbiter.specs.declared.judge.Asked.{Asked}
@@ -32,6 +33,12 @@ abbrev pub NotOn : {R : Type 0} → (R → List ℕ → R → Type 0) → (R →
 NotOn gives failed old new by.Read = StopsAt gives failed old.text new.text
 NotOn gives failed old new by.Write = ⊥
 NotOn gives failed old new by.Memory = ⊤
+
+-- no fault came, and no write failed
+pub record IsReady {R W : Type 0} (ended : R → Type 0) (write_failed : W → Bool) (games : Games R) (sink : W) : Type 0 where
+  pub sound : IsSound ended games
+  pub none : games.fault ≡ None
+  pub writer : write_failed sink ≡ false
 
 module _ {R W : Type 0} (gives : R → List ℕ → R → Type 0) (read_failed : R → Bool) (ended : R → Type 0) (takes : W → List ℕ → W → Type 0) (failed : W → Bool) where
   -- so many games were found, and so many of them can't be read

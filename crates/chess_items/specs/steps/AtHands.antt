@@ -2,6 +2,7 @@
 --   Reads     one read
 --   Tries     one read, or there was no memory to read into
 --   Needed    each read is made where the bytes at hand don't decide the item that they begin with
+--   Brought   what those reads brought
 --   Readied   reads, until the item is decided or the source has ended
 --   Refilled  all bytes at hand are used, and one read brings more
 use Rattle.std.specs.Prelude.{◌≡◌, ℕ, ◌+◌, ◌*◌, ◌≤◌, ◌<◌, ◌⊎◌, Bool, true, false, List, [], ◌∷◌, ◌++◌, length, Result, Ok, Err}
@@ -35,13 +36,8 @@ abbrev pub Needed : ℕ → Place → List ℕ → List (List ℕ) → Type 0
 Needed most place front [] = Unit {0}
 Needed most place front (piece ∷ pieces) = (Decides place front → ⊥) × (length front ≤ most) × (length piece ≤ 65536) × Needed most place (front ++ piece) pieces
 
--- what follows the reads: the item is decided or the source has ended, or too many bytes don't decide it
-abbrev pub AfterAll : {R : Type 0} → ℕ → Place → AtHand R → Bool → Type 0
-AfterAll most place new true = Decides place (unread new) ⊎ (new.has_ended ≡ true)
-AfterAll most place new false = (most < length (unread new)) × (Decides place (unread new) → ⊥)
-
--- bytes were read until those at hand decide the next item, or all were read, or there are too many
-pub record HasRead {R : Type 0} (gives : R → List ℕ → R → Type 0) (ended : R → Type 0) (failed : R → Bool) (most : ℕ) (place : Place) (old new : AtHand R) (is_ready : Bool) : Type 0 where
+-- each read was needed, and its bytes are at hand
+pub record Brought {R : Type 0} (gives : R → List ℕ → R → Type 0) (ended : R → Type 0) (failed : R → Bool) (most : ℕ) (place : Place) (old new : AtHand R) : Type 0 where
   pub pieces : List (List ℕ)
   pub calls : Calls gives old.source pieces new.source
   pub needed : Needed most place (unread old) pieces
@@ -53,6 +49,15 @@ pub record HasRead {R : Type 0} (gives : R → List ℕ → R → Type 0) (ended
   pub each : new.has_ended ≡ false → AllByRecursion (λ piece. 0 < length piece) pieces
   pub whole : unread new ≡ unread old ++ joined pieces
   pub ended_so : new.has_ended ≡ true → ended new.source
+
+-- what follows the reads: the item is decided or the source has ended, or too many bytes don't decide it
+abbrev pub AfterAll : {R : Type 0} → ℕ → Place → AtHand R → Bool → Type 0
+AfterAll most place new true = Decides place (unread new) ⊎ (new.has_ended ≡ true)
+AfterAll most place new false = (most < length (unread new)) × (Decides place (unread new) → ⊥)
+
+-- bytes were read until those at hand decide the next item, or all were read, or there are too many
+pub record HasRead {R : Type 0} (gives : R → List ℕ → R → Type 0) (ended : R → Type 0) (failed : R → Bool) (most : ℕ) (place : Place) (old new : AtHand R) (is_ready : Bool) : Type 0 where
+  pub brought : Brought gives ended failed most place old new
   pub after : AfterAll most place new is_ready
 
 abbrev pub Readied : {R : Type 0} → (R → List ℕ → R → Type 0) → (R → Type 0) → (R → Bool) → ℕ → Place → AtHand R → AtHand R → Result Bool Fault → Type 0

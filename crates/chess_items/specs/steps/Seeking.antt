@@ -86,6 +86,8 @@ pub record HasProlonged {R : Type 0} (gives : R → List ℕ → R → Type 0) (
   pub came : Came gives failed old bytes new
   pub longer : unread new ≡ unread old ++ bytes
   pub at_end : old.has_ended ≡ true → (bytes ≡ []) × (new.has_ended ≡ true)
+  pub no_read : old.has_ended ≡ true → new.reads ≡ old.reads
+  pub goes_on : has_more ≡ true → new.has_ended ≡ false
   pub ended_so : new.has_ended ≡ true → ended new.source
   pub ended_now : has_more ≡ false → (new.has_ended ≡ true) × (bytes ≡ [])
   pub fewer : has_more ≡ true → new.reads + 1 ≡ old.reads
@@ -96,7 +98,7 @@ Prolonged gives ended failed old new (Err e) = Unit {0}
 
 -- there was no memory, or the read failed
 abbrev pub ReadBreaks : {R : Type 0} → (R → List ℕ → R → Type 0) → (R → Bool) → AtHand R → AtHand R → Fault → Type 0
-ReadBreaks gives failed old new Memory = (bytes : List ℕ) × Came gives failed old bytes new
+ReadBreaks gives failed old new Memory = (old.has_ended ≡ false) × (bytes : List ℕ) × Came gives failed old bytes new
 ReadBreaks gives failed old new Read = (old.has_ended ≡ false) × Breaks gives failed old new
 
 -- a search that broke off: for want of memory, or at a read

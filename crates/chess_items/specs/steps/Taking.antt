@@ -4,7 +4,7 @@
 --   Whatever    whatever comes after a state, if anything may come
 --   Brackets    the taker took the bracket of a tag
 --   Offered     what becomes of an item that is offered
---   settled, Settles  what an offer comes to: the step, and what is used
+--   Settles     what is used after an offer
 --   Asked       no read was made, or the last was made where the bytes before it did not decide the item after those taken so far
 --   Steps       one item is taken, or none
 --   Ran         items are taken, and why no more are
@@ -23,8 +23,6 @@ use Rattle.chess_items.specs.declared.place.Place.{Place}
 use Rattle.chess_items.specs.declared.place.Place.TheVariants.{GameStart}
 use Rattle.chess_items.specs.declared.taker.Taken.{Taken}
 use Rattle.chess_items.specs.declared.taker.Taken.TheVariants.{GoesOn, Ends, Leaves}
-use Rattle.chess_items.specs.declared.taking.Answer.{Answer}
-use Rattle.chess_items.specs.declared.taking.Answer.TheVariants as answer
 use Rattle.chess_items.specs.declared.taking.Stop.{Stop}
 use Rattle.chess_items.specs.declared.taking.Stop.TheVariants as stop
 use Rattle.chess_items.specs.declared.taking.Step.{Step}
@@ -57,28 +55,23 @@ all_white items = list_all (λ (x : ℕ × Item). is_white x.1) items
 abbrev pub Brackets : {T : Type 0} → TakesOne T → ℕ → T → T → Type 0
 Brackets takes at t u = takes t at TagOpen (Ok GoesOn) u ⊎ takes t at TagOpen (Ok Ends) u
 
--- an item of so many bytes was offered, which may be at most `most`
-abbrev pub Offered : {T : Type 0} → TakesOne T → ℕ → Item → ℕ → ℕ → T → T → Answer → Type 0
-Offered takes at item used most t u answer.GoesOn = takes t at item (Ok GoesOn) u × (used ≤ most)
-Offered takes at item used most t u answer.Ends = takes t at item (Ok Ends) u × (used ≤ most)
-Offered takes at item used most t u (answer.Stops stop.Left) = takes t at item (Ok Leaves) u
-Offered takes at item used most t u (answer.Stops (stop.Refused fault)) = takes t at item (Err fault) u
-Offered takes at item used most t u (answer.Stops stop.TooLarge) = (most < used) × (item ≡ TagOpen → Brackets takes at t u)
-Offered takes at item used most t u (answer.Stops stop.Full) = ⊥
-Offered takes at item used most t u (answer.Stops stop.End) = ⊥
-Offered takes at item used most t u (answer.Stops stop.NoItem) = ⊥
-
-abbrev pub settled : Answer → Place → ℕ → Bool → Step
-settled answer.GoesOn next used white = step.On next used white
-settled answer.Ends next used white = step.Full next used white
-settled (answer.Stops why) next used white = step.Stops why
+-- an item at a place, of so many bytes, was offered, which may be at most `most`
+abbrev pub Offered : {T : Type 0} → TakesOne T → ℕ → ℕ → Place → Item → ℕ → T → T → Step → Type 0
+Offered takes at most place item used t u (step.On next len white) = takes t at item (Ok GoesOn) u × (used ≤ most) × (len ≡ used) × (next ≡ place_after place item) × (white ≡ is_white item)
+Offered takes at most place item used t u (step.Full next len white) = takes t at item (Ok Ends) u × (used ≤ most) × (len ≡ used) × (next ≡ place_after place item) × (white ≡ is_white item)
+Offered takes at most place item used t u (step.Stops stop.Left) = takes t at item (Ok Leaves) u
+Offered takes at most place item used t u (step.Stops (stop.Refused fault)) = takes t at item (Err fault) u
+Offered takes at most place item used t u (step.Stops stop.TooLarge) = (most < used) × (item ≡ TagOpen → Brackets takes at t u)
+Offered takes at most place item used t u (step.Stops stop.Full) = ⊥
+Offered takes at most place item used t u (step.Stops stop.End) = ⊥
+Offered takes at most place item used t u (step.Stops stop.NoItem) = ⊥
 
 module _ {X : Type 0} (comes : X → List ℕ → X → Type 0) (at_hand : X → List ℕ) (all sound : X → Type 0) (size : X → ℕ) where
   -- so many bytes are left, or nothing is used
-  abbrev pub Settles : ℕ → Answer → X → X → Type 0
-  Settles left answer.GoesOn old new = Keeps comes at_hand all sound size left old new
-  Settles left answer.Ends old new = Keeps comes at_hand all sound size left old new
-  Settles left (answer.Stops why) old new = new ≡ old
+  abbrev pub Settles : ℕ → Step → X → X → Type 0
+  Settles left (step.On next used white) old new = Keeps comes at_hand all sound size left old new
+  Settles left (step.Full next used white) old new = Keeps comes at_hand all sound size left old new
+  Settles left (step.Stops why) old new = new ≡ old
 
 module _ {X T : Type 0} (comes : X → List ℕ → X → Type 0) (at_hand : X → List ℕ) (all sound : X → Type 0) (size : X → ℕ) (takes : TakesOne T) where
   abbrev pub Whatever : X → (List ℕ → Type 0) → Type 0

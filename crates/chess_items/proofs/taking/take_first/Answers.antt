@@ -11,4 +11,4 @@ settle-requires-clause-within g c = left_within c.requires.first refl
 
 pub returns : goal.returns
 returns g c =
-    record { steps = step_first c.requires.first c.requires.sound c.unread.ensures c.after-next.ensures c.is_white-white.ensures c.offer-answer.result c.offer-answer.ensures c.settle.ensures.step c.settle.ensures.text }
+    record { steps = step_first c.requires.first c.requires.sound c.requires.here c.unread.ensures c.offer-step.result c.offer-step.ensures c.settle.ensures.step c.settle.ensures.text }

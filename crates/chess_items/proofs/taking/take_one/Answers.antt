@@ -14,8 +14,7 @@ settle-requires-2-clause-within g c = found_within _ c.unread-2.ensures c.in-Som
 pub returns-clause-steps : goal.returns-clause-steps
 returns-clause-steps g c =
     let some : 0 < length c.in-Some-item.rest.now = search rules in
-    step_settled (seen_at_once c.requires c.unread-2.ensures c.in-Some-item.ensures some) c.unread-2.ensures c.in-Some-item.ensures c.unread-3.ensures
-    c.after-next.ensures c.is_white-white.ensures c.offer-answer-2.result c.offer-answer-2.ensures c.settle-2.ensures.step c.settle-2.ensures.text
+    step_settled (seen_at_once c.requires c.unread-2.ensures c.in-Some-item.ensures some) c.unread-2.ensures c.in-Some-item.ensures c.unread-3.ensures c.offer-step-2.result c.offer-step-2.ensures c.settle-2.ensures.step c.settle-2.ensures.text
 
 -- ---- a move's text within a line
 
@@ -29,8 +28,7 @@ pub returns-in-Some-word_within-clause-steps : goal.returns-in-Some-word_within-
 returns-in-Some-word_within-clause-steps g c =
     let followed = c.in-Some-word_within.ensures in
     rw (c.in-Some.ensures.here)
-    (step_settled (seen_at_once c.requires c.unread-in-Some.ensures followed.found followed.some) c.unread-in-Some.ensures followed.found c.unread-in-Some-word_within.ensures
-    refl refl c.offer-answer.result c.offer-answer.ensures c.settle.ensures.step c.settle.ensures.text)
+    (step_settled (seen_at_once c.requires c.unread-in-Some.ensures followed.found followed.some) c.unread-in-Some.ensures followed.found c.unread-in-Some-word_within.ensures c.offer-step.result c.offer-step.ensures c.settle.ensures.step c.settle.ensures.text)
 
 -- ---- others that are known by their first byte
 

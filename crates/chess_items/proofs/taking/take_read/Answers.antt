@@ -28,5 +28,4 @@ settle-requires-clause-within g c = found_within _ c.unread-2.ensures c.in-Some.
 
 pub returns-clause-steps : goal.returns-clause-steps
 returns-clause-steps g c =
-    step_settled (seen_read c.in-Ok-true.ensures.made c.in-Ok-true.field-0-test) c.unread-2.ensures c.in-Some.ensures c.unread-3.ensures
-    c.after-next.ensures c.is_white-white.ensures c.offer-answer.result c.offer-answer.ensures c.settle.ensures.step c.settle.ensures.text
+    step_settled (seen_read c.in-Ok-true.ensures.made c.in-Ok-true.field-0-test) c.unread-2.ensures c.in-Some.ensures c.unread-3.ensures c.offer-step.result c.offer-step.ensures c.settle.ensures.step c.settle.ensures.text
