@@ -4,7 +4,7 @@ use Rattle.std.specs.List.{AllByRecursion}
 use Rattle.byte_streams.specs.Calls.{Calls, Carries, joined}
 use Rattle.byte_streams.specs.declared.source.Failed.{Failed}
 use Rattle.byte_streams.proofs.CallLemmas.{Calls-more, joined-more, Carries-append}
-use Rattle.chess_loop.specs.RunEnds.{EndsGood, EndsOver, EndsWriteFault}
+use Rattle.chess_loop.specs.RunEnds.{EndsGood, EndsOver, EndsWriteFault, UpToLast}
 use Rattle.chess_loop.specs.InputLines.{ended_lines, line_buffer, last_line}
 use Rattle.chess_loop.specs.Runs.{Runs, Partly, Whole}
 use Rattle.chess_loop.specs.steps.Reads.{Holds, Feeds, Finishes}
@@ -70,6 +70,24 @@ module _ {S R W : Type 0} (step cut : S → List ℕ → List (List ℕ) → S �
         holds = rw (joined-more gives u.pieces piece, line_buffer-append) rest.1;
       }
 
+  -- a read more, whose lines are not answered yet
+  abbrev up_to_last : (turns : ℕ) (now : S) (line : LineSoFar) (r r1 r2 : R) (w w1 : W) (piece : List ℕ)
+      → Underway step beginning gives read_failed takes write_failed turns now line r r1 w w1
+      → gives r1 piece r2
+      → read_failed r2 ≡ (read_failed r1 || false)
+      → over now ≡ false
+      → UpToLast (Runs (Whole step)) over beginning gives read_failed r r2
+  up_to_last turns now line r r1 r2 w w1 piece u call reading awake = record {
+    pieces = u.pieces;
+    piece = piece;
+    text = u.text;
+    middle = now;
+    reads = Calls-more gives r r1 r2 u.pieces piece u.reads call;
+    well_read = reading ∙ rw u.reading refl;
+    answers = u.runs;
+    awake = awake;
+  }
+
   -- the handler takes no more lines
   pub ends_over : (turns : ℕ) (now next : S) (line line1 : LineSoFar) (r r1 r2 : R) (w w1 w2 : W) (piece : List ℕ)
       → Underway step beginning gives read_failed takes write_failed turns now line r r1 w w1
@@ -82,16 +100,9 @@ module _ {S R W : Type 0} (step cut : S → List ℕ → List (List ℕ) → S �
   ends_over turns now next line line1 r r1 r2 w w1 w2 piece u call reading awake feeds is_over =
       let fed = feeds (line_buffer [] (joined u.pieces)) u.holds in
       record {
-        pieces = u.pieces;
-        piece = piece;
-        text = u.text;
-        middle = now;
+        earlier = up_to_last turns now line r r1 r2 w w1 piece u call reading awake;
         lines = fed.1.lines;
         more = fed.0;
-        reads = Calls-more gives r r1 r2 u.pieces piece u.reads call;
-        well_read = reading ∙ rw u.reading refl;
-        answers = u.runs;
-        awake = awake;
         front = fed.1.front;
         answers_last = uncounted step (now, 0) (next, fed.1.most) fed.1.lines fed.0 fed.1.runs;
         is_over = is_over;
@@ -110,17 +121,10 @@ module _ {S R W : Type 0} (step cut : S → List ℕ → List (List ℕ) → S �
   ends_unwritten ended turns now next line line1 r r1 r2 w w1 w2 piece page e u call reading awake feeds =
       let fed = feeds (line_buffer [] (joined u.pieces)) u.holds in
       record {
-        pieces = u.pieces;
-        piece = piece;
-        text = u.text;
-        middle = now;
+        earlier = up_to_last turns now line r r1 r2 w w1 piece u call reading awake;
         before = w1;
         lines = fed.2.lines;
         more = fed.0;
-        reads = Calls-more gives r r1 r2 u.pieces piece u.reads call;
-        well_read = reading ∙ rw u.reading refl;
-        answers = u.runs;
-        awake = awake;
         writes = u.writes;
         well_written = u.writing;
         awaited = inl fed.2.front;
@@ -169,17 +173,10 @@ module _ {S R W : Type 0} (step cut : S → List ℕ → List (List ℕ) → S �
   ends_unfinished ended turns now next line r r1 r2 w w1 w2 e u call reading end awake finishes =
       let last = finishes (line_buffer [] (joined u.pieces)) u.holds in
       record {
-        pieces = u.pieces;
-        piece = [];
-        text = u.text;
-        middle = now;
+        earlier = up_to_last turns now line r r1 r2 w w1 [] u call reading awake;
         before = w1;
         lines = last_line (line_buffer [] (joined u.pieces));
         more = last.0;
-        reads = Calls-more gives r r1 r2 u.pieces [] u.reads call;
-        well_read = reading ∙ rw u.reading refl;
-        answers = u.runs;
-        awake = awake;
         writes = u.writes;
         well_written = u.writing;
         awaited = inr (refl, refl, end);
