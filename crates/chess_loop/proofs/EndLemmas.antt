@@ -4,7 +4,8 @@ use Rattle.std.specs.List.{AllByRecursion}
 use Rattle.byte_streams.specs.Calls.{Calls, Carries, joined}
 use Rattle.byte_streams.specs.declared.source.Failed.{Failed}
 use Rattle.byte_streams.proofs.CallLemmas.{Calls-more, joined-more, Carries-append}
-use Rattle.chess_loop.specs.RunEnds.{EndsGood, EndsOver, EndsWriteFault, UpToLast}
+use Rattle.chess_loop.specs.RunEnds.{EndsGood, EndsOver, EndsWriteFault, LoopEnds, UpToLast}
+use Rattle.chess_loop.specs.declared.driver.RunEnd.TheVariants.{Good, WriteFault}
 use Rattle.chess_loop.specs.InputLines.{ended_lines, line_buffer, last_line}
 use Rattle.chess_loop.specs.Runs.{Runs, Partly, Whole}
 use Rattle.chess_loop.specs.steps.Reads.{Holds, Feeds, Finishes}
@@ -178,3 +179,12 @@ module _ {S R W : Type 0} (step cut : S → List ℕ → List (List ℕ) → S �
         broken = last.1;
         answers_last = last.2;
       }
+
+-- each end of the loop, as it is reported
+module _ {S R W : Type 0} {runs : S → List (List ℕ) → List ℕ → S → Type 0} {over : S → Bool} {beginning : S} {gives : R → List ℕ → R → Type 0} {read_failed : R → Bool} {takes : W → List ℕ → W → Type 0} {write_failed : W → Bool}
+    {partly : S → List (List ℕ) → List ℕ → List ℕ → S → Type 0} {ended : R → Type 0} {most : ℕ} {state : S} {r r' : R} {w w' : W} where
+  pub good_end : EndsGood runs over beginning gives read_failed takes write_failed ended state r r' w w' ⊎ EndsOver runs over beginning gives read_failed takes write_failed state r r' w w' → LoopEnds runs over beginning gives read_failed takes write_failed partly ended most Good state r r' w w'
+  good_end end = record { good = λ _. end; read_fault = λ e. cc; write_fault = λ e. cc; memory = λ e. cc }
+
+  pub unwritten_end : EndsWriteFault runs over beginning gives read_failed takes write_failed partly ended state r r' w w' → LoopEnds runs over beginning gives read_failed takes write_failed partly ended most WriteFault state r r' w w'
+  unwritten_end end = record { good = λ e. cc; read_fault = λ e. cc; write_fault = λ _. end; memory = λ e. cc }

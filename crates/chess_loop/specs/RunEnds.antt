@@ -5,6 +5,7 @@
 --   IsPrefix         these lines, and others after them, are those
 --   Awaited          which lines are answered from one read to the next: those that end in the piece, or at the end of the input the last
 --   Broken           a call failed, after a prefix of the text was written; it was the last
+--   LoopEnds         how the loop over lines ends, by what it reports
 --   UpToLast         the lines that had ended before the last read are answered
 --   EndsGood         the whole input was read, and the answers to its lines are written; no call failed
 --   EndsOver         the handler takes no more lines: those up to then are answered, no call failed, and nothing was read after them
@@ -15,6 +16,8 @@
 use Rattle.std.specs.Prelude.{◌≡◌, ℕ, ◌<◌, Bool, true, false, ◌⊎◌, List, [], ◌∷◌, ◌++◌, length}
 use Rattle.std.specs.List.{AllByRecursion}
 use Rattle.byte_streams.specs.Calls.{Calls, Carries, joined}
+use Rattle.chess_loop.specs.declared.driver.RunEnd.{RunEnd}
+use Rattle.chess_loop.specs.declared.driver.RunEnd.TheVariants.{Good, ReadFault, WriteFault, Memory}
 use Rattle.chess_loop.specs.InputLines.{lines_of, ended_lines, last_line, line_buffer}
 
 -- 2^40
@@ -109,3 +112,10 @@ module _ {S R W : Type 0} (runs : S → List (List ℕ) → List ℕ → S → T
     pub is_over : over state ≡ true
     pub writes : Carries takes w (earlier.text ++ more) w'
     pub well_written : write_failed w' ≡ false
+
+  -- `Memory` where there was none to begin with
+  pub record LoopEnds (partly : S → List (List ℕ) → List ℕ → List ℕ → S → Type 0) (ended : R → Type 0) (most : ℕ) (result : RunEnd) (state : S) (r r' : R) (w w' : W) : Type 0 where
+    pub good : result ≡ Good → EndsGood ended state r r' w w' ⊎ EndsOver state r r' w w'
+    pub read_fault : result ≡ ReadFault → EndsReadFault most state r r' w w'
+    pub write_fault : result ≡ WriteFault → EndsWriteFault partly ended state r r' w w'
+    pub memory : result ≡ Memory → (state ≡ beginning) × (r' ≡ r) × (w' ≡ w)
