@@ -4,7 +4,8 @@ use Rattle.std.specs.List.{AllByRecursion}
 use Rattle.byte_streams.specs.Calls.{Calls, Carries, joined}
 use Rattle.byte_streams.specs.declared.source.Failed.{Failed}
 use Rattle.byte_streams.proofs.CallLemmas.{Calls-more, joined-more, Carries-append}
-use Rattle.chess_loop.specs.RunEnds.{EndsGood, EndsOver, EndsWriteFault}
+use Rattle.chess_loop.specs.RunEnds.{EndsGood, EndsOver, EndsWriteFault, LoopEnds, UpToLast}
+use Rattle.chess_loop.specs.declared.driver.RunEnd.TheVariants.{Good, WriteFault}
 use Rattle.chess_loop.specs.InputLines.{ended_lines, line_buffer, last_line}
 use Rattle.chess_loop.specs.Runs.{Runs, Partly, Whole}
 use Rattle.chess_loop.specs.steps.Reads.{Holds, Feeds, Finishes}
@@ -38,6 +39,13 @@ pub record Underway {S R W : Type 0} (step : S → List ℕ → List (List ℕ) 
   pub holds : Holds line (line_buffer [] (joined pieces))
 
 module _ {S R W : Type 0} (step cut : S → List ℕ → List (List ℕ) → S → Type 0) (over : S → Bool) (beginning : S) (gives : R → List ℕ → R → Type 0) (read_failed : R → Bool) (takes : W → List ℕ → W → Type 0) (write_failed : W → Bool) where
+  -- a run whose handler takes lines, and a read more that gave this piece
+  pub record HasRead (turns : ℕ) (now : S) (line : LineSoFar) (r r1 r2 : R) (w w1 : W) (piece : List ℕ) : Type 0 where
+    pub underway : Underway step beginning gives read_failed takes write_failed turns now line r r1 w w1
+    pub call : gives r1 piece r2
+    pub reading : read_failed r2 ≡ (read_failed r1 || false)
+    pub awake : over now ≡ false
+
   -- while the handler takes lines, all are answered
   kept : (next : S) (line : LineSoFar) (lines all : List (List ℕ)) (rest : List ℕ) → over next ≡ false
       → (over next ≡ true) ⊎ ((over next ≡ false) × (lines ≡ all) × Holds line rest) → (lines ≡ all) × Holds line rest
@@ -45,53 +53,58 @@ module _ {S R W : Type 0} (step cut : S → List ℕ → List (List ℕ) → S �
   kept next line lines all rest awake (inr whole) = (whole.1, whole.2)
 
   pub underway_on : (turns : ℕ) (now next : S) (line line1 : LineSoFar) (r r1 r2 : R) (w w1 w2 : W) (piece page : List ℕ)
-      → Underway step beginning gives read_failed takes write_failed turns now line r r1 w w1
-      → gives r1 piece r2
-      → read_failed r2 ≡ (read_failed r1 || false)
+      → HasRead turns now line r r1 r2 w w1 piece
       → 0 < length piece
       → ((begun : List ℕ) → Holds line begun → Feeds step cut takes write_failed {X = Unit {0}} {E = Failed} over begun piece now next line1 w1 [] w2 (Ok tt))
       → over next ≡ false
       → Underway step beginning gives read_failed takes write_failed (turns + 1) next line1 r r2 w w2
-  underway_on turns now next line line1 r r1 r2 w w1 w2 piece page u call reading some feeds awake =
+  underway_on turns now next line line1 r r1 r2 w w1 w2 piece page h some feeds awake =
+      let u = h.underway in
       let fed = feeds (line_buffer [] (joined u.pieces)) u.holds in
       let rest = kept next line1 fed.1.lines (ended_lines (line_buffer [] (joined u.pieces)) piece) (line_buffer (line_buffer [] (joined u.pieces)) piece) awake fed.1.rest in
       record {
         pieces = u.pieces ++ piece ∷ [];
         text = u.text ++ fed.0;
-        reads = Calls-more gives r r1 r2 u.pieces piece u.reads call;
+        reads = Calls-more gives r r1 r2 u.pieces piece u.reads h.call;
         count = rw (length-append) (omega (arith, u.count));
         each = each_more u.pieces piece u.each some;
         runs = rw (joined-more gives u.pieces piece, ended_lines-append)
             (Runs-append (Whole step) beginning now next (ended_lines [] (joined u.pieces)) _ u.text fed.0 u.runs
             (rw (sym rest.0) (uncounted step (now, 0) (next, fed.1.most) fed.1.lines fed.0 fed.1.runs)));
         writes = Carries-append takes w w1 w2 u.text fed.0 u.writes (sent_whole takes write_failed w1 w2 fed.0 fed.2);
-        reading = reading ∙ rw u.reading refl;
+        reading = h.reading ∙ rw u.reading refl;
         writing = fed.2.well ∙ u.writing;
         holds = rw (joined-more gives u.pieces piece, line_buffer-append) rest.1;
       }
 
+  -- a read more, whose lines are not answered yet
+  abbrev up_to_last : (turns : ℕ) (now : S) (line : LineSoFar) (r r1 r2 : R) (w w1 : W) (piece : List ℕ)
+      → HasRead turns now line r r1 r2 w w1 piece
+      → UpToLast (Runs (Whole step)) over beginning gives read_failed r r2
+  up_to_last turns now line r r1 r2 w w1 piece h = record {
+    pieces = h.underway.pieces;
+    piece = piece;
+    text = h.underway.text;
+    middle = now;
+    reads = Calls-more gives r r1 r2 h.underway.pieces piece h.underway.reads h.call;
+    well_read = h.reading ∙ rw h.underway.reading refl;
+    answers = h.underway.runs;
+    awake = h.awake;
+  }
+
   -- the handler takes no more lines
   pub ends_over : (turns : ℕ) (now next : S) (line line1 : LineSoFar) (r r1 r2 : R) (w w1 w2 : W) (piece : List ℕ)
-      → Underway step beginning gives read_failed takes write_failed turns now line r r1 w w1
-      → gives r1 piece r2
-      → read_failed r2 ≡ (read_failed r1 || false)
-      → over now ≡ false
+      → HasRead turns now line r r1 r2 w w1 piece
       → ((begun : List ℕ) → Holds line begun → Feeds step cut takes write_failed {X = Unit {0}} {E = Failed} over begun piece now next line1 w1 [] w2 (Ok tt))
       → over next ≡ true
       → EndsOver (Runs (Whole step)) over beginning gives read_failed takes write_failed next r r2 w w2
-  ends_over turns now next line line1 r r1 r2 w w1 w2 piece u call reading awake feeds is_over =
+  ends_over turns now next line line1 r r1 r2 w w1 w2 piece h feeds is_over =
+      let u = h.underway in
       let fed = feeds (line_buffer [] (joined u.pieces)) u.holds in
       record {
-        pieces = u.pieces;
-        piece = piece;
-        text = u.text;
-        middle = now;
+        earlier = up_to_last turns now line r r1 r2 w w1 piece h;
         lines = fed.1.lines;
         more = fed.0;
-        reads = Calls-more gives r r1 r2 u.pieces piece u.reads call;
-        well_read = reading ∙ rw u.reading refl;
-        answers = u.runs;
-        awake = awake;
         front = fed.1.front;
         answers_last = uncounted step (now, 0) (next, fed.1.most) fed.1.lines fed.0 fed.1.runs;
         is_over = is_over;
@@ -101,26 +114,17 @@ module _ {S R W : Type 0} (step cut : S → List ℕ → List (List ℕ) → S �
 
   -- an answer could not be written
   pub ends_unwritten : (ended : R → Type 0) (turns : ℕ) (now next : S) (line line1 : LineSoFar) (r r1 r2 : R) (w w1 w2 : W) (piece page : List ℕ) (e : Failed)
-      → Underway step beginning gives read_failed takes write_failed turns now line r r1 w w1
-      → gives r1 piece r2
-      → read_failed r2 ≡ (read_failed r1 || false)
-      → over now ≡ false
+      → HasRead turns now line r r1 r2 w w1 piece
       → ((begun : List ℕ) → Holds line begun → Feeds step cut takes write_failed {X = Unit {0}} {E = Failed} over begun piece now next line1 w1 page w2 (Err e))
       → EndsWriteFault (Runs (Whole step)) over beginning gives read_failed takes write_failed (Partly step cut) ended next r r2 w w2
-  ends_unwritten ended turns now next line line1 r r1 r2 w w1 w2 piece page e u call reading awake feeds =
+  ends_unwritten ended turns now next line line1 r r1 r2 w w1 w2 piece page e h feeds =
+      let u = h.underway in
       let fed = feeds (line_buffer [] (joined u.pieces)) u.holds in
       record {
-        pieces = u.pieces;
-        piece = piece;
-        text = u.text;
-        middle = now;
+        earlier = up_to_last turns now line r r1 r2 w w1 piece h;
         before = w1;
         lines = fed.2.lines;
         more = fed.0;
-        reads = Calls-more gives r r1 r2 u.pieces piece u.reads call;
-        well_read = reading ∙ rw u.reading refl;
-        answers = u.runs;
-        awake = awake;
         writes = u.writes;
         well_written = u.writing;
         awaited = inl fed.2.front;
@@ -135,54 +139,52 @@ module _ {S R W : Type 0} (step cut : S → List ℕ → List (List ℕ) → S �
 
   -- the input has ended, and the last line is answered
   pub ends_good : (ended : R → Type 0) (turns : ℕ) (now next : S) (line : LineSoFar) (r r1 r2 : R) (w w1 w2 : W)
-      → Underway step beginning gives read_failed takes write_failed turns now line r r1 w w1
-      → gives r1 [] r2
-      → read_failed r2 ≡ (read_failed r1 || false)
+      → HasRead turns now line r r1 r2 w w1 []
       → ended r2
-      → over now ≡ false
       → ((bytes : List ℕ) → Holds line bytes → Finishes step cut takes write_failed {X = Unit {0}} {E = Failed} bytes now next w1 w2 (Ok tt))
       → EndsGood (Runs (Whole step)) over beginning gives read_failed takes write_failed ended next r r2 w w2
-  ends_good ended turns now next line r r1 r2 w w1 w2 u call reading end awake finishes =
+  ends_good ended turns now next line r r1 r2 w w1 w2 h end finishes =
+      let u = h.underway in
       let last = finishes (line_buffer [] (joined u.pieces)) u.holds in
       record {
         pieces = u.pieces ++ [] ∷ [];
         text = u.text ++ last.0;
-        reads = Calls-more gives r r1 r2 u.pieces [] u.reads call;
-        well_read = reading ∙ rw u.reading refl;
+        reads = Calls-more gives r r1 r2 u.pieces [] u.reads h.call;
+        well_read = h.reading ∙ rw u.reading refl;
         all = end;
         answers = rw (joined-more gives u.pieces [], append-nil (joined u.pieces))
             (Runs-append (Whole step) beginning now next (ended_lines [] (joined u.pieces)) _ u.text last.0 u.runs last.1);
-        awake = rw (joined-more gives u.pieces [], append-nil (joined u.pieces)) (stays_awake now next (line_buffer [] (joined u.pieces)) last.0 awake last.1);
+        awake = rw (joined-more gives u.pieces [], append-nil (joined u.pieces)) (stays_awake now next (line_buffer [] (joined u.pieces)) last.0 h.awake last.1);
         writes = Carries-append takes w w1 w2 u.text last.0 u.writes (sent_whole takes write_failed w1 w2 last.0 last.2);
         well_written = last.2.well ∙ u.writing;
       }
 
   -- the answer to the last line could not be written
   pub ends_unfinished : (ended : R → Type 0) (turns : ℕ) (now next : S) (line : LineSoFar) (r r1 r2 : R) (w w1 w2 : W) (e : Failed)
-      → Underway step beginning gives read_failed takes write_failed turns now line r r1 w w1
-      → gives r1 [] r2
-      → read_failed r2 ≡ (read_failed r1 || false)
+      → HasRead turns now line r r1 r2 w w1 []
       → ended r2
-      → over now ≡ false
       → ((bytes : List ℕ) → Holds line bytes → Finishes step cut takes write_failed {X = Unit {0}} {E = Failed} bytes now next w1 w2 (Err e))
       → EndsWriteFault (Runs (Whole step)) over beginning gives read_failed takes write_failed (Partly step cut) ended next r r2 w w2
-  ends_unfinished ended turns now next line r r1 r2 w w1 w2 e u call reading end awake finishes =
+  ends_unfinished ended turns now next line r r1 r2 w w1 w2 e h end finishes =
+      let u = h.underway in
       let last = finishes (line_buffer [] (joined u.pieces)) u.holds in
       record {
-        pieces = u.pieces;
-        piece = [];
-        text = u.text;
-        middle = now;
+        earlier = up_to_last turns now line r r1 r2 w w1 [] h;
         before = w1;
         lines = last_line (line_buffer [] (joined u.pieces));
         more = last.0;
-        reads = Calls-more gives r r1 r2 u.pieces [] u.reads call;
-        well_read = reading ∙ rw u.reading refl;
-        answers = u.runs;
-        awake = awake;
         writes = u.writes;
         well_written = u.writing;
         awaited = inr (refl, refl, end);
         broken = last.1;
         answers_last = last.2;
       }
+
+-- each end of the loop, as it is reported
+module _ {S R W : Type 0} {runs : S → List (List ℕ) → List ℕ → S → Type 0} {over : S → Bool} {beginning : S} {gives : R → List ℕ → R → Type 0} {read_failed : R → Bool} {takes : W → List ℕ → W → Type 0} {write_failed : W → Bool}
+    {partly : S → List (List ℕ) → List ℕ → List ℕ → S → Type 0} {ended : R → Type 0} {most : ℕ} {state : S} {r r' : R} {w w' : W} where
+  pub good_end : EndsGood runs over beginning gives read_failed takes write_failed ended state r r' w w' ⊎ EndsOver runs over beginning gives read_failed takes write_failed state r r' w w' → LoopEnds runs over beginning gives read_failed takes write_failed partly ended most Good state r r' w w'
+  good_end end = record { good = λ _. end; read_fault = λ e. cc; write_fault = λ e. cc; memory = λ e. cc }
+
+  pub unwritten_end : EndsWriteFault runs over beginning gives read_failed takes write_failed partly ended state r r' w w' → LoopEnds runs over beginning gives read_failed takes write_failed partly ended most WriteFault state r r' w w'
+  unwritten_end end = record { good = λ e. cc; read_fault = λ e. cc; write_fault = λ _. end; memory = λ e. cc }

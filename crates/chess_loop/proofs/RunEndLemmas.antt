@@ -3,7 +3,7 @@ use Rattle.std.specs.List.{AllByRecursion}
 use Rattle.std.proofs.Common.{◌≡◌, ℕ, ◌<◌, ◌≤◌, ◌⊎◌, Bool, true, true≢false, inl, inr, List, [], ◌∷◌, ◌++◌, length, sym, ap, ◌∙◌, append_assoc, append-nil, arith}
 use Rattle.byte_streams.specs.Calls.{Calls, joined}
 use Rattle.byte_streams.proofs.CallLemmas.{joined-append, Calls-left}
-use Rattle.chess_loop.specs.RunEnds.{Awaited, IsPrefix, EndsGood, EndsOver, EndsReadFault, EndsWriteFault, never}
+use Rattle.chess_loop.specs.RunEnds.{Awaited, IsPrefix, EndsGood, EndsOver, EndsReadFault, EndsWriteFault, UpToLast, never}
 use Rattle.chess_loop.specs.InputLines.{ended_lines, last_line, lines_of, line_buffer}
 use Rattle.chess_loop.proofs.EndLemmas.{length-joined}
 use Rattle.chess_loop.proofs.LineLemmas.{ended_lines-append}
@@ -54,26 +54,31 @@ module _ {S R W : Type 0} (step : S → List ℕ → List ℕ → S → Type 0) 
       rw (broken.lines_are, broken.text_is)
       (in_one step old new (broken.done ++ broken.line ∷ []) (broken.answers ++ broken.begun) (uncounted (InOne step) (old, 0) (new, most) (broken.done ++ broken.line ∷ []) (broken.answers ++ broken.begun) all))
 
+  abbrev earlier_lines : (r r' : R) → UpToLast (Runs (Whole (InOne step))) never beginning gives read_failed r r' → UpToLast (Runs step) never beginning gives read_failed r r'
+  earlier_lines r r' u = record {
+    pieces = u.pieces;
+    piece = u.piece;
+    text = u.text;
+    middle = u.middle;
+    reads = u.reads;
+    well_read = u.well_read;
+    answers = in_one step beginning u.middle (ended_lines [] (joined u.pieces)) u.text u.answers;
+    awake = u.awake;
+  }
+
   pub whole_ends : (ended : R → Type 0) (state : S) (r r' : R) (w w' : W)
       → EndsWriteFault (Runs (Whole (InOne step))) never beginning gives read_failed takes write_failed (Partly (InOne step) (InOne step)) ended state r r' w w'
       → EndsWriteFault (Runs step) never beginning gives read_failed takes write_failed (AnyRest (Runs step)) ended state r r' w w'
   whole_ends ended state r r' w w' end = record {
-    pieces = end.pieces;
-    piece = end.piece;
-    text = end.text;
-    middle = end.middle;
+    earlier = earlier_lines r r' end.earlier;
     before = end.before;
     lines = end.lines;
     more = end.more;
-    reads = end.reads;
-    well_read = end.well_read;
-    answers = in_one step beginning end.middle (ended_lines [] (joined end.pieces)) end.text end.answers;
-    awake = end.awake;
     writes = end.writes;
     well_written = end.well_written;
     awaited = end.awaited;
     broken = end.broken;
-    answers_last = whole_lines end.middle state end.lines end.more end.broken.rest end.answers_last;
+    answers_last = whole_lines end.earlier.middle state end.lines end.more end.broken.rest end.answers_last;
   }
 
 -- the lines that were answered before the last read and since are the first of all

@@ -1,10 +1,10 @@
 //! The loop over reads, lines and writes, for any handler: lines in, answers out.
 //!
 //! The answers to the lines of one read are written before the next, with as few calls as fit a page.
-ghost use Rattle.std.specs.Prelude.{◌≡◌, ◌⊎◌, ◌+◌, ◌≤◌, List, ℕ, [], ◌<◌, ◌≢◌, false, length, OnOk};
+ghost use Rattle.std.specs.Prelude.{◌≡◌, ◌+◌, ◌≤◌, List, ℕ, [], ◌<◌, false, length, OnOk};
 ghost use Rattle.chess_loop.specs.Runs.{Runs, Partly, Whole};
-ghost use Rattle.chess_loop.specs.steps.Reads.{AnswersLine, Feeds, Finishes, Holds};
-ghost use Rattle.chess_loop.specs.RunEnds.{EndsGood, EndsOver, EndsReadFault, EndsWriteFault};
+ghost use Rattle.chess_loop.specs.steps.Reads.{Feeds, Finishes, Holds};
+ghost use Rattle.chess_loop.specs.RunEnds.{LoopEnds};
 
 use super::buffers::filled;
 use super::handler::LineHandler;
@@ -30,56 +30,7 @@ pub enum RunEnd {
     Memory,
 }
 
-// Answers the line, and begins another.
-fn answer_line<E: LineHandler, A: Allocator, W: Sink>(
-    engine: &mut E,
-    line: &mut LineBuffer<A>,
-    page: &mut OutputBuffer<A>,
-    writer: &mut W,
-) -> Result<(), Failed>
-    requires awake { E.over engine.old ≡ false }
-    requires room { length page.old + 2600 ≤ 65536 }
-    ensures answered { AnswersLine E.step E.cut W.takes W.failed line.old engine.old engine.new page.old writer.old page.new writer.new result }
-    ensures restarted { Holds line.new [] }
-{
-    let answered = engine.answer(line, page, writer);
-    line.restart();
-    answered
-}
-
-// Answers the lines that end in the piece, up to one after which the handler takes no more, and keeps the rest of the piece.
-fn answer_lines<E: LineHandler, A: Allocator, W: Sink>(
-    engine: &mut E,
-    line: &mut LineBuffer<A>,
-    piece: &[u8],
-    page: &mut OutputBuffer<A>,
-    writer: &mut W,
-) -> Result<(), Failed>
-    requires awake { E.over engine.old ≡ false }
-    requires empty { page.old ≡ [] }
-    ensures { (begun : List ℕ) → Holds line.old begun →
-        Feeds E.step E.cut W.takes W.failed E.over begun piece.now engine.old engine.new line.new writer.old page.new writer.new result }
-{
-    let mut rest = piece;
-    while let Some(at) = memchr(b'\n', rest) {
-        let (front, others) = rest.split_at(at);
-        line.add(front);
-        if let Err(failed) = page.make_room(writer) {
-            return Err(failed);
-        }
-        if let Err(failed) = answer_line(engine, line, page, writer) {
-            return Err(failed);
-        }
-        if engine.is_over() {
-            return Ok(());
-        }
-        rest = &others[1..];
-    }
-    line.add(rest);
-    Ok(())
-}
-
-// The same, and writes the answers.
+// Answers the lines that end in the piece, up to one after which the handler takes no more, keeps the rest of the piece, and writes the answers.
 fn feed<E: LineHandler, A: Allocator, W: Sink>(
     engine: &mut E,
     line: &mut LineBuffer<A>,
@@ -93,28 +44,42 @@ fn feed<E: LineHandler, A: Allocator, W: Sink>(
         Feeds E.step E.cut W.takes W.failed E.over begun piece.now engine.old engine.new line.new writer.old [] writer.new result }
     ensures empty { OnOk result (page.new ≡ []) }
 {
-    if let Err(failed) = answer_lines(engine, line, piece, page, writer) {
-        return Err(failed);
+    let mut rest = piece;
+    while let Some(at) = memchr(b'\n', rest) {
+        let (front, others) = rest.split_at(at);
+        line.add(front);
+        if let Err(failed) = page.make_room(writer) {
+            return Err(failed);
+        }
+        if let Err(failed) = engine.answer(line, page, writer) {
+            return Err(failed);
+        }
+        line.restart();
+        if engine.is_over() {
+            return page.flush(writer);
+        }
+        rest = &others[1..];
     }
+    line.add(rest);
     page.flush(writer)
 }
 
 // Answers what comes after the last line feed, and writes the answer.
 fn finish<E: LineHandler, A: Allocator, W: Sink>(
     engine: &mut E,
-    line: &mut LineBuffer<A>,
+    line: &LineBuffer<A>,
     page: &mut OutputBuffer<A>,
     writer: &mut W,
 ) -> Result<(), Failed>
     requires awake { E.over engine.old ≡ false }
     requires empty { page.old ≡ [] }
-    ensures { (bytes : List ℕ) → Holds line.old bytes →
+    ensures { (bytes : List ℕ) → Holds line.now bytes →
         Finishes E.step E.cut W.takes W.failed bytes engine.old engine.new writer.old writer.new result }
 {
     if line.is_empty() {
         return Ok(());
     }
-    let Err(failed) = answer_line(engine, line, page, writer) else {
+    let Err(failed) = engine.answer(line, page, writer) else {
         return page.flush(writer);
     };
     Err(failed)
@@ -136,14 +101,8 @@ fn answer_all<E: LineHandler, A: Allocator, R: Source, W: Sink>(
     requires reader { R.failed reader.old ≡ false }
     requires buffer { 0 < length buffer.old }
     requires writer { W.failed writer.old ≡ false }
-    ensures good { result ≡ RunEnd.Good →
-        EndsGood (Runs (Whole E.step)) E.over engine.old R.gives R.failed W.takes W.failed R.ended engine.new reader.old reader.new writer.old writer.new
-        ⊎ EndsOver (Runs (Whole E.step)) E.over engine.old R.gives R.failed W.takes W.failed engine.new reader.old reader.new writer.old writer.new }
-    ensures read_fault { result ≡ RunEnd.ReadFault →
-        EndsReadFault (Runs (Whole E.step)) E.over engine.old R.gives R.failed W.takes W.failed most engine.new reader.old reader.new writer.old writer.new }
-    ensures write_fault { result ≡ RunEnd.WriteFault →
-        EndsWriteFault (Runs (Whole E.step)) E.over engine.old R.gives R.failed W.takes W.failed (Partly E.step E.cut) R.ended engine.new reader.old reader.new writer.old writer.new }
-    ensures memory { result ≢ RunEnd.Memory }
+    ensures { LoopEnds (Runs (Whole E.step)) E.over engine.old R.gives R.failed W.takes W.failed (Partly E.step E.cut) R.ended most result engine.new
+        reader.old reader.new writer.old writer.new }
 {
     for _turn in 0..most {
         match reader.read(buffer) {
@@ -179,14 +138,8 @@ pub fn run<E: LineHandler, A: Allocator, R: Source, W: Sink>(
     requires awake { E.over engine.old ≡ false }
     requires reader { R.failed reader.old ≡ false }
     requires writer { W.failed writer.old ≡ false }
-    ensures good { result ≡ RunEnd.Good →
-        EndsGood (Runs (Whole E.step)) E.over engine.old R.gives R.failed W.takes W.failed R.ended engine.new reader.old reader.new writer.old writer.new
-        ⊎ EndsOver (Runs (Whole E.step)) E.over engine.old R.gives R.failed W.takes W.failed engine.new reader.old reader.new writer.old writer.new }
-    ensures read_fault { result ≡ RunEnd.ReadFault →
-        EndsReadFault (Runs (Whole E.step)) E.over engine.old R.gives R.failed W.takes W.failed most engine.new reader.old reader.new writer.old writer.new }
-    ensures write_fault { result ≡ RunEnd.WriteFault →
-        EndsWriteFault (Runs (Whole E.step)) E.over engine.old R.gives R.failed W.takes W.failed (Partly E.step E.cut) R.ended engine.new reader.old reader.new writer.old writer.new }
-    ensures memory { result ≡ RunEnd.Memory → (engine.new ≡ engine.old) × (reader.new ≡ reader.old) × (writer.new ≡ writer.old) }
+    ensures { LoopEnds (Runs (Whole E.step)) E.over engine.old R.gives R.failed W.takes W.failed (Partly E.step E.cut) R.ended most result engine.new
+        reader.old reader.new writer.old writer.new }
 {
     let (Ok(mut buffer), Ok(mut line), Ok(mut page)) = (
         filled(alloc, 0u8, PIECE),

@@ -41,12 +41,10 @@ line_cause s None c = idle_cause s c
 line_cause s (Some x) c = busy_cause x s c
 
 complete_cause : (last infinite : Bool) (x : Search) (best : Option (MoveParts × ℤ)) → best_moves (complete last infinite x best).0 ≡ one (last && not infinite)
-complete_cause false infinite x None = refl
-complete_cause false infinite x (Some best) = refl
 complete_cause true true x None = refl
-complete_cause true true x (Some best) = refl
 complete_cause true false x None = refl
-complete_cause true false x (Some best) = refl
+complete_cause false infinite x None = refl
+complete_cause _ _ x _ = refl
 
 and_assoc_one : (a b c : Bool) → one (a && b && c) ≡ cond a (one (b && c)) 0
 and_assoc_one true b c = refl

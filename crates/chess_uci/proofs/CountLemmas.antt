@@ -11,7 +11,7 @@ use Rattle.chess_uci.specs.declared.reply.Reply.{Reply}
 use Rattle.chess_uci.specs.Commands.{Command, Position, Go, Stop, Quit, SetOption, command_in, without_memory, claims_set}
 use Rattle.chess_uci.specs.Go.{fields}
 use Rattle.chess_uci.specs.Machine.{Event, Line, Starved, Slice, Moment, Search, State, Step, Turn, step, step_if, live_step, line_step, idle_command, busy_command, go_among, placed_at, set_claims, slice_step, slice_if, sliced, complete, moment_step, end_if, is_reached, begun}
-use Rattle.chess_uci.specs.Laws.{replies, after_events, one, best_moves, is_best_move, is_go, is_quit, says_go, says_quit, running, is_taken, taken, unfinished}
+use Rattle.chess_uci.specs.Laws.{replies, after_events, one, best_moves, is_best_move, is_go, is_quit, says, running, is_taken, taken, unfinished}
 
 -- the best moves replied, and the search that runs afterwards
 abbrev both : Step → ℕ
@@ -48,12 +48,10 @@ turn_both t = best_moves t.0 + one (is_some t.1)
 
 -- a slice
 complete_both : (last infinite : Bool) (x : Search) (best : Option (MoveParts × ℤ)) → turn_both (complete last infinite x best) ≡ 1
-complete_both false infinite x None = refl
-complete_both false infinite x (Some best) = refl
 complete_both true true x None = refl
-complete_both true true x (Some best) = refl
 complete_both true false x None = refl
-complete_both true false x (Some best) = refl
+complete_both false infinite x None = refl
+complete_both _ _ x _ = refl
 
 sliced_both : (l : GameLine) (all : Bool) (x : Search) → turn_both (sliced l all x) ≡ 1
 sliced_both l false x = refl
@@ -83,20 +81,20 @@ moment_step_both : (s : State) (x : Option Search) → s.search ≡ x →
 moment_step_both s None e = rw e refl
 moment_step_both s (Some x) e = end_both (is_reached x.end s.moment) x
 
-live_both : (s : State) (event : Event) → says_quit event ≡ false →
-    both (live_step s event) ≡ one (is_taken false (is_some s.search) (says_go event)) + running s
+live_both : (s : State) (event : Event) → says is_quit event ≡ false →
+    both (live_step s event) ≡ one (is_taken false (is_some s.search) (says is_go event)) + running s
 live_both s (Line bytes) q = line_both s s.search (command_in bytes) refl q
 live_both s (Starved bytes) q = line_both s s.search (without_memory (command_in bytes)) refl q
 live_both s Slice q = slice_step_both s s.search refl
 live_both s (Moment moment) q = moment_step_both (record s { moment = max s.moment moment }) s.search refl
 
-step_if_both : (ended : Bool) (s : State) (event : Event) → says_quit event ≡ false →
-    both (step_if ended s event) ≡ one (is_taken ended (is_some s.search) (says_go event)) + running s
+step_if_both : (ended : Bool) (s : State) (event : Event) → says is_quit event ≡ false →
+    both (step_if ended s event) ≡ one (is_taken ended (is_some s.search) (says is_go event)) + running s
 step_if_both true s event q = refl
 step_if_both false s event q = live_both s event q
 
-pub step_both : (s : State) (event : Event) → says_quit event ≡ false →
-    best_moves (step s event).0 + running (step s event).1 ≡ one (is_taken s.ended (is_some s.search) (says_go event)) + running s
+pub step_both : (s : State) (event : Event) → says is_quit event ≡ false →
+    best_moves (step s event).0 + running (step s event).1 ≡ one (is_taken s.ended (is_some s.search) (says is_go event)) + running s
 step_both s event q = step_if_both s.ended s event q
 
 -- `quit` is replied nothing
@@ -105,7 +103,7 @@ live_quit s None Quit q = refl
 live_quit s (Some x) Quit q = refl
 live_quit s _ _ q = cc
 
-live_step_quit : (s : State) (event : Event) → says_quit event ≡ true → live_step s event ≡ ([], record s { ended = true; search = None })
+live_step_quit : (s : State) (event : Event) → says is_quit event ≡ true → live_step s event ≡ ([], record s { ended = true; search = None })
 live_step_quit s (Line bytes) q = live_quit s s.search (command_in bytes) q
 live_step_quit s (Starved bytes) q = live_quit s s.search (without_memory (command_in bytes)) q
 live_step_quit s Slice q = cc
@@ -114,7 +112,7 @@ live_step_quit s (Moment moment) q = cc
 pub step_live : (s : State) (event : Event) → s.ended ≡ false → step s event ≡ live_step s event
 step_live s event live = ap (λ b. step_if b s event) live
 
-pub step_quit : (s : State) (event : Event) → s.ended ≡ false → says_quit event ≡ true → step s event ≡ ([], record s { ended = true; search = None })
+pub step_quit : (s : State) (event : Event) → s.ended ≡ false → says is_quit event ≡ true → step s event ≡ ([], record s { ended = true; search = None })
 step_quit s event live q = step_live s event live ∙ live_step_quit s event q
 
 -- after the end nothing happens
@@ -137,7 +135,7 @@ taken-ended : (s : State) (events : List Event) → s.ended ≡ true → taken s
 taken-ended s [] end = refl
 taken-ended s (event ∷ events) end =
     let rest : taken (step s event).1 events ≡ 0 = ap (λ (t : Step). taken t.1 events) (step_ended s event end) ∙ taken-ended s events end in
-    let here : one (is_taken s.ended (is_some s.search) (says_go event)) ≡ 0 = ap (λ b. one (is_taken b (is_some s.search) (says_go event))) end in
+    let here : one (is_taken s.ended (is_some s.search) (says is_go event)) ≡ 0 = ap (λ b. one (is_taken b (is_some s.search) (says is_go event))) end in
     omega (arith, rest, here)
 
 by_quit : (quit : Bool) (n m : ℕ) → m ≡ n → cond quit n m ≡ n
@@ -147,7 +145,7 @@ by_quit false n m e = e
 unfinished-ended : (s : State) (events : List Event) → s.ended ≡ true → unfinished s events ≡ running s
 unfinished-ended s [] end = refl
 unfinished-ended s (event ∷ events) end =
-    by_quit (says_quit event) (running s) _
+    by_quit (says is_quit event) (running s) _
     (ap (λ (t : Step). unfinished t.1 events) (step_ended s event end) ∙ unfinished-ended s events end)
 
 -- the count over the rest, from the count at an event
@@ -162,7 +160,7 @@ no_quit_is_go : (c : Command) → is_quit c ≡ true → is_go c ≡ false
 no_quit_is_go Quit q = refl
 no_quit_is_go _ q = cc
 
-not_go : (event : Event) → says_quit event ≡ true → says_go event ≡ false
+not_go : (event : Event) → says is_quit event ≡ true → says is_go event ≡ false
 not_go (Line bytes) q = no_quit_is_go (command_in bytes) q
 not_go (Starved bytes) q = no_quit_is_go (without_memory (command_in bytes)) q
 not_go Slice q = refl
@@ -182,10 +180,10 @@ counted false s (event ∷ events) live =
     let t : Step = step s event in
     let later : best_moves (replies t.1 events) + unfinished t.1 events ≡ taken t.1 events + running t.1 = counted t.1.ended t.1 events refl in
     let parts : best_moves (t.0 ++ replies t.1 events) ≡ best_moves t.0 + best_moves (replies t.1 events) = sum_by-append (λ (x : Reply). cond (is_best_move x) 1 0) t.0 (replies t.1 events) in
-    let at_quit : says_quit event ≡ true → (best_moves t.0 ≡ 0) × (best_moves (replies t.1 events) ≡ 0) × (one (is_taken s.ended (is_some s.search) (says_go event)) ≡ 0) × (taken t.1 events ≡ 0) =
+    let at_quit : says is_quit event ≡ true → (best_moves t.0 ≡ 0) × (best_moves (replies t.1 events) ≡ 0) × (one (is_taken s.ended (is_some s.search) (says is_go event)) ≡ 0) × (taken t.1 events ≡ 0) =
     λ q. let is : t ≡ ([], record s { ended = true; search = None }) = step_quit s event live q in
     let over : t.1.ended ≡ true = ap (λ (u : Step). u.1.ended) is in
-    (ap (λ (u : Step). best_moves u.0) is, ap best_moves (replies-ended t.1 events over), nothing_taken s.ended (is_some s.search) (says_go event) (not_go event q), taken-ended t.1 events over) in
-    ap (λ n. n + cond (says_quit event) (running s) (unfinished t.1 events)) parts
-    ∙ joined (says_quit event) (best_moves t.0) (best_moves (replies t.1 events)) (running t.1) (running s) (one (is_taken s.ended (is_some s.search) (says_go event))) (taken t.1 events) (unfinished t.1 events)
+    (ap (λ (u : Step). best_moves u.0) is, ap best_moves (replies-ended t.1 events over), nothing_taken s.ended (is_some s.search) (says is_go event) (not_go event q), taken-ended t.1 events over) in
+    ap (λ n. n + cond (says is_quit event) (running s) (unfinished t.1 events)) parts
+    ∙ joined (says is_quit event) (best_moves t.0) (best_moves (replies t.1 events)) (running t.1) (running s) (one (is_taken s.ended (is_some s.search) (says is_go event))) (taken t.1 events) (unfinished t.1 events)
     (step_both s event) later at_quit

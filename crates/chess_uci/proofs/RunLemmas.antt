@@ -4,7 +4,7 @@ use Rattle.chess_uci.specs.declared.reply.Reply.{Reply}
 use Rattle.chess_uci.specs.declared.reply.Reply.TheVariants.{ReadyOk}
 use Rattle.chess_uci.specs.Commands.{IsReady, Quit, command_in}
 use Rattle.chess_uci.specs.Machine.{Event, Line, Search, State, Step, step, line_step, beginning}
-use Rattle.chess_uci.specs.Laws.{replies, after_events, is_quit, says_quit, AnswersEachGo, AnswersAtTheEnd, IsReadyAlone, SilentAfterQuit}
+use Rattle.chess_uci.specs.Laws.{replies, after_events, is_quit, says, AnswersEachGo, AnswersAtTheEnd, IsReadyAlone, SilentAfterQuit}
 use Rattle.chess_uci.proofs.CountLemmas.{step_live, step_quit, replies-ended, counted}
 use Rattle.chess_uci.proofs.CauseLemmas.{step_cause}
 
@@ -34,7 +34,7 @@ ready_alone before later line is live =
       after-append beginning before (Line line ∷ later) ∙ ap (λ (t : Step). after_events t.1 later) at ∙ sym (after-append beginning before later),
     )
 
-quit_said : (line : List ℕ) → command_in line ≡ Quit → says_quit (Line line) ≡ true
+quit_said : (line : List ℕ) → command_in line ≡ Quit → says is_quit (Line line) ≡ true
 quit_said line is = ap is_quit is
 
 silent : (s : State) (ended : Bool) (line : List ℕ) (later : List Event) → s.ended ≡ ended → command_in line ≡ Quit → replies s (Line line ∷ later) ≡ []

@@ -4,10 +4,11 @@
 --   named        the command that a word names, with the words after it
 --   command_in   what a line asks for
 --   claims_set   what the words after `setoption` set the option Claims to
-use Rattle.std.specs.Prelude.{ℕ, Bool, true, false, ◌||◌, ◌&&◌, if◌then◌else◌, List, [], ◌∷◌, map, Option, Some, None, unwrap_or, codes}
+use Rattle.std.specs.Prelude.{ℕ, Bool, true, false, ◌&&◌, if◌then◌else◌, List, [], ◌∷◌, map, Option, Some, None, unwrap_or, codes}
 use Rattle.std.specs.Char.{to_ascii_lowercase}
 use Rattle.std.specs.Str.{bytes_eq}
 use Rattle.byte_streams.specs.Words.{white_space, words}
+use Rattle.chess_uci.specs.Tables.{beside}
 
 -- from the horizontal tab to the carriage return, and the space
 abbrev pub gaps : List ℕ
@@ -31,23 +32,22 @@ pub data Command : Type 0 where
   -- an option, by the words after `setoption`
   SetOption : List (List ℕ) → Command
 
--- commands that ask for nothing here
-abbrev pub is_idle : List ℕ → Bool
-is_idle word = bytes_eq word (codes "debug") || bytes_eq word (codes "register") || bytes_eq word (codes "ponderhit")
-
--- the command of a first word and the words after it
+-- the command of a first word and the words after it; the last three ask for nothing here
 abbrev pub named : List ℕ → List (List ℕ) → Option Command
 named word others =
-    if bytes_eq word (codes "uci") then Some Uci
-    else if bytes_eq word (codes "isready") then Some IsReady
-    else if bytes_eq word (codes "ucinewgame") then Some NewGame
-    else if bytes_eq word (codes "position") then Some (Position others)
-    else if bytes_eq word (codes "go") then Some (Go others)
-    else if bytes_eq word (codes "stop") then Some Stop
-    else if bytes_eq word (codes "quit") then Some Quit
-    else if bytes_eq word (codes "setoption") then Some (SetOption others)
-    else if is_idle word then Some Idle
-    else None
+    beside (
+    (codes "uci", Uci)
+    ∷ (codes "isready", IsReady)
+    ∷ (codes "ucinewgame", NewGame)
+    ∷ (codes "position", Position others)
+    ∷ (codes "go", Go others)
+    ∷ (codes "stop", Stop)
+    ∷ (codes "quit", Quit)
+    ∷ (codes "setoption", SetOption others)
+    ∷ (codes "debug", Idle)
+    ∷ (codes "register", Idle)
+    ∷ (codes "ponderhit", Idle)
+    ∷ []) word
 
 -- the first word that is a command decides; words before it are skipped
 abbrev pub command : List (List ℕ) → Command

@@ -9,27 +9,27 @@ use Rattle.std.specs.Prelude.{ℕ, ◌+◌, ◌-◌, ◌*◌, ◌/◌, ◌==◌,
 use Rattle.std.specs.Char.{is_ascii_digit}
 use Rattle.std.specs.List.{list_all}
 use Rattle.std.specs.Str.{bytes_eq}
+use Rattle.chess_uci.specs.Tables.{beside}
 use Rattle.chess_types.specs.declared.board.man.Colour.{Colour}
 use Rattle.chess_types.specs.declared.board.man.Colour.TheVariants.{White, Black}
 use Rattle.chess_uci.specs.declared.fields.Name.{Name}
 use Rattle.chess_uci.specs.declared.fields.Name.TheVariants.{Depth, MoveTime, WhiteTime, BlackTime, WhiteIncrement, BlackIncrement, Ignored}
 use Rattle.chess_uci.specs.declared.fields.Fields.{Fields}
 
--- these take a number, and nothing is done with it
-abbrev pub is_ignored : List ℕ → Bool
-is_ignored word = bytes_eq word (codes "movestogo") || bytes_eq word (codes "nodes") || bytes_eq word (codes "mate")
-
--- the name of a field of `go`
+-- the name of a field of `go` that takes a number; with the last three nothing is done
 abbrev pub name_of : List ℕ → Option Name
 name_of word =
-    if bytes_eq word (codes "depth") then Some Depth
-    else if bytes_eq word (codes "movetime") then Some MoveTime
-    else if bytes_eq word (codes "wtime") then Some WhiteTime
-    else if bytes_eq word (codes "btime") then Some BlackTime
-    else if bytes_eq word (codes "winc") then Some WhiteIncrement
-    else if bytes_eq word (codes "binc") then Some BlackIncrement
-    else if is_ignored word then Some Ignored
-    else None
+    beside (
+    (codes "depth", Depth)
+    ∷ (codes "movetime", MoveTime)
+    ∷ (codes "wtime", WhiteTime)
+    ∷ (codes "btime", BlackTime)
+    ∷ (codes "winc", WhiteIncrement)
+    ∷ (codes "binc", BlackIncrement)
+    ∷ (codes "movestogo", Ignored)
+    ∷ (codes "nodes", Ignored)
+    ∷ (codes "mate", Ignored)
+    ∷ []) word
 
 -- the word `infinite`
 abbrev pub is_infinite : List ℕ → Bool

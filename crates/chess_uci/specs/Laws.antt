@@ -55,19 +55,12 @@ abbrev pub is_quit : Command → Bool
 is_quit Quit = true
 is_quit _ = false
 
--- the event is a line that says `go`
-abbrev pub says_go : Event → Bool
-says_go (Line bytes) = is_go (command_in bytes)
-says_go (Starved bytes) = is_go (without_memory (command_in bytes))
-says_go Slice = false
-says_go (Moment moment) = false
-
--- the event is a line that says `quit`
-abbrev pub says_quit : Event → Bool
-says_quit (Line bytes) = is_quit (command_in bytes)
-says_quit (Starved bytes) = is_quit (without_memory (command_in bytes))
-says_quit Slice = false
-says_quit (Moment moment) = false
+-- the event is a line that asks for such a command
+abbrev pub says : (Command → Bool) → Event → Bool
+says asked (Line bytes) = asked (command_in bytes)
+says asked (Starved bytes) = asked (without_memory (command_in bytes))
+says asked Slice = false
+says asked (Moment moment) = false
 
 -- a search runs
 abbrev pub running : State → ℕ
@@ -82,12 +75,12 @@ is_taken false false go = go
 -- how many such lines are among the events before `quit`
 abbrev pub taken : State → List Event → ℕ
 taken s [] = 0
-taken s (event ∷ events) = one (is_taken s.ended (is_some s.search) (says_go event)) + taken (step s event).1 events
+taken s (event ∷ events) = one (is_taken s.ended (is_some s.search) (says is_go event)) + taken (step s event).1 events
 
 -- whether a search runs at the end, or ran when `quit` came
 abbrev pub unfinished : State → List Event → ℕ
 unfinished s [] = running s
-unfinished s (event ∷ events) = if says_quit event then running s else unfinished (step s event).1 events
+unfinished s (event ∷ events) = if says is_quit event then running s else unfinished (step s event).1 events
 
 -- As many best moves as `go` lines before `quit` that are not refused as busy, less one where a search runs or ran at `quit`.
 abbrev pub AnswersEachGo : Type 0

@@ -1,8 +1,9 @@
 ghost use Rattle.std.specs.Prelude.{◌≡◌};
 ghost use Rattle.byte_streams.specs.Words.{words};
-ghost use Rattle.chess_uci.specs.Commands.{gaps, command_in, named as named_by, is_idle, same_word, truth_in, claims_set};
+ghost use Rattle.chess_uci.specs.Commands.{gaps, command_in, named as named_by, same_word, truth_in, claims_set};
 ghost use Rattle.chess_uci.specs.steps.Commands.{command_of, named_of};
 
+use crate::table::beside;
 use byte_streams::split_word;
 
 /// The bytes that part words.
@@ -22,37 +23,25 @@ pub(crate) enum Command<'a> {
     SetOption(&'a [u8]),
 }
 
-fn is_idle(word: &[u8]) -> bool
-    ensures { result ≡ is_idle word.now }
-{
-    word == b"debug".as_slice() || word == b"register".as_slice() || word == b"ponderhit".as_slice()
-}
-
 // The command that the word names.
+#[tactic(auto, using(crate::proofs::TableLemmas::beside_map))]
 fn named<'a>(word: &[u8], rest: &'a [u8]) -> Option<Command<'a>>
     ensures { named_of result ≡ named_by word.now (words gaps rest.now) }
 {
-    if word == b"uci".as_slice() {
-        Some(Command::Uci)
-    } else if word == b"isready".as_slice() {
-        Some(Command::IsReady)
-    } else if word == b"ucinewgame".as_slice() {
-        Some(Command::NewGame)
-    } else if word == b"position".as_slice() {
-        Some(Command::Position(rest))
-    } else if word == b"go".as_slice() {
-        Some(Command::Go(rest))
-    } else if word == b"stop".as_slice() {
-        Some(Command::Stop)
-    } else if word == b"quit".as_slice() {
-        Some(Command::Quit)
-    } else if word == b"setoption".as_slice() {
-        Some(Command::SetOption(rest))
-    } else if is_idle(word) {
-        Some(Command::Idle)
-    } else {
-        None
-    }
+    let table = [
+        (b"uci".as_slice(), Command::Uci),
+        (b"isready", Command::IsReady),
+        (b"ucinewgame", Command::NewGame),
+        (b"position", Command::Position(rest)),
+        (b"go", Command::Go(rest)),
+        (b"stop", Command::Stop),
+        (b"quit", Command::Quit),
+        (b"setoption", Command::SetOption(rest)),
+        (b"debug", Command::Idle),
+        (b"register", Command::Idle),
+        (b"ponderhit", Command::Idle),
+    ];
+    beside(&table, word)
 }
 
 /// What the line asks for: its first word that is a command decides.

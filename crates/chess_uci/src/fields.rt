@@ -3,9 +3,10 @@ ghost use Rattle.std.specs.Char.{is_ascii_digit};
 ghost use Rattle.std.specs.List.{list_all};
 ghost use Rattle.byte_streams.specs.Words.{words};
 ghost use Rattle.chess_uci.specs.Commands.{gaps};
-ghost use Rattle.chess_uci.specs.Go.{with_digit, digits, number, is_ignored, is_infinite, name_of, with_number, fields_with_word, given, fields};
+ghost use Rattle.chess_uci.specs.Go.{with_digit, digits, number, is_infinite, name_of, with_number, fields_with_word, given, fields};
 
 use crate::command::GAPS;
+use crate::table::beside;
 use byte_streams::split_word;
 
 /// A field of `go` that takes a number.
@@ -73,12 +74,6 @@ fn number(word: &[u8]) -> Option<u32>
     }
 }
 
-fn is_ignored(word: &[u8]) -> bool
-    ensures { result ≡ is_ignored word.now }
-{
-    word == b"movestogo".as_slice() || word == b"nodes".as_slice() || word == b"mate".as_slice()
-}
-
 fn is_infinite(word: &[u8]) -> bool
     ensures { result ≡ is_infinite word.now }
 {
@@ -89,23 +84,18 @@ fn is_infinite(word: &[u8]) -> bool
 pub(crate) fn name_of(word: &[u8]) -> Option<Name>
     ensures { result ≡ name_of word.now }
 {
-    if word == b"depth".as_slice() {
-        Some(Name::Depth)
-    } else if word == b"movetime".as_slice() {
-        Some(Name::MoveTime)
-    } else if word == b"wtime".as_slice() {
-        Some(Name::WhiteTime)
-    } else if word == b"btime".as_slice() {
-        Some(Name::BlackTime)
-    } else if word == b"winc".as_slice() {
-        Some(Name::WhiteIncrement)
-    } else if word == b"binc".as_slice() {
-        Some(Name::BlackIncrement)
-    } else if is_ignored(word) {
-        Some(Name::Ignored)
-    } else {
-        None
-    }
+    let table = [
+        (b"depth".as_slice(), Name::Depth),
+        (b"movetime", Name::MoveTime),
+        (b"wtime", Name::WhiteTime),
+        (b"btime", Name::BlackTime),
+        (b"winc", Name::WhiteIncrement),
+        (b"binc", Name::BlackIncrement),
+        (b"movestogo", Name::Ignored),
+        (b"nodes", Name::Ignored),
+        (b"mate", Name::Ignored),
+    ];
+    beside(&table, word)
 }
 
 fn with_number(fields: Fields, name: Name, n: u32) -> Fields

@@ -15,6 +15,7 @@ mod reply;
 mod roots;
 mod search;
 mod session;
+mod table;
 
 pub use event::Event;
 pub use laws::session_laws;

@@ -34,30 +34,31 @@ pub returns-clause-write_fault : goal.returns-clause-write_fault
 returns-clause-write_fault g c = λ is.
     let how = c.board.ensures.write_fault is in
     let end = how.1 in
+    let earlier = end.earlier in
     let broken = end.broken in
-    let given = end.pieces ++ end.piece ∷ [] in
+    let given = earlier.pieces ++ earlier.piece ∷ [] in
     let left : c.args.reader.now.left ≡ joined given ++ c.board.new.reader.left =
-    Calls-left _ (λ (s : Left). s.left) (λ s t p h. h) _ _ given end.reads in
+    Calls-left _ (λ (s : Left). s.left) (λ s t p h. h) _ _ given earlier.reads in
     let before : end.before.taken ≡ c.args.writer.now.taken ++ joined end.writes.pieces =
     Calls-taken _ (λ (s : Written). s.taken) (λ s t p h. h) _ _ end.writes.pieces end.writes.calls in
     let then : broken.before.taken ≡ end.before.taken ++ joined broken.calls.pieces =
     Calls-taken _ (λ (s : Written). s.taken) (λ s t p h. h) _ _ broken.calls.pieces broken.calls.calls in
     let last : c.board.new.writer.taken ≡ broken.before.taken ++ [] = broken.last in
-    let taken : c.board.new.writer.taken ≡ c.args.writer.now.taken ++ (end.text ++ broken.front) =
+    let taken : c.board.new.writer.taken ≡ c.args.writer.now.taken ++ (earlier.text ++ broken.front) =
     last ∙ append-nil broken.before.taken ∙ then ∙ ap (λ (x : List ℕ). x ++ joined broken.calls.pieces) (before ∙ ap (λ (x : List ℕ). c.args.writer.now.taken ++ x) end.writes.whole)
-    ∙ append_assoc c.args.writer.now.taken end.text (joined broken.calls.pieces) ∙ ap (λ (x : List ℕ). c.args.writer.now.taken ++ (end.text ++ x)) broken.calls.whole in (
+    ∙ append_assoc c.args.writer.now.taken earlier.text (joined broken.calls.pieces) ∙ ap (λ (x : List ℕ). c.args.writer.now.taken ++ (earlier.text ++ x)) broken.calls.whole in (
       joined given,
-      ended_lines [] (joined end.pieces) ++ end.lines,
-      end.text ++ end.more,
-      end.text ++ broken.front,
+      ended_lines [] (joined earlier.pieces) ++ end.lines,
+      earlier.text ++ end.more,
+      earlier.text ++ broken.front,
       broken.rest,
       how.0,
       left,
-      lines_first (λ (s : Left). s.left ≡ []) end.pieces end.piece end.lines c.board.new.reader end.awaited,
-      Runs-append Answers beginning end.middle how.0 (ended_lines [] (joined end.pieces)) end.lines end.text end.more end.answers end.answers_last,
-      ap (λ (x : List ℕ). end.text ++ x) (sym broken.whole) ∙ sym (append_assoc end.text broken.front broken.rest),
+      lines_first (λ (s : Left). s.left ≡ []) earlier.pieces earlier.piece end.lines c.board.new.reader end.awaited,
+      Runs-append Answers beginning earlier.middle how.0 (ended_lines [] (joined earlier.pieces)) end.lines earlier.text end.more earlier.answers end.answers_last,
+      ap (λ (x : List ℕ). earlier.text ++ x) (sym broken.whole) ∙ sym (append_assoc earlier.text broken.front broken.rest),
       broken.unwritten,
       taken,
-      end.well_read,
+      earlier.well_read,
       broken.fails,
     )

@@ -1,7 +1,7 @@
 use Rattle.std.proofs.Common.{◌≡◌, ℕ, List, length, false}
 use Rattle.chess_loop.specs.steps.Reads.{Holds}
 use Rattle.chess_loop.proofs.FeedLemmas.{Going}
-use Rattle.chess_loop.proofs.driver.answer_lines.Given as goal
+use Rattle.chess_loop.proofs.driver.feed.Given as goal
 
 abbrev pub invariant-loop-at : goal.invariant-loop-at
 invariant-loop-at g l = record {
