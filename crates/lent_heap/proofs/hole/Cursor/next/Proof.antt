@@ -5,7 +5,6 @@ use mir.Val.{Val, vcons, vnil}
 use base.Logic.{SProp, emp}
 use prog.Wp.{Env}
 use contract.Monad.{fact, fact_i}
-use contract.Running.{tables}
 use types.Kit.{‵, raw, ◌$◌, !, by, move, use0, use1, fjoin}
 use types.Part.{whole, sub, agg}
 use types.Match.{live}
@@ -31,7 +30,7 @@ use Rattle.lent_heap.proofs.hole.Cursor.next.Code as compiled
 
 pub next_spec : {M : Type 1} → statement M
 next_spec 𝓤 𝓛 𝓜 𝓡 wired =
-    let 𝓣 = tables 𝓤 𝓛.H 𝓜 𝓡 𝓡.env in let c = clauses 𝓛 𝓜.mem 𝓡.returns in let fn : Fn = compiled.function in
+    let c = clauses 𝓛 𝓜.mem 𝓡.returns in let fn : Fn = compiled.function in
     walks 𝓛 ended c 𝓜 𝓡 (λ κs x f. tt, tt) #self fn (compiled.unfolded 𝓤 𝓛.H 𝓜 𝓡 wired) (λ z are.
     let Post : Val → SProp 𝓤 = (walk_of 𝓛 ended (used_up ended) c).post z in let Out : RattleType = type_at ended.signature.result z.0.0 in
     let x = z.0.3.0 in let r : Region = x.region in let b = r.block in let u : Span = x.current in
