@@ -29,6 +29,19 @@ pub(crate) fn align_size(size: usize) -> usize
     size.max(UNIT).next_multiple_of(UNIT)
 }
 
+// How a heap is shown: by its size, and by how much of it is given out.
+pub(crate) fn write_counts<W: fmt::Write>(
+    f: &mut fmt::Formatter<W>,
+    name: &str,
+    size: usize,
+    used: usize,
+) -> fmt::Result {
+    f.debug_struct(name)
+        .field("size", &size)
+        .field("used", &used)
+        .finish()
+}
+
 impl Heap {
     ghost use Rattle.lent_heap.specs.Heap.{heap_holes, heap_region, heap_size};
 
@@ -115,10 +128,7 @@ impl Heap {
 
 impl fmt::Debug for Heap {
     fn fmt<W: fmt::Write>(&self, f: &mut fmt::Formatter<W>) -> fmt::Result {
-        f.debug_struct("Heap")
-            .field("size", &self.size())
-            .field("used", &self.used())
-            .finish()
+        write_counts(f, "Heap", self.size(), self.used())
     }
 }
 

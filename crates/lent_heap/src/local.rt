@@ -3,7 +3,7 @@ ghost use Rattle.lent_heap.specs.Region.{block_size};
 ghost use Rattle.lent_heap.specs.Ownership.{block_token};
 
 use crate::block::Block;
-use crate::heap::{Heap, align_size};
+use crate::heap::{Heap, align_size, write_counts};
 use crate::memory::{Memory, UNIT};
 use crate::slot::Slot;
 use std::alloc::{AllocError, Allocator};
@@ -97,10 +97,7 @@ unsafe impl Allocator for LentHeap {
 
 impl fmt::Debug for LentHeap {
     fn fmt<W: fmt::Write>(&self, f: &mut fmt::Formatter<W>) -> fmt::Result {
-        f.debug_struct("LentHeap")
-            .field("size", &self.size())
-            .field("used", &self.used())
-            .finish()
+        write_counts(f, "LentHeap", self.size(), self.used())
     }
 }
 
