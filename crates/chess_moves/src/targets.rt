@@ -1,12 +1,12 @@
-ghost use Rattle.std.specs.Prelude.{◌≡◌, ◌<◌, ◌≤◌, ◌&&◌, ◌||◌, ◌==◌, ℕ, None, true, false, is_none, IfSome, IfNone};
+ghost use Rattle.std.specs.Prelude.{◌≡◌, ◌<◌, ◌&&◌, ◌||◌, ◌==◌, ℕ, None, true, false, is_none, IfSome, IfNone};
 ghost use Rattle.std.specs.FinSet.{contains};
 ghost use Rattle.chess_types.specs.declared.board.man.Kind.TheVariants.{Pawn, King};
 ghost use Rattle.chess_types.specs.board.Board.{man_at};
 ghost use Rattle.chess_types.specs.board.Attack.{leaps as leaps_of};
-ghost use Rattle.chess_types.specs.board.Position.{man_on, cell_of, king_home};
+ghost use Rattle.chess_types.specs.board.Position.{man_on, king_home};
 ghost use Rattle.chess_types.specs.board.Pseudo.{moves_as_it_attacks, is_ahead, is_capturable, steps_one, steps_two};
 ghost use Rattle.chess_play.specs.Castling.{may_castle};
-ghost use Rattle.chess_moves.specs.steps.Guarded.{IsGuard, is_safe_step};
+ghost use Rattle.chess_moves.specs.steps.Guarded.{IsGuard, StandsGuarded, is_safe_step};
 ghost use Rattle.chess_moves.specs.steps.Targets.{is_plain_target, is_legal_target, move_to, promotes};
 
 use crate::guard::{CheckInfo, guarded};
@@ -113,10 +113,7 @@ pub(crate) fn promotes(side: Colour, kind: Kind, to: Square) -> bool
 /// The squares to which a pawn's legal moves go. Only en passant, which takes two men from one line, is made and taken back.
 #[inline(always)]
 fn pawn_targets(live: &mut Live, guard: &CheckInfo, from: Square) -> SquareSet
-    requires here { man_on live.old.position from ≡ cell_of live.old.position.side Pawn }
-    requires guard { IsGuard guard.now live.old.position }
-    requires clock { live.old.position.clock ≤ 1000000 }
-    requires number { live.old.position.number ≤ 1000000 }
+    requires { StandsGuarded live.old.position guard.now Pawn from }
     ensures is_legal_target { (to : ℕ) → to < 64 → contains result to ≡ is_legal_target live.old.position Pawn from to }
     ensures position { live.new.position ≡ live.old.position }
     ensures words { live.new.words ≡ live.old.words }
@@ -177,10 +174,7 @@ fn is_home(side: Colour, at: Square) -> bool
 /// The squares to which the king's legal moves go.
 #[inline(always)]
 fn king_targets(live: &Live, guard: &CheckInfo, from: Square) -> SquareSet
-    requires here { man_on live.now.position from ≡ cell_of live.now.position.side King }
-    requires guard { IsGuard guard.now live.now.position }
-    requires clock { live.now.position.clock ≤ 1000000 }
-    requires number { live.now.position.number ≤ 1000000 }
+    requires { StandsGuarded live.now.position guard.now King from }
     ensures { (to : ℕ) → to < 64 → contains result to ≡ is_legal_target live.now.position King from to }
 {
     let setup = live.position();
@@ -197,10 +191,7 @@ fn king_targets(live: &Live, guard: &CheckInfo, from: Square) -> SquareSet
 /// The squares to which the legal moves of a man of the side to move go; a pawn's to its last rank name what it becomes.
 #[inline(always)]
 pub(crate) fn targets(live: &mut Live, guard: &CheckInfo, kind: Kind, from: Square) -> SquareSet
-    requires here { man_on live.old.position from ≡ cell_of live.old.position.side kind }
-    requires guard { IsGuard guard.now live.old.position }
-    requires clock { live.old.position.clock ≤ 1000000 }
-    requires number { live.old.position.number ≤ 1000000 }
+    requires { StandsGuarded live.old.position guard.now kind from }
     ensures is_legal_target { (to : ℕ) → to < 64 → contains result to ≡ is_legal_target live.old.position kind from to }
     ensures position { live.new.position ≡ live.old.position }
     ensures words { live.new.words ≡ live.old.words }

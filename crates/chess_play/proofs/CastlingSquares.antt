@@ -133,19 +133,15 @@ same_wing c QueenSide QueenSide e = refl
 same_wing White _ _ e = absurd (omega arith)
 same_wing Black _ _ e = absurd (omega arith)
 
-crossed_between : (c : Colour) (w : Wing) → is_between (king_home c) (rook_home c w) (crossed c w) ≡ true
+-- the squares crossed and reached are between the king's home and the rook's
+both_between :
+    (c : Colour) (w : Wing) →
+    (is_between (king_home c) (rook_home c w) (crossed c w) ≡ true) × (is_between (king_home c) (rook_home c w) (reached c w) ≡ true)
 unfolding is_between
-crossed_between White KingSide = refl
-crossed_between White QueenSide = refl
-crossed_between Black KingSide = refl
-crossed_between Black QueenSide = refl
-
-reached_between : (c : Colour) (w : Wing) → is_between (king_home c) (rook_home c w) (reached c w) ≡ true
-unfolding is_between
-reached_between White KingSide = refl
-reached_between White QueenSide = refl
-reached_between Black KingSide = refl
-reached_between Black QueenSide = refl
+both_between White KingSide = (refl, refl)
+both_between White QueenSide = (refl, refl)
+both_between Black KingSide = (refl, refl)
+both_between Black QueenSide = (refl, refl)
 
 -- from where and to where the king goes
 pub castles_where : (c : Colour) (w : Wing) (m : MoveParts) → castles_to c w m ≡ true → (m.from ≡ king_home c) × (m.to ≡ reached c w)
@@ -172,12 +168,12 @@ castling_parts p w m h =
 -- the square that the king crosses is empty
 pub crossed_free : (p : PositionParts) (w : Wing) (m : MoveParts) → IsCastling p w m → man_on p (crossed p.side w) ≡ None
 crossed_free p w m h =
-    clear_at (man_on p) (king_home p.side) (rook_home p.side w) (crossed p.side w) h.clear (crossed_inside p.side w) (crossed_between p.side w)
+    clear_at (man_on p) (king_home p.side) (rook_home p.side w) (crossed p.side w) h.clear (crossed_inside p.side w) (both_between p.side w).0
 
 -- and the one that it reaches
 pub reached_free : (p : PositionParts) (w : Wing) (m : MoveParts) → IsCastling p w m → man_on p (reached p.side w) ≡ None
 reached_free p w m h =
-    clear_at (man_on p) (king_home p.side) (rook_home p.side w) (reached p.side w) h.clear (reached_inside p.side w) (reached_between p.side w)
+    clear_at (man_on p) (king_home p.side) (rook_home p.side w) (reached p.side w) h.clear (reached_inside p.side w) (both_between p.side w).1
 
 two : (a b : Bool) → (a && (b && true)) ≡ (a && b)
 two true true = refl

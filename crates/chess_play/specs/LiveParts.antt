@@ -1,15 +1,27 @@
 -- What contracts see of a `Live`: its position, the words of its key table and its ticks. Its counts, its evaluation and its
 -- key are those of the position.
-use Rattle.std.specs.Prelude.{ℕ, List, refl}
+--   LiveParts   these parts
+--   TakesBack   what taking a move back does to them
+use Rattle.std.specs.Prelude.{◌≡◌, ℕ, ◌≤◌, List, refl}
 use Rattle.std.specs.Coded.{Coded, code_by, coded×, coded_ℕ, coded_list}
-use Rattle.chess_types.specs.board.Position.{PositionParts}
+use Rattle.chess_types.specs.board.Position.{PositionParts, man_on}
 use Rattle.chess_types.specs.steps.StateCode.{coded_state}
+use Rattle.chess_attack.specs.KeptCounts.{changed_of}
+use Rattle.chess_play.specs.Records.{RecordParts, IsBefore}
 
 -- a position, the keys' words, and the ticks of the last change
 pub record LiveParts : Type 0 where
   pub position : PositionParts
   pub words : List ℕ
   pub ticks : ℕ
+
+-- The move of the record is taken back: any position before it is the one now, by the same words; the ticks are at most 216,
+-- and at least as many as the attack counts of the two positions differ by.
+pub record TakesBack (old : LiveParts) (past : RecordParts) (new : LiveParts) : Type 0 where
+  pub position : (p : PositionParts) → IsBefore old.position past p → new.position ≡ p
+  pub words : new.words ≡ old.words
+  pub at_most : new.ticks ≤ 216
+  pub at_least : changed_of (man_on old.position) (man_on new.position) ≤ new.ticks
 
 -- the parts as a tuple, by which a proof tells them apart
 abbrev pub coded_live : Coded LiveParts

@@ -1,5 +1,5 @@
 ghost use Rattle.std.specs.Prelude.{◌≡◌, ◌≤◌, IsTrue};
-ghost use Rattle.chess_types.specs.board.Position.{PositionParts, IsSetup, man_on};
+ghost use Rattle.chess_types.specs.board.Position.{IsSetup, man_on};
 ghost use Rattle.chess_types.specs.board.Pseudo.{is_pseudo};
 ghost use Rattle.chess_types.specs.board.After.{after};
 ghost use Rattle.chess_attack.specs.KeptCounts.{AreCounts, changed_of};
@@ -7,6 +7,7 @@ ghost use Rattle.chess_eval.specs.Evaluation.{evaluation, IsWithin};
 ghost use Rattle.chess_key.specs.Keys.{IsKeyOf};
 ghost use Rattle.chess_play.specs.Castling.{may_castle};
 ghost use Rattle.chess_play.specs.Records.{Fits, IsBefore, record_of};
+ghost use Rattle.chess_play.specs.LiveParts.{TakesBack};
 
 use crate::followers::Followers;
 use crate::make::make;
@@ -119,10 +120,7 @@ impl<'k> Live<'k> {
     /// Takes back the move just made, or the last one not yet taken back: all is as before that `make`, but for the ticks.
     pub fn undo(&mut self, made: Made)
         requires fits { Fits self.old.position made }
-        ensures position { (p : PositionParts) → IsBefore self.old.position made p → self.new.position ≡ p }
-        ensures words { self.new.words ≡ self.old.words }
-        ensures at_most { self.new.ticks ≤ 216 }
-        ensures at_least { changed_of (man_on self.old.position) (man_on self.new.position) ≤ self.new.ticks }
+        ensures { TakesBack self.old made self.new }
     {
         self.take_back(made.keep());
     }
@@ -130,10 +128,7 @@ impl<'k> Live<'k> {
     /// Takes back the move of the record: all is as before that `make`, but for the ticks.
     pub fn take_back(&mut self, past: Record)
         requires fits { Fits self.old.position past }
-        ensures position { (p : PositionParts) → IsBefore self.old.position past p → self.new.position ≡ p }
-        ensures words { self.new.words ≡ self.old.words }
-        ensures at_most { self.new.ticks ≤ 216 }
-        ensures at_least { changed_of (man_on self.old.position) (man_on self.new.position) ≤ self.new.ticks }
+        ensures { TakesBack self.old past self.new }
     {
         self.kept.begin();
         take_back(&mut self.setup, &mut self.kept, past);

@@ -51,12 +51,7 @@ impl Default for Record {
         Record {
             played: Move::default(),
             captured: None,
-            rights: Rights {
-                white_king: false,
-                white_queen: false,
-                black_king: false,
-                black_queen: false,
-            },
+            rights: Rights::NONE,
             target: None,
             clock: 0,
         }

@@ -14,7 +14,7 @@ loop-from-init c =
     let first =
     own_first c.args.live.now.position c.own_men-own.result c.own_men-own.ensures.own c.into_iter-from-iterator.result
     (c.into_iter-from-iterator.ensures.into_iter_gives ∙ c.iter-from-items.ensures.value) {list = []} refl in
-    record { can = tt; finite = tt; still = still_first; own = first.0; left = zero-add _ ∙ ap length first.1.is }
+    record { can = tt; finite = tt; here = record { still = still_first; own = first.0 }; left = zero-add _ ∙ ap length first.1.is }
 
 -- with those of the next square there are no more than all
 counted : (c : After-count_from-count) → c.loop-from.count + c.count_from-count.result ≤ 432
@@ -25,7 +25,7 @@ counted c =
       legal_few p c.own_men-own.ensures.few,
       c.count_from-count.ensures.count,
       c.loop-from.invariant.left,
-      count_split p c.loop-from.live.position c.in-Some.from c.loop-from.from-iterator c.next.new.self c.loop-from.invariant.still.position c.in-Some.ensures.steps,
+      count_split p c.loop-from.live.position c.in-Some.from c.loop-from.from-iterator c.next.new.self c.loop-from.invariant.here.still.position c.in-Some.ensures.steps,
     )
 
 pub overflow_add-count : goal.overflow_add-count

@@ -1,17 +1,14 @@
-use Rattle.std.proofs.Common.{◌≡◌, ◌+◌, true, length, filter}
-use Rattle.std.specs.List.{list_all, flat_map}
+use Rattle.std.proofs.Common.{◌≡◌, ◌+◌, length, filter}
+use Rattle.std.specs.List.{flat_map}
 use Rattle.chess_types.specs.board.Legal.{is_legal, moves_from, legal_moves}
-use Rattle.chess_types.specs.board.Men.{is_of}
-use Rattle.chess_types.specs.board.Position.{man_on}
-use Rattle.chess_moves.proofs.Still.{IsStill}
+use Rattle.chess_moves.proofs.Still.{IsOnOwn}
 use Rattle.chess_moves.proofs.counting.count_up_to.Given as goal
 
--- a man of the side to move stands on each square still to come, and the moves counted and those from there are all
+-- the moves counted and those from there are all
 abbrev pub invariant-loop-from : goal.invariant-loop-from
 invariant-loop-from l = record {
   can : (goal.iterator-loop-from).can_next l.from-iterator;
   finite : (goal.iterator-loop-from).is_finite l.from-iterator;
-  still : IsStill l.live l.fn.live;
-  own : list_all (λ s. is_of l.fn.live.position.side (man_on l.fn.live.position s)) l.from-iterator ≡ true;
+  here : IsOnOwn l.live l.fn.live l.from-iterator;
   left : l.count + length (filter (is_legal l.fn.live.position) (flat_map moves_from l.from-iterator)) ≡ length (legal_moves l.fn.live.position);
 }

@@ -13,14 +13,14 @@ loop-from-init c =
     let first =
     own_first c.args.live.now.position c.own_men-own.result c.own_men-own.ensures.own c.into_iter-from-iterator.result
     (c.into_iter-from-iterator.ensures.into_iter_gives ∙ c.iter-from-items.ensures.value) c.clear.ensures in
-    record { can = tt; finite = tt; still = still_first; own = first.0; listed = first.1 }
+    record { can = tt; finite = tt; here = record { still = still_first; own = first.0 }; listed = first.1 }
 
 pub add_from-requires-clause-room : goal.add_from-requires-clause-room
 unfolding legal_moves
 add_from-requires-clause-room c =
     let p : PositionParts = c.args.live.now.position in
     let few : length (legal_moves p) ≤ 432 = legal_few p c.own_men-own.ensures.few in
-    room_next c.loop-from.invariant.still.position c.loop-from.invariant.listed (next_piece moves_from c.in-Some.ensures.steps) (omega arith)
+    room_next c.loop-from.invariant.here.still.position c.loop-from.invariant.listed (next_piece moves_from c.in-Some.ensures.steps) (omega arith)
 
 pub returns-clause-listed : goal.returns-clause-listed
 unfolding legal_moves
