@@ -22,22 +22,7 @@ pub struct Wanted {
     pub totals: bool,
 }
 
-// Writes the export form of a game.
-fn write_one<'a, A: Allocator, W: Sink>(
-    alloc: &'a A,
-    game: &Game<'a, A>,
-    texts: &Texts<'a, A>,
-    writer: &mut W,
-) -> Result<(), Failure>
-    ensures { OnOk result (Carries W.takes writer.old (game_text (game_of game.now)) writer.new) }
-{
-    let Ok(text) = write_game_with(alloc, game, texts) else {
-        return Err(Failure::Memory);
-    };
-    put(writer, text.as_slice())
-}
-
-// The same, if the game is asked for.
+// Writes the export form of a game, if it is asked for.
 fn write_if<'a, A: Allocator, W: Sink>(
     alloc: &'a A,
     is_asked: bool,
@@ -50,7 +35,10 @@ fn write_if<'a, A: Allocator, W: Sink>(
     if !is_asked {
         return Ok(());
     }
-    write_one(alloc, game, texts, writer)
+    let Ok(text) = write_game_with(alloc, game, texts) else {
+        return Err(Failure::Memory);
+    };
+    put(writer, text.as_slice())
 }
 
 // A line on the standard error with the number of a game, from 1, and its fault. A fault of the standard error is ignored.

@@ -1,7 +1,7 @@
 use crate::filter::Wanted;
 use crate::part::{Part, positive};
-use chess_programs::{Refused, VERSION, why_refused};
-use clap::{Arg, ArgAction, Command, Error};
+use chess_programs::{Refused, VERSION, flag, option, progress_flag, why_refused};
+use clap::{Command, Error};
 use std::alloc::Global;
 use std::convert::AsStr;
 
@@ -39,22 +39,17 @@ For more information, try '--help'.
 
 // What the words ask for; the refusal where a value is none.
 fn matched<S: AsStr>(alloc: Global, words: &[S]) -> Result<Result<Words, &'static str>, Error> {
-    let part = Arg::new(alloc, "part")
-        .long("part")
-        .help("every N-th game alone, from game K, as 1/4")
-        .action(ArgAction::Set);
-    let cut = Arg::new(alloc, "cut")
-        .long("cut")
-        .help("copy the input, cut into pieces of at least so many bytes")
-        .action(ArgAction::Set);
-    let totals = Arg::new(alloc, "totals")
-        .long("totals")
-        .help("the number of games and bytes at the end, on the standard error")
-        .action(ArgAction::SetTrue);
-    let progress = Arg::new(alloc, "progress")
-        .long("progress")
-        .help("bytes and games so far, once a second, on the standard error")
-        .action(ArgAction::SetTrue);
+    let part = option(alloc, "part", "every N-th game alone, from game K, as 1/4");
+    let cut = option(
+        alloc,
+        "cut",
+        "copy the input, cut into pieces of at least so many bytes",
+    );
+    let totals = flag(
+        alloc,
+        "totals",
+        "the number of games and bytes at the end, on the standard error",
+    );
     let command = Command::new(alloc, "chess_games")
         .about(ABOUT)
         .version(VERSION)
@@ -62,7 +57,7 @@ fn matched<S: AsStr>(alloc: Global, words: &[S]) -> Result<Result<Words, &'stati
         .arg(part)?
         .arg(cut)?
         .arg(totals)?
-        .arg(progress)?;
+        .arg(progress_flag(alloc))?;
     let matches = command.try_get_matches_from(words)?;
     if let Some(text) = matches.get_str("cut") {
         return Ok(positive(text).map(Words::Cut).ok_or(NO_BYTES));
