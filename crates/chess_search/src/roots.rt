@@ -3,7 +3,7 @@ ghost use Rattle.std.specs.List.{All};
 ghost use Rattle.chess_types.specs.board.Legal.{is_legal};
 ghost use Rattle.chess_types.specs.board.Lines.{last};
 ghost use Rattle.chess_draws.specs.LineParts.{IsAsBefore};
-ghost use Rattle.chess_search.specs.Best.{best};
+ghost use Rattle.chess_search.specs.Best.{IsAsked, best};
 ghost use Rattle.chess_search.specs.Slices.{IsInRange, HasBorder};
 ghost use Rattle.chess_search.specs.Value.{worth};
 ghost use Rattle.chess_search.specs.Asked.{trees_below};
@@ -27,10 +27,7 @@ impl Searcher {
         roots: &[Move],
         depth: u8,
     ) -> Option<(Move, i32)>
-        requires none { line.old.looked ≡ 0 }
-        requires legal { All (λ m. is_legal (last line.old.line) m ≡ true) roots.now }
-        requires deep { 1 ≤ depth }
-        requires shallow { depth ≤ 16 }
+        requires asked { IsAsked line.old depth roots.now }
         requires least { neg_ℤ (pos 30001) ≤ℤ least }
         requires below { least ≤ℤ pos 30000 }
         requires kept { IsInRange kept }
@@ -58,10 +55,7 @@ impl Searcher {
         roots: &[Move],
         depth: u8,
     ) -> Option<(Move, i32)>
-        requires none { line.old.looked ≡ 0 }
-        requires legal { All (λ m. is_legal (last line.old.line) m ≡ true) roots.now }
-        requires deep { 1 ≤ depth }
-        requires shallow { depth ≤ 16 }
+        requires asked { IsAsked line.old depth roots.now }
         ensures best { result ≡ best self.old.claims depth line.old.line roots.now }
         ensures in_range { IsInRange result }
         ensures border { HasBorder result }
@@ -93,10 +87,7 @@ pub fn best_counted<A: Allocator>(
     nodes: &mut Nodes,
     claims: bool,
 ) -> Option<(Move, i32)>
-    requires none { line.old.looked ≡ 0 }
-    requires deep { 1 ≤ depth }
-    requires shallow { depth ≤ 16 }
-    requires roots { All (λ m. is_legal (last line.old.line) m ≡ true) roots.now.items }
+    requires asked { IsAsked line.old depth roots.now.items }
     ensures best { result ≡ best claims depth line.old.line roots.now.items }
     ensures in_range { IsInRange result }
     ensures border { HasBorder result }
@@ -118,10 +109,7 @@ pub fn best<A: Allocator>(
     depth: u8,
     roots: &ArrayVec<Move, 432>,
 ) -> Option<(Move, i32)>
-    requires none { line.old.looked ≡ 0 }
-    requires deep { 1 ≤ depth }
-    requires shallow { depth ≤ 16 }
-    requires roots { All (λ m. is_legal (last line.old.line) m ≡ true) roots.now.items }
+    requires asked { IsAsked line.old depth roots.now.items }
     ensures best { result ≡ best false depth line.old.line roots.now.items }
     ensures in_range { IsInRange result }
     ensures border { HasBorder result }

@@ -4,6 +4,7 @@ ghost use Rattle.chess_types.specs.board.Lines.{last};
 ghost use Rattle.chess_eval.specs.Evaluation.{AreSumsOf, IsWithin, for_white};
 ghost use Rattle.chess_draws.specs.LineParts.{IsAsBefore};
 ghost use Rattle.chess_search.specs.Scores.{IsValue, IsApart};
+ghost use Rattle.chess_search.specs.Best.{AtRoot};
 ghost use Rattle.chess_search.specs.Value.{ended, evaluation_for, value, worth};
 ghost use Rattle.chess_search.specs.Slices.{IsInRange, HasBorder};
 ghost use Rattle.chess_search.specs.Asked.{tree_below, tree_size};
@@ -334,10 +335,8 @@ impl Searcher {
         m: Move,
         depth: u8,
     ) -> i32
-        requires none { line.old.looked ≡ 0 }
+        requires root { AtRoot line.old depth }
         requires legal { IsTrue (is_legal (last line.old.line) m) }
-        requires deep { 1 ≤ depth }
-        requires shallow { depth ≤ 16 }
         ensures value { result ≡ worth self.old.claims (depth - 1) line.old.line 0 m }
         ensures in_range { IsValue result }
         ensures border { IsApart result }
@@ -358,10 +357,8 @@ impl Searcher {
         m: Move,
         depth: u8,
     ) -> Option<(Move, i32)>
-        requires none { line.old.looked ≡ 0 }
+        requires root { AtRoot line.old depth }
         requires legal { IsTrue (is_legal (last line.old.line) m) }
-        requires deep { 1 ≤ depth }
-        requires shallow { depth ≤ 16 }
         requires least { neg_ℤ (pos 30001) ≤ℤ least }
         requires below { least ≤ℤ pos 30000 }
         requires kept { IsInRange kept }
@@ -386,30 +383,5 @@ impl Searcher {
         } else {
             kept
         }
-    }
-
-    /// The better of what is kept and one root more.
-    pub(crate) fn try_root<A: Allocator>(
-        &mut self,
-        line: &mut Line<'_, A>,
-        kept: Option<(Move, i32)>,
-        m: Move,
-        depth: u8,
-    ) -> Option<(Move, i32)>
-        requires none { line.old.looked ≡ 0 }
-        requires legal { IsTrue (is_legal (last line.old.line) m) }
-        requires deep { 1 ≤ depth }
-        requires shallow { depth ≤ 16 }
-        requires kept { IsInRange kept }
-        requires border { HasBorder kept }
-        ensures better { result ≡ better kept m (worth self.old.claims (depth - 1) line.old.line 0 m) }
-        ensures in_range { IsInRange result }
-        ensures border { HasBorder result }
-        ensures at_least { min (self.old.nodes + 1) (2 ^ 64 - 1) ≤ self.new.nodes }
-        ensures at_most { self.new.nodes ≤ self.old.nodes + tree_below self.old.claims (depth - 1) line.old.line m }
-        ensures claims { self.new.claims ≡ self.old.claims }
-        ensures line { IsAsBefore line.old line.new }
-    {
-        self.try_above(line, LEAST, kept, m, depth)
     }
 }

@@ -4,7 +4,7 @@ ghost use Rattle.chess_search.specs.Best.{best};
 ghost use Rattle.chess_search.specs.Slices.{Progress, IsInRange, HasBorder, GoesWith, done_of, next_root};
 ghost use Rattle.chess_search.specs.Asked.{trees_below};
 
-use crate::search::Searcher;
+use crate::search::{LEAST, Searcher};
 use arrayvec::ArrayVec;
 use chess_draws::Line;
 use chess_types::Move;
@@ -66,7 +66,7 @@ impl Slices {
         ensures line { IsAsBefore line.old line.new }
     {
         let m = self.roots.as_slice()[self.searched];
-        self.kept = self.searcher.try_root(line, self.kept, m, self.depth);
+        self.kept = self.searcher.try_above(line, LEAST, self.kept, m, self.depth);
         self.searched += 1;
     }
 

@@ -4,6 +4,7 @@ ghost use Rattle.std.specs.List.{All};
 ghost use Rattle.chess_types.specs.board.Legal.{is_legal};
 ghost use Rattle.chess_types.specs.board.Lines.{last};
 ghost use Rattle.chess_draws.specs.LineParts.{IsAsBefore};
+ghost use Rattle.chess_search.specs.Best.{IsAsked};
 ghost use Rattle.chess_search.specs.Scores.{IsValue};
 
 use arrayvec::ArrayVec;
@@ -107,10 +108,7 @@ pub(crate) fn plain_best<A: Allocator>(
     roots: &ArrayVec<Move, 432>,
     claims: bool,
 ) -> Option<(Move, i32)>
-    requires none { line.old.looked ≡ 0 }
-    requires deep { 1 ≤ depth }
-    requires shallow { depth ≤ 16 }
-    requires roots { All (λ m. is_legal (last line.old.line) m ≡ true) roots.now.items }
+    requires asked { IsAsked line.old depth roots.now.items }
     ensures line { IsAsBefore line.old line.new }
 {
     let mut best = None;
