@@ -1,7 +1,7 @@
 -- The best of some moves, where one of them is searched before the others.
 use Rattle.std.proofs.Common.{◌≡◌, if◌then◌else◌, ℕ, ◌+◌, ◌-◌, ◌<◌, List, [], ◌∷◌, ◌++◌, length, take, drop, get_or, Option, Some, None, refl, sym, ap, ◌∙◌, arith, ℤ, pos, ◌-ℤ◌, int_lt, ◌⊎◌, inl, inr}
 use Rattle.std.proofs.lemmas.Int.{ints, by_lt_z}
-use Rattle.std.proofs.lemmas.List.{append_assoc, append-nil, drop_more, length-drop, take_all, take_more, take-append-drop}
+use Rattle.std.proofs.lemmas.List.{append_assoc, append-nil, drop_more, length-drop, length-take-le, take_all, take_more, take-append-drop}
 use Rattle.std.proofs.lemmas.List.Sums.{sum_by-append, sum_by-cons}
 use Rattle.std.specs.List.{sum_by}
 use Rattle.chess_types.specs.board.MoveParts.{MoveParts}
@@ -118,3 +118,9 @@ pub guessed_sum : (f : MoveParts → ℕ) (ms : List MoveParts) (i : ℕ) (g : M
 guessed_sum f ms i g inside is =
     ap (λ xs. sum_by f (take i ms) + (f g + sum_by f xs)) (after_it-drop ms i inside) ∙
     ap (λ n. sum_by f (take i ms) + n) (sym (sum_by-cons f g (drop (i + 1) ms))) ∙ sym (sum_by-append f (take i ms) (g ∷ drop (i + 1) ms)) ∙ ap (sum_by f) (parts ms i g inside is)
+
+-- so their number is the number of all
+pub guessed_length : (ms : List MoveParts) (i : ℕ) → i < length ms → length (take i ms) + (1 + length (after_it ms i)) ≡ length ms
+guessed_length ms i inside =
+    let after : length (after_it ms i) ≡ length (drop (i + 1) ms) = ap (λ (xs : List MoveParts). length xs) (after_it-drop ms i inside) in
+    omega (arith, length-take-le i ms (omega arith), after, length-drop (i + 1) ms)

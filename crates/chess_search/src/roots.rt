@@ -7,7 +7,8 @@ ghost use Rattle.chess_search.specs.Best.{IsAsked, best};
 ghost use Rattle.chess_search.specs.Slices.{IsInRange, HasBorder};
 ghost use Rattle.chess_search.specs.Value.{worth};
 ghost use Rattle.chess_search.specs.Asked.{trees_below};
-ghost use Rattle.chess_search.specs.steps.Windows.{best_above};
+ghost use Rattle.chess_search.specs.steps.Asking.{Asks};
+ghost use Rattle.chess_search.specs.steps.Windows.{IsFloor, best_above};
 
 use crate::guess::guess;
 use crate::nodes::Nodes;
@@ -28,16 +29,13 @@ impl Searcher {
         depth: u8,
     ) -> Option<(Move, i32)>
         requires asked { IsAsked line.old depth roots.now }
-        requires least { neg_ℤ (pos 30001) ≤ℤ least }
-        requires below { least ≤ℤ pos 30000 }
+        requires least { IsFloor least }
         requires kept { IsInRange kept }
         requires border { HasBorder kept }
         ensures best { result ≡ best_above (worth self.old.claims (depth - 1) line.old.line 0) least kept roots.now }
         ensures in_range { IsInRange result }
         ensures border { HasBorder result }
-        ensures at_least { min (self.old.nodes + length roots.now) (2 ^ 64 - 1) ≤ self.new.nodes }
-        ensures at_most { self.new.nodes ≤ self.old.nodes + trees_below self.old.claims (depth - 1) line.old.line roots.now }
-        ensures claims { self.new.claims ≡ self.old.claims }
+        ensures asked { Asks (length roots.now) (trees_below self.old.claims (depth - 1) line.old.line roots.now) self.old self.new }
         ensures line { IsAsBefore line.old line.new }
     {
         let mut best = kept;
@@ -59,8 +57,7 @@ impl Searcher {
         ensures best { result ≡ best self.old.claims depth line.old.line roots.now }
         ensures in_range { IsInRange result }
         ensures border { HasBorder result }
-        ensures at_least { min (self.old.nodes + length roots.now) (2 ^ 64 - 1) ≤ self.new.nodes }
-        ensures at_most { self.new.nodes ≤ self.old.nodes + trees_below self.old.claims (depth - 1) line.old.line roots.now }
+        ensures asked { Asks (length roots.now) (trees_below self.old.claims (depth - 1) line.old.line roots.now) self.old self.new }
         ensures line { IsAsBefore line.old line.new }
     {
         if roots.is_empty() {

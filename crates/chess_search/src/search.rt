@@ -1,4 +1,4 @@
-ghost use Rattle.std.specs.Prelude.{◌≡◌, ◌+◌, ◌-◌, ◌≤◌, ◌<◌, Bool, [], IfSome, IsTrue, Some, pos, neg_ℤ, ◌<ℤ◌, ◌≤ℤ◌, ◌^◌, min};
+ghost use Rattle.std.specs.Prelude.{◌≡◌, ◌+◌, ◌-◌, ◌≤◌, ◌<◌, Bool, [], IfSome, IsTrue, Some, pos, neg_ℤ, ◌<ℤ◌};
 ghost use Rattle.chess_types.specs.board.Legal.{is_legal, legal_moves};
 ghost use Rattle.chess_types.specs.board.Lines.{last};
 ghost use Rattle.chess_eval.specs.Evaluation.{AreSumsOf, IsWithin, for_white};
@@ -9,7 +9,8 @@ ghost use Rattle.chess_search.specs.Value.{ended, evaluation_for, value, worth};
 ghost use Rattle.chess_search.specs.Slices.{IsInRange, HasBorder};
 ghost use Rattle.chess_search.specs.Asked.{tree_below, tree_size};
 ghost use Rattle.chess_search.specs.steps.Frontiers.{AreSumsAt, IsFarWhereFree, IsFrontier};
-ghost use Rattle.chess_search.specs.steps.Windows.{FitsWindow, IsDecided, better, better_above};
+ghost use Rattle.chess_search.specs.steps.Asking.{Asks};
+ghost use Rattle.chess_search.specs.steps.Windows.{FitsWindow, IsDecided, IsFloor, IsScore, IsWindow, better, better_above};
 
 use crate::frontier::{Frontier, answer_by, frontier_of, sums_after, sums_of};
 use crate::nodes::Nodes;
@@ -188,15 +189,10 @@ impl Searcher {
         requires sums { AreSumsAt sums (last line.old.line) }
         requires room { line.old.looked + depth ≤ 16 }
         requires distance { distance + depth ≤ 16 }
-        requires alpha { neg_ℤ (pos 30001) ≤ℤ alpha }
-        requires window { alpha <ℤ beta }
-        requires beta { beta ≤ℤ pos 30001 }
+        requires window { IsWindow alpha beta }
         ensures answer { FitsWindow alpha beta (value self.old.claims depth line.old.line distance) result }
-        ensures in_range { IsValue result }
-        ensures border { IsApart result }
-        ensures at_least { min (self.old.nodes + 1) (2 ^ 64 - 1) ≤ self.new.nodes }
-        ensures at_most { self.new.nodes ≤ self.old.nodes + tree_size self.old.claims depth line.old.line }
-        ensures claims { self.new.claims ≡ self.old.claims }
+        ensures score { IsScore result }
+        ensures asked { Asks 1 (tree_size self.old.claims depth line.old.line) self.old self.new }
         ensures line { IsAsBefore line.old line.new }
     {
         self.nodes.tick();
@@ -217,7 +213,7 @@ impl Searcher {
         let mut best: i32 = LEAST;
         for m in moves.as_slice() {
             let floor = best.max(alpha);
-            let answer = self.judge(line, &frontier, &here, *m, depth - 1, distance, floor, beta);
+            let answer = self.score(line, &frontier, &here, *m, depth - 1, distance, floor, beta);
             best = best.max(answer);
             if best >= beta {
                 self.experience.learn(line.live(), distance, depth, *m);
@@ -227,9 +223,10 @@ impl Searcher {
         best
     }
 
-    /// The same as `score_with`; where the move is the last one that is looked at and the frontier knows enough, it isn't made.
+    /// An answer, in the window from alpha to beta, for what a legal move is worth to the side that makes it. Where the move is the last one
+    /// that is looked at and the frontier knows enough, it isn't made.
     #[cycle(search)]
-    fn judge<A: Allocator>(
+    fn score<A: Allocator>(
         &mut self,
         line: &mut Line<'_, A>,
         frontier: &Option<Frontier>,
@@ -246,15 +243,10 @@ impl Searcher {
         requires far { IfSome frontier.now (λ f. IsFarWhereFree self.old.claims f line.old.line) }
         requires room { line.old.looked + depth < 16 }
         requires distance { distance + depth < 16 }
-        requires alpha { neg_ℤ (pos 30001) ≤ℤ alpha }
-        requires window { alpha <ℤ beta }
-        requires beta { beta ≤ℤ pos 30001 }
+        requires window { IsWindow alpha beta }
         ensures answer { FitsWindow alpha beta (worth self.old.claims depth line.old.line distance m) result }
-        ensures in_range { IsValue result }
-        ensures border { IsApart result }
-        ensures at_least { min (self.old.nodes + 1) (2 ^ 64 - 1) ≤ self.new.nodes }
-        ensures at_most { self.new.nodes ≤ self.old.nodes + tree_below self.old.claims depth line.old.line m }
-        ensures claims { self.new.claims ≡ self.old.claims }
+        ensures score { IsScore result }
+        ensures asked { Asks 1 (tree_below self.old.claims depth line.old.line m) self.old self.new }
         ensures line { IsAsBefore line.old line.new }
     {
         if depth == 0 {
@@ -263,36 +255,6 @@ impl Searcher {
                 return answer;
             }
         }
-        self.score_with(line, sums, m, depth, distance, alpha, beta)
-    }
-
-    /// The same as `score`, with the sums before the move.
-    #[cycle(search)]
-    fn score_with<A: Allocator>(
-        &mut self,
-        line: &mut Line<'_, A>,
-        sums: &Sum,
-        m: Move,
-        depth: u8,
-        distance: u8,
-        alpha: i32,
-        beta: i32,
-    ) -> i32
-        requires legal { IsTrue (is_legal (last line.old.line) m) }
-        requires sums { AreSumsOf sums.now (last line.old.line).placement }
-        requires room { line.old.looked + depth < 16 }
-        requires distance { distance + depth < 16 }
-        requires alpha { neg_ℤ (pos 30001) ≤ℤ alpha }
-        requires window { alpha <ℤ beta }
-        requires beta { beta ≤ℤ pos 30001 }
-        ensures answer { FitsWindow alpha beta (worth self.old.claims depth line.old.line distance m) result }
-        ensures in_range { IsValue result }
-        ensures border { IsApart result }
-        ensures at_least { min (self.old.nodes + 1) (2 ^ 64 - 1) ≤ self.new.nodes }
-        ensures at_most { self.new.nodes ≤ self.old.nodes + tree_below self.old.claims depth line.old.line m }
-        ensures claims { self.new.claims ≡ self.old.claims }
-        ensures line { IsAsBefore line.old line.new }
-    {
         let next = sums_after(sums, line.live(), m, depth);
         line.look(m);
         let answer = -self.search(line, next, depth, distance + 1, -beta, -alpha);
@@ -300,32 +262,24 @@ impl Searcher {
         answer
     }
 
-    /// An answer, in the window from alpha to beta, for what a legal move is worth to the side that makes it.
-    fn score<A: Allocator>(
+    /// An answer for what a legal root is worth, exact where it is more than the floor.
+    fn score_root<A: Allocator>(
         &mut self,
         line: &mut Line<'_, A>,
         m: Move,
         depth: u8,
-        distance: u8,
-        alpha: i32,
-        beta: i32,
+        floor: i32,
     ) -> i32
+        requires root { AtRoot line.old depth }
         requires legal { IsTrue (is_legal (last line.old.line) m) }
-        requires room { line.old.looked + depth < 16 }
-        requires distance { distance + depth < 16 }
-        requires alpha { neg_ℤ (pos 30001) ≤ℤ alpha }
-        requires window { alpha <ℤ beta }
-        requires beta { beta ≤ℤ pos 30001 }
-        ensures answer { FitsWindow alpha beta (worth self.old.claims depth line.old.line distance m) result }
-        ensures in_range { IsValue result }
-        ensures border { IsApart result }
-        ensures at_least { min (self.old.nodes + 1) (2 ^ 64 - 1) ≤ self.new.nodes }
-        ensures at_most { self.new.nodes ≤ self.old.nodes + tree_below self.old.claims depth line.old.line m }
-        ensures claims { self.new.claims ≡ self.old.claims }
+        requires floor { IsFloor floor }
+        ensures answer { FitsWindow floor (pos 30001) (worth self.old.claims (depth - 1) line.old.line 0 m) result }
+        ensures score { IsScore result }
+        ensures asked { Asks 1 (tree_below self.old.claims (depth - 1) line.old.line m) self.old self.new }
         ensures line { IsAsBefore line.old line.new }
     {
         let sums = sums_of(None, line.live());
-        self.score_with(line, &sums, m, depth, distance, alpha, beta)
+        self.score(line, &None, &sums, m, depth - 1, 0, floor, MOST)
     }
 
     /// What a legal root is worth.
@@ -338,14 +292,11 @@ impl Searcher {
         requires root { AtRoot line.old depth }
         requires legal { IsTrue (is_legal (last line.old.line) m) }
         ensures value { result ≡ worth self.old.claims (depth - 1) line.old.line 0 m }
-        ensures in_range { IsValue result }
-        ensures border { IsApart result }
-        ensures at_least { min (self.old.nodes + 1) (2 ^ 64 - 1) ≤ self.new.nodes }
-        ensures at_most { self.new.nodes ≤ self.old.nodes + tree_below self.old.claims (depth - 1) line.old.line m }
-        ensures claims { self.new.claims ≡ self.old.claims }
+        ensures score { IsScore result }
+        ensures asked { Asks 1 (tree_below self.old.claims (depth - 1) line.old.line m) self.old self.new }
         ensures line { IsAsBefore line.old line.new }
     {
-        self.score(line, m, depth - 1, 0, LEAST, MOST)
+        self.score_root(line, m, depth, LEAST)
     }
 
     /// The better of what is kept and one root more, which has to be worth more than `least` where none is kept.
@@ -359,8 +310,7 @@ impl Searcher {
     ) -> Option<(Move, i32)>
         requires root { AtRoot line.old depth }
         requires legal { IsTrue (is_legal (last line.old.line) m) }
-        requires least { neg_ℤ (pos 30001) ≤ℤ least }
-        requires below { least ≤ℤ pos 30000 }
+        requires least { IsFloor least }
         requires kept { IsInRange kept }
         requires border { HasBorder kept }
         ensures better { result ≡ better_above least kept m (worth self.old.claims (depth - 1) line.old.line 0 m) }
@@ -368,16 +318,14 @@ impl Searcher {
         ensures any { least ≡ neg_ℤ (pos 30001) → result ≡ better kept m (worth self.old.claims (depth - 1) line.old.line 0 m) }
         ensures in_range { IsInRange result }
         ensures border { HasBorder result }
-        ensures at_least { min (self.old.nodes + 1) (2 ^ 64 - 1) ≤ self.new.nodes }
-        ensures at_most { self.new.nodes ≤ self.old.nodes + tree_below self.old.claims (depth - 1) line.old.line m }
-        ensures claims { self.new.claims ≡ self.old.claims }
+        ensures asked { Asks 1 (tree_below self.old.claims (depth - 1) line.old.line m) self.old self.new }
         ensures line { IsAsBefore line.old line.new }
     {
         let floor = match kept {
             Some((_, value)) => value,
             None => least,
         };
-        let value = self.score(line, m, depth - 1, 0, floor, MOST);
+        let value = self.score_root(line, m, depth, floor);
         if value > floor {
             Some((m, value))
         } else {

@@ -66,7 +66,9 @@ impl Slices {
         ensures line { IsAsBefore line.old line.new }
     {
         let m = self.roots.as_slice()[self.searched];
-        self.kept = self.searcher.try_above(line, LEAST, self.kept, m, self.depth);
+        self.kept = self
+            .searcher
+            .try_above(line, LEAST, self.kept, m, self.depth);
         self.searched += 1;
     }
 

@@ -7,13 +7,10 @@ use Rattle.chess_search.specs.Asked.{trees_below}
 use Rattle.chess_search.proofs.search.Searcher.+search.Given as goal
 
 abbrev pub decreases-search : goal.decreases-search
-decreases-search g l = 3 * l.depth
+decreases-search g l = 2 * l.depth
 
-abbrev pub decreases-score_with : goal.decreases-score_with
-decreases-score_with g l = 3 * l.depth + 1
-
-abbrev pub decreases-judge : goal.decreases-judge
-decreases-judge g l = 3 * l.depth + 2
+abbrev pub decreases-score : goal.decreases-score
+decreases-score g l = 2 * l.depth + 1
 
 -- the best of the moves so far, where -30001 stands below every answer
 abbrev pub invariant-search-loop-m : goal.invariant-search-loop-m

@@ -21,10 +21,10 @@ loop-m-preserved g c =
     sum_by_more trees ms c.loop-m.m-index m (omega arith) ∙ ap (λ x. sum_by trees (take c.loop-m.m-index ms) + trees x) (sym c.m-item.is) in
     record {
       line = record { line = e.line.line ∙ i.line.line; looked = e.line.looked ∙ i.line.looked; words = e.line.words ∙ i.line.words; room = e.line.room ∙ i.line.room };
-      claims = e.claims ∙ i.claims;
+      claims = e.asked.claims ∙ i.claims;
       best = step ∙ ap (λ k. better_above least k m (worths m)) i.best ∙ sym (best_above_more worths least c.args.kept ms c.loop-m.m-index m (omega arith) c.m-item.is);
       in_range = e.in_range;
       border = e.border;
-      at_least = omega (arith, i.at_least, e.at_least);
-      at_most = omega (arith, i.at_most, rw (i.line.line, i.claims) at e.at_most, one_more);
+      at_least = omega (arith, i.at_least, e.asked.at_least);
+      at_most = omega (arith, i.at_most, rw (i.line.line, i.claims) at e.asked.at_most, one_more);
     }

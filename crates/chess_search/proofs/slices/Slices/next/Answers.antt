@@ -45,12 +45,12 @@ returns-clause-at_most g c =
     let before = found g (goal.at.returns-clause-at_most g c).After-as_slice in
     let tree = next_tree (tree_below p.claims (p.depth - 1) c.args.line.now.line) p.roots p.searched c.index-as_slice-self.result before.left
     (rw c.as_slice.ensures.value at c.index-as_slice-self.is) in
-    rw (← c.self.view_is) (omega (arith, tree, c.try_above-self-inside.ensures.at_most))
+    rw (← c.self.view_is) (omega (arith, tree, c.try_above-self-inside.ensures.asked.at_most))
 
 pub returns-clause-goes : goal.returns-clause-goes
 returns-clause-goes g c =
     let at = goal.at.returns-clause-goes g c in
-    rw c.try_above-self-inside.ensures.claims
+    rw c.try_above-self-inside.ensures.asked.claims
     (slice_goes c.args.line.now.line _ (the_view c.self.inside) _ _ (found g at.After-as_slice).goes c.try_above-self-inside.ensures.line.line
     (kept g at.After-try_above-self-inside))
 
@@ -59,4 +59,4 @@ returns-clause-done g c =
     let at = goal.at.returns-clause-done g c in
     let goes_on = slice_goes c.args.line.now.line _ (the_view c.self.inside) _ 0 (found g at.After-as_slice).goes c.try_above-self-inside.ensures.line.line
     (kept g at.After-try_above-self-inside) in
-    λ e. rw c.try_above-self-inside.ensures.claims (done_is _ _ goes_on e)
+    λ e. rw c.try_above-self-inside.ensures.asked.claims (done_is _ _ goes_on e)
