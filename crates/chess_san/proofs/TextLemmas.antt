@@ -8,24 +8,24 @@ use Rattle.chess_types.specs.board.Squares.{file_of, rank_of}
 use Rattle.chess_types.specs.board.Texts.{square_text, names_promotion}
 use Rattle.chess_san.specs.declared.form.Origin.{Origin}
 use Rattle.chess_san.specs.declared.form.Course.{Course}
-use Rattle.chess_san.specs.Forms.{file_in, rank_in, square_at, promotion_in, ending_in, arrival_square_in, arrival_in, ranked_in, rank_or_not, filed_in, course_in}
+use Rattle.chess_san.specs.Forms.{among_eight, file_in, rank_in, square_at, promotion_in, ending_in, arrival_square_in, arrival_in, ranked_in, rank_or_not, filed_in, course_in}
 use Rattle.chess_san.specs.Writing.{file_letter, rank_digit, capture_text, becoming_text}
 
 pub file_read : (f : ℕ) → f < 8 → file_in (97 + f) ≡ Some f
-unfolding file_in
+unfolding among_eight
 file_read f low = rw (le-leb 97 (97 + f) (omega arith), le-leb (97 + f) 104 (omega arith)) (ap (λ x. Some x) (omega arith))
 
 rank_read : (r : ℕ) → r < 8 → rank_in (49 + r) ≡ Some r
-unfolding rank_in
+unfolding among_eight
 rank_read r low = rw (le-leb 49 (49 + r) (omega arith), le-leb (49 + r) 56 (omega arith)) (ap (λ x. Some x) (omega arith))
 
 -- a low byte is no file, a high one no rank
 no_file : (b : ℕ) → b < 97 → file_in b ≡ None
-unfolding file_in
+unfolding among_eight
 no_file b low = rw (lt-leb 97 b low) refl
 
 no_rank : (b : ℕ) → 56 < b → rank_in b ≡ None
-unfolding rank_in
+unfolding among_eight
 no_rank b high = rw (le-leb 49 b (omega arith), lt-leb b 56 high) refl
 
 square_read : (s : ℕ) → s < 64 → square_at (file_in (97 + file_of s)) (rank_in (49 + rank_of s)) ≡ Some s

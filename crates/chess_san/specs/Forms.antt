@@ -16,13 +16,17 @@ use Rattle.chess_san.specs.declared.form.Course.{Course}
 use Rattle.chess_san.specs.declared.form.Form.{Form}
 use Rattle.chess_san.specs.declared.form.Form.TheVariants.{Castles, Piece, Plain}
 
+-- the number of a byte among the eight that begin with the first
+unfoldable pub among_eight : ℕ → ℕ → Option ℕ
+among_eight first b = if nat_le first b && nat_le b (first + 7) then Some (b - first) else None
+
 -- a to h
-unfoldable pub file_in : ℕ → Option ℕ
-file_in b = if nat_le (byte "a") b && nat_le b (byte "h") then Some (b - byte "a") else None
+abbrev pub file_in : ℕ → Option ℕ
+file_in = among_eight (byte "a")
 
 -- 1 to 8
-unfoldable pub rank_in : ℕ → Option ℕ
-rank_in b = if nat_le (byte "1") b && nat_le b (byte "8") then Some (b - byte "1") else None
+abbrev pub rank_in : ℕ → Option ℕ
+rank_in = among_eight (byte "1")
 
 -- the square of a file and a rank, where both are given
 abbrev pub square_at : Option ℕ → Option ℕ → Option ℕ

@@ -26,15 +26,18 @@ use Rattle.chess_san.specs.Naming.{is_kind}
 abbrev pub piece_letter : Kind → ℕ
 piece_letter kind = to_ascii_uppercase (kind_letter kind)
 
+-- one of the bytes that begin with the first, if its number is given
+abbrev pub byte_from : ℕ → Option ℕ → List ℕ
+byte_from first None = []
+byte_from first (Some number) = (first + number) ∷ []
+
 -- the letter of a file, if it is given
 abbrev pub file_letter : Option ℕ → List ℕ
-file_letter None = []
-file_letter (Some file) = (byte "a" + file) ∷ []
+file_letter = byte_from (byte "a")
 
 -- the digit of a rank, if it is given
 abbrev pub rank_digit : Option ℕ → List ℕ
-rank_digit None = []
-rank_digit (Some rank) = (byte "1" + rank) ∷ []
+rank_digit = byte_from (byte "1")
 
 -- a man of the kind on another square goes to the target
 abbrev pub is_rival : PositionParts → Kind → ℕ → ℕ → MoveParts → Bool

@@ -1,36 +1,28 @@
-ghost use Rattle.std.specs.Prelude.{◌≡◌, ◌<◌, IfSome};
+ghost use Rattle.std.specs.Prelude.{◌≡◌, ◌<◌, ◌≤◌, IfSome};
 ghost use Rattle.byte_streams.specs.Words.{without_last_gaps};
-ghost use Rattle.chess_san.specs.Forms.{file_in, rank_in, square_at, piece_in, promotion_in, ending_in, arrival_square_in, arrival_in, ranked_in, rank_or_not, filed_in, course_in, man_in, wing_in, form_in, marks};
+ghost use Rattle.chess_san.specs.Forms.{among_eight, file_in, rank_in, square_at, piece_in, promotion_in, ending_in, arrival_square_in, arrival_in, ranked_in, rank_or_not, filed_in, course_in, man_in, wing_in, form_in, marks};
 
 use crate::form::{Course, Form, Origin};
 use chess_types::{Kind, Square, Wing};
 
-#[tactic(auto, unfolding(crate::specs::Forms::file_in))]
-fn file_in(letter: u8) -> Option<u8>
-    ensures value { result ≡ file_in letter }
-    ensures below { IfSome result (λ file. file < 8) }
+// The number of a byte among the eight that begin with the first: of a file from a to h, or of a rank from 1 to 8.
+#[tactic(auto, unfolding(crate::specs::Forms::among_eight))]
+fn among_eight(first: u8, byte: u8) -> Option<u8>
+    requires { first ≤ 120 }
+    ensures value { result ≡ among_eight first byte }
+    ensures below { IfSome result (λ number. number < 8) }
 {
-    match letter {
-        b'a'..=b'h' => Some(letter - b'a'),
-        _ => None,
-    }
-}
-
-#[tactic(auto, unfolding(crate::specs::Forms::rank_in))]
-fn rank_in(digit: u8) -> Option<u8>
-    ensures value { result ≡ rank_in digit }
-    ensures below { IfSome result (λ rank. rank < 8) }
-{
-    match digit {
-        b'1'..=b'8' => Some(digit - b'1'),
-        _ => None,
+    if first <= byte && byte <= first + 7 {
+        Some(byte - first)
+    } else {
+        None
     }
 }
 
 fn square_in(letter: u8, digit: u8) -> Option<Square>
     ensures { result ≡ square_at (file_in letter) (rank_in digit) }
 {
-    match (file_in(letter), rank_in(digit)) {
+    match (among_eight(b'a', letter), among_eight(b'1', digit)) {
         (Some(file), Some(rank)) => Some(Square::from_index(8 * rank + file)),
         _ => None,
     }
@@ -104,7 +96,7 @@ fn ranked_in(file: Option<u8>, text: &[u8]) -> Option<Course>
     match text {
         [] => None,
         [digit, rest @ ..] => {
-            let rank = rank_in(*digit)?;
+            let rank = among_eight(b'1', *digit)?;
             arrival_in(
                 Origin {
                     file,
@@ -133,7 +125,7 @@ fn filed_in(text: &[u8]) -> Option<Course>
     match text {
         [] => None,
         [letter, rest @ ..] => {
-            let file = file_in(*letter)?;
+            let file = among_eight(b'a', *letter)?;
             rank_or_not(Some(file), rest)
         }
     }

@@ -10,7 +10,7 @@ ghost use Rattle.chess_types.specs.board.After.{after};
 ghost use Rattle.chess_types.specs.board.Legal.{is_legal};
 ghost use Rattle.chess_san.specs.steps.Origins.{Begins, BeginsAmong, legal_and};
 ghost use Rattle.chess_san.specs.Naming.{named, san_reading};
-ghost use Rattle.chess_san.specs.Writing.{piece_letter, captures, capture_text, file_letter, rank_digit, becoming_text, pawn_text, piece_text, rivals, is_rival, origin_by, origin_among, mark_text, text_by, bare_text, san};
+ghost use Rattle.chess_san.specs.Writing.{piece_letter, byte_from, captures, capture_text, becoming_text, pawn_text, piece_text, rivals, is_rival, origin_by, origin_among, mark_text, text_by, bare_text, san};
 
 use crate::form::Origin;
 use crate::names::is_kind;
@@ -141,25 +141,16 @@ fn captures(setup: &Setup, man: Man, m: Move) -> bool
     setup.placement.get(m.to).is_some() || is_en_passant(setup.target, man, m)
 }
 
-fn push_file(text: &mut ArrayString<8>, file: Option<u8>)
-    requires below { IfSome file (λ f. f < 8) }
+// One of the eight bytes that begin with the first, if its number is given: the letter of a file, or the digit of a rank.
+fn push_one_of(text: &mut ArrayString<8>, first: u8, number: Option<u8>)
+    requires ascii { first ≤ 120 }
+    requires below { IfSome number (λ n. n < 8) }
     requires room { array_string_len text.old + 1 ≤ 8 }
-    ensures bytes { text.new.bytes ≡ text.old.bytes ++ file_letter file }
+    ensures bytes { text.new.bytes ≡ text.old.bytes ++ byte_from first number }
     ensures len { array_string_len text.new ≤ array_string_len text.old + 1 }
 {
-    if let Some(file) = file {
-        text.push(char::from(b'a' + file));
-    }
-}
-
-fn push_rank(text: &mut ArrayString<8>, rank: Option<u8>)
-    requires below { IfSome rank (λ r. r < 8) }
-    requires room { array_string_len text.old + 1 ≤ 8 }
-    ensures bytes { text.new.bytes ≡ text.old.bytes ++ rank_digit rank }
-    ensures len { array_string_len text.new ≤ array_string_len text.old + 1 }
-{
-    if let Some(rank) = rank {
-        text.push(char::from(b'1' + rank));
+    if let Some(number) = number {
+        text.push(char::from(first + number));
     }
 }
 
@@ -208,7 +199,7 @@ fn pawn_text(taken: bool, m: Move) -> ArrayString<8>
 {
     let file = if taken { Some(m.from.file()) } else { None };
     let mut text = ArrayString::new();
-    push_file(&mut text, file);
+    push_one_of(&mut text, b'a', file);
     push_capture(&mut text, taken);
     push_square(&mut text, m.to);
     push_promotion(&mut text, m.promo);
@@ -224,8 +215,8 @@ fn piece_text(kind: Kind, origin: Origin, taken: bool, to: Square) -> ArrayStrin
 {
     let mut text = ArrayString::new();
     push_letter(&mut text, kind);
-    push_file(&mut text, origin.file);
-    push_rank(&mut text, origin.rank);
+    push_one_of(&mut text, b'a', origin.file);
+    push_one_of(&mut text, b'1', origin.rank);
     push_capture(&mut text, taken);
     push_square(&mut text, to);
     text
