@@ -1,7 +1,4 @@
-ghost use Rattle.std.specs.Prelude.{◌≡◌, ◌≤◌, ◌+◌, ◌-◌, ◌^◌, ◌≤ℤ◌, true, false, length, min, neg_ℤ, pos};
-ghost use Rattle.std.specs.List.{All};
-ghost use Rattle.chess_types.specs.board.Legal.{is_legal};
-ghost use Rattle.chess_types.specs.board.Lines.{last};
+ghost use Rattle.std.specs.Prelude.{◌≡◌, ◌≤◌, ◌+◌, ◌-◌, false, length};
 ghost use Rattle.chess_draws.specs.LineParts.{IsAsBefore};
 ghost use Rattle.chess_search.specs.Best.{IsAsked, best};
 ghost use Rattle.chess_search.specs.Slices.{IsInRange, HasBorder};

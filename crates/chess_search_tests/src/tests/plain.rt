@@ -1,6 +1,5 @@
 //! Plain minimax, move by move, and the positions that it is asked about.
 ghost use Rattle.std.specs.Prelude.{◌≡◌, ◌+◌, ◌<◌, ◌≤◌, true};
-ghost use Rattle.std.specs.List.{All};
 ghost use Rattle.chess_types.specs.board.Legal.{is_legal};
 ghost use Rattle.chess_types.specs.board.Lines.{last};
 ghost use Rattle.chess_draws.specs.LineParts.{IsAsBefore};
