@@ -1,5 +1,6 @@
 -- A tree stays a game tree, call by call, and what each call makes of the line to the cursor.
 use Rattle.std.proofs.Common.{◌≡◌, ℕ, ◌<◌, ◌≤◌, Bool, nat_le, nat_lt, true, false, List, [], ◌∷◌, ◌++◌, length, refl, sym, subst, ap, ◌∙◌, arith}
+use Rattle.std.specs.Prelude.{Ok}
 use Rattle.std.proofs.lemmas.Bool.Decides.{nat_tests}
 use Rattle.chess_types.specs.board.MoveParts.{MoveParts}
 use Rattle.chess_types.specs.board.Position.{PositionParts, IsSetup, OpponentNotInCheck}
@@ -8,7 +9,8 @@ use Rattle.chess_types.specs.board.Lines.{extended, last}
 use Rattle.chess_tree.specs.Forest.{below_at, count, moves_held}
 use Rattle.chess_tree.specs.Edits.{parent}
 use Rattle.chess_tree.specs.Comments.{IsComment}
-use Rattle.chess_tree.specs.GameTree.{TreeParts, commented_here, line_to}
+use Rattle.chess_tree.specs.Calls.{StepsUp}
+use Rattle.chess_tree.specs.GameTree.{TreeParts, at_path, commented_here, deleted, line_to}
 use Rattle.chess_tree.specs.CursorLine.{GoesOn}
 use Rattle.chess_tree.specs.WellFormed.{IsGameTree}
 use Rattle.chess_tree.specs.steps.Rooted.{Held, Rooted, added_root, annotated_root, commented_at, commented_root, deleted_root, leaf, parts_of, path_root, promoted_root}
@@ -49,10 +51,13 @@ module _ (start : PositionParts) (z : Rooted) (game : IsGameTree (parts_of start
       subst (λ (x : Rooted). IsGameTree (parts_of start x) × GoesOn (parts_of start z) (parts_of start x)) (sym e)
       (game_at (z.path ++ place ∷ []) (parts_of start z) game (leads_on z.path place z.root.below game.cursor h), goes_down (parts_of start z) place game h)
 
-  pub kept_up : 0 < length z.path → w ≡ path_root (parent z.path) z → IsGameTree (parts_of start w) × GoesOn (parts_of start w) (parts_of start z)
+  pub kept_up : 0 < length z.path → w ≡ path_root (parent z.path) z
+      → IsGameTree (parts_of start w) × StepsUp (λ t. at_path (parent t.path) t) (parts_of start z) (Ok tt) (parts_of start w)
   kept_up h e =
-      subst (λ (x : Rooted). IsGameTree (parts_of start x) × GoesOn (parts_of start x) (parts_of start z)) (sym e)
-      (game_at (parent z.path) (parts_of start z) game (leads_parent z.path z.root.below game.cursor), goes_up (parts_of start z) game h)
+      subst (λ (x : Rooted). IsGameTree (parts_of start x) × StepsUp (λ t. at_path (parent t.path) t) (parts_of start z) (Ok tt) (parts_of start x)) (sym e) (
+        game_at (parent z.path) (parts_of start z) game (leads_parent z.path z.root.below game.cursor),
+        record { ok = refl; line = goes_up (parts_of start z) game h; err = tt; at_root = h },
+      )
 
   -- ---- edits
 
@@ -63,9 +68,10 @@ module _ (start : PositionParts) (z : Rooted) (game : IsGameTree (parts_of start
   pub kept_line_added : (m : MoveParts) → w ≡ added_root m z → line_to (parts_of start w) ≡ extended (line_to (parts_of start z)) m
   kept_line_added m e = ap (λ (x : Rooted). line_to (parts_of start x)) e ∙ line_added m (parts_of start z) game
 
-  pub kept_deleted : 0 < length z.path → w ≡ deleted_root z → IsGameTree (parts_of start w) × GoesOn (parts_of start w) (parts_of start z)
+  pub kept_deleted : 0 < length z.path → w ≡ deleted_root z → IsGameTree (parts_of start w) × StepsUp deleted (parts_of start z) (Ok tt) (parts_of start w)
   kept_deleted h e =
-      subst (λ (x : Rooted). IsGameTree (parts_of start x) × GoesOn (parts_of start x) (parts_of start z)) (sym e) (game_deleted (parts_of start z) game h, goes_out (parts_of start z) game h)
+      subst (λ (x : Rooted). IsGameTree (parts_of start x) × StepsUp deleted (parts_of start z) (Ok tt) (parts_of start x)) (sym e)
+      (game_deleted (parts_of start z) game h, record { ok = refl; line = goes_out (parts_of start z) game h; err = tt; at_root = h })
 
   pub kept_promoted : 0 < length z.path → w ≡ promoted_root z → IsGameTree (parts_of start w) × (line_to (parts_of start w) ≡ line_to (parts_of start z))
   kept_promoted h e =

@@ -55,6 +55,7 @@ fn assert_walk(
     assert!(rt; left.next().is_none());
 }
 
+/// All nodes, and those of the main line.
 #[test]
 fn nodes_in_order(rt: HostRuntime) {
     let alloc = rt.alloc();
@@ -70,6 +71,13 @@ fn nodes_in_order(rt: HostRuntime) {
         ("g1f3", 3, 0, false, None),
     ];
     assert_walk(&rt, Walk::of(&alloc, &tree).expect(&rt, "memory"), &wanted);
+    let main = [
+        ("e2e4", 1, 0, false, None),
+        ("e7e5", 2, 0, false, None),
+        ("g1f3", 3, 0, false, None),
+    ];
+    let walk = Walk::main_line(&alloc, &tree).expect(&rt, "memory");
+    assert_walk(&rt, walk, &main);
 }
 
 #[test]
@@ -87,22 +95,6 @@ fn a_part_of_a_game(rt: HostRuntime) {
     let mut ended = Walk::of(&alloc, &tree).expect(&rt, "memory");
     ended.stop();
     assert!(rt; ended.next().is_none());
-}
-
-#[test]
-fn the_main_line(rt: HostRuntime) {
-    let alloc = rt.alloc();
-    let tree = a_tree(&rt, &alloc);
-    let wanted = [
-        ("e2e4", 1, 0, false, None),
-        ("e7e5", 2, 0, false, None),
-        ("g1f3", 3, 0, false, None),
-    ];
-    assert_walk(
-        &rt,
-        Walk::main_line(&alloc, &tree).expect(&rt, "memory"),
-        &wanted,
-    );
 }
 
 /// The texts of the moves that a walk makes, each after the one that leads to it.

@@ -175,15 +175,22 @@ pub fn run<A: Allocator>(rt: &impl Abort, analysis: &mut Analysis<'_, '_, A>, ro
     }
 }
 
-/// Goes by a table from where a game begins, by those words.
-fn run_by<A: Allocator>(rt: &impl Abort, alloc: &A, table: &KeyTable, rows: &[Row]) {
+/// The analysis of a game that begins, once a table was gone by.
+pub fn grown<'a, A: Allocator>(
+    rt: &impl Abort,
+    alloc: &'a A,
+    table: &'a KeyTable,
+    rows: &[Row],
+) -> Analysis<'a, 'a, A> {
     let mut analysis = begin(alloc, table).expect(rt, "an analysis");
     run(rt, &mut analysis, rows);
+    analysis
 }
 
 /// Goes by a table from where a game begins.
 fn run_all<A: Allocator>(rt: &impl Abort, alloc: &A, rows: &[Row]) {
-    run_by(rt, alloc, &a_table(), rows);
+    let table = a_table();
+    let _analysis = grown(rt, alloc, &table, rows);
 }
 
 pub const READ: &[Row] = &[

@@ -2,7 +2,7 @@
 use super::analysis::Asked::{Moves, Plies, Seen};
 use super::analysis::Call::{End, Goto, Read};
 use super::analysis::Row::{Gives, Is};
-use super::analysis::{Answer, READ, Row, begin, run};
+use super::analysis::{Answer, READ, Row, grown, run};
 use super::calls::Look::{ChildCount, Comment, Depth, Nags, Path};
 use super::calls::is_seen;
 use super::trees::a_table;
@@ -13,8 +13,7 @@ use chess_tree::Analysis;
 fn copies_a_tree(rt: HostRuntime) {
     let alloc = rt.alloc();
     let table = a_table();
-    let mut analysis = begin(&alloc, &table).expect(&rt, "an analysis");
-    run(&rt, &mut analysis, READ);
+    let analysis = grown(&rt, &alloc, &table, READ);
     let Ok(mut copy) = analysis.tree().clone() else {
         panic!(rt; "no memory");
     };
@@ -47,8 +46,7 @@ const AGAIN: &[Row] = &[
 fn takes_up_a_tree(rt: HostRuntime) {
     let alloc = rt.alloc();
     let table = a_table();
-    let mut analysis = begin(&alloc, &table).expect(&rt, "an analysis");
-    run(&rt, &mut analysis, READ);
+    let analysis = grown(&rt, &alloc, &table, READ);
     let mut again = Analysis::of(analysis.into_tree(), &table).expect(&rt, "an analysis");
     run(&rt, &mut again, AGAIN);
 }
