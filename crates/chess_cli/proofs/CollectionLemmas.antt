@@ -105,7 +105,7 @@ read_fault gives failed ended old new result fault is h = subst (λ r. IfErr r (
 
 module _ {R W : Type 0} (gives : R → List ℕ → R → Type 0) (read_failed : R → Bool) (ended : R → Type 0) (takes : W → List ℕ → W → Type 0) (failed : W → Bool) where
   pub none_yet : (s : AtHand R) (w : W) → failed w ≡ false → SoFar gives read_failed ended takes failed 0 s s w w
-  none_yet s w well = record { games = []; reads = reads_none gives read_failed s; few = omega arith; writes = Carries-none takes w; well_written = well }
+  none_yet s w well = record { games = []; reads = reads_none gives read_failed s; few = omega arith; written = record { writes = Carries-none takes w; well_written = well } }
 
   -- one game more
   pub one_more : (count : ℕ) (s m n : AtHand R) (old mid new : W) (game : Game) → SoFar gives read_failed ended takes failed count s m old mid → HasGame gives read_failed m n game → Sent takes failed mid (game_text game) [] new
@@ -115,9 +115,11 @@ module _ {R W : Type 0} (gives : R → List ℕ → R → Type 0) (read_failed :
     games = so_far.games ++ game ∷ [];
     reads = reads_more gives read_failed s m n so_far.games game so_far.reads read;
     few = (let a = length-append so_far.reads.bytes read.bytes in let b = ap length read.parts in let c = length-append (unread m) read.bytes in let d = length-append read.text (unread n) in omega (arith, a, b, c, d, read.some, so_far.few));
-    writes = subst (λ (t : List ℕ). Carries takes old t new) (sym (games_text-append so_far.games game))
-        (Carries-append takes old mid new (games_text so_far.games) (game_text game) so_far.writes (sent_whole takes failed mid new (game_text game) sent));
-    well_written = sent.well ∙ so_far.well_written;
+    written = record {
+      writes = subst (λ (t : List ℕ). Carries takes old t new) (sym (games_text-append so_far.games game))
+          (Carries-append takes old mid new (games_text so_far.games) (game_text game) so_far.written.writes (sent_whole takes failed mid new (game_text game) sent));
+      well_written = sent.well ∙ so_far.written.well_written;
+    };
   }
 
   module _ (count : ℕ) (s : AtHand R) (nothing : unread s ≡ []) (first_read : read_failed s.source ≡ false) where
@@ -132,8 +134,7 @@ module _ {R W : Type 0} (gives : R → List ℕ → R → Type 0) (read_failed :
       rest = unread m ++ none.bytes;
       are = subst (λ (z : List ℕ). AreGames (z ++ (so_far.reads.bytes ++ none.bytes)) so_far.games (unread m ++ none.bytes)) nothing (so_far.reads.are none.bytes none.still);
       white = none.white;
-      writes = so_far.writes;
-      well_written = so_far.well_written;
+      written = so_far.written;
     }
 
     -- what comes after the games is refused
@@ -145,8 +146,7 @@ module _ {R W : Type 0} (gives : R → List ℕ → R → Type 0) (read_failed :
       refused = λ more none.
           let same = sym (append_assoc (unread m) fails.bytes more) in
           (subst HasNoGame same (fails.none more none), subst (λ (z : List ℕ). IsWhite z → ⊥) same (fails.dark more none));
-      writes = so_far.writes;
-      well_written = so_far.well_written;
+      written = so_far.written;
     }
 
     -- there was no memory for it
@@ -154,16 +154,14 @@ module _ {R W : Type 0} (gives : R → List ℕ → R → Type 0) (read_failed :
     starved_there m n old new so_far starves = record {
       games = so_far.games;
       reads = collected gives read_failed s m n so_far.games nothing first_read so_far.reads starves.bytes starves.came ended m.has_ended (λ e. (starves.still e).1) (λ e. ((starves.still e).0, e));
-      writes = so_far.writes;
-      well_written = so_far.well_written;
+      written = so_far.written;
     }
 
     written_there : (m n : AtHand R) (old new : W) → SoFar gives read_failed ended takes failed count s m old new → Fails gives read_failed ended m n → EndsWritten gives read_failed ended takes failed s.source n.source old new
     written_there m n old new so_far fails = record {
       games = so_far.games;
       reads = collected gives read_failed s m n so_far.games nothing first_read so_far.reads fails.bytes fails.came ended n.has_ended fails.told fails.still;
-      writes = so_far.writes;
-      well_written = so_far.well_written;
+      written = so_far.written;
     }
 
     -- so the run ends
@@ -197,8 +195,7 @@ module _ {R W : Type 0} (gives : R → List ℕ → R → Type 0) (read_failed :
           are = λ more. subst (λ (z : List ℕ). AreGames (z ++ more) so_far.games ((unread m ++ fails.bytes) ++ more)) (sym whole)
               (are_on gives read_failed s m fails.before so_far.games nothing first_read r fails.bytes fails.came more (λ e. absurd (false≢true (sym fails.not_ended ∙ fails.came.ended_still e))));
           none = fails.none;
-          writes = so_far.writes;
-          well_written = so_far.well_written;
+          written = so_far.written;
         }
 
     -- there are never so many games, since all reads have fewer bytes
@@ -220,10 +217,10 @@ module _ {R W : Type 0} (gives : R → List ℕ → R → Type 0) (read_failed :
         front = games_text so_far.games ++ broken.front;
         rest = broken.rest;
         before = broken.before;
-        calls = Carries-append takes old mid broken.before (games_text so_far.games) broken.front so_far.writes broken.calls;
+        calls = Carries-append takes old mid broken.before (games_text so_far.games) broken.front so_far.written.writes broken.calls;
         whole = append_assoc (games_text so_far.games) broken.front broken.rest ∙ ap (λ (t : List ℕ). games_text so_far.games ++ t) broken.whole ∙ sym (games_text-append so_far.games game);
         unwritten = broken.unwritten;
-        well = broken.well ∙ so_far.well_written ∙ sym first;
+        well = broken.well ∙ so_far.written.well_written ∙ sym first;
         last = broken.last;
         fails = broken.fails;
       };
@@ -234,8 +231,7 @@ module _ {R W : Type 0} (gives : R → List ℕ → R → Type 0) (read_failed :
     ends_written m n old new game told so_far read = record {
       games = so_far.games;
       reads = collected gives read_failed s m n so_far.games nothing first_read so_far.reads read.bytes read.came ended n.has_ended told read.still;
-      writes = so_far.writes;
-      well_written = so_far.well_written;
+      written = so_far.written;
     }
 
     -- why no more is written

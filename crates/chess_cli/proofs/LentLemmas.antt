@@ -40,13 +40,12 @@ module _ {S R N : Type 0} (now : S → R) (name : S → N) (gives : R → List �
         rest = e.rest;
         are = e.are;
         white = e.white;
-        writes = e.writes;
-        well_written = e.well_written;
+        written = e.written;
       }
 
       fault_now : EndsAtFault lent_gives (λ x. failed (now x)) (λ x. ended (now x)) takes write_failed s t old new → EndsAtFault gives failed ended takes write_failed (now s) (now t) old new
       unfolding collected_now
-      fault_now e = record { games = e.games; reads = collected_now e.games e.reads; refused = e.refused; writes = e.writes; well_written = e.well_written }
+      fault_now e = record { games = e.games; reads = collected_now e.games e.reads; refused = e.refused; written = e.written }
 
       unread_now : EndsUnread lent_gives (λ x. failed (now x)) (λ x. ended (now x)) takes write_failed most_reads s t old new → EndsUnread gives failed ended takes write_failed most_reads (now s) (now t) old new
       unread_now e = record {
@@ -63,15 +62,14 @@ module _ {S R N : Type 0} (now : S → R) (name : S → N) (gives : R → List �
         rest = e.rest;
         are = e.are;
         none = e.none;
-        writes = e.writes;
-        well_written = e.well_written;
+        written = e.written;
       }
 
       part_now : EndsInPart lent_gives (λ x. failed (now x)) (λ x. ended (now x)) takes write_failed s t old new → EndsInPart gives failed ended takes write_failed (now s) (now t) old new
       part_now e = record { games = e.games; reads = collected_now e.games e.reads; broken = e.broken }
 
       written_now : EndsWritten lent_gives (λ x. failed (now x)) (λ x. ended (now x)) takes write_failed s t old new → EndsWritten gives failed ended takes write_failed (now s) (now t) old new
-      written_now e = record { games = e.games; reads = collected_now e.games e.reads; writes = e.writes; well_written = e.well_written }
+      written_now e = record { games = e.games; reads = collected_now e.games e.reads; written = e.written }
 
       abbrev All : Ended → Type 0
       All result = WritesAll lent_gives (λ x. failed (now x)) (λ x. ended (now x)) takes write_failed s t old new result

@@ -20,21 +20,18 @@ gapped-more gap text (y ∷ ys) x =
     ap (λ (t : List ℕ). gap ++ text y ++ t) (gapped-more gap text ys x)
     ∙ sym (append_assoc (gap ++ text y) (gapped gap (map text ys)) (gap ++ text x))
 
--- one move more
-pub moves-more : (ms : List MoveParts) (m : MoveParts) →
-    with_another (parted_by (codes " ") (map move_text ms)) (move_text m) ≡ parted_by (codes " ") (map move_text (ms ++ m ∷ []))
-moves-more [] m = sym (append-nil (move_text m))
-moves-more (n ∷ ms) m =
-    append_assoc (move_text n) (gapped (codes " ") (map move_text ms)) (32 ∷ move_text m)
-    ∙ ap (λ (t : List ℕ). move_text n ++ t) (sym (gapped-more (codes " ") move_text ms m))
+-- one text more after another
+text-more : {X : Type 0} (text : X → List ℕ) (y : X) (ys : List X) (x : X) →
+    (text y ++ gapped (codes " ") (map text ys)) ++ 32 ∷ text x ≡ parted_by (codes " ") (map text ((y ∷ ys) ++ x ∷ []))
+text-more text y ys x =
+    append_assoc (text y) (gapped (codes " ") (map text ys)) (32 ∷ text x)
+    ∙ ap (λ (t : List ℕ). text y ++ t) (sym (gapped-more (codes " ") text ys x))
 
 -- one square more
-pub squares-more : (ss : List ℕ) (s : ℕ) →
+squares-more : (ss : List ℕ) (s : ℕ) →
     with_another (parted_by (codes " ") (map square_text ss)) (square_text s) ≡ parted_by (codes " ") (map square_text (ss ++ s ∷ []))
 squares-more [] s = sym (append-nil (square_text s))
-squares-more (t ∷ ss) s =
-    append_assoc (square_text t) (gapped (codes " ") (map square_text ss)) (32 ∷ square_text s)
-    ∙ ap (λ (u : List ℕ). square_text t ++ u) (sym (gapped-more (codes " ") square_text ss s))
+squares-more (t ∷ ss) s = text-more square_text t ss s
 
 -- the written text is that of the squares before these last ones
 pub record Written (written : List ℕ) (all rest : List ℕ) : Type 0 where
@@ -72,7 +69,7 @@ move_put front page page1 page2 (n ∷ ms) more m some first gap next all =
     rw (next, gap, first, all)
     (append_assoc (front ++ parted_by (codes " ") (map move_text (n ∷ ms))) (codes " ") (move_text m)
     ∙ append_assoc front (parted_by (codes " ") (map move_text (n ∷ ms))) (32 ∷ move_text m)
-    ∙ ap (λ (t : List ℕ). front ++ t) (moves-more (n ∷ ms) m))
+    ∙ ap (λ (t : List ℕ). front ++ t) (text-more move_text n ms m))
 
 -- the next move
 pub move_next : (front page page1 page2 : List ℕ) (moves others : List MoveParts) (n : ℕ) (first m d : MoveParts) → moves ≡ first ∷ others

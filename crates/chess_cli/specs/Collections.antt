@@ -2,7 +2,8 @@
 --   games_text    the export forms of games, one after another
 --   AreGames      games stand one after another at the start of a text, and this is left
 --   Collected     these games stand so at the start of what a source gave up to where it was left, whatever it gives next; no read failed
---   EndsWritten   they are written whole, and nothing else; no call failed
+--   WritesGames   they are written whole, and nothing else; no write failed
+--   EndsWritten   so they are; no call failed
 --   EndsWhole     so they are, the source has ended, and what is left of its bytes is white; no call failed
 --   EndsAtFault   so they are, and after them stands no game, and not white alone, whatever comes next
 --   EndsUnread    a read failed, the last, or there were as many reads as there may be, of some bytes each; the games at the start of what was read are
@@ -37,12 +38,16 @@ pub record Collected {R : Type 0} (gives : R → List ℕ → R → Type 0) (rea
   pub rest : List ℕ
   pub are : (more : List ℕ) → (all ≡ true → more ≡ []) → AreGames (bytes ++ more) games (rest ++ more)
 
+-- the writer took the export forms of these games
+pub record WritesGames {W : Type 0} (takes : W → List ℕ → W → Type 0) (failed : W → Bool) (games : List Game) (old new : W) : Type 0 where
+  pub writes : Carries takes old (games_text games) new
+  pub well_written : failed new ≡ false
+
 module _ {R W : Type 0} (gives : R → List ℕ → R → Type 0) (read_failed : R → Bool) (ended : R → Type 0) (takes : W → List ℕ → W → Type 0) (failed : W → Bool) where
   pub record EndsWritten (reader reader' : R) (old new : W) : Type 0 where
     pub games : List Game
     pub reads : Collected gives read_failed ended reader reader' games
-    pub writes : Carries takes old (games_text games) new
-    pub well_written : failed new ≡ false
+    pub written : WritesGames takes failed games old new
 
   pub record EndsWhole (reader reader' : R) (old new : W) : Type 0 where
     pub bytes : List ℕ
@@ -53,15 +58,13 @@ module _ {R W : Type 0} (gives : R → List ℕ → R → Type 0) (read_failed :
     pub rest : List ℕ
     pub are : AreGames bytes games rest
     pub white : IsWhite rest
-    pub writes : Carries takes old (games_text games) new
-    pub well_written : failed new ≡ false
+    pub written : WritesGames takes failed games old new
 
   pub record EndsAtFault (reader reader' : R) (old new : W) : Type 0 where
     pub games : List Game
     pub reads : Collected gives read_failed ended reader reader' games
     pub refused : (more : List ℕ) → (reads.all ≡ true → more ≡ []) → HasNoGame (reads.rest ++ more) × (IsWhite (reads.rest ++ more) → ⊥)
-    pub writes : Carries takes old (games_text games) new
-    pub well_written : failed new ≡ false
+    pub written : WritesGames takes failed games old new
 
   -- The last read failed, or there were `most` reads.
   pub record EndsUnread (most : ℕ) (reader reader' : R) (old new : W) : Type 0 where
@@ -75,8 +78,7 @@ module _ {R W : Type 0} (gives : R → List ℕ → R → Type 0) (read_failed :
     pub rest : List ℕ
     pub are : (more : List ℕ) → AreGames (joined pieces ++ more) games (rest ++ more)
     pub none : HasNoGameYet rest
-    pub writes : Carries takes old (games_text games) new
-    pub well_written : failed new ≡ false
+    pub written : WritesGames takes failed games old new
 
   pub record EndsInPart (reader reader' : R) (old new : W) : Type 0 where
     pub games : List Game

@@ -4,13 +4,12 @@
 --   SoFar       they are written as well
 --   WritesAll   how the reading and writing ends
 --   EndsBy      what a fault of the text ends it with
-use Rattle.std.specs.Prelude.{◌≡◌, ◌≢◌, ◌⊎◌, Bool, true, false, List, [], ◌++◌, ℕ, ◌+◌, ◌≤◌, length, Result, Ok, Err}
-use Rattle.byte_streams.specs.Calls.{Carries}
+use Rattle.std.specs.Prelude.{◌≡◌, ◌≢◌, ◌⊎◌, Bool, true, List, [], ◌++◌, ℕ, ◌+◌, ◌≤◌, length, Result, Ok, Err}
 use Rattle.chess_items.specs.Coming.{AtHand, Came, unread}
 use Rattle.chess_items.specs.declared.fault.FaultKind.TheVariants as lacks
 use Rattle.chess_items.specs.declared.fault.PgnFault.{PgnFault}
 use Rattle.chess_pgn.specs.Games.{Game}
-use Rattle.chess_cli.specs.Collections.{AreGames, EndsAtFault, EndsInPart, EndsUnread, EndsWhole, EndsWritten, games_text}
+use Rattle.chess_cli.specs.Collections.{AreGames, EndsAtFault, EndsInPart, EndsUnread, EndsWhole, EndsWritten, WritesGames}
 use Rattle.chess_loop.specs.RunEnds.{Broken, most_reads}
 use Rattle.chess_loop.specs.steps.Sending.{Sent}
 use Rattle.chess_cli.specs.declared.ended.Ended.{Ended}
@@ -37,8 +36,7 @@ module _ {R W : Type 0} (gives : R → List ℕ → R → Type 0) (read_failed :
     pub games : List Game
     pub reads : Reads gives read_failed start now games
     pub few : count + length (unread now) ≤ length (unread start) + length reads.bytes
-    pub writes : Carries takes old (games_text games) new
-    pub well_written : failed new ≡ false
+    pub written : WritesGames takes failed games old new
 
   abbrev pub WritesAll : R → R → W → W → Ended → Type 0
   WritesAll reader reader' old new Good = EndsWhole gives read_failed ended takes failed reader reader' old new

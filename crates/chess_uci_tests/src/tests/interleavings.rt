@@ -24,22 +24,13 @@ enum Given {
 
 /// Whether both show the same.
 fn is_same<A: Allocator>(session: &Session<'_, A>, plain: &Plain<'_, A>) -> bool {
-    let running = plain.search;
     let shown = (
         session.searching(),
         session.infinite(),
         session.waiting(),
         session.depth_done(),
     );
-    let wanted = match running {
-        None => (false, false, false, 0),
-        Some(search) => {
-            let infinite = search.going.infinite;
-            let waits = infinite && search.searched >= search.roots;
-            (true, infinite, waits, search.done)
-        }
-    };
-    session.ended() == plain.ended && shown == wanted
+    session.ended() == plain.ended && shown == plain.shown()
 }
 
 /// Whether both reply the same.

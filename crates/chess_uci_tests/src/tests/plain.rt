@@ -83,11 +83,11 @@ fn two<T: Default + Drop>(first: T, second: T) -> ArrayVec<T, 4> {
 
 /// A search that runs.
 #[derive(Clone, Copy)]
-pub(crate) struct Running {
-    pub(crate) going: Going,
-    pub(crate) roots: usize,
-    pub(crate) searched: usize,
-    pub(crate) done: u8,
+struct Running {
+    going: Going,
+    roots: usize,
+    searched: usize,
+    done: u8,
     line: u64,
     claims: bool,
     begin: u64,
@@ -102,7 +102,7 @@ pub(crate) struct Plain<'a, A: Allocator> {
     table: &'a KeyTable,
     pub(crate) moment: u64,
     pub(crate) ended: bool,
-    pub(crate) search: Option<Running>,
+    search: Option<Running>,
     position: u64,
     claims: bool,
 }
@@ -118,6 +118,18 @@ impl<'a, A: Allocator> Plain<'a, A> {
             search: None,
             position: 0,
             claims: false,
+        }
+    }
+
+    /// Whether a search runs, whether it is infinite, whether it waits for `stop`, and the last depth that it has completed.
+    pub(crate) fn shown(&self) -> (bool, bool, bool, u8) {
+        match self.search {
+            None => (false, false, false, 0),
+            Some(search) => {
+                let infinite = search.going.infinite;
+                let waits = infinite && search.searched >= search.roots;
+                (true, infinite, waits, search.done)
+            }
         }
     }
 

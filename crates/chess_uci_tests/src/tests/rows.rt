@@ -100,22 +100,30 @@ fn holds<A: Allocator>(rt: &impl Abort, session: &mut Session<'_, A>, row: Row) 
     }
 }
 
+/// The first row of a table that isn't right, if any.
+fn wrong_row<A: Allocator>(
+    rt: &impl Abort,
+    session: &mut Session<'_, A>,
+    rows: &[Row],
+) -> Option<usize> {
+    for (index, row) in rows.iter().enumerate() {
+        if !holds(rt, session, *row) {
+            return Some(index);
+        }
+    }
+    None
+}
+
 /// Goes by a table.
 fn run<A: Allocator>(rt: &impl Abort, session: &mut Session<'_, A>, rows: &[Row]) {
-    for (index, row) in rows.iter().enumerate() {
-        assert!(rt; holds(rt, session, *row), "row {index}");
-    }
+    assert_eq!(rt; wrong_row(rt, session, rows), None);
 }
 
-/// Goes by a table in a new session, with the words of that table for its keys.
-fn run_by<A: Allocator>(rt: &impl Abort, alloc: &A, table: &KeyTable, rows: &[Row]) {
-    let mut session = Session::new(alloc, table);
-    run(rt, &mut session, rows);
-}
-
-/// Goes by a table in a new session.
-fn run_all<A: Allocator>(rt: &impl Abort, alloc: &A, rows: &[Row]) {
-    run_by(rt, alloc, &KeyTable::new([1; 768]), rows);
+/// Goes by a table of that name in a new session.
+fn run_named<A: Allocator>(rt: &impl Abort, alloc: &A, name: &str, rows: &[Row]) {
+    let table = KeyTable::new([1; 768]);
+    let mut session = Session::new(alloc, &table);
+    assert_eq!(rt; wrong_row(rt, &mut session, rows), None, "{name}");
 }
 
 const IN_A_SEARCH: &[Row] = &[
@@ -130,11 +138,6 @@ const IN_A_SEARCH: &[Row] = &[
     Line(b"go depth 1 searchmoves e2e4 b1a3", &[]),
     Line(b"stop", &[b"bestmove b1a3"]),
 ];
-
-#[test]
-fn answers_in_a_search(rt: HostRuntime) {
-    run_all(&rt, &rt.alloc(), IN_A_SEARCH);
-}
 
 const INTRODUCED: &[Row] = &[
     Line(
@@ -156,11 +159,6 @@ const INTRODUCED: &[Row] = &[
     Line(b"uci", &[]),
 ];
 
-#[test]
-fn is_introduced(rt: HostRuntime) {
-    run_all(&rt, &rt.alloc(), INTRODUCED);
-}
-
 const A_TIME_FOR_THE_MOVE: &[Row] = &[
     Moment(1000, &[]),
     Line(b"go movetime 100", &[]),
@@ -180,12 +178,6 @@ const A_CLOCK: &[Row] = &[
     Moment(u64::MAX, &[]),
     Slices(20, &[b"info depth 1 score cp 18 pv b1c3", b"bestmove b1c3"]),
 ];
-
-#[test]
-fn keeps_time(rt: HostRuntime) {
-    run_all(&rt, &rt.alloc(), A_TIME_FOR_THE_MOVE);
-    run_all(&rt, &rt.alloc(), A_CLOCK);
-}
 
 const MATED: &[u8] = b"position fen rnb1kbnr/pppp1ppp/8/4p3/6Pq/5P2/PPPPP2P/RNBQKBNR w KQkq - 1 3";
 
@@ -222,11 +214,6 @@ const LINES: &[Row] = &[
     Line(b"stop", &[b"bestmove g8e7"]),
 ];
 
-#[test]
-fn refuses_lines(rt: HostRuntime) {
-    run_all(&rt, &rt.alloc(), LINES);
-}
-
 const SO_FAR: &[Row] = &[
     Line(b"go depth 2", &[]),
     Shows(SoFar(None)),
@@ -246,11 +233,6 @@ const SO_FAR: &[Row] = &[
     Shows(SoFar(None)),
 ];
 
-#[test]
-fn shows_the_best_so_far(rt: HostRuntime) {
-    run_all(&rt, &rt.alloc(), SO_FAR);
-}
-
 const STOPPED: &[Row] = &[
     Line(b"go infinite depth 1", &[]),
     Shows(Infinite(true)),
@@ -265,11 +247,6 @@ const STOPPED: &[Row] = &[
     Slices(3, &[]),
     Line(b"stop", &[b"bestmove 0000"]),
 ];
-
-#[test]
-fn waits_for_stop(rt: HostRuntime) {
-    run_all(&rt, &rt.alloc(), STOPPED);
-}
 
 const ROOK: &[u8] = b"position fen 4k3/8/8/8/8/8/8/R3K3 w - - 99 60";
 
@@ -295,9 +272,23 @@ const WITH_CLAIMS: &[Row] = &[
     ),
 ];
 
+/// Tables by which a new session goes.
+const TABLES: [(&str, &[Row]); 8] = [
+    ("answers in a search", IN_A_SEARCH),
+    ("is introduced", INTRODUCED),
+    ("keeps the time for a move", A_TIME_FOR_THE_MOVE),
+    ("shares the time of a clock", A_CLOCK),
+    ("refuses lines", LINES),
+    ("shows the best so far", SO_FAR),
+    ("waits for stop", STOPPED),
+    ("has the option Claims", WITH_CLAIMS),
+];
+
 #[test]
-fn has_the_option_claims(rt: HostRuntime) {
-    run_all(&rt, &rt.alloc(), WITH_CLAIMS);
+fn goes_by_the_tables(rt: HostRuntime) {
+    for (name, rows) in TABLES {
+        run_named(&rt, &rt.alloc(), name, rows);
+    }
 }
 
 const GAME: &[u8] =
@@ -401,8 +392,8 @@ const ASKED_FOR: &[Row] = &[
 /// A `go` line of which one slice is enough tells this move.
 #[test]
 fn reads_what_go_asks_for(rt: HostRuntime) {
-    run_all(&rt, &rt.alloc(), AFTER_E4);
-    run_all(&rt, &rt.alloc(), ASKED_FOR);
+    run_named(&rt, &rt.alloc(), "after e4", AFTER_E4);
+    run_named(&rt, &rt.alloc(), "asked for", ASKED_FOR);
 }
 
 /// A `go` line at moment 0 of a new session ends at this moment, and not before.
@@ -415,7 +406,7 @@ fn ends_at<A: Allocator>(rt: &impl Abort, alloc: &A, text: &'static [u8], end: u
         Shows(Infinite(false)),
         Moment(end, &[b"bestmove b1a3"]),
     ];
-    run_all(rt, alloc, &rows);
+    run_named(rt, alloc, "ends at the time", &rows);
 }
 
 const ENDS: [(&'static [u8], u64); 7] = [
@@ -446,7 +437,7 @@ fn shares_the_time(rt: HostRuntime) {
     for (text, end) in ENDS {
         ends_at(&rt, &rt.alloc(), text, end);
     }
-    run_all(&rt, &rt.alloc(), BLACK_CLOCK);
+    run_named(&rt, &rt.alloc(), "the clock of Black", BLACK_CLOCK);
 }
 
 const FOUR_DEEP: &[Row] = &[
@@ -468,7 +459,7 @@ const FOUR_DEEP: &[Row] = &[
 #[test]
 fn goes_four_plies_deep_or_as_time_allows(rt: HostRuntime) {
     session_laws();
-    run_all(&rt, &rt.alloc(), FOUR_DEEP);
+    run_named(&rt, &rt.alloc(), "four plies deep", FOUR_DEEP);
 }
 
 /// Appends the text so many times.
