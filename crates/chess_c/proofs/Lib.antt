@@ -1,5 +1,4 @@
 pub mod CallLemmas
 pub mod PutLemmas
 pub mod SearchLemmas
-pub mod SlotValues
 pub mod WordLemmas

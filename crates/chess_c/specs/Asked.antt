@@ -29,9 +29,9 @@ use Rattle.chess_cli.specs.declared.board_command.refusal.Refusal.TheVariants.{A
 use Rattle.chess_cli.specs.Refusals.{san_refusal}
 use Rattle.chess_cli.specs.Answers.{Effect, Refuses, move_effect}
 use Rattle.chess_c.specs.declared.moves.CMove.{CMove}
-use Rattle.chess_slots.specs.Codes.{ok}
+use Rattle.chess_slots.specs.Codes.{none_best, ok}
 use Rattle.chess_slots.specs.Handed.{IsHanded}
-use Rattle.chess_c.specs.Codes.{claims_code, none_best, refusal_code}
+use Rattle.chess_c.specs.Codes.{claims_code, refusal_code}
 use Rattle.chess_c.specs.Moves.{shown}
 
 -- a move is made, if it is one

@@ -1,5 +1,4 @@
 -- How C sees statuses and small values: as numbers.
---   none_best, argument   statuses of their own
 --   refusal_code    the status of a refusal of the board
 --   ended_code      the status of a call that is done or refused
 --   claims_code     the draws that may be claimed: 1 for threefold, and 2 for fifty
@@ -11,15 +10,7 @@ use Rattle.chess_types.specs.declared.board.outcome.Claims.{Claims}
 use Rattle.chess_fen.specs.Faults.{number_of}
 use Rattle.chess_cli.specs.declared.board_command.refusal.Refusal.{Refusal}
 use Rattle.chess_cli.specs.declared.board_command.refusal.Refusal.TheVariants.{Fen, Form, NoSuch, Illegal, TooLong, AtRoot, Ambiguous, Full, BadComment, Memory, Command, Argument, LongLine}
-use Rattle.chess_slots.specs.Codes.{no_memory, not_legal, ok}
-
--- there is no legal move, so none is best
-abbrev pub none_best : ℕ
-none_best = 11
-
--- a number is out of its range
-abbrev pub argument : ℕ
-argument = 9
+use Rattle.chess_slots.specs.Codes.{argument, no_memory, not_legal, ok}
 
 -- FENs are refused from 21 on, by the number of the fault
 abbrev pub refusal_code : Refusal → ℕ

@@ -14,10 +14,9 @@ use Rattle.chess_types.specs.board.Lines.{Line}
 use Rattle.chess_search.specs.Best.{best}
 use Rattle.chess_search.specs.Slices.{GoesWith, Progress}
 use Rattle.chess_tree.specs.GameTree.{TreeParts, line_to}
-use Rattle.chess_slots.specs.Codes.{empty_slot, no_memory, ok}
+use Rattle.chess_slots.specs.Codes.{argument, empty_slot, no_memory, none_best, ok}
 use Rattle.chess_c.specs.declared.moves.CMove.{CMove}
 use Rattle.chess_c.specs.Asked.{IsBest}
-use Rattle.chess_c.specs.Codes.{argument, none_best}
 use Rattle.chess_c.specs.Held.{Held, Searching, roots, with_search}
 
 -- of all legal moves

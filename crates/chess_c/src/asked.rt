@@ -20,7 +20,7 @@ ghost use Rattle.chess_c.specs.Codes.{claims_code, colour_in};
 ghost use Rattle.chess_c.specs.Moves.{move_in, shown};
 ghost use Rattle.chess_c.specs.Positions.{position_shown};
 
-use crate::codes::{ARGUMENT, NONE, claims_code, colour_in, refusal_code};
+use crate::codes::{claims_code, colour_in, refusal_code};
 use crate::moves::{CMove, hand_moves};
 use crate::positions::CPosition;
 use crate::slot::{Slot, put, take};
@@ -28,7 +28,7 @@ use crate::squares::{put_counts, put_set, word_of};
 use chess_attack::attackers;
 use chess_cli::{Board, Refusal};
 use chess_play::Live;
-use chess_slots::{EMPTY, ILLEGAL, OK, hand, outcome_code};
+use chess_slots::{ARGUMENT, EMPTY, ILLEGAL, NONE, OK, hand, outcome_code};
 use chess_types::{Colour, Square, SquareSet};
 use std::alloc::Global;
 

@@ -2,20 +2,8 @@ ghost use Rattle.std.specs.Prelude.{◌≡◌};
 ghost use Rattle.chess_c.specs.Codes.{claims_code, colour_code, colour_in, ended_code, refusal_code};
 
 use chess_cli::Refusal;
-use chess_slots::{ILLEGAL, MEMORY, OK};
+use chess_slots::{ARGUMENT, AT_ROOT, FORM, ILLEGAL, MEMORY, OK};
 use chess_types::{Claims, Colour};
-
-/// The text has no form of a move.
-pub const FORM: u32 = 5;
-
-/// The cursor is at the root.
-pub const AT_ROOT: u32 = 8;
-
-/// A number is out of its range.
-pub const ARGUMENT: u32 = 9;
-
-/// There is no legal move, so none is best.
-pub const NONE: u32 = 11;
 
 /// The status of a refusal.
 pub fn refusal_code(refusal: Refusal) -> u32

@@ -2,8 +2,7 @@ ghost use Rattle.std.specs.Prelude.{◌≡◌, ◌≤◌, ◌++◌, drop, length
 ghost use Rattle.chess_slots.specs.Handed.{IsHanded};
 ghost use Rattle.chess_c.specs.Moves.{IsParsed, IsSpelled, move_in, promotion_code, promotion_in, shown};
 
-use crate::codes::{ARGUMENT, FORM};
-use chess_slots::{OK, ROOM, hand};
+use chess_slots::{ARGUMENT, FORM, OK, ROOM, hand};
 use chess_types::{Kind, Move, Square};
 
 /// A move, as C sees it.

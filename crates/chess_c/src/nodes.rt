@@ -6,11 +6,10 @@ ghost use Rattle.chess_slots.specs.Handed.{IsHanded};
 ghost use Rattle.chess_c.specs.Asked.{IsMoveHere};
 ghost use Rattle.chess_c.specs.Calls.{Asks};
 
-use crate::codes::AT_ROOT;
 use crate::moves::CMove;
 use crate::slot::{Slot, put, take};
 use chess_cli::Board;
-use chess_slots::{EMPTY, OK, hand};
+use chess_slots::{AT_ROOT, EMPTY, OK, hand};
 use std::alloc::Global;
 
 /// How many plies the cursor is below the root, at most 20,000.

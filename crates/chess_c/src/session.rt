@@ -9,13 +9,12 @@ ghost use Rattle.chess_c.specs.Held.{beginning};
 ghost use Rattle.chess_c.specs.Loads.{LoadsFrom};
 ghost use Rattle.chess_c.specs.Searches.{IsBegunFrom, SlicedFrom, best_of};
 
-use crate::codes::{ARGUMENT, NONE};
 use crate::moves::CMove;
 use crate::search::Search;
 use chess_cli::Board;
 use chess_key::KeyTable;
 use chess_loop::OutputBuffer;
-use chess_slots::{MEMORY, NO_GAME, OK, answer, fault_code, reply};
+use chess_slots::{ARGUMENT, MEMORY, NO_GAME, NONE, OK, answer, fault_code, reply};
 use chess_tree::TreeFault;
 use chess_types::Move;
 use chess_uci::{Event, Session as Uci};

@@ -1,12 +1,13 @@
 -- What the statuses of calls are, as numbers, and how small values are seen.
---   ok, empty_slot, no_memory, not_legal, no_room, no_game   statuses of their own
+--   ok, empty_slot, no_memory, not_legal, argument, no_room, none_best, no_game   statuses of their own
 --   fault_code      the status of a text at whose start no game is
 --   outcome_code    how a game stands
-use Rattle.std.specs.Prelude.{ℕ}
+use Rattle.std.specs.Prelude.{ℕ, ◌+◌}
 use Rattle.chess_types.specs.declared.board.outcome.Status.{Status}
 use Rattle.chess_types.specs.declared.board.outcome.Status.TheVariants.{Mate, Stalemate, Dead, Fivefold, Seventyfive, Play}
 use Rattle.chess_items.specs.declared.fault.FaultKind.{FaultKind}
-use Rattle.chess_items.specs.declared.fault.FaultKind.TheVariants.{Token, Tag, Move, Variation, Deep, Truncated, Fen, Memory, TooLarge}
+use Rattle.chess_items.specs.declared.fault.FaultKind.TheVariants.{Memory}
+use Rattle.chess_items.specs.Faults.{number_of}
 
 -- it is done
 abbrev pub ok : ℕ
@@ -24,9 +25,17 @@ no_memory = 2
 abbrev pub not_legal : ℕ
 not_legal = 3
 
+-- a number is out of its range
+abbrev pub argument : ℕ
+argument = 9
+
 -- the answer is longer than the room for it
 abbrev pub no_room : ℕ
 no_room = 10
+
+-- there is no legal move, so none is best
+abbrev pub none_best : ℕ
+none_best = 11
 
 -- only whitespace follows
 abbrev pub no_game : ℕ
@@ -34,15 +43,8 @@ no_game = 16
 
 -- 40 and the number of the fault; want of memory is no fault of the text
 abbrev pub fault_code : FaultKind → ℕ
-fault_code Token = 41
-fault_code Tag = 42
-fault_code Move = 43
-fault_code Variation = 44
-fault_code Deep = 45
-fault_code Truncated = 46
-fault_code Fen = 47
 fault_code Memory = no_memory
-fault_code TooLarge = 49
+fault_code fault = 40 + number_of fault
 
 -- the number of a status
 abbrev pub outcome_code : Status → ℕ

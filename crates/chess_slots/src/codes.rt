@@ -16,8 +16,20 @@ pub const MEMORY: u32 = 2;
 /// The move isn't legal, or the text names no legal move.
 pub const ILLEGAL: u32 = 3;
 
+/// The text has no form of a move.
+pub const FORM: u32 = 5;
+
+/// The cursor is at the root.
+pub const AT_ROOT: u32 = 8;
+
+/// A number is out of its range.
+pub const ARGUMENT: u32 = 9;
+
 /// The answer is longer than the room for it.
 pub const ROOM: u32 = 10;
+
+/// There is no legal move, so none is best.
+pub const NONE: u32 = 11;
 
 /// No game follows.
 pub const NO_GAME: u32 = 16;

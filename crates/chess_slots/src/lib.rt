@@ -17,7 +17,10 @@ mod texts;
 
 pub use along::cursor_line;
 pub use answers::{answer, reply};
-pub use codes::{EMPTY, ILLEGAL, MEMORY, NO_GAME, OK, ROOM, fault_code, outcome_code};
+pub use codes::{
+    ARGUMENT, AT_ROOT, EMPTY, FORM, ILLEGAL, MEMORY, NO_GAME, NONE, OK, ROOM, fault_code,
+    outcome_code,
+};
 pub use games::{game, passed, report};
 pub use loose::Loose;
 pub use lost::Lost;

@@ -4,6 +4,7 @@ ghost use Rattle.chess_types.specs.board.Lines.{last};
 ghost use Rattle.chess_fen.specs.Writing.{written};
 ghost use Rattle.chess_pgn.specs.steps.GameCode.{game_of};
 ghost use Rattle.chess_report.specs.MainLine.{main};
+ghost use Rattle.chess_slots.specs.Codes.{outcome_code};
 ghost use Rattle.chess_slots.specs.Reports.{marker_code, ply_code, report_code, why_of, winner_code};
 
 use crate::codes::outcome_code;
@@ -74,23 +75,14 @@ fn ply_code(ply: Option<u32>) -> u32
     }
 }
 
-// The ply at which a game is over.
-fn over_ply(over: Option<Over>) -> Option<u32>
-    ensures { result ≡ option_map (λ o. o.ply) over }
+// The ply at which a game is over, and why.
+fn over_codes(over: Option<Over>) -> (u32, u32)
+    ensures ply { result.0 ≡ ply_code (option_map (λ o. o.ply) over) }
+    ensures why { result.1 ≡ outcome_code (why_of over) }
 {
     match over {
-        Some(over) => Some(over.ply),
-        None => None,
-    }
-}
-
-// Why it is over there.
-fn over_why(over: Option<Over>) -> Status
-    ensures { result ≡ why_of over }
-{
-    match over {
-        Some(over) => over.why,
-        None => Status::Play,
+        Some(over) => (over.ply, outcome_code(over.why)),
+        None => (NEVER, outcome_code(Status::Play)),
     }
 }
 
@@ -108,13 +100,14 @@ pub fn report_of<A: Allocator, B: Allocator>(
 {
     let table = KeyTable::fixed();
     let found = Report::of(alloc, game, &table)?;
+    let (over, why) = over_codes(found.over);
     let report = GameReport {
         plies: found.plies,
         marker: marker_code(found.marker),
         status: outcome_code(found.status),
         winner: winner_code(found.winner),
-        over: ply_code(over_ply(found.over)),
-        why: outcome_code(over_why(found.over)),
+        over,
+        why,
         threefold: ply_code(found.threefold),
         fifty: ply_code(found.fifty),
         repetitions: found.repetitions,

@@ -18,7 +18,7 @@ pub extern "C" fn jatshegi_game(
     let Some(session) = take(slot) else {
         return EMPTY;
     };
-    let code = session.game(text, answer, count, used);
+    let code = chess_slots::game(session.heap, text, answer, count, used);
     put(slot, session);
     code
 }
@@ -39,7 +39,7 @@ pub extern "C" fn jatshegi_report(
     let Some(session) = take(slot) else {
         return EMPTY;
     };
-    let code = session.report(text, report, fen, count, used);
+    let code = chess_slots::report(session.heap, text, report, fen, count, used);
     put(slot, session);
     code
 }
@@ -53,7 +53,7 @@ pub extern "C" fn jatshegi_pass(slot: &mut Slot, text: &[u8], used: &mut u64) ->
     let Some(session) = take(slot) else {
         return EMPTY;
     };
-    let code = session.passed(text, used);
+    let code = chess_slots::passed(session.heap, text, used);
     put(slot, session);
     code
 }

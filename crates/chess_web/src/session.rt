@@ -6,16 +6,14 @@ ghost use Rattle.chess_tree.specs.GameTree.{line_to};
 ghost use Rattle.chess_cli.specs.Answers.{Tells};
 ghost use Rattle.chess_cli.specs.Requests.{request};
 ghost use Rattle.chess_slots.specs.Answers.{IsReplied};
-ghost use Rattle.chess_slots.specs.Games.{IsGame, IsPassed};
 ghost use Rattle.chess_slots.specs.Handed.{IsToldBy};
-ghost use Rattle.chess_slots.specs.Reports.{IsReport};
 ghost use Rattle.chess_web.specs.Calls.{IsNamed};
 ghost use Rattle.chess_web.specs.Held.{beginning};
 
 use chess_cli::Board;
 use chess_key::KeyTable;
 use chess_loop::OutputBuffer;
-use chess_slots::{GameReport, ILLEGAL, answer, game, hand, passed, reply, report};
+use chess_slots::{ILLEGAL, answer, hand, reply};
 use chess_uci::{Event, Session as Uci};
 use lent_heap::LentHeap;
 use std::marker::Model;
@@ -26,7 +24,7 @@ pub struct Session {
     board: Board<'static, LentHeap>,
     engine: Uci<'static, LentHeap>,
     page: OutputBuffer<&'static LentHeap>,
-    heap: &'static LentHeap,
+    pub heap: &'static LentHeap,
 }
 
 impl Model for Session {
@@ -102,33 +100,5 @@ impl Session {
         ensures { result ≡ is_some self.now.engine.search }
     {
         self.engine.searching()
-    }
-
-    /// The game at the start of the text in export form, and how many bytes of the text it takes; or why there is none.
-    pub fn game(&self, text: &[u8], room: &mut [u8], count: &mut usize, used: &mut usize) -> u32
-        ensures { IsGame text.now result count.old count.new used.old used.new room.old room.new }
-    {
-        game(self.heap, text, room, count, used)
-    }
-
-    /// The report of the game at the start of the text, the FEN of its last position, and how many bytes of the text it takes; or why there is none.
-    pub fn report(
-        &self,
-        text: &[u8],
-        found: &mut GameReport,
-        fen: &mut [u8],
-        count: &mut usize,
-        used: &mut usize,
-    ) -> u32
-        ensures { IsReport text.now result count.old count.new used.old used.new found.old found.new fen.old fen.new }
-    {
-        report(self.heap, text, found, fen, count, used)
-    }
-
-    /// How many bytes to pass over to what follows the game at the start of the text.
-    pub fn passed(&self, text: &[u8], used: &mut u64) -> u32
-        ensures { IsPassed text.now result used.old used.new }
-    {
-        passed(self.heap, text, used)
     }
 }

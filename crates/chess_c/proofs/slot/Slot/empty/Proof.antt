@@ -14,8 +14,10 @@ use denote.RawPtr.{null_ptr, ptr_val}
 use denote.Steps.{nothing}
 use denote.Triple.Walked.{Stays, walk_of}
 use Rattle.std.proofs.raw_atomic.Walks.{proved_at, leaves}
-use Rattle.chess_slots.proofs.SlotValues.{slot_val}
-use Rattle.chess_c.proofs.SlotValues.{Slot, slot_in}
+use Rattle.chess_slots.proofs.SlotValues.{slot_val, slot_in}
+use Rattle.chess_c.specs.Slots.{may_free}
+use Rattle.chess_c.specs.contracts.session.Session as session
+use Rattle.chess_c.specs.contracts.slot.Slot as slot
 use Rattle.chess_c.specs.contracts.slot.Slot.empty as f
 use Rattle.chess_c.proofs.slot.Slot.empty.Statement.{statement}
 use Rattle.chess_c.proofs.slot.Slot.empty.Code as code
@@ -29,6 +31,6 @@ empty_spec 𝓤 𝓛 𝓜 𝓡 wired =
     qed 𝓛 ((‵ ftrue ⊛ ‵ ftrue) ∷ raw (emp 𝓤) ∷ []) ∵ split ! $
     enter ! 𝓣.C 𝓣.Λ fn [] Post $ alloc_all ! (λ l. pass_all ! refl tt $
     sets ! (agg ! (and_then ! (false_lit !) (and_then ! (lit ! tt) (no_more !)))) refl (tt, (tt, (record { fits = lit< tt }, tt))) $
-    let d : Slot.Denot = record { full = false; at = null_ptr; held = None; told = refl } in
-    nothing ! $ slot_in ! d $ use0 𝓛 (raw (fact 𝓤 (d.held ≡ None))) (fact_i 𝓤 (d.held ≡ None) (emp 𝓤) refl) $ nothing ! $
+    let d : (slot.the_row).Denot = record { full = false; at = null_ptr; held = None; told = refl } in
+    nothing ! $ slot_in may_free session.the_row ! d.full d.at d.held $ use0 𝓛 (raw (fact 𝓤 (d.held ≡ None))) (fact_i 𝓤 (d.held ≡ None) (emp 𝓤) refl) $ nothing ! $
     returns ! (look_at ! 0 refl) $ free_all ! refl $ keep ! (4 ∷ 0 ∷ 2 ∷ 1 ∷ []) $ by ! (leaves 𝓛 En hs c z (slot_val false (ptr_val null_ptr)) d tt tt)))

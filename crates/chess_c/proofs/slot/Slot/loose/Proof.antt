@@ -27,9 +27,15 @@ use Rattle.core.proofs.option.Made.{Some-of, none_of}
 use Rattle.std_alloc.proofs.ResultValues.{and_tt}
 use Rattle.std.proofs.raw_atomic.Walks.{proved_at, leaves}
 use Rattle.chess_slots.proofs.Values.{al, both, Loose, loose_good, loose_in}
-use Rattle.chess_slots.proofs.SlotValues.{slot_val, slot_cases}
-use Rattle.chess_c.proofs.SlotValues.{R, Z, L, g, Slot, slot_out}
+use Rattle.chess_slots.proofs.SlotValues.{slot_val, slot_out, slot_cases}
+use Rattle.std.specs.contracts.alloc.Global as heap
+use Rattle.std.proofs.alloc.Global.TheLaws as heap_laws
+use Rattle.std.specs.contracts.impls.GlobalAllocator.TheImpl as heap_impl
+use denote.Param.Laws.{Laws}
+use Rattle.core.specs.declared.alloc.Allocator.{Ghosts}
 use Rattle.chess_c.specs.Slots.{may_free}
+use Rattle.chess_c.specs.contracts.session.Session as session
+use Rattle.chess_c.specs.contracts.slot.Slot as slot
 use Rattle.chess_c.specs.contracts.slot.Slot.loose as f
 use Rattle.chess_c.proofs.slot.Slot.loose.Statement.{statement}
 use Rattle.chess_c.proofs.slot.Slot.loose.Code as code
@@ -37,11 +43,12 @@ use Rattle.chess_c.proofs.slot.Slot.loose.Code as code
 pub loose_spec : {M : Type 1} → statement M
 loose_spec 𝓤 𝓛 𝓜 𝓡 wired =
     let H = 𝓛.H in let 𝓣 = tables 𝓤 H 𝓜 𝓡 𝓡.env in let En = f.ended in let c = f.clauses 𝓛 𝓜.mem 𝓡.returns in let fn = code.function in
-    let hs : Stays En.signature.params En.kept = (stay_dropped (plain (λ _. Slot)) yes, (stay_dropped (plain (λ _. Z)) yes, tt)) in
-    proved_at 𝓛 En hs c 𝓜 𝓡 (Goes-blank 𝓛 0 (plain (λ _. Slot)) yes (λ κs x f. tt), (Goes-blank 𝓛 0 (plain (λ _. Z)) yes (λ κs x f. tt), tt)) f.Key.name fn (code.unfolded 𝓤 H 𝓜 𝓡 wired) (λ z are.
+    let R = session.the_row in let Z = heap.the_row in let L : Laws Z = heap_laws.the_row_laws in let g : Ghosts Z.Denot = heap_impl.ghosts in
+    let hs : Stays En.signature.params En.kept = (stay_dropped (plain (λ _. slot.the_row)) yes, (stay_dropped (plain (λ _. Z)) yes, tt)) in
+    proved_at 𝓛 En hs c 𝓜 𝓡 (Goes-blank 𝓛 0 (plain (λ _. slot.the_row)) yes (λ κs x f. tt), (Goes-blank 𝓛 0 (plain (λ _. Z)) yes (λ κs x f. tt), tt)) f.Key.name fn (code.unfolded 𝓤 H 𝓜 𝓡 wired) (λ z are.
     let κs = z.0.0 in let v = z.0.3.0 in let a = z.0.3.1.0 in let Lr : RattleType = Loose R Z L g in let Out : RattleType = type_at En.signature.result κs in
     let Post : Val → SProp 𝓤 = (walk_of 𝓛 En hs c).post z in let Run : List Val → SProp 𝓤 = λ ws. WpFn 𝓤 H 𝓣.C 𝓣.Λ fn ws Post in
-    qed 𝓛 ((‵ ftrue ⊛ ‵ (owns (types_at En.signature.params κs) z.0.3 z.0.4)) ∷ raw (emp 𝓤) ∷ []) ∵ split ! $ move ! (1 ∷ []) $ fsplit ! $ slot_out ! v z.0.4.0 (λ ws.
+    qed 𝓛 ((‵ ftrue ⊛ ‵ (owns (types_at En.signature.params κs) z.0.3 z.0.4)) ∷ raw (emp 𝓤) ∷ []) ∵ split ! $ move ! (1 ∷ []) $ fsplit ! $ slot_out may_free R ! v.full v.at v.held z.0.4.0 (λ ws.
     move ! (1 ∷ []) $ fsplit ! $ handle_tells (al R Z L g) ! a z.0.4.1.0 (λ h ea fits. move ! (2 ∷ 0 ∷ []) $
     slot_cases may_free R ! v.held v.at
     (λ is. let q : Val = ptr_val v.at in let w : Val = slot_val false q in let gq = Ptr-Good v.at in

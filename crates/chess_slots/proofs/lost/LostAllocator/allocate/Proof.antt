@@ -8,11 +8,10 @@ use base.Logic.{SProp, ent}
 use base.Fml.{Lft, Share, ftrue, flft}
 use prog.Memory.{Memory}
 use prog.Routine.{Routine}
-use prog.Wp.{Calls, Loops, WpFn, Tables}
+use prog.Wp.{Calls, Loops, WpFn}
 use types.Logic.{Logic}
 use contract.Monad.{Fun}
-use contract.Running.{tables, tables_of}
-use sound.WpLaws.{FmC, fm_of, WpFn-mono}
+use contract.Running.{tables}
 use types.Kit.{‵, raw, ◌⊛◌, ◌$◌, ◌∵◌, !, qed, move, keep, use0, join, split, fjoin, suffices, done}
 use types.Part.{agg}
 use types.Run.{lit, no_more, and_then, returns, enter}
@@ -23,9 +22,8 @@ use denote.Builtin.{usize, RefOf}
 use denote.Plain.{uint_vals, uint_Tells}
 use denote.Signature.{plain}
 use denote.Steps.{nothing}
-use denote.Triple.Spec.{triple_of}
-use denote.Triple.Table.{entered}
-use denote.Triple.Walked.{Stays, stay_dropped, walk_of, ends_at, walked, Goes-dropped, walk_Meets}
+use denote.Triple.Walked.{Stays, stay_dropped, walk_of, ends_at, Goes-dropped}
+use Rattle.std.proofs.raw_atomic.Walks.{proved}
 use Rattle.std.proofs.alloc.Calls.{Answer, answer_val, Answer-typed, Answer-err}
 use Rattle.chess_slots.specs.contracts.lost.Lost as BP
 use denote.Signature.{type_at, types_at}
@@ -37,7 +35,7 @@ use Rattle.chess_slots.proofs.lost.LostAllocator.allocate.Code as code
 abbrev stayed : Stays (F.ended).signature.params (F.ended).kept
 stayed = (stay_dropped (RefOf (0 ∷ []) tt (plain (λ _. BP.the_row)) (λ _. tt)) yes, (stay_dropped (plain (λ _. usize)) yes, (stay_dropped (plain (λ _. usize)) yes, tt)))
 
-module _ {M : Type 1} {𝓤 : Ura M} (𝓛 : Logic 𝓤) (at_mem : Memory → SProp 𝓤) (run : Routine → Fun 𝓤) (C : Calls 𝓤 𝓛.H) (Λ : Loops 𝓤 𝓛.H) (fm : FmC 𝓤 𝓛.H 𝓛.laws C) where
+module _ {M : Type 1} {𝓤 : Ura M} (𝓛 : Logic 𝓤) (at_mem : Memory → SProp 𝓤) (run : Routine → Fun 𝓤) (C : Calls 𝓤 𝓛.H) (Λ : Loops 𝓤 𝓛.H) where
   open 𝓛 use {H}
 
   module _ (κ : Lft) (q : Share) (r : (type_at {n = 1} (RefOf (0 ∷ []) tt (plain (λ _. BP.the_row)) (λ _. tt)) (κ, tt)).Denot) (n a : ℕ) (τ : Ty) where
@@ -53,11 +51,8 @@ module _ {M : Type 1} {𝓤 : Ura M} (𝓛 : Logic 𝓤) (at_mem : Memory → SP
         nothing ! $ use0 𝓛 (‵ (Answer.own_val (Err (record {})) (answer_val false 0 0 ∷ []))) (Answer-err 𝓛) $ nothing ! $ nothing ! $ fjoin ! $ nothing ! $ fjoin ! $ nothing ! $ fjoin ! $ join ! $ move ! (2 ∷ 0 ∷ []) $ join ! $ done !)
 
 pub allocate_spec : {M : Type 1} → stated.statement M
-unfolding tables_of
 allocate_spec 𝓤 𝓛 𝓜 𝓡 wired =
-    let 𝓣 : Tables 𝓤 𝓛.H = tables_of 𝓤 𝓛.H 𝓜 (tables 𝓤 𝓛.H 𝓜 𝓡 𝓡.env) in
-    let held = F.clauses 𝓛 𝓜.mem 𝓡.returns in
-    entered 𝓤 𝓛.H (triple_of 𝓛 F.signature (F.spec 𝓛 𝓜.mem 𝓡.returns)) 𝓣.C 𝓣.Λ #self code.function (code.unfolded 𝓤 𝓛.H 𝓜 𝓡 wired)
-    (walk_Meets 𝓛 F.ended stayed (Goes-dropped 𝓛 1 (RefOf (0 ∷ []) tt (plain (λ _. BP.the_row)) (λ _. tt)) yes (λ κs x f. refl), (Goes-dropped 𝓛 1 (plain (λ _. usize)) yes (λ κs x f. refl), (Goes-dropped 𝓛 1 (plain (λ _. usize)) yes (λ κs x f. refl), tt))) held (WpFn 𝓤 𝓛.H 𝓣.C 𝓣.Λ code.function) (WpFn-mono 𝓤 𝓛.H 𝓛.laws 𝓣 code.function)
-    (walked 𝓛 F.ended stayed held (WpFn 𝓤 𝓛.H 𝓣.C 𝓣.Λ code.function) (λ κs. ((λ r. vptr r.ref_ptr.0 r.ref_ptr.1 ∷ []), (uint_vals w64, (uint_vals w64, tt)))) (λ κs. ((λ r vs s. s.0), (uint_Tells w64, (uint_Tells w64, tt))))
-    (λ κs qs bounds a g are. walk 𝓛 𝓜.mem 𝓡.returns 𝓣.C 𝓣.Λ (fm_of 𝓤 𝓛.H 𝓛.laws 𝓣) κs.0 qs.0 a.0 a.1.0 a.1.1.0 g are.1.0.1 are.1.1.0.1)))
+    let 𝓣 = tables 𝓤 𝓛.H 𝓜 𝓡 𝓡.env in
+    proved 𝓛 F.ended stayed (F.clauses 𝓛 𝓜.mem 𝓡.returns) 𝓜 𝓡 (Goes-dropped 𝓛 1 (RefOf (0 ∷ []) tt (plain (λ _. BP.the_row)) (λ _. tt)) yes (λ κs x f. refl), (Goes-dropped 𝓛 1 (plain (λ _. usize)) yes (λ κs x f. refl), (Goes-dropped 𝓛 1 (plain (λ _. usize)) yes (λ κs x f. refl), tt))) #self code.function (code.unfolded 𝓤 𝓛.H 𝓜 𝓡 wired)
+    (λ κs. ((λ r. vptr r.ref_ptr.0 r.ref_ptr.1 ∷ []), (uint_vals w64, (uint_vals w64, tt)))) (λ κs. ((λ r vs s. s.0), (uint_Tells w64, (uint_Tells w64, tt))))
+    (λ κs qs bounds a g are. walk 𝓛 𝓜.mem 𝓡.returns 𝓣.C 𝓣.Λ κs.0 qs.0 a.0 a.1.0 a.1.1.0 g are.1.0.1 are.1.1.0.1)
