@@ -291,9 +291,7 @@ impl Clone for Position {
 
     /// The same position; never an error.
     fn clone(&self) -> Result<Position, AllocError> {
-        Ok(Position {
-            setup: self.setup.clone()?,
-        })
+        Ok(Position::new(self.setup.clone()?))
     }
 }
 
