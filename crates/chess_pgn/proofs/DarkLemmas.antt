@@ -18,10 +18,10 @@ use Rattle.chess_items.proofs.BlankLemmas.{white_after-append}
 use Rattle.chess_items.proofs.FoundLemmas.{some_is, the}
 use Rattle.chess_items.proofs.SpellLemmas.{first_found, one_spelling, place_behind}
 use Rattle.chess_items.proofs.WhiteLemmas.{after_blank, nothing_after}
-use Rattle.chess_pgn.specs.Reading.{IsWhite, is_heading, is_movetext}
+use Rattle.chess_pgn.specs.Reading.{IsWhite, is_heading, is_movetext, is_tagged}
 use Rattle.chess_pgn.specs.Tags.{AreBetween, may_part_tags}
 use Rattle.chess_pgn.specs.steps.HeaderCode.{is_begun}
-use Rattle.chess_pgn.specs.steps.ReaderCode.{RefusesFirst, Strays, TakesItem, is_tagged, takes_when}
+use Rattle.chess_pgn.specs.steps.ReaderCode.{RefusesFirst, Strays, TakesItem, takes_when}
 use Rattle.chess_pgn.specs.declared.reader.Reader.{Reader}
 use Rattle.chess_pgn.proofs.ChainLemmas.{InHead, Progress}
 use Rattle.chess_pgn.proofs.FrontLemmas.{begun_dark}

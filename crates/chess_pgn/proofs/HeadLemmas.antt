@@ -11,9 +11,9 @@ use Rattle.chess_items.specs.declared.taker.Taken.{Taken}
 use Rattle.chess_items.specs.declared.taker.Taken.TheVariants.{GoesOn, Ends, Leaves}
 use Rattle.chess_items.specs.declared.token.Token.{Token}
 use Rattle.chess_items.specs.declared.token.Token.TheVariants.{Mark, Blank, Hidden, Braced, Line, TagOpen, TagClose, Name, Quote, Stretch, Escaped}
-use Rattle.chess_pgn.specs.Reading.{is_heading, is_movetext}
+use Rattle.chess_pgn.specs.Reading.{is_heading, is_movetext, is_tagged}
 use Rattle.chess_pgn.specs.steps.HeaderCode.{is_begun}
-use Rattle.chess_pgn.specs.steps.ReaderCode.{BeginsMoves, Moved, RefusesFirst, is_tagged, takes_when}
+use Rattle.chess_pgn.specs.steps.ReaderCode.{BeginsMoves, Moved, RefusesFirst, takes_when}
 use Rattle.chess_pgn.specs.declared.reader.Reader.{Reader}
 
 abbrev is_end : Item → Bool

@@ -12,12 +12,12 @@ use Rattle.chess_items.specs.declared.fault.PgnFault.{PgnFault}
 use Rattle.chess_items.proofs.FoundLemmas.{some_is}
 use Rattle.chess_pgn.specs.Games.{Game}
 use Rattle.chess_pgn.specs.Grammar.{Element, element, elements, few_are_open}
-use Rattle.chess_pgn.specs.Reading.{Ends, Gives, is_heading, is_movetext, remarks}
+use Rattle.chess_pgn.specs.Reading.{Ends, Gives, is_heading, is_movetext, is_tagged, remarks}
 use Rattle.chess_pgn.specs.Tags.{AreTags, start_in}
 use Rattle.chess_pgn.specs.steps.HeaderCode.{HasTaken, heading, heads_on, is_begun, Heading}
 use Rattle.chess_pgn.specs.steps.HeaderCode as header_code
 use Rattle.chess_pgn.specs.steps.OtherCode.{Finds}
-use Rattle.chess_pgn.specs.steps.ReaderCode.{MayNotEnd, NoStart, RefusesFirst, RefusesItem, Strays, TakesItem, is_tagged, takes_when}
+use Rattle.chess_pgn.specs.steps.ReaderCode.{MayNotEnd, NoStart, RefusesFirst, RefusesItem, Strays, TakesItem, takes_when}
 use Rattle.chess_pgn.specs.steps.Readings.{Exceeds, FailsWith, FailsHere, fresh, goes_on, is_nil}
 use Rattle.chess_pgn.specs.declared.reader.Reader.{Reader}
 use Rattle.chess_pgn.specs.declared.reader.header.Header.{Header}

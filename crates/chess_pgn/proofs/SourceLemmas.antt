@@ -2,17 +2,18 @@
 use Rattle.std.proofs.Common.{◌≡◌, ℕ, ◌≤◌, ◌<◌, Bool, true, false, List, [], ◌∷◌, ◌++◌, length, refl, sym, subst, ap, ◌∙◌, arith, append-nil, length-append}
 use Rattle.std.specs.List.{list_all}
 use mathlib.Core.Logic.{inl, inr}
-use Rattle.std.specs.Prelude.{Result, Ok, Option, Some, None, IfSome}
+use Rattle.std.specs.Prelude.{Result, Ok, Err, Option, Some, None, IfErr, IfOk, IfSome}
 use Rattle.byte_streams.specs.Calls.{Calls, joined}
 use Rattle.chess_items.specs.Items.{Item, Spells, is_white, place_after}
 use Rattle.chess_items.specs.Coming.{AtHand, unread}
 use Rattle.chess_items.specs.declared.place.Place.{Place}
 use Rattle.chess_items.specs.declared.place.Place.TheVariants.{GameStart}
+use Rattle.chess_items.proofs.FoundLemmas.{some_is}
 use Rattle.chess_items.proofs.BreakLemmas.{all_came, brings, has_all}
 use Rattle.chess_items.proofs.LocalLemmas.{text_shorter}
 use Rattle.chess_pgn.specs.Games as games
 use Rattle.chess_pgn.specs.Reading.{BeginsWithGame, IsWhite}
-use Rattle.chess_pgn.specs.Sources.{Games, GoesOn, HasFault, HasGame, HasNone, IsSound, NextGame, NotPassed}
+use Rattle.chess_pgn.specs.Sources.{Games, GoesOn, HasFault, HasGame, HasNone, IsPlaced, IsSound, NextGame, NotPassed, ReadsNext}
 use Rattle.chess_pgn.specs.steps.GameAt.{FoundGame, HasCome, NoneCame}
 use Rattle.chess_pgn.specs.steps.GameCode.{game_of}
 use Rattle.chess_pgn.specs.declared.game.Game.{Game}
@@ -124,3 +125,37 @@ module _ {R : Type 0} (gives : R → List ℕ → R → Type 0) (failed : R → 
       by : (fault : GamesFault) → GoesOn (Some fault) → NotPassed gives failed old new.text fault → new.text.has_ended ≡ true → ended new.text.source
       by Read on h = absurd on
       by (Pgn f) on h = absurd (on h.0)
+
+-- what a call for the next game does, as it ends
+module _ {R A : Type 0} (gives : R → List ℕ → R → Type 0) (failed : R → Bool) (ended : R → Type 0) (old : Games R) where
+  -- a fault came before
+  pub again_reads : (fault : GamesFault) → old.fault ≡ Some fault → IsSound ended old → ReadsNext {A = A} gives failed ended old old (Err fault)
+  again_reads fault e sound = record {
+    sound = sound;
+    again = λ other h. rw (some_is {A = GamesFault} fault other (sym e ∙ h)) refl;
+    untouched = λ other h. refl;
+    sticky = e;
+    good = tt;
+    game = tt;
+    cursor = tt;
+    none = λ h. absurd cc;
+    fault = λ h. absurd (let k = sym e ∙ h in cc);
+    place = λ h. absurd (let k = sym e ∙ h in cc);
+  }
+
+  -- none came before
+  pub first_reads : (new : Games R) (result : Result (Option (Game A)) GamesFault) → old.fault ≡ None → IsSound ended new → IfErr result (λ fault. new.fault ≡ Some fault) → IfOk result (λ _. new.fault ≡ None)
+      → IfOk result (λ found. IfSome found (λ game. NextGame gives failed old new (game_of game))) → IfOk result (λ found. IfSome found (λ game. game.tree.path ≡ [])) → (result ≡ Ok None → HasNone gives failed old.text new.text)
+      → IfErr result (λ fault. HasFault gives failed ended old.text new.text fault) → IfErr result (λ fault. IsPlaced old.text.used fault) → ReadsNext gives failed ended old new result
+  first_reads new result came sound sticky good game cursor none fault place = record {
+    sound = sound;
+    again = λ before h. absurd (let k = sym came ∙ h in cc);
+    untouched = λ before h. absurd (let k = sym came ∙ h in cc);
+    sticky = sticky;
+    good = good;
+    game = game;
+    cursor = cursor;
+    none = none;
+    fault = λ h. fault;
+    place = λ h. place;
+  }

@@ -17,7 +17,7 @@ use Rattle.chess_pgn.specs.Written.{comment_text, is_noted, moves_text, nags_tex
 use Rattle.chess_pgn.specs.steps.Adding.{Adds}
 use Rattle.chess_pgn.specs.steps.Spelling.{spoken_text}
 use Rattle.chess_pgn.specs.steps.Tasks.{Todo, Moves, Variations, Below, Close, Back, shortened, without_last, tasks_text, AreTasks}
-use Rattle.chess_pgn.specs.steps.TaskCode.{WritesSome, Done, returning, todo, todos}
+use Rattle.chess_pgn.specs.steps.TaskCode.{Writes, WritesSome, Done, returning, todo, todos}
 use Rattle.chess_pgn.proofs.AddLemmas.{adds_none, adds_on, adds_same}
 use Rattle.chess_pgn.specs.declared.lines.Lines.{Lines}
 use Rattle.chess_pgn.specs.declared.movetext.Task.{Task}
@@ -144,14 +144,15 @@ pub step_made : {A : Type 0} (lines : Lines A) (line : Line) (items : List (Task
 step_made lines line [] m nodes due are adds = step_last lines line m nodes due are adds
 step_made lines line (t ∷ ts) m nodes due are adds = step_below lines line (todos (t ∷ ts)) m nodes due are adds
 
--- one step and another
-steps_then : {A : Type 0} (old mid new : Lines A) (line line1 line2 : Line) (ts ts1 ts2 : List Todo) → WritesSome old mid line line1 ts ts1 → WritesSome mid new line1 line2 ts1 ts2 → WritesSome old new line line2 ts ts2
-steps_then old mid new line line1 line2 ts ts1 ts2 s t = record {
+-- some steps and others
+steps_then : {A : Type 0} (least first second : ℕ) → least ≤ first + second → (old mid new : Lines A) (line line1 line2 : Line) (ts ts1 ts2 : List Todo) → Writes first old mid line line1 ts ts1 → Writes second mid new line1 line2 ts1 ts2
+    → Writes least old new line line2 ts ts2
+steps_then least first second enough old mid new line line1 line2 ts ts1 ts2 s t = record {
   more = s.more ++ t.more;
   adds = adds_on old mid new s.more t.more s.adds t.adds;
   text = s.text ∙ ap (λ (x : List ℕ). s.more ++ x) t.text ∙ sym (append_assoc s.more t.more (tasks_text line2 ts2));
   tasks = t.tasks;
-  smaller = omega (arith, s.smaller, t.smaller);
+  smaller = omega (arith, s.smaller, t.smaller, enough);
 }
 
 -- some tasks are after another
@@ -205,8 +206,8 @@ module _ {A : Type 0} {old new : Lines A} {line : Line} {f : Forest} {m : MovePa
       let one = step_moves e are adds in
       let two = no_variations new line (Below m below due_below ∷ ts) rest none one.tasks (adds_none new) in
       let three = step_made new line items m below due_below two.tasks (adds_none new) in
-      steps_then old new new line line (extended line m) (Moves f due ∷ ts) (Variations rest ∷ Below m below due_below ∷ ts) (Moves below due_below ∷ returning items) one
-      (steps_then new new new line line (extended line m) (Variations rest ∷ Below m below due_below ∷ ts) (Below m below due_below ∷ ts) (Moves below due_below ∷ returning items) two three)
+      steps_then 1 1 1 (omega arith) old new new line line (extended line m) (Moves f due ∷ ts) (Variations rest ∷ Below m below due_below ∷ ts) (Moves below due_below ∷ returning items) one
+      (steps_then 1 1 1 (omega arith) new new new line line (extended line m) (Variations rest ∷ Below m below due_below ∷ ts) (Below m below due_below ∷ ts) (Moves below due_below ∷ returning items) two three)
 
   -- a first variation, what is below its move, and the others
   pub step_variation : {ts : List Todo} → due_below ≡ is_noted nags comment → AreTasks line (Variations f ∷ ts)
@@ -256,25 +257,13 @@ steps_on (Err u) line2 ts2 e h k s = tt
 -- ---- all the tasks
 
 pub done_none : {A : Type 0} (lines : Lines A) (line : Line) (ts : List Todo) → AreTasks line ts → Adds lines lines [] → Done lines lines line line ts ts
-done_none lines line ts are adds = record { more = []; adds = adds; text = refl; tasks = are; less = omega arith }
+done_none lines line ts are adds = record { more = []; adds = adds; text = refl; tasks = are; smaller = omega arith }
 
 pub done_on : {A : Type 0} (old mid new : Lines A) (line line1 line2 : Line) (ts ts1 ts2 : List Todo) → Done old mid line line1 ts ts1 → WritesSome mid new line1 line2 ts1 ts2 → Done old new line line2 ts ts2
-done_on old mid new line line1 line2 ts ts1 ts2 d s = record {
-  more = d.more ++ s.more;
-  adds = adds_on old mid new d.more s.more d.adds s.adds;
-  text = d.text ∙ ap (λ (x : List ℕ). d.more ++ x) s.text ∙ sym (append_assoc d.more s.more (tasks_text line2 ts2));
-  tasks = s.tasks;
-  less = omega (arith, d.less, s.smaller);
-}
+done_on = steps_then 0 0 1 (omega arith)
 
 pub done_last : {A : Type 0} {old mid new : Lines A} {line line1 line2 : Line} {ts ts1 ts2 : List Todo} → Done old mid line line1 ts ts1 → WritesSome mid new line1 line2 ts1 ts2 → WritesSome old new line line2 ts ts2
-done_last {old = old} {mid} {new} {line2 = line2} {ts2 = ts2} d s = record {
-  more = d.more ++ s.more;
-  adds = adds_on old mid new d.more s.more d.adds s.adds;
-  text = d.text ∙ ap (λ (x : List ℕ). d.more ++ x) s.text ∙ sym (append_assoc d.more s.more (tasks_text line2 ts2));
-  tasks = s.tasks;
-  smaller = omega (arith, d.less, s.smaller);
-}
+done_last = steps_then 1 0 1 (omega arith) _ _ _ _ _ _ _ _ _
 
 pub done_all : {A : Type 0} (old new : Lines A) (line line' : Line) (ts ts' : List Todo) → Done old new line line' ts ts' → ts' ≡ [] → Adds old new (tasks_text line ts)
 done_all old new line line' ts ts' d e = adds_same old new d.more (tasks_text line ts) (sym (d.text ∙ ap (λ (x : List Todo). d.more ++ tasks_text line' x) e ∙ append-nil d.more)) d.adds

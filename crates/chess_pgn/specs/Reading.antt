@@ -1,5 +1,6 @@
 -- What the start of a text gives as a game (PGN 8).
 --   is_heading       may stand before the movetext: a part of a tag, a comment, or white
+--   is_tagged        stands in a tag alone, after its bracket
 --   is_movetext      may stand in movetext, and doesn't end it
 --   remarks          the comments among some items, after others
 --   Starts           movetext begins with an item that no head has
@@ -12,7 +13,7 @@
 --   HasNoGameYet     no one game is at the start of every text that begins so
 --   IsWhite          a text has white space, a mark and hidden lines alone
 --   IsAnswered       a reader answers that game, unless there is no memory
-use Rattle.std.specs.Prelude.{◌≡◌, ◌⊎◌, ℕ, ◌+◌, ◌≤◌, Bool, true, false, List, [], ◌∷◌, ◌++◌, length, Option, Some, None, Result, Ok, Err, ⊤}
+use Rattle.std.specs.Prelude.{◌≡◌, ◌⊎◌, ℕ, ◌+◌, ◌≤◌, Bool, true, false, not, List, [], ◌∷◌, ◌++◌, length, Option, Some, None, Result, Ok, Err, ⊤}
 use Rattle.std.specs.List.{list_all}
 use Rattle.std.specs.Str.{byte}
 use Rattle.chess_items.specs.Items as items
@@ -40,15 +41,18 @@ is_heading items.Close = false
 is_heading (items.Marker outcome) = false
 is_heading _ = true
 
+abbrev pub is_tagged : Item → Bool
+is_tagged items.TagClose = true
+is_tagged (items.Name name) = true
+is_tagged items.Quote = true
+is_tagged (items.Stretch text) = true
+is_tagged (items.Escaped b) = true
+is_tagged _ = false
+
 abbrev pub is_movetext : Item → Bool
 is_movetext (items.Marker outcome) = false
 is_movetext items.TagOpen = false
-is_movetext items.TagClose = false
-is_movetext (items.Name name) = false
-is_movetext items.Quote = false
-is_movetext (items.Stretch text) = false
-is_movetext (items.Escaped b) = false
-is_movetext _ = true
+is_movetext item = not (is_tagged item)
 
 -- the comments before the movetext, after one item more
 abbrev pub lead_after : List ℕ → Item → List ℕ

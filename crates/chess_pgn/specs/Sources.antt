@@ -13,15 +13,18 @@
 --   Starves    bytes came, and then there was no memory
 --   ReadFails  bytes came, and then a read failed, or there may be no more; the source had not ended, and no one game is at their start, whatever follows
 --   HasFault   a read failed, there was no memory, or no game is there; but for the first, no read failed
+--   ReadsNext  what a call for the next game does: its answer, the bytes, and the fault that is kept
 --   NotPassed  bytes can't be passed over: no section of tags begins among them and a read failed, or there was no memory
-use Rattle.std.specs.Prelude.{◌≡◌, ◌≢◌, ◌⊎◌, ◌≤◌, ◌<◌, ℕ, ◌+◌, Bool, true, false, List, [], ◌++◌, length, Option, Some, None, ⊤}
-use Rattle.chess_items.specs.Coming.{AtHand, Breaks, Came, unread}
+use Rattle.std.specs.Prelude.{◌≡◌, ◌≢◌, ◌⊎◌, ◌≤◌, ◌<◌, ℕ, ◌+◌, Bool, true, false, List, [], ◌++◌, length, Option, Some, None, IfErr, IfOk, IfSome, Result, Ok, Err, ⊤}
+use Rattle.chess_items.specs.Coming.{AtHand, BreaksWhere, Came, unread}
 use Rattle.chess_items.specs.Sections.{StopsAt}
 use Rattle.chess_items.specs.declared.fault.FaultKind.TheVariants.{Memory}
 use Rattle.chess_pgn.specs.Games.{Game}
 use Rattle.chess_pgn.specs.Reading.{HasNoGame, HasNoGameYet, BeginsWithGame, IsWhite}
+use Rattle.chess_pgn.specs.declared.game.Game as code
 use Rattle.chess_pgn.specs.declared.games.GamesFault.{GamesFault}
 use Rattle.chess_pgn.specs.declared.games.GamesFault.TheVariants.{Pgn, Read}
+use Rattle.chess_pgn.specs.steps.GameCode.{game_of}
 
 pub record Games (R : Type 0) : Type 0 where
   pub text : AtHand R
@@ -83,13 +86,8 @@ pub record Starves {R : Type 0} (gives : R → List ℕ → R → Type 0) (faile
   pub came : Came gives failed old bytes new
   pub still : old.has_ended ≡ true → (bytes ≡ []) × ended new.source
 
-pub record ReadFails {R : Type 0} (gives : R → List ℕ → R → Type 0) (failed : R → Bool) (old new : AtHand R) : Type 0 where
-  pub bytes : List ℕ
-  pub before : AtHand R
-  pub came : Came gives failed old bytes before
-  pub breaks : Breaks gives failed before new
-  pub not_ended : before.has_ended ≡ false
-  pub none : HasNoGameYet (unread old ++ bytes)
+abbrev pub ReadFails : {R : Type 0} → (R → List ℕ → R → Type 0) → (R → Bool) → AtHand R → AtHand R → Type 0
+ReadFails gives failed old new = BreaksWhere HasNoGameYet gives failed old new
 
 abbrev pub HasFault : {R : Type 0} → (R → List ℕ → R → Type 0) → (R → Bool) → (R → Type 0) → AtHand R → AtHand R → GamesFault → Type 0
 HasFault gives failed ended old new Read = ReadFails gives failed old new
@@ -98,6 +96,18 @@ HasFault gives failed ended old new (Pgn fault) = ((fault.kind ≡ Memory) × St
 abbrev pub IsPlaced : ℕ → GamesFault → Type 0
 IsPlaced used (Pgn fault) = (used ≤ fault.place) × (fault.kind ≡ Memory → fault.place ≡ used)
 IsPlaced used Read = ⊤
+
+pub record ReadsNext {R A : Type 0} (gives : R → List ℕ → R → Type 0) (failed : R → Bool) (ended : R → Type 0) (old new : Games R) (result : Result (Option (code.Game A)) GamesFault) : Type 0 where
+  pub sound : IsSound ended new
+  pub again : (fault : GamesFault) → old.fault ≡ Some fault → result ≡ Err fault
+  pub untouched : (fault : GamesFault) → old.fault ≡ Some fault → new ≡ old
+  pub sticky : IfErr result (λ fault. new.fault ≡ Some fault)
+  pub good : IfOk result (λ _. new.fault ≡ None)
+  pub game : IfOk result (λ found. IfSome found (λ game. NextGame gives failed old new (game_of game)))
+  pub cursor : IfOk result (λ found. IfSome found (λ game. game.tree.path ≡ []))
+  pub none : result ≡ Ok None → HasNone gives failed old.text new.text
+  pub fault : old.fault ≡ None → IfErr result (λ fault. HasFault gives failed ended old.text new.text fault)
+  pub place : old.fault ≡ None → IfErr result (λ fault. IsPlaced old.text.used fault)
 
 abbrev pub NotPassed : {R : Type 0} → (R → List ℕ → R → Type 0) → (R → Bool) → AtHand R → AtHand R → GamesFault → Type 0
 NotPassed gives failed old new Read = StopsAt gives failed old new

@@ -7,7 +7,7 @@ ghost use Rattle.chess_items.specs.declared.fault.FaultKind.TheVariants.{Memory}
 ghost use Rattle.chess_pgn.specs.Games as games;
 ghost use Rattle.chess_pgn.specs.declared.games.GamesFault.TheVariants.{Pgn};
 ghost use Rattle.chess_pgn.specs.Reading.{HasNoGame, IsAnswered, BeginsWithGame, IsWhite};
-ghost use Rattle.chess_pgn.specs.Sources.{GoesOn, HasFault, HasNone, IsPlaced, IsSound, NextGame, NotPassed};
+ghost use Rattle.chess_pgn.specs.Sources.{GoesOn, HasFault, HasNone, IsPlaced, IsSound, NotPassed, ReadsNext};
 ghost use Rattle.chess_pgn.specs.steps.GameAt.{TakesGame};
 ghost use Rattle.chess_pgn.specs.steps.GameCode.{game_of};
 ghost use Rattle.chess_pgn.specs.steps.Next.{HasKind, staying};
@@ -296,16 +296,7 @@ impl<'a, R: Source, A: Allocator> Games<'a, R, A> {
     /// Those of `next`.
     pub fn next_with(&mut self, texts: &mut Texts<'a, A>) -> Result<Option<Game<'a, A>>, GamesFault>
         requires { IsSound R.ended self.old }
-        ensures sound { IsSound R.ended self.new }
-        ensures again { (fault : GamesFault) → self.old.fault ≡ Some fault → result ≡ Err fault }
-        ensures untouched { (fault : GamesFault) → self.old.fault ≡ Some fault → self.new ≡ self.old }
-        ensures sticky { IfErr result (λ fault. self.new.fault ≡ Some fault) }
-        ensures good { IfOk result (λ _. self.new.fault ≡ None) }
-        ensures game { IfOk result (λ found. IfSome found (λ game. NextGame R.gives R.failed self.old self.new (game_of game))) }
-        ensures cursor { IfOk result (λ found. IfSome found (λ game. game.tree.path ≡ [])) }
-        ensures none { result ≡ Ok None → HasNone R.gives R.failed self.old.text self.new.text }
-        ensures fault { self.old.fault ≡ None → IfErr result (λ fault. HasFault R.gives R.failed R.ended self.old.text self.new.text fault) }
-        ensures place { self.old.fault ≡ None → IfErr result (λ fault. IsPlaced self.old.text.used fault) }
+        ensures { ReadsNext R.gives R.failed R.ended self.old self.new result }
     {
         if let Some(fault) = self.reported() {
             return Err(fault);
@@ -328,16 +319,7 @@ impl<'a, R: Source, A: Allocator> Games<'a, R, A> {
     /// called.
     pub fn next(&mut self) -> Result<Option<Game<'a, A>>, GamesFault>
         requires { IsSound R.ended self.old }
-        ensures sound { IsSound R.ended self.new }
-        ensures again { (fault : GamesFault) → self.old.fault ≡ Some fault → result ≡ Err fault }
-        ensures untouched { (fault : GamesFault) → self.old.fault ≡ Some fault → self.new ≡ self.old }
-        ensures sticky { IfErr result (λ fault. self.new.fault ≡ Some fault) }
-        ensures good { IfOk result (λ _. self.new.fault ≡ None) }
-        ensures game { IfOk result (λ found. IfSome found (λ game. NextGame R.gives R.failed self.old self.new (game_of game))) }
-        ensures cursor { IfOk result (λ found. IfSome found (λ game. game.tree.path ≡ [])) }
-        ensures none { result ≡ Ok None → HasNone R.gives R.failed self.old.text self.new.text }
-        ensures fault { self.old.fault ≡ None → IfErr result (λ fault. HasFault R.gives R.failed R.ended self.old.text self.new.text fault) }
-        ensures place { self.old.fault ≡ None → IfErr result (λ fault. IsPlaced self.old.text.used fault) }
+        ensures { ReadsNext R.gives R.failed R.ended self.old self.new result }
     {
         let mut texts = Texts::unwanted(self.alloc);
         self.next_with(&mut texts)

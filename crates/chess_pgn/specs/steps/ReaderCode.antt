@@ -23,7 +23,7 @@ use Rattle.chess_items.specs.declared.taking.Stop.TheVariants as stop
 use Rattle.chess_items.specs.declared.taker.Taken.{Taken}
 use Rattle.chess_items.specs.declared.taker.Taken.TheVariants.{GoesOn, Ends, Leaves}
 use Rattle.chess_pgn.specs.Grammar.{Element, element}
-use Rattle.chess_pgn.specs.Reading.{IsWithinLimits, is_heading, is_movetext, lead_after}
+use Rattle.chess_pgn.specs.Reading.{IsWithinLimits, is_heading, is_movetext, is_tagged, lead_after}
 use Rattle.chess_pgn.specs.Tags.{may_part_tags, start_in}
 use Rattle.chess_pgn.specs.steps.GameCode.{game_of}
 use Rattle.chess_pgn.specs.steps.HeaderCode.{HasFound, HasTaken, Heads as HeadsOn, RefusesTag, is_begun}
@@ -59,15 +59,6 @@ pub record Left {A : Type 0} (item : Item) (old new : Reader A) : Type 0 where
   pub moves : new.moves ≡ old.moves
   pub outcome : new.outcome ≡ old.outcome
   pub header : new.header ≡ old.header
-
--- stands in a tag alone
-abbrev pub is_tagged : Item → Bool
-is_tagged items.TagClose = true
-is_tagged (items.Name name) = true
-is_tagged items.Quote = true
-is_tagged (items.Stretch text) = true
-is_tagged (items.Escaped b) = true
-is_tagged _ = false
 
 -- No movetext goes on with the item, none ends there, or it has no place in movetext; or only a game that is too large goes on.
 abbrev pub RefusesItem : {A : Type 0} → Item → FaultKind → Moves A → Type 0

@@ -1,5 +1,5 @@
 -- The tasks of the code, the next one last.
-use Rattle.std.specs.Prelude.{◌≡◌, ℕ, ◌<◌, ◌≤◌, List, [], ◌∷◌, ◌++◌, map, reverse}
+use Rattle.std.specs.Prelude.{◌≡◌, ℕ, ◌+◌, ◌≤◌, List, [], ◌∷◌, ◌++◌, map, reverse}
 use Rattle.chess_types.specs.board.Lines.{Line}
 use Rattle.chess_pgn.specs.steps.Adding.{Adds}
 use Rattle.chess_pgn.specs.steps.Tasks as tasks
@@ -25,18 +25,18 @@ abbrev pub returning : {A : Type 0} → List (Task A) → List Todo
 returning [] = []
 returning (t ∷ ts) = tasks.Back ∷ todos (t ∷ ts)
 
--- Some of the tasks' text is written, and the others write the rest.
-pub record WritesSome {A : Type 0} (old new : Lines A) (line line' : Line) (ts ts' : List Todo) : Type 0 where
+-- Some of the tasks' text is written, the others write the rest, and at least so much less is to be done.
+pub record Writes {A : Type 0} (least : ℕ) (old new : Lines A) (line line' : Line) (ts ts' : List Todo) : Type 0 where
   pub more : List ℕ
   pub adds : Adds old new more
   pub text : tasks_text line ts ≡ more ++ tasks_text line' ts'
   pub tasks : AreTasks line' ts'
-  pub smaller : work ts' < work ts
+  pub smaller : work ts' + least ≤ work ts
 
--- So far some of the tasks' text is written, the others write the rest, and no more is to be done.
-pub record Done {A : Type 0} (old new : Lines A) (line line' : Line) (ts ts' : List Todo) : Type 0 where
-  pub more : List ℕ
-  pub adds : Adds old new more
-  pub text : tasks_text line ts ≡ more ++ tasks_text line' ts'
-  pub tasks : AreTasks line' ts'
-  pub less : work ts' ≤ work ts
+-- one step
+abbrev pub WritesSome : {A : Type 0} → Lines A → Lines A → Line → Line → List Todo → List Todo → Type 0
+WritesSome old new line line' ts ts' = Writes 1 old new line line' ts ts'
+
+-- the steps so far
+abbrev pub Done : {A : Type 0} → Lines A → Lines A → Line → Line → List Todo → List Todo → Type 0
+Done old new line line' ts ts' = Writes 0 old new line line' ts ts'

@@ -21,6 +21,17 @@ pub const NO_MEMORY: PgnFault = PgnFault {
     kind: FaultKind::Memory,
 };
 
+/// What was answered; nothing where there was no memory for it.
+pub fn unless_no_memory<T>(rt: &impl Abort, answer: Result<T, PgnFault>) -> Option<T> {
+    match answer {
+        Ok(answered) => Some(answered),
+        Err(fault) => {
+            assert!(rt; fault == NO_MEMORY);
+            None
+        }
+    }
+}
+
 /// The game that a text begins with, and how many bytes it uses.
 pub fn first_game<'a, A: Allocator>(
     rt: &impl Abort,

@@ -1,5 +1,5 @@
 //! A game cut anywhere, and games up to the limits.
-use super::common::{NO_MEMORY, first_game};
+use super::common::{first_game, unless_no_memory};
 use chess_pgn::{FaultKind, PgnFault, game_laws, read_game, write_game};
 use linked_list_allocator::LocalHeap;
 use std::alloc::{AllocError, Allocator, Global};
@@ -125,26 +125,13 @@ fn as_many_variations_as_there_is_room_for(rt: HostRuntime) -> Result<(), Fail> 
 const NOTED: &[u8] =
     b"[White \"A\"][Zed \"1\"][Eco \"2\"] {to begin} 1.e4 $1 $2 $3 $4 $5 {x} e5 (1...c5 2.Nf3 {x  y} $1) 2.Nf3 *";
 
-/// Whether the game is read; else there is no memory.
-fn is_read(rt: &impl Abort, begun: Begun) -> bool {
-    match begun {
-        Ok(moves) => {
-            assert!(rt; moves == Some(1));
-            true
-        }
-        Err(fault) => {
-            assert!(rt; fault == NO_MEMORY);
-            false
-        }
-    }
-}
-
-/// Whether the game is read on a heap of that size, of which nothing is taken afterwards.
+/// Whether the game is read on a heap of that size, of which nothing is taken afterwards; else there is no memory.
 fn is_read_on(rt: &impl Abort, alloc: Global, size: usize) -> Result<bool, AllocError> {
     let heap = LocalHeap::new(alloc, size)?;
-    let is_read = is_read(rt, read_start(&heap, NOTED));
+    let begun = unless_no_memory(rt, read_start(&heap, NOTED));
     assert!(rt; heap.used() == 0);
-    Ok(is_read)
+    assert!(rt; begun.is_none() || begun == Some(Some(1)));
+    Ok(begun.is_some())
 }
 
 /// In however little memory: the game, or that there is none.

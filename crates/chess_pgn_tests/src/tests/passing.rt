@@ -6,7 +6,7 @@ use super::passing::Step::{End, Fault, Game, NextFails, PassFails, Passed};
 use byte_streams::{FromBytes, Source};
 use chess_pgn::{FaultKind, Games, GamesFault};
 use linked_list_allocator::LocalHeap;
-use std::alloc::Allocator;
+use std::alloc::{AllocError, Allocator};
 use std::process::Abort;
 use std::test::Fail;
 
@@ -80,32 +80,28 @@ fn assert_steps<A: Allocator, R: Source>(
     }
 }
 
-/// Collections, and what the calls return that go through them.
-const ROWS: &[(&[u8], &[Step])] = &[
+/// Bad games between two good ones: the place and the number of the fault, and how many bytes are passed over after it.
+const BAD_GAMES: &[(&[u8], u64, u8, u64)] = &[
     // A byte that begins no token.
-    (
-        b"[A \"1\"]\n\n1. e4 *\n\n[A \"2\"]\n\n1. e4 ~ e5 *\n\n[A \"3\"]\n\n1. d4 *\n",
-        &[Game(16), Fault(33, 1), Passed(8), Game(57), End],
-    ),
+    (b"[A \"2\"]\n\n1. e4 ~ e5 *", 33, 1, 8),
     // An illegal move.
-    (
-        b"[A \"1\"]\n\n1. e4 *\n\n[A \"2\"]\n\n1. e4 e5 2. Ke3 Ke7 *\n\n[A \"3\"]\n\n1. d4 *\n",
-        &[Game(16), Fault(39, 3), Passed(11), Game(66), End],
-    ),
+    (b"[A \"2\"]\n\n1. e4 e5 2. Ke3 Ke7 *", 39, 3, 11),
     // A malformed tag: what follows one line feed is of the same section.
-    (
-        b"[A \"1\"]\n\n1. e4 *\n\n[A ~\"2\"]\n[B \"2\"]\n\n1. e4 *\n\n[A \"3\"]\n\n1. d4 *\n",
-        &[Game(16), Fault(18, 2), Passed(24), Game(61), End],
-    ),
+    (b"[A ~\"2\"]\n[B \"2\"]\n\n1. e4 *", 18, 2, 24),
+    // A line feed and no more.
+    (b"[A \"2\"]\n\n1. e4 ~\n[A \"4\"]\n[A \"5\"] *", 33, 1, 21),
+    // A variation without its end: reading stops at the next section itself.
+    (b"[A \"2\"]\n\n1. e4 (1. d4", 41, 4, 0),
+    // A comment without its end.
+    (b"[A \"2\"]\n\n1. e4 {d4", 55, 6, 5),
+];
+
+/// Other collections, and what the calls return that go through them.
+const ROWS: &[(&[u8], &[Step])] = &[
     // Empty lines of spaces, and a bracket that opens no tag.
     (
         b"[A \"1\"]\n\n1. e4 *\n\n[A \"2\"]\n\n1. e4 ~\n \t\n[%x]\n\n[ A]\n\n](1)\n\r \n[A \"3\"]\n\n1. d4 *\n",
         &[Game(16), Fault(33, 1), Passed(25), Game(74), End],
-    ),
-    // A line feed and no more.
-    (
-        b"[A \"1\"]\n\n1. e4 *\n\n[A \"2\"]\n\n1. e4 ~\n[A \"4\"]\n[A \"5\"] *\n\n[A \"3\"]\n\n1. d4 *\n",
-        &[Game(16), Fault(33, 1), Passed(21), Game(70), End],
     ),
     // The last game.
     (
@@ -153,16 +149,6 @@ const ROWS: &[(&[u8], &[Step])] = &[
         b"[A \"1\"]\r\n\r\n1. e4 *\r\n\r\n[A \"2\"]\r\n\r\n1. e4 ~ e5 *\r\n\r\n[A \"3\"]\r\n\r\n1. d4 *\r\n",
         &[Game(18), Fault(39, 1), Passed(10), Game(67), End],
     ),
-    // A variation without its end: reading stops at the next section itself.
-    (
-        b"[A \"1\"]\n\n1. e4 *\n\n[A \"2\"]\n\n1. e4 (1. d4\n\n[A \"3\"]\n\n1. d4 *\n",
-        &[Game(16), Fault(41, 4), Passed(0), Game(57), End],
-    ),
-    // A comment without its end.
-    (
-        b"[A \"1\"]\n\n1. e4 *\n\n[A \"2\"]\n\n1. e4 {d4\n\n[A \"3\"]\n\n1. d4 *\n",
-        &[Game(16), Fault(55, 6), Passed(5), Game(54), End],
-    ),
     // No fault: what follows the last game is passed over.
     (
         b"[A \"1\"]\n\n1. e4 *\n\ne4 *\n\n[A \"3\"]\n\n1. d4 *\n",
@@ -178,22 +164,50 @@ const ROWS: &[(&[u8], &[Step])] = &[
     ),
 ];
 
-/// The collections in pieces of that size.
-fn assert_rows<A: Allocator>(rt: &impl Abort, alloc: &A, piece: usize)
+/// The bad game is passed over, and each good one read, in pieces of that size.
+fn assert_bad_game<A: Allocator>(
+    rt: &impl Abort,
+    alloc: &A,
+    piece: usize,
+    bad: &[u8],
+    fault: Step,
+    passed: u64,
+) -> Result<(), AllocError>
     requires { 0 < piece }
 {
+    let mut text = Vec::new(alloc);
+    text.extend_from_slice(b"[A \"1\"]\n\n1. e4 *\n\n")?;
+    text.extend_from_slice(bad)?;
+    text.extend_from_slice(b"\n\n[A \"3\"]\n\n1. d4 *")?;
+    let used = text.len() as u64;
+    text.push(b'\n')?;
+    let steps = [Game(16), fault, Passed(passed), Game(used), End];
+    let mut games = Games::new(alloc, FromBytes::new(text.as_slice(), piece));
+    assert_steps(rt, &mut games, &steps);
+    Ok(())
+}
+
+/// The collections in pieces of that size.
+fn assert_rows<A: Allocator>(rt: &impl Abort, alloc: &A, piece: usize) -> Result<(), AllocError>
+    requires { 0 < piece }
+{
+    for (bad, place, number, passed) in BAD_GAMES {
+        assert_bad_game(rt, alloc, piece, bad, Fault(*place, *number), *passed)?;
+    }
     for (text, steps) in ROWS {
         let mut games = Games::new(alloc, FromBytes::new(text, piece));
         assert_steps(rt, &mut games, steps);
     }
+    Ok(())
 }
 
 #[test]
-fn goes_on_after_a_bad_game(rt: HostRuntime) {
-    assert_rows(&rt, &rt.alloc(), 1);
-    assert_rows(&rt, &rt.alloc(), 2);
-    assert_rows(&rt, &rt.alloc(), 7);
-    assert_rows(&rt, &rt.alloc(), 65_536);
+fn goes_on_after_a_bad_game(rt: HostRuntime) -> Result<(), Fail> {
+    assert_rows(&rt, &rt.alloc(), 1)?;
+    assert_rows(&rt, &rt.alloc(), 2)?;
+    assert_rows(&rt, &rt.alloc(), 7)?;
+    assert_rows(&rt, &rt.alloc(), 65_536)?;
+    Ok(())
 }
 
 /// A collection in reads of four bytes, of which the one after so many fails.

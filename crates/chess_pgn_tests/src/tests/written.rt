@@ -1,6 +1,6 @@
 ghost use Rattle.std.specs.Prelude.{◌≤◌};
 
-use super::common::{NO_MEMORY, a_table, is_written};
+use super::common::{NO_MEMORY, a_table, is_written, unless_no_memory};
 use chess_fen::read as read_fen;
 use chess_key::KeyTable;
 use chess_pgn::{Game, Outcome, PgnFault, write_game};
@@ -249,26 +249,13 @@ fn write_one<A: Allocator>(alloc: &A, table: &KeyTable) -> Result<usize, PgnFaul
     Ok(write_game(alloc, &game)?.len())
 }
 
-/// Whether a growth is refused on that heap.
-fn is_refused_on(rt: &impl Abort, heap: &LocalHeap, table: &KeyTable) -> bool {
-    match write_one(heap, table) {
-        Ok(len) => {
-            assert!(rt; len > 100);
-            false
-        }
-        Err(fault) => {
-            assert!(rt; fault == NO_MEMORY);
-            true
-        }
-    }
-}
-
 /// Whether a growth is refused on a heap of that size, of which nothing is taken afterwards.
 fn is_too_small(rt: &impl Abort, alloc: Global, size: usize) -> Result<bool, AllocError> {
     let heap = LocalHeap::new(alloc, size)?;
-    let refused = is_refused_on(rt, &heap, &a_table());
+    let len = unless_no_memory(rt, write_one(&heap, &a_table()));
     assert!(rt; heap.used() == 0);
-    Ok(refused)
+    assert!(rt; len.unwrap_or(usize::MAX) > 100);
+    Ok(len.is_none())
 }
 
 /// Each growth is refused in turn, as `Memory`, until all find their memory.
