@@ -9,6 +9,16 @@ use chess_key::{Key, KeyTable};
 use chess_types::{Colour, Kind, Man, Placement, Position, Square};
 use std::process::Abort;
 
+/// The kinds in order, from the pawn to the king.
+pub(super) const KINDS: [Kind; 6] = [
+    Kind::Pawn,
+    Kind::Knight,
+    Kind::Bishop,
+    Kind::Rook,
+    Kind::Queen,
+    Kind::King,
+];
+
 /// The square of that name.
 pub(super) fn square(rt: &impl Abort, name: &str) -> Square {
     Square::parse(name.as_bytes()).expect(rt, "a square's name")

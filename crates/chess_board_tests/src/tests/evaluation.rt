@@ -1,7 +1,7 @@
-use super::boards::{Followed, board, put, square, start};
+use super::boards::{Followed, KINDS, board, put, square, start};
 use chess_eval::{Sum, end, middle, weight};
 use chess_key::KeyTable;
-use chess_types::{Kind, Man, Placement, Square};
+use chess_types::{Man, Placement, Square};
 use std::process::Abort;
 
 /// Men by their letters, their squares, and what each is worth there in the middlegame and in the endgame.
@@ -42,19 +42,10 @@ fn men_on_their_squares(rt: HostRuntime) {
     }
 }
 
-const WEIGHTS: &[(Kind, i32)] = &[
-    (Kind::Pawn, 0),
-    (Kind::Knight, 1),
-    (Kind::Bishop, 1),
-    (Kind::Rook, 2),
-    (Kind::Queen, 4),
-    (Kind::King, 0),
-];
-
 #[test]
 fn weights_of_the_kinds(rt: HostRuntime) {
-    for (kind, wanted) in WEIGHTS {
-        assert!(rt; weight(*kind) == *wanted);
+    for (kind, wanted) in KINDS.into_iter().zip([0, 1, 1, 2, 4, 0]) {
+        assert!(rt; weight(kind) == wanted);
     }
 }
 

@@ -1,7 +1,7 @@
-use super::boards::{Followed, board, start};
+use super::boards::{Followed, KINDS, board, start};
 use chess_attack::Counts;
 use chess_key::KeyTable;
-use chess_types::{Colour, Kind, Man, Square};
+use chess_types::{Colour, Man, Square};
 use std::process::Abort;
 
 /// The counts are those of the placement, counted afresh.
@@ -95,14 +95,7 @@ fn eight_sliders_look_at_d4(rt: HostRuntime) {
     // From d4 the ranks, files and diagonals go 4 and 3, 4 and 3, 4 and 3, 3 and 3 squares far: 27. On each of them a man looks
     // over d4 to the man at the other end, so whoever comes to d4 takes 27 attacks away. A queen there attacks 27 squares
     // herself, a rook 14, a bishop 13, a knight and a king 8, a pawn 2.
-    for (kind, own) in [
-        (Kind::Queen, 27),
-        (Kind::Rook, 14),
-        (Kind::Bishop, 13),
-        (Kind::Knight, 8),
-        (Kind::King, 8),
-        (Kind::Pawn, 2),
-    ] {
+    for (kind, own) in KINDS.into_iter().zip([2, 8, 13, 14, 27, 8]) {
         let man = Man {
             colour: Colour::White,
             kind,

@@ -2,7 +2,8 @@
 ghost use Rattle.std.specs.Prelude.{◌≡◌};
 ghost use Rattle.chess_play.specs.Records.{IsBefore};
 
-use super::walks::{PROMOTIONS, make_move};
+use super::boards::square;
+use super::walks::{PROMOTIONS, a_move, live_in, make_move};
 use chess_attack::Counts;
 use chess_eval::Sum;
 use chess_fen::read;
@@ -210,9 +211,9 @@ fn the_position_after(rt: HostRuntime) -> Result<(), Fail> {
 
 /// The captured pawn leaves, though the rook then sees the king: that is no matter of a pseudo-legal move.
 #[test]
-fn en_passant(rt: HostRuntime) -> Result<(), Fail> {
+fn en_passant(rt: HostRuntime) {
     let table = a_table();
-    let mut live = Live::new(read(b"8/8/8/K1pP3r/8/8/8/4k3 w - c6 0 2")?, &table);
+    let mut live = live_in(&rt, "8/8/8/K1pP3r/8/8/8/4k3 w - c6 0 2", &table);
     let made = make(&rt, &mut live, "d5c6");
     for (name, is_held) in [("c6", true), ("c5", false), ("d5", false)] {
         let found = live.position().placement.get(square(&rt, name));
@@ -220,55 +221,41 @@ fn en_passant(rt: HostRuntime) -> Result<(), Fail> {
     }
     live.undo(made);
     assert!(rt; is_afresh(&live, &table));
-    Ok(())
 }
 
 #[test]
-fn not_pseudo_legal(rt: HostRuntime) -> Result<(), Fail> {
+fn not_pseudo_legal(rt: HostRuntime) {
     let table = a_table();
-    let refused: [(&[u8], &[u8]); 7] = [
+    let refused: [(&str, &str); 7] = [
         // f1 is attacked
-        (b"4kr2/8/8/8/8/8/8/R3K2R w KQ - 0 1", b"e1g1"),
+        ("4kr2/8/8/8/8/8/8/R3K2R w KQ - 0 1", "e1g1"),
         // g1 is
-        (b"4k1r1/8/8/8/8/8/8/R3K2R w KQ - 0 1", b"e1g1"),
+        ("4k1r1/8/8/8/8/8/8/R3K2R w KQ - 0 1", "e1g1"),
         // the king itself is
-        (b"4k3/8/8/8/4r3/8/8/R3K2R w KQ - 0 1", b"e1g1"),
+        ("4k3/8/8/8/4r3/8/8/R3K2R w KQ - 0 1", "e1g1"),
         // no right
-        (b"4k3/8/8/8/8/8/8/R3K2R w K - 0 1", b"e1c1"),
+        ("4k3/8/8/8/8/8/8/R3K2R w K - 0 1", "e1c1"),
         // a man between
-        (b"4k3/8/8/8/8/8/8/RN2K3 w Q - 0 1", b"e1c1"),
+        ("4k3/8/8/8/8/8/8/RN2K3 w Q - 0 1", "e1c1"),
         // a pawn that names nothing on the last rank
-        (b"8/P3k3/8/8/8/8/8/4K3 w - - 0 1", b"a7a8"),
+        ("8/P3k3/8/8/8/8/8/4K3 w - - 0 1", "a7a8"),
         // the other side's man
-        (b"4k3/8/8/8/8/8/8/4K2R b - - 0 1", b"h1h2"),
+        ("4k3/8/8/8/8/8/8/4K2R b - - 0 1", "h1h2"),
     ];
     for (fen, text) in refused {
-        let live = Live::new(read(fen)?, &table);
-        assert!(rt; !live.is_pseudo(Move::parse(text).expect(&rt, "a move")));
+        let live = live_in(&rt, fen, &table);
+        assert!(rt; !live.is_pseudo(a_move(&rt, text)));
     }
-    Ok(())
 }
 
 /// A king is never taken, though a move that is no legal one has left it attacked.
 #[test]
-fn a_king_is_never_taken(rt: HostRuntime) -> Result<(), Fail> {
+fn a_king_is_never_taken(rt: HostRuntime) {
     let table = a_table();
-    let mut live = Live::new(read(b"4k3/8/8/8/4r3/8/4R3/4K3 w - - 0 1")?, &table);
-    let made = make(&rt, &mut live, "e2a2");
+    let mut live = live_in(&rt, "4k3/8/8/8/4r3/8/4R3/4K3 w - - 0 1", &table);
+    make(&rt, &mut live, "e2a2").keep();
     assert!(rt; live.is_pseudo(a_move(&rt, "e4e2")));
     assert!(rt; !live.is_pseudo(a_move(&rt, "e4e1")));
-    live.undo(made);
-    Ok(())
-}
-
-/// The square of that name.
-fn square(rt: &impl Abort, name: &str) -> Square {
-    Square::parse(name.as_bytes()).expect(rt, "a square's name")
-}
-
-/// The move of that text.
-fn a_move(rt: &impl Abort, text: &str) -> Move {
-    Move::parse(text.as_bytes()).expect(rt, "a move")
 }
 
 /// Makes the move of that text, which is pseudo-legal.

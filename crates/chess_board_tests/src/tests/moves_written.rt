@@ -1,10 +1,7 @@
-ghost use Rattle.std.specs.Prelude.{◌≤◌};
-
+use super::walks::{a_move, live_in};
 use arrayvec::ArrayString;
-use chess_fen::read as read_fen;
 use chess_key::KeyTable;
 use chess_moves::is_legal;
-use chess_play::Live;
 use chess_san::{SanFault, read, write};
 use chess_types::Move;
 use std::process::Abort;
@@ -27,14 +24,6 @@ const QUEENS: &str = "1k6/8/8/8/4Q2Q/8/8/K6Q w - - 0 1";
 
 const MATING: &str = "7k/8/6K1/8/8/8/8/R7 w - - 149 90";
 
-/// The position of the FEN.
-fn live_in<'k>(rt: &impl Abort, fen: &str, table: &'k KeyTable) -> Live<'k>
-    ensures clock { result.position.clock ≤ 99999 }
-    ensures number { result.position.number ≤ 99999 }
-{
-    Live::new(read_fen(fen.as_bytes()).expect(rt, "a FEN"), table)
-}
-
 /// What the text reads as in the position of the FEN.
 fn read_in(rt: &impl Abort, fen: &str, text: &str) -> Result<Move, SanFault> {
     let table = KeyTable::new([0; 768]);
@@ -45,98 +34,87 @@ fn read_in(rt: &impl Abort, fen: &str, text: &str) -> Result<Move, SanFault> {
 fn text_in(rt: &impl Abort, fen: &str, text: &str) -> ArrayString<8> {
     let table = KeyTable::new([0; 768]);
     let mut live = live_in(rt, fen, &table);
-    let m = long(rt, text);
+    let m = a_move(rt, text);
     assert!(rt; is_legal(&mut live, m));
     write(&mut live, m)
 }
 
-/// The move of a text in long algebraic notation.
-fn long(rt: &impl Abort, text: &str) -> Move {
-    Move::parse(text.as_bytes()).expect(rt, "the text of a move")
-}
-
-/// Positions, moves in long algebraic notation, and their texts.
-const WRITTEN: &[(&str, &str, &str)] = &[
+/// Positions, and moves in long algebraic notation with their texts.
+const WRITTEN: &[(&str, &[(&str, &str)])] = &[
     // men are distinguished
-    (PINNED, "g1e2", "Ne2"),
-    (KNIGHTS, "g1e2", "Nge2"),
-    (QUEENS, "h4e1", "Qh4e1"),
-    (QUEENS, "e4e1", "Qee1"),
-    (QUEENS, "h1e1", "Q1e1"),
-    // pawns promote, and kings castle
-    (PROMOTION, "a7a8q", "a8=Q+"),
-    (CASTLING, "e1g1", "O-O"),
-    (CASTLING, "e1c1", "O-O-O"),
-    // checks and mates are marked
-    (MATING, "a1a8", "Ra8#"),
-    (MATING, "a1a2", "Ra2"),
-    (CASTLING, "a1a8", "Rxa8+"),
+    (PINNED, &[("g1e2", "Ne2")]),
+    (KNIGHTS, &[("g1e2", "Nge2")]),
+    (
+        QUEENS,
+        &[("h4e1", "Qh4e1"), ("e4e1", "Qee1"), ("h1e1", "Q1e1")],
+    ),
+    // pawns promote, kings castle, and checks are marked
+    (PROMOTION, &[("a7a8q", "a8=Q+")]),
+    (
+        CASTLING,
+        &[("e1g1", "O-O"), ("e1c1", "O-O-O"), ("a1a8", "Rxa8+")],
+    ),
+    // so are mates
+    (MATING, &[("a1a8", "Ra8#"), ("a1a2", "Ra2")]),
     // pawns capture
-    (CAPTURE, "e4d5", "exd5"),
-    (PASSING, "e5d6", "exd6"),
+    (CAPTURE, &[("e4d5", "exd5")]),
+    (PASSING, &[("e5d6", "exd6")]),
 ];
 
 #[test]
 fn moves_are_written(rt: HostRuntime) {
-    for (fen, m, text) in WRITTEN {
-        assert!(rt; text_in(&rt, fen, m).as_str() == *text, "{text}");
+    for (fen, rows) in WRITTEN {
+        for (m, text) in *rows {
+            assert!(rt; text_in(&rt, fen, m).as_str() == *text, "{text}");
+        }
     }
 }
 
 /// The move of a text in long algebraic notation, or the fault.
 fn long_or_fault(rt: &impl Abort, wanted: Result<&str, SanFault>) -> Result<Move, SanFault> {
-    Ok(long(rt, wanted?))
+    Ok(a_move(rt, wanted?))
 }
 
-/// Positions, texts, and the moves that they read as in long algebraic notation, or their faults.
-const READ: &[(&str, &str, Result<&str, SanFault>)] = &[
+/// Positions, moves in long algebraic notation or faults, and the texts that read as these.
+const READ: &[(&str, Result<&str, SanFault>, &[&str])] = &[
     // men are distinguished
-    (PINNED, "Ne2", Ok("g1e2")),
-    (KNIGHTS, "Ne2", Err(SanFault::Ambiguous)),
-    (KNIGHTS, "N1xe2+#+", Ok("g1e2")),
+    (PINNED, Ok("g1e2"), &["Ne2"]),
+    (KNIGHTS, Ok("g1e2"), &["N1xe2+#+"]),
+    (KNIGHTS, Err(SanFault::Ambiguous), &["Ne2"]),
     // pawns promote
-    (PROMOTION, "a8", Err(SanFault::Illegal)),
-    (PROMOTION, "a9", Err(SanFault::Form)),
-    (PROMOTION, "a8=", Err(SanFault::Form)),
-    (PROMOTION, "a8Q", Ok("a7a8q")),
-    (PROMOTION, "a7a8=q", Ok("a7a8q")),
-    (START, "e4=Q", Err(SanFault::Illegal)),
-    (START, "a1a1", Err(SanFault::Illegal)),
+    (PROMOTION, Ok("a7a8q"), &["a8Q", "a7a8=q"]),
+    (PROMOTION, Err(SanFault::Illegal), &["a8"]),
+    (PROMOTION, Err(SanFault::Form), &["a9", "a8="]),
     // kings castle
-    (CASTLING, "O-O+", Ok("e1g1")),
-    (CASTLING, "0-0", Ok("e1g1")),
-    (CASTLING, "e1xg1", Ok("e1g1")),
-    (CASTLING, "Kg1", Err(SanFault::Illegal)),
-    (CASTLING, "O-0", Err(SanFault::Form)),
-    (CASTLING, "o-o", Err(SanFault::Form)),
-    (CASTLING, "0-0-0", Ok("e1c1")),
-    (CASTLING, "Ke2", Ok("e1e2")),
+    (CASTLING, Ok("e1g1"), &["O-O+", "0-0", "e1xg1"]),
+    (CASTLING, Ok("e1c1"), &["0-0-0"]),
+    (CASTLING, Ok("e1e2"), &["Ke2"]),
+    (CASTLING, Err(SanFault::Illegal), &["Kg1"]),
+    (CASTLING, Err(SanFault::Form), &["O-0", "o-o"]),
     // pawns capture
-    (CAPTURE, "ed5", Ok("e4d5")),
-    (CAPTURE, "4d5", Ok("e4d5")),
-    (CAPTURE, "d5", Err(SanFault::Illegal)),
-    (CAPTURE, "xd5", Err(SanFault::Illegal)),
-    (CAPTURE, "2a4", Ok("a2a4")),
-    (CAPTURE, "xa4", Ok("a2a4")),
-    (PASSING, "5d6", Err(SanFault::Ambiguous)),
-    (PASSING, "cd6", Ok("c5d6")),
-    // no form
-    (START, "", Err(SanFault::Form)),
-    (START, "+#", Err(SanFault::Form)),
-    (START, "!", Err(SanFault::Form)),
-    (START, "e4!", Err(SanFault::Form)),
-    (START, "Ne", Err(SanFault::Form)),
-    (START, "--", Err(SanFault::Form)),
-    (START, "P e4", Err(SanFault::Form)),
+    (CAPTURE, Ok("e4d5"), &["ed5", "4d5"]),
+    (CAPTURE, Ok("a2a4"), &["2a4", "xa4"]),
+    (CAPTURE, Err(SanFault::Illegal), &["d5", "xd5"]),
+    (PASSING, Ok("c5d6"), &["cd6"]),
+    (PASSING, Err(SanFault::Ambiguous), &["5d6"]),
+    // no such move, and no form
+    (START, Err(SanFault::Illegal), &["e4=Q", "a1a1"]),
+    (
+        START,
+        Err(SanFault::Form),
+        &["", "+#", "!", "e4!", "Ne", "--", "P e4"],
+    ),
 ];
 
 #[test]
 fn texts_are_read(rt: HostRuntime) {
-    for (fen, text, wanted) in READ {
-        assert!(rt;
-            read_in(&rt, fen, text) == long_or_fault(&rt, *wanted),
-            "{text}"
-        );
+    for (fen, wanted, texts) in READ {
+        for text in *texts {
+            assert!(rt;
+                read_in(&rt, fen, text) == long_or_fault(&rt, *wanted),
+                "{text}"
+            );
+        }
     }
 }
 

@@ -1,8 +1,10 @@
 //! Random walks: at each ply the list of legal moves is the one found by making each pseudo-legal move and looking at the king.
+ghost use Rattle.std.specs.Prelude.{◌≤◌};
 ghost use Rattle.chess_play.specs.Records.{IsBefore};
 
 use arrayvec::ArrayVec;
 use chess_attack::in_check_by;
+use chess_fen::read;
 use chess_key::KeyTable;
 use chess_moves::{count_legal, has_legal, moves};
 use chess_play::{Live, Made};
@@ -40,6 +42,19 @@ const STARTS: [&[u8]; 20] = [
     b"4k3/4r3/8/1b5q/4N3/3BPB2/4K3/r2R3q w - - 0 1",
     b"n1n5/PPPk4/8/8/8/8/4Kppp/5N1N b - - 0 1",
 ];
+
+/// The position of the FEN.
+pub(crate) fn live_in<'k>(rt: &impl Abort, fen: &str, table: &'k KeyTable) -> Live<'k>
+    ensures clock { result.position.clock ≤ 99999 }
+    ensures number { result.position.number ≤ 99999 }
+{
+    Live::new(read(fen.as_bytes()).expect(rt, "a FEN"), table)
+}
+
+/// The move of a text in long algebraic notation.
+pub(crate) fn a_move(rt: &impl Abort, text: &str) -> Move {
+    Move::parse(text.as_bytes()).expect(rt, "the text of a move")
+}
 
 /// Makes a move, which is pseudo-legal.
 pub(crate) fn make_move(rt: &impl Abort, live: &mut Live, m: Move) -> Made
