@@ -123,14 +123,21 @@ stepped_back : (r : Result (Unit {0}) TreeFault) (F : TreeFault → Type 0) (old
 stepped_back (Ok x) F old new some e told = e
 stepped_back (Err x) F old new some e told = absurd (omega (arith, some, ap length told.1))
 
+-- the same tree, and the first steps of the path as they were
+pub record KeepsFirst (depth : ℕ) (begun t : TreeParts) : Type 0 where
+  pub tree : t.tree ≡ begun.tree
+  pub front : take depth t.path ≡ take depth begun.path
+
 module _ (begun t new : TreeParts) (depth : ℕ) (r : Result (Unit {0}) TreeFault) (F : TreeFault → Type 0) (deeper : depth < length t.path)
     (ok : OnOk r (new ≡ at_path (parent t.path) t)) (at_root : MatchResult r (λ _. 0 < length t.path) (λ fault. F fault × (t.path ≡ []))) where
   up : new ≡ at_path (parent t.path) t
   up = stepped_back r F t new (omega (arith, deeper)) ok at_root
 
-  pub back_to_on : t.tree ≡ begun.tree → take depth t.path ≡ take depth begun.path → (new.tree ≡ begun.tree) × (take depth new.path ≡ take depth begun.path)
-  back_to_on tree front =
-      (ap (λ (x : TreeParts). x.tree) up ∙ tree, ap (λ (x : TreeParts). take depth x.path) up ∙ take_parent depth t.path deeper ∙ front)
+  pub back_to_on : KeepsFirst depth begun t → KeepsFirst depth begun new
+  back_to_on kept = record {
+    tree = ap (λ (x : TreeParts). x.tree) up ∙ kept.tree;
+    front = ap (λ (x : TreeParts). take depth x.path) up ∙ take_parent depth t.path deeper ∙ kept.front;
+  }
 
   pub back_to_smaller : length new.path < length t.path
   back_to_smaller = omega (arith, ap (λ (x : TreeParts). length x.path) up, length_parent t.path (omega (arith, deeper)))

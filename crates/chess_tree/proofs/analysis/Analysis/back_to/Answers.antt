@@ -11,7 +11,5 @@ loop-self-smaller g c =
 pub loop-self-preserved : goal.loop-self-preserved
 loop-self-preserved g c =
     let lengths = ap (λ (t : TreeParts). length t.path) c.self.view_is in
-    let all =
     back_to_on c.args.self.now c.loop-self.self c.back-stepped.new.self c.args.depth c.back-stepped.result _ (omega (arith, c.loop-self-test.true, c.depth.ensures.value, lengths)) c.back-stepped.ensures.ok c.back-stepped.ensures.at_root
-    c.loop-self.invariant.tree c.loop-self.invariant.front in
-    record { tree = all.0; front = all.1 }
+    c.loop-self.invariant

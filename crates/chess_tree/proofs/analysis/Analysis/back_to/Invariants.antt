@@ -1,11 +1,9 @@
-use Rattle.std.proofs.Common.{◌≡◌, length, take}
+use Rattle.std.proofs.Common.{length}
+use Rattle.chess_tree.proofs.AnalysisLemmas.{KeepsFirst}
 use Rattle.chess_tree.proofs.analysis.Analysis.back_to.Given as goal
 
 abbrev pub invariant-loop-self : goal.invariant-loop-self
-invariant-loop-self g l = record {
-  tree : l.self.tree ≡ l.fn.self.tree;
-  front : take l.depth l.self.path ≡ take l.depth l.fn.self.path;
-}
+invariant-loop-self g l = KeepsFirst l.depth l.fn.self l.self
 
 abbrev pub decreases-loop-self : goal.decreases-loop-self
 decreases-loop-self g l = length l.self.path
