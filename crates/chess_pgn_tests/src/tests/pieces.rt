@@ -202,7 +202,7 @@ fn assert_each_after<A: Allocator>(
     alloc: &A,
     text: &mut Vec<u8, &A>,
     rows: &[(&[u8], Found)],
-) -> Result<(), AllocError> {
+) -> Result<(), Fail> {
     for (after, wanted) in rows {
         assert_with(rt, alloc, text, after, *wanted)?;
     }
@@ -213,16 +213,14 @@ fn assert_each_after<A: Allocator>(
 fn games_up_to_the_limit(rt: HostRuntime) -> Result<(), Fail> {
     let alloc = rt.alloc();
     let mut text = long_text(&alloc, b"{", b'a', LIMIT - 7, b"}")?;
-    assert_each_after(&rt, &alloc, &mut text, AFTER_A_COMMENT)?;
-    Ok(())
+    assert_each_after(&rt, &alloc, &mut text, AFTER_A_COMMENT)
 }
 
 #[test]
 fn whitespace_after_the_limit(rt: HostRuntime) -> Result<(), Fail> {
     let alloc = rt.alloc();
     let mut text = long_text(&alloc, b"", b' ', LIMIT - 5, b"")?;
-    assert_each_after(&rt, &alloc, &mut text, AFTER_SPACES)?;
-    Ok(())
+    assert_each_after(&rt, &alloc, &mut text, AFTER_SPACES)
 }
 
 /// Whether there is a game in a source of which so many calls go well.
