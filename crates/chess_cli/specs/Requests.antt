@@ -79,13 +79,6 @@ abbrev pub alone : Request → List (List ℕ) → Request
 alone request [] = request
 alone request (word ∷ words) = Malformed
 
--- a command with the word `w` or `b`
-abbrev pub with_colour : (Colour → Request) → List (List ℕ) → Request
-with_colour request [] = Malformed
-with_colour request (word ∷ []) =
-    if bytes_eq word (codes "w") then request White else if bytes_eq word (codes "b") then request Black else Malformed
-with_colour request (word ∷ more ∷ words) = Malformed
-
 -- the word after a command, where there is one alone
 abbrev pub only_word : List (List ℕ) → Option (List ℕ)
 only_word [] = None
@@ -104,6 +97,10 @@ with_word request words = written_by request (only_word words)
 -- a request of the value that one word more writes
 abbrev pub with_value : {A : Type 0} → (List ℕ → Option A) → (A → Request) → List (List ℕ) → Request
 with_value value request words = written_by request (option_and_then value (only_word words))
+
+-- the colour that a word names
+abbrev pub colour_in : List ℕ → Option Colour
+colour_in word = if bytes_eq word (codes "w") then Some White else if bytes_eq word (codes "b") then Some Black else None
 
 -- an annotation number is one of 0 to 255
 abbrev pub nag_in : List ℕ → Option ℕ
@@ -133,7 +130,7 @@ alone_named word =
 abbrev pub with_rest : List ℕ → List ℕ → Request
 with_rest word rest =
     if bytes_eq word (codes "set") then Set (trimmed gaps rest)
-    else if bytes_eq word (codes "counts") then with_colour Counts (words gaps rest)
+    else if bytes_eq word (codes "counts") then with_value colour_in Counts (words gaps rest)
     else if bytes_eq word (codes "play") then with_word Play (words gaps rest)
     else if bytes_eq word (codes "step") then with_value number_in Step (words gaps rest)
     else if bytes_eq word (codes "goto") then with_value path_in Goto (words gaps rest)

@@ -1,7 +1,6 @@
 ghost use Rattle.std.specs.Prelude.{◌≡◌, Some, None, IfSome, IfNone, option_map};
 ghost use Rattle.byte_streams.specs.Words.{words};
-ghost use Rattle.chess_cli.specs.Requests.{gaps, request, without_return, alone, alone_named, with_rest, only_word as only_word_of, with_colour, with_word, with_value, nag_in, Best as BestOf, Counts as CountsOf, Play as PlayOf, Claim as ClaimOf, Goto as GotoOf, Step as StepOf, Nag as NagOf};
-ghost use Rattle.chess_cli.specs.Numbers.{depth_in, number_in as number_in_of, path_in};
+ghost use Rattle.chess_cli.specs.Requests.{gaps, request, without_return, alone, alone_named, with_rest, only_word as only_word_of, colour_in, nag_in, written_by};
 ghost use Rattle.chess_cli.specs.steps.Commands.{later_alone, request_of};
 
 use super::numbers::number_in;
@@ -88,21 +87,22 @@ fn alone<'a>(command: Command<'a>, rest: &[u8]) -> Command<'a>
     }
 }
 
-// The counts of the colour that comes after the command.
-fn counts<'a>(rest: &'a [u8]) -> Command<'a>
-    ensures { request_of result ≡ with_colour CountsOf (words gaps rest.now) }
+// The colour that a word names.
+fn colour_in(word: &[u8]) -> Option<Colour>
+    ensures { result ≡ colour_in word.now }
 {
-    let Some((word, others)) = split_word(rest, GAPS) else {
-        return Command::Malformed;
-    };
-    if split_word(others, GAPS).is_some() {
-        return Command::Malformed;
-    }
     match word {
-        b"w" => Command::Counts(Colour::White),
-        b"b" => Command::Counts(Colour::Black),
-        _ => Command::Malformed,
+        b"w" => Some(Colour::White),
+        b"b" => Some(Colour::Black),
+        _ => None,
     }
+}
+
+// The annotation number that a word writes.
+fn nag_in(word: &[u8]) -> Option<u8>
+    ensures { result ≡ nag_in word.now }
+{
+    u8::try_from(number_in(word)?).ok()
 }
 
 // The word after the command, where there is one alone.
@@ -114,72 +114,6 @@ fn only_word(rest: &[u8]) -> Option<&[u8]>
     match split_word(others, GAPS) {
         None => Some(word),
         Some(_) => None,
-    }
-}
-
-// The move of the word after `play`.
-fn play(rest: &[u8]) -> Command<'_>
-    ensures { request_of result ≡ with_word PlayOf (words gaps rest.now) }
-{
-    match only_word(rest) {
-        None => Command::Malformed,
-        Some(word) => Command::Play(word),
-    }
-}
-
-// The move of the word after `claim`.
-fn claim(rest: &[u8]) -> Command<'_>
-    ensures { request_of result ≡ with_word ClaimOf (words gaps rest.now) }
-{
-    match only_word(rest) {
-        None => Command::Malformed,
-        Some(word) => Command::Claim(word),
-    }
-}
-
-// The path of the word after `goto`.
-fn goto(rest: &[u8]) -> Command<'_>
-    ensures { request_of result ≡ with_value path_in GotoOf (words gaps rest.now) }
-{
-    match only_word(rest) {
-        None => Command::Malformed,
-        Some(word) => Command::Goto(word),
-    }
-}
-
-// The place that the word after `step` writes.
-fn step(rest: &[u8]) -> Command<'_>
-    ensures { request_of result ≡ with_value number_in_of StepOf (words gaps rest.now) }
-{
-    let Some(word) = only_word(rest) else {
-        return Command::Malformed;
-    };
-    match number_in(word) {
-        None => Command::Malformed,
-        Some(place) => Command::Step(place),
-    }
-}
-
-// The annotation number that the word after `nag` writes.
-fn nag(rest: &[u8]) -> Command<'_>
-    ensures { request_of result ≡ with_value nag_in NagOf (words gaps rest.now) }
-{
-    let Some(word) = only_word(rest) else {
-        return Command::Malformed;
-    };
-    match number_in(word) {
-        Some(nag @ 0..=255) => Command::Nag(nag as u8),
-        _ => Command::Malformed,
-    }
-}
-
-// The depth of the word after `best`.
-fn best(rest: &[u8]) -> Command<'_>
-    ensures { request_of result ≡ with_value depth_in BestOf (words gaps rest.now) }
-{
-    match only_word(rest) {
-        None => Command::Malformed,
-        Some(word) => Command::Best(word),
     }
 }
 
@@ -231,31 +165,31 @@ fn standing_alone<'a>(word: &[u8]) -> Option<Command<'a>>
     }
 }
 
-// Another command, by its word and what comes after it.
-fn with_rest<'a>(word: &[u8], rest: &'a [u8]) -> Command<'a>
-    ensures { request_of result ≡ with_rest word.now rest.now }
+// Another command, by its word and what comes after it, where these are the right words.
+fn with_rest<'a>(word: &[u8], rest: &'a [u8]) -> Option<Command<'a>>
+    ensures { written_by request_of result ≡ with_rest word.now rest.now }
 {
-    if word == b"set".as_slice() {
+    Some(if word == b"set".as_slice() {
         Command::Set(trim(rest, GAPS))
     } else if word == b"counts".as_slice() {
-        counts(rest)
+        Command::Counts(colour_in(only_word(rest)?)?)
     } else if word == b"play".as_slice() {
-        play(rest)
+        Command::Play(only_word(rest)?)
     } else if word == b"step".as_slice() {
-        step(rest)
+        Command::Step(number_in(only_word(rest)?)?)
     } else if word == b"goto".as_slice() {
-        goto(rest)
+        Command::Goto(only_word(rest)?)
     } else if word == b"comment".as_slice() {
         Command::Comment(trim(rest, GAPS))
     } else if word == b"nag".as_slice() {
-        nag(rest)
+        Command::Nag(nag_in(only_word(rest)?)?)
     } else if word == b"claim".as_slice() {
-        claim(rest)
+        Command::Claim(only_word(rest)?)
     } else if word == b"best".as_slice() {
-        best(rest)
+        Command::Best(only_word(rest)?)
     } else {
         Command::Unknown
-    }
+    })
 }
 
 /// What the line asks for.
@@ -267,6 +201,6 @@ pub fn read_command(line: &[u8]) -> Command<'_>
     };
     match standing_alone(word) {
         Some(command) => alone(command, rest),
-        None => with_rest(word, rest),
+        None => with_rest(word, rest).unwrap_or(Command::Malformed),
     }
 }
