@@ -115,30 +115,20 @@ fn put<'a, A: Allocator>(
 {
     if is(name, b"Event") {
         tags.event = value;
-        return Ok(());
-    }
-    if is(name, b"Site") {
+    } else if is(name, b"Site") {
         tags.site = value;
-        return Ok(());
-    }
-    if is(name, b"Date") {
+    } else if is(name, b"Date") {
         tags.date = value;
-        return Ok(());
-    }
-    if is(name, b"Round") {
+    } else if is(name, b"Round") {
         tags.round = value;
-        return Ok(());
-    }
-    if is(name, b"White") {
+    } else if is(name, b"White") {
         tags.white = value;
-        return Ok(());
-    }
-    if is(name, b"Black") {
+    } else if is(name, b"Black") {
         tags.black = value;
-        return Ok(());
+    } else {
+        let name = owned(alloc, name)?;
+        tags.others.insert(name, value)?;
     }
-    let name = owned(alloc, name)?;
-    tags.others.insert(name, value)?;
     Ok(())
 }
 
