@@ -17,7 +17,7 @@ pub enum Outcome {
 impl Outcome {
     /// The game termination marker: `1-0`, `0-1`, `1/2-1/2` or `*` (PGN 8.2.6).
     pub fn marker(self) -> &'static str
-        ensures { result.now ≡ outcome_text self }
+        ensures value { result.now ≡ outcome_text self }
     {
         match self {
             Outcome::WhiteWins => "1-0",
