@@ -57,57 +57,8 @@ impl Calls {
         self.sum = self.sum.saturating_add(returned as u64);
     }
 
-    fn ask(&mut self, live: &mut Live, m: Move, rounds: u32)
-        requires clock { live.old.position.clock < 1000000 }
-        requires number { live.old.position.number < 1000000 }
-        ensures position { live.new.position ≡ live.old.position }
-    {
-        for _round in 0..rounds {
-            let legal = is_legal(live, m);
-            self.add(usize::from(legal));
-        }
-    }
-
-    #[tactic(auto, using(chess_types::proofs::MoveLemmas::legal_pseudo))]
-    fn make(&mut self, live: &mut Live, m: Move, rounds: u32)
-        requires legal { IsTrue (is_legal_in live.old.position m) }
-        requires clock { live.old.position.clock < 1000000 }
-        requires number { live.old.position.number < 1000000 }
-        ensures position { live.new.position ≡ live.old.position }
-    {
-        for _round in 0..rounds {
-            let made = live.make(m);
-            self.add(1);
-            live.undo(made);
-        }
-    }
-
-    fn write(&mut self, live: &mut Live, m: Move, rounds: u32)
-        requires legal { IsTrue (is_legal_in live.old.position m) }
-        requires clock { live.old.position.clock < 1000000 }
-        requires number { live.old.position.number < 1000000 }
-        ensures position { live.new.position ≡ live.old.position }
-    {
-        for _round in 0..rounds {
-            let text = chess_san::write(live, m);
-            self.add(text.len());
-        }
-    }
-
-    fn read(&mut self, live: &mut Live, m: Move, rounds: u32)
-        requires legal { IsTrue (is_legal_in live.old.position m) }
-        requires clock { live.old.position.clock < 1000000 }
-        requires number { live.old.position.number < 1000000 }
-        ensures position { live.new.position ≡ live.old.position }
-    {
-        let text = chess_san::write(live, m);
-        for _round in 0..rounds {
-            let found = chess_san::read(live, text.as_bytes()).is_ok();
-            self.add(usize::from(found));
-        }
-    }
-
     // The call so many times with that move, where the move is legal.
+    #[tactic(auto, using(chess_types::proofs::MoveLemmas::legal_pseudo))]
     fn with_move(&mut self, live: &mut Live, call: Call, m: Move, rounds: u32)
         requires clock { live.old.position.clock < 1000000 }
         requires number { live.old.position.number < 1000000 }
@@ -117,10 +68,32 @@ impl Calls {
             return;
         }
         match call {
-            Call::IsLegal => self.ask(live, m, rounds),
-            Call::Make => self.make(live, m, rounds),
-            Call::WriteMove => self.write(live, m, rounds),
-            Call::ReadMove => self.read(live, m, rounds),
+            Call::IsLegal => {
+                for _round in 0..rounds {
+                    let legal = is_legal(live, m);
+                    self.add(usize::from(legal));
+                }
+            }
+            Call::Make => {
+                for _round in 0..rounds {
+                    let made = live.make(m);
+                    self.add(1);
+                    live.undo(made);
+                }
+            }
+            Call::WriteMove => {
+                for _round in 0..rounds {
+                    let text = chess_san::write(live, m);
+                    self.add(text.len());
+                }
+            }
+            Call::ReadMove => {
+                let text = chess_san::write(live, m);
+                for _round in 0..rounds {
+                    let found = chess_san::read(live, text.as_bytes()).is_ok();
+                    self.add(usize::from(found));
+                }
+            }
             _ => {}
         }
     }
