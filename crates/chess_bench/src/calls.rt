@@ -1,6 +1,4 @@
-ghost use Rattle.std.specs.Prelude.{◌≡◌, ◌<◌, ◌≤◌, IsTrue};
-ghost use Rattle.chess_types.specs.board.Legal.{is_legal as is_legal_in};
-ghost use Rattle.chess_types.specs.board.Pseudo.{is_pseudo};
+ghost use Rattle.std.specs.Prelude.{◌≡◌, ◌<◌};
 
 use chess_fen::{read as read_fen, write as write_fen};
 use chess_moves::{count_legal, is_legal, moves};
