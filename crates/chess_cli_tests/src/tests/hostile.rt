@@ -79,53 +79,66 @@ fn count_of(text: &[u8], part: &[u8]) -> usize {
         .count()
 }
 
-/// With however little memory, each `go` has its best move, and the run ends well or doesn't begin.
+/// Whether a session on that heap wants memory; none where it doesn't begin. Each `go` has its best move, and the run ends well.
+fn is_starved(rt: &impl Abort, heap: &LocalHeap) -> Option<bool> {
+    let mut room = [0; 1000];
+    let mut writer = ToBytes::new(&mut room, 1000);
+    let mut reader = FromBytes::new(SESSION, 1000);
+    let ended = uci(heap, &mut reader, &mut writer, STOPPED);
+    if ended == Ended::Memory {
+        assert_eq!(rt; writer.taken().len(), 0);
+        return None;
+    }
+    assert_eq!(rt; ended, Ended::Good);
+    assert_eq!(rt; count_of(writer.taken(), b"bestmove"), 3);
+    let starved = writer.taken() != REPLIES;
+    if starved {
+        assert!(rt; count_of(writer.taken(), b"info string out of memory\n") > 0);
+    }
+    Some(starved)
+}
+
 #[test]
 fn a_session_in_little_memory(rt: HostRuntime) -> Result<(), Fail> {
     let (mut starved, mut whole) = (0u32, 0u32);
     for step in 0..200usize {
         let heap = LocalHeap::new(rt.alloc(), 196_000 + step * 32)?;
-        let mut room = [0; 1000];
-        let mut writer = ToBytes::new(&mut room, 1000);
-        let mut reader = FromBytes::new(SESSION, 1000);
-        let ended = uci(&heap, &mut reader, &mut writer, STOPPED);
-        if ended == Ended::Memory {
-            assert_eq!(rt; writer.taken().len(), 0);
-            continue;
-        }
-        assert_eq!(rt; ended, Ended::Good);
-        assert_eq!(rt; count_of(writer.taken(), b"bestmove"), 3);
-        if writer.taken() == REPLIES {
-            whole = whole.saturating_add(1);
-        } else {
-            assert!(rt; count_of(writer.taken(), b"info string out of memory\n") > 0);
-            starved = starved.saturating_add(1);
+        match is_starved(&rt, &heap) {
+            Some(true) => starved = starved.saturating_add(1),
+            Some(false) => whole = whole.saturating_add(1),
+            None => {}
         }
     }
     assert!(rt; starved > 3 && whole > 3);
     Ok(())
 }
 
-/// With however little memory, whole games from the first on are written.
+/// Whether games are refused for want of memory on that heap. Whole games from the first on are written.
+fn are_refused(rt: &impl Abort, heap: &LocalHeap, output: &[u8]) -> bool {
+    let mut room = [0; 1000];
+    let mut writer = ToBytes::new(&mut room, 1000);
+    let ended = pgn(heap, &mut FromBytes::new(games::INPUT, 1000), &mut writer);
+    let taken = writer.taken().len();
+    assert_eq!(rt; Some(writer.taken()), output.get(..taken));
+    if ended == Ended::Good {
+        assert_eq!(rt; taken, output.len());
+        return false;
+    }
+    assert!(rt; taken == 0 || taken == games::FIRST || taken == output.len());
+    assert_eq!(rt; ended, Ended::Memory);
+    true
+}
+
 #[test]
 fn games_in_little_memory(rt: HostRuntime) -> Result<(), Fail> {
-    let (mut refused, mut good) = (0u32, 0u32);
+    let output = games::text_of(rt.alloc(), games::OUTPUT)?;
+    let mut refused = 0u32;
     for step in 0..300usize {
         let heap = LocalHeap::new(rt.alloc(), 60_000 + step * 64)?;
-        let mut room = [0; 1000];
-        let mut writer = ToBytes::new(&mut room, 1000);
-        let ended = pgn(&heap, &mut FromBytes::new(games::INPUT, 1000), &mut writer);
-        let taken = writer.taken().len();
-        assert_eq!(rt; Some(writer.taken()), games::OUTPUT.get(..taken));
-        if ended == Ended::Good {
-            assert_eq!(rt; taken, games::OUTPUT.len());
-            good = good.saturating_add(1);
-        } else {
-            assert!(rt; taken == 0 || taken == games::FIRST || taken == games::OUTPUT.len());
-            assert_eq!(rt; ended, Ended::Memory);
+        if are_refused(&rt, &heap, output.as_slice()) {
             refused = refused.saturating_add(1);
         }
     }
-    assert!(rt; refused > 3 && good > 3);
+    assert!(rt; refused > 3 && refused < 297);
     Ok(())
 }

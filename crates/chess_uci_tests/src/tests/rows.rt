@@ -369,31 +369,26 @@ const AFTER_E4: &[Row] = &[
     Slices(20, &[b"info depth 1 score cp 10 pv b8c6", b"bestmove b8c6"]),
 ];
 
-const ASKED_FOR: &[Row] = &[
-    Line(b"go depth 1 searchmoves e2e4", &[]),
-    Slices(1, E2E4),
-    Line(b"go depth -4 searchmoves e2e4", &[]),
-    Slices(1, E2E4),
-    Line(b"go depth x depth 1 searchmoves e2e4", &[]),
-    Slices(1, E2E4),
-    Line(b"go depth 7 depth 1 searchmoves d2d4 searchmoves e2e4", &[]),
-    Slices(1, E2E4),
-    Line(b"go searchmoves e2e4 depth 1 d2d4", &[]),
-    Slices(1, E2E4),
-    Line(b"go depth 1 searchmoves e2e4 ponder d2d4", &[]),
-    Slices(1, E2E4),
-    Line(
-        b"go x depth 1 nodes 5 movestogo 3 mate 2 searchmoves e2e4",
-        &[],
-    ),
-    Slices(1, E2E4),
+/// `go` lines of which one slice is enough, which tells e2e4.
+const ASKED_FOR: [&'static [u8]; 7] = [
+    b"go depth 1 searchmoves e2e4",
+    b"go depth -4 searchmoves e2e4",
+    b"go depth x depth 1 searchmoves e2e4",
+    b"go depth 7 depth 1 searchmoves d2d4 searchmoves e2e4",
+    b"go searchmoves e2e4 depth 1 d2d4",
+    b"go depth 1 searchmoves e2e4 ponder d2d4",
+    b"go x depth 1 nodes 5 movestogo 3 mate 2 searchmoves e2e4",
 ];
 
-/// A `go` line of which one slice is enough tells this move.
 #[test]
 fn reads_what_go_asks_for(rt: HostRuntime) {
     run_named(&rt, &rt.alloc(), "after e4", AFTER_E4);
-    run_named(&rt, &rt.alloc(), "asked for", ASKED_FOR);
+    let alloc = rt.alloc();
+    let table = KeyTable::new([1; 768]);
+    let mut session = Session::new(&alloc, &table);
+    for text in ASKED_FOR {
+        run(&rt, &mut session, &[Line(text, &[]), Slices(1, E2E4)]);
+    }
 }
 
 /// A `go` line at moment 0 of a new session ends at this moment, and not before.
@@ -440,26 +435,29 @@ fn shares_the_time(rt: HostRuntime) {
     run_named(&rt, &rt.alloc(), "the clock of Black", BLACK_CLOCK);
 }
 
-const FOUR_DEEP: &[Row] = &[
-    Line(b"position fen 7k/8/8/8/8/8/8/K7 w - - 140 90", &[]),
-    Line(b"go", &[]),
-    Unheard(11),
-    Shows(Searching(true)),
-    Shows(DepthDone(3)),
-    Unheard(1),
-    Shows(Searching(false)),
-    Line(b"go wtime 900", &[]),
-    Unheard(11),
-    Shows(Searching(true)),
-    Shows(DepthDone(3)),
-    Unheard(1),
-    Shows(Searching(true)),
-];
+const KINGS: &[Row] = &[Line(b"position fen 7k/8/8/8/8/8/8/K7 w - - 140 90", &[])];
+
+/// `go` lines, and whether they search on after four plies.
+const FOUR_DEEP: [(&'static [u8], bool); 2] = [(b"go", false), (b"go wtime 900", true)];
 
 #[test]
 fn goes_four_plies_deep_or_as_time_allows(rt: HostRuntime) {
     session_laws();
-    run_named(&rt, &rt.alloc(), "four plies deep", FOUR_DEEP);
+    let alloc = rt.alloc();
+    let table = KeyTable::new([1; 768]);
+    let mut session = Session::new(&alloc, &table);
+    run(&rt, &mut session, KINGS);
+    for (text, searching) in FOUR_DEEP {
+        let rows = [
+            Line(text, &[]),
+            Unheard(11),
+            Shows(Searching(true)),
+            Shows(DepthDone(3)),
+            Unheard(1),
+            Shows(Searching(searching)),
+        ];
+        run(&rt, &mut session, &rows);
+    }
 }
 
 /// Appends the text so many times.
