@@ -1,5 +1,8 @@
 -- What a command of the code asks for.
---   request_of   the request that the code passes
+--   request_of    the request that the code passes
+--   later_alone   a command that stands alone, of those whose words come later in `alone_named`
+use Rattle.std.specs.Prelude.{ℕ, if◌then◌else◌, List, Option, Some, None, codes}
+use Rattle.std.specs.Str.{bytes_eq}
 use Rattle.chess_cli.specs.declared.board_command.command.Command.{Command}
 use Rattle.chess_cli.specs.declared.board_command.command.Command.TheVariants.{Blank, New, Set, Counts, Eval, Fen, Moves, Checks, Play, Back, Step, Start, End, Goto, Path, Promote, Delete, Comment, Nag, Count, Status, Claims, Claim, Best, Pgn, Unknown, Malformed}
 use Rattle.chess_cli.specs.Requests as asks
@@ -34,3 +37,16 @@ request_of (Best word) = asks.written_by asks.Best (depth_in word.now)
 request_of Pgn = asks.Pgn
 request_of Unknown = asks.Unknown
 request_of Malformed = asks.Malformed
+
+-- the later words of the commands that stand alone
+abbrev pub later_alone : List ℕ → Option asks.Request
+later_alone word =
+    if bytes_eq word (codes "end") then Some asks.End
+    else if bytes_eq word (codes "path") then Some asks.Path
+    else if bytes_eq word (codes "promote") then Some asks.Promote
+    else if bytes_eq word (codes "delete") then Some asks.Delete
+    else if bytes_eq word (codes "count") then Some asks.Count
+    else if bytes_eq word (codes "status") then Some asks.Status
+    else if bytes_eq word (codes "claims") then Some asks.Claims
+    else if bytes_eq word (codes "pgn") then Some asks.Pgn
+    else None

@@ -1,7 +1,7 @@
 ghost use Rattle.std.specs.Prelude.{◌≡◌, Some, None, IfSome, IfNone, option_map};
 ghost use Rattle.byte_streams.specs.Words.{words};
 ghost use Rattle.chess_cli.specs.Requests.{gaps, request, without_return, alone, alone_named, with_rest, only_word as only_word_of, colour_in, nag_in, written_by};
-ghost use Rattle.chess_cli.specs.steps.Commands.{request_of};
+ghost use Rattle.chess_cli.specs.steps.Commands.{later_alone, request_of};
 
 use super::numbers::number_in;
 use byte_streams::{split_word, trim};
@@ -117,28 +117,52 @@ fn only_word(rest: &[u8]) -> Option<&[u8]>
     }
 }
 
+// The command that stands alone, by its word: of those that come later.
+fn later_alone<'a>(word: &[u8]) -> Option<Command<'a>>
+    ensures { option_map request_of result ≡ later_alone word.now }
+{
+    if word == b"end".as_slice() {
+        Some(Command::End)
+    } else if word == b"path".as_slice() {
+        Some(Command::Path)
+    } else if word == b"promote".as_slice() {
+        Some(Command::Promote)
+    } else if word == b"delete".as_slice() {
+        Some(Command::Delete)
+    } else if word == b"count".as_slice() {
+        Some(Command::Count)
+    } else if word == b"status".as_slice() {
+        Some(Command::Status)
+    } else if word == b"claims".as_slice() {
+        Some(Command::Claims)
+    } else if word == b"pgn".as_slice() {
+        Some(Command::Pgn)
+    } else {
+        None
+    }
+}
+
 // The command that stands alone, by its word.
 fn standing_alone<'a>(word: &[u8]) -> Option<Command<'a>>
     ensures { option_map request_of result ≡ alone_named word.now }
 {
-    let table: [(&[u8], Command); 15] = [
-        (b"new", Command::New),
-        (b"eval", Command::Eval),
-        (b"fen", Command::Fen),
-        (b"moves", Command::Moves),
-        (b"checks", Command::Checks),
-        (b"back", Command::Back),
-        (b"start", Command::Start),
-        (b"end", Command::End),
-        (b"path", Command::Path),
-        (b"promote", Command::Promote),
-        (b"delete", Command::Delete),
-        (b"count", Command::Count),
-        (b"status", Command::Status),
-        (b"claims", Command::Claims),
-        (b"pgn", Command::Pgn),
-    ];
-    table.iter().find(|row| word == row.0).map(|row| row.1)
+    if word == b"new".as_slice() {
+        Some(Command::New)
+    } else if word == b"eval".as_slice() {
+        Some(Command::Eval)
+    } else if word == b"fen".as_slice() {
+        Some(Command::Fen)
+    } else if word == b"moves".as_slice() {
+        Some(Command::Moves)
+    } else if word == b"checks".as_slice() {
+        Some(Command::Checks)
+    } else if word == b"back".as_slice() {
+        Some(Command::Back)
+    } else if word == b"start".as_slice() {
+        Some(Command::Start)
+    } else {
+        later_alone(word)
+    }
 }
 
 // Another command, by its word and what comes after it, where these are the right words.
