@@ -226,6 +226,7 @@ impl Searcher {
     /// An answer, in the window from alpha to beta, for what a legal move is worth to the side that makes it. Where the move is the last one
     /// that is looked at and the frontier knows enough, it isn't made.
     #[cycle(search)]
+    #[inline(always)]
     fn score<A: Allocator>(
         &mut self,
         line: &mut Line<'_, A>,
