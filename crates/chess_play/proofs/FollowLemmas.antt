@@ -1,5 +1,5 @@
 -- Pieces of work on the kept numbers, one after the other.
-use Rattle.std.proofs.Common.{◌≡◌, ℕ, ◌+◌, ◌<◌, ◌≤◌, ◌^◌, ◌-◌, ◌∙◌, false, ◌||◌, Option, Some, None, inl, inr, refl, sym, arith}
+use Rattle.std.proofs.Common.{◌≡◌, ℕ, ◌+◌, ◌<◌, ◌≤◌, ◌^◌, ◌-◌, ◌∙◌, false, Option, Some, None, option_map, inl, inr, refl, sym, arith}
 use Rattle.std.proofs.lemmas.Bool.{cases_Bool}
 use Rattle.std.proofs.lemmas.Option.{none-some}
 use Rattle.chess_types.specs.declared.board.man.Man.{Man}
@@ -11,7 +11,8 @@ use Rattle.chess_types.specs.board.Board.{Board, man_at}
 use Rattle.chess_attack.specs.KeptCounts.{changed_of}
 use Rattle.chess_attack.proofs.Shown.{changed_of-same, changed_of-trans}
 use Rattle.chess_play.specs.steps.Followed.{KeptNumbers, AreKept, Follows}
-use Rattle.chess_play.specs.steps.Boards.{CapturesOrCastles, ticks_of, castling_ticks}
+use Rattle.chess_play.specs.declared.steps.Way.{Way}
+use Rattle.chess_play.specs.steps.Boards.{CapturesOrCastles, back, rook_way, rook_ticks, ticks_of}
 
 followed :
     (a b c : KeptNumbers) (x y z : Board) (m n : ℕ) → Follows a b x y m → Follows b c y z n → c.counts.ticks < 2 ^ 32 - 1 →
@@ -56,13 +57,20 @@ pub follows_two :
     (a b c : KeptNumbers) (x y z : Board) (m n : ℕ) → Follows a b x y m → Follows b c y z n → m + n ≤ 216 → Follows a c x z 216
 follows_two a b c x y z m n f g le = follows_within a c x z (m + n) 216 le (follows_on a b c x y z m n f g)
 
-pub few_ticks : (man : Man) (m : MoveParts) (taken : Option Man) → CapturesOrCastles man m taken → ticks_of taken + castling_ticks man m ≤ 108
-few_ticks man m None either =
-    elim (cases_Bool (is_castling man KingSide m || is_castling man QueenSide m)) [
-      | (inl h) ↦ rw h (omega arith)
-      | (inr h) ↦ rw h (omega arith)
-    ]
+-- the rook's part of castling is one shift
+few_for_rook : (rook : Option Way) → rook_ticks rook ≤ 108
+few_for_rook None = omega arith
+few_for_rook (Some s) = omega arith
+
+pub few_ticks : (man : Man) (m : MoveParts) (taken : Option Man) → CapturesOrCastles man m taken →
+    ticks_of taken + rook_ticks (rook_way man m) ≤ 108
+few_ticks man m None either = omega (arith, few_for_rook (rook_way man m))
 few_ticks man m (Some other) either =
     let king : is_castling man KingSide m ≡ false = not_castling man m KingSide other either in
     let queen : is_castling man QueenSide m ≡ false = not_castling man m QueenSide other either in
     rw (king, queen) (omega arith)
+
+-- and as long on the way back
+pub same_ticks : (rook : Option Way) → rook_ticks (option_map back rook) ≡ rook_ticks rook
+same_ticks None = refl
+same_ticks (Some s) = refl

@@ -1,14 +1,35 @@
 ghost use Rattle.std.specs.Prelude.{◌≡◌, ◌+◌, ◌<◌, None, IfSome, IsSome};
 ghost use Rattle.std.specs.FinMap as map;
 ghost use Rattle.chess_types.specs.board.Men.{men_of};
-ghost use Rattle.chess_types.specs.board.After.{captured_at, rook_of};
+ghost use Rattle.chess_types.specs.board.After.{captured_at};
 ghost use Rattle.chess_play.specs.steps.Followed.{AreKept, Follows};
-ghost use Rattle.chess_play.specs.steps.Boards.{CanCastle, CanCastleBack, CanMake, CanShift, CanTakeBack, carried_back, carried_on, castling_ticks, restored, moved, ticks_of, with_castled, with_castled_back};
+ghost use Rattle.chess_play.specs.steps.Boards.{CanCastle, CanMake, CanShift, CanTakeBack, back, carried_back, carried_on, moved, restored, rook_ticks, rook_way, rook_way_back, shifted, ticks_of};
 
 use crate::after::{captured_at, castled, moved_man};
 use crate::followers::Followers;
 use chess_attack::Follower;
-use chess_types::{Colour, Kind, Man, Move, Placement, Square};
+use chess_types::{Kind, Man, Move, Placement, Square};
+
+/// A man, the square that he leaves and the one to which he goes.
+#[derive(Clone, Copy)]
+pub(crate) struct Way {
+    man: Man,
+    from: Square,
+    to: Square,
+}
+
+impl Way {
+    // The same man goes the other way.
+    fn back(self) -> Way
+        ensures { result ≡ back self }
+    {
+        Way {
+            man: self.man,
+            from: self.to,
+            to: self.from,
+        }
+    }
+}
 
 /// Puts a man on an empty square, and the followers follow.
 fn put(placement: &mut Placement, kept: &mut Followers, at: Square, man: Man)
@@ -46,89 +67,67 @@ fn replace(placement: &mut Placement, kept: &mut Followers, at: Square, man: Man
     placement.put(at, man);
 }
 
-/// Clears one square and puts a man on another.
-fn shift(placement: &mut Placement, kept: &mut Followers, from: Square, to: Square, man: Man)
-    requires here { IsSome (map.get placement.old from) }
-    requires free { map.get (map.remove placement.old from) to ≡ None }
-    requires room { men_of (map.remove placement.old from) man.colour < 16 }
+/// Clears one square and puts the man on the other.
+fn shift(placement: &mut Placement, kept: &mut Followers, way: Way)
+    requires here { IsSome (map.get placement.old way.from) }
+    requires free { map.get (map.remove placement.old way.from) way.to ≡ None }
+    requires room { men_of (map.remove placement.old way.from) way.man.colour < 16 }
     requires agrees { AreKept kept.old placement.old }
-    ensures placement { placement.new ≡ moved from to man placement.old }
+    ensures placement { placement.new ≡ moved way.from way.to way.man placement.old }
     ensures follows { Follows kept.old kept.new placement.old placement.new 108 }
 {
-    clear(placement, kept, from);
-    put(placement, kept, to, man);
+    clear(placement, kept, way.from);
+    put(placement, kept, way.to, way.man);
 }
 
 /// The man goes, and the man on the captured square is gone. Where that is the square to which he goes, he takes the place of
 /// the captured man.
-fn capture(
-    placement: &mut Placement,
-    kept: &mut Followers,
-    at: Square,
-    from: Square,
-    to: Square,
-    man: Man,
-)
+fn capture(placement: &mut Placement, kept: &mut Followers, at: Square, way: Way)
     requires occupied { IsSome (map.get placement.old at) }
-    requires goes { CanShift (map.remove placement.old at) from to man }
+    requires goes { CanShift (map.remove placement.old at) way.from way.to way.man }
     requires agrees { AreKept kept.old placement.old }
-    ensures placement { placement.new ≡ moved from to man (map.remove placement.old at) }
+    ensures placement { placement.new ≡ moved way.from way.to way.man (map.remove placement.old at) }
     ensures follows { Follows kept.old kept.new placement.old placement.new 162 }
 {
-    if at == to {
-        clear(placement, kept, from);
-        replace(placement, kept, to, man);
+    if at == way.to {
+        clear(placement, kept, way.from);
+        replace(placement, kept, way.to, way.man);
     } else {
         clear(placement, kept, at);
-        shift(placement, kept, from, to, man);
+        shift(placement, kept, way);
     }
 }
 
 /// The man goes, and answers the man that he captures, if he does.
-fn go(
-    placement: &mut Placement,
-    kept: &mut Followers,
-    at: Square,
-    from: Square,
-    to: Square,
-    man: Man,
-) -> Option<Man>
-    requires goes { CanShift (map.remove placement.old at) from to man }
+fn go(placement: &mut Placement, kept: &mut Followers, at: Square, way: Way) -> Option<Man>
+    requires goes { CanShift (map.remove placement.old at) way.from way.to way.man }
     requires agrees { AreKept kept.old placement.old }
     ensures taken { result ≡ map.get placement.old at }
-    ensures placement { placement.new ≡ moved from to man (map.remove placement.old at) }
+    ensures placement { placement.new ≡ moved way.from way.to way.man (map.remove placement.old at) }
     ensures follows { Follows kept.old kept.new placement.old placement.new (108 + ticks_of result) }
 {
     let taken = placement.get(at);
     match taken {
-        None => shift(placement, kept, from, to, man),
-        Some(_) => capture(placement, kept, at, from, to, man),
+        None => shift(placement, kept, way),
+        Some(_) => capture(placement, kept, at, way),
     }
     taken
 }
 
 /// The man goes back, and the captured man stands again.
-fn release(
-    placement: &mut Placement,
-    kept: &mut Followers,
-    at: Square,
-    from: Square,
-    to: Square,
-    man: Man,
-    other: Man,
-)
-    requires goes { CanShift placement.old to from man }
-    requires free { map.get (moved to from man placement.old) at ≡ None }
-    requires room { men_of (moved to from man placement.old) other.colour < 16 }
+fn release(placement: &mut Placement, kept: &mut Followers, at: Square, way: Way, other: Man)
+    requires goes { CanShift placement.old way.from way.to way.man }
+    requires free { map.get (moved way.from way.to way.man placement.old) at ≡ None }
+    requires room { men_of (moved way.from way.to way.man placement.old) other.colour < 16 }
     requires agrees { AreKept kept.old placement.old }
-    ensures placement { placement.new ≡ map.insert (moved to from man placement.old) at other }
+    ensures placement { placement.new ≡ map.insert (moved way.from way.to way.man placement.old) at other }
     ensures follows { Follows kept.old kept.new placement.old placement.new 162 }
 {
-    if at == to {
-        replace(placement, kept, to, other);
-        put(placement, kept, from, man);
+    if at == way.from {
+        replace(placement, kept, way.from, other);
+        put(placement, kept, way.to, way.man);
     } else {
-        shift(placement, kept, to, from, man);
+        shift(placement, kept, way);
         put(placement, kept, at, other);
     }
 }
@@ -138,70 +137,55 @@ fn go_back(
     placement: &mut Placement,
     kept: &mut Followers,
     at: Square,
-    from: Square,
-    to: Square,
-    man: Man,
+    way: Way,
     taken: Option<Man>,
 )
-    requires goes { CanShift placement.old to from man }
-    requires free { map.get (moved to from man placement.old) at ≡ None }
-    requires room { IfSome taken (λ other. men_of (moved to from man placement.old) other.colour < 16) }
+    requires goes { CanShift placement.old way.from way.to way.man }
+    requires free { map.get (moved way.from way.to way.man placement.old) at ≡ None }
+    requires room { IfSome taken (λ other. men_of (moved way.from way.to way.man placement.old) other.colour < 16) }
     requires agrees { AreKept kept.old placement.old }
-    ensures placement { placement.new ≡ restored at taken (moved to from man placement.old) }
+    ensures placement { placement.new ≡ restored at taken (moved way.from way.to way.man placement.old) }
     ensures follows { Follows kept.old kept.new placement.old placement.new (108 + ticks_of taken) }
 {
     match taken {
-        None => shift(placement, kept, to, from, man),
-        Some(other) => release(placement, kept, at, from, to, man, other),
+        None => shift(placement, kept, way),
+        Some(other) => release(placement, kept, at, way, other),
     }
 }
 
-fn rook_of(colour: Colour) -> Man
-    ensures { result ≡ rook_of colour }
+/// Where the move is castling, the rook goes from its home to the square that the king crosses (FIDE Laws 3.8.2).
+fn rook_way(man: Man, m: Move) -> Option<Way>
+    ensures { result ≡ rook_way man m }
 {
-    Man {
-        colour,
-        kind: Kind::Rook,
-    }
+    let wing = castled(man, m)?;
+    Some(Way {
+        man: Man {
+            colour: man.colour,
+            kind: Kind::Rook,
+        },
+        from: wing.rook_home(man.colour),
+        to: wing.crossed(man.colour),
+    })
 }
 
-/// Where the move is castling, the rook goes from its home to the square that the king crossed (FIDE Laws 3.8.2).
+/// The way back of the rook that has castled.
+fn rook_way_back(man: Man, m: Move) -> Option<Way>
+    ensures { result ≡ rook_way_back man m }
+{
+    let rook = rook_way(man, m)?;
+    Some(rook.back())
+}
+
+/// The rook goes, if one does.
 #[tactic(auto, using(crate::proofs::FollowLemmas::follows_none))]
-fn castle(placement: &mut Placement, kept: &mut Followers, man: Man, m: Move)
-    requires rook { CanCastle man m placement.old }
+fn shift_rook(placement: &mut Placement, kept: &mut Followers, rook: Option<Way>)
+    requires rook { CanCastle rook placement.old }
     requires agrees { AreKept kept.old placement.old }
-    ensures placement { placement.new ≡ with_castled man m placement.old }
-    ensures follows { Follows kept.old kept.new placement.old placement.new (castling_ticks man m) }
+    ensures placement { placement.new ≡ shifted rook placement.old }
+    ensures follows { Follows kept.old kept.new placement.old placement.new (rook_ticks rook) }
 {
-    if let Some(wing) = castled(man, m) {
-        let colour = man.colour;
-        shift(
-            placement,
-            kept,
-            wing.rook_home(colour),
-            wing.crossed(colour),
-            rook_of(colour),
-        );
-    }
-}
-
-/// Where the move was castling, the rook goes back to its home.
-#[tactic(auto, using(crate::proofs::FollowLemmas::follows_none))]
-fn castle_back(placement: &mut Placement, kept: &mut Followers, man: Man, m: Move)
-    requires rook { CanCastleBack man m placement.old }
-    requires agrees { AreKept kept.old placement.old }
-    ensures placement { placement.new ≡ with_castled_back man m placement.old }
-    ensures follows { Follows kept.old kept.new placement.old placement.new (castling_ticks man m) }
-{
-    if let Some(wing) = castled(man, m) {
-        let colour = man.colour;
-        shift(
-            placement,
-            kept,
-            wing.crossed(colour),
-            wing.rook_home(colour),
-            rook_of(colour),
-        );
+    if let Some(way) = rook {
+        shift(placement, kept, way);
     }
 }
 
@@ -220,12 +204,14 @@ pub fn carry_on(
     ensures placement { placement.new ≡ carried_on target man m placement.old }
     ensures follows { Follows kept.old kept.new placement.old placement.new 216 }
 {
-    let from = m.from;
-    let to = m.to;
-    let promo = m.promo;
     let at = captured_at(target, man, m);
-    let taken = go(placement, kept, at, from, to, moved_man(man, promo));
-    castle(placement, kept, man, m);
+    let way = Way {
+        man: moved_man(man, m.promo),
+        from: m.from,
+        to: m.to,
+    };
+    let taken = go(placement, kept, at, way);
+    shift_rook(placement, kept, rook_way(man, m));
     taken
 }
 
@@ -244,9 +230,12 @@ pub fn carry_back(
     ensures placement { placement.new ≡ carried_back target man m taken placement.old }
     ensures follows { Follows kept.old kept.new placement.old placement.new 216 }
 {
-    let from = m.from;
-    let to = m.to;
-    castle_back(placement, kept, man, m);
+    shift_rook(placement, kept, rook_way_back(man, m));
     let at = captured_at(target, man, m);
-    go_back(placement, kept, at, from, to, man, taken);
+    let way = Way {
+        man,
+        from: m.to,
+        to: m.from,
+    };
+    go_back(placement, kept, at, way, taken);
 }

@@ -9,36 +9,36 @@ use Rattle.chess_play.proofs.steps.capture.Goals as goal
 use Rattle.chess_play.proofs.steps.capture.Goals.{Then-eq}
 
 -- the captured man stands on the move's last square
-same : (c : Then-eq) → c.args.at ≡ c.args.to
-same c = same_square c.args.at c.args.to c.eq.result c.eq.ensures c.if-eq.true
+same : (c : Then-eq) → c.args.at ≡ c.args.way.to
+same c = same_square c.args.at c.args.way.to c.eq.result c.eq.ensures c.if-eq.true
 
-goes : (c : Then-eq) → CanShift (remove c.args.placement.now c.args.to) c.args.from c.args.to c.args.man
-goes c = subst (λ n. CanShift (remove c.args.placement.now n) c.args.from c.args.to c.args.man) (same c) c.requires.goes
+goes : (c : Then-eq) → CanShift (remove c.args.placement.now c.args.way.to) c.args.way.from c.args.way.to c.args.way.man
+goes c = subst (λ n. CanShift (remove c.args.placement.now n) c.args.way.from c.args.way.to c.args.way.man) (same c) c.requires.goes
 
 pub clear-requires-clause-occupied : goal.clear-requires-clause-occupied
 clear-requires-clause-occupied c =
-    goes_here c.args.placement.now c.args.from c.args.to c.args.man
+    goes_here c.args.placement.now c.args.way.from c.args.way.to c.args.way.man
     (goes (goal.at.clear-requires-clause-occupied c).Then-eq)
 
 pub replace-requires-clause-occupied : goal.replace-requires-clause-occupied
 replace-requires-clause-occupied c =
     rw c.clear.ensures.placement
-    (struck c.args.placement.now c.args.from c.args.to c.args.man
+    (struck c.args.placement.now c.args.way.from c.args.way.to c.args.way.man
     (goes (goal.at.replace-requires-clause-occupied c).Then-eq)
     (subst (λ n. IsSome (man_at c.args.placement.now n)) (same (goal.at.replace-requires-clause-occupied c).Then-eq) c.requires.occupied))
 
 pub replace-requires-clause-room : goal.replace-requires-clause-room
 replace-requires-clause-room c =
-    subst (λ (b : Board). men_of (remove b c.args.to) c.args.man.colour < 16) (sym c.clear.ensures.placement)
-    (struck_room c.args.placement.now c.args.from c.args.to c.args.man
+    subst (λ (b : Board). men_of (remove b c.args.way.to) c.args.way.man.colour < 16) (sym c.clear.ensures.placement)
+    (struck_room c.args.placement.now c.args.way.from c.args.way.to c.args.way.man
     (goes (goal.at.replace-requires-clause-room c).Then-eq))
 
 pub returns-then-eq-clause-placement : goal.returns-then-eq-clause-placement
 returns-then-eq-clause-placement c =
-    c.replace.ensures.placement ∙ ap (λ (b : Board). insert b c.args.to c.args.man) c.clear.ensures.placement
-    ∙ struck_board c.args.placement.now c.args.from c.args.to c.args.man
+    c.replace.ensures.placement ∙ ap (λ (b : Board). insert b c.args.way.to c.args.way.man) c.clear.ensures.placement
+    ∙ struck_board c.args.placement.now c.args.way.from c.args.way.to c.args.way.man
     (goes (goal.at.returns-then-eq-clause-placement c).Then-eq)
-    ∙ ap (λ n. moved c.args.from c.args.to c.args.man (remove c.args.placement.now n)) (sym (same (goal.at.returns-then-eq-clause-placement c).Then-eq))
+    ∙ ap (λ n. moved c.args.way.from c.args.way.to c.args.way.man (remove c.args.placement.now n)) (sym (same (goal.at.returns-then-eq-clause-placement c).Then-eq))
 
 pub returns-then-eq-clause-follows : goal.returns-then-eq-clause-follows
 returns-then-eq-clause-follows c =
