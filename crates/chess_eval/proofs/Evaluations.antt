@@ -10,9 +10,9 @@ use Rattle.chess_types.proofs.BoardLaws.{boards}
 use Rattle.chess_attack.proofs.Replaces.{put-again}
 use Rattle.chess_eval.specs.Worth.{middle_of, end_of}
 use Rattle.chess_eval.specs.Evaluation.{balance_there, weight_there, over_board, Sums, sums_of, IsWithin}
-use Rattle.chess_eval.specs.steps.Changes.{with_man, without_man, AreInRange}
+use Rattle.chess_eval.specs.steps.Changes.{AreInRange, plus, with_man, without_man}
 use Rattle.chess_eval.proofs.Sums.{run, run-none, run-more, run-zero, run-one, run-low, run-high}
-use Rattle.chess_eval.proofs.SmallWorths.{middle_within, end_within, weight_small}
+use Rattle.chess_eval.proofs.SmallWorths.{end_within, middle_within, negated, negative, weight_small, weight_within}
 
 -- three equal numbers
 pub same_sums : {a b : Sums} → a.middle ≡ b.middle → a.end ≡ b.end → a.weights ≡ b.weights → a ≡ b
@@ -26,6 +26,13 @@ pub record AreSame (a b : Sums) : Type 0 where
 
 pub same_parts : {a b : Sums} → a ≡ b → AreSame a b
 same_parts same = record { middle = ap (λ (s : Sums). s.middle) same; end = ap (λ (s : Sums). s.end) same; weights = ap (λ (s : Sums). s.weights) same }
+
+-- with the negatives of what a man counts, the sums are those without him
+pub without_is : (sums : Sums) (man : Man) (square : ℕ) {middle end weight : ℤ} → square < 64 → middle ≡ balance_there middle_of (Some man) square →
+    end ≡ balance_there end_of (Some man) square → weight ≡ weight_there (Some man) square →
+    plus sums (negative middle) (negative end) (negative weight) ≡ without_man sums man square
+without_is sums man square h m e w = λ i.
+    plus sums (negated (middle_within (Some man) square h) m i) (negated (end_within (Some man) square h) e i) (negated (weight_within man.kind) w i)
 
 -- a number for what stands on a square, and none where nothing does
 abbrev Number : Type 0

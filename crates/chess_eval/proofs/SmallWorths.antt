@@ -1,5 +1,5 @@
 -- How small and how large the worths are: a king's for himself, and any other man's.
-use Rattle.std.proofs.Common.{◌≡◌, ℕ, ◌*◌, ◌<◌, ◌≤◌, Bool, ℤ, pos, ◌+ℤ◌, ◌≤ℤ◌, neg_ℤ, to_z, of_z, w32, Option, Some, None, ap, ◌∙◌, arith}
+use Rattle.std.proofs.Common.{◌≡◌, ℕ, ◌*◌, ◌<◌, ◌≤◌, Bool, ℤ, pos, ◌+ℤ◌, ◌-ℤ◌, ◌≤ℤ◌, neg_ℤ, to_z, of_z, w32, Option, Some, None, ap, ◌∙◌, arith}
 use Rattle.std.proofs.lemmas.Int.{ints}
 use Rattle.chess_types.specs.declared.board.man.Colour.{Colour}
 use Rattle.chess_types.specs.declared.board.man.Colour.TheVariants.{White, Black}
@@ -122,3 +122,13 @@ weight_of_any _ = record { low = omega (arith, ints); high = omega (arith, ints)
 pub weight_small : (there : Option Man) (square : ℕ) → IsWeight (weight_there there square)
 weight_small None square = record { low = omega (arith, ints); high = omega (arith, ints) }
 weight_small (Some man) square = weight_of_any man.kind
+
+pub weight_within : (kind : Kind) → IsWithin 903 (weight_of kind)
+weight_within kind = let w = weight_of_any kind in record { low = omega (arith, ints, w.low); high = omega (arith, ints, w.high) }
+
+-- the negative of a 32-bit number
+abbrev pub negative : ℤ → ℤ
+negative n = to_z w32 (of_z w32 (pos 0 -ℤ to_z w32 (of_z w32 n)))
+
+pub negated : {found worth : ℤ} → IsWithin 903 worth → found ≡ worth → negative found ≡ neg_ℤ worth
+negated small same = omega (arith, ints, same, small.low, small.high)

@@ -4,7 +4,7 @@ ghost use Rattle.chess_types.specs.board.Board.{Board, Men, man_at};
 ghost use Rattle.chess_eval.specs.Evaluation.{for_white as for_white_of, balance_there, AreSumsOf, tapered as tapered_of, evaluation, IsWithin, HasArmies};
 ghost use Rattle.chess_eval.specs.Worth.{middle_of, end_of};
 ghost use Rattle.chess_eval.specs.Mirror.{IsMirror, mirrored};
-ghost use Rattle.chess_eval.specs.steps.Changes.{with_man, without_man, AreInRange};
+ghost use Rattle.chess_eval.specs.steps.Changes.{AreInRange, plus, with_man, without_man};
 
 use crate::worths::{end, middle, weight};
 use chess_attack::Follower;
@@ -131,17 +131,27 @@ impl Sum {
         }
     }
 
+    // With so much more in each sum.
+    #[inline(always)]
+    fn plus(&self, middle: i32, end: i32, weights: i32) -> Sum
+        requires { AreInRange (plus self.now middle end weights) }
+        ensures { result ≡ plus self.now middle end weights }
+    {
+        Sum {
+            middle: self.middle + middle,
+            end: self.end + end,
+            weights: self.weights + weights,
+        }
+    }
+
     // With what the man counts on the square.
     #[inline(always)]
     fn with_man(&self, man: Man, square: Square) -> Sum
         requires { AreInRange (with_man self.now man square) }
         ensures { result ≡ with_man self.now man square }
     {
-        Sum {
-            middle: self.middle + middle_for_white(man, square),
-            end: self.end + end_for_white(man, square),
-            weights: self.weights + weight(man.kind),
-        }
+        let (middle, end) = (middle_for_white(man, square), end_for_white(man, square));
+        self.plus(middle, end, weight(man.kind))
     }
 
     // Without what the man counts on the square.
@@ -150,11 +160,8 @@ impl Sum {
         requires { AreInRange (without_man self.now man square) }
         ensures { result ≡ without_man self.now man square }
     {
-        Sum {
-            middle: self.middle - middle_for_white(man, square),
-            end: self.end - end_for_white(man, square),
-            weights: self.weights - weight(man.kind),
-        }
+        let (middle, end) = (middle_for_white(man, square), end_for_white(man, square));
+        self.plus(-middle, -end, -weight(man.kind))
     }
 
     // The same sums.
