@@ -6,9 +6,9 @@ use Rattle.std.proofs.lemmas.Bool.Decides.{nat_tests}
 use Rattle.chess_types.specs.board.MoveParts.{MoveParts}
 use Rattle.chess_tree.specs.Forest.{below_at, count, height, moves_held}
 use Rattle.chess_tree.specs.Edits.{annotated, change_below, change_node, commented, parent, promoted, without_node}
-use Rattle.chess_tree.specs.GameTree.{find}
+use Rattle.chess_tree.specs.GameTree.{adding, annotating, deleting, find, promoting}
 use Rattle.chess_tree.specs.WellFormed.{Leads}
-use Rattle.chess_tree.specs.steps.Rooted.{Held, Noted, Rooted, added_root, annotated_root, commented_at, commented_root, deleted_root, no_notes, path_root, promoted_root, with_below}
+use Rattle.chess_tree.specs.steps.Rooted.{Held, Noted, Rooted, commented_at, commented_root, edited_root, no_notes, path_root, with_below}
 use Rattle.chess_tree.specs.steps.Entries.{Entry, leaf_entry, entry_at, with_children, with_parent}
 use Rattle.chess_tree.specs.steps.Grove.{Grove, no_move, Empty, Tree, tally, times, size, wide, first_of, node_number, under, under_at, number_at, trail_at, plain, Ways}
 use Rattle.chess_tree.specs.steps.Laid.{IsArena, seen, standing, uses, Same}
@@ -340,7 +340,7 @@ module _ (nodes : List Entry) (noted : ℕ → Noted) (free here : ℕ) (trail :
   pub deleted_now : (at place : ℕ) (left : List ℕ) (gone more : ℕ) → 0 < length z.path
       → at ≡ (entry_at nodes here).parent → place ≡ (entry_at nodes here).place
       → trail ≡ left ++ gone ∷ [] → more ≡ room
-      → IsArena (with_parent here free (detached at place nodes)) noted here at left more × (seen (with_parent here free (detached at place nodes)) noted at ≡ deleted_root z)
+      → IsArena (with_parent here free (detached at place nodes)) noted here at left more × (seen (with_parent here free (detached at place nodes)) noted at ≡ edited_root deleting z)
   deleted_now at place left gone more h ea ep t r =
       let w = hangs h in
       let on =
@@ -348,12 +348,12 @@ module _ (nodes : List Entry) (noted : ℕ → Noted) (free here : ℕ) (trail :
       at here (ea ∙ w.parent_is) w.is in
       let below : change_below (without_node w.place) w.init (plain noted a.game) ≡ change_node without_node a.path (plain noted a.game) =
       sym (node_last without_node w.init w.place (plain noted a.game)) ∙ ap (λ (p : List ℕ). change_node without_node p (plain noted a.game)) (sym w.path_is) in
-      subst (λ (x : ℕ). IsArena (with_parent here free (detached at x nodes)) noted here at left more × (seen (with_parent here free (detached at x nodes)) noted at ≡ deleted_root z))
+      subst (λ (x : ℕ). IsArena (with_parent here free (detached at x nodes)) noted here at left more × (seen (with_parent here free (detached at x nodes)) noted at ≡ edited_root deleting z))
       (sym (ep ∙ w.place_is))
-      (on.0, on.1 ∙ (λ j. record { root = with_below (λ _. below j) (standing noted a.game a.path).root; path = w.parent_path j }) ∙ ap deleted_root (sym z_is))
+      (on.0, on.1 ∙ (λ j. record { root = with_below (λ _. below j) (standing noted a.game a.path).root; path = w.parent_path j }) ∙ ap (edited_root deleting) (sym z_is))
 
   pub promoted_now : (at place : ℕ) → 0 < length z.path → at ≡ (entry_at nodes here).parent → place ≡ (entry_at nodes here).place
-      → IsArena (lifted at place nodes) noted free here trail room × (seen (lifted at place nodes) noted here ≡ promoted_root z)
+      → IsArena (lifted at place nodes) noted free here trail room × (seen (lifted at place nodes) noted here ≡ edited_root promoting z)
   promoted_now at place h ea ep =
       let w = hangs h in
       let on =
@@ -361,9 +361,9 @@ module _ (nodes : List Entry) (noted : ℕ → Noted) (free here : ℕ) (trail :
       at here (ea ∙ w.parent_is) w.is in
       let below : change_below (promoted w.place) w.init (plain noted a.game) ≡ change_node promoted a.path (plain noted a.game) =
       sym (node_last promoted w.init w.place (plain noted a.game)) ∙ ap (λ (p : List ℕ). change_node promoted p (plain noted a.game)) (sym w.path_is) in
-      subst (λ (x : ℕ). IsArena (lifted at x nodes) noted free here trail room × (seen (lifted at x nodes) noted here ≡ promoted_root z))
+      subst (λ (x : ℕ). IsArena (lifted at x nodes) noted free here trail room × (seen (lifted at x nodes) noted here ≡ edited_root promoting z))
       (sym (ep ∙ w.place_is))
-      (on.0, on.1 ∙ (λ j. record { root = with_below (λ _. below j) (standing noted a.game a.path).root; path = w.parent_path j ++ 0 ∷ [] }) ∙ ap promoted_root (sym z_is))
+      (on.0, on.1 ∙ (λ j. record { root = with_below (λ _. below j) (standing noted a.game a.path).root; path = w.parent_path j ++ 0 ∷ [] }) ∙ ap (edited_root promoting) (sym z_is))
 
   -- ---- add
 
@@ -399,15 +399,15 @@ module _ (nodes : List Entry) (noted : ℕ → Noted) (free here : ℕ) (trail :
       → place ≡ length (entry_at nodes here).children → IsPut nodes free (leaf_entry m here place) mid next number → IsNotedAt noted later number no_notes
       → way ≡ trail ++ number ∷ [] → room ≤ more → length trail + 1 ≤ more
       → IsArena (with_children here ((entry_at mid here).children ++ number ∷ []) mid) later next number way more
-      × (seen (with_children here ((entry_at mid here).children ++ number ∷ []) mid) later number ≡ added_root m z)
+      × (seen (with_children here ((entry_at mid here).children ++ number ∷ []) mid) later number ≡ edited_root (adding m) z)
   put_now mid later m place next number way more few ep put notes e wider space =
       let on = put a.game a.freed a.laid in
       let wide_is : place ≡ wide (under_at a.path a.game) = ep ∙ count_is nodes here (under_at a.path a.game) owner_here in
       let all = added_from mid noted later next number m here a.game on.later a.path trail room more on.laid a.ways a.here_is a.trail_is
       (on.is ∙ ap (leaf_entry m here) wide_is) few notes a.deep wider space in
       subst (λ (x : List ℕ). IsArena (with_children here ((entry_at mid here).children ++ number ∷ []) mid) later next number x more
-      × (seen (with_children here ((entry_at mid here).children ++ number ∷ []) mid) later number ≡ added_root m z)) (sym e)
-      (all.0, all.1 ∙ ap (added_root m) (sym z_is))
+      × (seen (with_children here ((entry_at mid here).children ++ number ∷ []) mid) later number ≡ edited_root (adding m) z)) (sym e)
+      (all.0, all.1 ∙ ap (edited_root (adding m)) (sym z_is))
 
   -- or let go again
   pub put_back : (mid : List Entry) (m : MoveParts) (place next number : ℕ) (more : ℕ) → length mid ≤ 1000001
@@ -442,7 +442,7 @@ module _ (nodes : List Entry) (noted : ℕ → Noted) (free here : ℕ) (trail :
       subst (λ (x : ℕ → Noted). IsArena nodes x free here trail room × (seen nodes x here ≡ z)) (sym e) (a, v)
 
   pub annotated_now : (later : ℕ → Noted) (nag : ℕ) → 0 < length z.path → IsNotedAt noted later here (record { nags = (noted here).nags ++ nag ∷ []; comment = (noted here).comment })
-      → IsArena nodes later free here trail room × (seen nodes later here ≡ annotated_root nag z)
+      → IsArena nodes later free here trail room × (seen nodes later here ≡ edited_root (annotating nag) z)
   unfolding stays
   annotated_now later nag h notes =
       let there = subst (λ (x : ℕ). IsNotedAt noted later x (record { nags = (noted x).nags ++ nag ∷ []; comment = (noted x).comment })) a.here_is notes in
@@ -451,7 +451,7 @@ module _ (nodes : List Entry) (noted : ℕ → Noted) (free here : ℕ) (trail :
         now,
         seen_is nodes later free here trail room now
             ∙ (λ j. record { root = record { move = no_move; nags = (on.1 j).nags; comment = (on.1 j).comment; below = on.0 j }; path = a.path })
-            ∙ ap (annotated_root nag) (sym z_is),
+            ∙ ap (edited_root (annotating nag)) (sym z_is),
       )
 
   pub commented_now : (later : ℕ → Noted) (text : List ℕ) → IsNotedAt noted later here (record { nags = (noted here).nags; comment = text })

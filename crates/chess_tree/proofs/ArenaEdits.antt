@@ -4,7 +4,8 @@ use Rattle.std.proofs.Common.{length-set}
 use Rattle.chess_types.specs.board.MoveParts.{MoveParts}
 use Rattle.chess_tree.specs.Forest.{Forest, Bare, Node, append, below_at, count, height}
 use Rattle.chess_tree.specs.Edits.{change_below, promoted, with_move, without_node}
-use Rattle.chess_tree.specs.steps.Rooted.{Noted, Rooted, added_root, no_notes, with_below}
+use Rattle.chess_tree.specs.GameTree.{adding}
+use Rattle.chess_tree.specs.steps.Rooted.{Noted, Rooted, edited_root, no_notes, with_below}
 use Rattle.chess_tree.specs.steps.Entries.{Entry, leaf_entry, entry_at, with_children, with_parent}
 use Rattle.chess_tree.specs.steps.Grove.{Grove, Empty, Tree, tally, times, wide, join, node_number, grove_move, no_move, under, under_at, change_at, number_at, trail_at, plain, Ways}
 use Rattle.chess_tree.specs.steps.Linked.{IsLinked}
@@ -33,7 +34,7 @@ pub added_from : (nodes : List Entry) (old new : ℕ → Noted) (free n : ℕ) (
     → here ≡ number_at path 0 game → trail ≡ trail_at path 0 game → entry_at nodes n ≡ leaf_entry m here (wide (under_at path game)) → length nodes ≤ 1000001
     → IsNotedAt old new n no_notes → height (plain old game) ≤ room → room ≤ more → length trail + 1 ≤ more
     → IsArena (with_children here ((entry_at nodes here).children ++ n ∷ []) nodes) new free n (trail ++ n ∷ []) more
-    × (seen (with_children here ((entry_at nodes here).children ++ n ∷ []) nodes) new n ≡ added_root m (standing old game path))
+    × (seen (with_children here ((entry_at nodes here).children ++ n ∷ []) nodes) new n ≡ edited_root (adding m) (standing old game path))
 added_from nodes old new free n m here game freed path trail room more k ways e te written few notes deep wider space =
     let c = λ (g : Grove). join g (Tree n m Empty Empty) in
     let p = number_at path 0 game in
@@ -71,11 +72,11 @@ added_from nodes old new free n m here game freed path trail room more k ways e 
       few = omega (arith, laid.all, k.all, few, size_change c path game ways, size_join b (Tree n m Empty Empty));
     } in
     let count_is : wide b ≡ count (below_at path (plain old game)) = sym (wide_plain old b) ∙ ap count (plain_under_at old path game) in
-    let sight : seen after new n ≡ added_root m (standing old game path) =
+    let sight : seen after new n ≡ edited_root (adding m) (standing old game path) =
     seen_is after new free n (trail ++ n ∷ []) more a
     ∙ (λ j. record { root = record { move = no_move; nags = (zeroth j).nags; comment = (zeroth j).comment; below = below j }; path = path ++ count_is j ∷ [] }) in
     subst (λ (h : ℕ). IsArena (with_children h ((entry_at nodes h).children ++ n ∷ []) nodes) new free n (trail ++ n ∷ []) more
-    × (seen (with_children h ((entry_at nodes h).children ++ n ∷ []) nodes) new n ≡ added_root m (standing old game path))) (sym e) (a, sight)
+    × (seen (with_children h ((entry_at nodes h).children ++ n ∷ []) nodes) new n ≡ edited_root (adding m) (standing old game path))) (sym e) (a, sight)
 
 -- a path that isn't empty: all but its last place, and that
 pub last_place : (path : List ℕ) → 0 < length path → (init : List ℕ) × (k : ℕ) × (path ≡ init ++ k ∷ [])
@@ -87,16 +88,16 @@ last_place (k ∷ j ∷ path) h = let rest = last_place (j ∷ path) (omega arit
 lower : (g : ℕ → Forest → Forest) (path : List ℕ) (k : ℕ) (f : Forest) → ((j : ℕ) (x : Forest) → height (g j x) ≤ height x) → height (change_below (g k) path f) ≤ height f
 lower g path k f h = omega (arith, ap height (node_last g path k f), height_node g (path ++ k ∷ []) f h)
 
--- the root, with another edit below it
-abbrev pub edited : (Forest → Forest) → (ℕ → Noted) → Grove → List ℕ → List ℕ → Rooted
-edited change noted game path new = record { root = with_below (change_below change path) (standing noted game path).root; path = new }
+-- the root with another change below it
+abbrev pub edited_below : (Forest → Forest) → (ℕ → Noted) → Grove → List ℕ → List ℕ → Rooted
+edited_below change noted game path new = record { root = with_below (change_below change path) (standing noted game path).root; path = new }
 
 -- DELETED
 pub deleted_from : (nodes : List Entry) (noted : ℕ → Noted) (free k : ℕ) (game freed : Grove) (path trail : List ℕ) (room : ℕ) → Laid nodes free game freed Empty → Ways path game → k < wide (under_at path game) → length nodes ≤ 1000001
     → height (plain noted game) ≤ room → trail ≡ trail_at path 0 game
     → (p h : ℕ) → p ≡ number_at path 0 game → h ≡ node_number 0 k (under_at path game)
     → IsArena (with_parent h free (detached p k nodes)) noted h p trail room
-    × (seen (with_parent h free (detached p k nodes)) noted p ≡ edited (without_node k) noted game path path)
+    × (seen (with_parent h free (detached p k nodes)) noted p ≡ edited_below (without_node k) noted game path path)
 deleted_from nodes noted free k game freed path trail room laid ways one few deep te p h ep eh =
     let p0 = number_at path 0 game in
     let b = under_at path game in
@@ -119,14 +120,14 @@ deleted_from nodes noted free k game freed path trail room laid ways one few dee
       few = omega (arith, few, length-set mid h0 (record (entry_at mid h0) { parent = free }), detached_length p0 k nodes);
     } in
     let sight = seen_is new noted h0 p0 trail room a ∙ (λ j. record { root = record { move = no_move; nags = (noted 0).nags; comment = (noted 0).comment; below = below j }; path = path }) in
-    let goal = λ (x z : ℕ). IsArena (with_parent z free (detached x k nodes)) noted z x trail room × (seen (with_parent z free (detached x k nodes)) noted x ≡ edited (without_node k) noted game path path) in
+    let goal = λ (x z : ℕ). IsArena (with_parent z free (detached x k nodes)) noted z x trail room × (seen (with_parent z free (detached x k nodes)) noted x ≡ edited_below (without_node k) noted game path path) in
     subst (λ (x : ℕ). goal x h) (sym ep) (subst (goal p0) (sym eh) (a, sight))
 
 -- PROMOTED
 pub promoted_from : (nodes : List Entry) (noted : ℕ → Noted) (free k : ℕ) (game freed : Grove) (path trail : List ℕ) (room : ℕ) → Laid nodes free game freed Empty → Ways path game → k < wide (under_at path game) → length nodes ≤ 1000001
     → height (plain noted game) ≤ room → trail ≡ trail_at path 0 game ++ node_number 0 k (under_at path game) ∷ []
     → (p h : ℕ) → p ≡ number_at path 0 game → h ≡ node_number 0 k (under_at path game)
-    → IsArena (lifted p k nodes) noted free h trail room × (seen (lifted p k nodes) noted h ≡ edited (promoted k) noted game path (path ++ 0 ∷ []))
+    → IsArena (lifted p k nodes) noted free h trail room × (seen (lifted p k nodes) noted h ≡ edited_below (promoted k) noted game path (path ++ 0 ∷ []))
 promoted_from nodes noted free k game freed path trail room laid ways one few deep te p h ep eh =
     let p0 = number_at path 0 game in
     let b = under_at path game in
@@ -152,5 +153,5 @@ promoted_from nodes noted free k game freed path trail room laid ways one few de
       few = omega (arith, few, lifted_length p0 k nodes);
     } in
     let sight = seen_is new noted free h0 trail room a ∙ (λ j. record { root = record { move = no_move; nags = (noted 0).nags; comment = (noted 0).comment; below = below j }; path = path ++ 0 ∷ [] }) in
-    let goal = λ (x z : ℕ). IsArena (lifted x k nodes) noted free z trail room × (seen (lifted x k nodes) noted z ≡ edited (promoted k) noted game path (path ++ 0 ∷ [])) in
+    let goal = λ (x z : ℕ). IsArena (lifted x k nodes) noted free z trail room × (seen (lifted x k nodes) noted z ≡ edited_below (promoted k) noted game path (path ++ 0 ∷ [])) in
     subst (λ (x : ℕ). goal x h) (sym ep) (subst (goal p0) (sym eh) (a, sight))

@@ -10,10 +10,10 @@ use Rattle.chess_tree.specs.Forest.{below_at, count, moves_held}
 use Rattle.chess_tree.specs.Edits.{parent}
 use Rattle.chess_tree.specs.Comments.{IsComment}
 use Rattle.chess_tree.specs.Calls.{StepsUp}
-use Rattle.chess_tree.specs.GameTree.{TreeParts, at_path, commented_here, deleted, line_to}
+use Rattle.chess_tree.specs.GameTree.{TreeParts, adding, annotating, at_path, commented_here, deleted, deleting, line_to, promoting}
 use Rattle.chess_tree.specs.CursorLine.{GoesOn}
 use Rattle.chess_tree.specs.WellFormed.{IsGameTree}
-use Rattle.chess_tree.specs.steps.Rooted.{Held, Rooted, added_root, annotated_root, commented_at, commented_root, deleted_root, leaf, parts_of, path_root, promoted_root}
+use Rattle.chess_tree.specs.steps.Rooted.{Held, Rooted, commented_at, commented_root, edited_root, leaf, parts_of, path_root}
 use Rattle.chess_tree.specs.steps.Grove.{no_move}
 use Rattle.chess_tree.proofs.EditLemmas.{leads_on, leads_parent, path_le_height}
 use Rattle.chess_tree.proofs.SoundLemmas.{no_comment}
@@ -61,24 +61,24 @@ module _ (start : PositionParts) (z : Rooted) (game : IsGameTree (parts_of start
 
   -- ---- edits
 
-  pub kept_added : (m : MoveParts) → w ≡ added_root m z → is_legal (last (line_to (parts_of start z))) m ≡ true → length z.path < 20000 → moves_held z.root.below < 1000000
+  pub kept_added : (m : MoveParts) → w ≡ edited_root (adding m) z → is_legal (last (line_to (parts_of start z))) m ≡ true → length z.path < 20000 → moves_held z.root.below < 1000000
       → IsGameTree (parts_of start w)
   kept_added m e legal deep few = subst (λ (x : Rooted). IsGameTree (parts_of start x)) (sym e) (game_added m (parts_of start z) game legal deep few)
 
-  pub kept_line_added : (m : MoveParts) → w ≡ added_root m z → line_to (parts_of start w) ≡ extended (line_to (parts_of start z)) m
+  pub kept_line_added : (m : MoveParts) → w ≡ edited_root (adding m) z → line_to (parts_of start w) ≡ extended (line_to (parts_of start z)) m
   kept_line_added m e = ap (λ (x : Rooted). line_to (parts_of start x)) e ∙ line_added m (parts_of start z) game
 
-  pub kept_deleted : 0 < length z.path → w ≡ deleted_root z → IsGameTree (parts_of start w) × StepsUp deleted (parts_of start z) (Ok tt) (parts_of start w)
+  pub kept_deleted : 0 < length z.path → w ≡ edited_root deleting z → IsGameTree (parts_of start w) × StepsUp deleted (parts_of start z) (Ok tt) (parts_of start w)
   kept_deleted h e =
       subst (λ (x : Rooted). IsGameTree (parts_of start x) × StepsUp deleted (parts_of start z) (Ok tt) (parts_of start x)) (sym e)
       (game_deleted (parts_of start z) game h, record { ok = refl; line = goes_out (parts_of start z) game h; err = tt; at_root = h })
 
-  pub kept_promoted : 0 < length z.path → w ≡ promoted_root z → IsGameTree (parts_of start w) × (line_to (parts_of start w) ≡ line_to (parts_of start z))
+  pub kept_promoted : 0 < length z.path → w ≡ edited_root promoting z → IsGameTree (parts_of start w) × (line_to (parts_of start w) ≡ line_to (parts_of start z))
   kept_promoted h e =
       subst (λ (x : Rooted). IsGameTree (parts_of start x) × (line_to (parts_of start x) ≡ line_to (parts_of start z))) (sym e)
       (game_promoted (parts_of start z) game h, line_promoted (parts_of start z) game h)
 
-  pub kept_annotated : (nag : ℕ) → w ≡ annotated_root nag z → IsGameTree (parts_of start w) × (line_to (parts_of start w) ≡ line_to (parts_of start z))
+  pub kept_annotated : (nag : ℕ) → w ≡ edited_root (annotating nag) z → IsGameTree (parts_of start w) × (line_to (parts_of start w) ≡ line_to (parts_of start z))
   kept_annotated nag e =
       subst (λ (x : Rooted). IsGameTree (parts_of start x) × (line_to (parts_of start x) ≡ line_to (parts_of start z))) (sym e)
       (game_annotated nag (parts_of start z) game, line_annotated nag (parts_of start z) game)

@@ -9,7 +9,8 @@
 --   find          the place of the first child with a move
 --   main_line     the path along the main continuations
 --   at_path       the same tree, with the cursor elsewhere
---   added, deleted, promoted_here, commented_here, annotated_here     the tree and the cursor after an edit
+--   adding, deleting, promoting, annotating     the edits; edited, the tree and the cursor after one
+--   added, deleted, promoted_here, annotated_here, commented_here     the same by name, and the comment
 use Rattle.std.specs.Prelude.{ℕ, zero, suc, Bool, true, nat_lt, ◌&&◌, ◌==◌, if◌then◌else◌, List, [], ◌∷◌, ◌++◌, Option, None, Some, unwrap_or, option_map}
 use Rattle.std.specs.Option.{option_to_list, option_eq}
 use Rattle.chess_types.specs.board.Men.{same_kind}
@@ -81,21 +82,46 @@ at_path path t = record { tree = t.tree; path = path }
 abbrev pub changed : (Forest → Forest) → GameTree → GameTree
 changed change tree = record { start = tree.start; comment = tree.comment; below = change tree.below }
 
+-- what an edit at the cursor's path makes of the moves, and of the path
+pub record Edit : Type 0 where
+  pub below : List ℕ → Forest → Forest
+  pub path : List ℕ → Forest → List ℕ
+
 -- a child with that move after the others, and the cursor on it
-abbrev pub added : MoveParts → TreeParts → TreeParts
-added m t = record { tree = changed (change_below (with_move m) t.path) t.tree; path = t.path ++ count (below_at t.path t.tree.below) ∷ [] }
+abbrev pub adding : MoveParts → Edit
+adding m = record { below = change_below (with_move m); path = λ path f. path ++ count (below_at path f) ∷ [] }
 
 -- the node and all below it taken out, and the cursor on its parent
-abbrev pub deleted : TreeParts → TreeParts
-deleted t = record { tree = changed (change_node without_node t.path) t.tree; path = parent t.path }
+abbrev pub deleting : Edit
+deleting = record { below = change_node without_node; path = λ path f. parent path }
 
 -- the node before its siblings, and the cursor still on it
-abbrev pub promoted_here : TreeParts → TreeParts
-promoted_here t = record { tree = changed (change_node promoted t.path) t.tree; path = parent t.path ++ 0 ∷ [] }
+abbrev pub promoting : Edit
+promoting = record { below = change_node promoted; path = λ path f. parent path ++ 0 ∷ [] }
 
 -- that annotation number after those of the node
+abbrev pub annotating : ℕ → Edit
+annotating nag = record { below = change_node (annotated nag); path = λ path f. path }
+
+-- the tree and the cursor after an edit
+abbrev pub edited : Edit → TreeParts → TreeParts
+edited edit t = record { tree = changed (edit.below t.path) t.tree; path = edit.path t.path t.tree.below }
+
+-- the move added
+abbrev pub added : MoveParts → TreeParts → TreeParts
+added m = edited (adding m)
+
+-- the node taken out
+abbrev pub deleted : TreeParts → TreeParts
+deleted = edited deleting
+
+-- the node promoted
+abbrev pub promoted_here : TreeParts → TreeParts
+promoted_here = edited promoting
+
+-- the node annotated
 abbrev pub annotated_here : ℕ → TreeParts → TreeParts
-annotated_here nag t = record { tree = changed (change_node (annotated nag) t.path) t.tree; path = t.path }
+annotated_here nag = edited (annotating nag)
 
 -- that text instead of the comment of the node at a path, or of the root
 abbrev pub commented_tree : List ℕ → List ℕ → GameTree → GameTree

@@ -1,8 +1,8 @@
 ghost use Rattle.std.specs.Prelude.{◌≡◌, ◌<◌, ◌≤◌, ◌++◌, ◌∷◌, [], nat_le, nat_lt, true, false, length, slice_index, IfOk, IsOk, OnOk, OnErr};
 ghost use Rattle.chess_tree.specs.Forest.{below_at, count, height, moves_held, most_moves};
 ghost use Rattle.chess_tree.specs.Edits.{parent};
-ghost use Rattle.chess_tree.specs.GameTree.{find, node_of};
-ghost use Rattle.chess_tree.specs.steps.Rooted.{added_root, annotated_root, commented_root, deleted_root, leaf, path_root, promoted_root, root_shown};
+ghost use Rattle.chess_tree.specs.GameTree.{adding, annotating, deleting, find, node_of, promoting};
+ghost use Rattle.chess_tree.specs.steps.Rooted.{commented_root, edited_root, leaf, path_root, root_shown};
 ghost use Rattle.chess_tree.specs.steps.Grove.{no_move};
 
 mod free;
@@ -190,7 +190,7 @@ impl<'a, A: Allocator> Arena<'a, A> {
     /// Appends a child with that move at the cursor, and steps into it.
     pub(crate) fn add(&mut self, played: Move) -> Result<(), AllocError>
         requires { moves_held self.old.root.below < most_moves }
-        ensures ok { OnOk result (self.new ≡ added_root played self.old) }
+        ensures ok { OnOk result (self.new ≡ edited_root (adding played) self.old) }
         ensures err { OnErr result (self.new ≡ self.old) }
     {
         let here = self.here;
@@ -213,7 +213,7 @@ impl<'a, A: Allocator> Arena<'a, A> {
     /// after it alone: those below are freed as it is. Their notes are given back as their numbers are taken again.
     pub(crate) fn remove(&mut self)
         requires { 0 < length self.old.path }
-        ensures { self.new ≡ deleted_root self.old }
+        ensures { self.new ≡ edited_root deleting self.old }
     {
         let child = self.here;
         let (at, place) = siblings::seat(&self.nodes, child);
@@ -228,7 +228,7 @@ impl<'a, A: Allocator> Arena<'a, A> {
     /// Moves the node at the cursor before its siblings.
     pub(crate) fn promote(&mut self)
         requires { 0 < length self.old.path }
-        ensures { self.new ≡ promoted_root self.old }
+        ensures { self.new ≡ edited_root promoting self.old }
     {
         let (at, place) = siblings::seat(&self.nodes, self.here);
         siblings::lift(&mut self.nodes, at, place);
@@ -237,7 +237,7 @@ impl<'a, A: Allocator> Arena<'a, A> {
     /// Appends an annotation number at the cursor.
     pub(crate) fn add_nag(&mut self, nag: u8) -> Result<(), AllocError>
         requires { 0 < length self.old.path }
-        ensures ok { OnOk result (self.new ≡ annotated_root nag self.old) }
+        ensures ok { OnOk result (self.new ≡ edited_root (annotating nag) self.old) }
         ensures err { OnErr result (self.new ≡ self.old) }
     {
         notes::add_nag(&mut self.notes, self.nodes.alloc(), self.here, nag)?;

@@ -7,7 +7,7 @@
 --   with_below     a node with other nodes below it
 --   commented_at   another comment for the node at a path
 --   shown          a node with its move in sight; root_shown, the root without
---   added_root, deleted_root, promoted_root, annotated_root, commented_root      after each edit at the cursor
+--   edited_root, commented_root      after an edit at the cursor, and with another comment there
 --   parts_of       the tree and the path that they stand for
 use Rattle.std.specs.Prelude.{ℕ, List, [], ◌∷◌, ◌++◌, None, Some, refl}
 use Rattle.std.specs.Coded.{Coded, code_by, coded×, coded_ℕ, coded_list}
@@ -17,7 +17,7 @@ use Rattle.chess_types.specs.board.Position.{PositionParts}
 use Rattle.chess_tree.specs.Forest.{Forest, Bare, NodeParts, below_at, count}
 use Rattle.chess_tree.specs.steps.ForestCode.{coded_forest}
 use Rattle.chess_tree.specs.Edits.{annotated, change_below, change_node, commented, parent, promoted, with_move, without_node}
-use Rattle.chess_tree.specs.GameTree.{TreeParts}
+use Rattle.chess_tree.specs.GameTree.{Edit, TreeParts}
 
 -- the annotation numbers and the comment of a node
 pub record Noted : Type 0 where
@@ -88,21 +88,9 @@ root_shown n = record { move = None; nags = []; comment = n.comment; below = n.b
 abbrev pub path_root : List ℕ → Rooted → Rooted
 path_root path z = record { root = z.root; path = path }
 
--- a child with that move after the others, and the cursor on it
-abbrev pub added_root : MoveParts → Rooted → Rooted
-added_root m z = record { root = with_below (change_below (with_move m) z.path) z.root; path = z.path ++ count (below_at z.path z.root.below) ∷ [] }
-
--- the node and all below it taken out, and the cursor on its parent
-abbrev pub deleted_root : Rooted → Rooted
-deleted_root z = record { root = with_below (change_node without_node z.path) z.root; path = parent z.path }
-
--- the node before its siblings, and the cursor still on it
-abbrev pub promoted_root : Rooted → Rooted
-promoted_root z = record { root = with_below (change_node promoted z.path) z.root; path = parent z.path ++ 0 ∷ [] }
-
--- that annotation number after those of the node
-abbrev pub annotated_root : ℕ → Rooted → Rooted
-annotated_root nag z = record { root = with_below (change_node (annotated nag) z.path) z.root; path = z.path }
+-- the root and the cursor after an edit
+abbrev pub edited_root : Edit → Rooted → Rooted
+edited_root edit z = record { root = with_below (edit.below z.path) z.root; path = edit.path z.path z.root.below }
 
 -- that text instead of the node's comment
 abbrev pub commented_root : List ℕ → Rooted → Rooted
