@@ -10,7 +10,7 @@ use Rattle.chess_types.specs.board.MoveParts.{MoveParts}
 use Rattle.chess_types.specs.board.Position.{PositionParts}
 use Rattle.chess_types.specs.board.After.{after}
 use Rattle.chess_items.specs.Items as items
-use Rattle.chess_items.specs.Items.{Each, Item, in_braces, is_outside}
+use Rattle.chess_items.specs.Items.{Each, Item, in_braces}
 use Rattle.chess_tree.specs.Comments.{IsComment, blanks, has_brace, normalised}
 use Rattle.chess_tree.specs.Forest.{Forest, Bare, Node, child}
 use Rattle.chess_san.specs.Writing.{san}

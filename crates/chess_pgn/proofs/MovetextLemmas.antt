@@ -7,7 +7,7 @@ use Rattle.chess_types.specs.board.After.{after}
 use Rattle.chess_types.proofs.AllMoves.{IsMove}
 use Rattle.chess_types.proofs.Counters.{number_more}
 use Rattle.chess_items.specs.Items as items
-use Rattle.chess_items.specs.Items.{Item, Each, Spells, EndsRun, is_digit, is_name_byte, is_outside, is_word_byte, place_after, word_item}
+use Rattle.chess_items.specs.Items.{Item, Each, Spells, is_digit, is_name_byte, is_outside, is_word_byte, place_after, word_item}
 use Rattle.chess_items.specs.declared.outcome.Outcome.{Outcome}
 use Rattle.chess_items.specs.declared.outcome.Outcome.TheVariants.{WhiteWins, BlackWins, Draw, Unfinished}
 use Rattle.chess_items.specs.declared.place.Place.{Place}

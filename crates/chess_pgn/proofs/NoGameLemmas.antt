@@ -4,7 +4,7 @@ use Rattle.std.specs.Prelude.{MatchOption}
 use Rattle.std.specs.Str.{byte}
 use mathlib.Core.Logic.{inl, inr}
 use Rattle.chess_items.specs.Items as items
-use Rattle.chess_items.specs.Items.{IsItem, Item, Spells, is_outside, place_after}
+use Rattle.chess_items.specs.Items.{Item, Spells, is_outside, place_after}
 use Rattle.chess_items.specs.steps.Deciding.{Decides}
 use Rattle.chess_items.specs.steps.ItemAt.{Found, item_at}
 use Rattle.chess_items.specs.steps.Texts.{Oversized}

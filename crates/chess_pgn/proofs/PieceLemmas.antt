@@ -4,7 +4,7 @@ use Rattle.std.specs.List.{list_all}
 use Rattle.std.proofs.lemmas.Bool.{false≢true}
 use Rattle.std.proofs.lemmas.Bool.Decides.{nat_tests}
 use Rattle.chess_items.specs.Items as items
-use Rattle.chess_items.specs.Items.{Item, Each, IsItem, IsRun, Spells, EndsRun, in_braces, is_blank, is_digit, is_name_byte, is_outside, is_word_byte, place_after, word_item}
+use Rattle.chess_items.specs.Items.{Item, Each, IsItem, Spells, EndsRun, is_blank, is_digit, is_name_byte, is_outside, is_word_byte, place_after, word_item}
 use Rattle.chess_items.specs.declared.place.Place.{Place}
 use Rattle.chess_items.specs.declared.place.Place.TheVariants.{GameStart, LineStart, InLine, TagLineStart, InTag, InValue}
 use Rattle.chess_pgn.specs.Grammar.{Element, Number, Annotation, Open, Close, Text, element, elements}

@@ -5,7 +5,7 @@ use Rattle.std.specs.List.{AllByRecursion, list_all}
 use Rattle.std.specs.Str.{byte}
 use mathlib.Core.Logic.{inl, inr}
 use Rattle.chess_items.specs.Items as items
-use Rattle.chess_items.specs.Items.{IsItem, Item, TagOpen, Spells, place_after_blank, is_blank, is_digit, is_glyph, is_in_tag, is_name_byte, is_outside, is_word_byte, place_after}
+use Rattle.chess_items.specs.Items.{Item, TagOpen, Spells, is_blank, is_digit, is_glyph, is_name_byte, is_outside, is_word_byte, place_after}
 use Rattle.chess_items.specs.steps.ItemAt.{item_at, outside_at, sign_at, start_at, tag_at, value_at}
 use Rattle.chess_items.specs.declared.outcome.Outcome.{Outcome}
 use Rattle.chess_items.specs.declared.place.Place.{Place}

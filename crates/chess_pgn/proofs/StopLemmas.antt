@@ -5,7 +5,7 @@ use mathlib.Core.Logic.{inl, inr}
 use Rattle.byte_streams.specs.Calls.{Calls, joined}
 use Rattle.byte_streams.proofs.CallLemmas.{Calls-append, joined-append}
 use Rattle.chess_items.specs.Items as items
-use Rattle.chess_items.specs.Items.{IsItem, Item, Spells, is_outside, place_after}
+use Rattle.chess_items.specs.Items.{Item, Spells}
 use Rattle.chess_items.specs.steps.ItemAt.{item_at}
 use Rattle.chess_items.specs.steps.Deciding.{Decides}
 use Rattle.chess_items.specs.steps.Passing.{NotWhite, PassBreaks, Passed, Passes, WhiteBroke}

@@ -15,7 +15,7 @@
 --   HasFault   a read failed, there was no memory, or no game is there; but for the first, no read failed
 --   ReadsNext  what a call for the next game does: its answer, the bytes, and the fault that is kept
 --   NotPassed  bytes can't be passed over: no section of tags begins among them and a read failed, or there was no memory
-use Rattle.std.specs.Prelude.{◌≡◌, ◌≢◌, ◌⊎◌, ◌≤◌, ◌<◌, ℕ, ◌+◌, Bool, true, false, List, [], ◌++◌, length, Option, Some, None, IfErr, IfOk, IfSome, Result, Ok, Err, ⊤}
+use Rattle.std.specs.Prelude.{◌≡◌, ◌≢◌, ◌⊎◌, ◌≤◌, ◌<◌, ℕ, ◌+◌, Bool, true, List, [], ◌++◌, length, Option, Some, None, IfErr, IfOk, IfSome, Result, Ok, Err, ⊤}
 use Rattle.chess_items.specs.Coming.{AtHand, BreaksWhere, Came, unread}
 use Rattle.chess_items.specs.Sections.{StopsAt}
 use Rattle.chess_items.specs.declared.fault.FaultKind.TheVariants.{Memory}

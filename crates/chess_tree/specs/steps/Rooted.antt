@@ -9,14 +9,14 @@
 --   shown          a node with its move in sight; root_shown, the root without
 --   edited_root, commented_root      after an edit at the cursor, and with another comment there
 --   parts_of       the tree and the path that they stand for
-use Rattle.std.specs.Prelude.{ℕ, List, [], ◌∷◌, ◌++◌, None, Some, refl}
+use Rattle.std.specs.Prelude.{ℕ, List, [], ◌∷◌, None, Some, refl}
 use Rattle.std.specs.Coded.{Coded, code_by, coded×, coded_ℕ, coded_list}
 use Rattle.chess_types.specs.board.MoveParts.{MoveParts}
 use Rattle.chess_types.specs.steps.LineCode.{coded_move}
 use Rattle.chess_types.specs.board.Position.{PositionParts}
-use Rattle.chess_tree.specs.Forest.{Forest, Bare, NodeParts, below_at, count}
+use Rattle.chess_tree.specs.Forest.{Forest, Bare, NodeParts}
 use Rattle.chess_tree.specs.steps.ForestCode.{coded_forest}
-use Rattle.chess_tree.specs.Edits.{annotated, change_below, change_node, commented, parent, promoted, with_move, without_node}
+use Rattle.chess_tree.specs.Edits.{change_node, commented}
 use Rattle.chess_tree.specs.GameTree.{Edit, TreeParts}
 
 -- the annotation numbers and the comment of a node

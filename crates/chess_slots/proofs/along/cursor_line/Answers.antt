@@ -1,6 +1,6 @@
 use Rattle.std.proofs.Common.{rules, ◌+◌, sym, subst}
 use Rattle.chess_tree.specs.Forest.{NodeParts}
-use Rattle.chess_slots.proofs.AlongLemmas.{Along, along_end, along_legal, along_on, along_place, along_start, child_move, has_child, has_place}
+use Rattle.chess_slots.proofs.AlongLemmas.{Along, along_legal, along_on, along_place, along_start, child_move, has_child, has_place}
 use Rattle.chess_slots.proofs.along.cursor_line.Goals as goal
 
 pub loop-ply-init : goal.loop-ply-init

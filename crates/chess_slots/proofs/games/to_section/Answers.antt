@@ -1,4 +1,4 @@
-use Rattle.std.proofs.Common.{rules, refl}
+use Rattle.std.proofs.Common.{rules}
 use Rattle.chess_slots.proofs.SectionLemmas.{passes_to}
 use Rattle.chess_slots.proofs.games.to_section.Goals as goal
 
