@@ -194,12 +194,12 @@ module _ {R W : Type 0} (gives : R → List ℕ → R → Type 0) (read_failed :
         last = new;
         found = all_found;
         broken = record {
-          front = report_text asked so_far.entries ++ wrote.front;
+          prefix = report_text asked so_far.entries ++ wrote.prefix;
           rest = wrote.rest;
           before = wrote.before;
-          calls = Carries-append takes w w1 wrote.before (report_text asked so_far.entries) wrote.front so_far.judged.writes wrote.calls;
+          calls = Carries-append takes w w1 wrote.before (report_text asked so_far.entries) wrote.prefix so_far.judged.writes wrote.calls;
           whole =
-              append_assoc (report_text asked so_far.entries) wrote.front wrote.rest ∙ ap (λ (t : List ℕ). report_text asked so_far.entries ++ t) wrote.whole
+              append_assoc (report_text asked so_far.entries) wrote.prefix wrote.rest ∙ ap (λ (t : List ℕ). report_text asked so_far.entries ++ t) wrote.whole
               ∙ sym (report_more asked (count + 1) so_far.entries entry number_is);
           unwritten = wrote.unwritten;
           well = wrote.well ∙ so_far.judged.well_written ∙ sym well;

@@ -84,8 +84,8 @@ impl<'a> Source for FromBytes<'a> {
             None => {}
         }
         let count = self.left.len().min(self.piece).min(buf.len());
-        let (front, rest) = self.left.split_at(count);
-        buf[..count].copy_from_slice(front);
+        let (prefix, rest) = self.left.split_at(count);
+        buf[..count].copy_from_slice(prefix);
         self.left = rest;
         Ok(count)
     }

@@ -131,10 +131,10 @@ IsRecent line =
 pub recently : {start : PositionParts} {plies : List Ply} {live : LiveParts} {here : RepetitionKey} → IsLine start plies live here → IsRecent (line_of start plies)
 unfolding last
 recently {start} {plies} line ms ns is same =
-    let front : take (length ms) (map move_of plies) ≡ ms = ap (take (length ms)) is ∙ take-append_seam ms ns in
+    let prefix : take (length ms) (map move_of plies) ≡ ms = ap (take (length ms)) is ∙ take-append_seam ms ns in
     let long : length (map move_of plies) ≡ length ms + length ns = ap length is ∙ length-append ms ns in
     let there : is_same (play start (map move_of plies)) (play start (take (length ms) (map move_of plies))) ≡ true =
-    ap (λ xs. is_same (play start (map move_of plies)) (play start xs)) front ∙ same in
+    ap (λ xs. is_same (play start (map move_of plies)) (play start xs)) prefix ∙ same in
     let far =
     within_clock start (map move_of plies) line.well_formed.setup (plies_legal start plies line.are_plies) (plies_on_board start plies line.are_plies)
     (length ms) (omega (arith, long)) there in

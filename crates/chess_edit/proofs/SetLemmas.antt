@@ -66,13 +66,13 @@ set_after name key x other value old new is_other later =
 -- the first tags have other names
 abbrev AreOthers : List ℕ → Pairs → Type 0
 AreOthers name [] = Unit {0}
-AreOthers name (tag ∷ front) = (bytes_eq name tag.0 ≡ false) × AreOthers name front
+AreOthers name (tag ∷ prefix) = (bytes_eq name tag.0 ≡ false) × AreOthers name prefix
 
-after_front : (name other : List ℕ) (value : Option (List ℕ)) (front old new : Pairs) → AreOthers name front → tag_in other new ≡ (if bytes_eq name other then value else tag_in other old) →
-    tag_in other (front ++ new) ≡ (if bytes_eq name other then value else tag_in other (front ++ old))
+after_front : (name other : List ℕ) (value : Option (List ℕ)) (prefix old new : Pairs) → AreOthers name prefix → tag_in other new ≡ (if bytes_eq name other then value else tag_in other old) →
+    tag_in other (prefix ++ new) ≡ (if bytes_eq name other then value else tag_in other (prefix ++ old))
 after_front name other value [] old new others later = later
-after_front name other value ((key, x) ∷ front) old new others later =
-    set_after name key x other value (front ++ old) (front ++ new) others.0 (after_front name other value front old new others.1 later)
+after_front name other value ((key, x) ∷ prefix) old new others later =
+    set_after name key x other value (prefix ++ old) (prefix ++ new) others.0 (after_front name other value prefix old new others.1 later)
 
 -- ---- the six tags that each game has, and the others
 

@@ -64,6 +64,6 @@ board_cells-all field cells eight all = rw (eq-eqb (length (ranks field)) 8 eigh
 -- a rank written below the ranks that are there
 pub placed : (cells rank : List (Option Man)) (at run from : ℕ) → from ≡ at + run → from ≤ length cells → drop at (put_mid at run cells rank) ≡ rank ++ drop from cells
 placed cells rank at run from is within =
-    let front : length (take at cells) ≡ at = length-take-le at cells (omega arith) in
-    ap (λ n. drop n (put_mid at run cells rank)) (sym front) ∙ drop-append_seam (take at cells) (rank ++ drop run (drop at cells))
+    let prefix : length (take at cells) ≡ at = length-take-le at cells (omega arith) in
+    ap (λ n. drop n (put_mid at run cells rank)) (sym prefix) ∙ drop-append_seam (take at cells) (rank ++ drop run (drop at cells))
     ∙ ap (λ others. rank ++ others) (drop-drop run at cells ∙ ap (λ n. drop n cells) (sym is))

@@ -43,21 +43,21 @@ marked_append text (b ∷ marked) more marked' (inr m) n =
 
 -- what is written of a text so far, whatever of the rest is written later
 pub record Pending {W : Type 0} (takes : W → List ℕ → W → Type 0) (old : W) (text rest : List ℕ) (new : W) : Type 0 where
-  pub front : List ℕ
-  pub went : Carries takes old front new
-  pub whole : (marked : List ℕ) → IsMarked rest marked → IsMarked text (front ++ marked)
+  pub prefix : List ℕ
+  pub went : Carries takes old prefix new
+  pub whole : (marked : List ℕ) → IsMarked rest marked → IsMarked text (prefix ++ marked)
 
 module _ {W : Type 0} (takes : W → List ℕ → W → Type 0) where
   pub pending_none : (w : W) (text : List ℕ) → Pending takes w text text w
-  pending_none w text = record { front = []; went = Carries-none takes w; whole = λ _ m. m }
+  pending_none w text = record { prefix = []; went = Carries-none takes w; whole = λ _ m. m }
 
   -- some bytes, and a zero byte before a tag
   pub pending_zero : (w v t : W) (text some rest : List ℕ) → Pending takes w text (some ++ rest) v → Carries takes v (some ++ 0 ∷ []) t → OpensTag rest → Pending takes w text rest t
   pending_zero w v t text some rest p more opens = record {
-    front = p.front ++ (some ++ 0 ∷ []);
-    went = Carries-append takes w v t p.front (some ++ 0 ∷ []) p.went more;
+    prefix = p.prefix ++ (some ++ 0 ∷ []);
+    went = Carries-append takes w v t p.prefix (some ++ 0 ∷ []) p.went more;
     whole = λ marked m.
-        subst (λ (x : List ℕ). IsMarked text x) (sym (append_assoc p.front (some ++ 0 ∷ []) marked ∙ ap (λ (x : List ℕ). p.front ++ x) (append_assoc some (0 ∷ []) marked)))
+        subst (λ (x : List ℕ). IsMarked text x) (sym (append_assoc p.prefix (some ++ 0 ∷ []) marked ∙ ap (λ (x : List ℕ). p.prefix ++ x) (append_assoc some (0 ∷ []) marked)))
         (p.whole (some ++ 0 ∷ marked) (marked_after some rest (0 ∷ marked) (inl (refl, opens, m))));
   }
 
@@ -73,7 +73,7 @@ module _ {W : Type 0} (takes : W → List ℕ → W → Type 0) where
   pending_whole w v t text n l p last =
       let rest = drop n text in
       let all = subst (λ (x : List ℕ). Carries takes v x t) (up_to_end n text l) last in
-      (p.front ++ rest, Carries-append takes w v t p.front rest p.went all, p.whole rest (unmarked rest))
+      (p.prefix ++ rest, Carries-append takes w v t p.prefix rest p.went all, p.whole rest (unmarked rest))
 
 -- what is read and written so far
 pub record CutSoFar {R W : Type 0} (gives : R → List ℕ → R → Type 0) (takes : W → List ℕ → W → Type 0) (source left : R) (old new : W) : Type 0 where

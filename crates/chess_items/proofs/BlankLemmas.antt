@@ -9,9 +9,9 @@ use Rattle.chess_items.specs.declared.blanks.Column.{Column}
 use Rattle.chess_items.specs.declared.place.Place.{Place}
 use Rattle.chess_items.proofs.BreakLemmas.{breaks_later}
 
-pub white_after-append : (column : Option Column) (front more : List ℕ) → white_after column (front ++ more) ≡ white_after (white_after column front) more
+pub white_after-append : (column : Option Column) (prefix more : List ℕ) → white_after column (prefix ++ more) ≡ white_after (white_after column prefix) more
 white_after-append column [] more = refl
-white_after-append column (b ∷ front) more = white_after-append (white_next column b) front more
+white_after-append column (b ∷ prefix) more = white_after-append (white_next column b) prefix more
 
 module _ {X : Type 0} (comes : X → List ℕ → X → Type 0) (at_hand : X → List ℕ) (all sound : X → Type 0) (size : X → ℕ) (place : Place) (old : X) where
   -- So far all was white, but for the bytes at hand, which are still to be looked at.
@@ -51,11 +51,11 @@ module _ {X : Type 0} (comes : X → List ℕ → X → Type 0) (at_hand : X →
 
     white_more : (more : List ℕ) → white_after (Some (column_at place)) (at_hand old ++ joined (s.pieces ++ more ∷ [])) ≡ white_after (Some next) more
     white_more more =
-        let front = at_hand old ++ joined s.pieces in
-        let so_far : white_after (Some (column_at place)) front ≡ Some next = s.white ∙ ap (white_after (Some column)) (sym e) ∙ sym some in
+        let prefix = at_hand old ++ joined s.pieces in
+        let so_far : white_after (Some (column_at place)) prefix ≡ Some next = s.white ∙ ap (white_after (Some column)) (sym e) ∙ sym some in
         ap (λ (x : List ℕ). white_after (Some (column_at place)) (at_hand old ++ x)) (joined-more comes s.pieces more)
         ∙ ap (white_after (Some (column_at place))) (sym (append_assoc (at_hand old) (joined s.pieces) more))
-        ∙ white_after-append (Some (column_at place)) front more ∙ ap (λ (c : Option Column). white_after c more) so_far
+        ∙ white_after-append (Some (column_at place)) prefix more ∙ ap (λ (c : Option Column). white_after c more) so_far
 
     pub skipping_end : Refills comes at_hand all sound size now new (Ok false) → Skips comes at_hand all sound place old new (Ok true)
     skipping_end r = record {

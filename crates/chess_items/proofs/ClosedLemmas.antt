@@ -185,14 +185,14 @@ run_or_closed p f natural b bytes more o x y e other =
     agree (p b) _ _ _ _ _ _ more e (λ w h. run_closed p f (b ∷ bytes) more natural (rw w h)) (λ w e.
     agree (is_blank b) _ _ _ _ _ _ more e (λ w h. refl) (λ w h. other h))
 
-outside_closed : (start : Bool) (front more : List ℕ) → outside_open start front ≡ false → outside_at start (front ++ more) ≡ longer (outside_at start front) more
+outside_closed : (start : Bool) (prefix more : List ℕ) → outside_open start prefix ≡ false → outside_at start (prefix ++ more) ≡ longer (outside_at start prefix) more
 unfolding outside_open outside_at
 outside_closed start [] more e = absurd cc
 outside_closed start (b ∷ bytes) more e =
     run_or_closed is_word_byte word_found word_natural b bytes more _ _ _ e (λ e.
     agree (is_glyph b) _ _ _ _ _ _ more e (λ w h. glyph_closed b bytes more w h) (λ w e. sign_closed start b bytes more e))
 
-tag_closed : (start : Bool) (front more : List ℕ) → tag_open start front ≡ false → tag_at start (front ++ more) ≡ longer (tag_at start front) more
+tag_closed : (start : Bool) (prefix more : List ℕ) → tag_open start prefix ≡ false → tag_at start (prefix ++ more) ≡ longer (tag_at start prefix) more
 unfolding tag_open tag_at
 tag_closed start [] more e = absurd cc
 tag_closed start (b ∷ bytes) more e =
@@ -205,7 +205,7 @@ escape_closed : (bytes more : List ℕ) → escape_open bytes ≡ false → esca
 escape_closed [] more e = absurd cc
 escape_closed (b ∷ bytes) more e = one_more (is_escapable b) _ _ _ _ more refl refl
 
-value_closed : (front more : List ℕ) → value_open front ≡ false → value_at (front ++ more) ≡ longer (value_at front) more
+value_closed : (prefix more : List ℕ) → value_open prefix ≡ false → value_at (prefix ++ more) ≡ longer (value_at prefix) more
 unfolding value_open value_at
 value_closed [] more e = absurd cc
 value_closed (b ∷ bytes) more e =
@@ -219,16 +219,16 @@ mark_closed (b ∷ []) [] e = refl
 mark_closed (b ∷ []) (c ∷ more) e = rw e refl
 mark_closed (b ∷ c ∷ bytes) more e = one_more (eqb b 187) _ _ _ _ more (one_more (eqb c 191) _ _ _ _ more refl refl) refl
 
-start_closed : (front more : List ℕ) → start_open front ≡ false → start_at (front ++ more) ≡ longer (start_at front) more
+start_closed : (prefix more : List ℕ) → start_open prefix ≡ false → start_at (prefix ++ more) ≡ longer (start_at prefix) more
 unfolding start_open start_at
 start_closed [] more e = absurd cc
 start_closed (b ∷ bytes) more e = agree (eqb b 239) _ _ _ _ _ _ more e (λ w h. mark_closed bytes more h) (λ w h. outside_closed true (b ∷ bytes) more h)
 
-pub closed_decides : (place : Place) (front : List ℕ) → is_open place front ≡ false → Decides place front
+pub closed_decides : (place : Place) (prefix : List ℕ) → is_open place prefix ≡ false → Decides place prefix
 unfolding is_open item_at
-closed_decides GameStart front e = λ more. start_closed front more e
-closed_decides LineStart front e = λ more. outside_closed true front more e
-closed_decides InLine front e = λ more. outside_closed false front more e
-closed_decides TagLineStart front e = λ more. tag_closed true front more e
-closed_decides InTag front e = λ more. tag_closed false front more e
-closed_decides InValue front e = λ more. value_closed front more e
+closed_decides GameStart prefix e = λ more. start_closed prefix more e
+closed_decides LineStart prefix e = λ more. outside_closed true prefix more e
+closed_decides InLine prefix e = λ more. outside_closed false prefix more e
+closed_decides TagLineStart prefix e = λ more. tag_closed true prefix more e
+closed_decides InTag prefix e = λ more. tag_closed false prefix more e
+closed_decides InValue prefix e = λ more. value_closed prefix more e

@@ -53,26 +53,26 @@ text_decides place item text c n1 n2 is = λ more.
 
 -- either the item's text ends in the prefix, or it reaches its end
 abbrev Ends : List ℕ → List ℕ → List ℕ → List ℕ → Type 0
-Ends front p text next = ((c : ℕ) × (s : List ℕ) × (front ≡ text ++ c ∷ s) × (next ≡ c ∷ (s ++ p))) ⊎ (length next ≤ length p)
+Ends prefix p text next = ((c : ℕ) × (s : List ℕ) × (prefix ≡ text ++ c ∷ s) × (next ≡ c ∷ (s ++ p))) ⊎ (length next ≤ length p)
 
 tail_is : (a b : ℕ) (s t : List ℕ) → a ∷ s ≡ b ∷ t → (a ≡ b) × (s ≡ t)
 tail_is a b s t e = (cc, cc)
 
-where_ends : (front p text next : List ℕ) → front ++ p ≡ text ++ next → Ends front p text next
+where_ends : (prefix p text next : List ℕ) → prefix ++ p ≡ text ++ next → Ends prefix p text next
 where_ends [] p text next e = inr (let h : length p ≡ length text + length next = ap length e ∙ length-append text next in omega arith)
-where_ends (b ∷ front) p [] next e = inl (b, front, refl, sym e)
-where_ends (b ∷ front) p (c ∷ text) next e =
-    let t = tail_is b c (front ++ p) (text ++ next) e in
-    elim (where_ends front p text next t.1) [
+where_ends (b ∷ prefix) p [] next e = inl (b, prefix, refl, sym e)
+where_ends (b ∷ prefix) p (c ∷ text) next e =
+    let t = tail_is b c (prefix ++ p) (text ++ next) e in
+    elim (where_ends prefix p text next t.1) [
       | inl h ↦ inl (h.0, h.1, rw (t.0, h.2) refl, h.3)
       | inr h ↦ inr h
     ]
 
 -- Where the prefix does not decide the item, the item takes the whole prefix.
-pub undecided_taken : (place : Place) (front p : List ℕ) (item : Item) (next : List ℕ) → (Decides place front → ⊥) → item_at place (front ++ p) ≡ the item next → length next ≤ length p
-undecided_taken place front p item next undecided e =
-    let t = item_taken place (front ++ p) item next e in
-    elim (where_ends front p t.0 next t.1) [
+pub undecided_taken : (place : Place) (prefix p : List ℕ) (item : Item) (next : List ℕ) → (Decides place prefix → ⊥) → item_at place (prefix ++ p) ≡ the item next → length next ≤ length p
+undecided_taken place prefix p item next undecided e =
+    let t = item_taken place (prefix ++ p) item next e in
+    elim (where_ends prefix p t.0 next t.1) [
       | inl h ↦ absurd (undecided (rw (h.2) (text_decides place item t.0 h.0 (h.1 ++ p) h.1 (subst (λ (x : List ℕ). IsItem place item t.0 x) h.3 t.2))))
       | inr h ↦ h
     ]
@@ -148,16 +148,16 @@ same_front (x ∷ xs) (y ∷ ys) p q e n =
     (rw (t.0, s.0) refl, s.1)
 
 -- An item that takes these bytes and no more, whatever follows, is decided by them.
-pub decided_so_far : (place : Place) (front : List ℕ) (k : Item) → item_at place front ≡ the k [] → ((more : List ℕ) → (j : Item) × (item_at place (front ++ more) ≡ the j more)) → Decides place front
-decided_so_far place front k e f = λ more.
+pub decided_so_far : (place : Place) (prefix : List ℕ) (k : Item) → item_at place prefix ≡ the k [] → ((more : List ℕ) → (j : Item) × (item_at place (prefix ++ more) ≡ the j more)) → Decides place prefix
+decided_so_far place prefix k e f = λ more.
     let g = f more in
-    let t = item_taken place (front ++ more) g.0 more g.1 in
-    let whole : front ≡ t.0 = (same_front front t.0 more more t.1 refl).0 in
-    let ends : IsItem place g.0 front [] = subst (λ (x : List ℕ). IsItem place g.0 x []) (sym whole) (record { stands = t.2.stands; spelled = spelled_end g.0 t.0 more t.2.spelled }) in
-    let alone : item_at place front ≡ the g.0 [] = subst (λ (x : List ℕ). item_at place x ≡ the g.0 []) (append-nil front) (item_goes place g.0 front [] ends) in
-    let same : g.0 ≡ k = item_is (item_at place front) g.0 k [] [] alone e in
+    let t = item_taken place (prefix ++ more) g.0 more g.1 in
+    let whole : prefix ≡ t.0 = (same_front prefix t.0 more more t.1 refl).0 in
+    let ends : IsItem place g.0 prefix [] = subst (λ (x : List ℕ). IsItem place g.0 x []) (sym whole) (record { stands = t.2.stands; spelled = spelled_end g.0 t.0 more t.2.spelled }) in
+    let alone : item_at place prefix ≡ the g.0 [] = subst (λ (x : List ℕ). item_at place x ≡ the g.0 []) (append-nil prefix) (item_goes place g.0 prefix [] ends) in
+    let same : g.0 ≡ k = item_is (item_at place prefix) g.0 k [] [] alone e in
     g.1 ∙ ap (λ (i : Item). the i more) same ∙ ap (λ (x : Found). longer x more) (sym e)
 
 -- The bytes that follow an item with equally many bytes after it.
-pub next_is : (front more text next : List ℕ) → front ++ more ≡ text ++ next → length next ≡ length more → next ≡ more
-next_is front more text next e n = sym (same_front front text more next e (sym n)).1
+pub next_is : (prefix more text next : List ℕ) → prefix ++ more ≡ text ++ next → length next ≡ length more → next ≡ more
+next_is prefix more text next e n = sym (same_front prefix text more next e (sym n)).1

@@ -11,35 +11,35 @@ use Rattle.chess_items.proofs.BreakLemmas.{brings, ends_truly, has_all, size_at_
 use Rattle.chess_items.proofs.ReadLemmas.{joined_small}
 use Rattle.chess_items.proofs.ReadyLemmas.{so_far}
 
-near_on : (place : Place) (front p all : List ℕ) → length p ≤ 65536 → (Decides place front → ⊥) → Near place (front ++ p) all → Near place front all
-near_on place front p all small undecided (inl e) = inr (front, p, e, small, undecided)
-near_on place front p all small undecided (inr h) = inr h
+near_on : (place : Place) (prefix p all : List ℕ) → length p ≤ 65536 → (Decides place prefix → ⊥) → Near place (prefix ++ p) all → Near place prefix all
+near_on place prefix p all small undecided (inl e) = inr (prefix, p, e, small, undecided)
+near_on place prefix p all small undecided (inr h) = inr h
 
-near_of : (most : ℕ) (place : Place) (front : List ℕ) (pieces : List (List ℕ)) → Needed most place front pieces → Near place front (front ++ joined pieces)
-near_of most place front [] n = inl (append-nil front)
-near_of most place front (p ∷ pieces) n =
-    near_on place front p (front ++ (p ++ joined pieces)) n.2 n.0
-    (subst (λ (x : List ℕ). Near place (front ++ p) x) (append_assoc front p (joined pieces)) (near_of most place (front ++ p) pieces n.3))
+near_of : (most : ℕ) (place : Place) (prefix : List ℕ) (pieces : List (List ℕ)) → Needed most place prefix pieces → Near place prefix (prefix ++ joined pieces)
+near_of most place prefix [] n = inl (append-nil prefix)
+near_of most place prefix (p ∷ pieces) n =
+    near_on place prefix p (prefix ++ (p ++ joined pieces)) n.2 n.0
+    (subst (λ (x : List ℕ). Near place (prefix ++ p) x) (append_assoc prefix p (joined pieces)) (near_of most place (prefix ++ p) pieces n.3))
 
 -- the last of the pieces, and those before it
 abbrev LastOf : Place → List ℕ → List (List ℕ) → Type 0
-LastOf place front pieces =
-    (earlier : List ℕ) × (piece : List ℕ) × (joined pieces ≡ earlier ++ piece) × (length piece ≤ 65536) × (Decides place (front ++ earlier) → ⊥) × (pieces ≡ [] → ⊥)
+LastOf place prefix pieces =
+    (earlier : List ℕ) × (piece : List ℕ) × (joined pieces ≡ earlier ++ piece) × (length piece ≤ 65536) × (Decides place (prefix ++ earlier) → ⊥) × (pieces ≡ [] → ⊥)
 
-last_of : (most : ℕ) (place : Place) (front : List ℕ) (pieces : List (List ℕ)) → Needed most place front pieces → (pieces ≡ []) ⊎ LastOf place front pieces
-last_of most place front [] n = inl refl
-last_of most place front (p ∷ pieces) n = inr (on (last_of most place (front ++ p) pieces n.3))
+last_of : (most : ℕ) (place : Place) (prefix : List ℕ) (pieces : List (List ℕ)) → Needed most place prefix pieces → (pieces ≡ []) ⊎ LastOf place prefix pieces
+last_of most place prefix [] n = inl refl
+last_of most place prefix (p ∷ pieces) n = inr (on (last_of most place (prefix ++ p) pieces n.3))
   where
-    on : (pieces ≡ []) ⊎ LastOf place (front ++ p) pieces → LastOf place front (p ∷ pieces)
-    on (inl e) = ([], p, ap (λ (x : List (List ℕ)). p ++ joined x) e ∙ append-nil p, n.2, subst (λ (x : List ℕ). Decides place x → ⊥) (sym (append-nil front)) n.0, λ h. cc)
-    on (inr h) = (p ++ h.0, h.1, ap (λ (x : List ℕ). p ++ x) h.2 ∙ sym (append_assoc p h.0 h.1), h.3, subst (λ (x : List ℕ). Decides place x → ⊥) (append_assoc front p h.0) h.4, λ e. cc)
+    on : (pieces ≡ []) ⊎ LastOf place (prefix ++ p) pieces → LastOf place prefix (p ∷ pieces)
+    on (inl e) = ([], p, ap (λ (x : List (List ℕ)). p ++ joined x) e ∙ append-nil p, n.2, subst (λ (x : List ℕ). Decides place x → ⊥) (sym (append-nil prefix)) n.0, λ h. cc)
+    on (inr h) = (p ++ h.0, h.1, ap (λ (x : List ℕ). p ++ x) h.2 ∙ sym (append_assoc p h.0 h.1), h.3, subst (λ (x : List ℕ). Decides place x → ⊥) (append_assoc prefix p h.0) h.4, λ e. cc)
 
 -- What is held stays below the most that is asked for, and one piece.
-held_of : (most : ℕ) (place : Place) (front : List ℕ) (pieces : List (List ℕ)) → Needed most place front pieces → length front ≤ most + 65536 → length (front ++ joined pieces) ≤ most + 65536
-held_of most place front [] n few = rw (append-nil front) few
-held_of most place front (p ∷ pieces) n few =
-    let l = length-append front p in
-    subst (λ (x : List ℕ). length x ≤ most + 65536) (append_assoc front p (joined pieces)) (held_of most place (front ++ p) pieces n.3 (omega (arith, l, n.1, n.2)))
+held_of : (most : ℕ) (place : Place) (prefix : List ℕ) (pieces : List (List ℕ)) → Needed most place prefix pieces → length prefix ≤ most + 65536 → length (prefix ++ joined pieces) ≤ most + 65536
+held_of most place prefix [] n few = rw (append-nil prefix) few
+held_of most place prefix (p ∷ pieces) n few =
+    let l = length-append prefix p in
+    subst (λ (x : List ℕ). length x ≤ most + 65536) (append_assoc prefix p (joined pieces)) (held_of most place (prefix ++ p) pieces n.3 (omega (arith, l, n.1, n.2)))
 
 module _ {R : Type 0} (gives : R → List ℕ → R → Type 0) (ended : R → Type 0) (failed : R → Bool) (most : ℕ) (place : Place) (old new : AtHand R) where
   size_falls : (pieces : List (List ℕ)) → Needed most place (unread old) pieces → new.reads + length pieces ≡ old.reads → unread new ≡ unread old ++ joined pieces → size_at_hand gives failed new ≤ size_at_hand gives failed old

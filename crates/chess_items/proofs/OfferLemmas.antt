@@ -46,10 +46,10 @@ first : (a b : ℕ) (xs ys : List ℕ) → a ∷ xs ≡ b ∷ ys → a ≡ b
 first a b xs ys e = cc
 
 -- one byte decides a bracket
-bracket_decided : (place : Place) (front : List ℕ) → may_stand place TagOpen ≡ true → Decides place (byte "[" ∷ front)
-bracket_decided place front e = λ more.
-    item_goes place TagOpen (byte "[" ∷ []) (front ++ more) (record { stands = e; spelled = refl })
-    ∙ ap (λ (x : Found). longer x more) (sym (item_goes place TagOpen (byte "[" ∷ []) front (record { stands = e; spelled = refl })))
+bracket_decided : (place : Place) (prefix : List ℕ) → may_stand place TagOpen ≡ true → Decides place (byte "[" ∷ prefix)
+bracket_decided place prefix e = λ more.
+    item_goes place TagOpen (byte "[" ∷ []) (prefix ++ more) (record { stands = e; spelled = refl })
+    ∙ ap (λ (x : Found). longer x more) (sym (item_goes place TagOpen (byte "[" ∷ []) prefix (record { stands = e; spelled = refl })))
 
 -- so bytes that don't decide the item that they begin with are no bracket's
 undecided_bracket : (place : Place) (hand more rest : List ℕ) → 0 < length hand → (Decides place hand → ⊥) → item_at place (hand ++ more) ≡ the TagOpen rest → ⊥
@@ -64,15 +64,15 @@ near_bracket : (place : Place) (old hand rest : List ℕ) → Near place old han
 near_bracket place old hand rest (inl e) found small = (let l = ap length e in omega (arith, l, small))
 near_bracket place old hand rest (inr h) found small = (let t = item_taken place hand TagOpen rest found in by h.0 h.1 h.2 h.3 h.4 t.2.stands (t.1 ∙ ap (λ (x : List ℕ). x ++ rest) t.2.spelled))
   where
-    by : (front piece : List ℕ) → hand ≡ front ++ piece → length piece ≤ 65536 → (Decides place front → ⊥) → may_stand place TagOpen ≡ true → hand ≡ byte "[" ∷ rest → length hand ≤ 65537
+    by : (prefix piece : List ℕ) → hand ≡ prefix ++ piece → length piece ≤ 65536 → (Decides place prefix → ⊥) → may_stand place TagOpen ≡ true → hand ≡ byte "[" ∷ rest → length hand ≤ 65537
     by [] piece e few undecided stands is = (let l = ap length e in omega (arith, l, few))
-    by (b ∷ front) piece e few undecided stands is =
-        (let k : b ≡ byte "[" = first b (byte "[") (front ++ piece) rest (sym e ∙ is) in absurd (undecided (subst (λ (x : ℕ). Decides place (x ∷ front)) (sym k) (bracket_decided place front stands))))
+    by (b ∷ prefix) piece e few undecided stands is =
+        (let k : b ≡ byte "[" = first b (byte "[") (prefix ++ piece) rest (sym e ∙ is) in absurd (undecided (subst (λ (x : ℕ). Decides place (x ∷ prefix)) (sym k) (bracket_decided place prefix stands))))
 
 -- a longer prefix decides too
-decides_longer : (place : Place) (front more : List ℕ) → Decides place front → Decides place (front ++ more)
-decides_longer place front more d = λ further.
-    ap (item_at place) (append_assoc front more further) ∙ d (more ++ further) ∙ longer_twice (item_at place front) more further ∙ ap (λ (x : Found). longer x further) (sym (d more))
+decides_longer : (place : Place) (prefix more : List ℕ) → Decides place prefix → Decides place (prefix ++ more)
+decides_longer place prefix more d = λ further.
+    ap (item_at place) (append_assoc prefix more further) ∙ d (more ++ further) ∙ longer_twice (item_at place prefix) more further ∙ ap (λ (x : Found). longer x further) (sym (d more))
   where
     longer_twice : (f : Found) (more further : List ℕ) → longer f (more ++ further) ≡ longer (longer f more) further
     longer_twice None more further = refl

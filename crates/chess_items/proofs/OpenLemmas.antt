@@ -20,7 +20,7 @@ Differs x y more = x ≡ longer y more → ⊥
 
 -- some byte after the prefix makes a difference
 abbrev Grows : (List ℕ → Found) → List ℕ → Type 0
-Grows at front = (c : ℕ) × Differs (at (front ++ c ∷ [])) (at front) (c ∷ [])
+Grows at prefix = (c : ℕ) × Differs (at (prefix ++ c ∷ [])) (at prefix) (c ∷ [])
 
 -- a run that reaches the end
 run_whole : (p : ℕ → Bool) (f : List ℕ → List ℕ → Found) (bytes : List ℕ) → list_all p bytes ≡ true → run_at p f bytes ≡ f bytes []
@@ -142,7 +142,7 @@ nothing_outside : (start : Bool) → Grows (outside_at start) []
 unfolding outside_at sign_at is_word_byte is_name_byte is_digit is_blank is_glyph
 nothing_outside start = (42, apart (Marker Unfinished) [])
 
-outside_grows : (start : Bool) (front : List ℕ) → outside_open start front ≡ true → Grows (outside_at start) front
+outside_grows : (start : Bool) (prefix : List ℕ) → outside_open start prefix ≡ true → Grows (outside_at start) prefix
 unfolding outside_open outside_at
 outside_grows start [] e = nothing_outside start
 outside_grows start (b ∷ bytes) e =
@@ -153,7 +153,7 @@ nothing_in_tag : (start : Bool) → Grows (tag_at start) []
 unfolding tag_at is_name_byte is_digit is_blank
 nothing_in_tag start = (34, apart Quote [])
 
-tag_grows : (start : Bool) (front : List ℕ) → tag_open start front ≡ true → Grows (tag_at start) front
+tag_grows : (start : Bool) (prefix : List ℕ) → tag_open start prefix ≡ true → Grows (tag_at start) prefix
 unfolding tag_open tag_at
 tag_grows start [] e = nothing_in_tag start
 tag_grows start (b ∷ bytes) e =
@@ -166,7 +166,7 @@ escape_grows : (bytes : List ℕ) → escape_open bytes ≡ true → Grows escap
 escape_grows [] e = (34, ends (Escaped 34) (Stretch (92 ∷ [])) 34)
 escape_grows (b ∷ bytes) e = absurd cc
 
-value_grows : (front : List ℕ) → value_open front ≡ true → Grows value_at front
+value_grows : (prefix : List ℕ) → value_open prefix ≡ true → Grows value_at prefix
 unfolding value_open value_at
 value_grows [] e = (34, apart Quote [])
 value_grows (b ∷ bytes) e =
@@ -185,7 +185,7 @@ nothing_at_start : Differs (start_at (42 ∷ [])) (start_at []) (42 ∷ [])
 unfolding start_at outside_at sign_at is_word_byte is_name_byte is_digit is_blank is_glyph
 nothing_at_start = apart (Marker Unfinished) []
 
-start_grows : (front : List ℕ) → start_open front ≡ true → (more : List ℕ) × Differs (start_at (front ++ more)) (start_at front) more
+start_grows : (prefix : List ℕ) → start_open prefix ≡ true → (more : List ℕ) × Differs (start_at (prefix ++ more)) (start_at prefix) more
 unfolding start_open start_at
 start_grows [] e = (42 ∷ [], nothing_at_start)
 start_grows (b ∷ bytes) e = go (eqb b 239) e
@@ -194,14 +194,14 @@ start_grows (b ∷ bytes) e = go (eqb b 239) e
     go true e = mark_grows bytes e
     go false e = (let g = outside_grows true (b ∷ bytes) e in (g.0 ∷ [], g.1))
 
-pub open_undecided : (place : Place) (front : List ℕ) → is_open place front ≡ true → Decides place front → ⊥
+pub open_undecided : (place : Place) (prefix : List ℕ) → is_open place prefix ≡ true → Decides place prefix → ⊥
 unfolding is_open item_at
-open_undecided GameStart front e d = (let g = start_grows front e in g.1 (d g.0))
-open_undecided LineStart front e d = (let g = outside_grows true front e in g.1 (d (g.0 ∷ [])))
-open_undecided InLine front e d = (let g = outside_grows false front e in g.1 (d (g.0 ∷ [])))
-open_undecided TagLineStart front e d = (let g = tag_grows true front e in g.1 (d (g.0 ∷ [])))
-open_undecided InTag front e d = (let g = tag_grows false front e in g.1 (d (g.0 ∷ [])))
-open_undecided InValue front e d = (let g = value_grows front e in g.1 (d (g.0 ∷ [])))
+open_undecided GameStart prefix e d = (let g = start_grows prefix e in g.1 (d g.0))
+open_undecided LineStart prefix e d = (let g = outside_grows true prefix e in g.1 (d (g.0 ∷ [])))
+open_undecided InLine prefix e d = (let g = outside_grows false prefix e in g.1 (d (g.0 ∷ [])))
+open_undecided TagLineStart prefix e d = (let g = tag_grows true prefix e in g.1 (d (g.0 ∷ [])))
+open_undecided InTag prefix e d = (let g = tag_grows false prefix e in g.1 (d (g.0 ∷ [])))
+open_undecided InValue prefix e d = (let g = value_grows prefix e in g.1 (d (g.0 ∷ [])))
 
 starts_open : (place : Place) → is_open place [] ≡ true
 unfolding is_open start_open outside_open tag_open value_open
@@ -212,16 +212,16 @@ starts_open _ = refl
 pub nothing_undecided : (place : Place) → Decides place [] → ⊥
 nothing_undecided place = open_undecided place [] (starts_open place)
 
-pub open_if : (place : Place) (front : List ℕ) → (Decides place front → ⊥) → is_open place front ≡ true
-open_if place front h = go (is_open place front) refl
+pub open_if : (place : Place) (prefix : List ℕ) → (Decides place prefix → ⊥) → is_open place prefix ≡ true
+open_if place prefix h = go (is_open place prefix) refl
   where
-    go : (v : Bool) → is_open place front ≡ v → is_open place front ≡ true
+    go : (v : Bool) → is_open place prefix ≡ v → is_open place prefix ≡ true
     go true e = e
-    go false e = absurd (h (closed_decides place front e))
+    go false e = absurd (h (closed_decides place prefix e))
 
-pub decided_so : (place : Place) (front : List ℕ) (v : Bool) → v ≡ is_open place front → MatchBool v (Decides place front → ⊥) (Decides place front)
-decided_so place front true e = open_undecided place front (sym e)
-decided_so place front false e = closed_decides place front (sym e)
+pub decided_so : (place : Place) (prefix : List ℕ) (v : Bool) → v ≡ is_open place prefix → MatchBool v (Decides place prefix → ⊥) (Decides place prefix)
+decided_so place prefix true e = open_undecided place prefix (sym e)
+decided_so place prefix false e = closed_decides place prefix (sym e)
 
 open_front : (looked b : ℕ) (bytes : List ℕ) → (b ≡ 239 → ⊥) → start_open (take looked (b ∷ bytes)) ≡ true → outside_open true (take looked (b ∷ bytes)) ≡ true
 unfolding start_open outside_open

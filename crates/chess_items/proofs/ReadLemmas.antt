@@ -8,24 +8,24 @@ use Rattle.chess_items.specs.declared.place.Place.{Place}
 
 pub kept : (bytes : List ℕ) (used left : ℕ) (text rest : List ℕ) → drop used bytes ≡ text ++ rest → length rest ≡ left → drop (length bytes - left) bytes ≡ rest
 kept bytes used left text rest e n =
-    let front = take used bytes ++ text in
-    let whole : front ++ rest ≡ bytes = append_assoc (take used bytes) text rest ∙ ap (λ (x : List ℕ). take used bytes ++ x) (sym e) ∙ take-append-drop used bytes in
-    let long : length bytes ≡ length front + length rest = ap length (sym whole) ∙ length-append front rest in
-    let at : length bytes - left ≡ length front = omega arith in
-    subst (λ (x : List ℕ). drop (length bytes - left) x ≡ rest) whole (drop_at front rest (length bytes - left) (sym at))
+    let prefix = take used bytes ++ text in
+    let whole : prefix ++ rest ≡ bytes = append_assoc (take used bytes) text rest ∙ ap (λ (x : List ℕ). take used bytes ++ x) (sym e) ∙ take-append-drop used bytes in
+    let long : length bytes ≡ length prefix + length rest = ap length (sym whole) ∙ length-append prefix rest in
+    let at : length bytes - left ≡ length prefix = omega arith in
+    subst (λ (x : List ℕ). drop (length bytes - left) x ≡ rest) whole (drop_at prefix rest (length bytes - left) (sym at))
 
-pub take_front : (front more : List ℕ) → take (length front) (front ++ more) ≡ front
-take_front front more = take_at front more (length front) refl
+pub take_front : (prefix more : List ℕ) → take (length prefix) (prefix ++ more) ≡ prefix
+take_front prefix more = take_at prefix more (length prefix) refl
 
-pub needed_more : (most : ℕ) (place : Place) (front : List ℕ) (pieces : List (List ℕ)) (piece : List ℕ) → Needed most place front pieces → (Decides place (front ++ joined pieces) → ⊥) → length (front ++ joined pieces) ≤ most → length piece ≤ 65536 → Needed most place front (pieces ++ piece ∷ [])
-needed_more most place front [] piece n h few small = (subst (λ (x : List ℕ). Decides place x → ⊥) (append-nil front) h, subst (λ (x : List ℕ). length x ≤ most) (append-nil front) few, small, tt)
-needed_more most place front (p ∷ pieces) piece n h few small =
-    (n.0, n.1, n.2, needed_more most place (front ++ p) pieces piece n.3 (subst (λ (x : List ℕ). Decides place x → ⊥) (sym (append_assoc front p (joined pieces))) h) (subst (λ (x : List ℕ). length x ≤ most) (sym (append_assoc front p (joined pieces))) few) small)
+pub needed_more : (most : ℕ) (place : Place) (prefix : List ℕ) (pieces : List (List ℕ)) (piece : List ℕ) → Needed most place prefix pieces → (Decides place (prefix ++ joined pieces) → ⊥) → length (prefix ++ joined pieces) ≤ most → length piece ≤ 65536 → Needed most place prefix (pieces ++ piece ∷ [])
+needed_more most place prefix [] piece n h few small = (subst (λ (x : List ℕ). Decides place x → ⊥) (append-nil prefix) h, subst (λ (x : List ℕ). length x ≤ most) (append-nil prefix) few, small, tt)
+needed_more most place prefix (p ∷ pieces) piece n h few small =
+    (n.0, n.1, n.2, needed_more most place (prefix ++ p) pieces piece n.3 (subst (λ (x : List ℕ). Decides place x → ⊥) (sym (append_assoc prefix p (joined pieces))) h) (subst (λ (x : List ℕ). length x ≤ most) (sym (append_assoc prefix p (joined pieces))) few) small)
 
-pub joined_small : (most : ℕ) (place : Place) (front : List ℕ) (pieces : List (List ℕ)) → Needed most place front pieces → length (joined pieces) ≤ 65536 * length pieces
-joined_small most place front [] n = omega arith
-joined_small most place front (p ∷ pieces) n =
-    let k = joined_small most place (front ++ p) pieces n.3 in
+pub joined_small : (most : ℕ) (place : Place) (prefix : List ℕ) (pieces : List (List ℕ)) → Needed most place prefix pieces → length (joined pieces) ≤ 65536 * length pieces
+joined_small most place prefix [] n = omega arith
+joined_small most place prefix (p ∷ pieces) n =
+    let k = joined_small most place (prefix ++ p) pieces n.3 in
     let l = length-append p (joined pieces) in
     omega (arith, k, l, n.2)
 

@@ -36,10 +36,10 @@ three_more n (a ∷ b ∷ c ∷ []) e = omega arith
 three_more n (a ∷ b ∷ c ∷ d ∷ w) e = absurd (omega arith)
 
 -- a small number has only zeros before its last three digits
-zeros_before : (front w : List ℕ) → length w ≡ 3 → digits_value 0 (front ++ w) < 256 → digits_value 0 front ≡ 0
-zeros_before front w e low =
-    let a = digits-append 0 front w in
-    let b = three_more (digits_value 0 front) w e in
+zeros_before : (prefix w : List ℕ) → length w ≡ 3 → digits_value 0 (prefix ++ w) < 256 → digits_value 0 prefix ≡ 0
+zeros_before prefix w e low =
+    let a = digits-append 0 prefix w in
+    let b = three_more (digits_value 0 prefix) w e in
     omega (arith, a, b)
 
 -- the first digits up to the last three of those seen

@@ -175,9 +175,9 @@ new_is_game p well on clock number = record {
 -- ---- what is read
 
 pub read_is_game : ReadIsGame
-read_is_game input game used front =
-    let g = front.gives in
-    let all = subst AreSoundItems g.parts (spelled_sound GameStart input front.items front.rest front.spelled) in
+read_is_game input game used prefix =
+    let g = prefix.gives in
+    let all = subst AreSoundItems g.parts (spelled_sound GameStart input prefix.items prefix.rest prefix.spelled) in
     let head = sound_parts g.head (g.movetext ++ g.ending) all in
     let moves = sound_parts g.movetext g.ending head.1 in
     let start = told_start (fen_in g.given) game.tree.start g.start in
@@ -191,8 +191,8 @@ read_is_game input game used front =
         comment = derived.is_comment;
         moves = derived.sound;
         noted = derived.noted;
-        deep = front.within.deep;
-        many = omega (arith, few_moves input game used front);
+        deep = prefix.within.deep;
+        many = omega (arith, few_moves input game used prefix);
       },
       derived.few,
     )

@@ -1,4 +1,4 @@
--- What is answered of a text with a game at its front, and where a fault is.
+-- What is answered of a text that begins with a game, and where a fault is.
 use Rattle.std.proofs.Common.{◌≡◌, ◌⊎◌, ℕ, Bool, true, false, List, [], ◌++◌, refl, sym, subst, ap, ◌∙◌, append-nil}
 use Rattle.std.specs.Prelude.{Ok, Option, Some, None}
 use mathlib.Core.Logic.{inl, inr}

@@ -191,7 +191,7 @@ module _ {X A : Type 0} (comes : X → List ℕ → X → Type 0) (at_hand : X �
 
     come : (is : List (ℕ × Item)) → Took comes at_hand all sound size takes limit old pieces new is at place white → list_all is_white (bare is) ≡ false → game.tree.path ≡ [] → (length (at_hand old) ≤ 65537 → length (at_hand new) ≤ 65537)
         → Asked comes at_hand all sound size takes old (joined pieces) new t → IsWithinLimits (game_of game) → ((more : List ℕ) → (all new → more ≡ []) → Gives (bare is) (at_hand new ++ more) (game_of game)) → HasCome comes at_hand all old new game at
-    come is took some cursor near asked within gives = let front = spelled_front 0 GameStart (at_hand old ++ (joined pieces ++ [])) is (at_hand new ++ []) (took.spelled [] (λ h. refl)) in record {
+    come is took some cursor near asked within gives = let prefix = spelled_front 0 GameStart (at_hand old ++ (joined pieces ++ [])) is (at_hand new ++ []) (took.spelled [] (λ h. refl)) in record {
       pieces = pieces;
       came = came;
       reads = λ more none. record {
@@ -204,9 +204,9 @@ module _ {X A : Type 0} (comes : X → List ℕ → X → Type 0) (at_hand : X �
         gives = gives more none;
         within = within;
       };
-      text = front.0;
-      parts = ap (λ (z : List ℕ). at_hand old ++ z) (sym (append-nil (joined pieces))) ∙ front.1 ∙ ap (λ (z : List ℕ). front.0 ++ z) (append-nil (at_hand new));
-      counted = (let a = ap length front.1 in let b = length-append front.0 (at_hand new ++ []) in let c = length-append (at_hand new) [] in let d = length-append (at_hand old) (joined pieces ++ []) in let e = length-append (joined pieces) [] in omega (arith, a, b, c, d, e, took.counted));
+      text = prefix.0;
+      parts = ap (λ (z : List ℕ). at_hand old ++ z) (sym (append-nil (joined pieces))) ∙ prefix.1 ∙ ap (λ (z : List ℕ). prefix.0 ++ z) (append-nil (at_hand new));
+      counted = (let a = ap length prefix.1 in let b = length-append prefix.0 (at_hand new ++ []) in let c = length-append (at_hand new) [] in let d = length-append (at_hand old) (joined pieces ++ []) in let e = length-append (joined pieces) [] in omega (arith, a, b, c, d, e, took.counted));
       near = near;
       needed = needs asked;
       cursor = cursor;

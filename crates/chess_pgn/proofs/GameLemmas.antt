@@ -71,16 +71,16 @@ either_some : (v : Bool) (xs ys : List (List ℕ)) → xs ≢ [] → ys ≢ [] �
 either_some true xs ys h k = h
 either_some false xs ys h k = k
 
-words_behind : (begun front text : List ℕ) (b : ℕ) → is_gap (codes " ") b ≡ false → words_from (codes " ") begun (front ++ 32 ∷ b ∷ text) ≢ []
+words_behind : (begun prefix text : List ℕ) (b : ℕ) → is_gap (codes " ") b ≡ false → words_from (codes " ") begun (prefix ++ 32 ∷ b ∷ text) ≢ []
 words_behind begun [] text b h = behind_space begun text b h
-words_behind begun (c ∷ front) text b h =
-    either_some (is_gap (codes " ") c) _ _ (some_behind (as_word begun) (words_from (codes " ") [] (front ++ 32 ∷ b ∷ text)) (words_behind [] front text b h)) (words_behind (begun ++ c ∷ []) front text b h)
+words_behind begun (c ∷ prefix) text b h =
+    either_some (is_gap (codes " ") c) _ _ (some_behind (as_word begun) (words_from (codes " ") [] (prefix ++ 32 ∷ b ∷ text)) (words_behind [] prefix text b h)) (words_behind (begun ++ c ∷ []) prefix text b h)
 
-marker_behind : (front : List ℕ) (outcome : Outcome) → words (codes " ") (front ++ (codes " " ++ outcome_text outcome)) ≢ []
-marker_behind front WhiteWins = words_behind [] front (codes "-0") 49 refl
-marker_behind front BlackWins = words_behind [] front (codes "-1") 48 refl
-marker_behind front Draw = words_behind [] front (codes "/2-1/2") 49 refl
-marker_behind front Unfinished = words_behind [] front [] 42 refl
+marker_behind : (prefix : List ℕ) (outcome : Outcome) → words (codes " ") (prefix ++ (codes " " ++ outcome_text outcome)) ≢ []
+marker_behind prefix WhiteWins = words_behind [] prefix (codes "-0") 49 refl
+marker_behind prefix BlackWins = words_behind [] prefix (codes "-1") 48 refl
+marker_behind prefix Draw = words_behind [] prefix (codes "/2-1/2") 49 refl
+marker_behind prefix Unfinished = words_behind [] prefix [] 42 refl
 
 pub movetext_words : (tree : GameTree) (outcome : Outcome) → words (codes " ") (movetext tree outcome) ≢ []
 movetext_words tree outcome e =

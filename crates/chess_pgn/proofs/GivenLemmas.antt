@@ -23,7 +23,7 @@ gaps_pass : (h : Heading) → is_spaced h.part ≡ true → (gaps : List Item) �
 gaps_pass h e [] g rest = refl
 gaps_pass h e (i ∷ is) g rest = on_by h _ (is ++ rest) i (passed h i (rw (e, g.0) refl)) ∙ gaps_pass h e is g.1 rest
 
-pub between_pass : (read : List (List ℕ × List ℕ)) (front : List Item) → AreBetween front → (rest : List Item) → heads_on (fresh read) (front ++ rest) ≡ heads_on (fresh read) rest
+pub between_pass : (read : List (List ℕ × List ℕ)) (prefix : List Item) → AreBetween prefix → (rest : List Item) → heads_on (fresh read) (prefix ++ rest) ≡ heads_on (fresh read) rest
 between_pass read [] g rest = refl
 between_pass read (i ∷ is) g rest = on_by (fresh read) (Some (fresh read)) (is ++ rest) i (rw g.0 refl) ∙ between_pass read is g.1 rest
 
@@ -260,7 +260,7 @@ none_on taken item old h none more tags given =
     some_none : (all : List (List ℕ × List ℕ)) → Some all ≡ None → ⊥
     some_none all e = cc
 
--- a malformed tag is the front of no tags
+-- a malformed tag is a prefix of no tags
 pub none_go_on : {A : Type 0} (taken : List Item) (item : Item) (old : Header A) (fault : PgnFault) → HasTaken taken old → is_begun old.part ≡ true → RefusesTag item old fault
     → (more : List Item) (tags : List (List ℕ × List ℕ)) → AreTags (taken ++ item ∷ more) tags → ⊥
 none_go_on taken item old fault h begun refuses more tags given = none_on taken item old h (refuses.1 begun) more tags given

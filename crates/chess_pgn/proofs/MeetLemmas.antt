@@ -162,9 +162,9 @@ not-played w Bad c f up last here lead st e = refl
 
 -- ---- places
 
-pub at-front : (q : List ℕ) (i : ℕ) (f : Forest) → Leads (q ++ i ∷ []) f → Leads q f
-at-front [] i f at = tt
-at-front (j ∷ q) i f at = (at.0, at-front q i (below_child j f) at.1)
+pub at-prefix : (q : List ℕ) (i : ℕ) (f : Forest) → Leads (q ++ i ∷ []) f → Leads q f
+at-prefix [] i f at = tt
+at-prefix (j ∷ q) i f at = (at.0, at-prefix q i (below_child j f) at.1)
 
 pub keeps-all : (p : List ℕ) (r : Part) (st : List Frame) (f : Forest) → AllThere st f → AllThere st (hang p r f)
 keeps-all p r [] f all = tt
@@ -269,7 +269,7 @@ meets (Text w ∷ ts) c f up (Some y) here lead (x ∷ xs) at all =
     ∙ next-inner w m (parse ts) c f up y here lead x xs e at)
 meets (Open ∷ ts) c f up None here lead st at all = sym (not-opened (parse ts) c f up here lead st)
 meets (Open ∷ ts) c f up (Some x) here lead st at all =
-    meets ts c f up None x.1 [] (record { up = up; place = x.0; before = x.1; here = here; lead = lead } ∷ st) (at-front up x.0 f at) (at, all)
+    meets ts c f up None x.1 [] (record { up = up; place = x.0; before = x.1; here = here; lead = lead } ∷ st) (at-prefix up x.0 f at) (at, all)
     ∙ opened (parse ts) c f up x.0 x.1 here lead st at
 meets (Close ∷ ts) c f up last here lead [] at all = sym (not-closed (parse ts) c f up last here lead)
 meets (Close ∷ ts) c f up None here lead (x ∷ xs) at all =

@@ -147,7 +147,7 @@ quiet_moves tree o s next place out quiet a =
       counted = g.says.counted;
     }
 
--- a comment in front, whose spaces may be line feeds
+-- a comment before, whose spaces may be line feeds
 said_moves : (tree : GameTree) (o : Outcome) (y : ℕ) (t u s next : List ℕ) (place : Place) → is_outside place ≡ true → Fills 32 y → Each items.in_braces t → normalised t ≡ tree.comment
     → Body o u (forest_elements false true tree.start tree.below) → s ≡ y ∷ ((123 ∷ t ++ 125 ∷ []) ++ u) → HasMoves tree o s next place
 said_moves tree o y t u s next place out f each n a e =

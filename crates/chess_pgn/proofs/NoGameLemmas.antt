@@ -79,7 +79,7 @@ module _ {A : Type 0} (is : List Item) (r : Reader A) (rest : List ℕ) (g : Gam
   pub closes : Progress is r → Closes
   closes p = closes_by p x.ends
 
--- ---- a game at the front, and what was taken
+-- ---- a game at the beginning, and what was taken
 
 abbrev pub progress_parts : {A : Type 0} (is : List Item) (r : Reader A) → Progress is r → InParts is
 progress_parts is r (inl h) = head_parts is r h
@@ -164,7 +164,7 @@ pub spelled_shorter : (place : Place) (input : List ℕ) (is : List Item) (rest 
 spelled_shorter place input [] rest s = (let l = ap length s in omega (arith, l))
 spelled_shorter place input (i ∷ is) rest s = (let r = spelled_shorter (place_after place i) s.1 is rest s.4 in let l = ap length s.2 in let m = length-append s.0 s.1 in omega (arith, r, l, m))
 
--- an item at the front is longer than the limit
+-- the first item is longer than the limit
 pub too_long : (most : ℕ) (place : Place) (rest : List ℕ) (k : Item) (next : List ℕ) → Oversized most place rest → item_at place rest ≡ the k next → most + length next < length rest
 too_long most place rest k next o e =
     subst (λ (f : Found). MatchOption f (Decides place (take (most + 1) rest) → ⊥) (λ (z : Item × List ℕ). most + length z.1 < length rest)) e o.1

@@ -1,4 +1,4 @@
--- The front of a text gives one game, and a white text gives none.
+-- The beginning of a text gives one game, and a white text gives none.
 use Rattle.std.proofs.Common.{◌≡◌, ◌≤◌, ◌⊎◌, ℕ, ◌-◌, eq-zero-or-pos, Bool, true, false, ◌&&◌, List, [], ◌∷◌, ◌++◌, length, Some, refl, sym, ap, subst, ◌∙◌, arith, append_assoc, append-nil}
 use Rattle.std.specs.List.{list_all}
 use mathlib.Core.Logic.{inl, inr}
@@ -130,16 +130,16 @@ module _ (is : List Item) (k : Item) (ks : List Item) (rest : List ℕ) (g : Gam
 
   behind_marker : (o : Outcome) → x.ending ≡ items.Marker o ∷ [] → ⊥
   behind_marker o e =
-      let front : x.ending ++ k ∷ ks ≡ items.Marker o ∷ k ∷ ks = ap (λ (z : List Item). z ++ k ∷ ks) e in
-      let heading : Halts is_heading (x.ending ++ k ∷ ks) = subst (Halts is_heading) (sym front) refl in
-      let moving : Halts is_movetext (x.ending ++ k ∷ ks) = subst (Halts is_movetext) (sym front) refl in
-      not_two o k ks y.ending (sym front ∙ same_end (starts_more x.movetext (x.ending ++ k ∷ ks) x.starts heading) moving) y.ends
+      let prefix : x.ending ++ k ∷ ks ≡ items.Marker o ∷ k ∷ ks = ap (λ (z : List Item). z ++ k ∷ ks) e in
+      let heading : Halts is_heading (x.ending ++ k ∷ ks) = subst (Halts is_heading) (sym prefix) refl in
+      let moving : Halts is_movetext (x.ending ++ k ∷ ks) = subst (Halts is_movetext) (sym prefix) refl in
+      not_two o k ks y.ending (sym prefix ∙ same_end (starts_more x.movetext (x.ending ++ k ∷ ks) x.starts heading) moving) y.ends
 
   before_bracket : x.ending ≡ [] → HasBegun x.movetext → k ≡ items.TagOpen → ⊥
   before_bracket e begun bracket =
-      let front : x.ending ++ k ∷ ks ≡ items.TagOpen ∷ ks = ap (λ (z : List Item). z ++ k ∷ ks) e ∙ ap (λ (i : Item). i ∷ ks) bracket in
-      let moving : Halts is_movetext (x.ending ++ k ∷ ks) = subst (Halts is_movetext) (sym front) refl in
-      not_bracket ks y.ending (sym front ∙ same_end (begun_halts x.movetext (x.ending ++ k ∷ ks) begun) moving) y.ends
+      let prefix : x.ending ++ k ∷ ks ≡ items.TagOpen ∷ ks = ap (λ (z : List Item). z ++ k ∷ ks) e ∙ ap (λ (i : Item). i ∷ ks) bracket in
+      let moving : Halts is_movetext (x.ending ++ k ∷ ks) = subst (Halts is_movetext) (sym prefix) refl in
+      not_bracket ks y.ending (sym prefix ∙ same_end (begun_halts x.movetext (x.ending ++ k ∷ ks) begun) moving) y.ends
 
   module _ (last : List ℕ) (s : Spells (place_behind GameStart is) rest (k ∷ ks) last) where
     by_end : Ends x.movetext x.ending g.outcome rest → ⊥
@@ -177,7 +177,7 @@ turned g h m n b = (sym b.0, sym b.1)
 pub either : (m n : ℕ) → (m ≤ n) ⊎ (n ≤ m)
 either m n = elim (eq-zero-or-pos (m - n)) [ inl z ↦ inl (omega (arith, z)) | inr p ↦ inr (omega (arith, p)) ]
 
--- a text has one game at its front, and that takes so many bytes
+-- a text begins with one game, and that takes so many bytes
 pub one_game : (input : List ℕ) (g h : Game) (m n : ℕ) → BeginsWithGame input g m → BeginsWithGame input h n → (g ≡ h) × (m ≡ n)
 one_game input g h m n x y =
     elim (either (length x.items) (length y.items)) [ inl le ↦ in_order input g h m n x y le | inr le ↦ turned g h m n (in_order input h g n m y x le) ]

@@ -52,20 +52,20 @@ none_both : (xs ys : List Item) → xs ++ ys ≡ [] → (xs ≡ []) × (ys ≡ [
 none_both [] ys e = (refl, e)
 none_both (x ∷ xs) ys e = absurd cc
 
--- items that pass, and one more: it is in a front whose tail doesn't pass, or next to it
-parted : (p : Item → Bool) (xs : List Item) (x : Item) (more front tail : List Item) → xs ++ x ∷ more ≡ front ++ tail → All p xs → Halts p tail
-    → ((rest : List Item) × (front ≡ xs ++ x ∷ rest)) ⊎ ((front ≡ xs) × (tail ≡ x ∷ more))
+-- items that pass, and one more: it is in a prefix whose tail doesn't pass, or next to it
+parted : (p : Item → Bool) (xs : List Item) (x : Item) (more prefix tail : List Item) → xs ++ x ∷ more ≡ prefix ++ tail → All p xs → Halts p tail
+    → ((rest : List Item) × (prefix ≡ xs ++ x ∷ rest)) ⊎ ((prefix ≡ xs) × (tail ≡ x ∷ more))
 parted p [] x more [] tail e h s = inr (refl, sym e)
-parted p [] x more (i ∷ front) tail e h s = inl (front, ap (λ (z : Item). z ∷ front) (sym (first_is x i more (front ++ tail) e)))
+parted p [] x more (i ∷ prefix) tail e h s = inl (prefix, ap (λ (z : Item). z ∷ prefix) (sym (first_is x i more (prefix ++ tail) e)))
 parted p (a ∷ xs) x more [] tail e h s = absurd (apart h.0 (subst (Halts p) (sym e) s))
-parted p (a ∷ xs) x more (i ∷ front) tail e h s =
-    elim (parted p xs x more front tail (rest_is a i (xs ++ x ∷ more) (front ++ tail) e) h.1 s) [
+parted p (a ∷ xs) x more (i ∷ prefix) tail e h s =
+    elim (parted p xs x more prefix tail (rest_is a i (xs ++ x ∷ more) (prefix ++ tail) e) h.1 s) [
       | inl r ↦ inl (r.0, same r.1)
       | inr r ↦ inr (same r.0, r.1)
     ]
   where
-    same : {is : List Item} → front ≡ is → i ∷ front ≡ a ∷ is
-    same {is} k = ap (λ (z : Item). z ∷ front) (sym (first_is a i (xs ++ x ∷ more) (front ++ tail) e)) ∙ ap (λ (z : List Item). a ∷ z) k
+    same : {is : List Item} → prefix ≡ is → i ∷ prefix ≡ a ∷ is
+    same {is} k = ap (λ (z : Item). z ∷ prefix) (sym (first_is a i (xs ++ x ∷ more) (prefix ++ tail) e)) ∙ ap (λ (z : List Item). a ∷ z) k
 
 elements_both : (xs bs : List Item) → elements (xs ++ bs) ≡ elements xs ++ elements bs
 elements_both [] bs = refl

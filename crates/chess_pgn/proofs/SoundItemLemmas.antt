@@ -94,9 +94,9 @@ pub spelled_sound : (place : Place) (input : List ℕ) (is : List Item) (rest : 
 spelled_sound place input [] rest s = tt
 spelled_sound place input (item ∷ is) rest s = (item_sound item s.0 s.1 s.3.spelled, spelled_sound (place_after place item) s.1 is rest s.4)
 
-pub sound_parts : (front is : List Item) → AreSoundItems (front ++ is) → AreSoundItems front × AreSoundItems is
+pub sound_parts : (prefix is : List Item) → AreSoundItems (prefix ++ is) → AreSoundItems prefix × AreSoundItems is
 sound_parts [] is h = (tt, h)
-sound_parts (item ∷ front) is h = let r = sound_parts front is h.1 in ((h.0, r.0), r.1)
+sound_parts (item ∷ prefix) is h = let r = sound_parts prefix is h.1 in ((h.0, r.0), r.1)
 
 -- ---- the tags among them
 

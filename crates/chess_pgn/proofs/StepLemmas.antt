@@ -22,7 +22,7 @@ use Rattle.chess_pgn.specs.declared.reader.moves.Interrupted.{Interrupted}
 use Rattle.chess_tree.specs.declared.fault.TreeFault.{TreeFault}
 use Rattle.chess_tree.specs.declared.fault.TreeFault.TheVariants.{AtRoot, NoSuch}
 use Rattle.chess_pgn.proofs.KeepLemmas.{keeps, new-there}
-use Rattle.chess_pgn.proofs.MeetLemmas.{at-front}
+use Rattle.chess_pgn.proofs.MeetLemmas.{at-prefix}
 use Rattle.chess_pgn.proofs.PlaceLemmas.{added_is, annotated_is, moves_kept}
 use Rattle.chess_pgn.proofs.RemarkLemmas.{normalised_append, normalised_none, normalised_parted, spaced_append}
 
@@ -37,7 +37,7 @@ position_kept : (start : PositionParts) (p q : List ℕ) (r : Part) (f : Forest)
 position_kept start p q r f at = ap (λ (ms : List MoveParts). last (record { start = start; moves = ms })) (moves_kept p q r f at)
 
 leads_front : (q : List ℕ) (i : ℕ) (f : Forest) → Leads (q ++ i ∷ []) f → Leads q f
-leads_front = at-front
+leads_front = at-prefix
 
 pub frames_kept : (start : PositionParts) (p : List ℕ) (r : Part) (f : Forest) (st : List Frame) → AreFrames start f st → AreFrames start (hang p r f) st
 frames_kept start p r f [] all = tt
@@ -45,7 +45,7 @@ frames_kept start p r f (x ∷ xs) all = (
   record {
     there = keeps p (path_of x) r f all.0.there;
     here = all.0.here ∙ sym (position_kept start p (path_of x) r f all.0.there);
-    before = all.0.before ∙ sym (position_kept start p x.up r f (at-front x.up x.place f all.0.there));
+    before = all.0.before ∙ sym (position_kept start p x.up r f (at-prefix x.up x.place f all.0.there));
   },
   frames_kept start p r f xs all.1,
 )
@@ -132,7 +132,7 @@ nag_goes t t' lines played comments from n start c f up (Some x) here lead st so
         path = ap (λ (z : TreeParts). z.path) e ∙ h.path;
         played = h.played;
         here = h.here ∙ sym (position_kept start p p (nag n) f h.there);
-        before = h.before ∙ sym (position_kept start p up (nag n) f (at-front up x.0 f h.there));
+        before = h.before ∙ sym (position_kept start p up (nag n) f (at-prefix up x.0 f h.there));
         begins = tt;
         nested = h.nested;
         there = keeps p p (nag n) f h.there;
@@ -367,7 +367,7 @@ open_goes t t' lines lines' played comments from from' depth place known few som
         before = tt;
         begins = tt;
         nested = (([], sym (append-nil up)), h.nested);
-        there = at-front up x.0 f h.there;
+        there = at-prefix up x.0 f h.there;
         frames = (record { there = h.there; here = h.here; before = h.before }, h.frames);
         outer = comments;
         text = [];

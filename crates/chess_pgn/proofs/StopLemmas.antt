@@ -67,8 +67,8 @@ module _ {X A : Type 0} (comes : X → List ℕ → X → Type 0) (at_hand : X �
       there : place ≡ place_behind GameStart (bare is)
       there = took.stands ∙ behind_bare GameStart is
 
-      front : (text : List ℕ) × (whole ≡ text ++ rest)
-      front = spelled_front 0 GameStart whole is rest (took.spelled more none)
+      prefix : (text : List ℕ) × (whole ≡ text ++ rest)
+      prefix = spelled_front 0 GameStart whole is rest (took.spelled more none)
 
       counted : at + length rest ≡ length whole
       counted =
@@ -79,12 +79,12 @@ module _ {X A : Type 0} (comes : X → List ℕ → X → Type 0) (at_hand : X �
 
     -- the bytes of the items
     run_front : (why : Stop) → AfterRun comes at_hand all sound size takes limit old pieces new t u at place white why → (text : List ℕ) × (whole ≡ text ++ rest)
-    run_front stop.Full r = front (r.items ++ r.last ∷ []) r.took
-    run_front stop.Left r = front r.items r.took
-    run_front (stop.Refused fault) r = front r.items r.took
-    run_front stop.End r = front r.items r.took
-    run_front stop.NoItem r = front r.items r.took
-    run_front stop.TooLarge r = front r.items r.took
+    run_front stop.Full r = prefix (r.items ++ r.last ∷ []) r.took
+    run_front stop.Left r = prefix r.items r.took
+    run_front (stop.Refused fault) r = prefix r.items r.took
+    run_front stop.End r = prefix r.items r.took
+    run_front stop.NoItem r = prefix r.items r.took
+    run_front stop.TooLarge r = prefix r.items r.took
 
     taken_so : (is : List (ℕ × Item)) (r : Reader A) → Takes takes t is r → Progress (bare is) r
     taken_so is r k = progress_all [] is t r (progress_new t new_reader) k

@@ -26,7 +26,7 @@ record HasParts (value text : List ℕ) (tail : List Item) (rest : List ℕ) : T
   is : value_text parts ≡ value
   spelled : Spells InValue text (parts ++ tail) rest
 
--- a run of plain bytes in front
+-- a run of plain bytes before
 with_run : (run value text : List ℕ) (tail : List Item) (rest : List ℕ) → Each is_plain run → EndsRun is_plain text → HasParts value text tail rest → HasParts (run ++ value) (run ++ text) tail rest
 with_run [] value text tail rest each stops h = h
 with_run (b ∷ run) value text tail rest each stops h = record {

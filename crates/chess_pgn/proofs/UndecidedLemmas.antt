@@ -51,23 +51,23 @@ bracket_decides : (place : Place) (bs : List ℕ) → is_outside place ≡ true 
 bracket_decides place bs out = λ more.
     bracket_found place out (bs ++ more) ∙ ap (λ (x : Found). longer x more) (sym (bracket_found place out bs))
 
-module _ {A : Type 0} (is : List Item) (t : Reader A) (p : Progress is t) (front rest : List ℕ) (spelled : (more : List ℕ) → Spells GameStart (front ++ more) is (rest ++ more)) (undecided : Decides (place_behind GameStart is) rest → ⊥)
-    (g : Game) (n : ℕ) (x : (more : List ℕ) → BeginsWithGame (front ++ more) g n) where
+module _ {A : Type 0} (is : List Item) (t : Reader A) (p : Progress is t) (prefix rest : List ℕ) (spelled : (more : List ℕ) → Spells GameStart (prefix ++ more) is (rest ++ more)) (undecided : Decides (place_behind GameStart is) rest → ⊥)
+    (g : Game) (n : ℕ) (x : (more : List ℕ) → BeginsWithGame (prefix ++ more) g n) where
   abbrev place : Place
   place = place_behind GameStart is
 
   there : (more : List ℕ) → Ahead is (rest ++ more) g (x more).rest
-  there more = ahead is (front ++ more) (rest ++ more) g n (progress_parts is t p) (spelled more) (x more)
+  there more = ahead is (prefix ++ more) (rest ++ more) g n (progress_parts is t p) (spelled more) (x more)
 
-  counted : (more : List ℕ) → n + length (x more).rest ≡ length front + length more
-  counted more = (x more).counted ∙ length-append front more
+  counted : (more : List ℕ) → n + length (x more).rest ≡ length prefix + length more
+  counted more = (x more).counted ∙ length-append prefix more
 
   -- it ends there
-  here : (more : List ℕ) → (x more).rest ≡ rest ++ more → n + length rest ≡ length front
+  here : (more : List ℕ) → (x more).rest ≡ rest ++ more → n + length rest ≡ length prefix
   here more e = (let a = ap length e in let b = length-append rest more in let c = counted more in omega (arith, a, b, c))
 
   -- it goes on there
-  beyond : (more : List ℕ) (k : Item) (ks : List Item) → Spells place (rest ++ more) (k ∷ ks) (x more).rest → length front < n + length rest
+  beyond : (more : List ℕ) (k : Item) (ks : List Item) → Spells place (rest ++ more) (k ∷ ks) (x more).rest → length prefix < n + length rest
   beyond more k ks s =
       let a = text_shorter place k s.0 (rest ++ more) s.1 s.2 s.3 in
       let b = spelled_shorter (place_after place k) s.1 ks (x more).rest s.4 in

@@ -75,7 +75,7 @@ AreBetween = AllByRecursion (λ item. may_part_tags item ≡ true)
 abbrev pub AreTags : List Item → List (List ℕ × List ℕ) → Type 0
 AreTags items [] = AreBetween items
 AreTags items (tag ∷ tags) =
-    (front own rest : List Item) × (items ≡ front ++ (own ++ rest)) × AreBetween front × IsTag own tag.0 tag.1 × AreTags rest tags
+    (prefix own rest : List Item) × (items ≡ prefix ++ (own ++ rest)) × AreBetween prefix × IsTag own tag.0 tag.1 × AreTags rest tags
 
 -- ---- what they say
 

@@ -23,7 +23,7 @@ gathered w0 w1 text p1 ew sent =
 pub never_fails : {W X E : Type 0} → (takes : W → List ℕ → W → Type 0) → (failed : W → Bool) → ((w : W) → failed w ≡ false) → (r : Result X E) → (e : E) → r ≡ Err e
     → (page page1 : List ℕ) → (w w1 : W) → Flows takes failed page w page1 w1 r → ⊥
 never_fails {X = X} {E = E} takes failed never r e is page page1 w w1 flows =
-    let begun : Sent takes failed w page page w = record { front = []; calls = Carries-none takes w; whole = refl; well = refl } in
+    let begun : Sent takes failed w page page w = record { prefix = []; calls = Carries-none takes w; whole = refl; well = refl } in
     let broken = subst (λ (x : Result X E). SentOr takes failed w page page1 w1 x) is (flows w page begun) in
     absurd (subst (λ (b : Bool). T b) (sym broken.fails ∙ never w1) tt)
 
@@ -32,6 +32,6 @@ pub handed_told : {X E : Type 0} → (r : Result X E) → (w0 w1 : Text) → (te
     → (code count count' : ℕ) → (old new : List ℕ) → MatchResult r (λ _. IsHanded (w1.taken ++ p1) code count' old new) (λ _. (code ≡ 2) × (count' ≡ count) × (new ≡ old))
     → IsToldBy text code count count' old new
 handed_told (Ok x) w0 w1 text p0 p1 e0 ew sends code count count' old new told =
-    let begun : Sent takes failed w0 [] p0 w0 = record { front = []; calls = Carries-none takes w0; whole = e0; well = refl } in
+    let begun : Sent takes failed w0 [] p0 w0 = record { prefix = []; calls = Carries-none takes w0; whole = e0; well = refl } in
     inl (subst (λ (t : List ℕ). IsHanded t code count' old new) (gathered w0 w1 text p1 ew (sends w0 [] begun)) told)
 handed_told (Err e) w0 w1 text p0 p1 e0 ew sends code count count' old new told = inr told

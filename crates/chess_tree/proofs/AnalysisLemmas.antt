@@ -126,7 +126,7 @@ stepped_back (Err x) F old new some e told = absurd (omega (arith, some, ap leng
 -- the same tree, and the first steps of the path as they were
 pub record KeepsFirst (depth : ℕ) (begun t : TreeParts) : Type 0 where
   pub tree : t.tree ≡ begun.tree
-  pub front : take depth t.path ≡ take depth begun.path
+  pub prefix : take depth t.path ≡ take depth begun.path
 
 module _ (begun t new : TreeParts) (depth : ℕ) (r : Result (Unit {0}) TreeFault) (F : TreeFault → Type 0) (deeper : depth < length t.path)
     (ok : OnOk r (new ≡ at_path (parent t.path) t)) (at_root : MatchResult r (λ _. 0 < length t.path) (λ fault. F fault × (t.path ≡ []))) where
@@ -136,7 +136,7 @@ module _ (begun t new : TreeParts) (depth : ℕ) (r : Result (Unit {0}) TreeFaul
   pub back_to_on : KeepsFirst depth begun t → KeepsFirst depth begun new
   back_to_on kept = record {
     tree = ap (λ (x : TreeParts). x.tree) up ∙ kept.tree;
-    front = ap (λ (x : TreeParts). take depth x.path) up ∙ take_parent depth t.path deeper ∙ kept.front;
+    prefix = ap (λ (x : TreeParts). take depth x.path) up ∙ take_parent depth t.path deeper ∙ kept.prefix;
   }
 
   pub back_to_smaller : length new.path < length t.path

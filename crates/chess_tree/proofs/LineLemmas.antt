@@ -177,15 +177,15 @@ same_front xs ys us vs e l =
 pub line_back : (t : TreeParts) (line : Line) (m : MoveParts) → IsGameTree t → 0 < length t.path → line_to t ≡ extended line m → line ≡ line_to (at_path (parent t.path) t)
 line_back t line m game some e =
     let place = lowest t.path in
-    let front = parent t.path in
-    let split : t.path ≡ front ++ place ∷ [] = parent_on t.path some in
-    let moves : moves_along t.path t.tree.below ≡ moves_along front t.tree.below ++ option_to_list (move_of place (below_at front t.tree.below)) =
-    ap (λ (p : List ℕ). moves_along p t.tree.below) split ∙ along_on front place t.tree.below in
+    let prefix = parent t.path in
+    let split : t.path ≡ prefix ++ place ∷ [] = parent_on t.path some in
+    let moves : moves_along t.path t.tree.below ≡ moves_along prefix t.tree.below ++ option_to_list (move_of place (below_at prefix t.tree.below)) =
+    ap (λ (p : List ℕ). moves_along p t.tree.below) split ∙ along_on prefix place t.tree.below in
     let all : length (moves_along t.path t.tree.below) ≡ length line.moves + 1 = ap (λ (l : Line). length l.moves) e ∙ length-append line.moves (m ∷ []) in
-    let paths : length t.path ≡ length front + 1 = ap length split ∙ length-append front (place ∷ []) in
-    let lengths : length line.moves ≡ length (moves_along front t.tree.below) =
-    omega (arith, all, paths, along_length t.path t.tree.below game.cursor, along_length front t.tree.below (leads_parent t.path t.tree.below game.cursor)) in
-    let same : line.moves ≡ moves_along front t.tree.below = same_front line.moves (moves_along front t.tree.below) (m ∷ []) _ (sym (ap (λ (l : Line). l.moves) e) ∙ moves) lengths in
+    let paths : length t.path ≡ length prefix + 1 = ap length split ∙ length-append prefix (place ∷ []) in
+    let lengths : length line.moves ≡ length (moves_along prefix t.tree.below) =
+    omega (arith, all, paths, along_length t.path t.tree.below game.cursor, along_length prefix t.tree.below (leads_parent t.path t.tree.below game.cursor)) in
+    let same : line.moves ≡ moves_along prefix t.tree.below = same_front line.moves (moves_along prefix t.tree.below) (m ∷ []) _ (sym (ap (λ (l : Line). l.moves) e) ∙ moves) lengths in
     let start : line.start ≡ t.tree.start = sym (ap (λ (l : Line). l.start) e) in
     λ i. record { start = start i; moves = same i }
 
@@ -244,9 +244,9 @@ same_promo (Some k) (Some l) e = ap (λ (x : Kind). Some x) (same_kind k l e)
 
 same_move : (m n : MoveParts) → is_move m n ≡ true → m ≡ n
 same_move m n e =
-    let front = and_parts (m.from == n.from) _ e in
-    let back = and_parts (m.to == n.to) _ front.1 in
-    let from : m.from ≡ n.from = eqb-true _ _ front.0 in
+    let prefix = and_parts (m.from == n.from) _ e in
+    let back = and_parts (m.to == n.to) _ prefix.1 in
+    let from : m.from ≡ n.from = eqb-true _ _ prefix.0 in
     let to : m.to ≡ n.to = eqb-true _ _ back.0 in
     let promo = same_promo m.promo n.promo back.1 in
     λ i. record { from = from i; to = to i; promo = promo i }

@@ -72,9 +72,9 @@ going_starts listed line claims named moves x e same is deep shallow some =
     }
 
 -- the first of the roots, as a list of roots
-pub front_legal : (listed line : Line) (named : MoveParts → Bool) (moves roots front : List MoveParts) (k : ℕ) → front ≡ take k roots → roots ≡ or_all (filter named moves) moves →
-    moves ≡ legal_moves (last listed) → line ≡ listed → Legal line front
-front_legal listed line named moves roots front k e among all same =
+pub front_legal : (listed line : Line) (named : MoveParts → Bool) (moves roots prefix : List MoveParts) (k : ℕ) → prefix ≡ take k roots → roots ≡ or_all (filter named moves) moves →
+    moves ≡ legal_moves (last listed) → line ≡ listed → Legal line prefix
+front_legal listed line named moves roots prefix k e among all same =
     let legal : Legal line moves = subst (Legal line) (sym (all ∙ ap (λ (l : Line). legal_moves (last l)) (sym same))) (moves_legal (last line)) in
     let whole : Legal line roots = subst (Legal line) (sym among) (or_all_legal line moves (filter named moves) legal (All-filter named (λ m. is_legal (last line) m ≡ true) moves legal)) in
     subst (Legal line) (sym e) (All-take (λ m. is_legal (last line) m ≡ true) k roots whole)

@@ -33,8 +33,8 @@ abbrev pub Tries : {R : Type 0} → (R → List ℕ → R → Type 0) → (R →
 Tries gives ended failed old new result = ((result ≡ Err Memory) × (new ≡ old)) ⊎ Reads gives ended failed old new result
 
 abbrev pub Needed : ℕ → Place → List ℕ → List (List ℕ) → Type 0
-Needed most place front [] = Unit {0}
-Needed most place front (piece ∷ pieces) = (Decides place front → ⊥) × (length front ≤ most) × (length piece ≤ 65536) × Needed most place (front ++ piece) pieces
+Needed most place prefix [] = Unit {0}
+Needed most place prefix (piece ∷ pieces) = (Decides place prefix → ⊥) × (length prefix ≤ most) × (length piece ≤ 65536) × Needed most place (prefix ++ piece) pieces
 
 -- each read was needed, and its bytes are at hand
 pub record Brought {R : Type 0} (gives : R → List ℕ → R → Type 0) (ended : R → Type 0) (failed : R → Bool) (most : ℕ) (place : Place) (old new : AtHand R) : Type 0 where

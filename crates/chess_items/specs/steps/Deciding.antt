@@ -16,7 +16,7 @@ longer (Some x) more = Some (x.0, x.1 ++ more)
 
 -- that there is no item is the same too
 abbrev pub Decides : Place → List ℕ → Type 0
-Decides place front = (more : List ℕ) → item_at place (front ++ more) ≡ longer (item_at place front) more
+Decides place prefix = (more : List ℕ) → item_at place (prefix ++ more) ≡ longer (item_at place prefix) more
 
 -- after one of the other bytes; a number above 255 is one too many
 unfoldable pub sign_open : Bool → ℕ → List ℕ → Bool

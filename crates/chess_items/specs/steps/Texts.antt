@@ -17,7 +17,7 @@ use Rattle.chess_items.specs.declared.at_hand.Fault.TheVariants.{Memory, Read}
 use Rattle.chess_items.specs.declared.place.Place.{Place}
 
 abbrev pub Near : Place → List ℕ → List ℕ → Type 0
-Near place old new = (new ≡ old) ⊎ ((front : List ℕ) × (piece : List ℕ) × (new ≡ front ++ piece) × (length piece ≤ 65536) × (Decides place front → ⊥))
+Near place old new = (new ≡ old) ⊎ ((prefix : List ℕ) × (piece : List ℕ) × (new ≡ prefix ++ piece) × (length piece ≤ 65536) × (Decides place prefix → ⊥))
 
 -- with the bytes that came: each read before the end of the text brings some
 abbrev pub Needs : {X : Type 0} → (X → List ℕ) → (X → Type 0) → Place → X → List ℕ → X → Type 0

@@ -21,7 +21,7 @@ use Rattle.chess_pgn.specs.declared.games.GamesFault.TheVariants.{Pgn, Read}
 module _ {X : Type 0} (comes : X → List ℕ → X → Type 0) (at_hand : X → List ℕ) (all : X → Type 0) where
   abbrev pub ReadsNeeded : X → List ℕ → X → Type 0
   ReadsNeeded old came new =
-      ((came ≡ []) × (all new → all old)) ⊎ ((front : List ℕ) × (piece : List ℕ) × (at_hand old ++ came ≡ front ++ piece) × (length piece ≤ 65536) × HasNoGameYet front)
+      ((came ≡ []) × (all new → all old)) ⊎ ((prefix : List ℕ) × (piece : List ℕ) × (at_hand old ++ came ≡ prefix ++ piece) × (length piece ≤ 65536) × HasNoGameYet prefix)
 
   pub record HasCome {A : Type 0} (old new : X) (game : Game A) (used : ℕ) : Type 0 where
     pub pieces : List (List ℕ)
@@ -75,7 +75,7 @@ module _ {X : Type 0} (comes : X → List ℕ → X → Type 0) (at_hand : X →
 
   abbrev pub IsFault : (X → X → Type 0) → X → X → GamesFault → Type 0
   IsFault breaks old new Read = HasBroken breaks old new
-  IsFault breaks old new (Pgn told) = ((told.kind ≡ Memory) × HasStarved old new) ⊎ NotCome old new
+  IsFault breaks old new (Pgn fault) = ((fault.kind ≡ Memory) × HasStarved old new) ⊎ NotCome old new
 
   abbrev pub TakesGame : {A : Type 0} → (X → X → Type 0) → X → X → Result (Option (Game A × ℕ)) GamesFault → Type 0
   TakesGame breaks old new (Ok found) = FoundGame comes at_hand all old new found

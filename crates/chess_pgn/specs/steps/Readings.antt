@@ -6,8 +6,8 @@
 --   fresh       the state before any movetext, after some comments
 --   Goes        from one state, after some elements, the others give what they give from another
 --   StepsOn     whatever the state was, it is one after that element
---   FailsWith   whatever the state was, nothing is derived with some elements in front, or too many variations are open
---   Exceeds     whatever the state was, only a game too large to be read is derived with some elements in front
+--   FailsWith   whatever the state was, nothing is derived with some elements before, or too many variations are open
+--   Exceeds     whatever the state was, only a game too large to be read is derived with some elements before
 --   AtLimit     no move can be added at the cursor
 --   RefusesElements  so it is, by the kind of the fault, unless there was no memory
 use Rattle.std.specs.Prelude.{◌≡◌, ◌⊎◌, ◌<◌, ◌≤◌, ℕ, Bool, true, false, is_some, List, [], ◌∷◌, ◌++◌, length, reverse, Option, Some, None, IfSome, ⊤}

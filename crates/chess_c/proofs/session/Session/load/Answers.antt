@@ -14,8 +14,8 @@ use Rattle.chess_c.proofs.session.Session.load.Goals.{in-Ok-Some, in-Ok-None, in
 found : (text : List ℕ) → (board board' : TreeParts) → (code used used' taken : ℕ) → code ≡ ok → used' ≡ taken
     → (game : Game) × BeginsWithGame text game taken × (board' ≡ from_root game.tree) → LoadsFrom text board code used used' board'
 found text board board' code used used' taken is same game =
-    let (tree, front, new) = game in
-    inl (is, tree, subst (λ u. BeginsWithGame text tree u) (sym same) front, new)
+    let (tree, prefix, new) = game in
+    inl (is, tree, subst (λ u. BeginsWithGame text tree u) (sym same) prefix, new)
 
 refused : (text : List ℕ) → (fault : PgnFault) → (code used used' : ℕ) → code ≡ fault_code fault.kind → used' ≡ fault.place
     → (fault.kind ≡ Memory) ⊎ HasNoGame text → IsNone text code used used'

@@ -13,8 +13,8 @@ loop-task-preserved g c =
     let first = c.args.self.now in
     let old = c.loop-task.self in
     let new = c.step.new.self in
-    let front = c.pop.new.self.items in
+    let prefix = c.pop.new.self.items in
     let t = c.in-Some.task in
-    let parted : todos old.tasks.items ≡ todo t ∷ todos front = todos_pushed front old.tasks.items t c.in-Some.ensures.items in
-    done_on first.lines old.lines new.lines first.speller old.speller new.speller (todos first.tasks.items) (todo t ∷ todos front) (todos new.tasks.items)
+    let parted : todos old.tasks.items ≡ todo t ∷ todos prefix = todos_pushed prefix old.tasks.items t c.in-Some.ensures.items in
+    done_on first.lines old.lines new.lines first.speller old.speller new.speller (todos first.tasks.items) (todo t ∷ todos prefix) (todos new.tasks.items)
     (subst (λ (x : List Todo). Done first.lines old.lines first.speller old.speller (todos first.tasks.items) x) parted c.loop-task.invariant) c.in_ok-step.ensures
