@@ -1,3 +1,3 @@
--- Words of the code alone.
+-- Definitions for the code alone.
 pub mod Judging
 pub mod Reports

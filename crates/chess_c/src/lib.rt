@@ -1,6 +1,6 @@
-//! The board for C: each exported function takes the slot in which C keeps a board, and says what it answers and what it leaves there.
+//! The board for C: each exported function takes the slot in which C keeps a board, and says what it returns and what it leaves there.
 //!
-//! `include/jatshegi.h` declares them. A slot holds a board or nothing; every function answers with a status, of which 0 is success and 1 an empty
+//! `include/jatshegi.h` declares them. A slot holds a board or nothing; every function returns a status, of which 0 is success and 1 an empty
 //! slot (`specs/Codes.antt`). Contracts say both by two relations of `specs/Calls.antt`: `Asks` of a call that leaves the board as it was, `Acts` of
 //! one that may change it. A `Global` is C's `malloc`, `realloc` and `free`; C passes nothing for it.
 #![tactic(auto)]

@@ -29,7 +29,7 @@ use Rattle.chess_tree.specs.Edits.{parent}
 use Rattle.chess_tree.specs.Comments.{has_brace, normalised}
 use Rattle.chess_tree.specs.GameTree.{TreeParts, added, annotated_here, at_path, commented_here, deleted, find, has, line_to, main_line, nodes_here, promoted_here}
 use Rattle.chess_loop.specs.InputLines.{line_limit, line_room}
-use Rattle.chess_pgn.specs.Games.{untold}
+use Rattle.chess_pgn.specs.Games.{untagged}
 use Rattle.chess_pgn.specs.Written.{game_text}
 use Rattle.chess_cli.specs.declared.board_command.refusal.Refusal.{Refusal}
 use Rattle.chess_cli.specs.declared.board_command.refusal.Refusal.TheVariants.{Fen as BadFen, NoSuch, Illegal, TooLong, AtRoot, Full, BadComment, Memory, Command, Argument, LongLine}
@@ -176,7 +176,7 @@ effect t Status = says_line (status_text (status (line_to t)))
 effect t Claims = says_line (claims_text (claims (line_to t)))
 effect t (Claim word) = claim_effect (line_to t) (san_reading (last (line_to t)) word)
 effect t (Best depth) = says_line (best_text (best false depth (line_to t) (legal_moves (last (line_to t)))))
-effect t Pgn = Says (game_text (untold t.tree))
+effect t Pgn = Says (game_text (untagged t.tree))
 effect t Unknown = Refuses Command
 effect t Malformed = Refuses Argument
 

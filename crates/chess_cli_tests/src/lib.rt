@@ -1,4 +1,4 @@
-//! Tests of `chess_cli` by its public calls. They stand in a crate of their own, so that nothing of `chess_cli` is proved a second time for them.
+//! Tests of `chess_cli` by its public calls. They are in a crate of their own, so that nothing of `chess_cli` is proved again for them.
 #![tactic(auto)]
 
 #[cfg(test)]

@@ -1,2 +1,2 @@
--- Words of the code's steps: no definition rests on them.
+-- Definitions for the code's own steps: no other definition rests on them.
 pub mod Changes

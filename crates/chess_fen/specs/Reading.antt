@@ -65,7 +65,7 @@ fields_of (placement ∷ side ∷ castling ∷ target ∷ counters) = do
   Ok (record { placement = placement; side = side; castling = castling; target = target; clock = texts.0; number = texts.1 })
 fields_of _ = Err Fields
 
--- the words that spaces part
+-- the words, separated by spaces
 unfoldable pub fields_in : List ℕ → Result FieldTexts FenFault
 fields_in text = fields_of (words (codes " ") text)
 

@@ -1,8 +1,8 @@
 //! Reads and writes the Forsyth-Edwards notation of a position (FEN, PGN 16.1.3).
 //!
-//! `read` answers with the position that a text spells, or with the first fault of a text that spells none. What that is
-//! stands in `specs/Reading.antt`, the men of the first field in `specs/Ranks.antt`. `write` gives the one text of a position,
-//! which stands in `specs/Writing.antt` and reads as that position.
+//! `read` answers with the position that a text spells, or with the first fault of a text that spells none. Both are
+//! defined in `specs/Reading.antt`, the men of the first field in `specs/Ranks.antt`. `write` gives the one text of a position,
+//! which is defined in `specs/Writing.antt` and reads as that position.
 #![tactic(auto)]
 
 mod counters;

@@ -1,6 +1,6 @@
 //! The items of a text in portable game notation (PGN 7), taken one after another as their bytes come.
 //!
-//! What a text is made of stands in `specs/Items.antt`. `pass` takes the items of a `Text` while its `Taker` wants more: of a `Whole` text, or of an
+//! What a text is made of is defined in `specs/Items.antt`. `pass` takes the items of a `Text` while its `Taker` wants more: of a `Whole` text, or of an
 //! `AtHand` source, which is read only where the bytes at hand don't decide the item that they begin with. What an item means is the taker's.
 #![tactic(auto)]
 

@@ -1,5 +1,5 @@
 //! Laws of the Laws: what the definitions of `chess_types/specs/board` say of one another. That those definitions are the Laws of Chess has to be
-//! believed; a law that is proved of them is a part of that belief less. `search_laws` says the same of the definitions of `chess_search`.
+//! believed; each law that is proved of them leaves less to believe. `search_laws` says the same of the definitions of `chess_search`.
 //!
 //! Each law is the clause of a function that does nothing; its statement is in `specs/`.
 #![tactic(auto)]

@@ -4,7 +4,7 @@
 --   unknown     those of a game of which nothing is known
 --   tag_value   the value of a tag, by its name
 --   Game        a game
---   untold      one of which the moves are known and nothing else
+--   untagged    one of which the moves are known and nothing else
 use Rattle.std.specs.Prelude.{ℕ, if◌then◌else◌, List, [], ◌∷◌, Option, Some, None, codes, bytes_eq}
 use Rattle.chess_items.specs.declared.outcome.Outcome.{Outcome}
 use Rattle.chess_items.specs.declared.outcome.Outcome.TheVariants.{Unfinished}
@@ -38,5 +38,5 @@ pub record Game : Type 0 where
   pub outcome : Outcome
   pub tree : GameTree
 
-abbrev pub untold : GameTree → Game
-untold tree = record { tags = unknown; outcome = Unfinished; tree = tree }
+abbrev pub untagged : GameTree → Game
+untagged tree = record { tags = unknown; outcome = Unfinished; tree = tree }

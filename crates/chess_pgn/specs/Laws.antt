@@ -16,7 +16,7 @@ use Rattle.chess_draws.specs.Pushes.{most_plies}
 use Rattle.chess_tree.specs.Comments.{IsComment}
 use Rattle.chess_tree.specs.Forest.{Forest, Bare, Node, height, moves_held, most_moves}
 use Rattle.chess_tree.specs.WellFormed.{AreSound}
-use Rattle.chess_pgn.specs.Games.{Game, Tags, untold}
+use Rattle.chess_pgn.specs.Games.{Game, Tags, untagged}
 use Rattle.chess_pgn.specs.Reading.{BeginsWithGame}
 use Rattle.chess_pgn.specs.Tags.{Ascend, is_own}
 use Rattle.chess_pgn.specs.Written.{game_text}
@@ -74,7 +74,7 @@ WrittenIsRead =
 abbrev pub NewIsGame : Type 0
 NewIsGame =
     (p : PositionParts) → IsWellFormed p → ((s : ℕ) → 64 ≤ s → man_at p.placement s ≡ None) → p.clock ≤ 99999 → p.number ≤ 99999
-    → IsGame (untold (record { start = p; comment = []; below = Bare }))
+    → IsGame (untagged (record { start = p; comment = []; below = Bare }))
 
 -- What is read is a game, and no more variations are open at once than may be: so it is read again where it is written, unless its text is too
 -- long.

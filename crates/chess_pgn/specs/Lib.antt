@@ -1,5 +1,5 @@
 -- Games in portable game notation. What a reader has to believe: games, what the items of a text give, and the export form;
--- `steps` has the words of the code's steps, which public contracts don't speak of.
+-- `steps` has definitions for the code's own steps.
 pub mod Layout
 pub mod Games
 pub mod Tags

@@ -1,5 +1,5 @@
 -- What the start of a text gives as a game (PGN 8).
---   is_heading       may stand before the movetext: a part of a tag, a comment, or white
+--   is_heading       may stand before the movetext: a part of a tag, a comment, or white space
 --   is_tagged        stands in a tag alone, after its bracket
 --   is_movetext      may stand in movetext, and doesn't end it
 --   remarks          the comments among some items, after others
@@ -12,7 +12,7 @@
 --   HasNoGame        no game is at the start of a text
 --   HasNoGameYet     no one game is at the start of every text that begins so
 --   IsWhite          a text has white space, a mark and hidden lines alone
---   IsAnswered       a reader answers that game, unless there is no memory
+--   IsAnswered       a reader returns that game, unless there is no memory
 use Rattle.std.specs.Prelude.{◌≡◌, ◌⊎◌, ℕ, ◌+◌, ◌≤◌, Bool, true, false, not, List, [], ◌∷◌, ◌++◌, length, Option, Some, None, Result, Ok, Err, ⊤}
 use Rattle.std.specs.List.{list_all}
 use Rattle.std.specs.Str.{byte}

@@ -2,14 +2,14 @@
 --   Games      the bytes at hand, how many were used before them, and the fault that came
 --   GoesOn     reading may go on: no fault came, or one of a game's text, from which bytes may be passed over
 --   IsSound    where reading may go on, the source has ended where its end was seen
---   IsPlaced   a fault of the text is after the bytes that were used before its game; want of memory has its place there
+--   IsPlaced   a fault of the text is after the bytes that were used before its game; a fault for want of memory has its place there
 --   ReadsNeeded  no read was made, or the last, of at most 65,536 bytes, was made where no one game was at the start of the bytes before it,
 --              whatever follows; so was each read before it, since fewer bytes say no more
 --   HasGame    a game is at the start of the bytes at hand and those that the source gave, whatever it gives next, and is used; no read was
 --              made that wasn't needed, and at most one piece and a byte are left; a source that has ended gives no more
 --   NextGame   so it does, and its bytes are counted
---   HasNone    the source has ended, and those bytes are white
---   Fails      no game is at the start of those bytes, which aren't white, whatever the source gives next; the first of them are used
+--   HasNone    the source has ended, and those bytes are white space
+--   Fails      no game is at the start of those bytes, which aren't white space, whatever the source gives next; the first of them are used
 --   Starves    bytes came, and then there was no memory
 --   ReadFails  bytes came, and then a read failed, or there may be no more; the source had not ended, and no one game is at their start, whatever follows
 --   HasFault   a read failed, there was no memory, or no game is there; but for the first, no read failed

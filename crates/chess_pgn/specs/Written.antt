@@ -86,7 +86,7 @@ abbrev pub nags_text : List ℕ → List ℕ
 nags_text [] = []
 nags_text (n ∷ nags) = codes " $" ++ (decimal n ++ nags_text nags)
 
--- a comment, unless it is empty (PGN 8.2.5)
+-- a comment, unless it is empty (PGN 5)
 abbrev pub comment_text : List ℕ → List ℕ
 comment_text [] = []
 comment_text (b ∷ text) = codes " {" ++ ((b ∷ text) ++ codes "}")

@@ -1,6 +1,6 @@
 //! Games in portable game notation (PGN 3): a game read from the items of a text, and the export form of a game.
 //!
-//! What a text is made of stands in `chess_items/specs/Items.antt`, what a game is in `specs/Games.antt`, and its export form, which `write_game`
+//! What a text is made of is defined in `chess_items/specs/Items.antt`, what a game is in `specs/Games.antt`, and its export form, which `write_game`
 //! gives, in `specs/Written.antt`. That a game which is written is read again is a law of these definitions (`specs/Laws.antt`), which
 //! `game_laws` states.
 #![tactic(auto)]

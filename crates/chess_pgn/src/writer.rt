@@ -2,7 +2,7 @@ ghost use Rattle.std.specs.Prelude.{◌≡◌, ◌++◌, ◌∷◌, [], if◌the
 ghost use Rattle.chess_items.specs.declared.fault.FaultKind.TheVariants.{Memory};
 ghost use Rattle.chess_fen.specs.Writing.{written};
 ghost use Rattle.chess_types.specs.board.Position.{PositionParts, start};
-ghost use Rattle.chess_pgn.specs.Games.{untold};
+ghost use Rattle.chess_pgn.specs.Games.{untagged};
 ghost use Rattle.chess_pgn.specs.Written.{other_tags_text, escaped, game_text, is_before, is_within, others_text, tag_text, tags_text};
 ghost use Rattle.chess_pgn.specs.steps.GameCode.{game_of, tags_of};
 
@@ -235,7 +235,7 @@ pub fn write_tree<'a, A: Allocator>(
     alloc: &'a A,
     tree: &Tree<'a, A>,
 ) -> Result<Vec<u8, &'a A>, PgnFault>
-    ensures ok { IfOk result (λ text. text.items ≡ game_text (untold tree.now.tree)) }
+    ensures ok { IfOk result (λ text. text.items ≡ game_text (untagged tree.now.tree)) }
     ensures memory { IfErr result (λ fault. fault ≡ record { place = 0; kind = Memory }) }
 {
     let tags = Tags::unknown(alloc)?;

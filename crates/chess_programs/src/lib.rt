@@ -1,4 +1,4 @@
-//! What the programs over the standard streams share: their version, how their words are read and refused, why a collection isn't read to its end, and how
+//! What the programs over the standard streams share: their version, how their arguments are read and refused, why a collection isn't read to its end, and how
 //! far its reading has come.
 #![tactic(auto)]
 

@@ -1,2 +1,2 @@
--- Words of the code alone.
+-- Definitions for the code alone.
 pub mod Tallies

@@ -1,7 +1,7 @@
 //! Moves in standard algebraic notation (SAN, PGN 8.2.3), read and written.
 //!
-//! `write` gives the one text of a legal move (`specs/Writing.antt`). `read` answers with the legal move that a
-//! text names, or says why there is none; the forms of texts stand in `specs/Forms.antt`, and which moves they name in
+//! `write` gives the one text of a legal move (`specs/Writing.antt`). `read` returns the legal move that a
+//! text names, or says why there is none; the forms of texts are defined in `specs/Forms.antt`, and which moves they name in
 //! `specs/Naming.antt`. What is written of a move names that move alone.
 #![tactic(auto)]
 

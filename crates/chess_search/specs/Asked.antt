@@ -1,5 +1,5 @@
--- How many positions plain minimax asks for their value: a search asks for no more.
---   tree_size    for the value of a line, so many moves deep: its last position, and while play goes on those below each legal move
+-- How many positions plain minimax visits: a search visits no more.
+--   tree_size    for the value of a line, searched to a depth: its last position, and while play goes on those below each legal move
 --   tree_below   for what a move is worth
 --   trees_below  for what each of some moves is worth, one after another
 use Rattle.std.specs.Prelude.{ℕ, zero, suc, Bool, if◌then◌else◌, List}

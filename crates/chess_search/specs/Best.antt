@@ -1,7 +1,7 @@
 -- The best of some moves.
 --   best_by   the first of them that is worth most, and its worth
---   best      the best of some moves of a line, by their worth so many moves deep
---   AtRoot    a search may begin at a line, so many moves deep
+--   best      the best of some moves of a line, by their worth at a depth
+--   AtRoot    a search to that depth may begin at a line
 --   IsAsked   and some moves are its roots
 use Rattle.std.specs.Prelude.{◌≡◌, ◌≤◌, ℕ, ◌-◌, Bool, true, List, map, Option, ℤ, find}
 use Rattle.std.specs.List.{All}

@@ -4,7 +4,7 @@
 --   is_mated_in    it is mated by the other side's n-th move at the latest, whatever it plays; 0 where it is mated
 --   MateIsReported, MatedIsReported   where mate with the n-th move is forced, and with no earlier one, the score is `mate N` or `mate -N`
 --   MateIsForced, MatedIsForced       where the score is a mate, it is forced with just that move
--- Only moves within the depth of the search count, and a drawn line goes no further (`counts_drawn`).
+-- Only moves within the depth of the search count, and a drawn line is not searched further (`counts_drawn`).
 use Rattle.std.specs.Prelude.{◌≡◌, ℕ, zero, suc, ◌+◌, ◌-◌, ◌≤◌, Bool, true, false, not, ◌&&◌, if◌then◌else◌, ◌++◌, pos, neg_ℤ, ◌≤ℤ◌, codes}
 use Rattle.std.specs.List.{list_any, list_all}
 use Rattle.std.specs.Fmt.{signed_decimal}

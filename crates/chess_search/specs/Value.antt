@@ -1,9 +1,9 @@
--- What a line is worth to the side to move, some moves deep: plain minimax over the legal moves, with no cutoff and no order of moves.
+-- What a line is worth to the side to move, searched to a depth: plain minimax over the legal moves, with no cutoff and no order of moves.
 --   evaluation_for   the evaluation of a position for the side to move
 --   counts_drawn     a line that counts as drawn though its last position has a legal move
---   ended            the value of a line that goes no further; none where play goes on
+--   ended            the value of a line at which the game is over or drawn; none where play goes on
 --   greatest         the greatest of some numbers, at least one
---   value            the value of a line, so many moves deep and so many moves from the root
+--   value            the value of a line, searched to a depth, so many moves from the root
 --   worth            what a move is worth to the side that makes it
 -- A mate is worth 30,000 less the moves from the root to it, so that the nearest mate is the best; every other value lies far below.
 use Rattle.std.specs.Prelude.{ℕ, zero, suc, ◌+◌, Bool, ◌&&◌, ◌||◌, if◌then◌else◌, List, [], ◌∷◌, map, Option, Some, None, unwrap_or, ℤ, pos, neg_ℤ, ◌-ℤ◌, fold}

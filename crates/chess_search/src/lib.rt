@@ -1,4 +1,4 @@
-//! The first legal move of greatest plain minimax value, some plies deep.
+//! The first legal move of greatest plain minimax value, to a given depth in plies.
 //!
 //! `best` searches some legal moves of a line at one depth, `Slices` does it one move at a time. Contracts speak of plain minimax
 //! (`specs/Value.antt`); the code cuts off what can't change the answer (alpha-beta) and tries good moves first.

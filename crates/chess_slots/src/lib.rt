@@ -1,8 +1,8 @@
 //! What the libraries for C and for a page share: what is kept in a slot, and how answers are handed out.
 //!
-//! `Loose` is a box as its pointer, which a slot can keep; each library has a slot of its own, since a type that crosses to C has no parameters. The others
+//! `Loose` is a `Box` as a raw pointer, which a slot can keep; each library has a slot of its own, since a type that crosses to C has no parameters. The others
 //! are calls over a text, a board or an engine, which hand out what they answer: `game`, `passed` and `report` of a text, `answer` of a line of the board,
-//! `reply` of an event of an engine. Each answers with a status, of which 0 is success (`specs/Codes.antt`).
+//! `reply` of an event of an engine. Each returns a status, of which 0 is success (`specs/Codes.antt`).
 #![tactic(auto)]
 
 mod along;

@@ -1,10 +1,10 @@
--- What the calls that move the cursor, and those that edit at it, answer and leave. A tree and an analysis have the same.
+-- What the calls that move the cursor, and those that edit at it, return and leave. A tree and an analysis have the same.
 --   StepsDown     to the child at a place
 --   StepsUp       to the parent, as a tree that may have changed below it
 --   GoesTo        to the node at a path
 --   GoesToEnd     along the main continuations to a node without children
 --   Promotes      the node is before its siblings
---   Annotates     an annotation number more
+--   Annotates     one more annotation number
 --   Comments      the words of a text as the comment
 use Rattle.std.specs.Prelude.{◌≡◌, ℕ, ◌<◌, ◌≤◌, ◌++◌, ◌∷◌, [], true, false, length, List, Result, Ok, Err, IfErr, MatchResult, OnErr, OnOk}
 use Rattle.chess_draws.specs.Pushes.{most_plies}

@@ -1,4 +1,4 @@
--- The text of a comment (PGN 8.2.5).
+-- The text of a comment (PGN 5).
 --   blanks       the bytes of white space
 --   normalised   the words, one space between two
 --   with_next_word    a word more after a text, after a space unless it is the first

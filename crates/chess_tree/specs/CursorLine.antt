@@ -1,5 +1,5 @@
--- A step of the cursor to a child, by the line to the cursor.
---   GoesOn   the line to the one place, and one move more, is the line to the other
+-- A step of the cursor to a child appends the child's move to the line to the cursor.
+--   GoesOn   the line to the lower cursor is the line to the upper one with that move appended
 use Rattle.std.specs.Prelude.{◌≡◌, ◌<◌, true, length, Some}
 use Rattle.chess_types.specs.board.MoveParts.{MoveParts}
 use Rattle.chess_types.specs.board.Legal.{is_legal}

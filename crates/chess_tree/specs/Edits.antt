@@ -4,7 +4,7 @@
 --   without_node       the nodes, but for one
 --   promoted      one of them before the others
 --   commented     a comment for one of them, instead of its own
---   annotated     an annotation number more for one of them
+--   annotated     one more annotation number for one of them
 --   parent        the path one node less deep
 use Rattle.std.specs.Prelude.{ℕ, zero, suc, List, [], ◌∷◌, ◌++◌}
 use Rattle.chess_types.specs.board.MoveParts.{MoveParts}

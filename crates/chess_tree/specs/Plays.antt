@@ -1,9 +1,9 @@
--- What playing a move at the cursor answers, and where it leads.
+-- What playing a move at the cursor returns, and where it leads.
 --   add_answer    the answer where there is memory and the move is added whether or not a child has it: the first fault that applies
 --   play_answer   the same where a child that has the move is stepped to
 --   played        the tree and the cursor once a move is played
---   IsAnswer      want of memory is answered only where nothing else is wrong
---   Adds, Plays   what the calls answer and leave
+--   IsAnswer      `Memory` is returned only where nothing else is wrong
+--   Adds, Plays   what the calls return and leave
 use Rattle.std.specs.Prelude.{◌≡◌, ◌⊎◌, ℕ, nat_le, not, if◌then◌else◌, [], ◌∷◌, ◌++◌, length, Option, None, Some, Result, Ok, Err, OnErr, OnOk}
 use Rattle.chess_types.specs.board.MoveParts.{MoveParts}
 use Rattle.chess_types.specs.board.Legal.{is_legal}

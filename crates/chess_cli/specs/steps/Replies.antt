@@ -7,7 +7,7 @@ use Rattle.chess_types.specs.board.Legal.{legal_moves}
 use Rattle.chess_types.specs.board.Lines.{last}
 use Rattle.chess_search.specs.Best.{best}
 use Rattle.chess_tree.specs.GameTree.{TreeParts, at_path, has, line_to}
-use Rattle.chess_pgn.specs.Games.{untold}
+use Rattle.chess_pgn.specs.Games.{untagged}
 use Rattle.chess_pgn.specs.Written.{game_text}
 use Rattle.chess_cli.specs.declared.board_command.answer.Pending.{Pending}
 use Rattle.chess_cli.specs.declared.board_command.answer.Pending.TheVariants.{Nothing, Path, Game}
@@ -19,11 +19,11 @@ use Rattle.chess_cli.specs.Answers.{Effect, Refuses, best_text, if_it_exists, no
 abbrev pub IsOnPage : Pending → TreeParts → List ℕ → List ℕ → List ℕ → Type 0
 IsOnPage Nothing t page page1 text = page1 ≡ page ++ text
 IsOnPage Path t page page1 text = (page1 ≡ page) × (path_text t.path ++ 10 ∷ [] ≡ text)
-IsOnPage Game t page page1 text = (page1 ≡ page) × (game_text (untold t.tree) ≡ text)
+IsOnPage Game t page page1 text = (page1 ≡ page) × (game_text (untagged t.tree) ≡ text)
 
 -- the game's text, or that there is no memory for it
 abbrev pub IsGameText : TreeParts → List ℕ → Type 0
-IsGameText t text = (text ≡ game_text (untold t.tree)) ⊎ (text ≡ no_memory)
+IsGameText t text = (text ≡ game_text (untagged t.tree)) ⊎ (text ≡ no_memory)
 
 -- `goto`: to the node of the path, if there is one
 abbrev pub path_effect : TreeParts → Option (List ℕ) → Effect

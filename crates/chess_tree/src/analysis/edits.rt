@@ -24,7 +24,7 @@ impl<'a, 'k, A: Allocator> Analysis<'a, 'k, A> {
         self.tree.promote()
     }
 
-    /// Sets the comment at the cursor (PGN 8.2.5): the words of the text with one space between two; an empty one removes it.
+    /// Sets the comment at the cursor (PGN 5): the words of the text with one space between two; an empty one removes it.
     /// `BadComment` where a right brace stands in it, else `Memory` where there is none; a text without words takes none.
     pub fn set_comment(&mut self, text: &[u8]) -> Result<(), TreeFault>
         ensures { Comments text.now self.old result self.new }

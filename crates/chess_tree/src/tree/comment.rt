@@ -35,7 +35,7 @@ fn normalised<'a, A: Allocator>(alloc: &'a A, text: &[u8]) -> Result<Vec<u8, &'a
 }
 
 impl<'a, A: Allocator> Tree<'a, A> {
-    /// Sets the comment at the cursor (PGN 8.2.5): the words of the text with one space between two; an empty one removes it.
+    /// Sets the comment at the cursor (PGN 5): the words of the text with one space between two; an empty one removes it.
     /// `BadComment` where a right brace stands in it, else `Memory` where there is none; a text without words takes none.
     pub fn set_comment(&mut self, text: &[u8]) -> Result<(), TreeFault>
         ensures { Comments text.now self.old result self.new }

@@ -1,6 +1,6 @@
 -- Colours and kinds of men, and how many men of a sort a board has (FIDE Laws, article 2.2).
 --   same_colour, opponent                 of colours
---   same_kind, kind_number                of kinds; colours and kinds have a number, by which keys tell men apart
+--   same_kind, kind_number                of kinds; colours and kinds have a number, by which keys distinguish men
 --   is_man, is_of, is_king_of, holds_pawn what stands on a square
 --   count_squares                         on how many squares a test of what stands there holds
 --   men_of, kings_of                      how many men, and how many kings, of a colour

@@ -26,7 +26,7 @@ is_without [] = true
 is_without (m ∷ moves) = false
 
 -- mate (5.1.1), stalemate (5.2.1), dead (5.2.2), five times the same position (9.6.1), 75 moves without a capture or a pawn's move
--- (9.6.2), a mate on the last of them apart; else the game goes on
+-- (9.6.2), unless the last of them mates; else the game goes on
 unfoldable pub status_at : PositionParts → ℕ → Status
 status_at p count =
     if is_without (legal_moves p) then (if in_check (man_on p) p.side then Mate else Stalemate)
