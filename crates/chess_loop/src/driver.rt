@@ -32,8 +32,8 @@ pub enum RunEnd {
 
 // Answers the line, whether it is kept or not.
 fn answer_line<E: LineHandler, A: Allocator, W: Sink>(
-    engine: &mut E,
     line: &LineBuffer<A>,
+    engine: &mut E,
     page: &mut OutputBuffer<A>,
     writer: &mut W,
 ) -> Result<(), Failed>
@@ -71,7 +71,7 @@ fn feed<E: LineHandler, A: Allocator, W: Sink>(
         if let Err(failed) = page.make_room(writer) {
             return Err(failed);
         }
-        if let Err(failed) = answer_line(engine, line, page, writer) {
+        if let Err(failed) = answer_line(line, engine, page, writer) {
             return Err(failed);
         }
         line.restart();
@@ -99,7 +99,7 @@ fn finish<E: LineHandler, A: Allocator, W: Sink>(
     if line.is_empty() {
         return Ok(());
     }
-    let Err(failed) = answer_line(engine, line, page, writer) else {
+    let Err(failed) = answer_line(line, engine, page, writer) else {
         return page.flush(writer);
     };
     Err(failed)
