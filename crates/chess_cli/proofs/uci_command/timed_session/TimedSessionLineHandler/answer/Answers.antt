@@ -1,7 +1,7 @@
 use Rattle.std.proofs.Common.{refl, sym}
 use Rattle.chess_cli.proofs.WorkLemmas.{work_falls}
 use Rattle.chess_cli.proofs.TimedSessionLemmas.{begins, ends, fails, goes_on, same_event}
-use Rattle.chess_cli.proofs.uci_command.timed_session.TimedSession.drive.Goals as goal
+use Rattle.chess_cli.proofs.uci_command.timed_session.TimedSessionLineHandler.answer.Goals as goal
 
 pub loop-page-init : goal.loop-page-init
 loop-page-init g c =
@@ -12,7 +12,7 @@ loop-page-init g c =
 pub returns-in-Err : goal.returns-in-Err
 returns-in-Err g c =
     fails g.C.Clock.reads g.W.Sink.takes g.W.Sink.failed c.args.line.now c.args.self.now c.loop-page.self c.args.page.now c.loop-page.page c.flush.new.self
-    c.args.writer.now c.loop-page.writer c.flush.new.writer c.in-Err.failed c.loop-page.invariant c.in-Err.ensures.flows
+    c.args.writer.now c.loop-page.writer c.flush.new.writer c.in-Err.failed c.requires.awake c.requires.short c.loop-page.invariant c.in-Err.ensures.flows
 
 pub loop-page-smaller : goal.loop-page-smaller
 loop-page-smaller g c =
@@ -31,4 +31,4 @@ loop-page-preserved g c =
 pub returns : goal.returns
 returns g c =
     ends g.C.Clock.reads g.W.Sink.takes g.W.Sink.failed c.args.line.now c.args.self.now c.loop-page.self c.args.page.now c.loop-page.page c.args.writer.now c.loop-page.writer
-    c.loop-page.invariant (sym c.loop-page-test.ensures.value)
+    c.requires.awake c.requires.short c.loop-page.invariant (sym c.loop-page-test.ensures.value)
