@@ -1,5 +1,5 @@
 -- What the board may answer.
-use Rattle.std.proofs.Common.{◌≡◌, ℕ, ◌<◌, ◌≤◌, ◌++◌, ◌∷◌, [], Bool, List, length, Result, Ok, Err, true, false, leb, refl, sym, ap, ◌∙◌, subst, inl, inr, arith}
+use Rattle.std.proofs.Common.{◌≡◌, ℕ, ◌<◌, ◌≤◌, ◌++◌, ◌∷◌, [], Bool, List, length, Result, Ok, true, false, leb, refl, sym, ap, ◌∙◌, subst, inl, inr, arith}
 use Rattle.std.proofs.lemmas.Bool.Decides.{nat_tests}
 use Rattle.byte_streams.specs.declared.source.Failed.{Failed}
 use Rattle.chess_tree.specs.GameTree.{TreeParts}
@@ -9,43 +9,27 @@ use Rattle.chess_cli.specs.Answers.{Answers, AnswersWithin, IsGranted, Tells, Ma
 use Rattle.chess_cli.specs.Numbers.{path_text}
 use Rattle.chess_cli.specs.steps.Replies.{IsGameText, IsOnPage}
 use Rattle.chess_cli.specs.Requests.{Pgn, request}
-use Rattle.chess_loop.specs.Runs.{InOne}
-use Rattle.chess_loop.specs.steps.Reads.{StepOr}
-use Rattle.chess_loop.specs.steps.Sending.{Sends, SendsParts}
-use Rattle.chess_loop.proofs.SendingLemmas.{puts, sends_one}
+use Rattle.chess_loop.specs.steps.Sending.{Sends}
+use Rattle.chess_loop.proofs.SendingLemmas.{puts}
 
 within : (bytes : List ℕ) → length bytes ≤ line_limit → leb (length bytes) line_limit ≡ true
 within bytes few = grind (arith, nat_tests, few)
 
 -- one that found no memory
-pub answers_without_memory : (p : TreeParts) (bytes text : List ℕ) → line_room < length bytes → length bytes ≤ line_limit → text ≡ no_memory → Answers p bytes text p
-answers_without_memory p bytes text long few said = subst (λ b. AnswersWithin b p bytes text p) (sym (within bytes few)) (inr (long, said, refl))
+pub answers_without_memory : (p : TreeParts) (bytes : List ℕ) → line_room < length bytes → length bytes ≤ line_limit → Answers p bytes no_memory p
+answers_without_memory p bytes long few = subst (λ b. AnswersWithin b p bytes no_memory p) (sym (within bytes few)) (inr (long, refl, refl))
 
 -- one over the limit is refused
-pub answers_long : (p : TreeParts) (bytes text : List ℕ) → line_limit < length bytes → text ≡ long_line → Answers p bytes text p
-answers_long p bytes text over said =
+pub answers_long : (p : TreeParts) (bytes : List ℕ) → line_limit < length bytes → Answers p bytes long_line p
+answers_long p bytes over =
     let test : leb (length bytes) line_limit ≡ false = grind (arith, nat_tests, over) in
-    subst (λ b. AnswersWithin b p bytes text p) (sym test) (said, refl)
+    subst (λ b. AnswersWithin b p bytes long_line p) (sym test) (refl, refl)
+
+-- the answer to one that was kept whole
+pub answers_whole : (p q : TreeParts) (bytes text : List ℕ) → length bytes ≤ line_limit → Tells p (request bytes) text q → Answers p bytes text q
+answers_whole p q bytes text few told = subst (λ b. AnswersWithin b p bytes text q) (sym (within bytes few)) (inl told)
 
 module _ {W : Type 0} (takes : W → List ℕ → W → Type 0) (failed : W → Bool) where
-  -- an answer goes out in one part
-  in_one : (p q : TreeParts) (bytes text page page1 : List ℕ) (w w1 : W) (result : Result (Unit {0}) Failed) → Answers p bytes text q → Sends takes failed page w text page1 w1 result
-      → (parts : List (List ℕ)) × StepOr (InOne Answers) (InOne Answers) takes failed p bytes parts q result × SendsParts takes failed page w parts page1 w1 result
-  in_one p q bytes text page page1 w w1 (Ok x) answers sends = (text ∷ [], (text, answers, refl), sends_one takes failed w w1 page text page1 (Ok x) sends)
-  in_one p q bytes text page page1 w w1 (Err e) answers sends = (text ∷ [], (text, answers, refl), sends_one takes failed w w1 page text page1 (Err e) sends)
-
-  -- the answer to a line that was kept whole
-  pub answers_whole : (p q : TreeParts) (bytes page page1 : List ℕ) (w w1 : W) (result : Result (Unit {0}) Failed) → length bytes ≤ line_limit
-      → (text : List ℕ) × Tells p (request bytes) text q × Sends takes failed page w text page1 w1 result
-      → (parts : List (List ℕ)) × StepOr (InOne Answers) (InOne Answers) takes failed p bytes parts q result × SendsParts takes failed page w parts page1 w1 result
-  answers_whole p q bytes page page1 w w1 result few told =
-      in_one p q bytes told.0 page page1 w w1 result (subst (λ b. AnswersWithin b p bytes told.0 q) (sym (within bytes few)) (inl told.1)) told.2
-
-  -- one line that is put on the page
-  pub answers_put : (p : TreeParts) (bytes text page page1 : List ℕ) (w : W) → Answers p bytes text p → page1 ≡ page ++ text
-      → (parts : List (List ℕ)) × StepOr (InOne Answers) (InOne Answers) takes failed {X = Unit {0}} {E = Failed} p bytes parts p (Ok tt) × SendsParts takes failed {X = Unit {0}} {E = Failed} page w parts page1 w (Ok tt)
-  answers_put p bytes text page page1 w answers put = in_one p p bytes text page page1 w w (Ok tt) answers (puts takes failed w page text page1 put)
-
   -- a text that is put on the page
   pub told_whole : (p q : TreeParts) (line page page1 : List ℕ) (w : W) → MayAnswer (IsOnPage Nothing q page page1) p (request line) q
       → (text : List ℕ) × Tells p (request line) text q × Sends takes failed {X = Unit {0}} {E = Failed} page w text page1 w (Ok tt)

@@ -1,5 +1,5 @@
 -- A line that is being answered by a session, in the code's words.
-use Rattle.std.proofs.Common.{◌≡◌, ℕ, ◌<◌, ◌≤◌, Bool, Bor, true, false, leb, ◌⊎◌, ⊎_elim, inl, inr, List, [], ◌∷◌, ◌++◌, length, refl, sym, ap, ◌∙◌, subst, append_assoc, arith, Result, Ok, Err}
+use Rattle.std.proofs.Common.{◌≡◌, ℕ, ◌<◌, ◌≤◌, Bool, Bor, true, false, leb, ◌⊎◌, ⊎_elim, inl, inr, List, [], ◌∷◌, ◌++◌, length, refl, sym, ap, ◌∙◌, subst, append_assoc, arith, Ok, Err}
 use Rattle.std.proofs.lemmas.Bool.Decides.{nat_tests}
 use Rattle.byte_streams.specs.Calls.{joined}
 use Rattle.byte_streams.specs.declared.source.Failed.{Failed}
@@ -12,9 +12,9 @@ use Rattle.chess_uci.specs.Events.{Does, Follows}
 use Rattle.chess_cli.specs.declared.uci_command.timed_session.TimedSession.{TimedSession}
 use Rattle.chess_loop.specs.InputLines.{line_limit, line_room}
 use Rattle.chess_cli.specs.TimedSessions.{Answered, AnsweredInPart, AnsweredSoFar, AnsweredWithin, IsLineEvent, is_fed, no_memory_line, reply_lines, too_long_line}
-use Rattle.chess_cli.specs.steps.Driving.{Drives, Happened}
+use Rattle.chess_cli.specs.steps.Driving.{Happened}
 use Rattle.chess_loop.specs.Runs.{unwritten}
-use Rattle.chess_loop.specs.steps.Reads.{StepOr}
+use Rattle.chess_loop.specs.steps.Reads.{AnswersLine}
 use Rattle.chess_loop.specs.steps.Sending.{Sent, SendsParts, Flows}
 use Rattle.chess_cli.proofs.EventLemmas.{answering_goes_on, answering_starts, reply_lines-append}
 use Rattle.chess_loop.proofs.SendingLemmas.{flows_broken, puts, sends_one, sent_more, unwritten_more}
@@ -80,23 +80,17 @@ module _ {A C W : Type 0} (reads : C → ℕ → C → Type 0) (takes : W → Li
         sends = sends_more takes failed page page4 _ part v x so_far.parts _ so_far.answered.replied (rw empty at (flows v (page ++ joined so_far.parts) so_far.sends.0)) stands;
       }
 
-  pub ends : (s t : TimedSession A C) (page page1 : List ℕ) (v w : W) → Underway s page v t page1 w → is_fed t.session ≡ false →
-      Drives reads takes failed line {X = Unit {0}} {E = Failed} s t page v page1 w (Ok tt)
-  ends s t page page1 v w so_far over = (so_far.parts, (so_far.answered, over), so_far.sends)
+  pub ends : (s t : TimedSession A C) (page page1 : List ℕ) (v w : W) → s.session.ended ≡ false → length line ≤ line_limit → Underway s page v t page1 w →
+      is_fed t.session ≡ false → AnswersLine (Answered reads) (AnsweredInPart reads) takes failed {X = Unit {0}} {E = Failed} line s t page v page1 w (Ok tt)
+  ends s t page page1 v w awake few so_far over =
+      (so_far.parts, (awake, subst (λ b. AnsweredWithin reads b s line so_far.parts t) (sym (within line few)) (inl (so_far.answered, over))), so_far.sends)
 
-  pub fails : (s t : TimedSession A C) (page page1 page2 : List ℕ) (v w x : W) (f : Failed) → Underway s page v t page1 w →
-      Flows takes failed {X = Unit {0}} {E = Failed} page1 w page2 x (Err f) → Drives reads takes failed line {X = Unit {0}} {E = Failed} s t page v page2 x (Err f)
-  fails s t page page1 page2 v w x f so_far flows =
+  pub fails : (s t : TimedSession A C) (page page1 page2 : List ℕ) (v w x : W) (f : Failed) → s.session.ended ≡ false → length line ≤ line_limit → Underway s page v t page1 w →
+      Flows takes failed {X = Unit {0}} {E = Failed} page1 w page2 x (Err f) →
+      AnswersLine (Answered reads) (AnsweredInPart reads) takes failed {X = Unit {0}} {E = Failed} line s t page v page2 x (Err f)
+  fails s t page page1 page2 v w x f awake few so_far flows =
       let broken = flows_broken takes failed v w x (page ++ joined so_far.parts) page1 page2 f so_far.sends.0 flows in
-      (so_far.parts, so_far.answered, (broken.0, omega (arith, broken.1, so_far.sends.1)))
-
-  -- a line that was kept whole
-  pub answered_whole : (old new : TimedSession A C) (page page1 : List ℕ) (v w : W) (result : Result (Unit {0}) Failed) → old.session.ended ≡ false → length line ≤ line_limit
-      → Drives reads takes failed line old new page v page1 w result
-      → (parts : List (List ℕ)) × StepOr (Answered reads) (AnsweredInPart reads) takes failed old line parts new result × SendsParts takes failed page v parts page1 w result
-  answered_whole old new page page1 v w (Ok x) awake few drives =
-      (drives.0, (awake, subst (λ b. AnsweredWithin reads b old line drives.0 new) (sym (within line few)) (inl drives.1)), drives.2)
-  answered_whole old new page page1 v w (Err e) awake few drives = (drives.0, (awake, few, drives.1), drives.2)
+      (so_far.parts, (awake, few, so_far.answered), (broken.0, omega (arith, broken.1, so_far.sends.1)))
 
 module _ {A C : Type 0} (reads : C → ℕ → C → Type 0) where
   -- one that found no memory

@@ -7,7 +7,7 @@ use Rattle.byte_streams.specs.declared.source.Failed.{Failed}
 use Rattle.chess_loop.specs.InputLines.{ended_lines, last_line, line_buffer}
 use Rattle.chess_loop.specs.RunEnds.{Broken, IsPrefix}
 use Rattle.chess_loop.specs.Runs.{Runs, Counted, unwritten}
-use Rattle.chess_loop.specs.steps.Reads.{Holds, AnswersLine, Feeds, Finishes}
+use Rattle.chess_loop.specs.steps.Reads.{Holds, AnswersHeld, Feeds, Finishes}
 use Rattle.chess_loop.specs.steps.LineSoFar.{LineSoFar}
 use Rattle.chess_loop.specs.steps.Sending.{Sent, Flows}
 use Rattle.chess_loop.proofs.LineLemmas.{ended_lines-at, line_buffer-at, ended_lines-free, line_buffer-free}
@@ -108,7 +108,7 @@ module _ {S W : Type 0} (step cut : S → List ℕ → List (List ℕ) → S →
       → front ≡ take at rest
       → others ≡ drop (at + 1) rest
       → ((bytes : List ℕ) → Holds line bytes → Holds line1 (bytes ++ front))
-      → AnswersLine step cut takes failed {X = Unit {0}} {E = Failed} line1 now next page w1 page1 w2 (Ok tt)
+      → AnswersHeld step cut takes failed {X = Unit {0}} {E = Failed} line1 now next page w1 page1 w2 (Ok tt)
       → Holds line2 []
       → Going step over takes failed begun piece old next line2 w0 page1 w2 others
   going_on old now next line line1 line2 w0 w1 w2 page page1 rest front others at going first front_is others_is adds answers restarted =
@@ -132,7 +132,7 @@ module _ {S W : Type 0} (step cut : S → List ℕ → List (List ℕ) → S →
       → IsFirstByte (is_byte 10) rest (Some at)
       → front ≡ take at rest
       → ((bytes : List ℕ) → Holds line bytes → Holds line1 (bytes ++ front))
-      → AnswersLine step cut takes failed {X = Unit {0}} {E = Failed} line1 now next page w1 page1 w2 (Err e)
+      → AnswersHeld step cut takes failed {X = Unit {0}} {E = Failed} line1 now next page w1 page1 w2 (Err e)
       → Feeds step cut takes failed {X = Unit {0}} {E = Failed} over begun piece old next line2 w0 page2 w2 (Err e)
   going_stops old now next line line1 line2 w0 w1 w2 page page1 page2 rest front at e going first front_is adds answers =
       let answer = answers (going.kept ++ front) (adds going.kept going.holds) in
@@ -166,7 +166,7 @@ module _ {S W : Type 0} (step cut : S → List ℕ → List (List ℕ) → S →
       → IsFirstByte (is_byte 10) rest (Some at)
       → front ≡ take at rest
       → ((bytes : List ℕ) → Holds line bytes → Holds line1 (bytes ++ front))
-      → AnswersLine step cut takes failed {X = Unit {0}} {E = Failed} line1 now next page w1 page1 w2 (Ok tt)
+      → AnswersHeld step cut takes failed {X = Unit {0}} {E = Failed} line1 now next page w1 page1 w2 (Ok tt)
       → over next ≡ true
       → Feeds step cut takes failed {X = Unit {0}} {E = Failed} over begun piece old next line2 w0 page1 w2 (Ok tt)
   going_over old now next line line1 line2 w0 w1 w2 page page1 rest front at going first front_is adds answers is_over =
@@ -243,7 +243,7 @@ module _ {S W : Type 0} (step cut : S → List ℕ → List (List ℕ) → S →
   -- answering the last line was broken off
   pub finish_broken : (old new : S) (line : LineSoFar) (w w1 : W) (page page1 bytes : List ℕ) (e : Failed) → page ≡ [] → Holds line bytes
       → (length bytes == 0) ≡ false
-      → AnswersLine step cut takes failed {X = Unit {0}} {E = Failed} line old new page w page1 w1 (Err e)
+      → AnswersHeld step cut takes failed {X = Unit {0}} {E = Failed} line old new page w page1 w1 (Err e)
       → Finishes step cut takes failed {X = Unit {0}} {E = Failed} bytes old new w w1 (Err e)
   finish_broken old new line w w1 page page1 bytes e none holds some answers =
       let answer = answers bytes holds in
@@ -271,7 +271,7 @@ module _ {S W : Type 0} (step cut : S → List ℕ → List (List ℕ) → S →
   -- the last line is answered, and the answer written or not
   pub finish_whole : (old new : S) (line : LineSoFar) (w w1 w2 : W) (page page1 page2 bytes : List ℕ) (result : Result (Unit {0}) Failed) → page ≡ [] → Holds line bytes
       → (length bytes == 0) ≡ false
-      → AnswersLine step cut takes failed {X = Unit {0}} {E = Failed} line old new page w page1 w1 (Ok tt)
+      → AnswersHeld step cut takes failed {X = Unit {0}} {E = Failed} line old new page w page1 w1 (Ok tt)
       → Flows takes failed page1 w1 page2 w2 result
       → OnOk result (page2 ≡ [])
       → Finishes step cut takes failed bytes old new w w2 result

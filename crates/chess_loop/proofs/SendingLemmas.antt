@@ -3,7 +3,8 @@ use Rattle.std.proofs.Common.{◌≡◌, ℕ, ◌+◌, ◌≤◌, Bool, List, []
 use Rattle.byte_streams.specs.Calls.{Carries, joined}
 use Rattle.byte_streams.specs.declared.source.Failed.{Failed}
 use Rattle.byte_streams.proofs.CallLemmas.{Carries-none, Carries-append, Carries-more}
-use Rattle.chess_loop.specs.Runs.{last_length, unwritten}
+use Rattle.chess_loop.specs.Runs.{InOne, last_length, unwritten}
+use Rattle.chess_loop.specs.steps.Reads.{AnswersLine}
 use Rattle.chess_loop.specs.steps.Sending.{Sent, SentOr, Flows, Sends, SendsParts}
 use Rattle.chess_loop.specs.RunEnds.{Broken}
 
@@ -124,6 +125,12 @@ module _ {W : Type 0} (takes : W → List ℕ → W → Type 0) (failed : W → 
         broken,
         omega (arith, no_longer broken.front broken.rest (page ++ text) broken.whole, length-append page text),
       )
+
+  -- the one text that answers a line
+  pub answers_one : {S : Type 0} (step : S → List ℕ → List ℕ → S → Type 0) (s t : S) (line text page page1 : List ℕ) (w x : W) (result : Result (Unit {0}) Failed)
+      → step s line text t → Sends takes failed page w text page1 x result → AnswersLine (InOne step) (InOne step) takes failed line s t page w page1 x result
+  answers_one step s t line text page page1 w x (Ok y) is sends = (text ∷ [], (text, is, refl), sends_one w x page text page1 (Ok y) sends)
+  answers_one step s t line text page page1 w x (Err e) is sends = (text ∷ [], (text, is, refl), sends_one w x page text page1 (Err e) sends)
 
   -- parts after what was sent
   pub sent_parts : (w m t : W) (text page page1 : List ℕ) (parts : List (List ℕ)) → Sent takes failed w text page m → Sent takes failed m (page ++ joined parts) page1 t

@@ -3,7 +3,7 @@
 //! The answers to the lines of one read are written before the next, with as few calls as fit a page.
 ghost use Rattle.std.specs.Prelude.{◌≡◌, ◌+◌, ◌≤◌, List, ℕ, [], ◌<◌, false, length, OnOk};
 ghost use Rattle.chess_loop.specs.Runs.{Runs, Partly, Whole};
-ghost use Rattle.chess_loop.specs.steps.Reads.{Feeds, Finishes, Holds};
+ghost use Rattle.chess_loop.specs.steps.Reads.{AnswersHeld, Feeds, Finishes, Holds};
 ghost use Rattle.chess_loop.specs.RunEnds.{LoopEnds};
 
 use super::buffers::filled;
@@ -30,6 +30,26 @@ pub enum RunEnd {
     Memory,
 }
 
+// Answers the line, whether it is kept or not.
+fn answer_line<E: LineHandler, A: Allocator, W: Sink>(
+    line: &LineBuffer<A>,
+    engine: &mut E,
+    page: &mut OutputBuffer<A>,
+    writer: &mut W,
+) -> Result<(), Failed>
+    requires awake { E.over engine.old ≡ false }
+    requires room { length page.old + 2600 ≤ 65536 }
+    ensures { AnswersHeld E.step E.cut W.takes W.failed line.now engine.old engine.new page.old writer.old page.new writer.new result }
+{
+    match line.reading() {
+        Ok(bytes) => engine.answer(bytes, page, writer),
+        Err(unread) => {
+            engine.refuse(unread, page);
+            Ok(())
+        }
+    }
+}
+
 // Answers the lines that end in the piece, up to one after which the handler takes no more, keeps the rest of the piece, and writes the answers.
 fn feed<E: LineHandler, A: Allocator, W: Sink>(
     engine: &mut E,
@@ -51,7 +71,7 @@ fn feed<E: LineHandler, A: Allocator, W: Sink>(
         if let Err(failed) = page.make_room(writer) {
             return Err(failed);
         }
-        if let Err(failed) = engine.answer(line, page, writer) {
+        if let Err(failed) = answer_line(line, engine, page, writer) {
             return Err(failed);
         }
         line.restart();
@@ -79,7 +99,7 @@ fn finish<E: LineHandler, A: Allocator, W: Sink>(
     if line.is_empty() {
         return Ok(());
     }
-    let Err(failed) = engine.answer(line, page, writer) else {
+    let Err(failed) = answer_line(line, engine, page, writer) else {
         return page.flush(writer);
     };
     Err(failed)

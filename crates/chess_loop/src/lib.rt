@@ -14,6 +14,6 @@ mod write;
 pub use buffers::filled;
 pub use driver::{RunEnd, run};
 pub use handler::LineHandler;
-pub use line_buffer::{LineBuffer, Reading};
+pub use line_buffer::Unread;
 pub use output_buffer::OutputBuffer;
 pub use write::write_all;

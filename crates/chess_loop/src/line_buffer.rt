@@ -11,11 +11,9 @@ pub const LINE_LIMIT: usize = 1_048_576;
 /// The most bytes of a line for which no memory is asked for while it is read.
 const ROOM: usize = 65_536;
 
-/// How a line was read.
+/// Why a line is not kept.
 #[derive(Clone, Copy)]
-pub enum Reading<'a> {
-    /// It is kept whole.
-    Whole(&'a [u8]),
+pub enum Unread {
     /// It is longer than the limit.
     TooLong,
     /// It is no longer than the limit, but for some of it no memory was found.
@@ -65,16 +63,17 @@ impl<A: Allocator> LineBuffer<A> {
         }
     }
 
-    /// How the line was read.
-    pub fn reading(&self) -> Reading<'_>
-        ensures { (bytes : List ℕ) → Holds self.now bytes → ReadAs bytes result }
+    /// The whole line, at most 1,048,576 bytes, or why it is not kept.
+    pub fn reading(&self) -> Result<&[u8], Unread>
+        ensures read { (bytes : List ℕ) → Holds self.now bytes → ReadAs bytes result }
+        ensures short { IfOk result (λ line. length line.now ≤ 1048576) }
     {
         if self.seen > LINE_LIMIT {
-            Reading::TooLong
+            Err(Unread::TooLong)
         } else if self.bytes.len() < self.seen {
-            Reading::NoMemory
+            Err(Unread::NoMemory)
         } else {
-            Reading::Whole(self.bytes.as_slice())
+            Ok(self.bytes.as_slice())
         }
     }
 

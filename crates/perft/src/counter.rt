@@ -1,12 +1,11 @@
 ghost use Rattle.std.specs.Prelude.{◌≡◌, ℕ, List, None, false};
-ghost use Rattle.chess_loop.specs.steps.Readings.{ReadAs};
 ghost use Rattle.perft.specs.Lines.{CountEnds, kept, line_text};
 
 use crate::answer::answer;
 use arrayvec::ArrayString;
 use byte_streams::{Failed, Sink, Source};
 use chess_key::KeyTable;
-use chess_loop::{LineBuffer, LineHandler, OutputBuffer, Reading, RunEnd, run};
+use chess_loop::{LineHandler, OutputBuffer, RunEnd, Unread, run};
 use std::alloc::Allocator;
 
 /// The most bytes of a line, without its line feed.
@@ -50,16 +49,6 @@ fn whole_line(table: &KeyTable, line: &[u8]) -> Text
     text
 }
 
-// What is written for a line, however it was read.
-fn read_line(table: &KeyTable, reading: Reading<'_>) -> Text
-    ensures { (bytes : List ℕ) → ReadAs bytes reading.entry → result.bytes ≡ line_text (kept bytes) }
-{
-    match reading {
-        Reading::Whole(line) => whole_line(table, line),
-        Reading::TooLong | Reading::NoMemory => long_line(),
-    }
-}
-
 impl LineHandler for Counter {
     ghost use Rattle.std.specs.Prelude.{false};
     ghost use Rattle.chess_loop.specs.Runs.{InOne};
@@ -74,12 +63,16 @@ impl LineHandler for Counter {
     // An answer may be long in coming, so it is written at once.
     fn answer<A: Allocator, W: Sink>(
         &mut self,
-        line: &LineBuffer<A>,
+        line: &[u8],
         page: &mut OutputBuffer<A>,
         writer: &mut W,
     ) -> Result<(), Failed> {
-        let text = read_line(&self.table, line.reading());
-        page.send(text.as_str().as_bytes(), writer)
+        page.send(whole_line(&self.table, line).as_str().as_bytes(), writer)
+    }
+
+    // A line that is not kept has more bytes than a line may have, whatever the reason.
+    fn refuse<A: Allocator>(&self, _line: Unread, page: &mut OutputBuffer<A>) {
+        page.put(long_line().as_str().as_bytes());
     }
 
     fn is_over(&self) -> bool {

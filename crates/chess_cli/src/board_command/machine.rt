@@ -40,7 +40,7 @@ use arrayvec::{ArrayString, ArrayVec};
 use byte_streams::{Failed, Sink};
 use chess_attack::checkers;
 use chess_key::KeyTable;
-use chess_loop::{LineBuffer, LineHandler, OutputBuffer, Reading, filled};
+use chess_loop::{LineHandler, OutputBuffer, Unread, filled};
 use chess_moves::is_legal;
 use chess_pgn::{FaultKind, PgnFault, read_game, write_tree};
 use chess_play::Live;
@@ -521,20 +521,17 @@ impl<'k, A: Allocator> LineHandler for Board<'k, A> {
 
     fn answer<B: Allocator, W: Sink>(
         &mut self,
-        line: &LineBuffer<B>,
+        line: &[u8],
         page: &mut OutputBuffer<B>,
         writer: &mut W,
     ) -> Result<(), Failed> {
-        match line.reading() {
-            Reading::Whole(bytes) => self.put_whole_answer(bytes, page, writer),
-            Reading::TooLong => {
-                put_refused(page, Refusal::LongLine);
-                Ok(())
-            }
-            Reading::NoMemory => {
-                put_refused(page, Refusal::Memory);
-                Ok(())
-            }
+        self.put_whole_answer(line, page, writer)
+    }
+
+    fn refuse<B: Allocator>(&self, line: Unread, page: &mut OutputBuffer<B>) {
+        match line {
+            Unread::TooLong => put_refused(page, Refusal::LongLine),
+            Unread::NoMemory => put_refused(page, Refusal::Memory),
         }
     }
 

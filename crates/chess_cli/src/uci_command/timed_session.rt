@@ -2,12 +2,12 @@ ghost use Rattle.std.specs.Prelude.{◌≡◌, ◌+◌, ◌≤◌, ◌++◌, ℕ
 ghost use Rattle.chess_uci.specs.declared.reply.Reply.{Reply};
 ghost use Rattle.chess_uci.specs.Machine.{IsAhead};
 ghost use Rattle.chess_cli.specs.TimedSessions.{Answered, AnsweredInPart, is_fed, reply_lines};
-ghost use Rattle.chess_cli.specs.steps.Driving.{Drives, Happened};
+ghost use Rattle.chess_cli.specs.steps.Driving.{Happened};
 
 use super::clock::Clock;
 use arrayvec::ArrayVec;
 use byte_streams::{Failed, Sink};
-use chess_loop::{LineBuffer, LineHandler, OutputBuffer, Reading};
+use chess_loop::{LineHandler, OutputBuffer, Unread};
 use chess_uci::{Event, Reply, Session};
 use std::alloc::Allocator;
 
@@ -61,18 +61,22 @@ impl<'k, S: Allocator, C: Clock> TimedSession<'k, S, C> {
         let moment = self.clock.now_ms();
         self.happen(Event::Moment(moment), page);
     }
+}
 
-    // A line: a moment, the line itself, and slices and moments while a search is to be fed. What is replied is written before the next
-    // slice.
-    fn drive<A: Allocator, W: Sink>(
+impl<'k, S: Allocator, C: Clock> LineHandler for TimedSession<'k, S, C> {
+    ghost step = { Answered C.reads };
+
+    ghost cut = { AnsweredInPart C.reads };
+
+    ghost over = { λ timed_session. timed_session.session.ended };
+
+    // A moment, the line itself, and slices and moments while a search is to be fed. What is replied is written before the next slice.
+    fn answer<A: Allocator, W: Sink>(
         &mut self,
         line: &[u8],
         page: &mut OutputBuffer<A>,
         writer: &mut W,
-    ) -> Result<(), Failed>
-        requires room { length page.old + 2600 ≤ 65536 }
-        ensures { Drives C.reads W.takes W.failed line.now self.old self.new page.old writer.old page.new writer.new result }
-    {
+    ) -> Result<(), Failed> {
         self.look_at_the_clock(page);
         self.happen(Event::Line(line), page);
         while self.is_fed() {
@@ -84,31 +88,11 @@ impl<'k, S: Allocator, C: Clock> TimedSession<'k, S, C> {
         }
         Ok(())
     }
-}
 
-impl<'k, S: Allocator, C: Clock> LineHandler for TimedSession<'k, S, C> {
-    ghost step = { Answered C.reads };
-
-    ghost cut = { AnsweredInPart C.reads };
-
-    ghost over = { λ timed_session. timed_session.session.ended };
-
-    fn answer<B: Allocator, W: Sink>(
-        &mut self,
-        line: &LineBuffer<B>,
-        page: &mut OutputBuffer<B>,
-        writer: &mut W,
-    ) -> Result<(), Failed> {
-        match line.reading() {
-            Reading::Whole(bytes) => self.drive(bytes, page, writer),
-            Reading::TooLong => {
-                page.put_line("info string line too long");
-                Ok(())
-            }
-            Reading::NoMemory => {
-                page.put_line("info string out of memory");
-                Ok(())
-            }
+    fn refuse<A: Allocator>(&self, line: Unread, page: &mut OutputBuffer<A>) {
+        match line {
+            Unread::TooLong => page.put_line("info string line too long"),
+            Unread::NoMemory => page.put_line("info string out of memory"),
         }
     }
 

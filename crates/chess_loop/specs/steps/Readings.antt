@@ -1,11 +1,18 @@
--- How a line was read: kept whole, over the limit, or without memory for some of it, where it has more bytes than there is always room for.
-use Rattle.std.specs.Prelude.{◌≡◌, ℕ, ◌<◌, ◌≤◌, List, length}
+-- How a line was read: it is kept whole, or it is not.
+--   IsUnread   the line is over the limit, or has no more bytes than that, but more than there is always room for
+--   ReadAs     the bytes of the line, or why they are not kept
+use Rattle.std.specs.Prelude.{◌≡◌, ℕ, ◌<◌, ◌≤◌, List, length, Result, Ok, Err}
+use Rattle.std.specs.Borrow.{Bor}
 use Rattle.chess_loop.specs.InputLines.{line_limit, line_room}
-use Rattle.chess_loop.specs.declared.line_buffer.Reading.{Reading}
-use Rattle.chess_loop.specs.declared.line_buffer.Reading.TheVariants.{Whole, TooLong, NoMemory}
+use Rattle.chess_loop.specs.declared.line_buffer.Unread.{Unread}
+use Rattle.chess_loop.specs.declared.line_buffer.Unread.TheVariants.{TooLong, NoMemory}
 
--- how a line is read: whole, too long, or without memory to keep it
-abbrev pub ReadAs : List ℕ → Reading → Type 0
-ReadAs bytes (Whole kept) = (kept.now ≡ bytes) × (length bytes ≤ line_limit)
-ReadAs bytes TooLong = line_limit < length bytes
-ReadAs bytes NoMemory = (line_room < length bytes) × (length bytes ≤ line_limit)
+-- too long, or without memory to keep it
+abbrev pub IsUnread : List ℕ → Unread → Type 0
+IsUnread bytes TooLong = line_limit < length bytes
+IsUnread bytes NoMemory = (line_room < length bytes) × (length bytes ≤ line_limit)
+
+-- the whole line, or why it is not kept
+abbrev pub ReadAs : List ℕ → Result (Bor (List ℕ)) Unread → Type 0
+ReadAs bytes (Ok line) = line.now ≡ bytes
+ReadAs bytes (Err unread) = IsUnread bytes unread

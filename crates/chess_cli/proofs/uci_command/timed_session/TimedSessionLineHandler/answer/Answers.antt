@@ -1,26 +1,34 @@
-use Rattle.std.proofs.Common.{Ok}
-use Rattle.chess_cli.specs.TimedSessions.{no_memory_line, too_long_line}
-use Rattle.chess_cli.proofs.TimedSessionLemmas.{answered_long, answered_whole, answered_without_memory}
-use Rattle.chess_loop.proofs.SendingLemmas.{puts, sends_one}
+use Rattle.std.proofs.Common.{refl, sym}
+use Rattle.chess_cli.proofs.WorkLemmas.{work_falls}
+use Rattle.chess_cli.proofs.TimedSessionLemmas.{begins, ends, fails, goes_on, same_event}
 use Rattle.chess_cli.proofs.uci_command.timed_session.TimedSessionLineHandler.answer.Goals as goal
 
-pub returns-in-Whole : goal.returns-in-Whole
-returns-in-Whole g c = λ bytes holds.
-    let read = c.in-Whole.ensures bytes holds in
-    answered_whole g.C.Clock.reads g.W.Sink.takes g.W.Sink.failed bytes c.args.self.now c.drive.new.self c.args.page.now c.drive.new.page c.args.writer.now c.drive.new.writer c.drive.result
-    c.requires.awake read.1 (rw read.0 at c.drive.ensures)
+pub loop-page-init : goal.loop-page-init
+loop-page-init g c =
+    let first = c.look_at_the_clock.ensures.happened in
+    begins g.C.Clock.reads g.W.Sink.takes g.W.Sink.failed c.args.line.now c.args.line c.args.self.now c.look_at_the_clock.new.self c.happen.new.self
+    c.args.page.now c.look_at_the_clock.new.page c.happen.new.page c.args.writer.now first.0 refl first.1 first.2 c.happen.ensures.happened c.happen.ensures.clock
 
-pub returns-in-TooLong : goal.returns-in-TooLong
-returns-in-TooLong g c = λ bytes holds.
-    let read = c.in-TooLong.ensures bytes holds in
-    let on_page = puts g.W.Sink.takes g.W.Sink.failed c.args.writer.now c.args.page.now too_long_line c.put_line.new.self c.put_line.ensures in
-    (_, answered_long g.C.Clock.reads c.args.self.now bytes c.requires.awake read, sends_one g.W.Sink.takes g.W.Sink.failed c.args.writer.now c.args.writer.now c.args.page.now too_long_line c.put_line.new.self (Ok tt) on_page)
+pub returns-in-Err : goal.returns-in-Err
+returns-in-Err g c =
+    fails g.C.Clock.reads g.W.Sink.takes g.W.Sink.failed c.args.line.now c.args.self.now c.loop-page.self c.args.page.now c.loop-page.page c.flush.new.self
+    c.args.writer.now c.loop-page.writer c.flush.new.writer c.in-Err.failed c.requires.awake c.requires.short c.loop-page.invariant c.in-Err.ensures.flows
 
-pub returns-in-NoMemory : goal.returns-in-NoMemory
-returns-in-NoMemory g c = λ bytes holds.
-    let read = c.in-NoMemory.ensures bytes holds in
-    let on_page = puts g.W.Sink.takes g.W.Sink.failed c.args.writer.now c.args.page.now no_memory_line c.put_line-in-NoMemory.new.self c.put_line-in-NoMemory.ensures in (
-      _,
-      answered_without_memory g.C.Clock.reads c.args.self.now bytes c.requires.awake read.0 read.1,
-      sends_one g.W.Sink.takes g.W.Sink.failed c.args.writer.now c.args.writer.now c.args.page.now no_memory_line c.put_line-in-NoMemory.new.self (Ok tt) on_page,
-    )
+pub loop-page-smaller : goal.loop-page-smaller
+loop-page-smaller g c =
+    let moment = c.look_at_the_clock-in-loop-page.ensures.happened in
+    let slice = c.happen-in-loop-page.ensures.happened in
+    work_falls c.loop-page.self.session c.happen-in-loop-page.new.self.session c.look_at_the_clock-in-loop-page.new.self.session moment.0 slice.0 moment.2.0
+    c.loop-page-test.ensures.ahead (sym c.loop-page-test.ensures.value) (same_event slice.1) (same_event moment.2.1)
+
+pub loop-page-preserved : goal.loop-page-preserved
+loop-page-preserved g c =
+    let moment = c.look_at_the_clock-in-loop-page.ensures.happened in
+    goes_on g.C.Clock.reads g.W.Sink.takes g.W.Sink.failed c.args.line.now c.args.self.now c.loop-page.self c.happen-in-loop-page.new.self c.look_at_the_clock-in-loop-page.new.self
+    c.args.page.now c.loop-page.page c.flush.new.self c.happen-in-loop-page.new.page c.look_at_the_clock-in-loop-page.new.page c.args.writer.now c.loop-page.writer c.flush.new.writer moment.0
+    c.loop-page.invariant (sym c.loop-page-test.ensures.value) c.in_default.ensures.flows c.in_default.ensures.empty c.happen-in-loop-page.ensures.happened c.happen-in-loop-page.ensures.clock moment.1 moment.2
+
+pub returns : goal.returns
+returns g c =
+    ends g.C.Clock.reads g.W.Sink.takes g.W.Sink.failed c.args.line.now c.args.self.now c.loop-page.self c.args.page.now c.loop-page.page c.args.writer.now c.loop-page.writer
+    c.requires.awake c.requires.short c.loop-page.invariant (sym c.loop-page-test.ensures.value)
