@@ -26,11 +26,11 @@ feeds : Each is_blank (10 ∷ 10 ∷ [])
 unfolding is_blank
 feeds = (refl, (refl, tt))
 
-parted : (before front rest whole : List ℕ) → whole ≡ front ++ 10 ∷ 10 ∷ [] → before ++ (whole ++ rest) ≡ (before ++ front) ++ ((10 ∷ 10 ∷ []) ++ rest)
-parted before front rest whole e = ap (λ (x : List ℕ). before ++ (x ++ rest)) e ∙ ap (λ (x : List ℕ). before ++ x) (append_assoc front (10 ∷ 10 ∷ []) rest) ∙ sym (append_assoc before front ((10 ∷ 10 ∷ []) ++ rest))
+parted : (before prefix rest whole : List ℕ) → whole ≡ prefix ++ 10 ∷ 10 ∷ [] → before ++ (whole ++ rest) ≡ (before ++ prefix) ++ ((10 ∷ 10 ∷ []) ++ rest)
+parted before prefix rest whole e = ap (λ (x : List ℕ). before ++ (x ++ rest)) e ∙ ap (λ (x : List ℕ). before ++ x) (append_assoc prefix (10 ∷ 10 ∷ []) rest) ∙ sym (append_assoc before prefix ((10 ∷ 10 ∷ []) ++ rest))
 
-counted : (before front whole : List ℕ) → whole ≡ front ++ 10 ∷ 10 ∷ [] → length (before ++ front) + 2 ≡ length (before ++ whole)
-counted before front whole e = omega (arith, ap length e, length-append before front, length-append before whole, length-append front (10 ∷ 10 ∷ []))
+counted : (before prefix whole : List ℕ) → whole ≡ prefix ++ 10 ∷ 10 ∷ [] → length (before ++ prefix) + 2 ≡ length (before ++ whole)
+counted before prefix whole e = omega (arith, ap length e, length-append before prefix, length-append before whole, length-append prefix (10 ∷ 10 ∷ []))
 
 games_again : WrittenIsRead → (games : List Game) (before : List ℕ) → Each is_blank before → length before ≤ 2 → AllByRecursion CanBeRead games → AreGames (before ++ games_text games) games (left_behind before games)
 games_again law [] before white short all = append-nil before

@@ -35,9 +35,9 @@ not_before false w h e = refl
 not_before true w h e = absurd (false≢true (sym e ∙ h refl))
 
 are_more : (input : List ℕ) (games : List Game) (mid text rest : List ℕ) (game : Game) → AreGames input games mid → mid ≡ text ++ rest → BeginsWithGame mid game (length text) → AreGames input (games ++ game ∷ []) rest
-are_more input [] mid text rest game e parts front =
-    (text, rest, e ∙ parts, subst (λ (z : List ℕ). BeginsWithGame z game (length text)) (sym e) front, refl)
-are_more input (g ∷ games) mid text rest game a parts front = (a.0, a.1, a.2, a.3, are_more a.1 games mid text rest game a.4 parts front)
+are_more input [] mid text rest game e parts prefix =
+    (text, rest, e ∙ parts, subst (λ (z : List ℕ). BeginsWithGame z game (length text)) (sym e) prefix, refl)
+are_more input (g ∷ games) mid text rest game a parts prefix = (a.0, a.1, a.2, a.3, are_more a.1 games mid text rest game a.4 parts prefix)
 
 module _ {R : Type 0} (gives : R → List ℕ → R → Type 0) (failed : R → Bool) where
   pub reads_none : (s : AtHand R) → Reads gives failed s s []
@@ -214,11 +214,11 @@ module _ {R W : Type 0} (gives : R → List ℕ → R → Type 0) (read_failed :
       reads = collected gives read_failed s n n (so_far.games ++ game ∷ []) nothing first_read (reads_more gives read_failed s m n so_far.games game so_far.reads read) []
           (reads_none gives read_failed n).came ended n.has_ended told (λ e. (refl, e));
       broken = record {
-        front = games_text so_far.games ++ broken.front;
+        prefix = games_text so_far.games ++ broken.prefix;
         rest = broken.rest;
         before = broken.before;
-        calls = Carries-append takes old mid broken.before (games_text so_far.games) broken.front so_far.written.writes broken.calls;
-        whole = append_assoc (games_text so_far.games) broken.front broken.rest ∙ ap (λ (t : List ℕ). games_text so_far.games ++ t) broken.whole ∙ sym (games_text-append so_far.games game);
+        calls = Carries-append takes old mid broken.before (games_text so_far.games) broken.prefix so_far.written.writes broken.calls;
+        whole = append_assoc (games_text so_far.games) broken.prefix broken.rest ∙ ap (λ (t : List ℕ). games_text so_far.games ++ t) broken.whole ∙ sym (games_text-append so_far.games game);
         unwritten = broken.unwritten;
         well = broken.well ∙ so_far.written.well_written ∙ sym first;
         last = broken.last;

@@ -62,31 +62,31 @@ unfolding squares
 squares_few test = filter-few test (range_with_len 0 64)
 
 -- one move more after what was there
-pub move_put : (front page page1 page2 : List ℕ) (ms more : List MoveParts) (m : MoveParts) → 0 < length ms → page ≡ front ++ parted_by (codes " ") (map move_text ms)
-    → page1 ≡ page ++ codes " " → page2 ≡ page1 ++ move_text m → more ≡ ms ++ m ∷ [] → page2 ≡ front ++ parted_by (codes " ") (map move_text more)
-move_put front page page1 page2 [] more m some first gap next all = absurd (omega (arith, some))
-move_put front page page1 page2 (n ∷ ms) more m some first gap next all =
+pub move_put : (prefix page page1 page2 : List ℕ) (ms more : List MoveParts) (m : MoveParts) → 0 < length ms → page ≡ prefix ++ parted_by (codes " ") (map move_text ms)
+    → page1 ≡ page ++ codes " " → page2 ≡ page1 ++ move_text m → more ≡ ms ++ m ∷ [] → page2 ≡ prefix ++ parted_by (codes " ") (map move_text more)
+move_put prefix page page1 page2 [] more m some first gap next all = absurd (omega (arith, some))
+move_put prefix page page1 page2 (n ∷ ms) more m some first gap next all =
     rw (next, gap, first, all)
-    (append_assoc (front ++ parted_by (codes " ") (map move_text (n ∷ ms))) (codes " ") (move_text m)
-    ∙ append_assoc front (parted_by (codes " ") (map move_text (n ∷ ms))) (32 ∷ move_text m)
-    ∙ ap (λ (t : List ℕ). front ++ t) (text-more move_text n ms m))
+    (append_assoc (prefix ++ parted_by (codes " ") (map move_text (n ∷ ms))) (codes " ") (move_text m)
+    ∙ append_assoc prefix (parted_by (codes " ") (map move_text (n ∷ ms))) (32 ∷ move_text m)
+    ∙ ap (λ (t : List ℕ). prefix ++ t) (text-more move_text n ms m))
 
 -- the next move
-pub move_next : (front page page1 page2 : List ℕ) (moves others : List MoveParts) (n : ℕ) (first m d : MoveParts) → moves ≡ first ∷ others
-    → page ≡ front ++ parted_by (codes " ") (map move_text (take 1 moves ++ take n others)) → n < length others
+pub move_next : (prefix page page1 page2 : List ℕ) (moves others : List MoveParts) (n : ℕ) (first m d : MoveParts) → moves ≡ first ∷ others
+    → page ≡ prefix ++ parted_by (codes " ") (map move_text (take 1 moves ++ take n others)) → n < length others
     → page1 ≡ page ++ codes " " → page2 ≡ page1 ++ move_text m → m ≡ get_or others n d
-    → page2 ≡ front ++ parted_by (codes " ") (map move_text (take 1 moves ++ take (n + 1) others))
-move_next front page page1 page2 moves others n first m d parts so_far within gap put is =
+    → page2 ≡ prefix ++ parted_by (codes " ") (map move_text (take 1 moves ++ take (n + 1) others))
+move_next prefix page page1 page2 moves others n first m d parts so_far within gap put is =
     rw parts
-    (move_put front page page1 page2 (first ∷ take n others) (first ∷ take (n + 1) others) m (omega arith) (rw parts at so_far) gap put
+    (move_put prefix page page1 page2 (first ∷ take n others) (first ∷ take (n + 1) others) m (omega arith) (rw parts at so_far) gap put
     (ap (λ (ms : List MoveParts). first ∷ ms) (take_more others n d within ∙ ap (λ (x : MoveParts). take n others ++ x ∷ []) (sym is))))
 
 take_all : (n : ℕ) (xs : List MoveParts) → length xs ≤ n → take n xs ≡ xs
 take_all n xs few = sym (append-nil (take n xs)) ∙ ap (λ (ys : List MoveParts). take n xs ++ ys) (sym (drop_of_length-le xs few)) ∙ take-append-drop n xs
 
 -- all of them
-pub moves_all : (front page : List ℕ) (moves others : List MoveParts) (n : ℕ) (first : MoveParts) → moves ≡ first ∷ others → length others ≤ n
-    → page ≡ front ++ parted_by (codes " ") (map move_text (take 1 moves ++ take n others)) → page ≡ front ++ list_text (map move_text moves)
-moves_all front page moves others n first parts all so_far =
+pub moves_all : (prefix page : List ℕ) (moves others : List MoveParts) (n : ℕ) (first : MoveParts) → moves ≡ first ∷ others → length others ≤ n
+    → page ≡ prefix ++ parted_by (codes " ") (map move_text (take 1 moves ++ take n others)) → page ≡ prefix ++ list_text (map move_text moves)
+moves_all prefix page moves others n first parts all so_far =
     let whole : take n others ≡ others = take_all n others all in
     rw (parts) (rw (parts, whole) at so_far)

@@ -37,7 +37,7 @@ numbers_in-bad (p ∷ parts) (suc k) part within is bad =
 pub record ReadSoFar (room : ℕ) (parts : List (List ℕ)) (kept : List ℕ) (is_long : Bool) : Type 0 where
   pub seen : List ℕ
   pub numbers : numbers_in parts ≡ Some seen
-  pub front : kept ≡ take room seen
+  pub prefix : kept ≡ take room seen
   pub long : is_long ≡ nat_lt room (length seen)
 
 pub take-whole : (n : ℕ) (xs : List ℕ) → length xs ≤ n → take n xs ≡ xs
@@ -48,13 +48,13 @@ module _ (room : ℕ) where
   pub read_on : (parts : List (List ℕ)) (part old new : List ℕ) (place : ℕ) (is_long : Bool) → ReadSoFar room parts old is_long → number_in part ≡ Some place
       → length old < room → new ≡ old ++ place ∷ [] → ReadSoFar room (parts ++ part ∷ []) new is_long
   read_on parts part old new place is_long so_far one fits pushed =
-      let few : length so_far.seen < room = omega (arith, ap length so_far.front, length-take room so_far.seen, fits) in
+      let few : length so_far.seen < room = omega (arith, ap length so_far.prefix, length-take room so_far.seen, fits) in
       let all : take room so_far.seen ≡ so_far.seen = take-whole room so_far.seen (omega arith) in
       let longer : length (so_far.seen ++ place ∷ []) ≡ length so_far.seen + 1 = length-append so_far.seen (place ∷ []) in
       record {
         seen = so_far.seen ++ place ∷ [];
         numbers = numbers_in-more parts part so_far.seen place so_far.numbers one;
-        front = pushed ∙ ap (λ (xs : List ℕ). xs ++ place ∷ []) (so_far.front ∙ all) ∙ sym (take-whole room (so_far.seen ++ place ∷ []) (omega (arith, few, longer)));
+        prefix = pushed ∙ ap (λ (xs : List ℕ). xs ++ place ∷ []) (so_far.prefix ∙ all) ∙ sym (take-whole room (so_far.seen ++ place ∷ []) (omega (arith, few, longer)));
         long = so_far.long ∙ grind (arith, nat_tests, few, longer);
       }
 
@@ -62,12 +62,12 @@ module _ (room : ℕ) where
   pub read_full : (parts : List (List ℕ)) (part old : List ℕ) (place : ℕ) (is_long : Bool) → ReadSoFar room parts old is_long → number_in part ≡ Some place
       → room ≤ length old → ReadSoFar room (parts ++ part ∷ []) old true
   read_full parts part old place is_long so_far one full =
-      let many : room ≤ length so_far.seen = omega (arith, ap length so_far.front, length-take room so_far.seen, full) in
+      let many : room ≤ length so_far.seen = omega (arith, ap length so_far.prefix, length-take room so_far.seen, full) in
       let longer : length (so_far.seen ++ place ∷ []) ≡ length so_far.seen + 1 = length-append so_far.seen (place ∷ []) in
       record {
         seen = so_far.seen ++ place ∷ [];
         numbers = numbers_in-more parts part so_far.seen place so_far.numbers one;
-        front = so_far.front ∙ sym (take-append-le room so_far.seen (place ∷ []) many);
+        prefix = so_far.prefix ∙ sym (take-append-le room so_far.seen (place ∷ []) many);
         long = grind (arith, nat_tests, many, longer);
       }
 
@@ -76,7 +76,7 @@ module _ (room : ℕ) where
   read_all parts kept is_long so_far short =
       let test : nat_lt room (length so_far.seen) ≡ false = sym so_far.long ∙ short in
       let few : length so_far.seen ≤ room = grind (arith, nat_tests, test) in
-      so_far.numbers ∙ ap (λ (ns : List ℕ). Some ns) (sym (so_far.front ∙ take-whole room so_far.seen few))
+      so_far.numbers ∙ ap (λ (ns : List ℕ). Some ns) (sym (so_far.prefix ∙ take-whole room so_far.seen few))
 
 -- the parts of a word that is not `-`
 abbrev pub parts_of : List ℕ → List (List ℕ)

@@ -32,9 +32,9 @@ places-more (p ∷ places) n place is =
     ∙ sym (append_assoc (decimal p) (gapped (codes ".") (map decimal places)) (46 ∷ decimal place)))
 
 -- the text of the first places is a prefix of all
-places-front : (xs ys : List ℕ) → (more : List ℕ) × (places_text (xs ++ ys) ≡ places_text xs ++ more)
-places-front [] ys = (places_text ys, refl)
-places-front (x ∷ xs) ys = (
+places-prefix : (xs ys : List ℕ) → (more : List ℕ) × (places_text (xs ++ ys) ≡ places_text xs ++ more)
+places-prefix [] ys = (places_text ys, refl)
+places-prefix (x ∷ xs) ys = (
   gapped (codes ".") (map decimal ys),
   ap (λ (t : List ℕ). decimal x ++ t) (ap (gapped (codes ".")) (map-append decimal xs ys) ∙ gapped-append (codes ".") (map decimal xs) (map decimal ys))
       ∙ sym (append_assoc (decimal x) (gapped (codes ".") (map decimal xs)) (gapped (codes ".") (map decimal ys))),
@@ -75,14 +75,14 @@ module _ {W : Type 0} (takes : W → List ℕ → W → Type 0) (failed : W → 
       → Flows takes failed {X = Unit {0}} {E = Failed} page1 w1 page2 w2 (Err e) → 0 < length path → Sends takes failed {X = Unit {0}} {E = Failed} page w (path_text path ++ 10 ∷ []) page2 w2 (Err e)
   places_broken page w path ply page1 w1 page2 w2 e so_far flows some = λ start before sent.
       let broken = flows start (before ++ places_text (take ply path)) (so_far start before sent) in
-      let front = places-front (take ply path) (drop ply path) in
-      let text : places_text (take ply path) ++ (front.0 ++ 10 ∷ []) ≡ path_text path ++ 10 ∷ [] =
-      sym (append_assoc (places_text (take ply path)) front.0 (10 ∷ []))
-      ∙ ap (λ (u : List ℕ). u ++ 10 ∷ []) (sym front.1 ∙ ap places_text (take-append-drop ply path) ∙ sym (path_text-places path some)) in
-      let all : (before ++ places_text (take ply path)) ++ (front.0 ++ 10 ∷ []) ≡ before ++ (path_text path ++ 10 ∷ []) =
-      append_assoc before (places_text (take ply path)) (front.0 ++ 10 ∷ []) ∙ ap (λ (u : List ℕ). before ++ u) text in
+      let prefix = places-prefix (take ply path) (drop ply path) in
+      let text : places_text (take ply path) ++ (prefix.0 ++ 10 ∷ []) ≡ path_text path ++ 10 ∷ [] =
+      sym (append_assoc (places_text (take ply path)) prefix.0 (10 ∷ []))
+      ∙ ap (λ (u : List ℕ). u ++ 10 ∷ []) (sym prefix.1 ∙ ap places_text (take-append-drop ply path) ∙ sym (path_text-places path some)) in
+      let all : (before ++ places_text (take ply path)) ++ (prefix.0 ++ 10 ∷ []) ≡ before ++ (path_text path ++ 10 ∷ []) =
+      append_assoc before (places_text (take ply path)) (prefix.0 ++ 10 ∷ []) ∙ ap (λ (u : List ℕ). before ++ u) text in
       subst (λ (u : List ℕ). Broken takes failed start u w2) all
-      (broken_longer takes failed start w2 (before ++ places_text (take ply path)) (front.0 ++ 10 ∷ []) broken)
+      (broken_longer takes failed start w2 (before ++ places_text (take ply path)) (prefix.0 ++ 10 ∷ []) broken)
 
   -- all of it is sent
   pub places_whole : (page : List ℕ) (w : W) (path : List ℕ) (ply : ℕ) (page1 : List ℕ) (w1 : W) (page2 : List ℕ) → PlacesSent page w path ply page1 w1 → length path ≤ ply → 0 < length path

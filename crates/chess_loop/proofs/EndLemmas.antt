@@ -105,7 +105,7 @@ module _ {S R W : Type 0} (step cut : S → List ℕ → List (List ℕ) → S �
         earlier = up_to_last turns now line r r1 r2 w w1 piece h;
         lines = fed.1.lines;
         more = fed.0;
-        front = fed.1.front;
+        prefix = fed.1.prefix;
         answers_last = uncounted step (now, 0) (next, fed.1.most) fed.1.lines fed.0 fed.1.runs;
         is_over = is_over;
         writes = Carries-append takes w w1 w2 u.text fed.0 u.writes (sent_whole takes write_failed w1 w2 fed.0 fed.2);
@@ -127,7 +127,7 @@ module _ {S R W : Type 0} (step cut : S → List ℕ → List (List ℕ) → S �
         more = fed.0;
         writes = u.writes;
         well_written = u.writing;
-        awaited = inl fed.2.front;
+        awaited = inl fed.2.prefix;
         broken = fed.1;
         answers_last = fed.2.runs;
       }

@@ -71,29 +71,29 @@ module _ {S W : Type 0} (step cut : S → List ℕ → List (List ℕ) → S →
         broken.0,
         record {
           lines = going.done;
-          front = record { others = ended_lines going.kept rest; whole = sym going.lines };
+          prefix = record { others = ended_lines going.kept rest; whole = sym going.lines };
           runs = (going.most, omega (arith, broken.1, going.late), inl going.runs);
         },
       )
 
   -- the line that ends next, and those after it
-  line_next : (old now : S) (line : LineSoFar) (w0 w1 : W) (page rest front : List ℕ) (at : ℕ)
+  line_next : (old now : S) (line : LineSoFar) (w0 w1 : W) (page rest prefix : List ℕ) (at : ℕ)
       → (going : Going step over takes failed begun piece old now line w0 page w1 rest)
       → IsFirstByte (is_byte 10) rest (Some at)
-      → front ≡ take at rest
-      → ended_lines begun piece ≡ (going.done ++ (going.kept ++ front) ∷ []) ++ ended_lines [] (drop (at + 1) rest)
-  line_next old now line w0 w1 page rest front at going first front_is =
-      going.lines ∙ rw (ended_lines-at going.kept rest at first, ← front_is) (sym (append_assoc going.done ((going.kept ++ front) ∷ []) (ended_lines [] (drop (at + 1) rest))))
+      → prefix ≡ take at rest
+      → ended_lines begun piece ≡ (going.done ++ (going.kept ++ prefix) ∷ []) ++ ended_lines [] (drop (at + 1) rest)
+  line_next old now line w0 w1 page rest prefix at going first front_is =
+      going.lines ∙ rw (ended_lines-at going.kept rest at first, ← front_is) (sym (append_assoc going.done ((going.kept ++ prefix) ∷ []) (ended_lines [] (drop (at + 1) rest))))
 
   -- with it the lines answered are the first ones of the piece
-  front_next : (old now : S) (line : LineSoFar) (w0 w1 : W) (page rest front : List ℕ) (at : ℕ)
+  front_next : (old now : S) (line : LineSoFar) (w0 w1 : W) (page rest prefix : List ℕ) (at : ℕ)
       → (going : Going step over takes failed begun piece old now line w0 page w1 rest)
       → IsFirstByte (is_byte 10) rest (Some at)
-      → front ≡ take at rest
-      → IsPrefix (going.done ++ (going.kept ++ front) ∷ []) (ended_lines begun piece)
-  front_next old now line w0 w1 page rest front at going first front_is = record {
+      → prefix ≡ take at rest
+      → IsPrefix (going.done ++ (going.kept ++ prefix) ∷ []) (ended_lines begun piece)
+  front_next old now line w0 w1 page rest prefix at going first front_is = record {
     others = ended_lines [] (drop (at + 1) rest);
-    whole = sym (line_next old now line w0 w1 page rest front at going first front_is);
+    whole = sym (line_next old now line w0 w1 page rest prefix at going first front_is);
   }
 
   -- a line more is answered
@@ -102,52 +102,52 @@ module _ {S W : Type 0} (step cut : S → List ℕ → List (List ℕ) → S →
   run_on old now next most done line text parts runs is =
       Runs-more (Counted step) (old, 0) (now, most) (next, unwritten most parts) done line text (joined parts) runs (parts, is, refl, refl)
 
-  pub going_on : (old now next : S) (line line1 line2 : LineSoFar) (w0 w1 w2 : W) (page page1 rest front others : List ℕ) (at : ℕ)
+  pub going_on : (old now next : S) (line line1 line2 : LineSoFar) (w0 w1 w2 : W) (page page1 rest prefix others : List ℕ) (at : ℕ)
       → (going : Going step over takes failed begun piece old now line w0 page w1 rest)
       → IsFirstByte (is_byte 10) rest (Some at)
-      → front ≡ take at rest
+      → prefix ≡ take at rest
       → others ≡ drop (at + 1) rest
-      → ((bytes : List ℕ) → Holds line bytes → Holds line1 (bytes ++ front))
+      → ((bytes : List ℕ) → Holds line bytes → Holds line1 (bytes ++ prefix))
       → AnswersHeld step cut takes failed {X = Unit {0}} {E = Failed} line1 now next page w1 page1 w2 (Ok tt)
       → Holds line2 []
       → Going step over takes failed begun piece old next line2 w0 page1 w2 others
-  going_on old now next line line1 line2 w0 w1 w2 page page1 rest front others at going first front_is others_is adds answers restarted =
-      let answer = answers (going.kept ++ front) (adds going.kept going.holds) in
+  going_on old now next line line1 line2 w0 w1 w2 page page1 rest prefix others at going first front_is others_is adds answers restarted =
+      let answer = answers (going.kept ++ prefix) (adds going.kept going.holds) in
       record {
-        done = going.done ++ (going.kept ++ front) ∷ [];
+        done = going.done ++ (going.kept ++ prefix) ∷ [];
         text = going.text ++ joined answer.0;
         kept = [];
         most = unwritten going.most answer.0;
-        runs = run_on old now next going.most going.done (going.kept ++ front) going.text answer.0 going.runs answer.1;
+        runs = run_on old now next going.most going.done (going.kept ++ prefix) going.text answer.0 going.runs answer.1;
         late = omega (arith, answer.2.1, unwritten_most (length page) going.most answer.0 going.late);
         sent = sent_parts takes failed w0 w1 w2 going.text page page1 answer.0 going.sent answer.2.0;
         holds = restarted;
-        lines = rw others_is (line_next old now line w0 w1 page rest front at going first front_is);
+        lines = rw others_is (line_next old now line w0 w1 page rest prefix at going first front_is);
         left = going.left ∙ rw others_is (line_buffer-at going.kept rest at first);
       }
 
   -- answering the line was broken off
-  pub going_stops : (old now next : S) (line line1 line2 : LineSoFar) (w0 w1 w2 : W) (page page1 page2 rest front : List ℕ) (at : ℕ) (e : Failed)
+  pub going_stops : (old now next : S) (line line1 line2 : LineSoFar) (w0 w1 w2 : W) (page page1 page2 rest prefix : List ℕ) (at : ℕ) (e : Failed)
       → (going : Going step over takes failed begun piece old now line w0 page w1 rest)
       → IsFirstByte (is_byte 10) rest (Some at)
-      → front ≡ take at rest
-      → ((bytes : List ℕ) → Holds line bytes → Holds line1 (bytes ++ front))
+      → prefix ≡ take at rest
+      → ((bytes : List ℕ) → Holds line bytes → Holds line1 (bytes ++ prefix))
       → AnswersHeld step cut takes failed {X = Unit {0}} {E = Failed} line1 now next page w1 page1 w2 (Err e)
       → Feeds step cut takes failed {X = Unit {0}} {E = Failed} over begun piece old next line2 w0 page2 w2 (Err e)
-  going_stops old now next line line1 line2 w0 w1 w2 page page1 page2 rest front at e going first front_is adds answers =
-      let answer = answers (going.kept ++ front) (adds going.kept going.holds) in
+  going_stops old now next line line1 line2 w0 w1 w2 page page1 page2 rest prefix at e going first front_is adds answers =
+      let answer = answers (going.kept ++ prefix) (adds going.kept going.holds) in
       let broken = broken_parts takes failed w0 w1 w2 going.text page answer.0 going.sent answer.2.0 in (
         going.text ++ joined answer.0,
         broken.0,
         record {
-          lines = going.done ++ (going.kept ++ front) ∷ [];
-          front = front_next old now line w0 w1 page rest front at going first front_is;
+          lines = going.done ++ (going.kept ++ prefix) ∷ [];
+          prefix = front_next old now line w0 w1 page rest prefix at going first front_is;
           runs = (
             unwritten going.most answer.0,
             omega (arith, ap length broken.1, answer.2.1, unwritten_most (length page) going.most answer.0 going.late),
             inr (record {
               done = going.done;
-              line = going.kept ++ front;
+              line = going.kept ++ prefix;
               answers = going.text;
               begun = joined answer.0;
               state = (now, going.most);
@@ -161,22 +161,22 @@ module _ {S W : Type 0} (step cut : S → List ℕ → List (List ℕ) → S →
       )
 
   -- the handler takes no more lines
-  pub going_over : (old now next : S) (line line1 line2 : LineSoFar) (w0 w1 w2 : W) (page page1 rest front : List ℕ) (at : ℕ)
+  pub going_over : (old now next : S) (line line1 line2 : LineSoFar) (w0 w1 w2 : W) (page page1 rest prefix : List ℕ) (at : ℕ)
       → (going : Going step over takes failed begun piece old now line w0 page w1 rest)
       → IsFirstByte (is_byte 10) rest (Some at)
-      → front ≡ take at rest
-      → ((bytes : List ℕ) → Holds line bytes → Holds line1 (bytes ++ front))
+      → prefix ≡ take at rest
+      → ((bytes : List ℕ) → Holds line bytes → Holds line1 (bytes ++ prefix))
       → AnswersHeld step cut takes failed {X = Unit {0}} {E = Failed} line1 now next page w1 page1 w2 (Ok tt)
       → over next ≡ true
       → Feeds step cut takes failed {X = Unit {0}} {E = Failed} over begun piece old next line2 w0 page1 w2 (Ok tt)
-  going_over old now next line line1 line2 w0 w1 w2 page page1 rest front at going first front_is adds answers is_over =
-      let answer = answers (going.kept ++ front) (adds going.kept going.holds) in (
+  going_over old now next line line1 line2 w0 w1 w2 page page1 rest prefix at going first front_is adds answers is_over =
+      let answer = answers (going.kept ++ prefix) (adds going.kept going.holds) in (
         going.text ++ joined answer.0,
         record {
-          lines = going.done ++ (going.kept ++ front) ∷ [];
+          lines = going.done ++ (going.kept ++ prefix) ∷ [];
           most = unwritten going.most answer.0;
-          front = front_next old now line w0 w1 page rest front at going first front_is;
-          runs = run_on old now next going.most going.done (going.kept ++ front) going.text answer.0 going.runs answer.1;
+          prefix = front_next old now line w0 w1 page rest prefix at going first front_is;
+          runs = run_on old now next going.most going.done (going.kept ++ prefix) going.text answer.0 going.runs answer.1;
           late = omega (arith, answer.2.1, unwritten_most (length page) going.most answer.0 going.late);
           rest = inl is_over;
         },
@@ -196,7 +196,7 @@ module _ {S W : Type 0} (step cut : S → List ℕ → List (List ℕ) → S →
         record {
           lines = going.done;
           most = going.most;
-          front = record { others = []; whole = append-nil going.done ∙ all };
+          prefix = record { others = []; whole = append-nil going.done ∙ all };
           runs = going.runs;
           late = going.late;
           rest = inr (awake, all, rw (going.left, line_buffer-free going.kept rest none) (adds going.kept going.holds));
@@ -212,14 +212,14 @@ module _ {S W : Type 0} (step cut : S → List ℕ → List (List ℕ) → S →
       → Feeds step cut takes failed over begun piece old new line w0 [] w2 result
   fed_flushed old new line w0 w1 w2 page page1 (Ok x) fed flows empty = (
     fed.0,
-    record { lines = fed.1.lines; most = fed.1.most; front = fed.1.front; runs = fed.1.runs; late = omega arith; rest = fed.1.rest },
+    record { lines = fed.1.lines; most = fed.1.most; prefix = fed.1.prefix; runs = fed.1.runs; late = omega arith; rest = fed.1.rest },
     rw empty at (flows w0 fed.0 fed.2),
   )
   fed_flushed old new line w0 w1 w2 page page1 (Err e) fed flows empty =
       let broken = flows_broken takes failed w0 w1 w2 fed.0 page page1 e fed.2 flows in (
         fed.0,
         broken.0,
-        record { lines = fed.1.lines; front = fed.1.front; runs = (fed.1.most, omega (arith, broken.1, fed.1.late), inl fed.1.runs) },
+        record { lines = fed.1.lines; prefix = fed.1.prefix; runs = (fed.1.most, omega (arith, broken.1, fed.1.late), inl fed.1.runs) },
       )
 
 module _ {S W : Type 0} (step cut : S → List ℕ → List (List ℕ) → S → Type 0) (takes : W → List ℕ → W → Type 0) (failed : W → Bool) where

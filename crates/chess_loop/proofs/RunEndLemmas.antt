@@ -84,13 +84,13 @@ module _ {S R W : Type 0} (step : S → List ℕ → List ℕ → S → Type 0) 
 -- the lines that were answered before the last read and since are the first of all
 pub lines_first : {R : Type 0} (ended : R → Type 0) (pieces : List (List ℕ)) (piece : List ℕ) (lines : List (List ℕ)) (r : R) → Awaited ended (line_buffer [] (joined pieces)) piece lines r
     → IsPrefix (ended_lines [] (joined pieces) ++ lines) (lines_of (joined (pieces ++ piece ∷ [])))
-lines_first ended pieces piece lines r (inl front) =
+lines_first ended pieces piece lines r (inl prefix) =
     let more : joined (pieces ++ piece ∷ []) ≡ joined pieces ++ piece = joined-append pieces (piece ∷ []) ∙ ap (λ (q : List ℕ). joined pieces ++ q) (append-nil piece) in
     let last = last_line (line_buffer [] (joined (pieces ++ piece ∷ []))) in
     record {
-      others = front.others ++ last;
-      whole = append_assoc (ended_lines [] (joined pieces)) lines (front.others ++ last)
-          ∙ ap (λ (ls : List (List ℕ)). ended_lines [] (joined pieces) ++ ls) (sym (append_assoc lines front.others last) ∙ ap (λ (ls : List (List ℕ)). ls ++ last) front.whole)
+      others = prefix.others ++ last;
+      whole = append_assoc (ended_lines [] (joined pieces)) lines (prefix.others ++ last)
+          ∙ ap (λ (ls : List (List ℕ)). ended_lines [] (joined pieces) ++ ls) (sym (append_assoc lines prefix.others last) ∙ ap (λ (ls : List (List ℕ)). ls ++ last) prefix.whole)
           ∙ sym (append_assoc (ended_lines [] (joined pieces)) (ended_lines (line_buffer [] (joined pieces)) piece) last)
           ∙ ap (λ (ls : List (List ℕ)). ls ++ last) (sym (ended_lines-append [] (joined pieces) piece) ∙ ap (ended_lines []) (sym more));
     }

@@ -26,46 +26,46 @@ pub unwritten_more : (n : ℕ) (first : List ℕ) (parts : List (List ℕ)) (par
 unwritten_more n first parts part = last_length_more (n + length first) parts part
 
 -- what is left of a text is no longer than the text
-pub no_longer : (front rest text : List ℕ) → front ++ rest ≡ text → length rest ≤ length text
-no_longer front rest text whole =
-    let lengths : length front + length rest ≡ length text = sym (length-append front rest) ∙ ap length whole in
+pub no_longer : (prefix rest text : List ℕ) → prefix ++ rest ≡ text → length rest ≤ length text
+no_longer prefix rest text whole =
+    let lengths : length prefix + length rest ≡ length text = sym (length-append prefix rest) ∙ ap length whole in
     omega (arith, lengths)
 
 module _ {W : Type 0} (takes : W → List ℕ → W → Type 0) (failed : W → Bool) where
   -- nothing is written, and the text stands on the page
   pub sent_start : (w : W) (text : List ℕ) → Sent takes failed w text text w
-  sent_start w text = record { front = []; calls = Carries-none takes w; whole = refl; well = refl }
+  sent_start w text = record { prefix = []; calls = Carries-none takes w; whole = refl; well = refl }
 
   -- a call takes the first n bytes
   pub sent_call : (w m t : W) (text rest rest' : List ℕ) (n : ℕ) → Sent takes failed w text rest m → takes m (take n rest) t → take n rest ++ rest' ≡ rest
       → failed t ≡ failed m → Sent takes failed w text rest' t
   sent_call w m t text rest rest' n so_far call parts well = record {
-    front = so_far.front ++ take n rest;
-    calls = Carries-more takes w m t so_far.front (take n rest) so_far.calls call;
-    whole = append_assoc so_far.front (take n rest) rest' ∙ ap (λ (u : List ℕ). so_far.front ++ u) parts ∙ so_far.whole;
+    prefix = so_far.prefix ++ take n rest;
+    calls = Carries-more takes w m t so_far.prefix (take n rest) so_far.calls call;
+    whole = append_assoc so_far.prefix (take n rest) rest' ∙ ap (λ (u : List ℕ). so_far.prefix ++ u) parts ∙ so_far.whole;
     well = well ∙ so_far.well;
   }
 
   -- all is written
   pub sent_whole : (w t : W) (text : List ℕ) → Sent takes failed w text [] t → Carries takes w text t
-  sent_whole w t text sent = subst (λ (x : List ℕ). Carries takes w x t) (sym (append-nil sent.front) ∙ sent.whole) sent.calls
+  sent_whole w t text sent = subst (λ (x : List ℕ). Carries takes w x t) (sym (append-nil sent.prefix) ∙ sent.whole) sent.calls
 
   -- what stood on the page is sent
   pub sent_on : (w m t : W) (text page rest : List ℕ) → Sent takes failed w text page m → Sent takes failed m page rest t → Sent takes failed w text rest t
   sent_on w m t text page rest so_far more = record {
-    front = so_far.front ++ more.front;
-    calls = Carries-append takes w m t so_far.front more.front so_far.calls more.calls;
-    whole = append_assoc so_far.front more.front rest ∙ ap (λ (u : List ℕ). so_far.front ++ u) more.whole ∙ so_far.whole;
+    prefix = so_far.prefix ++ more.prefix;
+    calls = Carries-append takes w m t so_far.prefix more.prefix so_far.calls more.calls;
+    whole = append_assoc so_far.prefix more.prefix rest ∙ ap (λ (u : List ℕ). so_far.prefix ++ u) more.whole ∙ so_far.whole;
     well = more.well ∙ so_far.well;
   }
 
   pub broken_on : (w m t : W) (text page : List ℕ) → Sent takes failed w text page m → Broken takes failed m page t → Broken takes failed w text t
   broken_on w m t text page so_far more = record {
-    front = so_far.front ++ more.front;
+    prefix = so_far.prefix ++ more.prefix;
     rest = more.rest;
     before = more.before;
-    calls = Carries-append takes w m more.before so_far.front more.front so_far.calls more.calls;
-    whole = append_assoc so_far.front more.front more.rest ∙ ap (λ (u : List ℕ). so_far.front ++ u) more.whole ∙ so_far.whole;
+    calls = Carries-append takes w m more.before so_far.prefix more.prefix so_far.calls more.calls;
+    whole = append_assoc so_far.prefix more.prefix more.rest ∙ ap (λ (u : List ℕ). so_far.prefix ++ u) more.whole ∙ so_far.whole;
     unwritten = more.unwritten;
     well = more.well ∙ so_far.well;
     last = more.last;
@@ -75,20 +75,20 @@ module _ {W : Type 0} (takes : W → List ℕ → W → Type 0) (failed : W → 
   -- a text more on the page
   pub sent_more : (w t : W) (text page more : List ℕ) → Sent takes failed w text page t → Sent takes failed w (text ++ more) (page ++ more) t
   sent_more w t text page more so_far = record {
-    front = so_far.front;
+    prefix = so_far.prefix;
     calls = so_far.calls;
-    whole = sym (append_assoc so_far.front page more) ∙ ap (λ (u : List ℕ). u ++ more) so_far.whole;
+    whole = sym (append_assoc so_far.prefix page more) ∙ ap (λ (u : List ℕ). u ++ more) so_far.whole;
     well = so_far.well;
   }
 
   -- whatever was to follow
   pub broken_longer : (w t : W) (text more : List ℕ) → Broken takes failed w text t → Broken takes failed w (text ++ more) t
   broken_longer w t text more broken = record {
-    front = broken.front;
+    prefix = broken.prefix;
     rest = broken.rest ++ more;
     before = broken.before;
     calls = broken.calls;
-    whole = sym (append_assoc broken.front broken.rest more) ∙ ap (λ (u : List ℕ). u ++ more) broken.whole;
+    whole = sym (append_assoc broken.prefix broken.rest more) ∙ ap (λ (u : List ℕ). u ++ more) broken.whole;
     unwritten = rw (length-append) (omega (arith, broken.unwritten));
     well = broken.well;
     last = broken.last;
@@ -117,13 +117,13 @@ module _ {W : Type 0} (takes : W → List ℕ → W → Type 0) (failed : W → 
   sends_one w t page text page1 (Ok x) sends =
       let sent = sends w page (sent_start w page) in (
         subst (λ (y : List ℕ). Sent takes failed w (page ++ y) page1 t) (sym (append-nil text)) sent,
-        omega (arith, no_longer sent.front page1 (page ++ text) sent.whole, length-append page text),
+        omega (arith, no_longer sent.prefix page1 (page ++ text) sent.whole, length-append page text),
       )
   sends_one w t page text page1 (Err e) sends =
       let broken = sends w page (sent_start w page) in
       subst (λ (y : List ℕ). (b : Broken takes failed w (page ++ y) t) × (length b.rest ≤ length page + length text)) (sym (append-nil text)) (
         broken,
-        omega (arith, no_longer broken.front broken.rest (page ++ text) broken.whole, length-append page text),
+        omega (arith, no_longer broken.prefix broken.rest (page ++ text) broken.whole, length-append page text),
       )
 
   -- the one text that answers a line
@@ -144,11 +144,11 @@ module _ {W : Type 0} (takes : W → List ℕ → W → Type 0) (failed : W → 
 
   -- what flows of the page: no more is left on it, or a rest of it is unwritten
   pub flows_shorter : (w t : W) (page page1 : List ℕ) → Flows takes failed {X = Unit {0}} {E = Failed} page w page1 t (Ok tt) → length page1 ≤ length page
-  flows_shorter w t page page1 flow = let sent = flow w page (sent_start w page) in no_longer sent.front page1 page sent.whole
+  flows_shorter w t page page1 flow = let sent = flow w page (sent_start w page) in no_longer sent.prefix page1 page sent.whole
 
   pub flows_broken : (start w t : W) (text page page1 : List ℕ) (e : Failed) → Sent takes failed start text page w → Flows takes failed {X = Unit {0}} {E = Failed} page w page1 t (Err e)
       → (broken : Broken takes failed start text t) × (length broken.rest ≤ length page)
   unfolding broken_on
   flows_broken start w t text page page1 e so_far flow =
       let broken = flow w page (sent_start w page) in
-      (broken_on start w t text page so_far broken, no_longer broken.front broken.rest page broken.whole)
+      (broken_on start w t text page so_far broken, no_longer broken.prefix broken.rest page broken.whole)

@@ -39,11 +39,11 @@ Awaited ended begun piece lines r = IsPrefix lines (ended_lines begun piece) ⊎
 
 module _ {W : Type 0} (takes : W → List ℕ → W → Type 0) (failed : W → Bool) where
   pub record Broken (old : W) (text : List ℕ) (new : W) : Type 0 where
-    pub front : List ℕ
+    pub prefix : List ℕ
     pub rest : List ℕ
     pub before : W
-    pub calls : Carries takes old front before
-    pub whole : front ++ rest ≡ text
+    pub calls : Carries takes old prefix before
+    pub whole : prefix ++ rest ≡ text
     pub unwritten : 0 < length rest
     pub well : failed before ≡ failed old
     pub last : takes before [] new
@@ -107,7 +107,7 @@ module _ {S R W : Type 0} (runs : S → List (List ℕ) → List ℕ → S → T
     pub earlier : UpToLast runs over beginning gives read_failed r r'
     pub lines : List (List ℕ)
     pub more : List ℕ
-    pub front : IsPrefix lines (ended_lines (line_buffer [] (joined earlier.pieces)) earlier.piece)
+    pub prefix : IsPrefix lines (ended_lines (line_buffer [] (joined earlier.pieces)) earlier.piece)
     pub answers_last : runs earlier.middle lines more state
     pub is_over : over state ≡ true
     pub writes : Carries takes w (earlier.text ++ more) w'

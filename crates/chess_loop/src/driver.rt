@@ -66,8 +66,8 @@ fn feed<E: LineHandler, A: Allocator, W: Sink>(
 {
     let mut rest = piece;
     while let Some(at) = memchr(b'\n', rest) {
-        let (front, others) = rest.split_at(at);
-        line.add(front);
+        let (prefix, others) = rest.split_at(at);
+        line.add(prefix);
         if let Err(failed) = page.make_room(writer) {
             return Err(failed);
         }

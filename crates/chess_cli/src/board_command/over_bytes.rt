@@ -27,9 +27,9 @@ pub fn board_over_bytes<A: Allocator>(
     ensures read_fault { result ≡ Ended.ReadFault → (given : List ℕ) × (text : List ℕ) × (state : TreeParts)
         × (reader.old.left ≡ given ++ reader.new.left) × ((reader.new.failed ≡ true) ⊎ (most_reads ≤ length given))
         × Runs Answers beginning (ended_lines [] given) text state × (writer.new.taken ≡ writer.old.taken ++ text) × (writer.new.failed ≡ false) }
-    ensures write_fault { result ≡ Ended.WriteFault → (given : List ℕ) × (lines : List (List ℕ)) × (text : List ℕ) × (front : List ℕ) × (rest : List ℕ) × (state : TreeParts)
+    ensures write_fault { result ≡ Ended.WriteFault → (given : List ℕ) × (lines : List (List ℕ)) × (text : List ℕ) × (prefix : List ℕ) × (rest : List ℕ) × (state : TreeParts)
         × (reader.old.left ≡ given ++ reader.new.left) × IsPrefix lines (lines_of given)
-        × Runs Answers beginning lines text state × (text ≡ front ++ rest) × (0 < length rest) × (writer.new.taken ≡ writer.old.taken ++ front)
+        × Runs Answers beginning lines text state × (text ≡ prefix ++ rest) × (0 < length rest) × (writer.new.taken ≡ writer.old.taken ++ prefix)
         × (reader.new.failed ≡ false) × (writer.new.failed ≡ true) }
     ensures memory { result ≡ Ended.Memory → (reader.new ≡ reader.old) × (writer.new ≡ writer.old) }
     ensures input { (fault : PgnFault) → result ≢ Ended.Input fault }

@@ -43,7 +43,7 @@ module _ {S W : Type 0} (step cut : S → List ℕ → List (List ℕ) → S →
   pub record Fed (over : S → Bool) (begun piece : List ℕ) (old new : S) (line : LineSoFar) (text page : List ℕ) : Type 0 where
     pub lines : List (List ℕ)
     pub most : ℕ
-    pub front : IsPrefix lines (ended_lines begun piece)
+    pub prefix : IsPrefix lines (ended_lines begun piece)
     pub runs : Runs (Counted step) (old, 0) lines text (new, most)
     pub late : length page ≤ most
     pub rest : (over new ≡ true) ⊎ ((over new ≡ false) × (lines ≡ ended_lines begun piece) × Holds line (line_buffer begun piece))
@@ -51,7 +51,7 @@ module _ {S W : Type 0} (step cut : S → List ℕ → List (List ℕ) → S →
   -- answering the lines of a piece broke off
   pub record FedPartly (begun piece : List ℕ) (old new : S) (text rest : List ℕ) : Type 0 where
     pub lines : List (List ℕ)
-    pub front : IsPrefix lines (ended_lines begun piece)
+    pub prefix : IsPrefix lines (ended_lines begun piece)
     pub runs : Partly step cut old lines text rest new
 
   -- what is on the page is sent, too

@@ -10,9 +10,9 @@ use Rattle.chess_loop.specs.RunEnds.{Broken}
 
 module _ {W : Type 0} (takes : W → List ℕ → W → Type 0) (failed : W → Bool) where
   pub record Sent (old : W) (text page : List ℕ) (new : W) : Type 0 where
-    pub front : List ℕ
-    pub calls : Carries takes old front new
-    pub whole : front ++ page ≡ text
+    pub prefix : List ℕ
+    pub calls : Carries takes old prefix new
+    pub whole : prefix ++ page ≡ text
     pub well : failed new ≡ failed old
 
   -- a text is sent, or sending it broke off

@@ -44,19 +44,19 @@ returns-clause-write_fault g c = λ is.
     let then : broken.before.taken ≡ end.before.taken ++ joined broken.calls.pieces =
     Calls-taken _ (λ (s : Written). s.taken) (λ s t p h. h) _ _ broken.calls.pieces broken.calls.calls in
     let last : c.board.new.writer.taken ≡ broken.before.taken ++ [] = broken.last in
-    let taken : c.board.new.writer.taken ≡ c.args.writer.now.taken ++ (earlier.text ++ broken.front) =
+    let taken : c.board.new.writer.taken ≡ c.args.writer.now.taken ++ (earlier.text ++ broken.prefix) =
     last ∙ append-nil broken.before.taken ∙ then ∙ ap (λ (x : List ℕ). x ++ joined broken.calls.pieces) (before ∙ ap (λ (x : List ℕ). c.args.writer.now.taken ++ x) end.writes.whole)
     ∙ append_assoc c.args.writer.now.taken earlier.text (joined broken.calls.pieces) ∙ ap (λ (x : List ℕ). c.args.writer.now.taken ++ (earlier.text ++ x)) broken.calls.whole in (
       joined given,
       ended_lines [] (joined earlier.pieces) ++ end.lines,
       earlier.text ++ end.more,
-      earlier.text ++ broken.front,
+      earlier.text ++ broken.prefix,
       broken.rest,
       how.0,
       left,
       lines_first (λ (s : Left). s.left ≡ []) earlier.pieces earlier.piece end.lines c.board.new.reader end.awaited,
       Runs-append Answers beginning earlier.middle how.0 (ended_lines [] (joined earlier.pieces)) end.lines earlier.text end.more earlier.answers end.answers_last,
-      ap (λ (x : List ℕ). earlier.text ++ x) (sym broken.whole) ∙ sym (append_assoc earlier.text broken.front broken.rest),
+      ap (λ (x : List ℕ). earlier.text ++ x) (sym broken.whole) ∙ sym (append_assoc earlier.text broken.prefix broken.rest),
       broken.unwritten,
       taken,
       earlier.well_read,
