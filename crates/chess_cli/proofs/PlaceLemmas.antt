@@ -4,7 +4,7 @@ use Rattle.std.specs.Prelude.{codes, decimal, slice_get}
 use Rattle.std.proofs.lemmas.Option.{slice_get_within, get_or_from_slice_get}
 use Rattle.std.proofs.lemmas.List.{map-append, take_more, take-append-drop, length-take-le}
 use Rattle.byte_streams.specs.declared.source.Failed.{Failed}
-use Rattle.chess_cli.specs.Gaps.{gapped, parted_by}
+use Rattle.chess_cli.specs.Gaps.{gapped, separated_by}
 use Rattle.chess_cli.specs.Numbers.{path_text}
 use Rattle.chess_cli.specs.steps.Pieces.{next_place}
 use Rattle.chess_loop.specs.steps.Sending.{Sent, Flows, Sends}
@@ -14,7 +14,7 @@ use Rattle.chess_loop.proofs.SendingLemmas.{sent_more, broken_longer}
 
 -- the text of some places
 abbrev pub places_text : List ℕ → List ℕ
-places_text places = parted_by (codes ".") (map decimal places)
+places_text places = separated_by (codes ".") (map decimal places)
 
 gapped-append : (gap : List ℕ) (xs ys : List (List ℕ)) → gapped gap (xs ++ ys) ≡ gapped gap xs ++ gapped gap ys
 gapped-append gap [] ys = refl

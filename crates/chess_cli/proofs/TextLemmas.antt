@@ -1,7 +1,7 @@
 -- Texts that are separated by a gap, as far as they are written.
 use Rattle.std.proofs.Common.{◌≡◌, ℕ, zero, suc, ◌+◌, ◌-◌, ◌≤◌, List, ◌++◌, map, sym, ap, ◌∙◌, append_assoc, append-nil, arith}
 use Rattle.std.specs.List.{range_with_len}
-use Rattle.chess_cli.specs.Gaps.{gapped, parted_by}
+use Rattle.chess_cli.specs.Gaps.{gapped, separated_by}
 
 -- the texts of the numbers from a on, n of them, each after a gap
 abbrev pub run : List ℕ → (ℕ → List ℕ) → ℕ → ℕ → List ℕ
@@ -31,6 +31,6 @@ run-next gap text k before old mid new next some o m n t =
 
 -- after all eight
 pub run-whole : (gap : List ℕ) (text : ℕ → List ℕ) (k : ℕ) (start before old : List ℕ) → k ≡ 8 → before ≡ start ++ text 0
-    → old ≡ before ++ run gap text 1 (k - 1) → old ≡ start ++ parted_by gap (map text (range_with_len 0 8))
+    → old ≡ before ++ run gap text 1 (k - 1) → old ≡ start ++ separated_by gap (map text (range_with_len 0 8))
 run-whole gap text k start before old eight b o =
     rw (o, b, eight) (append_assoc start (text 0) (run gap text 1 7))

@@ -34,7 +34,7 @@ use Rattle.chess_pgn.specs.Written.{game_text}
 use Rattle.chess_cli.specs.declared.board_command.refusal.Refusal.{Refusal}
 use Rattle.chess_cli.specs.declared.board_command.refusal.Refusal.TheVariants.{Fen as BadFen, NoSuch, Illegal, TooLong, AtRoot, Full, BadComment, Memory, Command, Argument, LongLine}
 use Rattle.chess_cli.specs.Refusals.{number_of, name_of, san_refusal}
-use Rattle.chess_cli.specs.Gaps.{parted_by}
+use Rattle.chess_cli.specs.Gaps.{separated_by}
 use Rattle.chess_cli.specs.Numbers.{path_text}
 use Rattle.chess_cli.specs.Outcomes.{claims_text}
 use Rattle.chess_cli.specs.Requests.{Request, Blank, New, Set, Counts, Eval, Fen, Moves, Checks, Play, Back, Step, Start, End, Goto, Path, Promote, Delete, Comment, Nag, Count, Status, Claims, Claim, Best, Pgn, Unknown, Malformed, request}
@@ -54,15 +54,15 @@ or_none (byte ∷ bytes) = byte ∷ bytes
 
 -- the texts, separated by one space, and `none` where there are none
 abbrev pub list_text : List (List ℕ) → List ℕ
-list_text texts = or_none (parted_by (codes " ") texts)
+list_text texts = or_none (separated_by (codes " ") texts)
 
 -- the numbers of files a to h on a rank, separated by one space
 unfoldable pub rank_numbers : (ℕ → ℕ) → ℕ → List ℕ
-rank_numbers number rank = parted_by (codes " ") (map (λ file. decimal (number (8 * rank + file))) (range_with_len 0 8))
+rank_numbers number rank = separated_by (codes " ") (map (λ file. decimal (number (8 * rank + file))) (range_with_len 0 8))
 
 -- a number for each square: ranks 1 to 8, separated by ` / `
 unfoldable pub counts_text : (ℕ → ℕ) → List ℕ
-counts_text number = parted_by (codes " / ") (map (rank_numbers number) (range_with_len 0 8))
+counts_text number = separated_by (codes " / ") (map (rank_numbers number) (range_with_len 0 8))
 
 -- of a call that is done or refused
 abbrev pub ok_or_refused : {X : Type 0} → Result X Refusal → List ℕ

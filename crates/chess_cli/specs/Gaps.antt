@@ -7,6 +7,6 @@ gapped gap [] = []
 gapped gap (text ∷ texts) = gap ++ text ++ gapped gap texts
 
 -- the texts, separated by a gap
-abbrev pub parted_by : List ℕ → List (List ℕ) → List ℕ
-parted_by gap [] = []
-parted_by gap (text ∷ texts) = text ++ gapped gap texts
+abbrev pub separated_by : List ℕ → List (List ℕ) → List ℕ
+separated_by gap [] = []
+separated_by gap (text ∷ texts) = text ++ gapped gap texts

@@ -13,7 +13,7 @@ use Rattle.std.specs.Str.Parse.{digits_value}
 use Rattle.chess_draws.specs.Pushes.{most_plies}
 use Rattle.chess_cli.specs.declared.board_command.numbers.PathWord.{PathWord}
 use Rattle.chess_cli.specs.declared.board_command.numbers.PathWord.TheVariants.{Read, TooLong, Malformed}
-use Rattle.chess_cli.specs.Gaps.{parted_by}
+use Rattle.chess_cli.specs.Gaps.{separated_by}
 
 -- one to six decimal digits; zeros may stand first
 abbrev pub is_number : List ℕ → Bool
@@ -39,7 +39,7 @@ path_in word = if bytes_eq word (codes "-") then Some [] else numbers_in (slice_
 -- the numbers in decimal, separated by periods, and `-` where there is none
 abbrev pub path_text : List ℕ → List ℕ
 path_text [] = codes "-"
-path_text (place ∷ path) = parted_by (codes ".") (map decimal (place ∷ path))
+path_text (place ∷ path) = separated_by (codes ".") (map decimal (place ∷ path))
 
 -- How a word is read as a path, to go before these places.
 abbrev pub ReadsPath : List ℕ → List ℕ → PathWord → Type 0

@@ -19,7 +19,7 @@ use Rattle.chess_draws.specs.steps.RepetitionKeys.{IsKeyOf}
 use Rattle.chess_draws.specs.steps.Plies.{IsPly, ArePlies, IsLine, IsHeld, move_of}
 use Rattle.chess_draws.specs.steps.LookBack.{came_back}
 use Rattle.chess_draws.specs.LineParts.{LineParts}
-use Rattle.chess_draws.proofs.PlyLemmas.{plies_on, Parted, plies_parted, plies_legal, plies_well_formed, clock_on, number_on}
+use Rattle.chess_draws.proofs.PlyLemmas.{plies_on, Parted, plies_separated, plies_legal, plies_well_formed, clock_on, number_on}
 use Rattle.chess_draws.proofs.LookBack.{within_clock, plies_on_board, looked_back}
 
 -- the line of the plies
@@ -157,7 +157,7 @@ line_more {start} {plies} {live} line ply is_ply next now position is = record {
 -- the position before the last ply
 pub ply_last : {start : PositionParts} {plies : List Ply} {live : LiveParts} {here : RepetitionKey} → IsLine start plies live here →
     (rest : List Ply) (ply : Ply) → plies ≡ rest ++ ply ∷ [] → Parted start rest ply
-ply_last {start} line rest ply is = plies_parted start rest ply (subst (ArePlies start) is line.are_plies)
+ply_last {start} line rest ply is = plies_separated start rest ply (subst (ArePlies start) is line.are_plies)
 
 pub before_last : {start : PositionParts} {plies : List Ply} {live : LiveParts} {here : RepetitionKey} → IsLine start plies live here →
     (rest : List Ply) (ply : Ply) → plies ≡ rest ++ ply ∷ [] → IsBefore live.position ply.past (play start (map move_of rest))

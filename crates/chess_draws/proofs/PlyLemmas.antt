@@ -26,10 +26,10 @@ pub record Parted (p : PositionParts) (plies : List Ply) (ply : Ply) : Type 0 wh
   pub rest : ArePlies p plies
   pub last : IsPly (play p (map move_of plies)) ply
 
-pub plies_parted : (p : PositionParts) (plies : List Ply) (ply : Ply) → ArePlies p (plies ++ ply ∷ []) → Parted p plies ply
-plies_parted p [] ply are = record { rest = tt; last = are.0 }
-plies_parted p (first ∷ plies) ply are =
-    let parted : Parted (after p first.past.played) plies ply = plies_parted (after p first.past.played) plies ply are.1 in
+pub plies_separated : (p : PositionParts) (plies : List Ply) (ply : Ply) → ArePlies p (plies ++ ply ∷ []) → Parted p plies ply
+plies_separated p [] ply are = record { rest = tt; last = are.0 }
+plies_separated p (first ∷ plies) ply are =
+    let parted : Parted (after p first.past.played) plies ply = plies_separated (after p first.past.played) plies ply are.1 in
     record { rest = (are.0, parted.rest); last = parted.last }
 
 -- their moves are legal

@@ -66,9 +66,9 @@ join_two ((x ∷ w) ∷ (z ∷ v) ∷ a) b h k =
     behind (c ∷ s) [] h = refl
     behind (c ∷ s) (d ∷ t) h = sym (append_assoc (x ∷ w) (32 ∷ c ∷ s) (32 ∷ d ∷ t))
 
-pub normalised_parted : (a b : List ℕ) → normalised (a ++ 32 ∷ b) ≡ comments_joined (normalised a) (normalised b)
+pub normalised_separated : (a b : List ℕ) → normalised (a ++ 32 ∷ b) ≡ comments_joined (normalised a) (normalised b)
 unfolding normalised
-normalised_parted a b = ap (join_with_byte 32) (parted blanks [] a b 32 refl) ∙ join_two (words blanks a) (words blanks b) (some_words blanks [] a) (some_words blanks [] b)
+normalised_separated a b = ap (join_with_byte 32) (parted blanks [] a b 32 refl) ∙ join_two (words blanks a) (words blanks b) (some_words blanks [] a) (some_words blanks [] b)
 
 pub normalised_space : (b : List ℕ) → normalised (32 ∷ b) ≡ normalised b
 unfolding normalised
@@ -83,7 +83,7 @@ pub normalised_append : (a b : List ℕ) → IsSpaced b → normalised (a ++ b) 
 unfolding normalised
 normalised_append a [] h = ap normalised (append-nil a) ∙ sym (joined_none (normalised a))
 normalised_append a (x ∷ b) h =
-    ap (λ (y : ℕ). normalised (a ++ y ∷ b)) h ∙ normalised_parted a b ∙ ap (comments_joined (normalised a)) (sym (normalised_space b) ∙ ap (λ (y : ℕ). normalised (y ∷ b)) (sym h))
+    ap (λ (y : ℕ). normalised (a ++ y ∷ b)) h ∙ normalised_separated a b ∙ ap (comments_joined (normalised a)) (sym (normalised_space b) ∙ ap (λ (y : ℕ). normalised (y ∷ b)) (sym h))
 
 pub spaced_append : (a b : List ℕ) → IsSpaced a → IsSpaced b → IsSpaced (a ++ b)
 spaced_append [] b h k = k

@@ -10,7 +10,7 @@ use Rattle.chess_pgn.specs.Grammar.{comments_joined}
 use Rattle.chess_pgn.specs.steps.Readings.{said_here}
 use Rattle.chess_pgn.proofs.HangLemmas.{hang-nothing, joined-nil}
 use Rattle.chess_pgn.proofs.PlaceLemmas.{commented_is, node_sound}
-use Rattle.chess_pgn.proofs.RemarkLemmas.{normalised_none, normalised_parted}
+use Rattle.chess_pgn.proofs.RemarkLemmas.{normalised_none, normalised_separated}
 
 said_tree : (tree : GameTree) (path n x : List ℕ) → Leads path tree.below → x ≡ comments_joined (node_of path (root_node tree)).comment n
     → commented_tree x path tree ≡ (said_here n (record { tree = tree; path = path })).tree
@@ -40,7 +40,7 @@ pub next_said : (t : TreeParts) (text said both : List ℕ) → IsGameTree t →
 next_said t text said both game es e =
     let sound = node_sound t.path (root_node t.tree) (record { comment = game.comment; from = t.tree.start; below = game.moves }) game.cursor in
     said_as t (normalised text) (normalised both) game
-    (ap normalised e ∙ normalised_parted said text ∙ ap (λ (z : List ℕ). comments_joined z (normalised text)) (ap normalised es ∙ sound.normal))
+    (ap normalised e ∙ normalised_separated said text ∙ ap (λ (z : List ℕ). comments_joined z (normalised text)) (ap normalised es ∙ sound.normal))
 
 pub then : {P Q : Type 0} {E : Type 0} (r : Result (Unit {0}) E) → OnOk r P → (P → Q) → OnOk r Q
 then (Ok u) p f = f p

@@ -25,7 +25,7 @@ use Rattle.chess_san.proofs.GoesLemmas.{read_legal}
 use Rattle.chess_pgn.specs.Grammar.{Derives, Element, Annotation, Remark, Close, Line, End, Skip, Annotate, Say, Play, Vary, Part, with_annotation, element, elements, elements_of, few_are_open, with_opening_comment, comments_joined, meaning, ok_move, nothing, with_move_first, said, varied, ◌>>=◌}
 use Rattle.chess_pgn.specs.Laws.{AreNoted, nesting}
 use Rattle.chess_pgn.specs.Reading.{lead_after, remarks}
-use Rattle.chess_pgn.proofs.RemarkLemmas.{normalised_parted}
+use Rattle.chess_pgn.proofs.RemarkLemmas.{normalised_separated}
 use Rattle.chess_pgn.proofs.SoundItemLemmas.{AreSoundItems, IsSound}
 
 -- ---- comments
@@ -46,7 +46,7 @@ joined_comment : (a b : List ℕ) → IsComment a → IsComment b → IsComment 
 joined_comment [] b p q = q
 joined_comment (x ∷ a) [] p q = p
 joined_comment (x ∷ a) (y ∷ b) p q = record {
-  normal = normalised_parted (x ∷ a) (y ∷ b) ∙ ap (λ (z : List ℕ). comments_joined z (normalised (y ∷ b))) p.normal ∙ ap (comments_joined (x ∷ a)) q.normal;
+  normal = normalised_separated (x ∷ a) (y ∷ b) ∙ ap (λ (z : List ℕ). comments_joined z (normalised (y ∷ b))) p.normal ∙ ap (comments_joined (x ∷ a)) q.normal;
   no_brace = brace_append (x ∷ a) (32 ∷ y ∷ b) p.no_brace q.no_brace;
 }
 

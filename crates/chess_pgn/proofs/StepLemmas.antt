@@ -24,7 +24,7 @@ use Rattle.chess_tree.specs.declared.fault.TreeFault.TheVariants.{AtRoot, NoSuch
 use Rattle.chess_pgn.proofs.KeepLemmas.{keeps, new-there}
 use Rattle.chess_pgn.proofs.MeetLemmas.{at-prefix}
 use Rattle.chess_pgn.proofs.PlaceLemmas.{added_is, annotated_is, moves_kept}
-use Rattle.chess_pgn.proofs.RemarkLemmas.{normalised_append, normalised_none, normalised_parted, spaced_append}
+use Rattle.chess_pgn.proofs.RemarkLemmas.{normalised_append, normalised_none, normalised_separated, spaced_append}
 
 -- what a step gives
 abbrev pub Next : Element → TreeParts → List Interrupted → Bool → List ℕ → ℕ → Reading → Type 0
@@ -89,7 +89,7 @@ remark_held t lines played comments comments' text from s e h = record {
   parts = e ∙ ap (λ (z : List ℕ). z ++ 32 ∷ text) h.parts ∙ append_assoc h.outer h.text (32 ∷ text);
   from = h.from;
   spaced = spaced_append h.text (32 ∷ text) h.spaced refl;
-  lead = ap (λ (z : List ℕ). comments_joined z (normalised text)) h.lead ∙ sym (normalised_parted h.text text);
+  lead = ap (λ (z : List ℕ). comments_joined z (normalised text)) h.lead ∙ sym (normalised_separated h.text text);
   pends = h.pends;
 }
 

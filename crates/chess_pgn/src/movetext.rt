@@ -53,7 +53,7 @@ fn is_noted(notes: &Notes<'_>) -> bool
 }
 
 // Whether something is between a node's move and the next.
-fn is_parted<A: Allocator>(notes: &Notes<'_>, others: &Children<'_, '_, A>) -> bool
+fn is_separated<A: Allocator>(notes: &Notes<'_>, others: &Children<'_, '_, A>) -> bool
     ensures { result ≡ (is_noted notes.now.nags.now notes.now.comment.now || not (is_none (child 0 others.now))) }
 {
     is_noted(notes) || !others.is_empty()
@@ -155,7 +155,7 @@ impl<'t, 'k, 'a, A: Allocator> Writer<'t, 'k, 'a, A> {
                 played,
                 &notes,
             )?;
-            due = is_parted(&notes, &others);
+            due = is_separated(&notes, &others);
             if !others.is_empty() {
                 self.speller.back();
                 self.add(Task::Below(played, number, node.below(), due))?;

@@ -35,7 +35,7 @@ use Rattle.chess_san.proofs.SameLemmas.{same_move, Mover, mover, plain_promo, ca
 use Rattle.chess_san.proofs.PawnLemmas.{pawn_names, pawn_same}
 
 -- The text reads as a form, which names the move and no other; no mark ends it.
-record Told (p : PositionParts) (m : MoveParts) (text : List ℕ) : Type 0 where
+record IsUnambiguous (p : PositionParts) (m : MoveParts) (text : List ℕ) : Type 0 where
   form : Form
   reads : bare_form text ≡ Some form
   ends : Unmarked text
@@ -60,7 +60,7 @@ unfolding origin_among
 own_origin others from on = own_by (is_without others) (share_file others from) (share_rank others from) from on
 
 module _ (p : PositionParts) (m : MoveParts) (on : IsMove m) (legal : is_legal p m ≡ true) (a : Mover p m) where
-  castling_told : (wing : Wing) (text : List ℕ) → bare_form text ≡ Some (Castles wing) → Unmarked text → is_castling a.man wing m ≡ true → Told p m text
+  castling_told : (wing : Wing) (text : List ℕ) → bare_form text ≡ Some (Castles wing) → Unmarked text → is_castling a.man wing m ≡ true → IsUnambiguous p m text
   unfolding names
   castling_told wing text reads ends h =
       let own : castles_by (man_on p m.from) wing m ≡ true = ap (λ (o : Option Man). castles_by o wing m) a.here ∙ h in
@@ -72,7 +72,7 @@ module _ (p : PositionParts) (m : MoveParts) (on : IsMove m) (legal : is_legal p
         only = λ n on' legal' h'. castled_same p wing m n a (mover p n legal') own h';
       }
 
-  pawn_told : a.man.kind ≡ Pawn → Told p m (pawn_text (captures p a.man m) m)
+  pawn_told : a.man.kind ≡ Pawn → IsUnambiguous p m (pawn_text (captures p a.man m) m)
   unfolding names
   pawn_told is =
       let taken : Bool = captures p a.man m in
@@ -85,7 +85,7 @@ module _ (p : PositionParts) (m : MoveParts) (on : IsMove m) (legal : is_legal p
       }
 
   piece_told : (kind : Kind) → is_pawn kind ≡ false → a.man.kind ≡ kind → is_castling a.man KingSide m ≡ false → is_castling a.man QueenSide m ≡ false →
-      Told p m (piece_text kind (origin_of p kind m) (captures p a.man m) m.to)
+      IsUnambiguous p m (piece_text kind (origin_of p kind m) (captures p a.man m) m.to)
   unfolding names
   piece_told kind plain is king queen =
       let origin : Origin = origin_of p kind m in
@@ -106,7 +106,7 @@ module _ (p : PositionParts) (m : MoveParts) (on : IsMove m) (legal : is_legal p
             same_move n m (piece_from p kind m n on' legal' f.to r.1 f.file f.rank) f.to (f.promo ∙ sym promo);
       }
 
-  step_told : (kind : Kind) → a.man.kind ≡ kind → is_castling a.man KingSide m ≡ false → is_castling a.man QueenSide m ≡ false → Told p m (step_text p kind a.man m)
+  step_told : (kind : Kind) → a.man.kind ≡ kind → is_castling a.man KingSide m ≡ false → is_castling a.man QueenSide m ≡ false → IsUnambiguous p m (step_text p kind a.man m)
   step_told Pawn is king queen = pawn_told is
   step_told Knight is king queen = piece_told Knight refl is king queen
   step_told Bishop is king queen = piece_told Bishop refl is king queen
@@ -114,14 +114,14 @@ module _ (p : PositionParts) (m : MoveParts) (on : IsMove m) (legal : is_legal p
   step_told Queen is king queen = piece_told Queen refl is king queen
   step_told King is king queen = piece_told King refl is king queen
 
-  man_told : Told p m (bare_text p (Some a.man) m)
+  man_told : IsUnambiguous p m (bare_text p (Some a.man) m)
   unfolding wing_in
   man_told =
-      cond_both (is_castling a.man KingSide m) _ _ (Told p m) (castling_told KingSide (79 ∷ 45 ∷ 79 ∷ []) refl refl)
-      (λ king. cond_both (is_castling a.man QueenSide m) _ _ (Told p m) (castling_told QueenSide (79 ∷ 45 ∷ 79 ∷ 45 ∷ 79 ∷ []) refl refl) (λ queen. step_told a.man.kind refl king queen))
+      cond_both (is_castling a.man KingSide m) _ _ (IsUnambiguous p m) (castling_told KingSide (79 ∷ 45 ∷ 79 ∷ []) refl refl)
+      (λ king. cond_both (is_castling a.man QueenSide m) _ _ (IsUnambiguous p m) (castling_told QueenSide (79 ∷ 45 ∷ 79 ∷ 45 ∷ 79 ∷ []) refl refl) (λ queen. step_told a.man.kind refl king queen))
 
-  told : Told p m (bare_text p (man_on p m.from) m)
-  told = subst (λ (o : Option Man). Told p m (bare_text p o m)) (sym a.here) man_told
+  told : IsUnambiguous p m (bare_text p (man_on p m.from) m)
+  told = subst (λ (o : Option Man). IsUnambiguous p m (bare_text p o m)) (sym a.here) man_told
 
 -- the law
 pub named_back : (p : PositionParts) (m : MoveParts) → IsMove m → is_legal p m ≡ true → named p (san p m) ≡ m ∷ []

@@ -29,7 +29,7 @@ use Rattle.chess_tree.proofs.EditLemmas.{deeper, leads_on, leads_parent, path_le
 use Rattle.chess_tree.proofs.TreeLemmas.{game_added, game_annotated, game_at, game_commented, game_deleted, game_promoted}
 use Rattle.chess_tree.proofs.LineLemmas.{find_some, line_added, line_length, line_on}
 use Rattle.chess_tree.proofs.WalkLemmas.{has_leads, length_parent}
-use Rattle.chess_tree.proofs.StepLemmas.{line_parted}
+use Rattle.chess_tree.proofs.StepLemmas.{line_separated}
 use Rattle.chess_tree.proofs.CommentLemmas.{is_comment}
 
 -- ---- what `prepare` of a line answers, by a number
@@ -251,7 +251,7 @@ module _ (t : TreeParts) (l : LineParts) (is : IsAnalysed t l) where
       let longer : length l.line.moves ≡ length (line_to above).moves + 1 =
       ap (λ (y : Line). length y.moves) (is.follows ∙ on.line) ∙ length-append (line_to above).moves (on.move ∷ []) in
       absurd (omega (arith, longer, ap length pop.0))
-  popped above after (Some m) on pop = line_parted after (line_to above) m on.move (sym pop ∙ is.follows ∙ on.line)
+  popped above after (Some m) on pop = line_separated after (line_to above) m on.move (sym pop ∙ is.follows ∙ on.line)
 
   kept_out : (new : TreeParts) (after : LineParts) (o : Option MoveParts) → IsGameTree new → height new.tree.below ≤ height t.tree.below → GoesOn new t
       → MatchOption o ((l.line.moves ≡ []) × (after.line ≡ l.line)) (λ m. l.line ≡ extended after.line m) → after.room ≡ l.room → after.looked ≡ 0 → IsAnalysed new after

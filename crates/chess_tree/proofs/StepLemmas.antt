@@ -67,8 +67,8 @@ pub goes_out : (t : TreeParts) → IsGameTree t → 0 < length t.path → GoesOn
 goes_out t game some = by_line (deleted t) (at_path (parent t.path) t) t (sym (line_deleted t game)) (goes_up t game some)
 
 -- one step up is known by what it makes of the line
-pub line_parted : (a b : Line) (m n : MoveParts) → extended a m ≡ extended b n → a ≡ b
-line_parted a b m n e =
+pub line_separated : (a b : Line) (m n : MoveParts) → extended a m ≡ extended b n → a ≡ b
+line_separated a b m n e =
     let moves = ap (λ (l : Line). l.moves) e in
     let lengths : length a.moves ≡ length b.moves = omega (arith, ap length moves, length-append a.moves (m ∷ []), length-append b.moves (n ∷ [])) in
     let start = ap (λ (l : Line). l.start) e in

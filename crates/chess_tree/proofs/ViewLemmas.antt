@@ -200,8 +200,8 @@ rest_split k Empty h = absurd (omega (arith, h))
 rest_split zero (Tree i m below next) h = refl
 rest_split (suc k) (Tree i m below next) h = rest_split k next (omega (arith, h))
 
-rest_parted : (k : ℕ) (g : Grove) → k < wide g → rest_of k g ≡ Tree (node_number 0 k g) (grove_move k g) (under k g) (rest_of (k + 1) g)
-rest_parted k g h = rest_split k g h ∙ ap (λ (x : ℕ). Tree (node_number 0 k g) (grove_move k g) (under k g) (rest_of x g)) (sym (add-one k))
+rest_separated : (k : ℕ) (g : Grove) → k < wide g → rest_of k g ≡ Tree (node_number 0 k g) (grove_move k g) (under k g) (rest_of (k + 1) g)
+rest_separated k g h = rest_split k g h ∙ ap (λ (x : ℕ). Tree (node_number 0 k g) (grove_move k g) (under k g) (rest_of x g)) (sym (add-one k))
 
 side_is : (nodes : List Entry) (at k : ℕ) (g : Grove) → Owner nodes at g → grove_from (length nodes) (entry_at nodes) (drop k (entry_at nodes at).children) ≡ rest_of k g
 side_is nodes at k g o =
@@ -224,7 +224,7 @@ module _ (nodes : List Entry) (noted : ℕ → Noted) (i place : ℕ) (f : Fores
       let b = under_at v.path v.game in
       let o = owner nodes i v in
       let short = child_in nodes i place found b o at in
-      let all : f ≡ plain noted (Tree (node_number 0 place b) (grove_move place b) (under place b) (rest_of (place + 1) b)) = seen_side ∙ ap (plain noted) (rest_parted place b short) in (
+      let all : f ≡ plain noted (Tree (node_number 0 place b) (grove_move place b) (under place b) (rest_of (place + 1) b)) = seen_side ∙ ap (plain noted) (rest_separated place b short) in (
         child_there nodes i place found v at,
         ap (λ (x : NodeParts). Some x) (with_below_is nodes noted found (under place b) (child_owner nodes i place found v at))
             ∙ child_is nodes noted i place found b o at ∙ child_plain noted place b short ∙ ap (child 0) (sym all),

@@ -34,13 +34,13 @@ returns-then-not-is_empty g c =
     let rest = c.next.new.self in
     let m = c.in-Some-move_at.played in
     let first = first_node c.in-Some.is c.next.ensures.first c.next.ensures.rest c.in-Some-move_at.is c.move_at.ensures c.notes-notes.ensures.nags c.notes-notes.ensures.comment c.below.ensures in
-    let one = todos_pushed items c.add.new.self.tasks.items (Below m c.number-number.result c.below.result c.is_parted-due.result) c.in_ok-add.ensures.tasks in
+    let one = todos_pushed items c.add.new.self.tasks.items (Below m c.number-number.result c.below.result c.is_separated-due.result) c.in_ok-add.ensures.tasks in
     let two = todos_pushed c.add.new.self.tasks.items c.add-then-not-is_empty.new.self.tasks.items (Variations rest) c.in_ok-add-2.ensures.tasks in
     let made = c.in_ok-push_move.ensures in
     done_last c.loop-node.invariant
     (lines_as (c.add-then-not-is_empty.ensures.lines ∙ c.add.ensures.lines)
     (steps_as (c.add-then-not-is_empty.ensures.line ∙ c.add.ensures.line ∙ taken_back line c.push_move.new.speller c.back.new.self m made.line c.back.ensures) (two ∙ ap (λ (x : List tasks.Todo). tasks.Variations rest ∷ x) one)
-    (step_moves first c.is_parted-due.ensures c.loop-node.invariant.tasks made.adds)))
+    (step_moves first c.is_separated-due.ensures c.loop-node.invariant.tasks made.adds)))
 
 pub returns : goal.returns
 returns g c =
@@ -52,8 +52,8 @@ loop-node-smaller g c =
     let first = first_node c.in-Some.is c.next.ensures.first c.next.ensures.rest c.in-Some-move_at.is c.move_at.ensures c.notes-notes.ensures.nags c.notes-notes.ensures.comment c.below-others.ensures in
     let none = none_is (child 0 c.next.new.self) c.is_empty.result c.is_empty.ensures c.if-not-is_empty.false in
     let made = c.in_ok-push_move.ensures in
-    let one = step_only {old = c.loop-node.self.lines} {new = c.push_move.new.lines} first c.loop-node.self.tasks.items none c.is_parted-due.ensures c.loop-node.invariant.tasks made.adds in
-    let same = ap (λ (x : List tasks.Todo). work (tasks.Moves c.below-others.result c.is_parted-due.result ∷ x)) c.in_ok-leave_back.ensures.tasks in
+    let one = step_only {old = c.loop-node.self.lines} {new = c.push_move.new.lines} first c.loop-node.self.tasks.items none c.is_separated-due.ensures c.loop-node.invariant.tasks made.adds in
+    let same = ap (λ (x : List tasks.Todo). work (tasks.Moves c.below-others.result c.is_separated-due.result ∷ x)) c.in_ok-leave_back.ensures.tasks in
     omega (arith, one.smaller, same)
 
 pub loop-node-preserved : goal.loop-node-preserved
@@ -63,5 +63,5 @@ loop-node-preserved g c =
     let made = c.in_ok-push_move.ensures in
     done_on _ _ _ _ _ _ _ _ _ c.loop-node.invariant
     (lines_as c.leave_back.ensures.lines
-    (steps_as (c.leave_back.ensures.line ∙ made.line) (ap (λ (x : List tasks.Todo). tasks.Moves c.below-others.result c.is_parted-due.result ∷ x) c.in_ok-leave_back.ensures.tasks)
-    (step_only first c.loop-node.self.tasks.items none c.is_parted-due.ensures c.loop-node.invariant.tasks made.adds)))
+    (steps_as (c.leave_back.ensures.line ∙ made.line) (ap (λ (x : List tasks.Todo). tasks.Moves c.below-others.result c.is_separated-due.result ∷ x) c.in_ok-leave_back.ensures.tasks)
+    (step_only first c.loop-node.self.tasks.items none c.is_separated-due.ensures c.loop-node.invariant.tasks made.adds)))
