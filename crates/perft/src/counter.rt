@@ -72,7 +72,8 @@ impl LineHandler for Counter {
 
     // A line that is not kept has more bytes than a line may have, whatever the reason.
     fn refuse<A: Allocator>(&self, _line: Unread, page: &mut OutputBuffer<A>) {
-        page.put(long_line().as_str().as_bytes());
+        let text = long_line();
+        page.put(text.as_str().as_bytes());
     }
 
     fn is_over(&self) -> bool {
