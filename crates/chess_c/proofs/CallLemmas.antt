@@ -8,7 +8,7 @@ use Rattle.chess_cli.specs.declared.board_command.refusal.Refusal.{Refusal}
 use Rattle.chess_cli.specs.Answers.{Tells}
 use Rattle.chess_cli.specs.Requests.{request}
 use Rattle.chess_slots.specs.Answers.{IsReplied}
-use Rattle.chess_slots.specs.Handed.{IsReportedBy}
+use Rattle.chess_slots.specs.Handed.{IsAnsweredBy}
 use Rattle.chess_c.specs.Calls.{Acts, IsAnswered, IsReplying}
 use Rattle.chess_c.specs.Codes.{ended_code}
 use Rattle.chess_c.specs.Held.{Held, Searching, with_board, with_engine, with_search}
@@ -33,7 +33,7 @@ same_but_engine held after kb ks =
     ap (λ (b : TreeParts). record { board = b; search = after.search; engine = after.engine }) kb ∙ ap (λ (s : Option Searching). record { board = held.board; search = s; engine = after.engine }) ks
 
 pub answered_some : (line : List ℕ) → (old new : Option Held) → (held after : Held) → (text : List ℕ) → (code count count' : ℕ) → (room room' : List ℕ)
-    → old ≡ Some held → new ≡ Some after → after.search ≡ held.search → after.engine ≡ held.engine → Tells held.board (request line) text after.board → IsReportedBy text code count count' room room'
+    → old ≡ Some held → new ≡ Some after → after.search ≡ held.search → after.engine ≡ held.engine → Tells held.board (request line) text after.board → IsAnsweredBy text code count count' room room'
     → IsAnswered old line code count count' room room' new
 answered_some line old new held after text code count count' room room' is en ks ke tells told =
     subst (λ (o : Option Held). IsAnswered o line code count count' room room' new) (sym is) (text, after.board, tells, told, en ∙ ap (λ (h : Held). Some h) (same_but_board held after ks ke))

@@ -12,7 +12,7 @@ use Rattle.chess_cli.specs.Answers.{Tells}
 use Rattle.chess_cli.specs.Requests.{request}
 use Rattle.chess_slots.specs.Answers.{IsReplied}
 use Rattle.chess_slots.specs.Codes.{empty_slot, ok}
-use Rattle.chess_slots.specs.Handed.{IsReportedBy}
+use Rattle.chess_slots.specs.Handed.{IsAnsweredBy}
 use Rattle.chess_c.specs.Codes.{ended_code}
 use Rattle.chess_c.specs.Held.{Held, with_board, with_engine}
 
@@ -30,7 +30,7 @@ Acts ends (Some held) code new = (ended : Result (Unit {0}) Refusal) × (after :
 abbrev pub IsAnswered : Option Held → List ℕ → (code count count' : ℕ) → (room room' : List ℕ) → Option Held → Type 0
 IsAnswered None line code count count' room room' new = (code ≡ empty_slot) × (new ≡ None) × (count' ≡ count) × (room' ≡ room)
 IsAnswered (Some held) line code count count' room room' new =
-    (text : List ℕ) × (after : TreeParts) × Tells held.board (request line) text after × IsReportedBy text code count count' room room' × (new ≡ Some (with_board after held))
+    (text : List ℕ) × (after : TreeParts) × Tells held.board (request line) text after × IsAnsweredBy text code count count' room room' × (new ≡ Some (with_board after held))
 
 -- an event is replied to
 abbrev pub IsReplying : Event → Option Held → (code count count' : ℕ) → (room room' : List ℕ) → Option Held → Type 0

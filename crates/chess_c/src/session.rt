@@ -3,7 +3,7 @@ ghost use Rattle.std.specs.Prelude.{◌≡◌, ℕ, List, IfOk, is_some};
 ghost use Rattle.chess_cli.specs.Answers.{Tells};
 ghost use Rattle.chess_cli.specs.Requests.{request};
 ghost use Rattle.chess_slots.specs.Answers.{IsReplied};
-ghost use Rattle.chess_slots.specs.Handed.{IsReportedBy};
+ghost use Rattle.chess_slots.specs.Handed.{IsAnsweredBy};
 ghost use Rattle.chess_c.specs.Asked.{IsBest};
 ghost use Rattle.chess_c.specs.Held.{beginning};
 ghost use Rattle.chess_c.specs.Loads.{LoadsFrom};
@@ -63,7 +63,7 @@ impl Session {
     /// Answers a line, and hands out the text: 0, or `ROOM` where it is longer than the room for it, or `MEMORY` where there is none to gather it in.
     /// The line has been answered all the same.
     pub fn answer(&mut self, alloc: Global, line: &[u8], room: &mut [u8], count: &mut usize) -> u32
-        ensures board { (text : List ℕ) × Tells self.old.board (request line.now) text self.new.board × IsReportedBy text result count.old count.new room.old room.new }
+        ensures board { (text : List ℕ) × Tells self.old.board (request line.now) text self.new.board × IsAnsweredBy text result count.old count.new room.old room.new }
         ensures search { self.new.search ≡ self.old.search }
         ensures engine { self.new.engine ≡ self.old.engine }
     {

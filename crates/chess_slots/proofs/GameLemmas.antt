@@ -8,12 +8,12 @@ use Rattle.chess_pgn.specs.Games.{Game}
 use Rattle.chess_pgn.specs.Reading.{HasNoGame, BeginsWithGame, IsWhite}
 use Rattle.chess_pgn.specs.Written.{game_text}
 use Rattle.chess_slots.specs.Games.{IsGame, IsPassed, PassesFrom, is_of_text}
-use Rattle.chess_slots.specs.Handed.{IsReportedBy}
+use Rattle.chess_slots.specs.Handed.{IsAnsweredBy}
 use Rattle.chess_slots.specs.declared.reports.GameReport.{GameReport}
 use Rattle.chess_slots.specs.Reports.{IsReport, IsReportedBy}
 
 pub game_told : (text : List ℕ) → (game : Game) → (code count count' used used' : ℕ) → (room room' : List ℕ)
-    → BeginsWithGame text game used' → IsReportedBy (game_text game) code count count' room room' → IsGame text code count count' used used' room room'
+    → BeginsWithGame text game used' → IsAnsweredBy (game_text game) code count count' room room' → IsGame text code count count' used used' room room'
 game_told text game code count count' used used' room room' at (inl handed) = inl (game, at, handed)
 game_told text game code count count' used used' room room' at (inr none) = inr (none.1, none.2, inr (inr none.0))
 

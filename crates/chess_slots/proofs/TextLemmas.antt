@@ -4,7 +4,7 @@ use Rattle.std.specs.Prelude.{Bool, false, T, Result, Ok, Err, MatchResult}
 use Rattle.byte_streams.specs.Calls.{joined}
 use Rattle.byte_streams.proofs.CallLemmas.{Calls-taken, Carries-none}
 use Rattle.chess_loop.specs.steps.Sending.{Sent, SentOr, Sends, Flows}
-use Rattle.chess_slots.specs.Handed.{IsHanded, IsReportedBy}
+use Rattle.chess_slots.specs.Handed.{IsHanded, IsAnsweredBy}
 use Rattle.chess_slots.specs.Texts.{Text}
 
 abbrev pub takes : Text → List ℕ → Text → Type 0
@@ -30,7 +30,7 @@ never_fails {X = X} {E = E} takes failed never r e is page page1 w w1 flows =
 -- what was told is handed out, or there was no memory; nothing was written before, and nothing stood on the page
 pub handed_told : {X E : Type 0} → (r : Result X E) → (w0 w1 : Text) → (text p0 p1 : List ℕ) → p0 ≡ [] → w0.taken ≡ [] → Sends takes failed p0 w0 text p1 w1 r
     → (code count count' : ℕ) → (old new : List ℕ) → MatchResult r (λ _. IsHanded (w1.taken ++ p1) code count' old new) (λ _. (code ≡ 2) × (count' ≡ count) × (new ≡ old))
-    → IsReportedBy text code count count' old new
+    → IsAnsweredBy text code count count' old new
 handed_told (Ok x) w0 w1 text p0 p1 e0 ew sends code count count' old new told =
     let begun : Sent takes failed w0 [] p0 w0 = record { prefix = []; calls = Carries-none takes w0; whole = e0; well = refl } in
     inl (subst (λ (t : List ℕ). IsHanded t code count' old new) (gathered w0 w1 text p1 ew (sends w0 [] begun)) told)

@@ -1,7 +1,7 @@
 -- Answers that are put where C has room for them.
 --   IsHanded   a list of values, with how many they are: they stand first, and the rest of the room is as it was; where they are too many, nothing
 --              is written but their number
---   IsReportedBy   a text that is handed out, or for which there was no memory, and then nothing is written
+--   IsAnsweredBy   a text that is handed out, or for which there was no memory, and then nothing is written
 use Rattle.std.specs.Prelude.{◌≡◌, ℕ, nat_le, Bool, true, false, ◌⊎◌, List, ◌++◌, length, drop}
 use Rattle.chess_slots.specs.Codes.{ok, no_room, no_memory}
 
@@ -15,5 +15,5 @@ abbrev pub IsHanded : {X : Type 0} → List X → (code count : ℕ) → (old ne
 IsHanded values code count old new = (count ≡ length values) × HandedIf (nat_le (length values) (length old)) values code old new
 
 -- the same, or there is no memory
-abbrev pub IsReportedBy : List ℕ → (code count count' : ℕ) → (old new : List ℕ) → Type 0
-IsReportedBy text code count count' old new = IsHanded text code count' old new ⊎ ((code ≡ no_memory) × (count' ≡ count) × (new ≡ old))
+abbrev pub IsAnsweredBy : List ℕ → (code count count' : ℕ) → (old new : List ℕ) → Type 0
+IsAnsweredBy text code count count' old new = IsHanded text code count' old new ⊎ ((code ≡ no_memory) × (count' ≡ count) × (new ≡ old))

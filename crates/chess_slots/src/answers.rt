@@ -4,7 +4,7 @@ ghost use Rattle.chess_cli.specs.Answers.{Tells};
 ghost use Rattle.chess_cli.specs.Requests.{request};
 ghost use Rattle.chess_cli.specs.TimedSessions.{reply_lines};
 ghost use Rattle.chess_slots.specs.Answers.{IsReplied};
-ghost use Rattle.chess_slots.specs.Handed.{IsHanded, IsReportedBy};
+ghost use Rattle.chess_slots.specs.Handed.{IsHanded, IsAnsweredBy};
 
 use crate::codes::MEMORY;
 use crate::gathered::{Gathered, Nowhere};
@@ -27,7 +27,7 @@ pub fn answer<A: Allocator, B: Allocator, C: Allocator>(
     count: &mut usize,
 ) -> u32
     requires { page.old ≡ [] }
-    ensures told { (text : List ℕ) × Tells board.old (request line.now) text board.new × IsReportedBy text result count.old count.new room.old room.new }
+    ensures told { (text : List ℕ) × Tells board.old (request line.now) text board.new × IsAnsweredBy text result count.old count.new room.old room.new }
     ensures page { page.new ≡ [] }
 {
     let mut gathered = Gathered::new(alloc);

@@ -3,7 +3,7 @@ ghost use Rattle.std.specs.Prelude.{◌≡◌, ◌⊎◌, ◌≤◌, ℕ, length
 ghost use Rattle.chess_pgn.specs.Written.{game_text};
 ghost use Rattle.chess_pgn.specs.steps.GameCode.{game_of};
 ghost use Rattle.chess_slots.specs.Games.{IsGame, IsPassed, PassesFrom, PassesTo, is_of_text};
-ghost use Rattle.chess_slots.specs.Handed.{IsReportedBy};
+ghost use Rattle.chess_slots.specs.Handed.{IsAnsweredBy};
 ghost use Rattle.chess_slots.specs.Reports.{IsReport, IsReportedBy};
 
 use crate::codes::{MEMORY, NO_GAME, OK, fault_code};
@@ -24,7 +24,7 @@ fn write_out<'a, A: Allocator>(
     room: &mut [u8],
     count: &mut usize,
 ) -> u32
-    ensures { IsReportedBy (game_text (game_of game.now)) result count.old count.new room.old room.new }
+    ensures { IsAnsweredBy (game_text (game_of game.now)) result count.old count.new room.old room.new }
 {
     match write_game(alloc, game) {
         Ok(text) => hand(text.as_slice(), room, count),

@@ -7,12 +7,12 @@ use Rattle.chess_uci.specs.Machine.{State}
 use Rattle.chess_cli.specs.Answers.{Tells}
 use Rattle.chess_cli.specs.Requests.{request}
 use Rattle.chess_slots.specs.Answers.{IsReplied}
-use Rattle.chess_slots.specs.Handed.{IsReportedBy}
+use Rattle.chess_slots.specs.Handed.{IsAnsweredBy}
 use Rattle.chess_web.specs.Calls.{IsAnswered, IsReplying}
 use Rattle.chess_web.specs.Held.{Held}
 
 pub answered_some : (line : List ℕ) → (old new : Option Held) → (held after : Held) → (text : List ℕ) → (code count count' : ℕ) → (room room' : List ℕ)
-    → old ≡ Some held → new ≡ Some after → after.engine ≡ held.engine → Tells held.board (request line) text after.board → IsReportedBy text code count count' room room'
+    → old ≡ Some held → new ≡ Some after → after.engine ≡ held.engine → Tells held.board (request line) text after.board → IsAnsweredBy text code count count' room room'
     → IsAnswered old line code count count' room room' new
 answered_some line old new held after text code count count' room room' is en same tells told =
     subst (λ (o : Option Held). IsAnswered o line code count count' room room' new) (sym is)

@@ -21,14 +21,14 @@ use Rattle.chess_slots.specs.declared.reports.GameReport.{GameReport}
 use Rattle.chess_slots.specs.Answers.{IsReplied}
 use Rattle.chess_slots.specs.Codes.{empty_slot, not_legal, ok}
 use Rattle.chess_slots.specs.Games.{IsGame, IsPassed}
-use Rattle.chess_slots.specs.Handed.{IsHanded, IsReportedBy}
+use Rattle.chess_slots.specs.Handed.{IsHanded, IsAnsweredBy}
 use Rattle.chess_slots.specs.Reports.{IsReport}
 use Rattle.chess_web.specs.Held.{Held}
 
 abbrev pub IsAnswered : Option Held → List ℕ → (code count count' : ℕ) → (room room' : List ℕ) → Option Held → Type 0
 IsAnswered None line code count count' room room' new = (code ≡ empty_slot) × (new ≡ None) × (count' ≡ count) × (room' ≡ room)
 IsAnswered (Some held) line code count count' room room' new =
-    (text : List ℕ) × (after : TreeParts) × Tells held.board (request line) text after × IsReportedBy text code count count' room room'
+    (text : List ℕ) × (after : TreeParts) × Tells held.board (request line) text after × IsAnsweredBy text code count count' room room'
     × (new ≡ Some (record { board = after; engine = held.engine }))
 
 abbrev pub IsNamed : Result MoveParts SanFault → (code count count' : ℕ) → (room room' : List ℕ) → Type 0

@@ -6,7 +6,7 @@ ghost use Rattle.chess_tree.specs.GameTree.{line_to};
 ghost use Rattle.chess_cli.specs.Answers.{Tells};
 ghost use Rattle.chess_cli.specs.Requests.{request};
 ghost use Rattle.chess_slots.specs.Answers.{IsReplied};
-ghost use Rattle.chess_slots.specs.Handed.{IsReportedBy};
+ghost use Rattle.chess_slots.specs.Handed.{IsAnsweredBy};
 ghost use Rattle.chess_web.specs.Calls.{IsNamed};
 ghost use Rattle.chess_web.specs.Held.{beginning};
 
@@ -63,7 +63,7 @@ impl Session {
     /// Answers a line of the board, and hands out the text: 0, or `ROOM` where it is longer than the room for it, or `MEMORY` where there is none to
     /// gather it in. The line has been answered all the same.
     pub fn answer(&mut self, line: &[u8], room: &mut [u8], count: &mut usize) -> u32
-        ensures board { (text : List ℕ) × Tells self.old.board (request line.now) text self.new.board × IsReportedBy text result count.old count.new room.old room.new }
+        ensures board { (text : List ℕ) × Tells self.old.board (request line.now) text self.new.board × IsAnsweredBy text result count.old count.new room.old room.new }
         ensures engine { self.new.engine ≡ self.old.engine }
     {
         answer(
