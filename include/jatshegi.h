@@ -22,8 +22,10 @@
  *   - `malloc`, `realloc` and `free` are those of one allocator; no call comes from a signal handler.
  *
  * Then every input is answered, and nothing aborts. Each function is proved to answer what the Laws of Chess say, and to keep the board as it was wherever
- * the status isn't JATSHEGI_OK, but for what is said at jatshegi_board_answer. Outputs are written at JATSHEGI_OK, and at JATSHEGI_NO_ROOM the length
- * or the count alone; at every other status they are as they were, which is proved, too.
+ * the status isn't JATSHEGI_OK, but for what is said at jatshegi_board_answer and at the events of the engine. All outputs are written at JATSHEGI_OK. At
+ * JATSHEGI_NO_ROOM the length or the count is written, of jatshegi_game_read and jatshegi_game_report `used`, too, and of the latter the report; the room is
+ * as it was. At PGN_... `used` is the place of the fault in the text, in bytes, at most its length, and nothing else is written. At every other status all
+ * outputs are as they were. All this is proved, but that the place is that of the first fault.
  *
  * Texts are bytes and a length, without a byte 0 at the end. Squares are numbers: 0 for a1, 1 for b1, 63 for h8.
  */
@@ -209,8 +211,8 @@ uint32_t jatshegi_board_set_position(struct jatshegi_board *board, const struct 
 
 /*
  * Begins with the whole game at the start of a text (PGN), its variations, comments and annotations, from the position in which it begins; and says how
- * many bytes of the text the game takes. The cursor is at the root. But for OK the board is as it was; at PGN_... `used` is the place of the fault in the text, in
- * bytes. OK, EMPTY, NO_MEMORY, NO_GAME, PGN_...
+ * many bytes of the text the game takes. The cursor is at the root. But for OK the board is as it was; at PGN_... `used` is the place of the fault. OK, EMPTY,
+ * NO_MEMORY, NO_GAME, PGN_...
  */
 uint32_t jatshegi_board_load(struct jatshegi_board *board, const char *text, size_t length, size_t *used);
 
@@ -297,7 +299,8 @@ uint32_t jatshegi_search_end(struct jatshegi_board *board);
 
 /*
  * A session of the universal chess interface (UCI), driven by events. Each board has one, which knows nothing of the board. The replies are handed out,
- * each on a line of its own, with their length, at most JATSHEGI_MOST_REPLIES; at NO_ROOM the event has happened all the same. OK, EMPTY, NO_ROOM.
+ * each on a line of its own, with their length, at most JATSHEGI_MOST_REPLIES; at NO_ROOM the event has happened all the same, and the replies are lost. OK,
+ * EMPTY, NO_ROOM.
  *
  * A line is read, without its line feed; there is time to search one root move more; the clock reads so many milliseconds, from any moment on.
  */
@@ -348,8 +351,7 @@ uint32_t jatshegi_board_answer(struct jatshegi_board *board, const char *line, s
  * The game at the start of a text (PGN): in export form (PGN 3.2) with its length, and how many bytes of the text it takes. OK, NO_MEMORY, NO_ROOM,
  * NO_GAME, PGN_...
  *
- * At NO_ROOM the length and the bytes taken are written, and the game may be asked for again with more room. At PGN_... `used` is the place of the fault
- * in the text, in bytes.
+ * At NO_ROOM the length and the bytes taken are written, and the game may be asked for again with more room. At PGN_... `used` is the place of the fault.
  */
 uint32_t jatshegi_game_read(const char *text, size_t length, char *game, size_t room, size_t *count, size_t *used);
 
@@ -360,8 +362,10 @@ uint32_t jatshegi_game_read(const char *text, size_t length, char *game, size_t 
 uint32_t jatshegi_game_report(const char *text, size_t length, struct jatshegi_report *report, char *fen, size_t room, size_t *count, size_t *used);
 
 /*
- * How many bytes to pass over to what follows the game at the start of a text: those that it takes, or all where only whitespace follows, or, where no game
- * is there, those up to the first section of tags after the place where reading stopped (a `[` after an empty line), or all. OK, NO_MEMORY.
+ * How many bytes to pass over to what follows the game at the start of a text: those that it takes, or all where only whitespace follows, or those that are
+ * given up with a game that can't be read. The text alone decides these, whatever the fault: the tokens of the game as far as they go, up to the bracket of a
+ * tag after movetext, to what is no token, or to 1,048,576 bytes; and from there on all up to the first `[` that opens a tag and is first on its line, or to
+ * the end. It is at least 1 byte where the text has any. OK, NO_MEMORY.
  */
 uint32_t jatshegi_game_pass(const char *text, size_t length, uint64_t *used);
 

@@ -76,7 +76,7 @@ class Library(unittest.TestCase):
         self.assert_ends_well("valgrind", "--error-exitcode=9", "--leak-check=full", "--errors-for-leak-kinds=all", program)
 
     def test_each_allocation_refused(self):
-        program = self.build(["cc", "-std=gnu11", "-Wl,--wrap=malloc,--wrap=realloc"], "refused.c")
+        program = self.build(["cc", "-std=gnu11", "-Wl,--wrap=malloc,--wrap=realloc,--wrap=free"], "refused.c")
         self.assertIn("allocations refused", self.assert_ends_well(program))
 
     def test_the_heap_for_a_page_gives_back_all_memory(self):

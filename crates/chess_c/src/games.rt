@@ -5,7 +5,8 @@ use chess_slots::{GameReport, game, passed, report};
 use std::alloc::Global;
 
 /// The game at the start of a text (PGN), in export form, and how many bytes of the text it takes: 0. 16 where only whitespace follows. Where no game is
-/// there, the number of the text's first fault and 40, and the fault's place where else the bytes taken are.
+/// there, the number of the text's first fault and 40, and the fault's place where else the bytes taken are. 2 where there is no memory, and nothing is
+/// written.
 #[unsafe(no_mangle)]
 pub extern "C" fn jatshegi_game_read(
     alloc: Global,
@@ -35,8 +36,9 @@ pub extern "C" fn jatshegi_game_report(
     report(&alloc, text, found, fen, count, used)
 }
 
-/// How many bytes to pass over to what follows the game at the start of a text: those that it takes, or all where only whitespace follows, or, where no game
-/// is there, those up to the first section of tags (PGN 8.1) after the place where reading stopped. 2 where there is no memory.
+/// How many bytes to pass over to what follows the game at the start of a text: those that it takes, or all where only whitespace follows, or those that are
+/// given up with a game that can't be read, which the text alone decides (`GivesUp` of `chess_items`). 2 where there is no memory, and the number is as it
+/// was.
 #[unsafe(no_mangle)]
 pub extern "C" fn jatshegi_game_pass(alloc: Global, text: &[u8], used: &mut u64) -> u32
     ensures { IsPassed text.now result used.old used.new }

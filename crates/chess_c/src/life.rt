@@ -78,8 +78,8 @@ pub extern "C" fn jatshegi_board_set_position(
 }
 
 /// Begins with the tree of the game at the start of a text (PGN), the cursor at its root, and says how many bytes of the text the game takes: 0. 16 where
-/// only whitespace follows. Where no game is there, the number of the text's first fault and 40, and the fault's place where else the bytes taken are. But
-/// for 0 the board is as it was.
+/// only whitespace follows. Where no game is there, the number of the text's first fault and 40, and the fault's place where else the bytes taken are. 2 where
+/// there is no memory, and nothing is written. But for 0 the board is as it was.
 #[unsafe(no_mangle)]
 pub extern "C" fn jatshegi_board_load(
     alloc: Global,

@@ -14,7 +14,7 @@ use crate::search::Search;
 use chess_cli::Board;
 use chess_key::KeyTable;
 use chess_loop::OutputBuffer;
-use chess_slots::{ARGUMENT, MEMORY, NO_GAME, NONE, OK, answer, fault_code, reply};
+use chess_slots::{ARGUMENT, MEMORY, NO_GAME, NONE, OK, answer, refused, reply};
 use chess_tree::TreeFault;
 use chess_types::Move;
 use chess_uci::{Event, Session as Uci};
@@ -86,7 +86,7 @@ impl Session {
         self.engine.searching()
     }
 
-    /// Begins with the tree of the game at the start of a text, and says how many bytes of the text the game takes; else what `game` answers of the text.
+    /// Begins with the tree of the game at the start of a text, and says how many bytes of the text the game takes; else what `refused` answers of the text.
     pub fn load(&mut self, text: &[u8], used: &mut usize) -> u32
         ensures board { LoadsFrom text.now self.old.board result used.old used.new self.new.board }
         ensures search { self.new.search ≡ self.old.search }
@@ -98,10 +98,7 @@ impl Session {
                 OK
             }
             Ok(None) => NO_GAME,
-            Err(fault) => {
-                *used = fault.place as usize;
-                fault_code(fault.kind)
-            }
+            Err(fault) => refused(fault, text, used),
         }
     }
 

@@ -1,7 +1,6 @@
 pub mod AlongLemmas
 pub mod GameLemmas
 pub mod ReportLemmas
-pub mod SectionLemmas
 pub mod SlotValues
 pub mod TextLemmas
 pub mod Values

@@ -6,7 +6,6 @@
 --   why_of         why a game is over, or that it goes on
 --   why_code       why a line was over at a ply, as a status
 --   report_code    the report of a game
---   IsReportedBy   of a game: its report and the FEN of its last position are handed out, or there is no memory
 --   IsReport       of a text: the report of the game at its start and the FEN of its last position are handed out, with the number of the bytes that the
 --                  game takes; or there is none
 use Rattle.std.specs.Prelude.{◌≡◌, ◌⊎◌, ℕ, List, length, Option, Some, None}
@@ -25,7 +24,7 @@ use Rattle.chess_report.specs.declared.report.Over.{Over}
 use Rattle.chess_report.specs.MainLine.{as_far, main}
 use Rattle.chess_report.specs.Findings.{agrees, first_fifty, first_over, first_threefold, longest_quiet, most_repetitions}
 use Rattle.chess_slots.specs.declared.reports.GameReport.{GameReport}
-use Rattle.chess_slots.specs.Codes.{no_memory, outcome_code}
+use Rattle.chess_slots.specs.Codes.{outcome_code}
 use Rattle.chess_slots.specs.Games.{IsNone}
 use Rattle.chess_slots.specs.Handed.{IsHanded}
 
@@ -85,12 +84,6 @@ report_code game = line_report (main game.tree) game.outcome
 abbrev pub IsReported : List ℕ → (code count' used' : ℕ) → (report' : GameReport) → (room room' : List ℕ) → Type 0
 IsReported text code count' used' report' room room' =
     (game : Game) × BeginsWithGame text game used' × (report' ≡ report_code game) × IsHanded (written (last (main game.tree))) code count' room room'
-
--- of a game: the same, or there is no memory
-abbrev pub IsReportedBy : Game → (code count count' : ℕ) → (report report' : GameReport) → (room room' : List ℕ) → Type 0
-IsReportedBy game code count count' report report' room room' =
-    ((report' ≡ report_code game) × IsHanded (written (last (main game.tree))) code count' room room')
-    ⊎ ((code ≡ no_memory) × (count' ≡ count) × (report' ≡ report) × (room' ≡ room))
 
 -- what is answered of the report of the game at the start of a text
 abbrev pub IsReport : List ℕ → (code count count' used used' : ℕ) → (report report' : GameReport) → (room room' : List ℕ) → Type 0

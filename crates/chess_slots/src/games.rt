@@ -1,60 +1,16 @@
 //! Games of a text: read, passed over, and reported on.
-ghost use Rattle.std.specs.Prelude.{◌≡◌, ◌⊎◌, ◌≤◌, ℕ, length, IfSome};
-ghost use Rattle.chess_pgn.specs.Written.{game_text};
-ghost use Rattle.chess_pgn.specs.steps.GameCode.{game_of};
-ghost use Rattle.chess_slots.specs.Games.{IsGame, IsPassed, PassesFrom, PassesTo, is_of_text};
-ghost use Rattle.chess_slots.specs.Handed.{IsAnsweredBy};
-ghost use Rattle.chess_slots.specs.Reports.{IsReport, IsReportedBy};
+ghost use Rattle.std.specs.Prelude.{◌≡◌, ◌⊎◌};
+ghost use Rattle.chess_items.specs.declared.fault.FaultKind.TheVariants.{Memory};
+ghost use Rattle.chess_pgn.specs.Reading.{HasNoGame, IsWhite};
+ghost use Rattle.chess_slots.specs.Games.{IsGame, IsNone, IsPassed, is_of_text};
+ghost use Rattle.chess_slots.specs.Reports.{IsReport};
 
 use crate::codes::{MEMORY, NO_GAME, OK, fault_code};
 use crate::reports::{GameReport, report_of};
 use crate::texts::hand;
-use byte_streams::FromBytes;
-use chess_items::AtHand;
-use chess_pgn::{FaultKind, Game, Games, read_game, write_game};
+use chess_items::given_up;
+use chess_pgn::{FaultKind, PgnFault, read_game, write_game};
 use std::alloc::Allocator;
-
-/// A read of a text, in bytes.
-const PIECE: usize = 65536;
-
-// Hands out the export form of a game.
-fn write_out<'a, A: Allocator>(
-    alloc: &'a A,
-    game: &Game<'a, A>,
-    room: &mut [u8],
-    count: &mut usize,
-) -> u32
-    ensures { IsAnsweredBy (game_text (game_of game.now)) result count.old count.new room.old room.new }
-{
-    match write_game(alloc, game) {
-        Ok(text) => hand(text.as_slice(), room, count),
-        Err(_) => MEMORY,
-    }
-}
-
-/// The game at the start of a text (PGN), in export form, and how many bytes of the text it takes: 0. 16 where only whitespace follows. Where no game is
-/// there, the number of the text's first fault and 40, and the fault's place where else the bytes taken are.
-pub fn game<A: Allocator>(
-    alloc: &A,
-    text: &[u8],
-    room: &mut [u8],
-    count: &mut usize,
-    used: &mut usize,
-) -> u32
-    ensures { IsGame text.now result count.old count.new used.old used.new room.old room.new }
-{
-    match read_game(alloc, text) {
-        Ok(Some((found, taken))) => {
-            *used = taken;
-            write_out(alloc, &found, room, count)
-        }
-        Ok(None) => NO_GAME,
-        Err(fault) => {
-            *used = fault.place as usize;
-            fault_code(fault.kind)
-        }
-    }
-}
 
 // Whether it is a fault of the text, and not want of memory.
 fn is_of_text(kind: FaultKind) -> bool
@@ -66,42 +22,48 @@ fn is_of_text(kind: FaultKind) -> bool
     }
 }
 
-// Where the reading of the game at the start of a text stops.
-fn stop_of<A: Allocator>(alloc: &A, text: &[u8]) -> usize
-    ensures { result ≤ length text.now }
+/// What is answered where no game is at the start of a text, by the fault of its reader: the number of the fault and 40, with the fault's place in the text;
+/// or 2 for want of memory, and the place is as it was.
+pub fn refused(fault: PgnFault, text: &[u8], used: &mut usize) -> u32
+    requires none { (fault.kind ≡ Memory) ⊎ HasNoGame text.now }
+    requires not_white { IsWhite text.now → fault.kind ≡ Memory }
+    ensures { IsNone text.now result used.old used.new }
 {
-    let mut games = Games::new(alloc, FromBytes::new(text, PIECE));
-    drop(games.next());
-    (games.used() as usize).min(text.len())
+    if !is_of_text(fault.kind) {
+        return MEMORY;
+    }
+    *used = (fault.place as usize).min(text.len());
+    fault_code(fault.kind)
 }
 
-// How many bytes are before the first section of tags; `None` where there is no memory.
-fn to_section<A: Allocator>(alloc: &A, text: &[u8]) -> Option<u64>
-    ensures { IfSome result (λ count. PassesTo text.now count) }
+/// The game at the start of a text (PGN), in export form, and how many bytes of the text it takes: 0. 16 where only whitespace follows. Where no game is
+/// there, the number of the text's first fault and 40, and the fault's place where else the bytes taken are. 2 where there is no memory, and nothing is
+/// written.
+pub fn game<A: Allocator>(
+    alloc: &A,
+    text: &[u8],
+    room: &mut [u8],
+    count: &mut usize,
+    used: &mut usize,
+) -> u32
+    ensures { IsGame text.now result count.old count.new used.old used.new room.old room.new }
 {
-    let mut left = AtHand::new(alloc, FromBytes::new(text, PIECE));
-    match left.pass_to_section() {
-        Ok(count) => Some(count),
-        Err(_) => None,
+    match read_game(alloc, text) {
+        Ok(Some((found, taken))) => match write_game(alloc, &found) {
+            Ok(export) => {
+                *used = taken;
+                hand(export.as_slice(), room, count)
+            }
+            Err(_) => MEMORY,
+        },
+        Ok(None) => NO_GAME,
+        Err(fault) => refused(fault, text, used),
     }
 }
 
-// The bytes of a text at whose start no game is, up to the first section of tags after the place where reading stops.
-fn pass_fault<A: Allocator>(alloc: &A, text: &[u8], used: &mut u64) -> u32
-    ensures { ((result ≡ 0) × (stop : ℕ) × PassesFrom text.now stop used.new) ⊎ ((result ≡ 2) × (used.new ≡ used.old)) }
-{
-    let stop = stop_of(alloc, text);
-    match to_section(alloc, &text[stop..]) {
-        Some(count) => {
-            *used = stop as u64 + count;
-            OK
-        }
-        None => MEMORY,
-    }
-}
-
-/// How many bytes to pass over to what follows the game at the start of a text: those that it takes, or all where only whitespace follows, or, where no game
-/// is there, those up to the first section of tags (PGN 8.1) after the place where reading stopped. 2 where there is no memory.
+/// How many bytes to pass over to what follows the game at the start of a text: those that it takes, or all where only whitespace follows, or those that are
+/// given up with a game that can't be read, which the text alone decides (`GivesUp` of `chess_items`). 2 where there is no memory, and the number is as it
+/// was.
 pub fn passed<A: Allocator>(alloc: &A, text: &[u8], used: &mut u64) -> u32
     ensures { IsPassed text.now result used.old used.new }
 {
@@ -118,27 +80,9 @@ pub fn passed<A: Allocator>(alloc: &A, text: &[u8], used: &mut u64) -> u32
             if !is_of_text(fault.kind) {
                 return MEMORY;
             }
-            pass_fault(alloc, text, used)
+            *used = given_up(text) as u64;
+            OK
         }
-    }
-}
-
-// Hands out the report of a game, and the FEN of its last position.
-fn report_out<A: Allocator>(
-    alloc: &A,
-    game: &Game<'_, A>,
-    report: &mut GameReport,
-    room: &mut [u8],
-    count: &mut usize,
-) -> u32
-    ensures { IsReportedBy (game_of game.now) result count.old count.new report.old report.new room.old room.new }
-{
-    match report_of(alloc, game) {
-        Ok((found, last)) => {
-            *report = found;
-            hand(chess_fen::write(&last).as_str().as_bytes(), room, count)
-        }
-        Err(_) => MEMORY,
     }
 }
 
@@ -155,14 +99,15 @@ pub fn report<A: Allocator>(
     ensures { IsReport text.now result count.old count.new used.old used.new report.old report.new room.old room.new }
 {
     match read_game(alloc, text) {
-        Ok(Some((found, taken))) => {
-            *used = taken;
-            report_out(alloc, &found, report, room, count)
-        }
+        Ok(Some((found, taken))) => match report_of(alloc, &found) {
+            Ok((codes, last)) => {
+                *report = codes;
+                *used = taken;
+                hand(chess_fen::write(&last).as_str().as_bytes(), room, count)
+            }
+            Err(_) => MEMORY,
+        },
         Ok(None) => NO_GAME,
-        Err(fault) => {
-            *used = fault.place as usize;
-            fault_code(fault.kind)
-        }
+        Err(fault) => refused(fault, text, used),
     }
 }

@@ -1,8 +1,8 @@
 //! What the libraries for C and for a page share: what is kept in a slot, and how answers are handed out.
 //!
 //! `Loose` is a `Box` as a raw pointer, which a slot can keep; each library has a slot of its own, since a type that crosses to C has no parameters. The others
-//! are calls over a text, a board or an engine, which hand out what they answer: `game`, `passed` and `report` of a text, `answer` of a line of the board,
-//! `reply` of an event of an engine. Each returns a status, of which 0 is success (`specs/Codes.antt`).
+//! are calls over a text, a board or an engine, which hand out what they answer: `game`, `passed` and `report` of a text (`refused` where no game is there),
+//! `answer` of a line of the board, `reply` of an event of an engine. Each returns a status, of which 0 is success (`specs/Codes.antt`).
 #![tactic(auto)]
 
 mod along;
@@ -21,7 +21,7 @@ pub use codes::{
     ARGUMENT, AT_ROOT, EMPTY, FORM, ILLEGAL, MEMORY, NO_GAME, NONE, OK, ROOM, fault_code,
     outcome_code,
 };
-pub use games::{game, passed, report};
+pub use games::{game, passed, refused, report};
 pub use loose::Loose;
 pub use lost::Lost;
 pub use reports::{GameReport, NEVER};

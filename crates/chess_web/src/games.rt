@@ -44,8 +44,9 @@ pub extern "C" fn jatshegi_report(
     code
 }
 
-/// How many bytes to pass over to what follows the game at the start of a text: those that it takes, or all where only whitespace follows, or, where no game
-/// is there, those up to the first section of tags (PGN 8.1) after the place where reading stopped. 2 where there is no memory.
+/// How many bytes to pass over to what follows the game at the start of a text: those that it takes, or all where only whitespace follows, or those that are
+/// given up with a game that can't be read, which the text alone decides (`GivesUp` of `chess_items`). 2 where there is no memory, and the number is as it
+/// was.
 #[unsafe(no_mangle)]
 pub extern "C" fn jatshegi_pass(slot: &mut Slot, text: &[u8], used: &mut u64) -> u32
     ensures { IsPassedOf slot.old.held text.now result used.old used.new slot.new.held }

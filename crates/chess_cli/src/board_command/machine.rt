@@ -308,6 +308,7 @@ impl<'k, A: Allocator> Board<'k, A> {
         ensures game { IfOk result (λ found. IfSome found (λ used. (game : Game) × BeginsWithGame text.now game used × (self.new ≡ from_root game.tree))) }
         ensures none { result ≡ Ok None → IsWhite text.now × (self.new ≡ self.old) }
         ensures fault { IfErr result (λ fault. (fault.kind ≡ Memory) ⊎ HasNoGame text.now) }
+        ensures white { IsWhite text.now → IfErr result (λ fault. fault.kind ≡ Memory) }
         ensures err { IfErr result (λ _. self.new ≡ self.old) }
     {
         let (game, used) = match read_game(self.alloc, text) {

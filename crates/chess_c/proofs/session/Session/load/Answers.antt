@@ -1,11 +1,9 @@
-use Rattle.std.proofs.Common.{◌≡◌, ◌⊎◌, ℕ, List, IfSome, Ok, sym, ap, ◌∙◌, subst, inl, inr}
-use Rattle.chess_items.specs.declared.fault.FaultKind.TheVariants.{Memory}
-use Rattle.chess_items.specs.declared.fault.PgnFault.{PgnFault}
+use Rattle.std.proofs.Common.{◌≡◌, ℕ, List, IfSome, Ok, sym, ap, ◌∙◌, subst, inl, inr}
 use Rattle.chess_pgn.specs.Games.{Game}
-use Rattle.chess_pgn.specs.Reading.{HasNoGame, BeginsWithGame}
+use Rattle.chess_pgn.specs.Reading.{BeginsWithGame}
 use Rattle.chess_tree.specs.GameTree.{TreeParts}
 use Rattle.chess_cli.specs.Loads.{from_root}
-use Rattle.chess_slots.specs.Codes.{fault_code, ok}
+use Rattle.chess_slots.specs.Codes.{ok}
 use Rattle.chess_slots.specs.Games.{IsNone}
 use Rattle.chess_c.specs.Loads.{LoadsFrom}
 use Rattle.chess_c.proofs.session.Session.load.Goals as goal
@@ -14,13 +12,8 @@ use Rattle.chess_c.proofs.session.Session.load.Goals.{in-Ok-Some, in-Ok-None, in
 found : (text : List ℕ) → (board board' : TreeParts) → (code used used' taken : ℕ) → code ≡ ok → used' ≡ taken
     → (game : Game) × BeginsWithGame text game taken × (board' ≡ from_root game.tree) → LoadsFrom text board code used used' board'
 found text board board' code used used' taken is same game =
-    let (tree, prefix, new) = game in
-    inl (is, tree, subst (λ u. BeginsWithGame text tree u) (sym same) prefix, new)
-
-refused : (text : List ℕ) → (fault : PgnFault) → (code used used' : ℕ) → code ≡ fault_code fault.kind → used' ≡ fault.place
-    → (fault.kind ≡ Memory) ⊎ HasNoGame text → IsNone text code used used'
-refused text fault code used used' is place (inl memory) = inr (inr (is ∙ ap fault_code memory))
-refused text fault code used used' is place (inr none) = inr (inl (fault, none, is, place))
+    let (tree, begins, new) = game in
+    inl (is, tree, subst (λ u. BeginsWithGame text tree u) (sym same) begins, new)
 
 pub returns-clause-board : goal.returns-clause-board
 returns-clause-board c =
@@ -35,5 +28,5 @@ returns-clause-board c =
           let (white, as_it_was) = c.load.ensures.none (w.in-Ok-None.is ∙ ap Ok w.in-Ok-None.field-0-is) in
           inr (as_it_was ∙ same, inl (w.result-is, w.used-is, white))
       | in-Err w ↦
-          inr (w.in-Err.ensures.err ∙ same, refused text w.in-Err.fault c.match-load.result c.args.used.now c.match-load.used (w.result-is ∙ w.fault_code.ensures) w.used-is w.in-Err.ensures.fault)
+          inr (w.in-Err.ensures.err ∙ same, subst (λ code. IsNone text code c.args.used.now c.match-load.used) (sym w.result-is) (subst (λ used. IsNone text w.refused.result c.args.used.now used) (sym w.used-is) w.refused.ensures))
     ]
