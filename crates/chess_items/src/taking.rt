@@ -49,7 +49,7 @@ pub struct Stopped {
 
 /// What becomes of one item: it is used, with its place after it, its length and whether it is white, or it is where all stops.
 #[derive(Clone, Copy)]
-enum Step {
+pub enum Step {
     On(Place, usize, bool),
     Full(Place, usize, bool),
     Stops(Stop),
@@ -57,10 +57,10 @@ enum Step {
 
 /// Where the next item stands: its place, how many bytes are used before it, and how many it may have.
 #[derive(Clone, Copy)]
-struct Spot {
-    place: Place,
-    at: usize,
-    most: usize,
+pub struct Spot {
+    pub place: Place,
+    pub at: usize,
+    pub most: usize,
 }
 
 /// Whether there are more than `most` bytes, and the first `most + 1` don't decide the item.
@@ -208,7 +208,7 @@ fn take_first<X: Text, T: Taker>(
 // Takes one item. Where a byte is at hand after the first item, no read can change it, and it is taken at
 // once: so the bytes of nearly all items are looked at once. Within a line the most frequent items are known by their first byte.
 #[inline(always)]
-fn take_one<X: Text, T: Taker>(text: &mut X, taker: &mut T, spot: Spot) -> Result<Step, Fault>
+pub fn take_one<X: Text, T: Taker>(text: &mut X, taker: &mut T, spot: Spot) -> Result<Step, Fault>
     requires { X.sound text.old }
     ensures steps { Steps X.comes X.at_hand X.all X.sound X.size T.takes spot.at spot.most spot.place text.old text.new taker.old taker.new result }
     ensures broken { IfErr result (λ fault. BreaksAt X.comes X.at_hand X.breaks X.all X.sound spot.place text.old text.new fault) }
