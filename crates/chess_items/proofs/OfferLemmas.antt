@@ -70,7 +70,7 @@ near_bracket place old hand rest (inr h) found small = (let t = item_taken place
         (let k : b ≡ byte "[" = first b (byte "[") (prefix ++ piece) rest (sym e ∙ is) in absurd (undecided (subst (λ (x : ℕ). Decides place (x ∷ prefix)) (sym k) (bracket_decided place prefix stands))))
 
 -- a longer prefix decides too
-decides_longer : (place : Place) (prefix more : List ℕ) → Decides place prefix → Decides place (prefix ++ more)
+pub decides_longer : (place : Place) (prefix more : List ℕ) → Decides place prefix → Decides place (prefix ++ more)
 decides_longer place prefix more d = λ further.
     ap (item_at place) (append_assoc prefix more further) ∙ d (more ++ further) ∙ longer_twice (item_at place prefix) more further ∙ ap (λ (x : Found). longer x further) (sym (d more))
   where
