@@ -68,15 +68,11 @@ taken_at_once p m n well listed next h =
 
 -- the clock
 pub clock_counts : (p : PositionParts) (m : MoveParts) → IsWellFormed p → Contains (legal_moves p) m →
-    ((after p m).clock == 0) ≡ (holds_pawn (man_on p m.from) || is_some (man_on p m.to))
+    (after p m).clock ≡ (if holds_pawn (man_on p m.from) || is_some (man_on p m.to) then 0 else (p.clock + 1))
 clock_counts p m well listed =
     let (man, here) = mover p m listed in
-    ap (λ (q : PositionParts). q.clock == 0) (then_by p m man here) ∙ zero_or_more (is_pawn man.kind || is_some (man_on p m.to)) p.clock
-    ∙ ap (λ o. holds_pawn o || is_some (man_on p m.to)) (sym here)
-  where
-    zero_or_more : (b : Bool) (clock : ℕ) → ((if b then 0 else (clock + 1)) == 0) ≡ b
-    zero_or_more true clock = refl
-    zero_or_more false clock = grind (arith, nat_tests)
+    ap (λ (q : PositionParts). q.clock) (then_by p m man here)
+    ∙ ap (λ (o : Option Man). if holds_pawn o || is_some (man_on p m.to) then 0 else (p.clock + 1)) (sym here)
 
 -- the number
 pub number_counts : (p : PositionParts) (moves : List MoveParts) → IsWellFormed p → AreListed p moves →
