@@ -25,6 +25,12 @@ SEVEN_TAGS = """\
 """
 
 
+def help_of(program):
+    """The whole text of a program's `--help`, as tests/help keeps it."""
+    with open(f"{TOP}/tests/help/{program}.txt", encoding="utf-8") as kept:
+        return kept.read().replace("VERSION", VERSION, 1)
+
+
 @dataclasses.dataclass
 class Run:
     """A run by name. Without `output` or `error` that one is not compared (a text that no page fixes); each `of_error` has to be a part of it."""
@@ -35,7 +41,6 @@ class Run:
     output: str | None = ""
     error: str | None = ""
     status: int = 0
-    of_output: tuple = ()
     of_error: tuple = ()
     # What the standard input or output is, where it is another than a pipe.
     reads_folder: bool = False
@@ -112,7 +117,8 @@ RUNS = [
     Run("an empty word is refused", [""], output="", error=None, status=1, of_error=("board, uci, pgn",)),
     Run("a word with a dash is refused", ["board", "--versions"], output="", error=None, status=1, of_error=("--versions",)),
     Run("two words are refused", ["board", "board"], output="", error=None, status=1, of_error=("board",)),
-    Run("help is on the standard output", ["--help"], output=None, status=1, of_output=(f"Jatshegi {VERSION}", "play MOVE", "pgn  ", "perft", "docs/FORMATS.md")),
+    Run("help is on the standard output", ["--help"], output=help_of("chess"), status=1),
+    Run("help on a word is the same", ["board", "--help"], output=help_of("chess"), status=1),
     Run("the version is on the standard output", ["--version"], output=f"chess {VERSION}\n", status=1),
     # The board
     board("nothing is asked"),

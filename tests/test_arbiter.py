@@ -120,7 +120,7 @@ class Arbiter(unittest.TestCase):
     def test_words(self):
         self.assertEqual(judged("", "x").returncode, 1)
         self.assertEqual(judged("", "--format", "xml").returncode, 1)
-        self.assertIn(b"--findings", judged("", "--help").stdout)
+        self.assertEqual(judged("", "--help").stdout.decode(), runs.help_of("arbiter"))
 
     def test_a_folder_is_no_input(self):
         folder = os.open("/", os.O_RDONLY)

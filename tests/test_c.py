@@ -79,6 +79,15 @@ class Library(unittest.TestCase):
         program = self.build(["cc", "-std=gnu11", "-Wl,--wrap=malloc,--wrap=realloc"], "refused.c")
         self.assertIn("allocations refused", self.assert_ends_well(program))
 
+    def test_the_heap_for_a_page_gives_back_all_memory(self):
+        runs.make("prove", "lent_heap_c")
+        kit = os.path.dirname(called("rt", "doc").stdout.strip())
+        program = f"{self.folder}/program"
+        parts = [f"{runs.TOP}/tests/c/lent.c", f"{runs.TOP}/crates/lent_heap_c/out/liblent_heap_c.a", f"{kit}/c/liblibc_c.a"]
+        ran = called("cc", "-std=c11", *STRICT, *parts, "-o", program)
+        self.assertEqual(ran.returncode, 0, ran.stderr)
+        self.assert_ends_well(program)
+
     def test_only_the_functions_of_the_header_are_visible(self):
         self.wants("nm")
         with open(f"{HEADER}/jatshegi.h", encoding="utf-8") as file:

@@ -234,7 +234,7 @@ class GoodGames(unittest.TestCase):
 
     def test_words(self):
         self.assertEqual(self.run_games("", "--progress").returncode, 0)
-        self.assertIn("--progress", self.run_games("", "--help").stdout)
+        self.assertEqual(self.run_games("", "--help").stdout, runs.help_of("chess_games"))
         wrong_parts = [["--part", part] for part in ("4/3", "0/3", "3", "a/b", "1/0", "1/2/3", "")]
         for words in (["x"], *wrong_parts, *(["--cut", size] for size in ("0", "x", "-1", ""))):
             wrong = self.run_games("", *words)

@@ -16,7 +16,7 @@ const ABOUT: &str =
 
 const ENGINE: &str = "\
 board: answers the lines of the standard input, one line each; \
-uci: plays in a prefix end for the universal chess interface; \
+uci: plays in a front end for the universal chess interface; \
 pgn: writes the games of the standard input in export form";
 
 const COMMANDS: &str = "\

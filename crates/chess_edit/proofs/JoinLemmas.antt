@@ -1,8 +1,8 @@
 -- A line put into the moves of a tree.
 use Rattle.std.proofs.Common.{◌≡◌, ◌≢◌, ◌<◌, ◌≤◌, ℕ, zero, suc, ◌+◌, ◌&&◌, true, false, List, [], ◌∷◌, ◌++◌, length, refl, sym, ap, subst, ◌∙◌, arith, append_assoc, append-nil, inl, inr, take, get_or, length-append}
-use Rattle.std.specs.Prelude.{Bool, Some, None, Result, Ok, Err, OnOk, OnErr, MatchBool, MatchResult, bytes_eq, nat_lt}
+use Rattle.std.specs.Prelude.{Bool, Some, None, Result, Ok, Err, IfErr, IsErrAnd, OnOk, OnErr, MatchBool, MatchResult, bytes_eq, nat_lt}
 use Rattle.std.proofs.lemmas.List.{take_more}
-use Rattle.std.proofs.lemmas.Bool.{cases_Bool, true≢false}
+use Rattle.std.proofs.lemmas.Bool.{cases_Bool, cases_lt, true≢false}
 use Rattle.std.specs.Cmp.Lexicographic.{bytes_decides}
 use Rattle.chess_fen.specs.Reading.{fen_reading}
 use Rattle.chess_fen.specs.Writing.{written}
@@ -15,11 +15,12 @@ use Rattle.chess_types.specs.board.Position.{PositionParts}
 use Rattle.chess_types.proofs.PlayLaws.{last_extended}
 use Rattle.chess_tree.specs.Comments.{IsComment}
 use Rattle.chess_tree.specs.Edits.{annotated, change_below, change_node, commented, inside, parent, without_node}
-use Rattle.chess_tree.specs.Forest.{Forest, Bare, Node, NodeParts, append, below_at, below_child, child, count, height}
+use Rattle.chess_tree.specs.Forest.{Forest, Bare, Node, NodeParts, append, below_at, below_child, child, count, height, moves_held}
 use Rattle.chess_tree.specs.GameTree.{GameTree, TreeParts, added, annotated_here, at_path, changed, commented_here, commented_tree, deleted, find, has, line_along, line_to, nodes_here, root_node}
 use Rattle.chess_tree.specs.WellFormed.{AreSound, Leads}
 use Rattle.chess_tree.specs.declared.fault.TreeFault.{TreeFault}
-use Rattle.chess_tree.specs.declared.fault.TreeFault.TheVariants.{AtRoot, NoSuch}
+use Rattle.chess_tree.specs.Calls.{Annotates, Comments}
+use Rattle.chess_tree.specs.declared.fault.TreeFault.TheVariants.{AtRoot, Full, Memory, NoSuch}
 use Rattle.chess_tree.proofs.LineLemmas.{find_some, line_on}
 use Rattle.chess_edit.specs.Joined.{joined, line_alone}
 use Rattle.chess_edit.specs.steps.Branches.{Begun, annotated_all, with_node}
@@ -463,3 +464,88 @@ pub fen_read : (text bytes : List ℕ) (p start : PositionParts) → text ≡ by
     → (p.clock ≤ 99999 → p.number ≤ 99999 → fen_reading bytes ≡ Ok p) → fen_reading text ≡ Ok start
 fen_read text bytes p start e is clock number read =
     ap fen_reading e ∙ read (let c = ap (λ (s : PositionParts). s.clock) is in omega (arith, c, clock)) (let n = ap (λ (s : PositionParts). s.number) is in omega (arith, n, number)) ∙ ap (λ (s : PositionParts). Ok s) is
+
+-- ---- why a line isn't added
+
+full_is : (P : TreeFault → Type 0) (r : Result (Unit {0}) TreeFault) → IfErr r P → r ≡ Err Full → P Full
+full_is P r h e = subst (λ (x : Result (Unit {0}) TreeFault). IfErr x P) e h
+
+not_memory : (fault : TreeFault) → fault ≡ Full → fault ≡ Memory → ⊥
+not_memory fault e m = absurd cc
+
+-- a fault that is handed on
+err_is : (x y : TreeFault) → ◌≡◌ {A = Result (Unit {0}) TreeFault} (Err x) (Err y) → x ≡ y
+err_is x y e = cc
+
+pub handed_on : (x : TreeFault) (r told : Result (Unit {0}) TreeFault) → r ≡ Err x → IsErrAnd told (λ y. y ≡ x) → told ≡ Err Full → r ≡ Err Full
+handed_on x r (Ok u) is same e = absurd same
+handed_on x r (Err y) is same e = is ∙ ap (λ (z : TreeFault). Err z) (sym same ∙ err_is y Full e)
+
+-- an annotation number is refused at the root, and for want of memory
+pub nag_room : (nag : ℕ) (old new : TreeParts) (r : Result (Unit {0}) TreeFault) → Annotates nag old r new → r ≡ Err Full → ⊥
+nag_room nag old new r a e = by_path old.path refl
+  where
+    by_path : (path : List ℕ) → old.path ≡ path → ⊥
+    by_path [] is = (let root = a.at_root is in absurd cc)
+    by_path (k ∷ path) is = not_memory Full refl (full_is (λ fault. fault ≡ Memory) r (a.memory (let l = ap length is in omega (arith, l))) e)
+
+-- a comment without a right brace for want of memory alone
+pub comment_room : (text : List ℕ) (old new : TreeParts) (r : Result (Unit {0}) TreeFault) → Comments text old r new → IsComment text → r ≡ Err Full → ⊥
+comment_room text old new r c is e = not_memory Full refl (full_is (λ fault. fault ≡ Memory) r (c.memory is.no_brace) e)
+
+-- ---- how many moves
+
+held_append : (f g : Forest) → moves_held (append f g) ≡ moves_held f + moves_held g
+held_append Bare g = omega arith
+held_append (Node m nags comment below next) g = omega (arith, held_append next g)
+
+held_inside : (k : ℕ) (change : Forest → Forest) (f : Forest) → k < count f
+    → moves_held (inside k change f) + moves_held (below_child k f) ≡ moves_held f + moves_held (change (below_child k f))
+held_inside k change Bare h = absurd (omega arith)
+held_inside zero change (Node m nags comment below next) h = omega arith
+held_inside (suc k) change (Node m nags comment below next) h = omega (arith, held_inside k change next (omega arith))
+
+-- a node more is a move more
+held_node : (m : MoveParts) (nags comment path : List ℕ) (f : Forest) → Leads path f → moves_held (change_below (λ x. append x (Node m nags comment Bare Bare)) path f) ≡ moves_held f + 1
+held_node m nags comment [] f h = omega (arith, held_append f (Node m nags comment Bare Bare))
+held_node m nags comment (k ∷ path) f h =
+    omega (arith, held_inside k (change_below (λ x. append x (Node m nags comment Bare Bare)) path) f h.0, held_node m nags comment path (below_child k f) h.1)
+
+inside_grows : (k : ℕ) (change : Forest → Forest) (f : Forest) → ((g : Forest) → moves_held g ≤ moves_held (change g)) → moves_held f ≤ moves_held (inside k change f)
+inside_grows k change Bare h = omega arith
+inside_grows zero change (Node m nags comment below next) h = omega (arith, h below)
+inside_grows (suc k) change (Node m nags comment below next) h = omega (arith, inside_grows k change next h)
+
+-- with more nodes there are no fewer moves
+held_grows : (line : Forest) (path : List ℕ) (f : Forest) → moves_held f ≤ moves_held (change_below (λ x. append x line) path f)
+held_grows line [] f = omega (arith, held_append f line)
+held_grows line (k ∷ path) f = inside_grows k (change_below (λ x. append x line) path) f (λ g. held_grows line path g)
+
+-- a tree that can't have a node more is full
+pub node_full : (m : MoveParts) (nags comment : List ℕ) (t : TreeParts) (r : Result (Unit {0}) TreeFault) → Leads t.path t.tree.below
+    → (moves_held t.tree.below < 1000000 → IfErr r (λ fault. fault ≡ Memory)) → r ≡ Err Full → 1000000 < moves_held (with_node m nags comment t).tree.below
+node_full m nags comment t r leads memory e =
+    elim (cases_lt (moves_held t.tree.below) 1000000) [
+      | inl few ↦ absurd (not_memory Full refl (full_is (λ fault. fault ≡ Memory) r (memory few) e))
+      | inr many ↦ omega (arith, many, held_node m nags comment t.path t.tree.below leads)
+    ]
+
+-- and so is the tree once the rest of the line is added
+pub line_full : (old now : TreeParts) (m : MoveParts) (n : NodeParts) (nags comment : List ℕ) (f all : Forest) → NextOf now f n m → nags ≡ n.nags → comment ≡ n.comment
+    → 1000000 < moves_held (with_node m nags comment now).tree.below → whole now f ≡ whole old all → 1000000 < moves_held (whole old all).below
+line_full old now m n nags comment f all next e1 e2 over goes =
+    let one : with_node m nags comment now ≡ with_node m n.nags n.comment now = ap (λ (x : List ℕ). with_node m x comment now) e1 ∙ ap (λ (x : List ℕ). with_node m n.nags x now) e2 in
+    let more : whole (with_node m n.nags n.comment now) n.below ≡ whole old all = whole_on now m n.nags n.comment n.below next.next ∙ ap (whole now) (sym next.is) ∙ goes in
+    let t = with_node m n.nags n.comment now in
+    let held = ap (λ (x : GameTree). moves_held x.below) more in
+    let same = ap (λ (x : TreeParts). moves_held x.tree.below) one in
+    omega (arith, over, same, held, held_grows (line_alone n.below) t.path t.tree.below)
+
+-- of the whole: along the moves of both, and the rest added there
+pub joined_full : (old at_start mid : TreeParts) (root : NodeParts) (other : GameTree) (rest : Forest) → at_start ≡ at_path [] old → root ≡ root_node other → mid.tree ≡ at_start.tree
+    → change_below (joined rest) mid.path at_start.tree.below ≡ change_below (joined root.below) at_start.path at_start.tree.below
+    → joined rest (nodes_here mid) ≡ append (nodes_here mid) (line_alone rest) → 1000000 < moves_held (whole mid rest).below → 1000000 < moves_held (joined other.below old.tree.below)
+joined_full old at_start mid root other rest e1 e2 same goes ends over =
+    let grown : TreeParts = record { tree = whole mid rest; path = [] } in
+    let is = joined_trees old at_start mid grown (at_path [] grown) root other rest e1 e2 same goes ends refl refl in
+    subst (λ (t : GameTree). 1000000 < moves_held t.below) is over

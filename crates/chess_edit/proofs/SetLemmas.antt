@@ -1,12 +1,12 @@
 -- Tags looked up by their names once one is set.
 use Rattle.std.proofs.Common.{◌≡◌, ℕ, Bool, true, false, List, [], ◌∷◌, ◌++◌, Option, Some, None, refl, sym, ap, subst, ◌∙◌, inl, inr}
-use Rattle.std.specs.Prelude.{if◌then◌else◌, bytes_eq, codes, is_none}
+use Rattle.std.specs.Prelude.{if◌then◌else◌, ◌||◌, ◌⊎◌, bytes_eq, codes, is_none}
 use Rattle.std.specs.Cmp.Lexicographic.{bytes_decides}
 use Rattle.std.proofs.lemmas.Bool.{cases_Bool, false_from_ne_true, true≢false}
 use Rattle.chess_pgn.specs.Games.{Tags, tag_in, tag_value, unknown}
 use Rattle.chess_pgn.specs.Tags.{Ascend}
 use Rattle.chess_pgn.specs.steps.OtherCode.{Sets}
-use Rattle.chess_edit.specs.SetTags.{IsSet}
+use Rattle.chess_edit.specs.SetTags.{IsSet, is_on_each}
 
 abbrev Pairs : Type 0
 Pairs = List (List ℕ × List ℕ)
@@ -109,39 +109,67 @@ before_others t = (codes "Event", t.event) ∷ (codes "Site", t.site) ∷ (codes
 pub set_event : (name value : List ℕ) (t : Tags) → bytes_eq name (codes "Event") ≡ true →
     IsSet name (Some value) t (record t { event = value })
 unfolding tag_value
-set_event name value t is = record { tags = λ other. set_here name (codes "Event") value t.event other (site_on t) is; ascend = λ a. a }
+set_event name value t is = record { tags = λ other. set_here name (codes "Event") value t.event other (site_on t) is; others = λ _ _. refl; ascend = λ a. a }
 
 pub set_site : (name value : List ℕ) (t : Tags) → bytes_eq name (codes "Event") ≡ false → bytes_eq name (codes "Site") ≡ true →
     IsSet name (Some value) t (record t { site = value })
 unfolding tag_value
-set_site name value t n0 is = record { tags = λ other. after_front name other (Some value) ((codes "Event", t.event) ∷ []) (site_on t) (site_on (record t { site = value })) (n0, tt) (set_here name (codes "Site") value t.site other (date_on t) is); ascend = λ a. a }
+set_site name value t n0 is = record { tags = λ other. after_front name other (Some value) ((codes "Event", t.event) ∷ []) (site_on t) (site_on (record t { site = value })) (n0, tt) (set_here name (codes "Site") value t.site other (date_on t) is); others = λ _ _. refl; ascend = λ a. a }
 
 pub set_date : (name value : List ℕ) (t : Tags) → bytes_eq name (codes "Event") ≡ false → bytes_eq name (codes "Site") ≡ false → bytes_eq name (codes "Date") ≡ true →
     IsSet name (Some value) t (record t { date = value })
 unfolding tag_value
-set_date name value t n0 n1 is = record { tags = λ other. after_front name other (Some value) (before_date t) (date_on t) (date_on (record t { date = value })) (n0, (n1, tt)) (set_here name (codes "Date") value t.date other (round_on t) is); ascend = λ a. a }
+set_date name value t n0 n1 is = record { tags = λ other. after_front name other (Some value) (before_date t) (date_on t) (date_on (record t { date = value })) (n0, (n1, tt)) (set_here name (codes "Date") value t.date other (round_on t) is); others = λ _ _. refl; ascend = λ a. a }
 
 pub set_round : (name value : List ℕ) (t : Tags) → bytes_eq name (codes "Event") ≡ false → bytes_eq name (codes "Site") ≡ false → bytes_eq name (codes "Date") ≡ false → bytes_eq name (codes "Round") ≡ true →
     IsSet name (Some value) t (record t { round = value })
 unfolding tag_value
-set_round name value t n0 n1 n2 is = record { tags = λ other. after_front name other (Some value) (before_round t) (round_on t) (round_on (record t { round = value })) (n0, (n1, (n2, tt))) (set_here name (codes "Round") value t.round other (white_on t) is); ascend = λ a. a }
+set_round name value t n0 n1 n2 is = record { tags = λ other. after_front name other (Some value) (before_round t) (round_on t) (round_on (record t { round = value })) (n0, (n1, (n2, tt))) (set_here name (codes "Round") value t.round other (white_on t) is); others = λ _ _. refl; ascend = λ a. a }
 
 pub set_white : (name value : List ℕ) (t : Tags) → bytes_eq name (codes "Event") ≡ false → bytes_eq name (codes "Site") ≡ false → bytes_eq name (codes "Date") ≡ false → bytes_eq name (codes "Round") ≡ false → bytes_eq name (codes "White") ≡ true →
     IsSet name (Some value) t (record t { white = value })
 unfolding tag_value
-set_white name value t n0 n1 n2 n3 is = record { tags = λ other. after_front name other (Some value) (before_white t) (white_on t) (white_on (record t { white = value })) (n0, (n1, (n2, (n3, tt)))) (set_here name (codes "White") value t.white other (black_on t) is); ascend = λ a. a }
+set_white name value t n0 n1 n2 n3 is = record { tags = λ other. after_front name other (Some value) (before_white t) (white_on t) (white_on (record t { white = value })) (n0, (n1, (n2, (n3, tt)))) (set_here name (codes "White") value t.white other (black_on t) is); others = λ _ _. refl; ascend = λ a. a }
 
 pub set_black : (name value : List ℕ) (t : Tags) → bytes_eq name (codes "Event") ≡ false → bytes_eq name (codes "Site") ≡ false → bytes_eq name (codes "Date") ≡ false → bytes_eq name (codes "Round") ≡ false → bytes_eq name (codes "White") ≡ false → bytes_eq name (codes "Black") ≡ true →
     IsSet name (Some value) t (record t { black = value })
 unfolding tag_value
-set_black name value t n0 n1 n2 n3 n4 is = record { tags = λ other. after_front name other (Some value) (before_black t) (black_on t) (black_on (record t { black = value })) (n0, (n1, (n2, (n3, (n4, tt))))) (set_here name (codes "Black") value t.black other t.others is); ascend = λ a. a }
+set_black name value t n0 n1 n2 n3 n4 is = record { tags = λ other. after_front name other (Some value) (before_black t) (black_on t) (black_on (record t { black = value })) (n0, (n1, (n2, (n3, (n4, tt))))) (set_here name (codes "Black") value t.black other t.others is); others = λ _ _. refl; ascend = λ a. a }
+
+-- a name that each game has is none of the others
+or_true : (a b : Bool) → (a || b) ≡ true → (a ≡ true) ⊎ (b ≡ true)
+or_true true b e = inl refl
+or_true false b e = inr e
+
+is_one : (name other key : List ℕ) → bytes_eq name key ≡ false → bytes_eq other key ≡ true → bytes_eq name other ≡ false
+is_one name other key no_key is = differ name other (λ e. no name key no_key (e ∙ (bytes_decides other key).0 is))
+
+is_apart : (name other : List ℕ) → bytes_eq name (codes "Event") ≡ false → bytes_eq name (codes "Site") ≡ false → bytes_eq name (codes "Date") ≡ false → bytes_eq name (codes "Round") ≡ false → bytes_eq name (codes "White") ≡ false → bytes_eq name (codes "Black") ≡ false →
+    is_on_each other ≡ true → bytes_eq name other ≡ false
+is_apart name other n0 n1 n2 n3 n4 n5 on =
+    elim (or_true (bytes_eq other (codes "Event")) _ on) [
+      | inl event ↦ is_one name other (codes "Event") n0 event
+      | inr not_event ↦ elim (or_true (bytes_eq other (codes "Site")) _ not_event) [
+        | inl site ↦ is_one name other (codes "Site") n1 site
+        | inr not_site ↦ elim (or_true (bytes_eq other (codes "Date")) _ not_site) [
+          | inl date ↦ is_one name other (codes "Date") n2 date
+          | inr not_date ↦ elim (or_true (bytes_eq other (codes "Round")) _ not_date) [
+            | inl round ↦ is_one name other (codes "Round") n3 round
+            | inr not_round ↦ elim (or_true (bytes_eq other (codes "White")) _ not_round) [
+              | inl white ↦ is_one name other (codes "White") n4 white
+              | inr black ↦ is_one name other (codes "Black") n5 black
+            ]
+          ]
+        ]
+      ]
+    ]
 
 -- one of the others
 pub set_other : (name : List ℕ) (value : Option (List ℕ)) (t : Tags) (others : Pairs) → bytes_eq name (codes "Event") ≡ false → bytes_eq name (codes "Site") ≡ false → bytes_eq name (codes "Date") ≡ false → bytes_eq name (codes "Round") ≡ false → bytes_eq name (codes "White") ≡ false → bytes_eq name (codes "Black") ≡ false →
     Sets name value t.others others → Ascend others → IsSet name value t (record t { others = others })
 unfolding tag_value
 set_other name value t others n0 n1 n2 n3 n4 n5 sets ascend =
-    record { tags = λ other. after_front name other value (before_others t) t.others others (n0, (n1, (n2, (n3, (n4, (n5, tt)))))) (sets other); ascend = λ _. ascend }
+    record { tags = λ other. after_front name other value (before_others t) t.others others (n0, (n1, (n2, (n3, (n4, (n5, tt)))))) (sets other); others = λ other on. sets other ∙ if_false (bytes_eq name other) value (tag_in other t.others) (is_apart name other n0 n1 n2 n3 n4 n5 on); ascend = λ _. ascend }
 
 -- ---- a tag of which a game without tags has none
 

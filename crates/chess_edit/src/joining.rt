@@ -6,12 +6,13 @@ ghost use Rattle.chess_types.specs.board.Lines.{extended, last};
 ghost use Rattle.chess_draws.specs.Pushes.{most_plies};
 ghost use Rattle.chess_tree.specs.Comments.{IsComment};
 ghost use Rattle.chess_tree.specs.Edits.{change_below};
-ghost use Rattle.chess_tree.specs.Forest.{append, height};
+ghost use Rattle.chess_tree.specs.Forest.{append, height, most_moves, moves_held};
 ghost use Rattle.chess_tree.specs.GameTree.{at_path, changed, commented_here, deleted, has, line_to, nodes_here};
 ghost use Rattle.chess_tree.specs.WellFormed.{AreSound};
 ghost use Rattle.chess_edit.specs.Joined.{joined, line_alone};
 ghost use Rattle.chess_edit.specs.steps.Branches.{Begun, annotated_all, with_node};
-ghost use Rattle.chess_edit.specs.declared.joining.JoinFault.TheVariants.{Start};
+ghost use Rattle.chess_edit.specs.declared.joining.JoinFault.TheVariants.{Full, Start};
+ghost use Rattle.chess_tree.specs.declared.fault.TreeFault.TheVariants as tree_fault;
 
 use chess_items::is;
 use chess_pgn::Game;
@@ -38,6 +39,7 @@ pub enum JoinFault {
 fn annotate<'a, A: Allocator>(tree: &mut Tree<'a, A>, nags: &[u8]) -> Result<(), TreeFault>
     ensures ok { OnOk result (tree.new ≡ annotated_all nags.now tree.old) }
     ensures err { OnErr result ((some : List ℕ) × (tree.new ≡ annotated_all some tree.old)) }
+    ensures room { result ≢ Err tree_fault.Full }
     ensures line { line_to tree.new ≡ line_to tree.old }
 {
     for nag in nags {
@@ -55,6 +57,7 @@ fn note<'a, A: Allocator>(
     requires comment { IsComment comment.now }
     ensures ok { OnOk result (tree.new ≡ commented_here comment.now (annotated_all nags.now tree.old)) }
     ensures err { OnErr result ((some : List ℕ) × (tree.new ≡ annotated_all some tree.old)) }
+    ensures room { result ≢ Err tree_fault.Full }
     ensures line { line_to tree.new ≡ line_to tree.old }
 {
     annotate(tree, nags)?;
@@ -74,7 +77,9 @@ fn add_node<'a, A: Allocator>(
     ensures ok { OnOk result (tree.new ≡ with_node m nags.now comment.now tree.old) }
     ensures line { OnOk result (line_to tree.new ≡ extended (line_to tree.old) m) }
     ensures err { OnErr result (tree.new ≡ tree.old) }
+    ensures full { result ≡ Err tree_fault.Full → most_moves < moves_held (with_node m nags.now comment.now tree.old).tree.below }
 {
+    let _start = tree.position();
     tree.add(m)?;
     if let Err(fault) = note(tree, nags, comment) {
         let _gone = tree.delete();
@@ -89,6 +94,7 @@ fn grow<'a, A: Allocator>(tree: &mut Tree<'a, A>, node: NodeRef<'_, 'a, A>) -> R
     requires deep { length tree.old.path + height node.below ≤ most_plies }
     ensures ok { OnOk result (tree.new.tree ≡ changed (change_below (λ f. append f (line_alone node.entry.below)) tree.old.path) tree.old.tree) }
     ensures err { OnErr result (Begun tree.old tree.new) }
+    ensures full { result ≡ Err tree_fault.Full → most_moves < moves_held (change_below (λ f. append f (line_alone node.entry.below)) tree.old.path tree.old.tree.below) }
 {
     let mut node = node;
     loop {
@@ -129,6 +135,7 @@ fn add_line<'a, A: Allocator>(
     requires deep { length tree.old.path + height node.below ≤ most_plies }
     ensures ok { OnOk result (tree.new.tree ≡ changed (change_below (λ f. append f (line_alone node.entry.below)) tree.old.path) tree.old.tree) }
     ensures err { OnErr result (tree.new.tree ≡ tree.old.tree) }
+    ensures full { result ≡ Err tree_fault.Full → most_moves < moves_held (change_below (λ f. append f (line_alone node.entry.below)) tree.old.path tree.old.tree.below) }
 {
     let _start = tree.position();
     let mut place = tree.path()?;
@@ -181,6 +188,7 @@ fn join_trees<'a, A: Allocator>(
     requires start { tree.old.tree.start ≡ other.now.tree.start }
     ensures ok { OnOk result (tree.new.tree ≡ changed (joined other.now.tree.below) tree.old.tree) }
     ensures err { OnErr result (tree.new.tree ≡ tree.old.tree) }
+    ensures full { result ≡ Err tree_fault.Full → most_moves < moves_held (joined other.now.tree.below tree.old.tree.below) }
     ensures cursor { tree.new.path ≡ [] }
 {
     let _start = other.position();
@@ -202,7 +210,8 @@ fn begin_alike<'a, A: Allocator>(tree: &Tree<'a, A>, other: &Tree<'a, A>) -> boo
 
 // The fault of a game whose tree has no room or no memory.
 fn join_fault(fault: TreeFault) -> JoinFault
-    ensures { result ≢ Start }
+    ensures start { result ≢ Start }
+    ensures full { result ≡ Full → fault ≡ tree_fault.Full }
 {
     match fault {
         TreeFault::Full => JoinFault::Full,
@@ -216,13 +225,14 @@ fn join_fault(fault: TreeFault) -> JoinFault
 ///
 /// # Errors
 ///
-/// `Start` where the games begin in different positions, else `Full` where the game would have more than 1,000,000 moves, or `Memory`
+/// `Start` where the games begin in different positions, else `Full` only where the game would have more than 1,000,000 moves, or `Memory`
 /// where there is none. The game is then as before, but for the cursor.
 pub fn join<'a, A: Allocator>(game: &mut Game<'a, A>, other: &Game<'a, A>) -> Result<(), JoinFault>
     ensures ok { OnOk result (game.new.tree.tree ≡ changed (joined other.now.tree.tree.below) game.old.tree.tree) }
     ensures err { OnErr result (game.new.tree.tree ≡ game.old.tree.tree) }
     ensures start { game.old.tree.tree.start ≢ other.now.tree.tree.start → result ≡ Err Start }
     ensures same { game.old.tree.tree.start ≡ other.now.tree.tree.start → IfErr result (λ fault. fault ≢ Start) }
+    ensures full { result ≡ Err Full → most_moves < moves_held (joined other.now.tree.tree.below game.old.tree.tree.below) }
     ensures tags { game.new.tags ≡ game.old.tags }
     ensures result { game.new.result ≡ game.old.result }
     ensures cursor { OnOk result (game.new.tree.path ≡ []) }

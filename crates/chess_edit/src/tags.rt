@@ -180,7 +180,8 @@ fn unknown_value(name: &[u8]) -> Option<&'static [u8]>
     }
 }
 
-/// Takes the tag of that name out; one of the seven that each game has says that nothing is known: `?`, and `????.??.??` for the date (PGN 8.1.1).
+/// Takes the tag of that name out; one of the six that each game has besides Result says that nothing is known: `?`, and `????.??.??` for the date
+/// (PGN 8.1.1).
 ///
 /// # Errors
 ///

@@ -1,7 +1,7 @@
 use Rattle.std.proofs.Common.{sym, ap, subst, ◌∙◌, inl, refl, arith}
 use Rattle.chess_tree.specs.GameTree.{TreeParts}
 use Rattle.chess_edit.specs.steps.Branches.{Begun}
-use Rattle.chess_edit.proofs.JoinLemmas.{grow_on, has_move, next_of, none_first, unless, whole, whole_end}
+use Rattle.chess_edit.proofs.JoinLemmas.{grow_on, has_move, line_full, next_of, none_first, unless, whole, whole_end}
 use Rattle.chess_edit.proofs.joining.grow.Goals as goal
 
 pub loop-next-init : goal.loop-next-init
@@ -40,3 +40,9 @@ returns-in_default-clause-ok g c =
 
 pub returns-in-Err-clause-err : goal.returns-in-Err-clause-err
 returns-in-Err-clause-err g c = subst (λ (t : TreeParts). Begun c.args.tree.now t) (sym c.in-Err.ensures.err) c.loop-next.invariant.begun
+
+pub returns-in-Err-clause-full : goal.returns-in-Err-clause-full
+returns-in-Err-clause-full g c = λ e.
+    let next = next_of c.loop-next.tree c.loop-next.node.below c.in-Some.next c.in-Some-move_at.m (sym c.child.ensures ∙ c.in-Some.is) (sym c.move_at.ensures ∙ c.in-Some-move_at.is) c.loop-next.invariant.sound c.loop-next.invariant.deep in
+    line_full c.args.tree.now c.loop-next.tree c.in-Some-move_at.m c.in-Some.next c.notes-notes.result.nags.now c.notes-notes.result.comment.now c.loop-next.node.below c.args.node.below next
+    c.notes-notes.ensures.nags c.notes-notes.ensures.comment (c.add_node.ensures.full (c.in-Err.is ∙ e)) c.loop-next.invariant.goes

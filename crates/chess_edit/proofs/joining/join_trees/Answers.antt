@@ -2,7 +2,7 @@ use Rattle.std.proofs.Common.{sym, ap, subst, ◌∙◌, arith, length}
 use Rattle.chess_tree.specs.Forest.{Forest, NodeParts, height}
 use Rattle.chess_tree.specs.GameTree.{TreeParts}
 use Rattle.chess_tree.specs.WellFormed.{AreSound}
-use Rattle.chess_edit.proofs.JoinLemmas.{else, joined_trees, root_sound, then}
+use Rattle.chess_edit.proofs.JoinLemmas.{else, joined_full, joined_trees, root_sound, then}
 use Rattle.chess_edit.proofs.joining.join_trees.Goals as goal
 
 pub go_along-node-requires-clause-sound : goal.go_along-node-requires-clause-sound
@@ -27,3 +27,8 @@ pub returns-clause-err : goal.returns-clause-err
 returns-clause-err g c =
     else c.add_line-added.result c.add_line-added.ensures.err
     (λ e. ap (λ (t : TreeParts). t.tree) c.start-2.ensures.path ∙ e ∙ c.go_along-node.ensures.same ∙ ap (λ (t : TreeParts). t.tree) c.start.ensures.path)
+
+pub returns-clause-full : goal.returns-clause-full
+returns-clause-full g c = λ e.
+    joined_full c.args.tree.now c.start.new.self c.go_along-node.new.tree c.root.result c.args.other.now.tree c.go_along-node.result.below
+    c.start.ensures.path c.root.ensures c.go_along-node.ensures.same c.go_along-node.ensures.goes c.go_along-node.ensures.ends (c.add_line-added.ensures.full e)
