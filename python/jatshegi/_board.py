@@ -110,8 +110,10 @@ _STAYING = frozenset("fen moves status claims claim count checks counts eval bes
 _SINKING, _RISING = frozenset(("play", "step")), frozenset(("back", "delete"))
 
 _children, _play, _read = c.lib.jatshegi_board_children, c.lib.jatshegi_board_play, c.lib.jatshegi_board_read
-# What is said of a node, and no room for it, where only whether there is any is asked.
-_SAID, _NOTHING = (c.lib.jatshegi_board_comment_of, c.lib.jatshegi_board_annotations_of), (c_char * 1)()
+_move, _back, _delete = c.lib.jatshegi_board_move, c.lib.jatshegi_board_back, c.lib.jatshegi_board_delete
+_comment_of, _annotations_of = c.lib.jatshegi_board_comment_of, c.lib.jatshegi_board_annotations_of
+# No room for what is said of a node, where only whether anything is said is asked.
+_NOTHING = (c_char * 1)()
 
 _Board = TypeVar("_Board", bound="Board")
 
@@ -363,7 +365,7 @@ class Board:
 
     # Whether the parent of the cursor has more children than so many, once the move was made: then its node is the last of them.
     def _is_more(self, before: int, numbers: c.CMove) -> bool:
-        self._call(c.lib.jatshegi_board_back, "push")
+        self._call(_back, "push")
         if self._number(_children, "push") > before:
             self._call(c.lib.jatshegi_board_step, "push", before)
             return True
@@ -376,9 +378,10 @@ class Board:
     def push_san(self, san: str) -> Move:
         """Makes the move that the text names in standard algebraic notation, and returns it. Raises `InvalidMoveError`, `IllegalMoveError`
         or `AmbiguousMoveError`."""
-        move = self.parse_san(san)
-        self.push(move)
-        return move
+        with self._lock:
+            move = self.parse_san(san)
+            self.push(move)
+            return move
 
     def push_uci(self, uci: str) -> Move:
         """Makes the move of a text from square to square, as 'e2e4' or 'e7e8q', and returns it. Raises `InvalidMoveError` or
@@ -400,8 +403,9 @@ class Board:
         """
         with self._lock:
             move = self._last()
-            made = self._leave() and self._is_bare()
-            self._call(c.lib.jatshegi_board_delete if made else c.lib.jatshegi_board_back, "pop")
+            status = _delete(self._at) if self._leave() and self._is_bare() else _back(self._at)
+            if status:
+                raise self._fail(status, "pop")
             del self._made[-1:]
             return move
 
@@ -417,14 +421,16 @@ class Board:
         with self._lock:
             move = self._last()
             self._leave()
-            self._call(c.lib.jatshegi_board_back, "back")
+            self._call(_back, "back")
             del self._made[-1:]
             return move
 
     # The move that leads to the cursor.
     def _last(self) -> Move:
         move = c.CMove()
-        self._call(c.lib.jatshegi_board_move, "pop", byref(move))
+        status = _move(self._at, byref(move))
+        if status:
+            raise self._fail(status, "pop")
         return _SHOWN[bytes(move)]
 
     # Whether `push` made the node at the cursor, which is left: that is then forgotten.
@@ -437,10 +443,12 @@ class Board:
     # Whether nothing hangs on the node at the cursor: no move, comment or annotation.
     def _is_bare(self) -> bool:
         children, count = c_uint32(), c_size_t()
-        statuses = {_children(self._at, byref(children))} | {of(self._at, _NOTHING, 0, byref(count)) for of in _SAID}
-        for status in statuses - {c.OK, c.NO_ROOM}:
+        status = _children(self._at, byref(children))
+        if not (status or children.value):
+            status = _comment_of(self._at, _NOTHING, 0, byref(count)) or _annotations_of(self._at, _NOTHING, 0, byref(count))
+        if status not in (c.OK, c.NO_ROOM):
             raise self._fail(status, "pop")
-        return not children.value and c.NO_ROOM not in statuses
+        return not (status or children.value)
 
     def parse_san(self, san: str) -> Move:
         """The legal move that the text names in standard algebraic notation (PGN 8.2.3). Raises as `push_san`."""

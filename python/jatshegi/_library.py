@@ -90,7 +90,7 @@ for _name, _types in {
     "children": [_slot, _number],
     "move": [_slot, POINTER(CMove)],
     "comment_of": [_slot, POINTER(c_char), c_size_t, POINTER(c_size_t)],
-    "annotations_of": [_slot, c_void_p, c_size_t, POINTER(c_size_t)],
+    "annotations_of": [_slot, POINTER(c_char), c_size_t, POINTER(c_size_t)],
     "start": [_slot],
     "end": [_slot],
     "promote": [_slot],

@@ -1,10 +1,12 @@
-ghost use Rattle.std.specs.Prelude.{◌≡◌, ◌+◌, ◌-◌, ◌^◌, ◌<◌, ◌≤◌, None, length, min, take};
+ghost use Rattle.std.specs.Prelude.{◌≡◌, ◌+◌, ◌-◌, ◌^◌, ◌<◌, ◌≤◌, None, length, min, take, true, false, IsTrue};
 ghost use Rattle.chess_draws.specs.LineParts.{IsAsBefore};
 ghost use Rattle.chess_search.specs.Best.{best};
 ghost use Rattle.chess_search.specs.Slices.{Progress, IsInRange, HasBorder, GoesWith, done_of, next_root};
 ghost use Rattle.chess_search.specs.Asked.{trees_below};
+ghost use Rattle.chess_search.specs.Watches.{Watched};
 
 use crate::search::{LEAST, Searcher};
+use crate::watch::{AtMost, Endless, Watch};
 use arrayvec::ArrayVec;
 use chess_draws::Line;
 use chess_types::Move;
@@ -65,11 +67,68 @@ impl Slices {
         ensures done { self.new.searched ≡ length self.new.roots → done_of self.new ≡ best self.new.claims self.new.depth line.new.line self.new.roots }
         ensures line { IsAsBefore line.old line.new }
     {
+        let _searched = self.next_within(line, &mut Endless);
+    }
+
+    /// Searches one root more, as `next` does, and says that it was searched; or says that it wasn't, where the watch has the search
+    /// abandoned: then all is as before, but that the positions count which were asked for, and the order of moves that was learned is kept.
+    pub fn next_within<A: Allocator, W: Watch>(
+        &mut self,
+        line: &mut Line<'_, A>,
+        watch: &mut W,
+    ) -> bool
+        requires not_done { done_of self.old ≡ None }
+        requires some { 0 < length self.old.roots }
+        requires none { line.old.looked ≡ 0 }
+        requires goes { GoesWith line.old.line self.old }
+        ensures search { (self.new.depth ≡ self.old.depth) × (self.new.claims ≡ self.old.claims) × (self.new.roots ≡ self.old.roots) }
+        ensures searched { result ≡ true → self.new.searched ≡ self.old.searched + 1 }
+        ensures kept { result ≡ true → self.new.kept ≡ best self.old.claims self.old.depth line.old.line (take (self.old.searched + 1) self.old.roots) }
+        ensures abandoned { result ≡ false → (self.new.searched ≡ self.old.searched) × (self.new.kept ≡ self.old.kept) }
+        // One position at least is asked for, and no more than plain minimax asks for the root.
+        ensures at_least { min (self.old.nodes + 1) (2 ^ 64 - 1) ≤ self.new.nodes }
+        ensures at_most { self.new.nodes ≤ self.old.nodes + trees_below self.old.claims (self.old.depth - 1) line.old.line (next_root self.old) }
+        // It is abandoned where the watch says that the time is up, and nowhere else.
+        ensures stays { W.says watch.new ≡ W.says watch.old }
+        ensures watched { Watched (W.says watch.old) self.old.nodes self.new.nodes result }
+        ensures goes { GoesWith line.new.line self.new }
+        ensures line { IsAsBefore line.old line.new }
+    {
         let m = self.roots.as_slice()[self.searched];
-        self.kept = self
+        let tried = self
             .searcher
-            .try_above(line, LEAST, self.kept, m, self.depth);
-        self.searched += 1;
+            .try_above(line, watch, LEAST, self.kept, m, self.depth);
+        match tried {
+            Some(better) => {
+                self.kept = better;
+                self.searched += 1;
+                true
+            }
+            None => false,
+        }
+    }
+
+    /// Searches one root more, as `next` does, for which so many positions more may be asked for, and says whether it was searched: it is abandoned at the
+    /// first position beyond them, and then all is as before but for the number of positions. The positions together are fewer than 2^64.
+    #[tactic(auto, using(crate::proofs::WatchLemmas::at_most))]
+    pub fn next_at_most<A: Allocator>(&mut self, line: &mut Line<'_, A>, budget: u64) -> bool
+        requires not_done { done_of self.old ≡ None }
+        requires some { 0 < length self.old.roots }
+        requires none { line.old.looked ≡ 0 }
+        requires goes { GoesWith line.old.line self.old }
+        requires few { self.old.nodes + budget < 2 ^ 64 }
+        ensures search { (self.new.depth ≡ self.old.depth) × (self.new.claims ≡ self.old.claims) × (self.new.roots ≡ self.old.roots) }
+        ensures searched { result ≡ true → self.new.searched ≡ self.old.searched + 1 }
+        ensures kept { result ≡ true → self.new.kept ≡ best self.old.claims self.old.depth line.old.line (take (self.old.searched + 1) self.old.roots) }
+        ensures at_most { result ≡ true → self.new.nodes ≤ self.old.nodes + budget }
+        ensures abandoned { result ≡ false → (self.new.searched ≡ self.old.searched) × (self.new.kept ≡ self.old.kept) × (self.new.nodes ≡ self.old.nodes + budget + 1) }
+        ensures goes { GoesWith line.new.line self.new }
+        ensures line { IsAsBefore line.old line.new }
+    {
+        let mut watch = AtMost {
+            nodes: self.nodes() + budget,
+        };
+        self.next_within(line, &mut watch)
     }
 
     /// The search of the same roots at another depth, 1 to 16 plies, which has not begun. What was learned of the order of moves is kept.
