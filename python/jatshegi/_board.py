@@ -254,7 +254,10 @@ class Board:
     # The number that a function of the library answers.
     def _number(self, function: Callable[..., int], what: object, *words: object) -> int:
         number = c_uint32()
-        self._call(function, what, *words, byref(number))
+        with self._lock:
+            status = function(self._at, *words, byref(number))
+        if status:
+            raise self._fail(status, what)
         return number.value
 
     # ---- the position
@@ -277,7 +280,10 @@ class Board:
     def fen(self) -> str:
         """The position's FEN, with all six fields (PGN 16.1)."""
         text, count = _FenRoom(), c_size_t()
-        self._call(c.lib.jatshegi_board_fen, "fen", text, c.MOST_FEN, byref(count))
+        with self._lock:
+            status = c.lib.jatshegi_board_fen(self._at, text, c.MOST_FEN, byref(count))
+        if status:
+            raise self._fail(status, "fen")
         return text.raw[: count.value].decode()
 
     @property
