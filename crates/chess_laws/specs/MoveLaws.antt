@@ -11,7 +11,7 @@
 --   ClockCounts    the halfmove clock is 0 after a pawn's move or a capture, else one more
 --   black_moves    how many of some moves are Black's
 --   NumberCounts   the fullmove number has grown by them
-use Rattle.std.specs.Prelude.{◌≡◌, ℕ, ◌+◌, ◌-◌, ◌≤◌, ◌==◌, true, ◌||◌, if◌then◌else◌, ◌⊎◌, List, [], ◌∷◌, is_some, Some, None, false}
+use Rattle.std.specs.Prelude.{◌≡◌, ℕ, ◌+◌, ◌-◌, ◌≤◌, true, ◌||◌, if◌then◌else◌, ◌⊎◌, List, [], ◌∷◌, is_some, Some, None, false}
 use Rattle.std.specs.List.{Contains}
 use Rattle.chess_types.specs.declared.board.man.Colour.{Colour}
 use Rattle.chess_types.specs.declared.board.man.Colour.TheVariants.{White, Black}
