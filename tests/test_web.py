@@ -116,6 +116,15 @@ def chess(*words, given):
     return subprocess.run([CHESS, *words], input=given, capture_output=True, timeout=runs.MOST_SECONDS)
 
 
+def library():
+    """The Python package, whose board and games are those of the library for C."""
+    sys.path.insert(0, f"{runs.TOP}/python")
+    try:
+        return importlib.import_module("jatshegi")
+    finally:
+        sys.path.remove(f"{runs.TOP}/python")
+
+
 class Page:
     """A page and what a person does with it: that of the clone, or that of another server."""
 
@@ -418,6 +427,58 @@ class InTheBrowser(unittest.TestCase):
         page.until(lambda: page.fen.split()[1] == "w", "the engine moves")
         self.assertTrue(page.moves.startswith("1. e4 I think so 1..."), page.moves)
         page.choose("plays", "")
+
+    def test_random_doings_lose_no_comment(self):
+        """Comments typed and left in their box, moves, steps and refusals, beside the board of the library: a comment is set before anything else is done."""
+        from selenium.webdriver.common.keys import Keys
+        page, rng, board, draft = self.page, random.Random(5), library().Board(), None
+        page.play("e4", "e5", "Nf3")
+        for san in ("e4", "e5", "Nf3"):
+            board.line(f"play {san}")
+
+        def comment():
+            """That of the node at the cursor: a mark is set in its place, and taken back."""
+            before = board.pgn().split("\n\n", 1)[1].replace("\n", " ")
+            other = board.copy()
+            other.line("comment MARK")
+            after = other.pgn().split("\n\n", 1)[1].replace("\n", " ")
+            at = after.index("{MARK}")
+            return before[at + 1:before.index("}", at)] if before[at:at + 1] == "{" and before[:at] == after[:at] else ""
+
+        def seen():
+            return page.script("return [document.getElementById('fen').value, document.getElementById('comment').value]")
+
+        for number in range(70):
+            what = rng.choice(["type", "type", "play", "play", "illegal", "back", "forward", "start", "end", "nag", "escape", "enter", "delete", "promote"])
+            line = None
+            if what == "type":
+                draft = rng.choice(["good", "so-so", "schön (it) is; $5", "a } brace", "word " * 12 + "end"]) + f" {number}"
+                page.type("comment", draft, then="")
+            elif what == "escape":
+                page.at("comment").send_keys(Keys.ESCAPE)
+                draft = None
+            elif what == "enter":
+                page.at("comment").send_keys(Keys.ENTER)
+                line = ""
+            elif what in ("play", "illegal"):
+                line = f"play {board.san(rng.choice(board.legal_moves))}" if what == "play" and board.legal_moves else "play Kh8"
+                page.type("san", line[5:])
+            elif what == "nag":
+                line = "nag 1"
+                page.choose("nag", "1")
+            elif what in ("back", "start", "delete", "promote") and board.line("path") == "-":
+                continue
+            else:
+                line = "step 0" if what == "forward" else what
+                page.click(what)
+            if line is not None:
+                if draft is None or board.line(f"comment {draft}") == "ok":
+                    draft = None
+                    if line:
+                        board.line(line)
+            page.until(lambda: seen() == [board.fen(), comment() if draft is None else draft], f"after {number}, {what} {line}: {board.fen()}, {draft or comment()}")
+        page.at("comment").send_keys(Keys.ESCAPE)
+        self.assertEqual(self.saved().decode().rstrip(), board.pgn().rstrip())
 
     def test_a_file_of_many_games(self):
         from selenium.webdriver.common.by import By
@@ -782,13 +843,8 @@ class TheModule(unittest.TestCase):
 
     def test_the_page_s_worker_loses_nothing(self):
         """Random lines, games loaded, games written and lists of games: the board and the games of the library, which are answered beside it."""
-        sys.path.insert(0, f"{runs.TOP}/python")
-        try:
-            library = importlib.import_module("jatshegi")
-        finally:
-            sys.path.remove(f"{runs.TOP}/python")
-        rng = random.Random(99)
-        board, jobs, wanted = library.Board(encoding="iso-8859-1"), [], []
+        rng, jatshegi = random.Random(99), library()
+        board, jobs, wanted = jatshegi.Board(encoding="iso-8859-1"), [], []
         games = self.random_games(rng, 40)
         kinds = ["back", "start", "end", "promote", "delete", "step 0", "step 1", "step 7", "goto 0.0", "goto 0.1.0", "nag 5", "nag 300", "comment", "comment a  word", "comment sch\xf6n", "comment }", "play zz", "rubbish", "new"]
         for _ in range(600):
@@ -807,13 +863,13 @@ class TheModule(unittest.TestCase):
                 continue
             text = rng.choice([*games, *games, " ", "1. e5 *", "1. e4 (", board.pgn()])
             try:
-                game = library.pgn.read_game(text.encode("latin-1"), encoding="iso-8859-1")
+                game = jatshegi.pgn.read_game(text.encode("latin-1"), encoding="iso-8859-1")
                 status = 0 if game else 16
-            except library.InvalidGameError as error:
+            except jatshegi.InvalidGameError as error:
                 game, status = None, 40 + error.fault
             jobs.append({"job": job, "text": text})
             if job == "load" and game:
-                board = library.Board.from_game(game)
+                board = jatshegi.Board.from_game(game)
                 board.encoding = "iso-8859-1"
                 wanted.append([status, board.line("path"), board.pgn().rstrip()])
             elif job == "games":
