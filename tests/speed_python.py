@@ -5,7 +5,9 @@
 The same random games for both, and each a second at least. Not a test: what it prints stands in docs/PYTHON.md.
 """
 import gc
+import itertools
 import random
+import shutil
 import sys
 import tempfile
 import time
@@ -66,6 +68,7 @@ def ours(games, file):
 
 def theirs(games, file):
     from pychess.Savers import pgn
+    from pychess.System.protoopen import protoopen
     from pychess.Utils.const import NORMALCHESS
     from pychess.Utils.lutils.lmove import parseSAN
     from pychess.Utils.lutils.LBoard import LBoard
@@ -95,15 +98,19 @@ def theirs(games, file):
             for san in sans:
                 board.applyMove(parseSAN(board, san))
 
+    passes = itertools.count()
+
+    # Its table of tags stands beside the file, so each pass has a file of its own.
     def read():
-        with open(file) as handle:
-            opened = pgn.load(handle)
-            opened.limit = GAMES
-            opened.init_tag_database()
-            records, _ = opened.get_records()
-            for record in records:
-                opened.loadToModel(record)
-            opened.close()
+        path = shutil.copy(file, file.replace(".pgn", f"-{next(passes)}.pgn"))
+        opened = pgn.load(protoopen(path))
+        opened.limit = GAMES
+        opened.init_tag_database()
+        records, _ = opened.get_records()
+        assert len(records) == GAMES
+        for record in records:
+            opened.loadToModel(record)
+        opened.close()
 
     yield "legal moves as a list, positions", rate(lambda: [legal(board) for board in boards], len(boards))
     yield "games replayed from SAN, moves", rate(replay, moves)

@@ -30,6 +30,45 @@ def marked(page):
     return re.findall(r"`([^`\n]+)`", re.sub(r"^(```.*?^```|    .*?)$", "", text_of(page), flags=re.M | re.S))
 
 
+# A definition of specs/, from its line to the next empty one.
+DEFINITION = re.compile(r"^ *(?:pub record|abbrev pub|unfoldable pub|pub data) (\S+)(?:.*\n)*?(?=\n|\Z)", re.M)
+CLAUSE = re.compile(r"(?:requires|ensures) (\w+ )?\{(.*?)\}(?=\n|$)", re.S)
+PUBLIC = re.compile(r"pub (?:extern \"C\" )?fn (\w+)(.*?)(?=\n *\{|;\n\n)", re.S)
+IMPL = re.compile(r"^impl(?:<[^\n]*?>)? (?:[\w:<>', ]+ for )?&?(\w+)", re.M)
+# One or more names, and what a page has in brackets after them: `next`, `pop` of chess_draws (`legal`, `line`).
+CARRIED = re.compile(r"((?:`[\w:]+`(?:, | and )?)+)(?: of \w+)? \(((?:[^()]|\([^)]*\))*)\)")
+
+
+def named_in_clauses(files):
+    """By each public function's name, also with its type before it, the names that a page may give for its clauses: their labels, the definitions that they
+    cite, by way of up to two others, and the fields of these."""
+    cited, fields = {}, {}
+    for path in files:
+        if re.fullmatch(r"crates/\w+/specs/.*\.antt", path):
+            for found in DEFINITION.finditer(text_of(path)):
+                cited.setdefault(found[1], set()).update(re.findall(r"[A-Za-z][\w-]*", found[0]))
+                fields.setdefault(found[1], set()).update(re.findall(r"^ +pub (\S+) :", found[0], flags=re.M))
+    named = {}
+    for path in files:
+        if not re.fullmatch(r"crates/\w+/src/.*\.rt", path):
+            continue
+        body = text_of(path)
+        owners = [(found.start(), found[1]) for found in IMPL.finditer(body)]
+        for function in PUBLIC.finditer(body):
+            labels, reached = set(), set()
+            for label, text in CLAUSE.findall(function[2]):
+                labels.add(label.strip())
+                reached.update(re.findall(r"[A-Za-z][\w-]*", text))
+            for _ in range(2):
+                reached.update(word for it in reached.intersection(cited) for word in cited[it])
+            reached &= cited.keys()
+            labels |= reached.union(*(fields[it] for it in reached))
+            owner = [name for place, name in owners if place < function.start()]
+            for name in [function[1], *(f"{it}::{function[1]}" for it in owner[-1:])]:
+                named.setdefault(name, set()).update(labels)
+    return named
+
+
 class Pages(unittest.TestCase):
     @classmethod
     def setUpClass(cls):
@@ -78,6 +117,17 @@ class Pages(unittest.TestCase):
                     for word in re.findall(r"[\w-]+", text):
                         with self.subTest(page=page, name=text):
                             self.assertTrue(word in self.words or word in ELSEWHERE or LETTERS.fullmatch(word))
+
+    def test_each_clause_that_is_named_is_one_of_its_function(self):
+        named, count = named_in_clauses(self.files), 0
+        for page in ("docs/PROMISES.md", "docs/LIMITS.md", "docs/LAWS.md", "docs/C.md", "docs/WEB.md"):
+            for names, bracket in CARRIED.findall(re.sub(r"\s+", " ", text_of(page))):
+                functions = [it for it in re.findall(r"`([\w:]+)`", names) if it in named]
+                for clause in re.findall(r"`(\w+)`", bracket) if functions else ():
+                    count += 1
+                    with self.subTest(page=page, functions=names, clause=clause):
+                        self.assertTrue(any(clause in named[it] for it in functions))
+        self.assertGreater(count, 80)
 
     def test_each_definition_is_explained(self):
         """Each definition of specs/ has a comment before it or a row at the head of its file, and each row names what the file has."""

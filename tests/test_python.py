@@ -1,14 +1,18 @@
-"""The Python package: every call and every refusal, games compared with the program, the page's examples, its types, its installation."""
+"""The Python package: every call and every refusal, games compared with the program, that nothing is lost, the page's examples, its types, its installation."""
+import copy
 import doctest
 import gc
 import importlib
+import multiprocessing
 import os
+import pickle
 import random
 import resource
 import shutil
 import subprocess
 import sys
 import tempfile
+import threading
 import unittest
 import xml.dom.minidom
 
@@ -43,12 +47,29 @@ class Moves(unittest.TestCase):
             with self.assertRaises(jatshegi.InvalidMoveError):
                 jatshegi.Move.from_uci(text)
 
+    def test_a_move_of_no_board_says_so(self):
+        board = jatshegi.Board()
+        for move, shown in ((jatshegi.Move(100, 200), "Move(100, 200, None)"), (jatshegi.Move(-1, -2), "Move(-1, -2, None)"), (jatshegi.Move(12, 28, 6), "Move(12, 28, 6)")):
+            self.assertEqual(repr(move), shown)
+            self.assertRaises(jatshegi.InvalidMoveError, move.uci)
+            self.assertRaises(jatshegi.IllegalMoveError, board.push, move)
+            self.assertFalse(board.is_legal(move))
+        self.assertTrue(board.is_legal(jatshegi.Move(12, 28)))
+        for parts in ((12.0, 28.0), ("e2", "e4"), (12, 28, 5.0)):
+            self.assertRaises(TypeError, jatshegi.Move, *parts)
+        for call in (board.push, board.san, board.is_legal, board.claims):
+            for other in ("e2e4", (12, 28, None), 12):
+                with self.assertRaisesRegex(TypeError, "push_uci or push_san"):
+                    call(other)
+        self.assertEqual((board.ply, pickle.loads(pickle.dumps(jatshegi.Move(12, 28)))), (0, jatshegi.Move(12, 28)))
+
     def test_squares(self):
         for square in jatshegi.SQUARES:
             self.assertEqual(jatshegi.parse_square(jatshegi.square_name(square)), square)
             self.assertEqual(jatshegi.square(jatshegi.square_file(square), jatshegi.square_rank(square)), square)
         for wrong in (-1, 64):
-            self.assertRaises(ValueError, jatshegi.square_name, wrong)
+            for call in (jatshegi.square_name, jatshegi.square_file, jatshegi.square_rank):
+                self.assertRaises(ValueError, call, wrong)
         self.assertRaises(ValueError, jatshegi.square, 8, 0)
         self.assertRaises(ValueError, jatshegi.parse_square, "e9")
 
@@ -141,13 +162,6 @@ class TheBoard(unittest.TestCase):
         self.assertFalse(board.is_check())
         board.pop()
         self.assertEqual(board.pgn().split("\n\n")[1], "*")
-
-    def test_pops_a_move_that_a_line_made(self):
-        board = jatshegi.Board()
-        for line in ("play e4", "play e5", "back", "play c5", "start", "step 0", "step 1"):
-            self.assertEqual(board.line(line), "ok")
-        self.assertEqual((board.ply, board.pop().uci(), board.pop().uci(), board.ply), (2, "c7c5", "e2e4", 0))
-        self.assertEqual(board.line("play e5"), "refused 2 Illegal")
 
     def test_outcomes(self):
         claimed = jatshegi.Board()
@@ -329,8 +343,8 @@ class Games(unittest.TestCase):
         game = jatshegi.pgn.read_game(text)
         self.assertEqual((game.root.comment, game.result, [node.san for node in game.mainline()]), ("root", "1/2-1/2", ["e4", "e5", "Nf3", "Nc6"]))
         king, queen = game.root.children
-        self.assertEqual((king.nags, king.comment, queen.san, queen.comment), ([1], "a", "d4", "b"))
-        self.assertEqual([(it.san, it.nags) for it in queen.children], [("d5", []), ("Nf6", [6, 19])])
+        self.assertEqual((king.nags, king.comment, queen.san, queen.comment), ((1,), "a", "d4", "b"))
+        self.assertEqual([(it.san, it.nags) for it in queen.children], [("d5", ()), ("Nf6", (6, 19))])
         self.assertEqual([it.san for it in king.children[0].children], ["Nf3", "f4", "Nc3"])
         self.assertEqual(king.children[0].children[1].children[0].path(), ["e4", "e5", "f4", "exf4"])
         self.assertEqual((0, str(game), ""), self.program(text.encode()))
@@ -369,8 +383,6 @@ class Games(unittest.TestCase):
         game = jatshegi.pgn.read_game('[White "a \\"b\\" \\\\"] [FEN "8/8/8/8/8/4k3/4p3/4K3 w - - 0 1"] [Annotator "c"] *')
         self.assertEqual((game.headers["White"], game.headers["Annotator"], game.start), ('a "b" \\', "c", "8/8/8/8/8/4k3/4p3/4K3 w - - 0 1"))
         self.assertEqual(game.board().status, jatshegi.Status.STALEMATE)
-        latin = jatshegi.pgn.read_game(b'[White "R\xe9ti"] *')
-        self.assertEqual(str(latin).encode("utf-8", "surrogateescape").count(b"R\xe9ti"), 1)
 
     def test_faults_have_their_places(self):
         data = b'1. e4 *\n\n[White "?"]\n\n1. e5 *\n\n[A b]\n\n*\n\n[White "c"]\n\n1. d4 ('
@@ -384,6 +396,380 @@ class Games(unittest.TestCase):
     def test_a_game_longer_than_the_room_for_it(self):
         text = "{" + "word " * 5000 + "} *"
         self.assertEqual((0, str(jatshegi.pgn.read_game(text)), ""), self.program(text.encode()))
+
+
+class Model:
+    """A game as a plain tree in Python with a cursor: what `push`, `pop`, `back` and the lines of the board do to it."""
+
+    class Node:
+        def __init__(self, san=None, parent=None):
+            self.san, self.parent = san, parent
+            self.comment, self.nags, self.children = "", [], []
+            # Whether `push` made it, and no line has led away from it since.
+            self.is_made = False
+
+    def __init__(self, game=None):
+        self.root = self.cursor = Model.Node()
+        todo = [(game.root, self.root)] if game else []
+        while todo:
+            given, node = todo.pop()
+            node.comment, node.nags = given.comment, list(given.nags)
+            node.children = [Model.Node(child.san, node) for child in given.children]
+            todo += zip(given.children, node.children)
+
+    def child(self, san):
+        return next((child for child in self.cursor.children if child.san == san), None)
+
+    def way(self):
+        node, way = self.cursor, []
+        while node.parent:
+            way.append(node)
+            node = node.parent
+        return way[::-1]
+
+    def forget(self):
+        for node in self.way():
+            node.is_made = False
+
+    def path(self):
+        return ".".join(str(node.parent.children.index(node)) for node in self.way()) or "-"
+
+    def play(self, san, by_push):
+        if not self.child(san):
+            self.cursor.children.append(Model.Node(san, self.cursor))
+            self.cursor.children[-1].is_made = by_push
+        self.cursor = self.child(san)
+
+    def up(self, takes_out):
+        node = self.cursor
+        node.is_made = False
+        self.cursor = node.parent
+        if takes_out:
+            node.parent.children.remove(node)
+
+    def pop(self):
+        node = self.cursor
+        self.up(node.is_made and not (node.children or node.comment or node.nags))
+
+    def movetext(self):
+        """The game as a text, which a reader may read; words without numbers."""
+        def said(node):
+            return [*([node.san] if node.san else []), *(f"${nag}" for nag in node.nags), *([f"{{{node.comment}}}"] if node.comment else [])]
+
+        def after(node):
+            while node.children:
+                first, *others = node.children
+                yield from said(first)
+                for other in others:
+                    yield from ("(", *said(other), *after(other), ")")
+                node = first
+
+        return " ".join([*said(self.root), *after(self.root), "*"])
+
+
+class NothingIsLost(unittest.TestCase):
+    """No node, comment or annotation goes but by `delete`, or by the `pop` of the `push` that made it."""
+
+    def text(self, board):
+        return board.pgn().split("\n\n")[1].replace("\n", " ").strip()
+
+    def test_pop_leaves_what_push_did_not_make(self):
+        board = jatshegi.Board()
+        for line in ("play d4", "play d5", "back", "back", "play e4"):
+            self.assertEqual(board.line(line), "ok")
+        self.assertEqual((board.pop().uci(), self.text(board)), ("e2e4", "1. d4 (1. e4) 1... d5 *"))
+        board = jatshegi.Board.from_game(jatshegi.pgn.read_game("1. e4 e5 (1... c5) 2. Nf3 *"))
+        before = board.pgn()
+        for depth in range(3):
+            for move in board.legal_moves:
+                board.push(move)
+                self.assertEqual(board.pop(), move)
+            self.assertEqual((board.pgn(), board.ply), (before, depth))
+            board.line("step 0")
+
+    def test_pop_leaves_what_something_hangs_on(self):
+        for line in ("comment good", "nag 1", "promote"):
+            board = jatshegi.Board()
+            board.push_san("d4")
+            board.back()
+            board.push_san("e4")
+            self.assertEqual(board.line(line), "ok")
+            self.assertEqual(board.pop().uci(), "e2e4")
+            self.assertIn("e4", board.pgn())
+        board = jatshegi.Board()
+        for san in ("e4", "e5"):
+            board.push_san(san)
+        self.assertEqual((board.back().uci(), board.pop().uci(), self.text(board)), ("e7e5", "e2e4", "1. e4 e5 *"))
+        self.assertRaises(IndexError, board.pop)
+        self.assertRaises(IndexError, board.back)
+
+    def test_a_push_that_was_left_by_a_line_is_the_game_s(self):
+        for lines, left in ((("start", "end"), "1. e4 *"), (("back", "step 0"), "1. e4 *"), (("goto 0",), "1. e4 *"), (("delete", "play e4"), "1. e4 *"), (("goto 7", "back 1"), "*")):
+            board = jatshegi.Board()
+            board.push_san("e4")
+            for line in lines:
+                board.line(line)
+            board.pop()
+            self.assertEqual(self.text(board), left, lines)
+        board = jatshegi.Board()
+        board.push_san("e4")
+        board.line("start")
+        self.assertRaises(IndexError, board.pop)
+        self.assertEqual(self.text(board), "1. e4 *")
+
+    def moved(self, chance, board, model):
+        """A push, a pop or a step back, or one that is refused."""
+        what = chance.random()
+        moves = board.legal_moves
+        if what < 0.55 and moves:
+            known = [child.san for child in model.cursor.children]
+            san = chance.choice(known) if known and chance.random() < 0.4 else board.san(chance.choice(moves))
+            if chance.random() < 0.5:
+                board.push(board.parse_san(san))
+            else:
+                board.push_san(san)
+            model.play(san, True)
+        elif what < 0.6:
+            self.assertRaises(jatshegi.IllegalMoveError, board.push, jatshegi.Move(0, 0))
+            self.assertRaises(jatshegi.InvalidFenError, board.set_fen, "rubbish")
+        elif not model.way():
+            self.assertRaises(IndexError, board.pop)
+            self.assertRaises(IndexError, board.back)
+        elif what < 0.9:
+            self.assertEqual((board.san(board.pop()), model.pop()), (self.left, None))
+        else:
+            self.assertEqual((board.san(board.back()), model.up(False)), (self.left, None))
+
+    def told(self, chance, board, model):
+        """A line of the board's that changes the game or leads elsewhere, or one that is refused."""
+        kinds = ["play", "play", "back", "start", "end", "step", "goto", "promote", "delete", "comment", "nag", "refused"]
+        kind, here = chance.choice(kinds), model.cursor
+        line = kind
+        if kind == "refused":
+            line = chance.choice(["play zz", "step 99", "goto 99", "comment }", "nag 300", "rubbish", "goto x", "set rubbish"])
+        elif kind == "play":
+            moves = board.legal_moves
+            if not moves:
+                return
+            line = f"play {board.san(chance.choice(moves))}"
+            model.play(line[5:], False)
+        elif kind in ("back", "promote", "delete", "nag") and not here.parent:
+            line = f"{kind} 5" if kind == "nag" else kind
+            kind = "refused"
+        elif kind == "back":
+            model.up(False)
+        elif kind == "start":
+            model.forget()
+            model.cursor = model.root
+        elif kind == "end":
+            model.forget()
+            while model.cursor.children:
+                model.cursor = model.cursor.children[0]
+        elif kind == "step":
+            place = chance.randrange(3)
+            line = f"step {place}"
+            if place < len(here.children):
+                model.cursor = here.children[place]
+            else:
+                kind = "refused"
+        elif kind == "goto":
+            model.forget()
+            model.cursor = model.root
+            while model.cursor.children and chance.random() < 0.8:
+                model.cursor = chance.choice(model.cursor.children)
+            line = "start" if model.cursor is model.root else f"goto {model.path()}"
+        elif kind == "promote":
+            model.forget()
+            siblings = here.parent.children
+            siblings.insert(0, siblings.pop(siblings.index(here)))
+        elif kind == "delete":
+            model.up(True)
+        elif kind == "comment":
+            here.comment = chance.choice(["", "a", "gut gespielt", "schön", "so (it) goes; $5 [x] \"", "word " * 30 + "end"])
+            line = f"comment {here.comment}"
+        elif kind == "nag":
+            here.nags.append(chance.randrange(1, 140))
+            line = f"nag {here.nags[-1]}"
+        self.assertEqual(board.line(line)[:7], "refused" if kind == "refused" else "ok", line)
+
+    def test_random_edits_pushes_and_pops_beside_a_plain_model(self):
+        chance = random.Random(2026)
+        texts = ["*", "1. e4 {a} (1. e4 {b} e5) 1... c5 *", "{root} 1. d4 $1 (1. c4 e5 (1... c5 $5 {x}) 2. g3) 1... d5 2. c4 (2. Nf3) 2... e6 *"]
+        for number in range(5000):
+            if number % 500 == 0:
+                game = jatshegi.pgn.read_game(texts[number // 500 % 3])
+                board, model = jatshegi.Board.from_game(game), Model(game)
+            self.left = model.cursor.san
+            (self.moved if chance.random() < 0.7 else self.told)(chance, board, model)
+            if len(model.way()) > 60:
+                board.line("start")
+                model.forget()
+                model.cursor = model.root
+            self.assertEqual((board.line("path"), board.ply), (model.path(), len(model.way())), number)
+            if number % 20 == 0:
+                self.assertEqual(board.pgn(), str(jatshegi.pgn.read_game(model.movetext())), number)
+            if number % 100 == 99:
+                board = board.copy() if chance.random() < 0.5 else pickle.loads(pickle.dumps(board))
+        self.assertEqual(board.pgn(), str(jatshegi.pgn.read_game(model.movetext())))
+
+    def test_a_board_and_its_copies(self):
+        board = jatshegi.Board.from_game(jatshegi.pgn.read_game('[FEN "4k3/8/8/8/8/8/4P3/4K3 w - - 7 20"] {a} e4 {b} (e4 $5 Kd7) (e3) Ke7 *'))
+        for line in ("step 1", "step 0"):
+            board.line(line)
+        board.push_san("e5")
+        for other in (board.copy(), copy.copy(board), copy.deepcopy(board), pickle.loads(pickle.dumps(board))):
+            self.assertEqual((other.fen(), other.ply, other.pgn(), other.line("path")), (board.fen(), 3, board.pgn(), "1.0.0"))
+            other.pop()
+            self.assertNotEqual(other.pgn(), board.pgn())
+            del other
+            gc.collect()
+            self.assertEqual(board.line("path"), "1.0.0")
+
+        class Mine(jatshegi.Board):
+            pass
+
+        mine = Mine()
+        mine.name = "of mine"
+        self.assertEqual((type(mine.copy()), mine.copy().name, copy.deepcopy(mine).name), (Mine, "of mine", "of mine"))
+        board = jatshegi.Board()
+        for _ in range(2):
+            board.line("comment " + "x" * 1_000_000)
+            board.push_san("e4" if board.turn else "e5")
+        for call in (board.copy, lambda: copy.copy(board), lambda: copy.deepcopy(board), lambda: pickle.dumps(board)):
+            self.assertRaises(jatshegi.LimitError, call)
+        self.assertEqual(board.ply, 2)
+        for call in (copy.copy, copy.deepcopy, pickle.dumps):
+            with self.assertRaisesRegex(TypeError, "has no copy"):
+                call(jatshegi.Engine())
+
+    def test_an_emptied_board_says_so(self):
+        def asked(board):
+            move = jatshegi.Move.from_uci("e2e4")
+            names = ("turn", "ep_square", "halfmove_clock", "fullmove_number", "ply", "legal_moves", "status")
+            yield from ((lambda name=name: getattr(board, name)) for name in names)
+            yield from (board.fen, board.reset, board.piece_map, board.is_check, board.checkers, board.outcome, board.claims, board.repetitions, board.evaluate)
+            yield from (board.pgn, board.pop, board.back, board.copy, board.__str__, board.__repr__, board._repr_svg_, lambda: pickle.dumps(board))
+            yield from ((lambda call=call: call(move)) for call in (board.is_legal, board.push, board.san, board.claims))
+            yield from ((lambda call=call: call(1)) for call in (board.best, board.search, board.has_kingside_castling_rights, board.attack_counts))
+            yield from (lambda: board.push_san("e4"), lambda: board.push_uci("e2e4"), lambda: board.parse_san("e4"), lambda: board.line("fen"), lambda: board.attackers(True, 0))
+
+        emptied, never = jatshegi.Board(), jatshegi.Board.__new__(jatshegi.Board)
+        never.encoding, never._made, never._searches = "utf-8", [], 0
+        slices = emptied.search(2)
+        next(slices)
+        emptied.__del__()
+        for board in (emptied, never):
+            for call in asked(board):
+                self.assertRaises(jatshegi.EmptyBoardError, call)
+        self.assertRaises(jatshegi.EmptyBoardError, next, slices)
+        emptied.__init__()
+        self.assertEqual(len(emptied.legal_moves), 20)
+        engine = jatshegi.Engine()
+        engine.__del__()
+        for call in (engine.slice, engine.is_searching, lambda: engine.line("uci"), lambda: engine.moment(1)):
+            self.assertRaises(jatshegi.EmptyBoardError, call)
+        self.assertRaises(ValueError, jatshegi.Engine().moment, -1)
+
+    def test_a_board_begun_again_takes_no_memory(self):
+        board, engine = jatshegi.Board(), jatshegi.Engine()
+
+        def begun(count):
+            for _ in range(count):
+                board.__init__()
+                engine.__init__()
+            return resource.getrusage(resource.RUSAGE_SELF).ru_maxrss
+
+        first = begun(200)
+        self.assertLess(begun(2000) - first, 20_000)
+
+    def test_threads_that_use_one_board_get_right_answers(self):
+        board = jatshegi.Board("r3k2r/p1ppqpb1/bn2pnp1/3PN3/1p2P3/2N2Q1p/PPPBBPPP/R3K2R w KQkq - 0 1")
+        wanted, wrong, ended = (board.fen(), board.status, len(board.legal_moves), board.piece_map(), board.is_check()), [], threading.Event()
+
+        def reads():
+            try:
+                while not ended.is_set():
+                    found = (board.fen(), board.status, len(board.legal_moves), board.piece_map(), board.is_check())
+                    if found != wanted:
+                        wrong.append(found)
+            except Exception as error:
+                wrong.append(error)
+
+        readers = [threading.Thread(target=reads) for _ in range(2)]
+        for reader in readers:
+            reader.start()
+        found = [board.best(2) for _ in range(4)]
+        ended.set()
+        for reader in readers:
+            reader.join()
+        self.assertEqual((wrong, len(set(found))), ([], 1))
+
+    def test_errors_go_through_a_pool(self):
+        errors = [(jatshegi.Board, "rubbish"), (jatshegi.pgn.read_game, "1. e5 *"), (jatshegi.Move.from_uci, "e9"), (jatshegi.Board().push_san, "Ke2")]
+        with multiprocessing.get_context("fork").Pool(1) as pool:
+            for call, word in errors:
+                with self.assertRaises(jatshegi.Error) as found:
+                    call(word)
+                with self.assertRaises(type(found.exception)) as raised:
+                    pool.apply_async(call, (word,)).get(timeout=60)
+                self.assertEqual((str(raised.exception), raised.exception.__dict__), (str(found.exception), found.exception.__dict__))
+                self.assertIsInstance(raised.exception, ValueError)
+            board = pool.apply_async(jatshegi.Board, ("4k3/8/8/8/8/8/4P3/4K3 w - - 0 1",)).get(timeout=60)
+        self.assertEqual(len(board.legal_moves), 6)
+
+    def test_what_is_read_and_written_has_the_same_bytes(self):
+        texts = {"utf-8": 'Réti {schön 日本} "\\"'.encode(), "iso-8859-1": b'R\xe9ti {sch\xf6n \x85\xa0}'}
+        for encoding, words in texts.items():
+            name, comment = words.split(b" ", 1)
+            data = b'[White "' + name + b'"]\n\n1. e4 ' + comment.split(b'}')[0] + b"} *\n"
+            game = jatshegi.pgn.read_game(data)
+            ran = subprocess.run([runs.BUILT, "pgn"], input=data, capture_output=True, check=True)
+            self.assertEqual((game.encoding, bytes(game), game.headers["White"]), (encoding, ran.stdout, "Réti"))
+            self.assertEqual(str(game).encode(game.encoding), bytes(game))
+            board = jatshegi.Board.from_game(game)
+            board.line("step 0")
+            self.assertEqual(board.line("nag 1"), "ok")
+            self.assertIn(comment.split(b'}')[0], board.pgn().encode(board.encoding))
+            self.assertEqual((board.copy().encoding, board.copy().pgn()), (encoding, board.pgn()))
+            again = [bytes(it) for it in jatshegi.pgn.games(ran.stdout * 2)]
+            self.assertEqual(again, [ran.stdout] * 2)
+            self.assertEqual([bytes(it(game)) for it in (copy.copy, copy.deepcopy, lambda it: pickle.loads(pickle.dumps(it)))], [bytes(game)] * 3)
+        with self.assertRaises(UnicodeEncodeError):
+            board.line("comment 日本")
+        self.assertNotIn("?}", board.pgn())
+        latin = b'[White "R\xe9ti"] *'
+        for encoding, name in ((None, "Réti"), ("latin-1", "Réti"), ("utf-8", "R\udce9ti"), ("cp1250", "Réti"), ("koi8-r", "RИti")):
+            game = jatshegi.pgn.read_game(latin, encoding=encoding)
+            self.assertEqual((game.headers["White"], bytes(game).count(b"R\xe9ti")), (name, 1))
+            self.assertEqual([it.headers["White"] for it in jatshegi.pgn.games(latin, encoding=encoding)], [name])
+            self.assertEqual(str(game).encode(game.encoding, "surrogateescape"), bytes(game))
+        for encoding in ("utf-16", "utf-8-sig", "cp037"):
+            self.assertRaises(ValueError, jatshegi.pgn.read_game, latin, encoding=encoding)
+        self.assertRaises(LookupError, jatshegi.Board, encoding="no such")
+        self.assertEqual(str(jatshegi.pgn.read_game('[White "R\udce9ti é"] *')).count("R\udce9ti é"), 1)
+
+    def test_a_game_that_was_read_does_not_change(self):
+        game = jatshegi.pgn.read_game('[White "Réti"] 1. Nf3 {a} d5 $1 (1... c5) *')
+        before, node = str(game), game.root.children[0]
+        with self.assertRaisesRegex(TypeError, "read_game of a text with other tags"):
+            game.headers["White"] = "me"
+        with self.assertRaisesRegex(TypeError, "read_game of a text without"):
+            del game.headers["White"]
+        for of, name in ((node, "comment"), (node, "san"), (node, "nags"), (node, "children"), (node, "parent"), (game, "headers"), (game, "result"), (game, "root")):
+            with self.assertRaisesRegex(AttributeError, "a game that was read doesn't change"):
+                setattr(of, name, "x")
+        for call in (lambda: node.children.append(node), lambda: node.nags.append(1), lambda: setattr(node, "other", 1), lambda: game.headers.update({})):
+            self.assertRaises(AttributeError, call)
+        self.assertEqual((str(game), game.headers["White"], dict(game.headers)["White"], node.comment), (before, "Réti", "Réti", "a"))
+        self.assertEqual((game.headers.copy(), "White" in game.headers, game.headers == dict(game.headers)), (dict(game.headers), True, True))
+
+    def test_texts_that_are_no_game_say_so(self):
+        for text in ("1. e5 zz *", "(", "1. e4 (", "", " "):
+            self.assertRaises(jatshegi.InvalidGameError, jatshegi.pgn.Game, text)
+        self.assertEqual(str(jatshegi.pgn.Game("1. e4 *")), str(jatshegi.pgn.read_game("1. e4 *")))
+        for other in (None, "1. e4 *", b"1. e4 *"):
+            with self.assertRaisesRegex(TypeError, "read_game"):
+                jatshegi.Board.from_game(other)
 
 
 class ThePackage(unittest.TestCase):

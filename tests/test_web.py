@@ -6,6 +6,7 @@ Needs Debian's chromium, chromium-driver, python3-selenium and firefox-esr; wher
 import functools
 import hashlib
 import http.server
+import importlib
 import os
 import queue
 import random
@@ -113,6 +114,15 @@ def new_browser(folder, *more):
 
 def chess(*words, given):
     return subprocess.run([CHESS, *words], input=given, capture_output=True, timeout=runs.MOST_SECONDS)
+
+
+def library():
+    """The Python package, whose board and games are those of the library for C."""
+    sys.path.insert(0, f"{runs.TOP}/python")
+    try:
+        return importlib.import_module("jatshegi")
+    finally:
+        sys.path.remove(f"{runs.TOP}/python")
 
 
 class Page:
@@ -286,6 +296,7 @@ class InTheBrowser(unittest.TestCase):
         page.type("comment", "a } brace")
         page.until_told("closing brace")
         self.assertEqual(page.moves, "1. e4")
+        page.at("comment").send_keys("\ue00c")
         page.set_fen("4k3/8/8/8/8/2N5/8/4K1N1 w - - 0 1")
         page.type("san", "Ne2")
         page.until_told("More than one man")
@@ -324,6 +335,150 @@ class InTheBrowser(unittest.TestCase):
             self.assertEqual(self.saved(), chess("pgn", given=given).stdout)
             self.page.click("new")
             self.page.until_moves("")
+
+    def test_a_game_with_equal_moves_side_by_side_is_kept(self):
+        for text in (b"1. e4 {a} (1. e4 {b} e5) 1... c5 *", b'[White "A"]\n\n{r} 1. d4 (1. d4 $1 (1. c4) 1... d5) (1. d4 {x}) 1... f5 {y} 0-1'):
+            self.page.paste(text.decode())
+            self.page.until(lambda: self.page.moves and ("e4" in self.page.moves) == (b"e4" in text), "the game is read")
+            self.assertEqual(self.saved(), chess("pgn", given=text).stdout)
+
+    def test_reading_a_file_takes_nothing_that_is_done_meanwhile(self):
+        from selenium.webdriver.common.by import By
+        page, count = self.page, 12_000
+        games = [f'[White "W{number}"]\n\n1. {"d4 d5" if number == 5 else "e4 e5"} {{{"word " * 20}}} *\n\n' for number in range(1, count + 1)]
+        with tempfile.NamedTemporaryFile(suffix=".pgn") as file:
+            file.write("".join(games).encode())
+            file.flush()
+            page.at("file").send_keys(file.name)
+            page.until(lambda: page.moves.startswith("1. e4"), "the first game is loaded")
+            page.until(lambda: page.script("return document.querySelectorAll('#games button').length") > 5, "the list is begun")
+            early = page.text("howmany")
+            self.browser.find_elements(By.CSS_SELECTOR, "#games button")[4].click()
+            page.until(lambda: page.moves.startswith("1. d4"), "the fifth game is loaded")
+            page.type("san", "Nf3")
+            page.until(lambda: "1. Nf3" in page.moves, "a move is made")
+            page.until(lambda: page.text("howmany").startswith(f"{count} games"), "the file is read")
+        self.assertFalse(early.startswith(f"{count} "), "the file was read before anything was done")
+        self.assertTrue(page.moves.startswith("1. d4") and "1. Nf3" in page.moves, page.moves)
+        drop = """
+            const given = new DataTransfer();
+            given.items.add(new File([arguments[0]], 'game.pgn'));
+            document.body.dispatchEvent(new DragEvent('drop', { dataTransfer: given, bubbles: true, cancelable: true }));
+            document.getElementById('new').click();
+            document.getElementById('san').value = 'c4';
+            document.getElementById('sanform').requestSubmit();
+        """
+        page.script(drop, "1. e4 e5 *")
+        page.until(lambda: page.text("howmany") == "1 games", "the game is in the list")
+        page.until_told("the board is as you left it")
+        self.assertEqual(page.moves, "1. c4")
+        self.browser.find_element(By.CSS_SELECTOR, "#games button").click()
+        page.until_moves("1. e4 e5")
+
+    def test_a_comment_that_is_being_typed_stays(self):
+        from selenium.webdriver.common.keys import Keys
+        page = self.page
+
+        def typed(text):
+            page.type("comment", text, then="")
+
+        def box():
+            return page.script("return document.getElementById('comment').value")
+
+        page.play("e4")
+        typed("good")
+        self.page.script("document.getElementById('san').value = 'e4'; document.getElementById('sanform').requestSubmit()")
+        page.until_told("isn’t legal")
+        page.until_moves("1. e4 good")
+        typed("the best")
+        page.at("comment").send_keys(Keys.ALT, Keys.LEFT)
+        page.until_moves("1. e4 the best")
+        page.until(lambda: box() == "", "the box is that of the start")
+        typed("begun")
+        page.square("d2").click()
+        page.square("d4").click()
+        page.until_moves("begun 1. e4 the best 1. d4")
+        typed("a } brace")
+        for leave in (lambda: page.click("back"), lambda: page.squares("d7", "d5"), lambda: page.click("new"), lambda: page.click("save"), lambda: page.at("comment").send_keys(Keys.ENTER)):
+            page.script("document.getElementById('told').textContent = ''")
+            leave()
+            page.until_told("closing brace")
+            self.assertEqual((box(), page.moves), ("a } brace", "begun 1. e4 the best 1. d4"))
+        typed("no brace")
+        page.click("back")
+        page.until_moves("begun 1. e4 the best 1. d4 no brace")
+        page.until(lambda: box() == "begun", "the box is that of the start")
+        typed("given up")
+        page.at("comment").send_keys(Keys.ESCAPE)
+        self.assertEqual((box(), page.moves), ("begun", "begun 1. e4 the best 1. d4 no brace"))
+        typed("written")
+        self.assertIn(b"{written}", self.saved())
+
+    def test_a_comment_that_is_being_typed_stays_while_the_engine_plays(self):
+        page = self.page
+        page.play("e4")
+        page.type("comment", "I think", then="")
+        page.choose("depth", "1")
+        page.choose("plays", "b")
+        page.until(lambda: page.script("return document.querySelectorAll('#lines li').length") == 1, "the engine has thought")
+        time.sleep(0.3)
+        self.assertEqual((page.moves, page.script("return document.getElementById('comment').value")), ("1. e4", "I think"))
+        page.at("comment").send_keys(" so\n")
+        page.until(lambda: page.fen.split()[1] == "w", "the engine moves")
+        self.assertTrue(page.moves.startswith("1. e4 I think so 1..."), page.moves)
+        page.choose("plays", "")
+
+    def test_random_doings_lose_no_comment(self):
+        """Comments typed and left in their box, moves, steps and refusals, beside the board of the library: a comment is set before anything else is done."""
+        from selenium.webdriver.common.keys import Keys
+        page, rng, board, draft = self.page, random.Random(5), library().Board(), None
+        page.play("e4", "e5", "Nf3")
+        for san in ("e4", "e5", "Nf3"):
+            board.line(f"play {san}")
+
+        def comment():
+            """That of the node at the cursor: a mark is set in its place, and taken back."""
+            before = board.pgn().split("\n\n", 1)[1].replace("\n", " ")
+            other = board.copy()
+            other.line("comment MARK")
+            after = other.pgn().split("\n\n", 1)[1].replace("\n", " ")
+            at = after.index("{MARK}")
+            return before[at + 1:before.index("}", at)] if before[at:at + 1] == "{" and before[:at] == after[:at] else ""
+
+        def seen():
+            return page.script("return [document.getElementById('fen').value, document.getElementById('comment').value]")
+
+        for number in range(70):
+            what = rng.choice(["type", "type", "play", "play", "illegal", "back", "forward", "start", "end", "nag", "escape", "enter", "delete", "promote"])
+            line = None
+            if what == "type":
+                draft = rng.choice(["good", "so-so", "schön (it) is; $5", "a } brace", "word " * 12 + "end"]) + f" {number}"
+                page.type("comment", draft, then="")
+            elif what == "escape":
+                page.at("comment").send_keys(Keys.ESCAPE)
+                draft = None
+            elif what == "enter":
+                page.at("comment").send_keys(Keys.ENTER)
+                line = ""
+            elif what in ("play", "illegal"):
+                line = f"play {board.san(rng.choice(board.legal_moves))}" if what == "play" and board.legal_moves else "play Kh8"
+                page.type("san", line[5:])
+            elif what == "nag":
+                line = "nag 1"
+                page.choose("nag", "1")
+            elif what in ("back", "start", "delete", "promote") and board.line("path") == "-":
+                continue
+            else:
+                line = "step 0" if what == "forward" else what
+                page.click(what)
+            if line is not None:
+                if draft is None or board.line(f"comment {draft}") == "ok":
+                    draft = None
+                    if line:
+                        board.line(line)
+            page.until(lambda: seen() == [board.fen(), comment() if draft is None else draft], f"after {number}, {what} {line}: {board.fen()}, {draft or comment()}")
+        page.at("comment").send_keys(Keys.ESCAPE)
+        self.assertEqual(self.saved().decode().rstrip(), board.pgn().rstrip())
 
     def test_a_file_of_many_games(self):
         from selenium.webdriver.common.by import By
@@ -608,6 +763,142 @@ class TheModule(unittest.TestCase):
             }).catch((error) => done('error: ' + error));
         """, given.decode("latin-1"))
         self.assertEqual(read.encode("latin-1"), chess("pgn", given=given).stdout)
+
+    def random_game(self, rng, say):
+        """A text with variations within one another, equal moves side by side, comments and annotations, the words of its moves from square to square."""
+        def said():
+            return rng.choice(["", "", "", " $1", " $14 $5"]) + rng.choice(["", "", " {a}", " {so it goes}", " {%s}" % ("word " * rng.randint(1, 30)), " {b} {c}"])
+
+        def after(plies):
+            moves = say("moves").split()
+            if plies <= 0 or moves == ["none"]:
+                return ""
+            first = rng.choice(moves)
+            text = f"{first}{said()}"
+            for _ in range(rng.choice([0, 0, 0, 1, 1, 2])):
+                other = first if rng.random() < 0.4 else rng.choice(moves)
+                text += f" ({rng.choice(['', '', '{before} '])}{other}{said()} {played(other, rng.randint(0, plies - 1))}) {rng.choice(['', '', '{then}'])}"
+            return f"{text} {played(first, plies - 1)}"
+
+        def played(move, plies):
+            say(f"play {move}")
+            text = after(plies)
+            say("back")
+            return text
+
+        say("new")
+        return f"{rng.choice(['', '{at first} '])}{after(rng.randint(0, 9))} *\n"
+
+    def random_games(self, rng, count):
+        program = subprocess.Popen([CHESS, "board"], stdin=subprocess.PIPE, stdout=subprocess.PIPE)
+
+        def say(line):
+            program.stdin.write(line.encode() + b"\n")
+            program.stdin.flush()
+            return program.stdout.readline().decode().strip()
+
+        games = [self.random_game(rng, say) for _ in range(count)]
+        program.stdin.close()
+        program.wait()
+        program.stdout.close()
+        return games
+
+    def test_a_game_that_is_loaded_is_the_game_that_was_read(self):
+        games = ["1. e4 {a} (1. e4 {b} e5) 1... c5 *\n", *self.random_games(random.Random(7), 200)]
+        written = chess("pgn", given="".join(games).encode())
+        self.assertEqual(written.stderr, b"")
+        found = self.browser.execute_async_script("""
+            const [games, done] = arguments;
+            import('./module.js').then(async (it) => {
+              const session = await it.open('jatshegi.wasm');
+              done(games.map((text) => {
+                session.hold(it.toBytes(text));
+                const { status, used } = session.load(0);
+                return [status, used, session.line('path'), session.line('pgn')];
+              }));
+            }).catch((error) => done('error: ' + error));
+        """, games)
+        self.assertIsInstance(found, list, found)
+        self.assertEqual({(it[0], it[2]) for it in found}, {(0, "-\n")})
+        self.assertEqual([it[1] for it in found], [len(it.rstrip()) for it in games])
+        self.assertEqual("".join(it[3] for it in found).encode(), written.stdout)
+
+    def test_a_text_that_is_no_game_leaves_the_board(self):
+        texts = [" ", "1. e5 *", "1. e4 (", "(", '[FEN "rubbish"] *']
+        found = self.browser.execute_async_script("""
+            const [texts, done] = arguments;
+            import('./module.js').then(async (it) => {
+              const session = await it.open('jatshegi.wasm');
+              const before = ['play e4', 'comment c', 'pgn', 'path'].map((line) => session.line(line)).slice(2);
+              done(texts.map((text) => {
+                session.hold(it.toBytes(text));
+                const { status, used } = session.load(0);
+                session.hold(it.toBytes(text));
+                const game = session.game(0);
+                return [status, used === game.used && status === game.status, session.line('pgn') === before[0] && session.line('path') === before[1]];
+              }));
+            }).catch((error) => done('error: ' + error));
+        """, texts)
+        self.assertEqual(found, [[status, True, True] for status in (16, 43, 46, 44, 47)])
+
+    def test_the_page_s_worker_loses_nothing(self):
+        """Random lines, games loaded, games written and lists of games: the board and the games of the library, which are answered beside it."""
+        rng, jatshegi = random.Random(99), library()
+        board, jobs, wanted = jatshegi.Board(encoding="iso-8859-1"), [], []
+        games = self.random_games(rng, 40)
+        kinds = ["back", "start", "end", "promote", "delete", "step 0", "step 1", "step 7", "goto 0.0", "goto 0.1.0", "nag 5", "nag 300", "comment", "comment a  word", "comment sch\xf6n", "comment }", "play zz", "rubbish", "new"]
+        for _ in range(600):
+            job = rng.choice(["lines", "lines", "lines", "lines", "load", "export", "games"])
+            if job == "lines":
+                lines, answers = [], []
+                for _ in range(rng.randint(0, 4)):
+                    moves = board.legal_moves
+                    lines.append(f"play {board.san(rng.choice(moves))}" if moves and rng.random() < 0.5 else rng.choice(kinds))
+                    answers.append(board.line(lines[-1]))
+                    if answers[-1].startswith("refused"):
+                        lines += rng.choice([[], ["delete", "new"]])
+                        break
+                jobs.append({"job": job, "lines": lines})
+                wanted.append([answers, board.line("path"), board.pgn().rstrip()])
+                continue
+            text = rng.choice([*games, *games, " ", "1. e5 *", "1. e4 (", board.pgn()])
+            try:
+                game = jatshegi.pgn.read_game(text.encode("latin-1"), encoding="iso-8859-1")
+                status = 0 if game else 16
+            except jatshegi.InvalidGameError as error:
+                game, status = None, 40 + error.fault
+            jobs.append({"job": job, "text": text})
+            if job == "load" and game:
+                board = jatshegi.Board.from_game(game)
+                board.encoding = "iso-8859-1"
+                wanted.append([status, board.line("path"), board.pgn().rstrip()])
+            elif job == "games":
+                wanted.append([1 if status != 16 else 0, int(status not in (0, 16))])
+            else:
+                wanted.append([status, str(game).rstrip() if game else ""] if job == "export" else [status])
+        found = self.browser.execute_async_script("""
+            const [jobs, module, done] = arguments;
+            const worker = new Worker('./worker.js', { type: 'module' });
+            const ask = (job) => new Promise((ready) => { worker.onmessage = ({ data }) => ready(data); worker.postMessage({ id: 1, ...job }); });
+            const bytes = (text) => Uint8Array.from(text, (c) => c.charCodeAt(0));
+            (async () => {
+              await ask({ job: 'start', module });
+              const found = [];
+              for (const { text, ...job } of jobs) {
+                const { result, error } = await ask(text === undefined ? job : { ...job, bytes: bytes(text) });
+                if (error) found.push(error);
+                else if (job.job === 'lines') found.push([result.answers, result.state.path, result.state.pgn.trimEnd()]);
+                else if (job.job === 'games') found.push([result.number, result.found.filter((it) => it.fault).length]);
+                else if (job.job === 'load' && result.state) found.push([result.status, result.state.path, result.state.pgn.trimEnd()]);
+                else found.push(job.job === 'export' ? [result.status, result.text.trimEnd()] : [result.status]);
+              }
+              worker.terminate();
+              done(found);
+            })();
+        """, jobs, f"http://127.0.0.1:{server.server_port}/jatshegi.wasm")
+        for number, (job, it, want) in enumerate(zip(jobs, found, wanted)):
+            self.assertEqual(it, want, (number, job))
+        self.assertEqual(len(found), len(wanted))
 
     def test_memory_that_is_too_small_is_an_error(self):
         found = self.browser.execute_async_script("""

@@ -74,11 +74,12 @@ export class Board {
     if (had) this.squares[this.at].focus();
   }
 
-  /** Shows a position: its FEN, legal moves in long algebraic notation, attack counts or null, squares of men that check. */
+  /** Shows a position: its FEN, legal moves in long algebraic notation, attack counts or null, squares of men that check. A square stays chosen in the same one. */
   show({ fen, moves, heat, checks }) {
     this.shown = { men: placed(fen), moves, heat, checks };
     this.side = fen.split(' ')[1];
-    this.chosen = '';
+    if (fen !== this.fen) this.chosen = '';
+    this.fen = fen;
     this.draw();
   }
 

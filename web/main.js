@@ -21,7 +21,7 @@ const CLAIMS = { threefold: 'a draw by threefold repetition (Article 9.2.2)', fi
 const REFUSED = {
   Form: 'That isn\u2019t written as a move.', Illegal: 'That move isn\u2019t legal here.', Ambiguous: 'More than one man can make that move: say which.',
   TooLong: 'The line has 20,000 moves.', Full: 'The tree has a million moves.', NoSuch: 'There is no such move.', AtRoot: 'There is no move here to change.',
-  BadComment: 'A comment can\u2019t have a closing brace.', Memory: 'There is no memory left.', Argument: 'That number is out of range.', LongLine: 'That is too long.',
+  BadComment: 'A comment can\u2019t have a closing brace: change it, or give it up by Escape.', Memory: 'There is no memory left.', Argument: 'That number is out of range.', LongLine: 'That is too long.',
   Fields: 'A FEN has four or six fields.', Placement: 'The FEN\u2019s men are wrong.', Kings: 'Each side has exactly one king.', PawnRank: 'A pawn can\u2019t stand on the first or last rank.',
   TooManyMen: 'A side has at most 16 men.', Side: 'The FEN\u2019s side to move is w or b.', Castling: 'The FEN\u2019s castling rights are wrong.', Target: 'The FEN\u2019s en passant square is wrong.',
   Counter: 'The FEN\u2019s counters are wrong.', InCheck: 'The side that isn\u2019t to move is in check.', TooLongToShow: 'The game is too long for this page.',
@@ -64,8 +64,23 @@ const startWorker = () => {
 const game = { state: null, tags: [], result: '*', last: '' };
 let view;
 
+// What the board is asked to do: one thing after another, each once the one before is drawn.
+let turn = Promise.resolve();
+const inTurn = (work) => {
+  const it = turn.then(work);
+  turn = it.catch(() => {});
+  return it;
+};
+
+// How much a person has done: what is read from a file meanwhile doesn't take its place.
+let acts = 0;
+
+// The comment that is being typed, with the path of its node: it is kept until it is set or given up.
+let draft = null;
+
 /** The text of the game as the module is to read it: its tags, and the moves as the board writes them. */
 const composed = () => {
+  if (game.state.pgn.startsWith('refused')) throw new Error(refusal(game.state.pgn));
   const { tags, movetext } = parts(`${game.state.pgn}\n`);
   const start = tags.filter(([name]) => name === 'FEN' || name === 'SetUp');
   const moves = movetext.replace(/(^|\s)\*$/, `$1${game.result}`);
@@ -73,21 +88,56 @@ const composed = () => {
 };
 
 /** The game in export form, as the module writes it. */
-const exported = async () => (await ask('export', { bytes: toBytes(composed()) })).text;
+const exported = async () => {
+  const { status, text, used } = await ask('export', { bytes: toBytes(composed()) });
+  if (status !== 0) throw new Error(`The game can\u2019t be written: ${status === 10 ? REFUSED.TooLongToShow : faultText(status, used)}`);
+  return text;
+};
 
 const refusal = (answer) => {
   const name = answer.split(' ')[2];
   return REFUSED[name] ?? answer;
 };
 
-/** Has the board answer lines, and draws what it then is. */
-const lines = async (...all) => {
+const to = (path) => (path === '-' ? 'start' : `goto ${path}`);
+const commentLine = ({ text }) => `comment ${typed(text)}`;
+
+// Has the board answer lines, up to one that is refused.
+const say = async (all) => {
   const { answers, state } = await ask('lines', { lines: all.map((it) => it.replace(/[\r\n]+/g, ' ')) });
+  return { answers, bad: answers.find((it) => it.startsWith('refused')), state };
+};
+
+// A comment that was typed while the board answered is one of the node that was shown then.
+const settle = async (all, { bad, state }) => {
+  if (!draft || draft.path === state.path) return { bad, state };
+  const late = draft;
+  if (all.includes('promote')) draft = { ...late, path: state.path };
+  else if (all.some((it) => it === 'delete' || it === 'new' || it.startsWith('set '))) draft = null;
+  else {
+    const more = await say([to(late.path), commentLine(late), to(state.path)]);
+    if (draft === late && !more.bad) draft = null;
+    return { bad: bad ?? more.bad, state: more.state };
+  }
+  return { bad, state };
+};
+
+// The comment that is being typed is set first: where it is refused, it stays in its box, and nothing else is done.
+const answered = async (all) => {
+  const kept = draft;
+  const found = await say(kept ? [commentLine(kept), ...all] : all);
+  if (draft === kept && !found.answers[0]?.startsWith('refused')) draft = null;
+  const { bad, state } = await settle(all, found);
   game.state = state;
-  const bad = answers.find((it) => it.startsWith('refused'));
   told(bad ? refusal(bad) : '');
   draw();
   return !bad;
+};
+
+/** Has the board answer lines, and draws what it then is. Returns whether all were answered. */
+const lines = (...all) => {
+  acts++;
+  return inTurn(() => answered(all));
 };
 
 const pathOf = (text) => (text === '-' ? [] : text.split('.').map(Number));
@@ -138,7 +188,7 @@ const remark = (text) => {
 let listed = [];
 
 const drawMoves = () => {
-  listed = rows(parts(`${game.state.pgn}\n`).movetext);
+  listed = game.state.pgn.startsWith('refused') ? [] : rows(parts(`${game.state.pgn}\n`).movetext);
   const here = pathOf(game.state.path).join('.');
   const top = document.createElement('div');
   const open = [top];
@@ -172,8 +222,15 @@ const drawMoves = () => {
     if (place < box.scrollTop || place > box.scrollTop + box.clientHeight - 30) box.scrollTop = place - box.clientHeight / 2;
   } else by('moves').scrollTop = 0;
   const row = listed.find((it) => it.path && it.path.join('.') === here);
-  by('comment').value = row ? shown(row.comment) : '';
+  game.said = row ? shown(row.comment) : '';
+  showComment();
   for (const id of ['promote', 'delete', 'back', 'start']) by(id).disabled = here === '';
+};
+
+// The comment of the node at the cursor, or what is typed in its place.
+const showComment = () => {
+  const text = draft?.text ?? game.said;
+  if (by('comment').value !== text) by('comment').value = text;
 };
 
 const drawTags = () => {
@@ -193,6 +250,7 @@ const drawTags = () => {
       const at = game.tags.findIndex(([it]) => it === name);
       if (at >= 0) game.tags.splice(at, 1);
       if (value) game.tags.push([name, value]);
+      acts++;
       keepLink();
     };
     field(name, input);
@@ -201,6 +259,7 @@ const drawTags = () => {
   for (const it of ['*', '1-0', '0-1', '1/2-1/2']) select.add(new Option(it, it, false, it === game.result));
   select.onchange = () => {
     game.result = select.value;
+    acts++;
     keepLink();
   };
   field('Result', select);
@@ -225,11 +284,20 @@ const draw = () => {
     positionChanged();
   }
   keepLink();
+  reply();
 };
 
 // ---- The engine's worker. One that doesn't stop at once is put away, and another one begun.
 
-const engine = { worker: null, ready: false, searching: false, after: null, side: 'w', wanted: null };
+const engine = { worker: null, ready: false, searching: false, side: 'w', wanted: null, reply: null };
+
+// Makes the engine's move, once no comment is being typed.
+const reply = () => {
+  if (draft || !engine.reply) return;
+  const { m, fen } = engine.reply;
+  engine.reply = null;
+  if (by('plays').value === fen.split(' ')[1] && game.state.fen === fen) lines(`play ${m}`);
+};
 
 const startEngine = () => {
   engine.worker?.terminate();
@@ -316,7 +384,10 @@ const positionChanged = () => {
   const { fen, status } = game.state;
   const isOver = status === 'mate' || status === 'stalemate';
   if (by('plays').value === fen.split(' ')[1] && !isOver) {
-    search(depthNow(), (m) => by('plays').value === fen.split(' ')[1] && game.state.fen === fen && lines(`play ${m}`));
+    search(depthNow(), (m) => {
+      engine.reply = { m, fen };
+      reply();
+    });
   } else if (analyses() && !isOver) search(depthNow(), null);
   else {
     engine.wanted = null;
@@ -339,8 +410,12 @@ const linkNow = async () => {
 const keepLink = () => {
   clearTimeout(linking);
   linking = setTimeout(async () => {
-    const link = await linkNow();
-    if (link.length <= LONGEST) history.replaceState(null, '', link);
+    try {
+      const link = await linkNow();
+      if (link.length <= LONGEST) history.replaceState(null, '', link);
+    } catch {
+      // The game can't be written; what is asked for by a button says why.
+    }
   }, 150);
 };
 const fromLink = async () => {
@@ -362,7 +437,9 @@ const fromLink = async () => {
 
 const faultText = (status, place) => (status === 2 ? 'There is no memory for it.' : `${FAULTS[status - 40] ?? 'a fault'}, at byte ${place}`);
 
-const load = async (bytes, path = '-') => {
+// The text's first game comes in the place of the one that is there, where it is still wanted once its turn comes.
+const load = (bytes, path = '-', isWanted = () => true) => inTurn(async () => {
+  if (!isWanted() || (draft && !await answered([]))) return false;
   const found = await ask('load', { bytes, path });
   if (found.status !== 0) {
     told(found.status === 16 ? 'There is no game in it.' : `No game: ${faultText(found.status, found.used)}.`);
@@ -373,11 +450,12 @@ const load = async (bytes, path = '-') => {
   game.result = marker(movetext);
   game.state = found.state;
   game.last = '';
-  told(found.refused ? refusal(found.refused) : '');
+  draft = null;
+  told('');
   drawTags();
   draw();
   return true;
-};
+});
 
 let collection = { bytes: null, found: [], bad: 0, wrong: 0 };
 
@@ -396,7 +474,10 @@ const entry = (it) => {
   }
   const button = document.createElement('button');
   button.textContent = it.label;
-  button.onclick = () => load(collection.bytes.slice(it.at, it.at + it.used));
+  button.onclick = () => {
+    acts++;
+    load(collection.bytes.slice(it.at, it.at + it.used));
+  };
   if (it.finding) row.className = 'finding';
   row.append(button);
   return row;
@@ -404,25 +485,37 @@ const entry = (it) => {
 
 const MOST_SHOWN = 500;
 
+// What is listed stays where it is while the list grows, so that it can be clicked.
+let listing = { of: null, words: '' };
 const showCollection = () => {
   const words = by('find').value.toLowerCase();
+  if (listing.of !== collection || listing.words !== words) by('games').replaceChildren();
+  listing = { of: collection, words };
   const { found, bad, wrong } = collection;
   const matches = found.filter((it) => it.label.toLowerCase().includes(words));
-  by('games').replaceChildren(...matches.slice(0, MOST_SHOWN).map(entry));
+  by('games').append(...matches.slice(by('games').children.length, MOST_SHOWN).map(entry));
   by('howmany').textContent = `${found.length - bad} games${bad ? `, and ${bad} that can\u2019t be read` : ''}${wrong ? `; ${wrong} with a finding` : ''}${matches.length > MOST_SHOWN ? `; the first ${MOST_SHOWN} are shown` : ''}`;
 };
 
 const isFen = (text) => /^\s*[pnbrqkPNBRQK1-8]+(\/[pnbrqkPNBRQK1-8]+){7}\s+[wb]\s/.test(text) && text.trim().split('\n').length === 1;
 
-/** Reads a text: a FEN, a game, or a file of many. */
-const read = async (bytes) => {
+/** Reads a text that was given when so much was done: a FEN, a game, or a file of many. */
+const read = async (bytes, before = acts) => {
   if (bytes.length < 200 && isFen(fromBytes(bytes))) {
     await begin(`set ${fromBytes(bytes).trim()}`);
     return;
   }
-  const mine = { bytes, found: [], bad: 0, wrong: 0 };
+  const mine = { bytes, found: [], bad: 0, wrong: 0, first: null, isLoaded: null };
   collection = mine;
   by('collection').hidden = true;
+  // The first game is loaded as soon as it is read, unless something was done since.
+  const take = async (it) => {
+    mine.isLoaded = await load(bytes.slice(it.at, it.at + it.used), '-', () => acts === before && collection === mine);
+  };
+  const show = () => {
+    by('collection').hidden = mine.found.length < 2 && !mine.bad && mine.isLoaded !== false;
+    showCollection();
+  };
   const add = (found) => {
     if (collection !== mine) return;
     for (const it of found) {
@@ -430,14 +523,17 @@ const read = async (bytes) => {
       if (it.fault !== undefined) mine.bad++;
       if (it.finding) mine.wrong++;
     }
-    by('collection').hidden = mine.found.length < 2 && !mine.bad;
-    showCollection();
+    const first = found.find((it) => it.fault === undefined);
+    if (first) mine.first ??= take(first);
+    show();
   };
   add((await ask('games', { bytes }, add)).found);
+  await mine.first;
   if (collection !== mine) return;
-  const first = collection.found.find((it) => it.fault === undefined);
-  if (first) await load(bytes.slice(first.at, first.at + first.used));
-  else if (collection.found.length) told(`No game can be read: ${FAULTS[Math.max(0, collection.found[0].fault)]}, at byte ${collection.found[0].place}.`);
+  show();
+  if (mine.first) {
+    if (!mine.isLoaded && acts !== before) told('The games of the file are in the list; the board is as you left it.');
+  } else if (collection.found.length) told(`No game can be read: ${FAULTS[Math.max(0, collection.found[0].fault)]}, at byte ${collection.found[0].place}.`);
   else told('There is no game in it.');
 };
 
@@ -499,10 +595,26 @@ const commands = () => {
     by('nag').value = '';
     if (mark) lines(`nag ${mark}`);
   };
+  by('comment').oninput = () => {
+    acts++;
+    const text = by('comment').value;
+    draft = text === game.said ? null : { path: game.state.path, text };
+    reply();
+  };
+  by('comment').onchange = () => draft && lines();
+  by('comment').onkeydown = (event) => {
+    if (event.key !== 'Escape') return;
+    draft = null;
+    told('');
+    showComment();
+    reply();
+  };
   by('commentform').onsubmit = (event) => {
     event.preventDefault();
-    lines(`comment ${typed(by('comment').value)}`);
+    if (draft) lines();
   };
+  for (const id of ['san', 'fen']) by(id).addEventListener('input', () => acts++);
+  for (const kind of ['pointerdown', 'keydown']) by('board').addEventListener(kind, () => acts++);
   by('fenform').onsubmit = (event) => {
     event.preventDefault();
     begin(`set ${typed(by('fen').value)}`);
@@ -511,7 +623,8 @@ const commands = () => {
   by('open').onclick = () => by('file').click();
   by('file').onchange = async () => {
     const file = by('file').files[0];
-    if (file) await read(new Uint8Array(await file.arrayBuffer()));
+    const before = acts;
+    if (file) await read(new Uint8Array(await file.arrayBuffer()), before);
     by('file').value = '';
   };
   by('read').onclick = () => read(new TextEncoder().encode(by('pgn').value));
@@ -525,20 +638,30 @@ const commands = () => {
       told(`${what} is in the box below.`);
     }
   };
-  by('copy').onclick = async () => copy(shown(await exported()), 'The game');
+  // What goes out has the comment that is being typed, and an error is told.
+  const out = (give) => async () => {
+    try {
+      if (draft && !await lines()) return;
+      await turn;
+      await give();
+    } catch (error) {
+      told(error.message);
+    }
+  };
+  by('copy').onclick = out(async () => copy(shown(await exported()), 'The game'));
   by('copyfen').onclick = () => copy(game.state.fen, 'The FEN');
-  by('link').onclick = async () => {
+  by('link').onclick = out(async () => {
     const link = await linkNow();
     document.documentElement.dataset.given = link;
     await copy(location.href.replace(/#.*/, '') + link, 'The link');
-  };
-  by('save').onclick = async () => {
+  });
+  by('save').onclick = out(async () => {
     const it = document.createElement('a');
     it.href = URL.createObjectURL(new Blob([toBytes(await exported())], { type: 'application/x-chess-pgn' }));
     it.download = 'game.pgn';
     it.click();
     URL.revokeObjectURL(it.href);
-  };
+  });
   by('analyse').onclick = () => {
     by('analyse').setAttribute('aria-pressed', String(!analyses()));
     positionChanged();
@@ -571,7 +694,8 @@ const drops = () => {
     event.preventDefault();
     place.classList.remove('drop');
     const file = event.dataTransfer.files[0];
-    if (file) read(new Uint8Array(await file.arrayBuffer()));
+    const before = acts;
+    if (file) read(new Uint8Array(await file.arrayBuffer()), before);
     else if (event.dataTransfer.getData('text')) read(new TextEncoder().encode(event.dataTransfer.getData('text')));
   });
   addEventListener('paste', (event) => {

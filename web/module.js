@@ -134,6 +134,15 @@ class Session {
     return { status, text: status === OK ? this.taken() : '', used: this.number(USED) };
   }
 
+  /**
+   * The game at that place of the text becomes the board's tree, with its variations, comments and annotations, the cursor at its root: `{status, used}`, as `game`
+   * answers it; but for OK the board is as it was.
+   */
+  load(from) {
+    const status = this.exports.jatshegi_board_load(this.at(SLOT), ...this.rest(from), this.at(USED));
+    return { status, used: this.number(USED) };
+  }
+
   /** How many bytes to pass over from that place to what follows the game there; 0 where there is no memory. */
   pass(from) {
     const status = this.exports.jatshegi_pass(this.at(SLOT), ...this.rest(from), this.at(USED));

@@ -1,6 +1,6 @@
 // Keeps the board in a worker: answers lines, and reads the games of a text.
 import { open, OK, NONE } from './module.js';
-import { carry, parts, rows } from './pgn.js';
+import { parts, rows } from './pgn.js';
 
 let session;
 
@@ -72,13 +72,14 @@ const jobs = {
     return readOne(bytes);
   },
 
-  // The text's first game becomes the board's tree.
+  // The text's first game becomes the board's tree, at the node with that path, or at its root.
   load({ bytes, path }) {
     const game = readOne(bytes);
     if (game.status !== OK) return game;
-    const refused = carry(game.text, line);
-    line(path && path !== '-' ? `goto ${path}` : 'start');
-    return { ...game, refused: refused === 'ok\n' ? '' : refused.trim(), state: state() };
+    const loaded = session.load(0);
+    if (loaded.status !== OK) return loaded;
+    if (path && path !== '-') line(`goto ${path}`);
+    return { ...game, state: state() };
   },
 
   // The games of a text, or the faults of those that can't be read, some at a time.

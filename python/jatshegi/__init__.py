@@ -13,7 +13,16 @@ A `Board` answers what the Laws of Chess say of its position and of the moves th
 from . import pgn
 from ._board import Board, Outcome, Status
 from ._engine import Engine
-from ._errors import AmbiguousMoveError, IllegalMoveError, InvalidFenError, InvalidGameError, InvalidMoveError, LimitError
+from ._errors import (
+    AmbiguousMoveError,
+    EmptyBoardError,
+    Error,
+    IllegalMoveError,
+    InvalidFenError,
+    InvalidGameError,
+    InvalidMoveError,
+    LimitError,
+)
 from ._moves import (
     BISHOP,
     BLACK,
@@ -50,7 +59,9 @@ __all__ = [
     "WHITE",
     "AmbiguousMoveError",
     "Board",
+    "EmptyBoardError",
     "Engine",
+    "Error",
     "IllegalMoveError",
     "InvalidFenError",
     "InvalidGameError",

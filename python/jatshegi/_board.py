@@ -1,13 +1,15 @@
 """The board, and how a game ends."""
 from __future__ import annotations
 
+import codecs
 import ctypes
 import enum
-from ctypes import byref, c_int32, c_size_t, c_uint8, c_uint32, c_uint64, string_at
-from typing import TYPE_CHECKING, Dict, Iterator, List, NamedTuple, Optional, Tuple
+import threading
+from ctypes import byref, c_char, c_int32, c_size_t, c_uint8, c_uint32, c_uint64
+from typing import TYPE_CHECKING, Any, Callable, Dict, Iterator, List, NamedTuple, Optional, Tuple, Type, TypeVar
 
 from . import _library as c
-from ._errors import AmbiguousMoveError, IllegalMoveError, InvalidFenError, InvalidMoveError, LimitError
+from ._errors import AmbiguousMoveError, EmptyBoardError, Error, IllegalMoveError, InvalidFenError, InvalidMoveError, LimitError
 from ._moves import BLACK, SQUARE_NAMES, STARTING_FEN, WHITE, Move
 
 if TYPE_CHECKING:
@@ -68,9 +70,11 @@ class _Shown(Dict[bytes, Move]):
 
 
 class _Numbers(Dict[Move, c.CMove]):
-    """The three numbers of a move; each is made once."""
+    """The three numbers of a move; each is made once. Only a `Move` has them: its parts are whole numbers."""
 
     def __missing__(self, move: Move) -> c.CMove:
+        if not isinstance(move, Move):
+            raise TypeError(f"a move is a Move, as Move.from_uci('e2e4'); a text is made by push_uci or push_san: {move!r}")
         origin, target, promotion = move
         became = 0 if promotion is None else promotion - 1
         if not (0 <= origin < 64 and 0 <= target < 64 and (promotion is None or 1 <= became <= 4)):
@@ -83,6 +87,37 @@ _SHOWN = _Shown()
 _NUMBERS = _Numbers()
 
 
+def _numbers(move: Move) -> c.CMove:
+    """The three numbers of a move. Raises `TypeError` for what is none, also where it equals one, and `IllegalMoveError` for one of no board."""
+    return _NUMBERS[move] if isinstance(move, Move) else _NUMBERS.__missing__(move)
+
+
+# Room for texts, and for the squares of a board.
+_FenRoom, _SanRoom, _AnswerRoom, _Squares = c_char * c.MOST_FEN, c_char * c.MOST_SAN, c_char * c.MOST_ANSWER, c_uint8 * 64
+
+
+def _known(encoding: str) -> str:
+    """The encoding, in which ASCII is ASCII. Raises `LookupError` for a name of none, and `ValueError` for another one."""
+    codecs.lookup(encoding)
+    plain = bytes(range(128))
+    if plain.decode("ascii").encode(encoding, "replace") != plain:
+        raise ValueError(f"games are read in an encoding that has ASCII as it is, as utf-8 or iso-8859-1: {encoding!r}")
+    return encoding
+
+
+# The lines that leave the cursor and the moves before it as they are, that take it one step from the root, and one step to it.
+_STAYING = frozenset("fen moves status claims claim count checks counts eval best path pgn comment nag".split())
+_SINKING, _RISING = frozenset(("play", "step")), frozenset(("back", "delete"))
+
+_children, _play, _read = c.lib.jatshegi_board_children, c.lib.jatshegi_board_play, c.lib.jatshegi_board_read
+_move, _back, _delete = c.lib.jatshegi_board_move, c.lib.jatshegi_board_back, c.lib.jatshegi_board_delete
+_comment_of, _annotations_of = c.lib.jatshegi_board_comment_of, c.lib.jatshegi_board_annotations_of
+# No room for what is said of a node, where only whether anything is said is asked.
+_NOTHING = (c_char * 1)()
+
+_Board = TypeVar("_Board", bound="Board")
+
+
 class Board:
     """A board: a position, and the moves that led to it from the one in which the game began.
 
@@ -90,29 +125,41 @@ class Board:
     >>> [move.uci() for move in board.legal_moves]
     ['a5a4', 'a5b5', 'a5a6', 'a5b6', 'd5d6']
 
-    A board is used by the thread that made it.
+    A board is a tree of moves with a cursor: `push` steps to the move's node, which it makes where there is none, and `pop` takes back what `push` did. Any
+    thread may use a board; where another one is in a call of it, a call waits.
     """
 
-    def __init__(self, fen: Optional[str] = None) -> None:
-        """A board with that position, or as a game begins. Raises `InvalidFenError`."""
+    _slot: c.Slot
+    _at: Any
+    _lock: threading.RLock
+
+    def __new__(cls: Type[_Board], *words: Any, **named: Any) -> _Board:
+        self = super().__new__(cls)
         self._slot = c.Slot()
         self._at = byref(self._slot)
-        self._room = ctypes.create_string_buffer(c.MOST_ANSWER)
-        self._moves = (c.CMove * 1)()
-        self._count = c_size_t()
-        self._counted = byref(self._count)
-        self._searches = 0
-        # The moves to the cursor; None for one that a line of the board led to.
-        self._stack: List[Optional[Move]] = []
-        if c.lib.jatshegi_board_new(c.KEYS, self._at):
-            raise MemoryError("no memory for a board")
-        if fen is not None:
-            self.set_fen(fen)
+        self._lock = threading.RLock()
+        return self
+
+    def __init__(self, fen: Optional[str] = None, *, encoding: str = "utf-8") -> None:
+        """A board with that position, or as a game begins. Raises `InvalidFenError`. The encoding is that of the texts of `line` and `pgn()`, whose bytes
+        the board keeps; a byte that it doesn't have is a lone surrogate, as `errors="surrogateescape"` reads and writes it."""
+        #: The encoding of the board's texts.
+        self.encoding = _known(encoding)
+        with self._lock:
+            if c.lib.jatshegi_board_new(c.KEYS, self._at):
+                raise MemoryError("no memory for a board")
+            self._searches = 0
+            # Of the last steps to the cursor, for each whether `push` made its node. Shorter than the way to the cursor where lines led there. While a step is
+            # made or taken back it is False, so that a call that an exception stops (as by Ctrl-C) leaves no node that is taken for one of push's.
+            self._made: List[bool] = []
+            if fen is not None:
+                self.set_fen(fen)
 
     @classmethod
-    def from_game(cls, game: Game) -> Board:
+    def from_game(cls: Type[_Board], game: Game) -> _Board:
         """A board with all of a game of `jatshegi.pgn`, its variations, comments and annotations, at the position in which it begins. A move that is made
-        goes along with the game where it has that move, and is a new variation where it hasn't; `pgn()` has them all.
+        goes along with the game where it has that move, and is a new variation where it hasn't; `pgn()` has them all. The tags and the marker stay with
+        the game. Raises `InvalidGameError` for a game that is none.
 
         >>> board = Board.from_game(jatshegi.pgn.read_game("1. e4 e5 (1... c5 {Sicilian}) 2. Nf3 *"))
         >>> for san in ("e4", "c5", "Nf3"):
@@ -120,11 +167,58 @@ class Board:
         >>> print(board.pgn().splitlines()[-2])
         1. e4 e5 (1... c5 {Sicilian} 2. Nf3) 2. Nf3 *
         """
+        from .pgn import Game
+
+        if not isinstance(game, Game):
+            raise TypeError(f"a game is one of jatshegi.pgn, as read_game('1. e4 *'): {game!r}")
         board = cls()
-        text = str(game).encode("utf-8", "surrogateescape")
-        if c.lib.jatshegi_board_load(board._at, text, len(text), board._counted):
-            raise MemoryError("no memory for a game")
+        board.encoding = game.encoding
+        board._load(bytes(game))
         return board
+
+    # Begins with the tree of the game at the start of the text.
+    def _load(self, text: bytes) -> None:
+        from .pgn import _fault
+
+        used = c_size_t()
+        with self._lock:
+            self._made.clear()
+            status = c.lib.jatshegi_board_load(self._at, text, len(text), byref(used))
+        if status == c.NO_GAME or status > c.PGN:
+            raise _fault(status, used.value)
+        if status:
+            raise self._fail(status, "a game")
+
+    def copy(self: _Board) -> _Board:
+        """Another board with the same game, at the same node, as `copy.copy`, `copy.deepcopy` and `pickle` make it. Raises `LimitError` where the game's text is
+        longer than 1,048,576 bytes.
+
+        >>> board = Board()
+        >>> board.push_san("e4")
+        Move.from_uci('e2e4')
+        >>> other = board.copy()
+        >>> board.pop() == other.pop()
+        True
+        """
+        restore, words, state = self._parts()
+        other: _Board = restore(*words)
+        other.__dict__.update(state)
+        return other
+
+    # What makes the board anew: a function, its words, and what else a class of the caller's own keeps.
+    def _parts(self) -> Tuple[Callable[..., Any], Tuple[Any, ...], Dict[str, Any]]:
+        with self._lock:
+            words = type(self), self.encoding, self._bytes(b"pgn"), self._bytes(b"path"), tuple(self._made)
+            return _restored, words, {name: it for name, it in self.__dict__.items() if name not in _FIELDS}
+
+    def __copy__(self: _Board) -> _Board:
+        return self.copy()
+
+    def __reduce__(self) -> Tuple[Callable[..., Any], Tuple[Any, ...], Dict[str, Any]]:
+        restore, words, state = parts = self._parts()
+        # A board that can't be made anew isn't written.
+        restore(*words)
+        return parts
 
     def __del__(self) -> None:
         if c is not None and hasattr(self, "_at"):
@@ -132,6 +226,8 @@ class Board:
 
     # What a status other than OK raises.
     def _fail(self, status: int, what: object) -> Exception:
+        if status == c.EMPTY:
+            return EmptyBoardError("there is no board: its memory was given back, or it was never begun")
         if status == c.NO_MEMORY:
             return MemoryError("no memory")
         if status == c.ILLEGAL:
@@ -146,7 +242,23 @@ class Board:
             return LimitError("the game holds 1,000,000 moves")
         if status == c.AT_ROOT:
             return IndexError("no move has been made")
-        return ValueError(f"{what!r}: status {status}")
+        return Error(f"{what!r}: status {status}")
+
+    # Calls a function of the library on the board. A status other than OK is an error.
+    def _call(self, function: Callable[..., int], what: object, *words: object) -> None:
+        with self._lock:
+            status = function(self._at, *words)
+        if status:
+            raise self._fail(status, what)
+
+    # The number that a function of the library answers.
+    def _number(self, function: Callable[..., int], what: object, *words: object) -> int:
+        number = c_uint32()
+        with self._lock:
+            status = function(self._at, *words, byref(number))
+        if status:
+            raise self._fail(status, what)
+        return number.value
 
     # ---- the position
 
@@ -156,18 +268,23 @@ class Board:
 
     def set_fen(self, fen: str) -> None:
         """Begins a new game from that position, as `Board(fen)`. Raises `InvalidFenError`, and the game is then as it was."""
-        text = fen.encode(errors="replace")
-        status = c.lib.jatshegi_board_set(self._at, text, len(text))
-        if status > c.FEN:
-            raise InvalidFenError(fen, status - c.FEN, _FAULTS[status - c.FEN - 1])
-        if status:
-            raise self._fail(status, fen)
-        self._stack.clear()
+        text = fen.encode(errors="surrogatepass")
+        with self._lock:
+            status = c.lib.jatshegi_board_set(self._at, text, len(text))
+            if status > c.FEN:
+                raise InvalidFenError(fen, status - c.FEN, _FAULTS[status - c.FEN - 1])
+            if status:
+                raise self._fail(status, fen)
+            self._made.clear()
 
     def fen(self) -> str:
         """The position's FEN, with all six fields (PGN 16.1)."""
-        c.lib.jatshegi_board_fen(self._at, self._room, c.MOST_FEN, self._counted)
-        return string_at(self._room, self._count.value).decode()
+        text, count = _FenRoom(), c_size_t()
+        with self._lock:
+            status = c.lib.jatshegi_board_fen(self._at, text, c.MOST_FEN, byref(count))
+        if status:
+            raise self._fail(status, "fen")
+        return text.raw[: count.value].decode()
 
     @property
     def turn(self) -> bool:
@@ -177,13 +294,13 @@ class Board:
     # The position's six fields.
     def _fields(self) -> c.CPosition:
         position = c.CPosition()
-        c.lib.jatshegi_board_position(self._at, byref(position))
+        self._call(c.lib.jatshegi_board_position, "position", byref(position))
         return position
 
     @property
     def ply(self) -> int:
         """How many moves led to the position."""
-        return len(self._stack)
+        return self._number(c.lib.jatshegi_board_depth, "ply")
 
     def piece_map(self) -> Dict[int, str]:
         """The men by their squares, as FEN writes them: 'K' for White's king, 'p' for a pawn of Black's."""
@@ -222,36 +339,55 @@ class Board:
     @property
     def legal_moves(self) -> List[Move]:
         """The legal moves (FIDE Laws 3.1 to 3.10), by the square that they begin on, then by the one that they end on."""
-        moves, status = self._moves, c.NO_ROOM
-        while status == c.NO_ROOM:
-            moves = self._moves
-            status = c.lib.jatshegi_board_moves(self._at, moves, len(moves), self._counted)
+        moves, count = (c.CMove * 64)(), c_size_t()
+        with self._lock:
+            status = c.lib.jatshegi_board_moves(self._at, moves, 64, byref(count))
             if status == c.NO_ROOM:
-                self._moves = (c.CMove * max(64, self._count.value))()
+                moves = (c.CMove * count.value)()
+                status = c.lib.jatshegi_board_moves(self._at, moves, len(moves), byref(count))
+        if status:
+            raise self._fail(status, "legal_moves")
         shown = bytes(moves)
-        return [_SHOWN[shown[i : i + 3]] for i in range(0, 3 * self._count.value, 3)]
+        return [_SHOWN[shown[i : i + 3]] for i in range(0, 3 * count.value, 3)]
 
     def is_legal(self, move: Move) -> bool:
         """Whether the move is legal."""
         try:
-            numbers = _NUMBERS[move]
+            self.san(move)
         except IllegalMoveError:
             return False
-        return bool(c.lib.jatshegi_board_write(self._at, numbers, self._room, c.MOST_SAN, self._counted) == c.OK)
+        return True
 
     def push(self, move: Move) -> None:
-        """Makes the move. Raises `IllegalMoveError`, or `LimitError` after 20,000 plies."""
-        status = c.lib.jatshegi_board_play(self._at, _NUMBERS[move])
+        """Makes the move: steps to its node, which is made where there is none. Raises `IllegalMoveError`, or `LimitError` after 20,000 plies."""
+        numbers, before = _numbers(move), c_uint32()
+        with self._lock:
+            self._made.append(False)
+            status = _children(self._at, byref(before)) or _play(self._at, numbers)
+            if status:
+                self._made.pop()
+                raise self._fail(status, move)
+            self._made[-1] = not before.value or self._is_more(before.value, numbers)
+
+    # Whether the parent of the cursor has more children than so many, once the move was made: then its node is the last of them.
+    def _is_more(self, before: int, numbers: c.CMove) -> bool:
+        self._call(_back, "push")
+        if self._number(_children, "push") > before:
+            self._call(c.lib.jatshegi_board_step, "push", before)
+            return True
+        status = _play(self._at, numbers)
         if status:
-            raise self._fail(status, move)
-        self._stack.append(move)
+            self._made.pop()
+            raise self._fail(status, "push")
+        return False
 
     def push_san(self, san: str) -> Move:
         """Makes the move that the text names in standard algebraic notation, and returns it. Raises `InvalidMoveError`, `IllegalMoveError`
         or `AmbiguousMoveError`."""
-        move = self.parse_san(san)
-        self.push(move)
-        return move
+        with self._lock:
+            move = self.parse_san(san)
+            self.push(move)
+            return move
 
     def push_uci(self, uci: str) -> Move:
         """Makes the move of a text from square to square, as 'e2e4' or 'e7e8q', and returns it. Raises `InvalidMoveError` or
@@ -261,31 +397,73 @@ class Board:
         return move
 
     def pop(self) -> Move:
-        """Takes the last move out of the game, with all that follows it, and returns it. Raises `IndexError` where there is none."""
-        after = self.fen() if self._stack and self._stack[-1] is None else ""
-        status = c.lib.jatshegi_board_delete(self._at)
+        """Takes back the last move, and returns it: steps to the parent. The node is taken out of the game where `push` made it, nothing hangs on it, no move,
+        comment or annotation, and no line led away from it since; else it stays, as with `back`. Raises `IndexError` where no move has been made.
+
+        >>> board = Board.from_game(jatshegi.pgn.read_game("1. e4 e5 *"))
+        >>> for move in board.legal_moves:
+        ...     board.push(move)
+        ...     move = board.pop()
+        >>> print(board.pgn().splitlines()[-2])
+        1. e4 e5 *
+        """
+        with self._lock:
+            move = self._last()
+            status = _delete(self._at) if self._leave() and self._is_bare() else _back(self._at)
+            if status:
+                raise self._fail(status, "pop")
+            del self._made[-1:]
+            return move
+
+    def back(self) -> Move:
+        """Steps to the parent, and returns the move that led from there; the node stays in the game. Raises `IndexError` where no move has been made.
+
+        >>> board = Board()
+        >>> board.push_san("e4") == board.back()
+        True
+        >>> print(board.pgn().splitlines()[-2])
+        1. e4 *
+        """
+        with self._lock:
+            move = self._last()
+            self._leave()
+            self._call(_back, "back")
+            del self._made[-1:]
+            return move
+
+    # The move that leads to the cursor.
+    def _last(self) -> Move:
+        move = c.CMove()
+        status = _move(self._at, byref(move))
         if status:
             raise self._fail(status, "pop")
-        return self._stack.pop() or self._that_led_to(after)
+        return _SHOWN[bytes(move)]
 
-    # The move here that leads to that position.
-    def _that_led_to(self, after: str) -> Move:
-        for move in self.legal_moves:
-            self.push(move)
-            found = self.fen() == after
-            c.lib.jatshegi_board_delete(self._at)
-            self._stack.pop()
-            if found:
-                return move
-        raise AssertionError(f"no move leads to {after}")
+    # Whether `push` made the node at the cursor, which is left: that is then forgotten.
+    def _leave(self) -> bool:
+        made = bool(self._made) and self._made[-1]
+        if made:
+            self._made[-1] = False
+        return made
+
+    # Whether nothing hangs on the node at the cursor: no move, comment or annotation.
+    def _is_bare(self) -> bool:
+        children, count = c_uint32(), c_size_t()
+        status = _children(self._at, byref(children))
+        if not (status or children.value):
+            status = _comment_of(self._at, _NOTHING, 0, byref(count)) or _annotations_of(self._at, _NOTHING, 0, byref(count))
+        if status not in (c.OK, c.NO_ROOM):
+            raise self._fail(status, "pop")
+        return not (status or children.value)
 
     def parse_san(self, san: str) -> Move:
         """The legal move that the text names in standard algebraic notation (PGN 8.2.3). Raises as `push_san`."""
-        text = san.encode(errors="replace")
-        status = c.lib.jatshegi_board_read(self._at, text, len(text), self._moves)
+        text, move = san.encode("utf-8", "surrogatepass"), c.CMove()
+        with self._lock:
+            status = _read(self._at, text, len(text), byref(move))
         if status:
             raise self._fail(status, san)
-        return _SHOWN[bytes(self._moves)[:3]]
+        return _SHOWN[bytes(move)]
 
     def san(self, move: Move) -> str:
         """The move's text in standard algebraic notation (PGN 8.2.3). Raises `IllegalMoveError`.
@@ -293,10 +471,9 @@ class Board:
         >>> Board("k7/7P/8/8/8/8/8/K7 w - -").san(Move.from_uci("h7h8q"))
         'h8=Q+'
         """
-        status = c.lib.jatshegi_board_write(self._at, _NUMBERS[move], self._room, c.MOST_SAN, self._counted)
-        if status:
-            raise self._fail(status, move)
-        return string_at(self._room, self._count.value).decode()
+        text, count = _SanRoom(), c_size_t()
+        self._call(c.lib.jatshegi_board_write, move, _numbers(move), text, c.MOST_SAN, byref(count))
+        return text.raw[: count.value].decode()
 
     # ---- the Laws
 
@@ -306,16 +483,14 @@ class Board:
 
     def checkers(self) -> List[int]:
         """The squares of the men that check the side to move."""
-        found = (c_uint8 * 64)()
-        c.lib.jatshegi_board_checks(self._at, found)
+        found = _Squares()
+        self._call(c.lib.jatshegi_board_checks, "checkers", found)
         return [square for square, checks in enumerate(bytes(found)) if checks]
 
     @property
     def status(self) -> Status:
         """How the game stands (FIDE Laws 5.1.1, 5.2.1, 5.2.2, 9.6); `Status.PLAY` where it goes on."""
-        number = c_uint32()
-        c.lib.jatshegi_board_outcome(self._at, byref(number))
-        return Status(number.value)
+        return Status(self._number(c.lib.jatshegi_board_outcome, "status"))
 
     def outcome(self, *, claim_draw: bool = False) -> Optional[Outcome]:
         """How the game ended, or None where it goes on. With `claim_draw` it ends where the side to move may claim a draw, by the
@@ -324,34 +499,30 @@ class Board:
         >>> Board("7k/8/6Q1/8/8/8/8/K7 b - -").outcome()
         Outcome(termination=<Status.STALEMATE: 1>, winner=None)
         """
-        status = self.status
-        if status == Status.CHECKMATE:
-            return Outcome(status, not self.turn)
-        if status != Status.PLAY:
-            return Outcome(status, None)
-        if claim_draw:
-            threefold, fifty = self.claims()
-            if threefold or fifty:
-                return Outcome(Status.THREEFOLD_REPETITION if threefold else Status.FIFTY_MOVES, None)
-        return None
+        with self._lock:
+            status = self.status
+            if status == Status.CHECKMATE:
+                return Outcome(status, not self.turn)
+            if status != Status.PLAY:
+                return Outcome(status, None)
+            if claim_draw:
+                threefold, fifty = self.claims()
+                if threefold or fifty:
+                    return Outcome(Status.THREEFOLD_REPETITION if threefold else Status.FIFTY_MOVES, None)
+            return None
 
     def claims(self, move: Optional[Move] = None) -> Tuple[bool, bool]:
         """Whether a draw may be claimed by the same position for the third time, and by 50 moves; with a move, in the position after
         it (FIDE Laws 9.2, 9.3). Raises `IllegalMoveError`."""
-        number = c_uint32()
         if move is None:
-            status = c.lib.jatshegi_board_claims(self._at, byref(number))
+            number = self._number(c.lib.jatshegi_board_claims, "claims")
         else:
-            status = c.lib.jatshegi_board_claims_with(self._at, _NUMBERS[move], byref(number))
-        if status:
-            raise self._fail(status, move)
-        return bool(number.value & 1), bool(number.value & 2)
+            number = self._number(c.lib.jatshegi_board_claims_with, move, _numbers(move))
+        return bool(number & 1), bool(number & 2)
 
     def repetitions(self) -> int:
         """How often the position has come up in the game, this time included (FIDE Laws 9.2.2)."""
-        number = c_uint32()
-        c.lib.jatshegi_board_repetitions(self._at, byref(number))
-        return number.value
+        return self._number(c.lib.jatshegi_board_repetitions, "repetitions")
 
     def attackers(self, colour: bool, square: int) -> List[int]:
         """The squares of the men of that colour that attack the square, whatever is on it: a king and pinned men too, but no man that another
@@ -363,7 +534,7 @@ class Board:
         if not 0 <= square < 64:
             raise ValueError(f"no square: {square}")
         found = c_uint64()
-        c.lib.jatshegi_board_attackers(self._at, 0 if colour else 1, square, byref(found))
+        self._call(c.lib.jatshegi_board_attackers, "attackers", 0 if colour else 1, square, byref(found))
         return [at for at in range(64) if found.value >> at & 1]
 
     def attack_counts(self, colour: bool) -> List[int]:
@@ -372,8 +543,8 @@ class Board:
         >>> Board().attack_counts(WHITE)[16:24]
         [2, 2, 3, 2, 2, 3, 2, 2]
         """
-        white, black = (c_uint8 * 64)(), (c_uint8 * 64)()
-        c.lib.jatshegi_board_counts(self._at, white, black)
+        white, black = _Squares(), _Squares()
+        self._call(c.lib.jatshegi_board_counts, "attack_counts", white, black)
         return list(bytes(white if colour else black))
 
     # ---- the engine
@@ -381,7 +552,7 @@ class Board:
     def evaluate(self) -> int:
         """The evaluation, in centipawns for White."""
         value = c_int32()
-        c.lib.jatshegi_board_evaluation(self._at, byref(value))
+        self._call(c.lib.jatshegi_board_evaluation, "evaluate", byref(value))
         return value.value
 
     def best(self, depth: int) -> Optional[Tuple[Move, int]]:
@@ -389,10 +560,14 @@ class Board:
         less the plies to a mate. None where there is no legal move. Raises `ValueError` for another depth."""
         if not 1 <= depth <= 16:
             raise ValueError(f"a depth is 1 to 16 plies: {depth}")
-        value = c_int32()
-        if c.lib.jatshegi_board_best(self._at, depth, self._moves, byref(value)):
+        move, value = c.CMove(), c_int32()
+        with self._lock:
+            status = c.lib.jatshegi_board_best(self._at, depth, byref(move), byref(value))
+        if status == c.NONE:
             return None
-        return _SHOWN[bytes(self._moves)[:3]], value.value
+        if status:
+            raise self._fail(status, "best")
+        return _SHOWN[bytes(move)], value.value
 
     def search(self, depth: int) -> Iterator[Tuple[int, Move, int]]:
         """The same search in slices: one legal move after another is searched, and after each come how many are left, the best so far and its value.
@@ -404,57 +579,72 @@ class Board:
         ...         print(move.uci(), value)
         a1a8 29999
         """
-        status = c.lib.jatshegi_search_start(self._at, depth) if 1 <= depth <= 16 else c.ARGUMENT
-        if status == c.ARGUMENT:
+        if not 1 <= depth <= 16:
             raise ValueError(f"a depth is 1 to 16 plies: {depth}")
-        if status == c.NO_MEMORY:
-            raise MemoryError("no memory for a search")
-        self._searches += 1
-        return iter(()) if status else self._slices(self._searches)
+        with self._lock:
+            status = c.lib.jatshegi_search_start(self._at, depth)
+            if status not in (c.OK, c.NONE):
+                raise self._fail(status, "search")
+            self._searches += 1
+            return iter(()) if status else self._slices(self._searches)
 
     # The slices of the search with that number, while no other is begun.
     def _slices(self, number: int) -> Iterator[Tuple[int, Move, int]]:
-        left, best, value = c_size_t(1), (c.CMove * 1)(), c_int32()
-        while left.value and number == self._searches:
-            c.lib.jatshegi_search_slice(self._at, byref(left))
-            c.lib.jatshegi_search_best(self._at, best, byref(value))
+        left, best, value = c_size_t(1), c.CMove(), c_int32()
+        while left.value:
+            with self._lock:
+                if number != self._searches:
+                    return
+                self._call(c.lib.jatshegi_search_slice, "search", byref(left))
+                self._call(c.lib.jatshegi_search_best, "search", byref(best), byref(value))
+                if not left.value:
+                    self._call(c.lib.jatshegi_search_end, "search")
             yield left.value, _SHOWN[bytes(best)], value.value
-        if number == self._searches:
-            c.lib.jatshegi_search_end(self._at)
 
     # ---- the game
 
     def pgn(self) -> str:
         """The game in export form, variations, comments and annotations included (PGN 3.2), with tags '?' and the marker '*'."""
-        return self._answer(b"pgn")
+        return self._shown(self._bytes(b"pgn"))
 
     def line(self, line: str) -> str:
         """What the program's `board` answers to a line, as 'comment a quiet move', without the line feed at its end. 'refused N NAME' where
-        it does nothing.
+        it does nothing. Raises `UnicodeEncodeError` for a text that the board's encoding doesn't have.
 
         >>> Board().line("play e5")
         'refused 2 Illegal'
         """
         if "\n" in line or "\r" in line:
             raise ValueError("a line has no end of line in it")
-        answer = self._answer(line.encode()).rstrip("\n")
-        word = line.split()[:1]
-        if word and word[0] in _LEADING and answer == "ok":
-            path = self._answer(b"path").strip()
-            depth = 0 if path == "-" else path.count(".") + 1
-            # Another way may lead to a node as deep.
-            known = min(len(self._stack), depth) if word[0] in ("step", "play", "back", "delete") else 0
-            self._stack[known:] = [None] * (depth - known)
+        text = line.encode(self.encoding, "surrogateescape")
+        word = "".join(line.split()[:1])
+        with self._lock:
+            made = self._made
+            self._made = [] if word not in _STAYING else made
+            answer = self._shown(self._bytes(text)).rstrip("\n")
+            if answer.startswith("refused"):
+                self._made = made
+            elif word in _SINKING:
+                self._made = [*made, False]
+            elif word in _RISING:
+                self._made = made[:-1]
         return answer
 
-    def _answer(self, line: bytes) -> str:
-        status = c.lib.jatshegi_board_answer(self._at, line, len(line), self._room, len(self._room), self._counted)
-        if status == c.NO_ROOM:
-            self._room = ctypes.create_string_buffer(self._count.value)
-            status = c.lib.jatshegi_board_answer(self._at, line, len(line), self._room, len(self._room), self._counted)
+    # A text of the board's, read in its encoding.
+    def _shown(self, text: bytes) -> str:
+        return text.decode(self.encoding, "surrogateescape")
+
+    # The bytes that the board answers to a line. Only 'path' and 'pgn', which change nothing, are asked twice.
+    def _bytes(self, line: bytes) -> bytes:
+        answer, count = _AnswerRoom(), c_size_t()
+        with self._lock:
+            status = c.lib.jatshegi_board_answer(self._at, line, len(line), answer, len(answer), byref(count))
+            if status == c.NO_ROOM:
+                answer = (c_char * count.value)()
+                status = c.lib.jatshegi_board_answer(self._at, line, len(line), answer, len(answer), byref(count))
         if status:
             raise self._fail(status, line)
-        return string_at(self._room, self._count.value).decode(errors="replace")
+        return answer.raw[: count.value]
 
     # ---- pictures
 
@@ -491,5 +681,24 @@ class Board:
         return "".join([*parts, "</svg>"])
 
 
-# The lines that lead to another node.
-_LEADING = frozenset(("new", "set", "play", "back", "step", "start", "end", "goto", "delete"))
+# What a board keeps beside what a class of the caller's own adds.
+_FIELDS = frozenset(("_slot", "_at", "_lock", "_searches", "_made", "encoding"))
+
+
+def _restored(of: Type[_Board], encoding: str, text: bytes, path: bytes, made: Tuple[bool, ...]) -> _Board:
+    """The board of a game in export form, at the node with that path. Raises `LimitError` where the game is too large to be read, and `Error` where another
+    game or another node would be there."""
+    from ._errors import InvalidGameError
+
+    board = of.__new__(of)
+    Board.__init__(board, encoding=encoding)
+    try:
+        board._load(text)
+    except InvalidGameError as fault:
+        raise LimitError(f"the board can't be copied: {fault}") from None
+    if path != b"-\n":
+        board._bytes(b"goto " + path.rstrip(b"\n"))
+    if (board._bytes(b"pgn"), board._bytes(b"path")) != (text, path):
+        raise Error("the board can't be copied: its game reads as another one")
+    board._made = list(made)
+    return board

@@ -1,11 +1,12 @@
 """A session of the engine, driven by events."""
 from __future__ import annotations
 
-import ctypes
-from ctypes import byref, c_bool, c_size_t
-from typing import List
+import threading
+from ctypes import byref, c_bool, c_char, c_size_t
+from typing import Any, Callable, List, Tuple
 
 from . import _library as c
+from ._errors import EmptyBoardError, Error
 
 
 class Engine:
@@ -23,43 +24,65 @@ class Engine:
     What it replies to an event is proved; nothing happens between events, so `stop` is answered at once.
     """
 
-    def __init__(self) -> None:
-        """A session at its start. Raises `MemoryError`."""
+    _slot: c.Slot
+    _at: Any
+    _lock: threading.RLock
+
+    def __new__(cls) -> Engine:
+        self = super().__new__(cls)
         self._slot = c.Slot()
         self._at = byref(self._slot)
-        self._room = ctypes.create_string_buffer(c.MOST_REPLIES)
-        self._count = c_size_t()
-        if c.lib.jatshegi_board_new(c.KEYS, self._at):
-            raise MemoryError("no memory for an engine")
+        self._lock = threading.RLock()
+        return self
+
+    def __init__(self) -> None:
+        """A session at its start. Raises `MemoryError`."""
+        with self._lock:
+            if c.lib.jatshegi_board_new(c.KEYS, self._at):
+                raise MemoryError("no memory for an engine")
 
     def __del__(self) -> None:
         if c is not None and hasattr(self, "_at"):
             c.lib.jatshegi_board_free(self._at)
 
-    # The replies that were handed out.
-    def _replies(self) -> List[str]:
-        return self._room.raw[: self._count.value].decode().splitlines()
+    def __reduce__(self) -> Tuple[Any, ...]:
+        raise TypeError("a session of the engine has no copy: begin another one, and tell it the same lines")
+
+    # The replies that an event has.
+    def _replies(self, event: Callable[..., int], *words: object) -> List[str]:
+        room, count = (c_char * c.MOST_REPLIES)(), c_size_t()
+        with self._lock:
+            _answered(event(self._at, *words, room, c.MOST_REPLIES, byref(count)))
+        return room.raw[: count.value].decode("utf-8", "surrogateescape").split("\n")[:-1]
 
     def line(self, line: str) -> List[str]:
         """The replies to a line, as 'go depth 5' or 'stop'."""
         if "\n" in line or "\r" in line:
             raise ValueError("a line has no end of line in it")
-        text = line.encode()
-        c.lib.jatshegi_engine_line(self._at, text, len(text), self._room, c.MOST_REPLIES, byref(self._count))
-        return self._replies()
+        text = line.encode("utf-8", "surrogateescape")
+        return self._replies(c.lib.jatshegi_engine_line, text, len(text))
 
     def slice(self) -> List[str]:
         """The replies once there was time to search one legal move more."""
-        c.lib.jatshegi_engine_slice(self._at, self._room, c.MOST_REPLIES, byref(self._count))
-        return self._replies()
+        return self._replies(c.lib.jatshegi_engine_slice)
 
     def moment(self, milliseconds: int) -> List[str]:
         """The replies once the clock reads so many milliseconds, from any moment on: a search whose time is over ends."""
-        c.lib.jatshegi_engine_moment(self._at, milliseconds, self._room, c.MOST_REPLIES, byref(self._count))
-        return self._replies()
+        if not 0 <= milliseconds < 1 << 64:
+            raise ValueError(f"a moment is a number of milliseconds, 0 to 2^64 - 1: {milliseconds}")
+        return self._replies(c.lib.jatshegi_engine_moment, milliseconds)
 
     def is_searching(self) -> bool:
         """Whether a search runs, which wants slices."""
         searching = c_bool()
-        c.lib.jatshegi_engine_searching(self._at, byref(searching))
+        with self._lock:
+            _answered(c.lib.jatshegi_engine_searching(self._at, byref(searching)))
         return searching.value
+
+
+def _answered(status: int) -> None:
+    """A status other than OK is an error."""
+    if status == c.EMPTY:
+        raise EmptyBoardError("there is no session: its memory was given back, or it was never begun")
+    if status:
+        raise Error(f"the engine answers with status {status}")

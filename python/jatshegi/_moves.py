@@ -1,6 +1,7 @@
 """Squares, colours and moves. A square is a number, 0 for a1, 1 for b1, 63 for h8; a colour is `WHITE` (True) or `BLACK` (False)."""
 from __future__ import annotations
 
+from operator import index
 from typing import List, NamedTuple, Optional
 
 from ._errors import InvalidMoveError
@@ -28,14 +29,21 @@ def square(file: int, rank: int) -> int:
     return 8 * rank + file
 
 
+def _checked(square: int) -> int:
+    """The number of a square. Raises `ValueError` for another one."""
+    if not 0 <= square < 64:
+        raise ValueError(f"a square is 0 to 63: {square}")
+    return square
+
+
 def square_file(square: int) -> int:
     """The square's file, 0 for a to 7 for h."""
-    return square & 7
+    return _checked(square) & 7
 
 
 def square_rank(square: int) -> int:
     """The square's rank, 0 for the first to 7 for the eighth."""
-    return square >> 3
+    return _checked(square) >> 3
 
 
 def square_name(square: int) -> str:
@@ -44,9 +52,7 @@ def square_name(square: int) -> str:
     >>> square_name(28)
     'e4'
     """
-    if not 0 <= square < 64:
-        raise ValueError(f"a square is 0 to 63: {square}")
-    return SQUARE_NAMES[square]
+    return SQUARE_NAMES[_checked(square)]
 
 
 def parse_square(name: str) -> int:
@@ -61,12 +67,20 @@ def parse_square(name: str) -> int:
         raise ValueError(f"a square is a1 to h8: {name!r}") from None
 
 
-class Move(NamedTuple):
-    """A move: from a square, to a square, and what a pawn becomes on the last rank. Castling is the king's move of two squares."""
-
+class _Parts(NamedTuple):
     from_square: int
     to_square: int
     promotion: Optional[int] = None
+
+
+class Move(_Parts):
+    """A move: from a square, to a square, and what a pawn becomes on the last rank. Castling is the king's move of two squares."""
+
+    __slots__ = ()
+
+    def __new__(cls, from_square: int, to_square: int, promotion: Optional[int] = None) -> Move:
+        """Raises `TypeError` for what is no whole number. Any whole numbers are a move, whose `uci()` is asked for where they are one of a board."""
+        return super().__new__(cls, index(from_square), index(to_square), None if promotion is None else index(promotion))
 
     @classmethod
     def from_uci(cls, text: str) -> Move:
@@ -80,12 +94,18 @@ class Move(NamedTuple):
         raise InvalidMoveError(f"a move from square to square is as e2e4 or e7e8q: {text!r}")
 
     def uci(self) -> str:
-        """The move's text as UCI has it: 'e2e4', 'e1g1', 'e7e8q'."""
-        became = "" if self.promotion is None else _LETTERS[self.promotion]
-        return SQUARE_NAMES[self.from_square] + SQUARE_NAMES[self.to_square] + became
+        """The move's text as UCI has it: 'e2e4', 'e1g1', 'e7e8q'. Raises `InvalidMoveError` where it is no move of a board."""
+        origin, target, became = self
+        if not (0 <= origin < 64 and 0 <= target < 64 and (became is None or became in _LETTERS)):
+            raise InvalidMoveError(f"no move of a board: {self!r}")
+        return SQUARE_NAMES[origin] + SQUARE_NAMES[target] + ("" if became is None else _LETTERS[became])
 
     def __str__(self) -> str:
         return self.uci()
 
     def __repr__(self) -> str:
-        return f"Move.from_uci({self.uci()!r})"
+        origin, target, became = self
+        try:
+            return f"Move.from_uci({SQUARE_NAMES[_checked(origin)] + SQUARE_NAMES[_checked(target)] + ('' if became is None else _LETTERS[became])!r})"
+        except (ValueError, KeyError):
+            return f"Move({origin}, {target}, {became})"

@@ -11,7 +11,10 @@
     'rnbqkbnr/pppppppp/8/8/8/8/PPPPPPPP/RNBQKBNR w KQkq - 0 1'
 
 A game is read by the proved reader of the library, which hands it out in export form (PGN 3.2): each move legal, its text the standard one. This module
-takes that text apart, which is tested.
+takes that text apart, which is tested. A game that was read doesn't change: what would change it is an error.
+
+Games are bytes. They are read in UTF-8, and a game whose bytes are none in ISO 8859-1, the encoding of the standard (PGN 3.1); `encoding` names another one.
+`bytes(game)` are the game's own bytes, whatever it is.
 """
 from __future__ import annotations
 
@@ -19,10 +22,10 @@ import ctypes
 import os
 import re
 from ctypes import byref, c_size_t, c_uint64
-from typing import Callable, Dict, Iterator, List, NamedTuple, Optional, Tuple, Union
+from typing import Any, Callable, Dict, Iterator, List, Mapping, NamedTuple, NoReturn, Optional, Tuple, Union
 
 from . import _library as c
-from ._board import Board, Status
+from ._board import Board, Status, _known
 from ._errors import InvalidGameError
 from ._moves import BLACK, WHITE
 
@@ -43,19 +46,113 @@ _ESCAPED = re.compile(r"\\(.)")
 _WORD = re.compile(r"\{([^}]*)\}|([()])|\$(\d+)|(\d+)\.+|(1-0|0-1|1/2-1/2|\*)|([^\s(){}]+)")
 
 
-class Node:
-    """A move of a game, or its root: what was played, what is said of it, and what follows, the main continuation first."""
+def _refused(what: str, how: str) -> NoReturn:
+    raise AttributeError(f"a game that was read doesn't change, so {what}; {how}")
 
-    __slots__ = ("children", "comment", "nags", "parent", "san")
+
+_BY_BOARD = "Board.from_game(game) is a board with the game in it, whose line('goto ..'), line('comment ..') and line('nag ..') change it"
+
+
+class Headers(Mapping[str, str]):
+    """The tags of a game, by their names. They don't change.
+
+    >>> jatshegi.pgn.read_game('[White "Réti"] *').headers["White"] = "me"
+    Traceback (most recent call last):
+    ...
+    TypeError: a game that was read doesn't change, so its tags aren't set: read_game of a text with other tags is a game with them
+    """
+
+    __slots__ = ("_tags",)
+
+    def __init__(self, tags: Mapping[str, str]) -> None:
+        self._tags = dict(tags)
+
+    def __getitem__(self, name: str) -> str:
+        return self._tags[name]
+
+    def __iter__(self) -> Iterator[str]:
+        return iter(self._tags)
+
+    def __len__(self) -> int:
+        return len(self._tags)
+
+    def __repr__(self) -> str:
+        return f"Headers({self._tags!r})"
+
+    def copy(self) -> Dict[str, str]:
+        """A dictionary of them, which is the caller's own."""
+        return dict(self._tags)
+
+    def __setitem__(self, name: str, value: str) -> NoReturn:
+        raise TypeError("a game that was read doesn't change, so its tags aren't set: read_game of a text with other tags is a game with them")
+
+    def __delitem__(self, name: str) -> NoReturn:
+        raise TypeError("a game that was read doesn't change, so its tags stay: read_game of a text without a tag is a game without it")
+
+
+class Node:
+    """A move of a game, or its root: what was played, what is said of it, and what follows, the main continuation first. It doesn't change."""
+
+    __slots__ = ("_children", "_comment", "_nags", "_parent", "_san")
 
     def __init__(self, san: Optional[str] = None, parent: Optional[Node] = None) -> None:
-        #: The move in standard algebraic notation; None at the root.
-        self.san = san
-        self.parent = parent
-        self.comment = ""
-        #: Annotation numbers (PGN 8.2.4).
-        self.nags: List[int] = []
-        self.children: List[Node] = []
+        self._san = san
+        self._parent = parent
+        self._comment = ""
+        self._nags: List[int] = []
+        self._children: List[Node] = []
+
+    @property
+    def san(self) -> Optional[str]:
+        """The move in standard algebraic notation; None at the root."""
+        return self._san
+
+    @san.setter
+    def san(self, value: object) -> NoReturn:
+        _refused("a node's move isn't set", _BY_BOARD)
+
+    @property
+    def parent(self) -> Optional[Node]:
+        """The node before; None at the root."""
+        return self._parent
+
+    @parent.setter
+    def parent(self, value: object) -> NoReturn:
+        _refused("a node's parent isn't set", _BY_BOARD)
+
+    @property
+    def comment(self) -> str:
+        """What is said of the move; empty where nothing is.
+
+        >>> jatshegi.pgn.read_game("1. e4 {best by test} *").root.children[0].comment = "so they say"
+        Traceback (most recent call last):
+        ...
+        AttributeError: a game that was read doesn't change, so a comment isn't set; Board.from_game(game) is a board with the game in it, whose \
+line('goto ..'), line('comment ..') and line('nag ..') change it
+        """
+        return self._comment
+
+    @comment.setter
+    def comment(self, value: object) -> NoReturn:
+        _refused("a comment isn't set", _BY_BOARD)
+
+    @property
+    def nags(self) -> Tuple[int, ...]:
+        """Annotation numbers (PGN 8.2.4)."""
+        return tuple(self._nags)
+
+    @nags.setter
+    def nags(self, value: object) -> NoReturn:
+        _refused("annotations aren't set", _BY_BOARD)
+
+    @property
+    def children(self) -> Tuple[Node, ...]:
+        """The nodes that follow, the main continuation first."""
+        return tuple(self._children)
+
+    @children.setter
+    def children(self, value: object) -> NoReturn:
+        _refused("the moves that follow aren't set", _BY_BOARD)
 
     def mainline(self) -> Iterator[Node]:
         """The nodes that follow along the first children.
@@ -65,8 +162,8 @@ class Node:
         'e4 e5 Nf3'
         """
         node = self
-        while node.children:
-            node = node.children[0]
+        while node._children:
+            node = node._children[0]
             yield node
 
     def path(self) -> List[str]:
@@ -78,13 +175,13 @@ class Node:
         """
         moves = []
         node: Optional[Node] = self
-        while node is not None and node.san is not None:
-            moves.append(node.san)
-            node = node.parent
+        while node is not None and node._san is not None:
+            moves.append(node._san)
+            node = node._parent
         return moves[::-1]
 
     def __repr__(self) -> str:
-        return f"<Node {self.san or 'root'}, {len(self.children)} children>"
+        return f"<Node {self.san or 'root'}, {len(self._children)} children>"
 
 
 class Report(NamedTuple):
@@ -128,18 +225,77 @@ def _ply(number: int) -> Optional[int]:
     return None if number == c.NEVER else number
 
 
-class Game:
-    """A game: its tags, its moves as a tree, how it ended, and its text in export form."""
+def _decoded(data: bytes, encoding: Optional[str]) -> Tuple[str, str]:
+    """The text of the bytes of a game and its encoding: the one that is named, else UTF-8, or ISO 8859-1 where they are none."""
+    if encoding is not None:
+        return data.decode(encoding, "surrogateescape"), encoding
+    try:
+        return data.decode("utf-8"), "utf-8"
+    except UnicodeDecodeError:
+        return data.decode("iso-8859-1"), "iso-8859-1"
 
-    def __init__(self, text: str) -> None:
-        """From a text in export form, as `read_game` has it."""
-        self._text = text
-        self.headers: Dict[str, str] = {}
-        at = 0
-        for tag in iter(lambda: _TAG.match(text, at), None):
-            self.headers[tag[1]] = _ESCAPED.sub(r"\1", tag[2])
+
+def _game(data: bytes, encoding: Optional[str]) -> Game:
+    """The game of bytes in export form."""
+    game = Game.__new__(Game)
+    game._begin(data, encoding)
+    return game
+
+
+class Game:
+    """A game: its tags, its moves as a tree, how it ended, and its text in export form. It doesn't change."""
+
+    __slots__ = ("_data", "_encoding", "_headers", "_result", "_root", "_text")
+
+    def __init__(self, text: Union[str, bytes]) -> None:
+        """The first game of a text, as `read_game` has it. Raises `InvalidGameError`, also where none is there."""
+        for data in _exports(_bytes_of(text), None):
+            self._begin(data, "utf-8" if isinstance(text, str) else None)
+            return
+        raise InvalidGameError(0, 6, "there is no game")
+
+    # From bytes in export form.
+    def _begin(self, data: bytes, encoding: Optional[str]) -> None:
+        self._data = data
+        self._text, self._encoding = _decoded(data, encoding)
+        tags, at = {}, 0
+        for tag in iter(lambda: _TAG.match(self._text, at), None):
+            tags[tag[1]] = _ESCAPED.sub(r"\1", tag[2])
             at = tag.end()
-        self.root, self.result = _tree(text, at)
+        self._headers = Headers(tags)
+        self._root, self._result = _tree(self._text, at)
+
+    @property
+    def headers(self) -> Mapping[str, str]:
+        """The tags by their names, which can't be set."""
+        return self._headers
+
+    @headers.setter
+    def headers(self, value: object) -> NoReturn:
+        _refused("its tags aren't set", "read_game of a text with other tags is a game with them")
+
+    @property
+    def root(self) -> Node:
+        """The node of the position in which the game begins."""
+        return self._root
+
+    @root.setter
+    def root(self, value: object) -> NoReturn:
+        _refused("its moves aren't set", _BY_BOARD)
+
+    @property
+    def result(self) -> str:
+        """How the game ended, as its text says: '1-0', '0-1', '1/2-1/2' or '*'."""
+        return self._result
+
+    @result.setter
+    def result(self, value: object) -> NoReturn:
+        _refused("its result isn't set", "read_game of a text with another one is a game with it")
+
+    @property
+    def encoding(self) -> str:
+        """The encoding in which the game's bytes are its text: `str(game).encode(game.encoding, "surrogateescape") == bytes(game)`."""
+        return self._encoding
 
     @property
     def start(self) -> Optional[str]:
@@ -148,7 +304,7 @@ class Game:
 
     def mainline(self) -> Iterator[Node]:
         """The moves of the main line."""
-        return self.root.mainline()
+        return self._root.mainline()
 
     def board(self, node: Optional[Node] = None) -> Board:
         """A board at the position of a node, or where the game begins.
@@ -170,10 +326,10 @@ class Game:
         >>> report.status, report.winner == jatshegi.BLACK, report.agrees, report.has_finding
         (<Status.CHECKMATE: 0>, True, False, True)
         """
-        text = self._text.encode("utf-8", "surrogateescape")
         found, fen, count, used = c.CReport(), ctypes.create_string_buffer(c.MOST_FEN), c_size_t(), c_size_t()
-        if c.lib.jatshegi_game_report(text, len(text), byref(found), fen, c.MOST_FEN, byref(count), byref(used)):
-            raise MemoryError("no memory for a report")
+        status = c.lib.jatshegi_game_report(self._data, len(self._data), byref(found), fen, c.MOST_FEN, byref(count), byref(used))
+        if status:
+            raise _fault(status, used.value)
         over = _ply(found.over)
         return Report(
             plies=found.plies,
@@ -194,6 +350,18 @@ class Game:
         """The game in export form (PGN 3.2), as the program `chess pgn` writes it."""
         return self._text
 
+    def __bytes__(self) -> bytes:
+        """The same as the bytes that it is, byte for byte.
+
+        >>> game = jatshegi.pgn.read_game(b'[White "R\\xe9ti"] *')
+        >>> game.headers["White"], game.encoding, b"R\\xe9ti" in bytes(game)
+        ('Réti', 'iso-8859-1', True)
+        """
+        return self._data
+
+    def __reduce__(self) -> Tuple[Callable[..., Any], Tuple[bytes, str]]:
+        return _game, (self._data, self._encoding)
+
     def __repr__(self) -> str:
         return f"<Game {self.headers.get('White', '?')} - {self.headers.get('Black', '?')}, {self.result}>"
 
@@ -205,24 +373,34 @@ def _tree(text: str, at: int) -> Tuple[Node, str]:
     left: List[Node] = []
     for comment, bracket, nag, number, marker, san in _WORD.findall(text, at):
         if san:
-            node.children.append(Node(san, node))
-            node = node.children[-1]
+            child = Node(san, node)
+            node._children.append(child)
+            node = child
         elif bracket == "(":
             left.append(node)
-            assert node.parent is not None
-            node = node.parent
+            assert node._parent is not None
+            node = node._parent
         elif bracket:
             node = left.pop()
         elif nag:
-            node.nags.append(int(nag))
+            node._nags.append(int(nag))
         elif marker:
             result = marker
         elif not number:
-            node.comment = " ".join(comment.split("\n"))
+            node._comment = " ".join(comment.split("\n"))
     return root, result
 
 
-def _text_at(address: int, length: int, room: int) -> Tuple[int, bytes, int]:
+def _fault(status: int, place: int) -> Exception:
+    """What a status of the reader raises, other than OK and NO_ROOM."""
+    if status == c.NO_MEMORY:
+        return MemoryError("no memory for a game")
+    if status == c.NO_GAME:
+        return InvalidGameError(place, 6, "there is no game")
+    return InvalidGameError(place, status - c.PGN, _FAULTS[status - c.PGN - 1])
+
+
+def _export_at(address: int, length: int, room: int) -> Tuple[int, bytes, int]:
     """The status, the game in export form and the bytes taken of the text at an address."""
     while True:
         game = ctypes.create_string_buffer(room)
@@ -233,27 +411,25 @@ def _text_at(address: int, length: int, room: int) -> Tuple[int, bytes, int]:
         room = count.value
 
 
-def _texts(data: bytes, bad: Optional[Callable[[InvalidGameError], object]]) -> Iterator[str]:
+def _exports(data: bytes, bad: Optional[Callable[[InvalidGameError], object]]) -> Iterator[bytes]:
     """The export forms of the games of the bytes, in order."""
     buffer = (ctypes.c_char * len(data)).from_buffer_copy(data)
     address, at = ctypes.addressof(buffer), 0
     while at < len(data):
-        status, game, used = _text_at(address + at, len(data) - at, 4096)
+        status, game, used = _export_at(address + at, len(data) - at, 4096)
         if status == c.NO_GAME:
             return
-        if status == c.NO_MEMORY:
-            raise MemoryError
         if status == c.OK:
-            yield game.decode("utf-8", "surrogateescape")
+            yield game
             at += used
             continue
-        fault = InvalidGameError(at + used, status - c.PGN, _FAULTS[status - c.PGN - 1])
-        if bad is None:
+        fault = _fault(status, at + used)
+        if bad is None or not isinstance(fault, InvalidGameError):
             raise fault
         bad(fault)
         passed = c_uint64()
         if c.lib.jatshegi_game_pass(address + at, len(data) - at, byref(passed)):
-            raise MemoryError
+            raise MemoryError("no memory for a game")
         at += max(passed.value, 1)
 
 
@@ -261,8 +437,10 @@ def _bytes_of(source: Union[str, bytes]) -> bytes:
     return source.encode("utf-8", "surrogateescape") if isinstance(source, str) else source
 
 
-def read_game(text: Union[str, bytes]) -> Optional[Game]:
-    """The first game of a text; None where there is only whitespace.
+def read_game(text: Union[str, bytes], *, encoding: Optional[str] = None) -> Optional[Game]:
+    """The first game of a text; None where there is only whitespace. Bytes are read in the encoding that is named, where one is, else in UTF-8, or in
+    ISO 8859-1 where the game is none; a byte that it doesn't have is a lone surrogate, as `errors="surrogateescape"` reads and writes it. A text that is none of bytes
+    is UTF-8.
 
     >>> jatshegi.pgn.read_game(" ") is None
     True
@@ -271,13 +449,16 @@ def read_game(text: Union[str, bytes]) -> Optional[Game]:
     ...
     jatshegi._errors.InvalidGameError: no game: at byte 3, this names no legal move, or more than one
     """
-    for game in _texts(_bytes_of(text), None):
-        return Game(game)
+    encoding = "utf-8" if isinstance(text, str) else None if encoding is None else _known(encoding)
+    for game in _exports(_bytes_of(text), None):
+        return _game(game, encoding)
     return None
 
 
-def games(source: Union[str, bytes, "os.PathLike[str]"], bad: Optional[Callable[[InvalidGameError], object]] = None) -> Iterator[Game]:
-    """The games of a file, by its path, or of bytes, one after another.
+def games(
+    source: Union[str, bytes, "os.PathLike[str]"], bad: Optional[Callable[[InvalidGameError], object]] = None, *, encoding: Optional[str] = None
+) -> Iterator[Game]:
+    """The games of a file, by its path, or of bytes, one after another, each read in the encoding that is named, or as `read_game` does.
 
     A game that can't be read raises `InvalidGameError`. With `bad`, that is called with it instead, and reading goes on at the next section of tags.
 
@@ -288,10 +469,11 @@ def games(source: Union[str, bytes, "os.PathLike[str]"], bad: Optional[Callable[
     >>> [(fault.place, fault.fault) for fault in faults]
     [(25, 3)]
     """
+    encoding = None if encoding is None else _known(encoding)
     if isinstance(source, bytes):
         data = source
     else:
         with open(source, "rb") as file:
             data = file.read()
-    for text in _texts(data, bad):
-        yield Game(text)
+    for text in _exports(data, bad):
+        yield _game(text, encoding)

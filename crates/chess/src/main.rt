@@ -6,7 +6,8 @@ mod clock;
 mod words;
 
 use byte_streams::{FromRead, ToWrite};
-use chess_cli::{board, pgn, uci};
+use chess_cli::{Ended, TimedSession, board, pgn, uci_with};
+use chess_key::KeyTable;
 use chess_programs::{Refused, read_words};
 use clock::MachineClock;
 use std::process::ExitCode;
@@ -18,6 +19,19 @@ fn asked(rt: &HostRuntime) -> Result<Asked, Refused> {
     parse_words(rt.alloc(), words.as_slice())
 }
 
+// A session of the universal chess interface.
+fn keep_session(rt: &HostRuntime) -> Ended {
+    let alloc = rt.alloc();
+    let table = KeyTable::fixed();
+    let mut session = TimedSession::new(&alloc, &table, MachineClock::new(rt));
+    uci_with(
+        &alloc,
+        &mut FromRead::new(rt.stdin()),
+        &mut ToWrite::new(rt.stdout()),
+        &mut session,
+    )
+}
+
 fn main(rt: HostRuntime) -> ExitCode {
     let ended = match asked(&rt) {
         Ok(Asked::Board) => board(
@@ -25,12 +39,7 @@ fn main(rt: HostRuntime) -> ExitCode {
             &mut FromRead::new(rt.stdin()),
             &mut ToWrite::new(rt.stdout()),
         ),
-        Ok(Asked::Uci) => uci(
-            rt.alloc(),
-            &mut FromRead::new(rt.stdin()),
-            &mut ToWrite::new(rt.stdout()),
-            MachineClock::new(&rt),
-        ),
+        Ok(Asked::Uci) => keep_session(&rt),
         Ok(Asked::Pgn) => pgn(
             rt.alloc(),
             &mut FromRead::new(rt.stdin()),

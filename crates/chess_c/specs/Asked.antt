@@ -39,6 +39,11 @@ abbrev pub play_in : Option MoveParts → TreeParts → Effect
 play_in None board = Refuses Illegal
 play_in (Some m) board = move_effect board m
 
+-- a node is added for it
+abbrev pub is_new_in : Option MoveParts → TreeParts → Bool
+is_new_in None board = false
+is_new_in (Some m) board = is_new board m
+
 -- none where the move isn't legal
 abbrev pub claims_in : Option MoveParts → Line → Option Claims
 claims_in None line = None

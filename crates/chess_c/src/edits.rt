@@ -1,12 +1,12 @@
-ghost use Rattle.std.specs.Prelude.{◌≡◌, ◌++◌, ◌∷◌, [], nat_lt};
+ghost use Rattle.std.specs.Prelude.{◌≡◌, ◌++◌, ◌∷◌, [], false, nat_lt, true};
 ghost use Rattle.chess_types.specs.board.Lines.{last};
 ghost use Rattle.chess_san.specs.Naming.{san_reading};
 ghost use Rattle.chess_tree.specs.Edits.{parent};
 ghost use Rattle.chess_tree.specs.Forest.{count};
 ghost use Rattle.chess_tree.specs.GameTree.{annotated_here, at_path, deleted, line_to, main_line, nodes_here, promoted_here};
-ghost use Rattle.chess_cli.specs.Answers.{Does, HasEffect, HasEffectSurely, comment_effect, if_it_exists, not_at_root, play_effect};
+ghost use Rattle.chess_cli.specs.Answers.{Does, HasEffect, comment_effect, has_words, if_it_exists, names_new, not_at_root, play_effect};
 ghost use Rattle.chess_c.specs.Calls.{Acts};
-ghost use Rattle.chess_c.specs.Asked.{play_in};
+ghost use Rattle.chess_c.specs.Asked.{is_new_in, play_in};
 ghost use Rattle.chess_c.specs.Moves.{move_in};
 
 use crate::codes::ended_code;
@@ -18,7 +18,7 @@ use std::alloc::Global;
 
 // Makes the move of three numbers.
 fn play(board: &mut Board<'static, Global>, m: CMove) -> Result<(), Refusal>
-    ensures { HasEffect (play_in (move_in m) board.old) board.old result board.new }
+    ensures { HasEffect (is_new_in (move_in m) board.old) (play_in (move_in m) board.old) board.old result board.new }
 {
     match m.read() {
         None => Err(Refusal::Illegal),
@@ -29,7 +29,7 @@ fn play(board: &mut Board<'static, Global>, m: CMove) -> Result<(), Refusal>
 /// Makes a move at the cursor: steps to the first child that has it, else to a new one.
 #[unsafe(no_mangle)]
 pub extern "C" fn jatshegi_board_play(alloc: Global, slot: &mut Slot, m: CMove) -> u32
-    ensures { Acts (λ board ended after. HasEffect (play_in (move_in m) board) board ended after) slot.old.held result slot.new.held }
+    ensures { Acts (λ board ended after. HasEffect (is_new_in (move_in m) board) (play_in (move_in m) board) board ended after) slot.old.held result slot.new.held }
 {
     let Some(mut session) = take(slot, alloc) else {
         return EMPTY;
@@ -42,7 +42,7 @@ pub extern "C" fn jatshegi_board_play(alloc: Global, slot: &mut Slot, m: CMove) 
 /// Makes the move that a text names, in standard algebraic notation or from square to square.
 #[unsafe(no_mangle)]
 pub extern "C" fn jatshegi_board_play_text(alloc: Global, slot: &mut Slot, text: &[u8]) -> u32
-    ensures { Acts (λ board ended after. HasEffect (play_effect board (san_reading (last (line_to board)) text.now)) board ended after) slot.old.held result slot.new.held }
+    ensures { Acts (λ board ended after. HasEffect (names_new board (san_reading (last (line_to board)) text.now)) (play_effect board (san_reading (last (line_to board)) text.now)) board ended after) slot.old.held result slot.new.held }
 {
     let Some(mut session) = take(slot, alloc) else {
         return EMPTY;
@@ -55,7 +55,7 @@ pub extern "C" fn jatshegi_board_play_text(alloc: Global, slot: &mut Slot, text:
 /// Steps to the parent: takes the last move back, which stays in the tree.
 #[unsafe(no_mangle)]
 pub extern "C" fn jatshegi_board_back(alloc: Global, slot: &mut Slot) -> u32
-    ensures { Acts (λ board ended after. HasEffectSurely (not_at_root board.path (at_path (parent board.path) board)) board ended after) slot.old.held result slot.new.held }
+    ensures { Acts (λ board ended after. HasEffect false (not_at_root board.path (at_path (parent board.path) board)) board ended after) slot.old.held result slot.new.held }
 {
     let Some(mut session) = take(slot, alloc) else {
         return EMPTY;
@@ -68,7 +68,7 @@ pub extern "C" fn jatshegi_board_back(alloc: Global, slot: &mut Slot) -> u32
 /// Steps to a child, by its place among its siblings, from 0.
 #[unsafe(no_mangle)]
 pub extern "C" fn jatshegi_board_step(alloc: Global, slot: &mut Slot, place: u32) -> u32
-    ensures { Acts (λ board ended after. HasEffectSurely (if_it_exists (nat_lt place (count (nodes_here board))) (at_path (board.path ++ place ∷ []) board)) board ended after) slot.old.held result slot.new.held }
+    ensures { Acts (λ board ended after. HasEffect false (if_it_exists (nat_lt place (count (nodes_here board))) (at_path (board.path ++ place ∷ []) board)) board ended after) slot.old.held result slot.new.held }
 {
     let Some(mut session) = take(slot, alloc) else {
         return EMPTY;
@@ -81,7 +81,7 @@ pub extern "C" fn jatshegi_board_step(alloc: Global, slot: &mut Slot, place: u32
 /// Goes to the root.
 #[unsafe(no_mangle)]
 pub extern "C" fn jatshegi_board_start(alloc: Global, slot: &mut Slot) -> u32
-    ensures { Acts (λ board ended after. HasEffectSurely (Does (at_path [] board)) board ended after) slot.old.held result slot.new.held }
+    ensures { Acts (λ board ended after. HasEffect false (Does (at_path [] board)) board ended after) slot.old.held result slot.new.held }
 {
     let Some(mut session) = take(slot, alloc) else {
         return EMPTY;
@@ -94,7 +94,7 @@ pub extern "C" fn jatshegi_board_start(alloc: Global, slot: &mut Slot) -> u32
 /// Goes along the main continuations, as far as they lead.
 #[unsafe(no_mangle)]
 pub extern "C" fn jatshegi_board_end(alloc: Global, slot: &mut Slot) -> u32
-    ensures { Acts (λ board ended after. HasEffectSurely (Does (at_path (board.path ++ main_line (nodes_here board)) board)) board ended after) slot.old.held result slot.new.held }
+    ensures { Acts (λ board ended after. HasEffect false (Does (at_path (board.path ++ main_line (nodes_here board)) board)) board ended after) slot.old.held result slot.new.held }
 {
     let Some(mut session) = take(slot, alloc) else {
         return EMPTY;
@@ -107,7 +107,7 @@ pub extern "C" fn jatshegi_board_end(alloc: Global, slot: &mut Slot) -> u32
 /// Puts the node before its siblings.
 #[unsafe(no_mangle)]
 pub extern "C" fn jatshegi_board_promote(alloc: Global, slot: &mut Slot) -> u32
-    ensures { Acts (λ board ended after. HasEffectSurely (not_at_root board.path (promoted_here board)) board ended after) slot.old.held result slot.new.held }
+    ensures { Acts (λ board ended after. HasEffect false (not_at_root board.path (promoted_here board)) board ended after) slot.old.held result slot.new.held }
 {
     let Some(mut session) = take(slot, alloc) else {
         return EMPTY;
@@ -120,7 +120,7 @@ pub extern "C" fn jatshegi_board_promote(alloc: Global, slot: &mut Slot) -> u32
 /// Takes out the node and all below it; the cursor is then at its parent.
 #[unsafe(no_mangle)]
 pub extern "C" fn jatshegi_board_delete(alloc: Global, slot: &mut Slot) -> u32
-    ensures { Acts (λ board ended after. HasEffectSurely (not_at_root board.path (deleted board)) board ended after) slot.old.held result slot.new.held }
+    ensures { Acts (λ board ended after. HasEffect false (not_at_root board.path (deleted board)) board ended after) slot.old.held result slot.new.held }
 {
     let Some(mut session) = take(slot, alloc) else {
         return EMPTY;
@@ -133,7 +133,7 @@ pub extern "C" fn jatshegi_board_delete(alloc: Global, slot: &mut Slot) -> u32
 /// A text for the node's comment; the one that it had is forgotten.
 #[unsafe(no_mangle)]
 pub extern "C" fn jatshegi_board_comment(alloc: Global, slot: &mut Slot, comment: &[u8]) -> u32
-    ensures { Acts (λ board ended after. HasEffect (comment_effect board comment.now) board ended after) slot.old.held result slot.new.held }
+    ensures { Acts (λ board ended after. HasEffect (has_words comment.now) (comment_effect board comment.now) board ended after) slot.old.held result slot.new.held }
 {
     let Some(mut session) = take(slot, alloc) else {
         return EMPTY;
@@ -146,7 +146,7 @@ pub extern "C" fn jatshegi_board_comment(alloc: Global, slot: &mut Slot, comment
 /// An annotation number more, 0 to 255 (PGN 8.2.4).
 #[unsafe(no_mangle)]
 pub extern "C" fn jatshegi_board_annotate(alloc: Global, slot: &mut Slot, number: u8) -> u32
-    ensures { Acts (λ board ended after. HasEffect (not_at_root board.path (annotated_here number board)) board ended after) slot.old.held result slot.new.held }
+    ensures { Acts (λ board ended after. HasEffect true (not_at_root board.path (annotated_here number board)) board ended after) slot.old.held result slot.new.held }
 {
     let Some(mut session) = take(slot, alloc) else {
         return EMPTY;

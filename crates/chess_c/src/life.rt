@@ -1,4 +1,4 @@
-ghost use Rattle.std.specs.Prelude.{◌≡◌, ◌⊎◌, Some, None};
+ghost use Rattle.std.specs.Prelude.{◌≡◌, ◌⊎◌, Some, None, true};
 ghost use Rattle.chess_fen.specs.Reading.{fen_reading};
 ghost use Rattle.chess_cli.specs.Answers.{HasEffect, set_effect};
 ghost use Rattle.chess_c.specs.Calls.{Acts};
@@ -41,7 +41,7 @@ pub extern "C" fn jatshegi_board_free(alloc: Global, slot: &mut Slot)
 /// Begins a tree from the position of a FEN; the one that was there is freed.
 #[unsafe(no_mangle)]
 pub extern "C" fn jatshegi_board_set(alloc: Global, slot: &mut Slot, fen: &[u8]) -> u32
-    ensures { Acts (λ board ended after. HasEffect (set_effect (fen_reading fen.now)) board ended after) slot.old.held result slot.new.held }
+    ensures { Acts (λ board ended after. HasEffect true (set_effect (fen_reading fen.now)) board ended after) slot.old.held result slot.new.held }
 {
     let Some(mut session) = take(slot, alloc) else {
         return EMPTY;
@@ -53,7 +53,7 @@ pub extern "C" fn jatshegi_board_set(alloc: Global, slot: &mut Slot, fen: &[u8])
 
 // The same of a position by its fields: its FEN reads as it.
 fn set_position(board: &mut Board<'static, Global>, position: &CPosition) -> Result<(), Refusal>
-    ensures { HasEffect (set_effect (position_in position.now)) board.old result board.new }
+    ensures { HasEffect true (set_effect (position_in position.now)) board.old result board.new }
 {
     let made = position.read()?;
     board.set(chess_fen::write(&made).as_str().as_bytes())
@@ -67,7 +67,7 @@ pub extern "C" fn jatshegi_board_set_position(
     slot: &mut Slot,
     position: &CPosition,
 ) -> u32
-    ensures { Acts (λ board ended after. HasEffect (set_effect (position_in position.now)) board ended after) slot.old.held result slot.new.held }
+    ensures { Acts (λ board ended after. HasEffect true (set_effect (position_in position.now)) board ended after) slot.old.held result slot.new.held }
 {
     let Some(mut session) = take(slot, alloc) else {
         return EMPTY;

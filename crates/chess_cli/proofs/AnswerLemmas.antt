@@ -48,7 +48,7 @@ module _ {W : Type 0} (takes : W → List ℕ → W → Type 0) (failed : W → 
   game_or_not : (p q : TreeParts) (line page page1 text : List ℕ) → request line ≡ Pgn → MayAnswer (IsOnPage Game q page page1) p (request line) q → IsGameText q text → (page1 ≡ page) × Tells p (request line) text q
   game_or_not p q line page page1 text is (inl told) (inl e) = (told.0.0, inl (e ∙ told.0.1, told.1))
   game_or_not p q line page page1 text is (inl told) (inr e) =
-      (told.0.0, inr (ap takes_memory is, subst (λ r. IsGranted (effect p r)) (sym is) tt, e, told.1 ∙ ap (tree_after p) is))
+      (told.0.0, inr (ap (takes_memory p) is, subst (λ r. IsGranted (effect p r)) (sym is) tt, e, told.1 ∙ ap (tree_after p) is))
   game_or_not p q line page page1 text is (inr told) (inl e) = (told.2.0, inr (told.0, told.1, e ∙ told.2.1, told.3))
   game_or_not p q line page page1 text is (inr told) (inr e) = (told.2.0, inr (told.0, told.1, e, told.3))
 

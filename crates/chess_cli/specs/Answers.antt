@@ -1,7 +1,7 @@
 -- What the board answers to a line of the input, and its game tree and cursor afterwards. Nothing here keeps a number: the counts, the
 -- evaluation, the repetitions and the status are those that the definitions give afresh for the starting position and the moves from the
 -- root to the cursor.
-use Rattle.std.specs.Prelude.{◌≡◌, ℕ, ◌+◌, ◌*◌, ◌<◌, nat_le, nat_lt, Bool, true, false, if◌then◌else◌, ◌⊎◌, ⊤, List, [], ◌∷◌, ◌++◌, length, map, filter, Option, Some, None, Result, Ok, Err, codes, decimal, ℤ}
+use Rattle.std.specs.Prelude.{◌≡◌, ℕ, ◌+◌, ◌*◌, ◌<◌, nat_le, nat_lt, Bool, true, false, not, is_some, if◌then◌else◌, ◌⊎◌, ⊤, List, [], ◌∷◌, ◌++◌, length, map, filter, Option, Some, None, Result, Ok, Err, codes, decimal, ℤ}
 use Rattle.std.specs.Fmt.{signed_decimal}
 use Rattle.std.specs.List.{range_with_len}
 use Rattle.chess_types.specs.declared.board.man.Colour.{Colour}
@@ -200,15 +200,28 @@ answer t request = reply (effect t request)
 abbrev pub tree_after : TreeParts → Request → TreeParts
 tree_after t request = tree_left_by t (effect t request)
 
--- the requests that may ask for memory
-abbrev pub takes_memory : Request → Bool
-takes_memory New = true
-takes_memory (Set fen) = true
-takes_memory (Play word) = true
-takes_memory (Comment text) = true
-takes_memory (Nag nag) = true
-takes_memory Pgn = true
-takes_memory _ = false
+-- the move has no node yet, so that one is added
+abbrev pub is_new : TreeParts → MoveParts → Bool
+is_new t m = not (is_some (find m (nodes_here t)))
+
+-- the move that a text names has none
+abbrev pub names_new : TreeParts → Result MoveParts SanFault → Bool
+names_new t (Ok m) = is_new t m
+names_new t (Err fault) = false
+
+-- a comment has a word, so that it is kept
+abbrev pub has_words : List ℕ → Bool
+has_words text = nat_lt 0 (length (normalised text))
+
+-- the requests that may ask for memory: for a new tree, a new node, a comment, an annotation, or the game's text
+abbrev pub takes_memory : TreeParts → Request → Bool
+takes_memory t New = true
+takes_memory t (Set fen) = true
+takes_memory t (Play word) = names_new t (san_reading (last (line_to t)) word)
+takes_memory t (Comment text) = has_words text
+takes_memory t (Nag nag) = true
+takes_memory t Pgn = true
+takes_memory t _ = false
 
 -- it isn't refused
 abbrev pub IsGranted : Effect → Type 0
@@ -216,23 +229,18 @@ IsGranted (Says text) = ⊤
 IsGranted (Does new) = ⊤
 IsGranted (Refuses refusal) = ⊥
 
--- What a call that has this effect answers, and what it leaves: the effect is done, or refused; or, where it would be done and there is no
--- memory for it, refused so, with everything kept.
-abbrev pub HasEffect : {X : Type 0} → Effect → TreeParts → Result X Refusal → TreeParts → Type 0
-HasEffect effect old (Ok _) new = effect ≡ Does new
-HasEffect effect old (Err refusal) new = ((effect ≡ Refuses refusal) ⊎ (IsGranted effect × (refusal ≡ Memory))) × (new ≡ old)
-
--- The same of a call that takes no memory.
-abbrev pub HasEffectSurely : {X : Type 0} → Effect → TreeParts → Result X Refusal → TreeParts → Type 0
-HasEffectSurely effect old (Ok _) new = effect ≡ Does new
-HasEffectSurely effect old (Err refusal) new = (effect ≡ Refuses refusal) × (new ≡ old)
+-- What a call that has this effect answers, and what it leaves: the effect is done, or refused; or, where it would be done, may take memory, and
+-- there is none for it, refused so, with everything kept.
+abbrev pub HasEffect : {X : Type 0} → Bool → Effect → TreeParts → Result X Refusal → TreeParts → Type 0
+HasEffect takes effect old (Ok _) new = effect ≡ Does new
+HasEffect takes effect old (Err refusal) new = ((effect ≡ Refuses refusal) ⊎ ((takes ≡ true) × IsGranted effect × (refusal ≡ Memory))) × (new ≡ old)
 
 -- The board may answer the request with a text that this holds of, and go from the old tree and cursor to the new: as is asked, or, where that
 -- needs memory and there is none, with a refusal and everything kept.
 abbrev pub MayAnswer : (List ℕ → Type 0) → TreeParts → Request → TreeParts → Type 0
 MayAnswer answers old request new =
     (answers (answer old request) × (new ≡ tree_after old request))
-    ⊎ ((takes_memory request ≡ true) × IsGranted (effect old request) × answers no_memory × (new ≡ old))
+    ⊎ ((takes_memory old request ≡ true) × IsGranted (effect old request) × answers no_memory × (new ≡ old))
 
 -- the text answers the request
 abbrev pub Tells : TreeParts → Request → List ℕ → TreeParts → Type 0

@@ -16,7 +16,7 @@ use Rattle.chess_cli.specs.Answers.{Answers, beginning}
 use Rattle.chess_cli.specs.Collections.{EndsAtFault, EndsInPart, EndsUnread, EndsWhole, EndsWritten}
 use Rattle.chess_loop.specs.Runs.{AnyRest, Partly, Runs, Whole}
 use Rattle.chess_loop.specs.RunEnds.{EndsGood, EndsOver, EndsReadFault, EndsWriteFault, most_reads, never}
-use Rattle.chess_cli.specs.TimedSessions.{Answered, AnsweredInPart, beginning_with, has_ended}
+use Rattle.chess_cli.specs.TimedSessions.{Answered, AnsweredInPart, has_ended}
 
 -- how the run over games ends, from how the loop ended
 abbrev pub ended_of : RunEnd → Ended
@@ -34,17 +34,15 @@ module _ {R W : Type 0} (gives : R → List ℕ → R → Type 0) (read_failed :
     pub memory : result ≡ Memory → (r' ≡ r) × (w' ≡ w)
     pub input : (fault : PgnFault) → result ≢ Input fault
 
-  -- the clock is read by its relation
-  pub record TimedSessionEnds (A : Type 0) {C : Type 0} (reads : C → ℕ → C → Type 0) (clock : C) (result : Ended) (r r' : R) (w w' : W) : Type 0 where
-    pub good : result ≡ Good → (last : TimedSession A C)
-        × (EndsGood (Runs (Whole (Answered reads))) has_ended (beginning_with clock) gives read_failed takes write_failed ended last r r' w w'
-        ⊎ EndsOver (Runs (Whole (Answered reads))) has_ended (beginning_with clock) gives read_failed takes write_failed last r r' w w')
-    pub read_fault : result ≡ ReadFault → (last : TimedSession A C)
-        × EndsReadFault (Runs (Whole (Answered reads))) has_ended (beginning_with clock) gives read_failed takes write_failed most_reads last r r' w w'
-    pub write_fault : result ≡ WriteFault → (last : TimedSession A C)
-        × EndsWriteFault (Runs (Whole (Answered reads))) has_ended (beginning_with clock) gives read_failed takes write_failed
-        (Partly (Answered reads) (AnsweredInPart reads)) ended last r r' w w'
-    pub memory : result ≡ Memory → (r' ≡ r) × (w' ≡ w)
+  -- of a session from its first state to its last, whose clock is read by its relation
+  pub record TimedSessionEnds {A C : Type 0} (reads : C → ℕ → C → Type 0) (first last : TimedSession A C) (result : Ended) (r r' : R) (w w' : W) : Type 0 where
+    pub good : result ≡ Good
+        → EndsGood (Runs (Whole (Answered reads))) has_ended first gives read_failed takes write_failed ended last r r' w w'
+        ⊎ EndsOver (Runs (Whole (Answered reads))) has_ended first gives read_failed takes write_failed last r r' w w'
+    pub read_fault : result ≡ ReadFault → EndsReadFault (Runs (Whole (Answered reads))) has_ended first gives read_failed takes write_failed most_reads last r r' w w'
+    pub write_fault : result ≡ WriteFault
+        → EndsWriteFault (Runs (Whole (Answered reads))) has_ended first gives read_failed takes write_failed (Partly (Answered reads) (AnsweredInPart reads)) ended last r r' w w'
+    pub memory : result ≡ Memory → (last ≡ first) × (r' ≡ r) × (w' ≡ w)
     pub input : (fault : PgnFault) → result ≢ Input fault
 
 module _ {R W : Type 0} (gives : R → List ℕ → R → Type 0) (read_failed : R → Bool) (takes : W → List ℕ → W → Type 0) (write_failed : W → Bool) (ended : R → Type 0) where

@@ -17,4 +17,4 @@ pub use board_command::{
 pub use ended::Ended;
 pub use laws::{collection_laws, path_laws};
 pub use pgn_command::pgn;
-pub use uci_command::{Clock, uci, uci_with};
+pub use uci_command::{Clock, TimedSession, uci, uci_with};

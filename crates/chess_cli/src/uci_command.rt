@@ -6,3 +6,4 @@ mod timed_session;
 
 pub use clock::Clock;
 pub use sessions::{uci, uci_with};
+pub use timed_session::TimedSession;

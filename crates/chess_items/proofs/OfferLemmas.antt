@@ -70,7 +70,7 @@ near_bracket place old hand rest (inr h) found small = (let t = item_taken place
         (let k : b ≡ byte "[" = first b (byte "[") (prefix ++ piece) rest (sym e ∙ is) in absurd (undecided (subst (λ (x : ℕ). Decides place (x ∷ prefix)) (sym k) (bracket_decided place prefix stands))))
 
 -- a longer prefix decides too
-decides_longer : (place : Place) (prefix more : List ℕ) → Decides place prefix → Decides place (prefix ++ more)
+pub decides_longer : (place : Place) (prefix more : List ℕ) → Decides place prefix → Decides place (prefix ++ more)
 decides_longer place prefix more d = λ further.
     ap (item_at place) (append_assoc prefix more further) ∙ d (more ++ further) ∙ longer_twice (item_at place prefix) more further ∙ ap (λ (x : Found). longer x further) (sym (d more))
   where
@@ -147,6 +147,7 @@ module _ {X : Type 0} {comes : X → List ℕ → X → Type 0} {at_hand : X →
             record {
               over = λ further none. over_oversized most place (at_hand mid) further a.over a.undecided;
               bracket = λ further none rest found. absurd (undecided_bracket place (at_hand mid) further rest (omega (arith, a.over)) a.undecided found);
+              same = inl refl;
             },
             subst (λ (x : List ℕ). Needs at_hand all place old x mid) (sym (append-nil r.more)) a.asked,
           );
@@ -209,6 +210,7 @@ module _ {X : Type 0} {comes : X → List ℕ → X → Type 0} {at_hand : X →
           stops stop.TooLarge t (record {
             over = λ more none. none_oversized most place (at_hand mid) more both.0 both.1 (finds None man_on more none);
             bracket = λ more none rest found. absurd (none_is_some rest (sym (finds None man_on more none) ∙ found));
+            same = inl refl;
           })
 
       pub step_none : at_hand mid ≢ [] → (most < length seen → Decides place (take (most + 1) seen)) → Steps comes at_hand all sound size takes at most place old mid t t (Ok (step.Stops stop.NoItem))
@@ -242,18 +244,19 @@ module _ {X : Type 0} {comes : X → List ℕ → X → Type 0} {at_hand : X →
 
       module _ {T : Type 0} {takes : TakesOne T} {at : ℕ} {t : T} where
         -- the item is too long
-        step_over : most < used → (u : T) → (item ≡ TagOpen → Brackets takes at t u) → Steps comes at_hand all sound size takes at most place old mid t u (Ok (step.Stops stop.TooLarge))
-        step_over long u bracket =
+        step_over : most < used → (u : T) → (item ≡ TagOpen → Brackets takes at t u) → (u ≡ t) ⊎ Brackets takes at t u → Steps comes at_hand all sound size takes at most place old mid t u (Ok (step.Stops stop.TooLarge))
+        step_over long u bracket same =
             stops stop.TooLarge u (record {
               over = λ more none. long_oversized most place (at_hand mid) more item rest (omega (arith, counts, long)) (found_on more none);
               bracket = λ more none other is. bracket (same_item item TagOpen (rest ++ more) other (sym (found_on more none) ∙ is));
+              same = same;
             })
 
         -- it isn't used
         step_stops : (why : Stop) (u : T) → Offered takes at most place item used t u (step.Stops why) → Steps comes at_hand all sound size takes at most place old mid t u (Ok (step.Stops why))
         step_stops stop.Left u o = stops stop.Left u (item, next_item, o)
         step_stops (stop.Refused fault) u o = stops (stop.Refused fault) u (item, next_item, o)
-        step_stops stop.TooLarge u o = step_over o.0 u o.1
+        step_stops stop.TooLarge u o = step_over o.0 u o.1 o.2
         step_stops stop.Full u o = absurd o
         step_stops stop.End u o = absurd o
         step_stops stop.NoItem u o = absurd o

@@ -23,7 +23,7 @@ abbrev Grows : (List ℕ → Found) → List ℕ → Type 0
 Grows at prefix = (c : ℕ) × Differs (at (prefix ++ c ∷ [])) (at prefix) (c ∷ [])
 
 -- a run that reaches the end
-run_whole : (p : ℕ → Bool) (f : List ℕ → List ℕ → Found) (bytes : List ℕ) → list_all p bytes ≡ true → run_at p f bytes ≡ f bytes []
+pub run_whole : (p : ℕ → Bool) (f : List ℕ → List ℕ → Found) (bytes : List ℕ) → list_all p bytes ≡ true → run_at p f bytes ≡ f bytes []
 run_whole p f bytes h = subst (λ (x : List ℕ). run_at p f x ≡ f bytes []) (append-nil bytes) (run_found p f bytes [] (all_each p bytes h) tt)
 
 -- with another byte of the run

@@ -8,7 +8,6 @@ use Rattle.chess_items.specs.Coming.{AtHand, Came, unread}
 use Rattle.chess_items.specs.steps.AtHands.{Brought, Reads}
 use Rattle.chess_items.specs.declared.place.Place.{Place}
 use Rattle.chess_items.proofs.BreakLemmas.{each_append}
-use Rattle.chess_items.proofs.OpenLemmas.{nothing_undecided}
 use Rattle.chess_items.proofs.ReadLemmas.{joined_small, needed_more, take_front}
 
 -- So far each read was needed, and the bytes that were looked at don't decide the item.
@@ -18,8 +17,8 @@ pub record Going {R : Type 0} (gives : R → List ℕ → R → Type 0) (ended :
   pub undecided : Decides place (take looked (unread now)) → ⊥
 
 module _ {R : Type 0} (gives : R → List ℕ → R → Type 0) (ended : R → Type 0) (failed : R → Bool) (most : ℕ) (place : Place) (old : AtHand R) where
-  pub going_start : (old.has_ended ≡ true → ended old.source) → Going gives ended failed most place 0 old old
-  going_start so = record {
+  pub going_start : (looked : ℕ) → looked ≤ length (unread old) → (Decides place (take looked (unread old)) → ⊥) → (old.has_ended ≡ true → ended old.source) → Going gives ended failed most place looked old old
+  going_start looked within undecided so = record {
     brought = record {
       pieces = [];
       calls = refl;
@@ -33,8 +32,8 @@ module _ {R : Type 0} (gives : R → List ℕ → R → Type 0) (ended : R → T
       whole = sym (append-nil (unread old));
       ended_so = so;
     };
-    within = omega arith;
-    undecided = nothing_undecided place;
+    within = within;
+    undecided = undecided;
   }
 
   -- one read more

@@ -1,15 +1,10 @@
 -- A text has one spelling: of two, one goes on where the other ends.
 use Rattle.std.proofs.Common.{◌≡◌, ◌≤◌, ℕ, List, [], ◌∷◌, ◌++◌, length, refl, sym, ap, subst, ◌∙◌, arith}
-use Rattle.chess_items.specs.Items.{Item, Spells, place_after}
+use Rattle.chess_items.specs.Items.{Item, Spells, place_after, place_behind}
 use Rattle.chess_items.specs.declared.place.Place.{Place}
 use Rattle.chess_items.specs.steps.ItemAt.{item_at}
 use Rattle.chess_items.proofs.ItemLemmas.{item_goes}
 use Rattle.chess_items.proofs.FoundLemmas.{the, some_is}
-
--- the place after items
-abbrev pub place_behind : Place → List Item → Place
-place_behind place [] = place
-place_behind place (item ∷ items) = place_behind (place_after place item) items
 
 -- the first item is found at the beginning
 pub first_found : (place : Place) (input : List ℕ) (item : Item) (items : List Item) (rest : List ℕ) → (s : Spells place input (item ∷ items) rest) → item_at place input ≡ the item s.1

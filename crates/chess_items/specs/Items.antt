@@ -2,6 +2,7 @@
 --   Item         a token, or what stands between tokens
 --   may_stand    the items that may stand at a place: outside of tags, between the parts of a tag, or in its value
 --   place_after  the place after an item
+--   place_behind the place after some items
 --   is_white     the items that make no game
 --   IsItem       the item that a text spells, at a place and before what follows
 --   Spells       the items that the beginning of a text spells, one after another, and the rest
@@ -243,3 +244,8 @@ abbrev pub Spells : Place → List ℕ → List Item → List ℕ → Type 0
 Spells place input [] rest = input ≡ rest
 Spells place input (item ∷ items) rest =
     (text next : List ℕ) × (input ≡ text ++ next) × IsItem place item text next × Spells (place_after place item) next items rest
+
+-- the place after items
+abbrev pub place_behind : Place → List Item → Place
+place_behind place [] = place
+place_behind place (item ∷ items) = place_behind (place_after place item) items

@@ -1,9 +1,10 @@
 //! Whether bytes at hand decide the item that they begin with.
 
-ghost use Rattle.std.specs.Prelude.{◌≡◌, ◌≤◌, ◌<◌, true, take, length, nat_lt, MatchBool};
+ghost use Rattle.std.specs.Prelude.{◌≡◌, ◌≤◌, ◌<◌, true, take, length, nat_lt, IfSome, MatchBool};
 ghost use Rattle.std.specs.List.{list_all};
 ghost use Rattle.chess_items.specs.Items.{digits_value};
 ghost use Rattle.chess_items.specs.steps.Classes.{has_byte};
+ghost use Rattle.chess_items.specs.steps.Unended.{BeginsComment};
 ghost use Rattle.chess_items.specs.steps.Deciding.{Decides, is_open, mark_open, outside_open, start_open, tag_open, value_open};
 
 use crate::class::{Class, is_blank};
@@ -140,6 +141,30 @@ fn reaches_end(place: Place, bytes: &[u8], looked: usize) -> bool
         Place::TagLineStart => is_tag_open(true, bytes, looked),
         Place::InTag => is_tag_open(false, bytes, looked),
         Place::InValue => is_value_open(bytes, looked),
+    }
+}
+
+/// Which comment begins with a byte.
+#[derive(Clone, Copy)]
+pub enum Comment {
+    /// Between braces.
+    Braces,
+    /// To the end of the line.
+    Line,
+}
+
+/// Which comment the bytes begin with, outside of tags.
+#[inline(always)]
+pub fn comment_at(place: Place, bytes: &[u8]) -> Option<Comment>
+    ensures { IfSome result (λ comment. BeginsComment comment place bytes.now) }
+{
+    if !matches!(place, Place::GameStart | Place::LineStart | Place::InLine) {
+        return None;
+    }
+    match bytes.first() {
+        Some(b'{') => Some(Comment::Braces),
+        Some(b';') => Some(Comment::Line),
+        _ => None,
     }
 }
 

@@ -7,11 +7,12 @@ ghost use Rattle.chess_items.specs.declared.place.Place.TheVariants.{InLine};
 ghost use Rattle.chess_items.specs.steps.Firsts.{IsFirst, IsFollowed, IsWithin};
 ghost use Rattle.chess_items.specs.steps.Taking.{Offered, Settles, Steps, Ran, RunBreaks};
 ghost use Rattle.chess_items.specs.steps.Texts.{BreaksAt};
-ghost use Rattle.chess_items.specs.steps.Tokens.{item_of};
+ghost use Rattle.chess_items.specs.steps.ItemAt.{item_at};
+ghost use Rattle.chess_items.specs.steps.Tokens.{found, item_of};
 
 use crate::at_hand::Fault;
 use crate::class::Class;
-use crate::cut::is_undecided;
+use crate::cut::{Comment, comment_at, is_undecided};
 use crate::fault::PgnFault;
 use crate::lexer::item;
 use crate::place::Place;
@@ -49,7 +50,7 @@ pub struct Stopped {
 
 /// What becomes of one item: it is used, with its place after it, its length and whether it is white, or it is where all stops.
 #[derive(Clone, Copy)]
-enum Step {
+pub enum Step {
     On(Place, usize, bool),
     Full(Place, usize, bool),
     Stops(Stop),
@@ -57,14 +58,16 @@ enum Step {
 
 /// Where the next item stands: its place, how many bytes are used before it, and how many it may have.
 #[derive(Clone, Copy)]
-struct Spot {
-    place: Place,
-    at: usize,
-    most: usize,
+pub struct Spot {
+    pub place: Place,
+    pub at: usize,
+    pub most: usize,
 }
 
-/// Whether there are more than `most` bytes, and the first `most + 1` don't decide the item.
-fn exceeds(place: Place, bytes: &[u8], most: usize) -> bool
+/// Whether there are more than `most` bytes, and the first `most + 1` don't decide the item; nor do the first `looked`.
+fn exceeds(place: Place, bytes: &[u8], most: usize, looked: usize) -> bool
+    requires within { looked ≤ length bytes.now }
+    requires looked { Decides place (take looked bytes.now) → ⊥ }
     ensures { MatchBool result
         ((most < length bytes.now) × (Decides place (take (most + 1) bytes.now) → ⊥))
         (most < length bytes.now → Decides place (take (most + 1) bytes.now)) }
@@ -72,7 +75,21 @@ fn exceeds(place: Place, bytes: &[u8], most: usize) -> bool
     if bytes.len() <= most {
         return false;
     }
-    is_undecided(place, &bytes[..most + 1], 0)
+    is_undecided(place, &bytes[..most + 1], looked.min(most + 1))
+}
+
+// The first item, where the first `looked` bytes don't decide it: where those are all, a comment between braces is none.
+fn item_unlooked(place: Place, bytes: &[u8], looked: usize) -> Option<(Token<'_>, &[u8])>
+    requires within { looked ≤ length bytes.now }
+    requires looked { Decides place (take looked bytes.now) → ⊥ }
+    ensures { found result ≡ item_at place bytes.now }
+{
+    if let Some(Comment::Braces) = comment_at(place, bytes) {
+        if looked == bytes.len() {
+            return None;
+        }
+    }
+    item(place, bytes)
 }
 
 // Offers an item of so many bytes. A bracket is offered even after the limit, since it may be left.
@@ -130,8 +147,9 @@ fn take_read<X: Text, T: Taker>(text: &mut X, taker: &mut T, spot: Spot) -> Resu
     if text.unread().is_empty() {
         return Ok(Step::Stops(Stop::End));
     }
-    let Some((token, rest)) = item(spot.place, text.unread()) else {
-        if exceeds(spot.place, text.unread(), spot.most) {
+    let looked = text.looked(spot.place);
+    let Some((token, rest)) = item_unlooked(spot.place, text.unread(), looked) else {
+        if exceeds(spot.place, text.unread(), spot.most, looked) {
             return Ok(Step::Stops(Stop::TooLarge));
         }
         return Ok(Step::Stops(Stop::NoItem));
@@ -208,7 +226,7 @@ fn take_first<X: Text, T: Taker>(
 // Takes one item. Where a byte is at hand after the first item, no read can change it, and it is taken at
 // once: so the bytes of nearly all items are looked at once. Within a line the most frequent items are known by their first byte.
 #[inline(always)]
-fn take_one<X: Text, T: Taker>(text: &mut X, taker: &mut T, spot: Spot) -> Result<Step, Fault>
+pub fn take_one<X: Text, T: Taker>(text: &mut X, taker: &mut T, spot: Spot) -> Result<Step, Fault>
     requires { X.sound text.old }
     ensures steps { Steps X.comes X.at_hand X.all X.sound X.size T.takes spot.at spot.most spot.place text.old text.new taker.old taker.new result }
     ensures broken { IfErr result (λ fault. BreaksAt X.comes X.at_hand X.breaks X.all X.sound spot.place text.old text.new fault) }
@@ -234,6 +252,10 @@ fn take_one<X: Text, T: Taker>(text: &mut X, taker: &mut T, spot: Spot) -> Resul
         if let Some(left) = after_number(text.unread()) {
             return Ok(take_first(text, taker, spot, Token::Skipped, left));
         }
+    }
+    // What is known not to be decided isn't searched again.
+    if text.looked(spot.place) == text.unread().len() {
+        return take_read(text, taker, spot);
     }
     let Some((token, rest)) = item(spot.place, text.unread()) else {
         return take_read(text, taker, spot);

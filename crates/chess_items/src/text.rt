@@ -1,6 +1,7 @@
 //! Texts that are at hand bit by bit, or whole.
 
-ghost use Rattle.std.specs.Prelude.{◌≡◌, ℕ, ◌≤◌, List, length, IfErr};
+ghost use Rattle.std.specs.Prelude.{◌≡◌, ℕ, ◌≤◌, List, length, take, IfErr};
+ghost use Rattle.chess_items.specs.steps.Deciding.{Decides};
 ghost use Rattle.chess_items.specs.steps.Texts.{BreaksAt, BreaksOff, MadeReady, Keeps, Refills};
 
 use crate::at_hand::{AtHand, Fault};
@@ -36,6 +37,11 @@ pub trait Text {
     /// The bytes at hand.
     fn unread(&self) -> &[u8]
         ensures { result.now ≡ at_hand self.now };
+
+    /// How many of the first bytes at hand are known not to decide the item that they begin with, by searches before.
+    fn looked(&self, place: Place) -> usize
+        ensures within { result ≤ length (at_hand self.now) }
+        ensures undecided { Decides place (take result (at_hand self.now)) → ⊥ };
 
     /// Uses the first bytes, all but `left`.
     fn keep(&mut self, left: usize)
@@ -81,6 +87,11 @@ impl<'a> Text for Whole<'a> {
     }
 
     #[inline(always)]
+    fn looked(&self, _place: Place) -> usize {
+        0
+    }
+
+    #[inline(always)]
     fn keep(&mut self, left: usize) {
         self.left = &self.left[self.left.len() - left..];
     }
@@ -114,6 +125,11 @@ impl<'a, R: Source, A: Allocator> Text for AtHand<'a, R, A> {
     #[inline(always)]
     fn unread(&self) -> &[u8] {
         AtHand::unread(self)
+    }
+
+    #[inline(always)]
+    fn looked(&self, place: Place) -> usize {
+        AtHand::looked(self, place)
     }
 
     #[inline(always)]

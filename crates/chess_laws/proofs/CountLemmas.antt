@@ -1,13 +1,12 @@
 -- What a legal move does to the rights, the target and the two counters.
-use Rattle.std.proofs.Common.{◌⊎◌, ◌≡◌, ℕ, ◌+◌, ◌==◌, Bool, true, false, ◌||◌, List, [], ◌∷◌, Option, Some, None, is_some, refl, sym, ap, ◌∙◌, arith, inl, inr, if◌then◌else◌}
+use Rattle.std.proofs.Common.{◌⊎◌, ◌≡◌, ℕ, ◌+◌, true, ◌||◌, List, [], ◌∷◌, Option, Some, None, is_some, refl, sym, ap, ◌∙◌, arith, inl, inr, if◌then◌else◌}
 use Rattle.std.specs.List.{Contains}
 use Rattle.std.proofs.lemmas.Bool.{and_parts, or_cases, cases_Bool, eqb-true}
-use Rattle.std.proofs.lemmas.Bool.Decides.{nat_tests}
 use Rattle.chess_types.specs.declared.board.man.Colour.{Colour}
 use Rattle.chess_types.specs.declared.board.man.Colour.TheVariants.{White, Black}
 use Rattle.chess_types.specs.declared.board.man.Man.{Man}
 use Rattle.chess_types.specs.declared.board.position.Wing.{Wing}
-use Rattle.chess_types.specs.board.Men.{holds_pawn, is_pawn, opponent}
+use Rattle.chess_types.specs.board.Men.{holds_pawn, opponent}
 use Rattle.chess_types.specs.board.MoveParts.{MoveParts}
 use Rattle.chess_types.specs.board.Position.{PositionParts, IsWellFormed, holds, man_on}
 use Rattle.chess_types.specs.board.Pseudo.{is_target, midway}
@@ -68,15 +67,11 @@ taken_at_once p m n well listed next h =
 
 -- the clock
 pub clock_counts : (p : PositionParts) (m : MoveParts) → IsWellFormed p → Contains (legal_moves p) m →
-    ((after p m).clock == 0) ≡ (holds_pawn (man_on p m.from) || is_some (man_on p m.to))
+    (after p m).clock ≡ (if holds_pawn (man_on p m.from) || is_some (man_on p m.to) then 0 else (p.clock + 1))
 clock_counts p m well listed =
     let (man, here) = mover p m listed in
-    ap (λ (q : PositionParts). q.clock == 0) (then_by p m man here) ∙ zero_or_more (is_pawn man.kind || is_some (man_on p m.to)) p.clock
-    ∙ ap (λ o. holds_pawn o || is_some (man_on p m.to)) (sym here)
-  where
-    zero_or_more : (b : Bool) (clock : ℕ) → ((if b then 0 else (clock + 1)) == 0) ≡ b
-    zero_or_more true clock = refl
-    zero_or_more false clock = grind (arith, nat_tests)
+    ap (λ (q : PositionParts). q.clock) (then_by p m man here)
+    ∙ ap (λ (o : Option Man). if holds_pawn o || is_some (man_on p m.to) then 0 else (p.clock + 1)) (sym here)
 
 -- the number
 pub number_counts : (p : PositionParts) (moves : List MoveParts) → IsWellFormed p → AreListed p moves →

@@ -8,10 +8,10 @@
 --   IsCastled      the king and the rook have castled, with the right, over squares that were not attacked
 --   CastlingIsSound   so it is after each legal move of a king as castling takes it
 --   TakenAtOnce    a pawn that is captured en passant has made its advance of two squares on the move before
---   ClockCounts    the halfmove clock is 0 exactly after a pawn's move or a capture, else one more
+--   ClockCounts    the halfmove clock is 0 after a pawn's move or a capture, else one more
 --   black_moves    how many of some moves are Black's
 --   NumberCounts   the fullmove number has grown by them
-use Rattle.std.specs.Prelude.{◌≡◌, ℕ, ◌+◌, ◌-◌, ◌≤◌, ◌==◌, true, ◌||◌, ◌⊎◌, List, [], ◌∷◌, is_some, Some, None, false}
+use Rattle.std.specs.Prelude.{◌≡◌, ℕ, ◌+◌, ◌-◌, ◌≤◌, true, ◌||◌, if◌then◌else◌, ◌⊎◌, List, [], ◌∷◌, is_some, Some, None, false}
 use Rattle.std.specs.List.{Contains}
 use Rattle.chess_types.specs.declared.board.man.Colour.{Colour}
 use Rattle.chess_types.specs.declared.board.man.Colour.TheVariants.{White, Black}
@@ -92,7 +92,7 @@ TakenAtOnce =
 abbrev pub ClockCounts : Type 0
 ClockCounts =
     (p : PositionParts) (m : MoveParts) → IsWellFormed p → Contains (legal_moves p) m →
-    ((after p m).clock == 0) ≡ (holds_pawn (man_on p m.from) || is_some (man_on p m.to))
+    (after p m).clock ≡ (if holds_pawn (man_on p m.from) || is_some (man_on p m.to) then 0 else (p.clock + 1))
 
 -- of moves from a position, those that Black makes
 abbrev pub black_moves : Colour → List MoveParts → ℕ

@@ -1,7 +1,7 @@
 -- What the status and the claims of a line have to do with its last position and the next (FIDE Laws, articles 5.1.1, 5.2.1, 9.2 and 9.3).
 --   MateIsMate       the status is mate exactly where the last position is a mate
 --   StalemateIsNone  and stalemate exactly where it has no legal move and no check
---   DrawsWereClaimable  a draw by the fifth repetition or by 75 moves could have been claimed by the third, or by 50
+--   DrawsAreClaimable  a draw by the fifth repetition or by 75 moves has the ground of a claim, too: three repetitions, or 50 moves by each side
 --   ClaimsEnd        nothing may be claimed once the game is over
 --   ClaimsAgree      what may be claimed with a legal move may be claimed after it, and nothing else, while the game goes on
 use Rattle.std.specs.Prelude.{◌≡◌, ◌&&◌, not, Bool, true, false, Some, ◌≤◌}
@@ -45,9 +45,9 @@ abbrev pub shows_seventyfive : Status → Bool
 shows_seventyfive Seventyfive = true
 shows_seventyfive _ = false
 
--- what ends the game by itself was to be claimed before (9.2, 9.3, 9.6)
-abbrev pub DrawsWereClaimable : Type 0
-DrawsWereClaimable =
+-- what ends the game by itself has what a claim asks for, too (9.2, 9.3, 9.6)
+abbrev pub DrawsAreClaimable : Type 0
+DrawsAreClaimable =
     (line : Line) →
     (shows_fivefold (status line) ≡ true → 3 ≤ repetitions line) × (shows_seventyfive (status line) ≡ true → 100 ≤ (last line).clock)
 

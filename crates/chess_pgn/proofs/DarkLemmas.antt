@@ -4,7 +4,7 @@ use Rattle.std.specs.Prelude.{if◌then◌else◌}
 use Rattle.std.specs.List.{list_all}
 use mathlib.Core.Logic.{inl, inr}
 use Rattle.chess_items.specs.Items as items
-use Rattle.chess_items.specs.Items.{Each, IsSpelled, Item, Spells, may_stand, EndsRun, in_line, is_blank, is_game_start, is_outside, is_white, place_after, starts_line}
+use Rattle.chess_items.specs.Items.{Each, IsSpelled, Item, Spells, may_stand, EndsRun, in_line, is_blank, is_game_start, is_outside, is_white, place_after, starts_line, place_behind}
 use Rattle.chess_items.specs.steps.ItemAt.{item_at}
 use Rattle.chess_items.specs.steps.Skipping.{column_at, white_after, white_byte}
 use Rattle.chess_items.specs.steps.Texts.{Oversized}
@@ -16,7 +16,7 @@ use Rattle.chess_items.specs.declared.place.Place.{Place}
 use Rattle.chess_items.specs.declared.place.Place.TheVariants.{GameStart, LineStart, InLine}
 use Rattle.chess_items.proofs.BlankLemmas.{white_after-append}
 use Rattle.chess_items.proofs.FoundLemmas.{some_is, the}
-use Rattle.chess_items.proofs.SpellLemmas.{first_found, one_spelling, place_behind}
+use Rattle.chess_items.proofs.SpellLemmas.{first_found, one_spelling}
 use Rattle.chess_items.proofs.WhiteLemmas.{after_blank, nothing_after}
 use Rattle.chess_pgn.specs.Reading.{IsWhite, is_heading, is_movetext, is_tagged}
 use Rattle.chess_pgn.specs.Tags.{AreBetween, may_part_tags}

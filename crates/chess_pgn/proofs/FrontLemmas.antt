@@ -7,7 +7,7 @@ use mathlib.Core.Logic.{inl, inr}
 use Rattle.chess_types.specs.board.Position.{PositionParts}
 use Rattle.byte_streams.specs.Calls.{Calls, joined}
 use Rattle.chess_items.specs.Items as items
-use Rattle.chess_items.specs.Items.{IsSpelled, Item, Spells, is_white, place_after}
+use Rattle.chess_items.specs.Items.{IsSpelled, Item, Spells, is_white, place_after, place_behind}
 use Rattle.chess_items.specs.steps.Passing.{Passed, Passes, WasWhite}
 use Rattle.chess_items.specs.steps.Deciding.{Decides}
 use Rattle.chess_items.specs.steps.Taking.{AfterRun, Asked, TakesOne, Took, RanFull, RanOut, RanUpTo, SpellsFrom, all_white, behind}
@@ -20,7 +20,6 @@ use Rattle.chess_items.specs.declared.taking.Stop.{Stop}
 use Rattle.chess_items.specs.declared.taking.Stop.TheVariants as stop
 use Rattle.chess_items.specs.declared.taking.Stopped.{Stopped}
 use Rattle.chess_items.proofs.FoundLemmas.{item_taken}
-use Rattle.chess_items.proofs.SpellLemmas.{place_behind}
 use Rattle.chess_items.proofs.TakingLemmas.{bare, spells_bare}
 use Rattle.chess_pgn.specs.Grammar.{Derives, elements, few_are_open}
 use Rattle.chess_pgn.specs.Reading.{Ends, Gives, HasBegun, IsWithinLimits, Starts, is_heading, remarks}

@@ -4,7 +4,7 @@ use Rattle.std.specs.Prelude.{MatchOption}
 use Rattle.std.specs.Str.{byte}
 use mathlib.Core.Logic.{inl, inr}
 use Rattle.chess_items.specs.Items as items
-use Rattle.chess_items.specs.Items.{Item, Spells, is_outside, place_after}
+use Rattle.chess_items.specs.Items.{Item, Spells, is_outside, place_after, place_behind}
 use Rattle.chess_items.specs.steps.Deciding.{Decides}
 use Rattle.chess_items.specs.steps.ItemAt.{Found, item_at}
 use Rattle.chess_items.specs.steps.Texts.{Oversized}
@@ -14,7 +14,7 @@ use Rattle.chess_items.specs.declared.place.Place.{Place}
 use Rattle.chess_items.specs.declared.place.Place.TheVariants.{GameStart}
 use Rattle.chess_items.specs.declared.taker.Taken.TheVariants.{GoesOn, Ends as AtEnd}
 use Rattle.chess_items.proofs.FoundLemmas.{some_is, the}
-use Rattle.chess_items.proofs.SpellLemmas.{first_found, one_spelling, place_behind}
+use Rattle.chess_items.proofs.SpellLemmas.{first_found, one_spelling}
 use Rattle.chess_pgn.specs.Games.{Game}
 use Rattle.chess_pgn.specs.Reading.{Ends, Gives, HasBegun, BeginsWithGame, is_heading, is_movetext}
 use Rattle.chess_pgn.specs.steps.ReaderCode.{Ended, MayNotEnd, Read, TakesItem, takes_when}

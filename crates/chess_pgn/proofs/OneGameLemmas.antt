@@ -4,10 +4,10 @@ use Rattle.std.specs.List.{list_all}
 use mathlib.Core.Logic.{inl, inr}
 use Rattle.chess_types.specs.board.Position.{PositionParts}
 use Rattle.chess_items.specs.Items as items
-use Rattle.chess_items.specs.Items.{Item, Spells, is_outside, is_white}
+use Rattle.chess_items.specs.Items.{Item, Spells, is_outside, is_white, place_behind}
 use Rattle.chess_items.specs.declared.outcome.Outcome.{Outcome}
 use Rattle.chess_items.specs.declared.place.Place.TheVariants.{GameStart}
-use Rattle.chess_items.proofs.SpellLemmas.{one_spelling, place_behind}
+use Rattle.chess_items.proofs.SpellLemmas.{one_spelling}
 use Rattle.chess_tree.specs.GameTree.{GameTree}
 use Rattle.chess_pgn.specs.Games.{Game}
 use Rattle.chess_pgn.specs.Grammar.{Derives, elements}

@@ -5,14 +5,13 @@ use Rattle.std.specs.List.{AllByRecursion, list_all}
 use Rattle.std.specs.Str.{byte}
 use mathlib.Core.Logic.{inl, inr}
 use Rattle.chess_items.specs.Items as items
-use Rattle.chess_items.specs.Items.{Item, TagOpen, Spells, is_blank, is_digit, is_glyph, is_name_byte, is_outside, is_word_byte, place_after}
+use Rattle.chess_items.specs.Items.{Item, TagOpen, Spells, is_blank, is_digit, is_glyph, is_name_byte, is_outside, is_word_byte, place_after, place_behind}
 use Rattle.chess_items.specs.steps.ItemAt.{item_at, outside_at, sign_at, start_at, tag_at, value_at}
 use Rattle.chess_items.specs.declared.outcome.Outcome.{Outcome}
 use Rattle.chess_items.specs.declared.place.Place.{Place}
 use Rattle.chess_items.specs.declared.place.Place.TheVariants.{GameStart, LineStart, InLine}
 use Rattle.chess_items.proofs.FoundLemmas.{some_is}
 use Rattle.chess_items.proofs.ItemLemmas.{item_goes}
-use Rattle.chess_items.proofs.SpellLemmas.{place_behind}
 use Rattle.chess_items.proofs.WhiteLemmas.{stays_outside}
 use Rattle.chess_pgn.specs.Reading.{Ends, HasBegun, Starts, is_heading, is_movetext}
 use Rattle.chess_pgn.specs.Tags.{AreGaps, AreTags, IsTag, may_part_tags, is_tag_gap, is_value_part}

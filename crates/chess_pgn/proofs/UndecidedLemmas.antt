@@ -2,14 +2,14 @@
 use Rattle.std.proofs.Common.{◌≡◌, ◌⊎◌, ◌<◌, ℕ, ◌+◌, true, List, [], ◌∷◌, ◌++◌, length, refl, sym, ap, subst, ◌∙◌, arith, append-nil, length-append}
 use Rattle.std.specs.Str.{byte}
 use mathlib.Core.Logic.{inl, inr}
-use Rattle.chess_items.specs.Items.{Item, Spells, is_outside, place_after}
+use Rattle.chess_items.specs.Items.{Item, Spells, is_outside, place_after, place_behind}
 use Rattle.chess_items.specs.steps.Deciding.{Decides, longer}
 use Rattle.chess_items.specs.steps.ItemAt.{Found, item_at}
 use Rattle.chess_items.specs.declared.place.Place.{Place}
 use Rattle.chess_items.specs.declared.place.Place.TheVariants.{GameStart}
 use Rattle.chess_items.proofs.FoundLemmas.{the}
 use Rattle.chess_items.proofs.LocalLemmas.{decided_so_far, next_is, text_shorter, undecided_taken}
-use Rattle.chess_items.proofs.SpellLemmas.{first_found, one_spelling, place_behind}
+use Rattle.chess_items.proofs.SpellLemmas.{first_found, one_spelling}
 use Rattle.chess_pgn.specs.Games.{Game}
 use Rattle.chess_pgn.specs.Reading.{Gives, BeginsWithGame}
 use Rattle.chess_pgn.specs.declared.reader.Reader.{Reader}

@@ -1,9 +1,10 @@
 -- The one text of a legal move in standard algebraic notation (PGN 8.2.3).
 --   rivals      the legal moves of other men of like kind to the target
 --   origin_of   what distinguishes the man from them: nothing, its file, its rank, or both (PGN 8.2.3.4)
+--   is_known_alone  a pawn or a king, whose texts need no look at other men
 --   mark_text   # for mate, + for check (PGN 8.2.3.5)
 --   san         the text
-use Rattle.std.specs.Prelude.{ℕ, ◌+◌, ◌==◌, Bool, not, ◌&&◌, ◌||◌, if◌then◌else◌, List, [], ◌∷◌, ◌++◌, filter, Option, Some, None, is_some, codes}
+use Rattle.std.specs.Prelude.{ℕ, ◌+◌, ◌==◌, Bool, false, not, ◌&&◌, ◌||◌, if◌then◌else◌, List, [], ◌∷◌, ◌++◌, filter, Option, Some, None, is_some, codes}
 use Rattle.std.specs.Char.{to_ascii_uppercase}
 use Rattle.std.specs.Str.{byte}
 use Rattle.std.specs.List.{list_any}
@@ -12,6 +13,7 @@ use Rattle.chess_types.specs.declared.board.man.Kind.TheVariants.{Pawn}
 use Rattle.chess_types.specs.declared.board.man.Man.{Man}
 use Rattle.chess_types.specs.declared.board.position.Wing.TheVariants.{KingSide, QueenSide}
 use Rattle.chess_types.specs.board.Squares.{file_of, rank_of}
+use Rattle.chess_types.specs.board.Men.{is_king, is_pawn}
 use Rattle.chess_types.specs.board.Attack.{in_check}
 use Rattle.chess_types.specs.board.MoveParts.{MoveParts}
 use Rattle.chess_types.specs.board.Texts.{kind_letter, square_text}
@@ -54,6 +56,11 @@ share_file moves from = list_any (λ n. file_of n.from == file_of from) moves
 -- one of the moves begins on the same rank
 abbrev pub share_rank : List MoveParts → ℕ → Bool
 share_rank moves from = list_any (λ n. rank_of n.from == rank_of from) moves
+
+-- a pawn or a king, whose texts need no look at other men
+abbrev pub is_known_alone : Option Man → Bool
+is_known_alone None = false
+is_known_alone (Some man) = is_pawn man.kind || is_king man.kind
 
 -- nothing said of where a man comes from
 abbrev pub nowhere : Origin

@@ -1,10 +1,10 @@
-ghost use Rattle.std.specs.Prelude.{◌≡◌, ◌≤◌, ◌++◌, Ok, IfSome, IsTrue};
+ghost use Rattle.std.specs.Prelude.{◌≡◌, ◌≤◌, ◌++◌, false, Ok, IfSome, IsTrue, MatchOption};
 ghost use Rattle.arrayvec.specs.ArrayString.{array_string_len};
 ghost use Rattle.chess_types.specs.board.After.{after};
 ghost use Rattle.chess_types.specs.board.Legal.{is_legal};
-ghost use Rattle.chess_types.specs.board.Position.{IsSetup};
+ghost use Rattle.chess_types.specs.board.Position.{IsSetup, man_on};
 ghost use Rattle.chess_san.specs.Naming.{san_reading};
-ghost use Rattle.chess_san.specs.Writing.{mark_text, san};
+ghost use Rattle.chess_san.specs.Writing.{is_known_alone, mark_text, san};
 
 use crate::course::without_marks;
 use crate::form::Origin;
@@ -20,6 +20,8 @@ pub fn at_a_glance(setup: &Setup, m: Move, read: &[u8]) -> Option<ArrayString<8>
     requires read { san_reading setup.now read.now ≡ Ok m }
     ensures text { IfSome result (λ text. text.bytes ++ mark_text (after setup.now m) ≡ san setup.now m) }
     ensures len { IfSome result (λ text. array_string_len text ≤ 6) }
+    // A pawn's and a king's is always known.
+    ensures known { MatchOption result (is_known_alone (man_on setup.now m.from) ≡ false) (λ _. Unit {0}) }
 {
     let Some(man) = man_of(setup, m) else {
         return None;

@@ -2,7 +2,8 @@
 //!
 //! `Loose` is a `Box` as a raw pointer, which a slot can keep; each library has a slot of its own, since a type that crosses to C has no parameters. The others
 //! are calls over a text, a board or an engine, which hand out what they answer: `game`, `passed` and `report` of a text (`refused` where no game is there),
-//! `answer` of a line of the board, `reply` of an event of an engine. Each returns a status, of which 0 is success (`specs/Codes.antt`).
+//! `load` of one into a board, `answer` of a line of the board, `reply` of an event of an engine. Each returns a status, of which 0 is success
+//! (`specs/Codes.antt`).
 #![tactic(auto)]
 
 mod along;
@@ -10,6 +11,7 @@ mod answers;
 mod codes;
 mod games;
 mod gathered;
+mod loads;
 mod loose;
 mod lost;
 mod reports;
@@ -22,6 +24,7 @@ pub use codes::{
     outcome_code,
 };
 pub use games::{game, passed, refused, report};
+pub use loads::load;
 pub use loose::Loose;
 pub use lost::Lost;
 pub use reports::{GameReport, NEVER};

@@ -1,4 +1,4 @@
-ghost use Rattle.std.specs.Prelude.{◌≡◌, None, is_none};
+ghost use Rattle.std.specs.Prelude.{◌≡◌, ◌≤◌, None, is_none};
 ghost use Rattle.chess_tree.specs.Forest.{child, count};
 ghost use Rattle.chess_tree.specs.Edits.{without_node};
 ghost use Rattle.chess_tree.specs.steps.Notes.{noted_in};
@@ -81,6 +81,8 @@ impl<'t, 'a, A: Allocator> NodeRef<'t, 'a, A> {
     /// that of a node that was deleted, so what is found has to be compared.
     pub fn number(&self) -> u32
         ensures root { result ≡ 0 → self.now.move ≡ None }
+        ensures first { self.now.move ≡ None → result ≡ 0 }
+        ensures few { result ≤ 1000000 }
     {
         self.number.number()
     }

@@ -8,7 +8,8 @@ use Rattle.chess_cli.specs.Answers.{Tells}
 use Rattle.chess_cli.specs.Requests.{request}
 use Rattle.chess_slots.specs.Answers.{IsReplied}
 use Rattle.chess_slots.specs.Handed.{IsAnsweredBy}
-use Rattle.chess_web.specs.Calls.{IsAnswered, IsReplying}
+use Rattle.chess_slots.specs.Loads.{LoadsFrom}
+use Rattle.chess_web.specs.Calls.{IsAnswered, IsLoadedOf, IsReplying}
 use Rattle.chess_web.specs.Held.{Held}
 
 pub answered_some : (line : List ℕ) → (old new : Option Held) → (held after : Held) → (text : List ℕ) → (code count count' : ℕ) → (room room' : List ℕ)
@@ -17,6 +18,13 @@ pub answered_some : (line : List ℕ) → (old new : Option Held) → (held afte
 answered_some line old new held after text code count count' room room' is en same tells told =
     subst (λ (o : Option Held). IsAnswered o line code count count' room room' new) (sym is)
     (text, after.board, tells, told, en ∙ ap (λ (e : State). Some (record { board = after.board; engine = e })) same)
+
+pub loaded_some : (text : List ℕ) → (old new : Option Held) → (held after : Held) → (code used used' : ℕ)
+    → old ≡ Some held → new ≡ Some after → after.engine ≡ held.engine → LoadsFrom text held.board code used used' after.board
+    → IsLoadedOf old text code used used' new
+loaded_some text old new held after code used used' is en same loads =
+    subst (λ (o : Option Held). IsLoadedOf o text code used used' new) (sym is)
+    (after.board, loads, en ∙ ap (λ (e : State). Some (record { board = after.board; engine = e })) same)
 
 pub replying_some : (event : Event) → (old new : Option Held) → (held after : Held) → (code count count' : ℕ) → (room room' : List ℕ)
     → old ≡ Some held → new ≡ Some after → after.board ≡ held.board → IsReplied event held.engine after.engine code count' room room'

@@ -2,6 +2,7 @@
 --   IsAnswered    of a line: the board may answer it with a text, and go from the one tree to the other; the text is handed out, or there was no memory
 --   IsNamed       of a text: the move that it names, handed out in long algebraic notation, or that it names none
 --   IsNamedOf     the same at the cursor of the board of the session in a slot, which stays as it was
+--   IsLoadedOf    of a text: the board of the session in a slot has the tree of the game at its start (`LoadsFrom`), and the engine stays as it was
 --   IsReplying    of an event: the engine of the session in a slot replies to it (`IsReplied`), and the board stays as it was
 --   IsSearching   whether a search runs
 --   IsGameOf      the game at the start of a text is answered (`IsGame`); IsPassedOf, how many bytes to pass over (`IsPassed`); IsReportOf, its report
@@ -22,6 +23,7 @@ use Rattle.chess_slots.specs.Answers.{IsReplied}
 use Rattle.chess_slots.specs.Codes.{empty_slot, not_legal, ok}
 use Rattle.chess_slots.specs.Games.{IsGame, IsPassed}
 use Rattle.chess_slots.specs.Handed.{IsHanded, IsAnsweredBy}
+use Rattle.chess_slots.specs.Loads.{LoadsFrom}
 use Rattle.chess_slots.specs.Reports.{IsReport}
 use Rattle.chess_web.specs.Held.{Held}
 
@@ -39,6 +41,11 @@ abbrev pub IsNamedOf : Option Held → List ℕ → (code count count' : ℕ) �
 IsNamedOf None text code count count' room room' new = (code ≡ empty_slot) × (new ≡ None) × (count' ≡ count) × (room' ≡ room)
 IsNamedOf (Some held) text code count count' room room' new =
     IsNamed (san_reading (last (line_to held.board)) text) code count count' room room' × (new ≡ Some held)
+
+abbrev pub IsLoadedOf : Option Held → List ℕ → (code used used' : ℕ) → Option Held → Type 0
+IsLoadedOf None text code used used' new = (code ≡ empty_slot) × (new ≡ None) × (used' ≡ used)
+IsLoadedOf (Some held) text code used used' new =
+    (after : TreeParts) × LoadsFrom text held.board code used used' after × (new ≡ Some (record { board = after; engine = held.engine }))
 
 abbrev pub IsReplying : Event → Option Held → (code count count' : ℕ) → (room room' : List ℕ) → Option Held → Type 0
 IsReplying event None code count count' room room' new = (code ≡ empty_slot) × (new ≡ None) × (count' ≡ count) × (room' ≡ room)

@@ -1,4 +1,4 @@
-ghost use Rattle.chess_web.specs.Calls.{IsAnswered, IsNamedOf};
+ghost use Rattle.chess_web.specs.Calls.{IsAnswered, IsLoadedOf, IsNamedOf};
 
 use crate::slot::{Slot, put, take};
 use chess_slots::EMPTY;
@@ -18,6 +18,20 @@ pub extern "C" fn jatshegi_board_answer(
         return EMPTY;
     };
     let code = session.answer(line, answer, count);
+    put(slot, session);
+    code
+}
+
+/// Begins with the tree of the game at the start of a text (PGN), its variations, comments and annotations, the cursor at its root, and says how many bytes of
+/// the text the game takes: 0. Where no game is there, it is answered as by `jatshegi_game`, and the board is as it was.
+#[unsafe(no_mangle)]
+pub extern "C" fn jatshegi_board_load(slot: &mut Slot, text: &[u8], used: &mut usize) -> u32
+    ensures { IsLoadedOf slot.old.held text.now result used.old used.new slot.new.held }
+{
+    let Some(mut session) = take(slot) else {
+        return EMPTY;
+    };
+    let code = session.load(text, used);
     put(slot, session);
     code
 }

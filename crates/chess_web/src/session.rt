@@ -7,6 +7,7 @@ ghost use Rattle.chess_cli.specs.Answers.{Tells};
 ghost use Rattle.chess_cli.specs.Requests.{request};
 ghost use Rattle.chess_slots.specs.Answers.{IsReplied};
 ghost use Rattle.chess_slots.specs.Handed.{IsAnsweredBy};
+ghost use Rattle.chess_slots.specs.Loads.{LoadsFrom};
 ghost use Rattle.chess_web.specs.Calls.{IsNamed};
 ghost use Rattle.chess_web.specs.Held.{beginning};
 
@@ -85,6 +86,14 @@ impl Session {
             Ok(m) => hand(m.text().as_str().as_bytes(), room, count),
             Err(_) => ILLEGAL,
         }
+    }
+
+    /// Begins with the tree of the game at the start of a text, and says how many bytes of the text the game takes; else why no game is there.
+    pub fn load(&mut self, text: &[u8], used: &mut usize) -> u32
+        ensures board { LoadsFrom text.now self.old.board result used.old used.new self.new.board }
+        ensures engine { self.new.engine ≡ self.old.engine }
+    {
+        chess_slots::load(&mut self.board, text, used)
     }
 
     /// What the event is replied, each reply on a line of its own.

@@ -1,4 +1,4 @@
-ghost use Rattle.std.specs.Prelude.{◌≡◌, ◌⊎◌, ℕ, List, ◌+◌, ◌<◌, ◌≤◌, ◌++◌, ◌∷◌, [], IfErr, IfOk, IfSome, None, Ok, decimal, is_some, length, map, nat_lt, false};
+ghost use Rattle.std.specs.Prelude.{◌≡◌, ◌⊎◌, ℕ, List, ◌+◌, ◌<◌, ◌≤◌, ◌++◌, ◌∷◌, [], IfErr, IfOk, IfSome, None, Ok, decimal, is_some, length, map, nat_lt, false, true};
 ghost use Rattle.std.specs.FinSet.{contains};
 ghost use Rattle.std.specs.Fmt.{signed_decimal};
 ghost use Rattle.chess_types.specs.board.Texts.{move_text};
@@ -18,9 +18,9 @@ ghost use Rattle.chess_tree.specs.GameTree.{TreeParts, annotated_here, at_path, 
 ghost use Rattle.chess_cli.specs.Loads.{from_root};
 ghost use Rattle.chess_cli.specs.Outcomes.{claims_text};
 ghost use Rattle.chess_cli.specs.Numbers.{depth_in, path_in};
-ghost use Rattle.chess_cli.specs.Answers.{Answers, Does, HasEffect, HasEffectSurely, Tells, MayAnswer, beginning, checks_of, claim_effect, comment_effect, counts_of, if_it_exists, list_text, move_effect, not_at_root, play_effect, set_effect, reply, tree_from};
+ghost use Rattle.chess_cli.specs.Answers.{Answers, Does, HasEffect, Tells, MayAnswer, beginning, checks_of, claim_effect, comment_effect, counts_of, has_words, if_it_exists, is_new, list_text, move_effect, not_at_root, play_effect, set_effect, reply, takes_memory, tree_from};
 ghost use Rattle.chess_cli.specs.steps.Replies.{IsGameText, IsOnPage, best_effect, path_effect};
-ghost use Rattle.chess_cli.specs.Requests.{Pgn, request};
+ghost use Rattle.chess_cli.specs.Requests.{Pgn, Play, request};
 ghost use Rattle.chess_loop.specs.steps.Sending.{Sends};
 ghost use Rattle.chess_fen.specs.Reading.{fen_reading};
 ghost use Rattle.chess_san.specs.Naming.{san_reading};
@@ -126,7 +126,7 @@ impl<'k, A: Allocator> Board<'k, A> {
 
     /// Makes a move: steps to the first child that has it, else to a new one.
     pub fn make(&mut self, m: Move) -> Result<(), Refusal>
-        ensures { HasEffect (move_effect self.old m) self.old result self.new }
+        ensures { HasEffect (is_new self.old m) (move_effect self.old m) self.old result self.new }
     {
         Ok(self.analysis.play(m)?)
     }
@@ -285,7 +285,7 @@ impl<'k, A: Allocator> Board<'k, A> {
     fn begin(&mut self, position: Position) -> Result<(), Refusal>
         requires clock { position.clock ≤ 99999 }
         requires number { position.number ≤ 99999 }
-        ensures { HasEffect (Does (tree_from position)) self.old result self.new }
+        ensures { HasEffect true (Does (tree_from position)) self.old result self.new }
     {
         self.analysis = Analysis::new(self.alloc, position, self.table)?;
         Ok(())
@@ -293,7 +293,7 @@ impl<'k, A: Allocator> Board<'k, A> {
 
     /// Begins a tree from the position of the FEN, which replaces the tree.
     pub fn set(&mut self, fen: &[u8]) -> Result<(), Refusal>
-        ensures { HasEffect (set_effect (fen_reading fen.now)) self.old result self.new }
+        ensures { HasEffect true (set_effect (fen_reading fen.now)) self.old result self.new }
     {
         self.begin(chess_fen::read(fen)?)
     }
@@ -372,7 +372,7 @@ impl<'k, A: Allocator> Board<'k, A> {
 
     /// Makes the move that a text names: steps to the first child that has it, else to a new one.
     pub fn play(&mut self, word: &[u8]) -> Result<(), Refusal>
-        ensures { HasEffect (play_effect self.old (san_reading (last (line_to self.old)) word.now)) self.old result self.new }
+        ensures { HasEffect (takes_memory self.old (Play word.now)) (play_effect self.old (san_reading (last (line_to self.old)) word.now)) self.old result self.new }
     {
         let m = self.analysis.read_move(word)?;
         Ok(self.analysis.play_legal(m)?)
@@ -380,21 +380,21 @@ impl<'k, A: Allocator> Board<'k, A> {
 
     /// Steps to the parent.
     pub fn back(&mut self) -> Result<(), Refusal>
-        ensures { HasEffectSurely (not_at_root self.old.path (at_path (parent self.old.path) self.old)) self.old result self.new }
+        ensures { HasEffect false (not_at_root self.old.path (at_path (parent self.old.path) self.old)) self.old result self.new }
     {
         Ok(self.analysis.back()?)
     }
 
     /// Steps to a child, by its place among its siblings, from 0.
     pub fn step(&mut self, place: u32) -> Result<(), Refusal>
-        ensures { HasEffectSurely (if_it_exists (nat_lt place (count_children (nodes_here self.old))) (at_path (self.old.path ++ place ∷ []) self.old)) self.old result self.new }
+        ensures { HasEffect false (if_it_exists (nat_lt place (count_children (nodes_here self.old))) (at_path (self.old.path ++ place ∷ []) self.old)) self.old result self.new }
     {
         Ok(self.analysis.step(place)?)
     }
 
     /// Goes to the root.
     pub fn start(&mut self) -> Result<(), Refusal>
-        ensures { HasEffectSurely (Does (at_path [] self.old)) self.old result self.new }
+        ensures { HasEffect false (Does (at_path [] self.old)) self.old result self.new }
     {
         self.analysis.start();
         Ok(())
@@ -402,7 +402,7 @@ impl<'k, A: Allocator> Board<'k, A> {
 
     /// Goes along the main continuations, as far as they lead.
     pub fn end(&mut self) -> Result<(), Refusal>
-        ensures { HasEffectSurely (Does (at_path (self.old.path ++ main_line (nodes_here self.old)) self.old)) self.old result self.new }
+        ensures { HasEffect false (Does (at_path (self.old.path ++ main_line (nodes_here self.old)) self.old)) self.old result self.new }
     {
         self.analysis.end();
         Ok(())
@@ -410,7 +410,7 @@ impl<'k, A: Allocator> Board<'k, A> {
 
     // Goes to the node at the path that the word writes.
     fn goto(&mut self, word: &[u8]) -> Result<(), Refusal>
-        ensures { HasEffectSurely (path_effect self.old (path_in word.now)) self.old result self.new }
+        ensures { HasEffect false (path_effect self.old (path_in word.now)) self.old result self.new }
     {
         match read_path(word, self.places.as_mut_slice()) {
             PathWord::Malformed => Err(Refusal::Argument),
@@ -428,28 +428,28 @@ impl<'k, A: Allocator> Board<'k, A> {
 
     /// Puts the node before its siblings.
     pub fn promote(&mut self) -> Result<(), Refusal>
-        ensures { HasEffectSurely (not_at_root self.old.path (promoted_here self.old)) self.old result self.new }
+        ensures { HasEffect false (not_at_root self.old.path (promoted_here self.old)) self.old result self.new }
     {
         Ok(self.analysis.promote()?)
     }
 
     /// Takes out the node and all below it; the cursor is then at its parent.
     pub fn delete(&mut self) -> Result<(), Refusal>
-        ensures { HasEffectSurely (not_at_root self.old.path (deleted self.old)) self.old result self.new }
+        ensures { HasEffect false (not_at_root self.old.path (deleted self.old)) self.old result self.new }
     {
         Ok(self.analysis.delete()?)
     }
 
     /// A text for the node's comment, which replaces the one that it had.
     pub fn comment(&mut self, comment: &[u8]) -> Result<(), Refusal>
-        ensures { HasEffect (comment_effect self.old comment.now) self.old result self.new }
+        ensures { HasEffect (has_words comment.now) (comment_effect self.old comment.now) self.old result self.new }
     {
         Ok(self.analysis.set_comment(comment)?)
     }
 
     /// An annotation number more.
     pub fn nag(&mut self, nag: u8) -> Result<(), Refusal>
-        ensures { HasEffect (not_at_root self.old.path (annotated_here nag self.old)) self.old result self.new }
+        ensures { HasEffect true (not_at_root self.old.path (annotated_here nag self.old)) self.old result self.new }
     {
         Ok(self.analysis.add_nag(nag)?)
     }

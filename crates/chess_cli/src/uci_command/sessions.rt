@@ -1,5 +1,7 @@
 ghost use Rattle.std.specs.Prelude.{◌≡◌, false};
 ghost use Rattle.chess_cli.specs.Endings.{TimedSessionEnds};
+ghost use Rattle.chess_cli.specs.TimedSessions.{beginning_with};
+ghost use Rattle.chess_cli.specs.declared.uci_command.timed_session.TimedSession as timed;
 
 use super::clock::Clock;
 use super::timed_session::TimedSession;
@@ -8,11 +10,10 @@ use crate::ended::Ended;
 use byte_streams::{Sink, Source};
 use chess_key::KeyTable;
 use chess_loop::run;
-use chess_uci::Session;
 use std::alloc::Allocator;
 
 /// Answers the lines of the reader, those of one read before more is read, as a session of the universal chess interface (UCI) whose
-/// time that the clock gives, on the writer, until `quit` or the end of the input.
+/// time that the clock gives, on the writer, until `quit` or the end of the input. `uci_with` is the same with a session that the caller keeps.
 ///
 /// Each line is an event after a moment by the clock. While a search is to be fed, it is given time root by root, and what it reports is
 /// written before it is given more: a search with a last depth or a budget runs to its end before the next line is read, an infinite one
@@ -30,26 +31,25 @@ pub fn uci<A: Allocator, R: Source, W: Sink, C: Clock + Drop>(
 ) -> Ended
     requires reader { R.failed reader.old ≡ false }
     requires writer { W.failed writer.old ≡ false }
-    ensures { TimedSessionEnds R.gives R.failed W.takes W.failed R.ended A C.reads clock result reader.old reader.new writer.old writer.new }
+    ensures { (last : timed.TimedSession A C) × TimedSessionEnds R.gives R.failed W.takes W.failed R.ended C.reads (beginning_with clock) last result reader.old reader.new writer.old writer.new }
 {
-    uci_with(alloc, reader, writer, clock, &KeyTable::fixed())
+    let table = KeyTable::fixed();
+    let mut session = TimedSession::new(&alloc, &table, clock);
+    uci_with(&alloc, reader, writer, &mut session)
 }
 
-/// `uci` with keys by the table of the caller. No reply depends on it.
-pub fn uci_with<A: Allocator, R: Source, W: Sink, C: Clock + Drop>(
-    alloc: A,
+/// `uci` with a session that begins and that the caller keeps. What is left of it is as its last event left it, its clock as the last reading
+/// did: so where a write failed, it is known that no slice was searched and no clock read after it.
+pub fn uci_with<A: Allocator, R: Source, W: Sink, C: Clock>(
+    alloc: &A,
     reader: &mut R,
     writer: &mut W,
-    clock: C,
-    table: &KeyTable,
+    session: &mut TimedSession<'_, A, C>,
 ) -> Ended
+    requires begins { session.old.session.ended ≡ false }
     requires reader { R.failed reader.old ≡ false }
     requires writer { W.failed writer.old ≡ false }
-    ensures { TimedSessionEnds R.gives R.failed W.takes W.failed R.ended A C.reads clock result reader.old reader.new writer.old writer.new }
+    ensures { TimedSessionEnds R.gives R.failed W.takes W.failed R.ended C.reads session.old session.new result reader.old reader.new writer.old writer.new }
 {
-    let mut timed_session = TimedSession {
-        session: Session::new(&alloc, table),
-        clock,
-    };
-    Ended::from(run(&alloc, &mut timed_session, reader, writer, READS))
+    Ended::from(run(alloc, session, reader, writer, READS))
 }

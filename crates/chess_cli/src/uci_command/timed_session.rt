@@ -1,17 +1,18 @@
 ghost use Rattle.std.specs.Prelude.{◌≡◌, ◌+◌, ◌≤◌, ◌++◌, ℕ, length};
 ghost use Rattle.chess_uci.specs.declared.reply.Reply.{Reply};
 ghost use Rattle.chess_uci.specs.Machine.{IsAhead};
-ghost use Rattle.chess_cli.specs.TimedSessions.{Answered, AnsweredInPart, is_fed, reply_lines};
+ghost use Rattle.chess_cli.specs.TimedSessions.{Answered, AnsweredInPart, beginning_with, is_fed, reply_lines};
 ghost use Rattle.chess_cli.specs.steps.Driving.{Happened};
 
 use super::clock::Clock;
 use arrayvec::ArrayVec;
 use byte_streams::{Failed, Sink};
+use chess_key::KeyTable;
 use chess_loop::{LineHandler, OutputBuffer, Unread};
 use chess_uci::{Event, Reply, Session};
 use std::alloc::Allocator;
 
-/// A session with the clock that it asks for the time.
+/// A session of the universal chess interface (UCI) with the clock that it asks for the time.
 #[derive(Drop)]
 pub struct TimedSession<'k, S: Allocator, C> {
     pub session: Session<'k, S>,
@@ -30,6 +31,16 @@ fn put_replies<A: Allocator>(page: &mut OutputBuffer<A>, replies: &ArrayVec<Repl
 }
 
 impl<'k, S: Allocator, C: Clock> TimedSession<'k, S, C> {
+    /// A session that begins, with a clock. No reply depends on the table of keys. Takes no memory.
+    pub fn new(alloc: &'k S, table: &'k KeyTable, clock: C) -> TimedSession<'k, S, C>
+        ensures { result ≡ beginning_with clock }
+    {
+        TimedSession {
+            session: Session::new(alloc, table),
+            clock,
+        }
+    }
+
     // Whether the search that runs is to be fed.
     fn is_fed(&self) -> bool
         ensures value { result ≡ is_fed self.now.session }

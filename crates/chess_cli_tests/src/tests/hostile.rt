@@ -2,7 +2,7 @@
 use crate::tests::games;
 use crate::tests::sessions::STOPPED;
 use byte_streams::{FromBytes, ToBytes};
-use chess_cli::{Ended, board, board_with, pgn, uci, uci_with};
+use chess_cli::{Ended, TimedSession, board, board_with, pgn, uci, uci_with};
 use chess_key::KeyTable;
 use linked_list_allocator::LocalHeap;
 use std::alloc::Allocator;
@@ -64,8 +64,10 @@ fn any_keys_serve_a_session(rt: HostRuntime) {
         let mut writer = ToBytes::new(&mut room, 1000);
         let mut reader = FromBytes::new(SESSION, 1000);
         let table = KeyTable::new([word; 768]);
+        let alloc = rt.alloc();
+        let mut session = TimedSession::new(&alloc, &table, STOPPED);
         assert_eq!(rt;
-            uci_with(rt.alloc(), &mut reader, &mut writer, STOPPED, &table),
+            uci_with(&alloc, &mut reader, &mut writer, &mut session),
             Ended::Good
         );
         assert_eq!(rt; writer.taken(), REPLIES);

@@ -61,7 +61,7 @@ Offered takes at most place item used t u (step.On next len white) = takes t at 
 Offered takes at most place item used t u (step.Full next len white) = takes t at item (Ok Ends) u × (used ≤ most) × (len ≡ used) × (next ≡ place_after place item) × (white ≡ is_white item)
 Offered takes at most place item used t u (step.Stops stop.Left) = takes t at item (Ok Leaves) u
 Offered takes at most place item used t u (step.Stops (stop.Refused fault)) = takes t at item (Err fault) u
-Offered takes at most place item used t u (step.Stops stop.TooLarge) = (most < used) × (item ≡ TagOpen → Brackets takes at t u)
+Offered takes at most place item used t u (step.Stops stop.TooLarge) = (most < used) × (item ≡ TagOpen → Brackets takes at t u) × ((u ≡ t) ⊎ Brackets takes at t u)
 Offered takes at most place item used t u (step.Stops stop.Full) = ⊥
 Offered takes at most place item used t u (step.Stops stop.End) = ⊥
 Offered takes at most place item used t u (step.Stops stop.NoItem) = ⊥
@@ -112,6 +112,7 @@ module _ {X T : Type 0} (comes : X → List ℕ → X → Type 0) (at_hand : X �
   pub record RunsPast (at most : ℕ) (place : Place) (new : X) (t u : T) : Type 0 where
     pub over : Whatever new (λ more. Oversized most place (at_hand new ++ more))
     pub bracket : Whatever new (λ more. (rest : List ℕ) → item_at place (at_hand new ++ more) ≡ Some (TagOpen, rest) → Brackets takes at t u)
+    pub same : (u ≡ t) ⊎ Brackets takes at t u
 
   -- why no item is used
   abbrev pub AfterStop : ℕ → ℕ → Place → X → X → T → T → Stop → Type 0

@@ -6,15 +6,15 @@ use Rattle.chess_items.proofs.taking.take_one.Goals as goal
 -- ---- any item
 
 pub overflow_sub-used-2 : goal.overflow_sub-used-2
-overflow_sub-used-2 g c = found_within _ c.unread-2.ensures c.in-Some-item.ensures c.unread-3.ensures
+overflow_sub-used-2 g c = found_within _ c.unread-3.ensures c.in-Some-item.ensures c.unread-4.ensures
 
 pub settle-requires-2-clause-within : goal.settle-requires-2-clause-within
-settle-requires-2-clause-within g c = found_within _ c.unread-2.ensures c.in-Some-item.ensures refl
+settle-requires-2-clause-within g c = found_within _ c.unread-3.ensures c.in-Some-item.ensures refl
 
 pub returns-clause-steps : goal.returns-clause-steps
 returns-clause-steps g c =
     let some : 0 < length c.in-Some-item.rest.now = search rules in
-    step_settled (seen_at_once c.requires c.unread-2.ensures c.in-Some-item.ensures some) c.unread-2.ensures c.in-Some-item.ensures c.unread-3.ensures c.offer-step-2.result c.offer-step-2.ensures c.settle-2.ensures.step c.settle-2.ensures.text
+    step_settled (seen_at_once c.requires c.unread-3.ensures c.in-Some-item.ensures some) c.unread-3.ensures c.in-Some-item.ensures c.unread-4.ensures c.offer-step-2.result c.offer-step-2.ensures c.settle-2.ensures.step c.settle-2.ensures.text
 
 -- ---- a move's text within a line
 

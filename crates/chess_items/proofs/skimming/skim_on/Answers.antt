@@ -1,0 +1,20 @@
+use Rattle.chess_items.proofs.SkimLemmas.{onward_more, onward_stops, skim_broken, skim_more, skimmed_at, sound_on, within_on}
+use Rattle.chess_items.proofs.skimming.skim_on.Goals as goal
+
+pub returns-in-Err-clause-broken : goal.returns-in-Err-clause-broken
+returns-in-Err-clause-broken g c = skim_broken g.X.Text.comes g.X.Text.at_hand g.X.Text.all g.X.Text.sound g.X.Text.size g.X.Text.breaks c.args.text.now c.loop-fault.text c.take_one.new.text c.loop-fault.place c.in-Err.fault c.loop-fault.invariant.2 c.in-Err.ensures.broken
+
+pub loop-fault-preserved : goal.loop-fault-preserved
+loop-fault-preserved g c =
+    let s = rw c.in-Ok-On.field-0-is at c.in-Ok-On.ensures.steps in (
+      sound_on g.X.Text.comes g.X.Text.at_hand g.X.Text.all g.X.Text.sound g.X.Text.size c.loop-fault.text c.take_one.new.text c.loop-fault.place c.in-Ok-On.next c.loop-fault.at c.in-Ok-On.used _ _ c.loop-fault.skimmer c.take_one.new.taker s,
+      within_on g.X.Text.comes g.X.Text.at_hand g.X.Text.all g.X.Text.sound g.X.Text.size c.loop-fault.text c.take_one.new.text c.loop-fault.place c.in-Ok-On.next c.loop-fault.at c.in-Ok-On.used _ c.loop-fault.skimmer c.take_one.new.taker c.loop-fault.invariant.1 s,
+      onward_more g.X.Text.comes g.X.Text.at_hand g.X.Text.all g.X.Text.sound g.X.Text.size c.args.text.now c.loop-fault.text c.take_one.new.text c.loop-fault.place c.in-Ok-On.next c.loop-fault.at c.in-Ok-On.used _ _ c.loop-fault.skimmer c.take_one.new.taker c.loop-fault.invariant.2 s,
+      λ first h. skim_more g.X.Text.comes g.X.Text.at_hand g.X.Text.all g.X.Text.sound g.X.Text.size first c.loop-fault.text c.take_one.new.text c.loop-fault.place c.in-Ok-On.next c.loop-fault.at c.in-Ok-On.used _ c.loop-fault.skimmer c.take_one.new.taker (c.loop-fault.invariant.3 first h) s,
+    )
+
+pub returns-in-Ok-Stops-clause-skimmed : goal.returns-in-Ok-Stops-clause-skimmed
+returns-in-Ok-Stops-clause-skimmed g c = λ first h. skimmed_at g.X.Text.comes g.X.Text.at_hand g.X.Text.all g.X.Text.sound g.X.Text.size first c.loop-fault.text c.take_one.new.text c.loop-fault.place c.loop-fault.at c.loop-fault.skimmer c.take_one.new.taker c.in-Ok-Stops.field-0-0 (c.loop-fault.invariant.3 first h) (rw c.in-Ok-Stops.field-0-is at c.in-Ok-Stops.ensures.steps)
+
+pub returns-in-Ok-Stops-clause-onward : goal.returns-in-Ok-Stops-clause-onward
+returns-in-Ok-Stops-clause-onward g c = onward_stops g.X.Text.comes g.X.Text.at_hand g.X.Text.all g.X.Text.sound g.X.Text.size c.args.text.now c.loop-fault.text c.take_one.new.text c.loop-fault.place c.loop-fault.at _ c.loop-fault.skimmer c.take_one.new.taker c.in-Ok-Stops.field-0-0 c.loop-fault.invariant.2 (rw c.in-Ok-Stops.field-0-is at c.in-Ok-Stops.ensures.steps)
