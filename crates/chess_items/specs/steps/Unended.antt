@@ -14,6 +14,7 @@ pub record IsSearched (p : ℕ → Bool) (to dropped used : ℕ) (bytes : List �
   pub passes : list_all p (take (to - (dropped + used)) (drop used bytes)) ≡ true
   pub within : to ≤ dropped + length bytes
 
+-- the byte that a comment begins with
 abbrev pub sign_of : Comment → ℕ
 sign_of Braces = byte "{"
 sign_of Line = byte ";"
