@@ -1,5 +1,5 @@
 -- Games read and written one after another.
-use Rattle.std.proofs.Common.{◌≡◌, ℕ, ◌+◌, ◌≤◌, Bool, true, false, if◌then◌else◌, List, [], ◌∷◌, ◌++◌, length, refl, sym, ap, subst, ◌∙◌, arith, append_assoc, append-nil, Option, Result, Ok, Err, Some}
+use Rattle.std.proofs.Common.{◌≡◌, ℕ, ◌+◌, ◌≤◌, Bool, true, false, if◌then◌else◌, List, [], ◌∷◌, ◌++◌, length, refl, sym, ap, subst, ◌∙◌, arith, append_assoc, append-nil, Option, Result, Ok, Err, Some, None}
 use Rattle.std.specs.Prelude.{IfErr, IfOk, IfSome}
 use Rattle.byte_streams.specs.Calls.{Carries}
 use Rattle.byte_streams.proofs.CallLemmas.{Carries-none, Carries-append}
@@ -7,7 +7,7 @@ use Rattle.chess_items.specs.Coming.{AtHand}
 use Rattle.chess_items.specs.Sections.{PassesOver}
 use Rattle.chess_items.specs.declared.fault.PgnFault.{PgnFault}
 use Rattle.chess_pgn.specs.Games.{Game}
-use Rattle.chess_pgn.specs.Sources.{Games, HasFault, HasGame, HasNone, NextGame}
+use Rattle.chess_pgn.specs.Sources.{Games, GoesOn, HasFault, HasGame, HasNone, NextGame}
 use Rattle.chess_pgn.specs.Written.{game_text}
 use Rattle.chess_pgn.specs.declared.game.Game.{Game as Code}
 use Rattle.chess_pgn.specs.steps.GameCode.{game_of}
@@ -111,8 +111,8 @@ module _ {R W : Type 0} (gives : R → List ℕ → R → Type 0) (failed : R �
     few = omega (arith, g.few, one);
   }
 
-  pub all_read : (s m n : AtHand R) (old new : W) (bad before : ℕ) → SoFar gives failed ended takes part s m old new bad before → HasNone gives failed m n → IsGoneOver gives failed ended takes part s old new bad
-  all_read s m n old new bad before f h = record { entries = f.entries; there = m; goes = f.goes; left = n; none = h; writes = f.writes; counted = f.counted }
+  pub all_read : (s m n : AtHand R) (old new : W) (bad before : ℕ) → SoFar gives failed ended takes part s m old new bad before → HasNone gives failed m n → ended n.source → IsGoneOver gives failed ended takes part s old new bad
+  all_read s m n old new bad before f h told = record { entries = f.entries; there = m; goes = f.goes; left = n; none = h; all = told; writes = f.writes; counted = f.counted }
 
 -- nothing is written of a game that isn't asked for
 pub written_if : {W : Type 0} (takes : W → List ℕ → W → Type 0) (old new : W) (text : List ℕ) → Carries takes old text new → Carries takes old (if true then text else []) new
@@ -132,6 +132,10 @@ read_fault gives failed ended old new result fault is h = subst (λ r. IfErr r (
 
 pub if_ok : {A E : Type 0} (P : Type 0) (result : Result A E) (x : A) → result ≡ Ok x → IfOk result (λ y. P) → P
 if_ok P result x is h = subst (λ r. IfOk r (λ y. P)) is h
+
+-- where no fault came, reading goes on
+pub still_on : (fault : Option GamesFault) → fault ≡ None → GoesOn fault
+still_on fault e = subst (λ (f : Option GamesFault). GoesOn f) (sym e) tt
 
 -- from the beginning of a source
 pub from_fresh : {R W E : Type 0} (gives : R → List ℕ → R → Type 0) (failed : R → Bool) (ended : R → Type 0) (takes : W → List ℕ → W → Type 0) (part : Part) (source : R) (text : AtHand R) (old new : W) (result : Result ℕ E) → IsFresh source text

@@ -4,7 +4,7 @@
 --   good_text   the export forms of the good games of a part, in order, after so many games
 --   bad_count   how many games of a part can't be read
 --   IsFresh     nothing of a source is read
---   IsGoneOver  it is read so to its end; the good games of the part are written, and nothing else; this many of the part can't be read
+--   IsGoneOver  it is read so to its end, which the source has come to; the good games of the part are written, and nothing else; this many of the part can't be read
 --   IsFiltered  so it is from its beginning
 use Rattle.std.specs.Prelude.{◌≡◌, ℕ, ◌+◌, Bool, false, if◌then◌else◌, List, [], ◌∷◌, ◌++◌}
 use Rattle.byte_streams.specs.Calls.{Carries}
@@ -52,6 +52,7 @@ pub record IsGoneOver {R W : Type 0} (gives : R → List ℕ → R → Type 0) (
   pub goes : Goes gives failed ended text entries there
   pub left : AtHand R
   pub none : HasNone gives failed there left
+  pub all : ended left.source
   pub writes : Carries takes old (good_text part 0 entries) new
   pub counted : bad ≡ bad_count part 0 entries
 

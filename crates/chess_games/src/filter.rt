@@ -41,6 +41,9 @@ fn write_if<'a, A: Allocator, W: Sink>(
     put(writer, text.as_slice())
 }
 
+/// Why a run ends after the most games.
+const TOO_MANY: Failure = Failure::Read;
+
 // A line on the standard error with the number of a game, from 1, and its fault. A fault of the standard error is ignored.
 fn report(rt: &HostRuntime, number: u64, fault: PgnFault) {
     let (place, kind, name) = (fault.place, fault.kind.number(), fault.kind.name());
@@ -115,7 +118,7 @@ fn write_good<'a, A: Allocator, R: Source, W: Sink>(
             }
         }
     }
-    Err(Failure::Read)
+    Err(TOO_MANY)
 }
 
 /// Writes the good games of a part of the reader's games in export form (PGN 3.2), each before the next is read, and reports the others of the part by

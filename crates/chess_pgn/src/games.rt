@@ -326,9 +326,9 @@ impl<'a, R: Source, A: Allocator> Games<'a, R, A> {
     }
 
     /// Passes over bytes, from where reading stopped to the next section of tags, and returns how many: `next` goes on there, as if the input
-    /// began there. A section begins with `[` and the first byte of a tag's name (a letter, a digit or `_`), after white space with at
-    /// least two line feeds, or after white space alone since reading stopped. Where none begins, all bytes are passed over, and `next`
-    /// returns `None`.
+    /// began there. A section begins with `[` and the first byte of a tag's name (a letter, a digit or `_`), first on their line but for
+    /// white space; a line begins after a line feed, after a byte order mark, and where reading stopped. Where none begins, all bytes are
+    /// passed over, and `next` returns `None`.
     ///
     /// After a fault, reading stopped somewhere in the game that has it. The text of such a game can't be trusted, so a bracket in a
     /// comment counts as any other. Without a fault, reading stopped after the last game.

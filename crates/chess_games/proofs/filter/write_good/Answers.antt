@@ -3,15 +3,17 @@ use Rattle.byte_streams.specs.Calls.{Carries}
 use Rattle.chess_pgn.specs.Sources.{HasFault, IsSound}
 use Rattle.chess_pgn.specs.Written.{game_text}
 use Rattle.chess_pgn.specs.steps.GameCode.{game_of}
-use Rattle.chess_games.proofs.FilteredLemmas.{SoFar, one_good, one_bad, all_read, read_one, read_fault, if_ok}
+use Rattle.chess_games.proofs.FilteredLemmas.{SoFar, one_good, one_bad, all_read, read_one, read_fault, if_ok, still_on}
 use Rattle.chess_games.proofs.filter.write_good.Goals as goal
 use Rattle.chess_games.proofs.filter.write_good.Goals.{in-Ok-Some+in_ok-write_if-in-Ok-Some, in-Err+in_ok-fault-in-Err+in_ok-pass-in-Err}
 
 -- no game is left
 pub returns-in-Ok-None : goal.returns-in-Ok-None
 returns-in-Ok-None g c =
+    let none = c.next_with.ensures.none (c.in-Ok-None.is ∙ ap Ok c.in-Ok-None.field-0-is) in
     all_read g.R.Source.gives g.R.Source.failed g.R.Source.ended g.W.Sink.takes c.args.wanted.now.part c.args.games.now.text c.loop-before.games.text c.next_with.new.self.text c.args.writer.now c.loop-before.writer c.loop-before.bad c.loop-before.before
-    c.loop-before.invariant.so_far (c.next_with.ensures.none (c.in-Ok-None.is ∙ ap Ok c.in-Ok-None.field-0-is))
+    c.loop-before.invariant.so_far none
+    (c.next_with.ensures.sound.ended_so (still_on _ (if_ok _ c.next_with.result c.in-Ok-None.field-0 c.in-Ok-None.is c.next_with.ensures.good)) none.ended)
 
 -- a game more, good or bad
 pub loop-before-preserved : goal.loop-before-preserved
