@@ -86,10 +86,6 @@ const BAD_GAMES: &[(&[u8], u64, u8, u64)] = &[
     (b"[A \"2\"]\n\n1. e4 ~ e5 *", 33, 1, 8),
     // An illegal move.
     (b"[A \"2\"]\n\n1. e4 e5 2. Ke3 Ke7 *", 39, 3, 11),
-    // A malformed tag: what follows one line feed is of the same section.
-    (b"[A ~\"2\"]\n[B \"2\"]\n\n1. e4 *", 18, 2, 24),
-    // A line feed and no more.
-    (b"[A \"2\"]\n\n1. e4 ~\n[A \"4\"]\n[A \"5\"] *", 33, 1, 21),
     // A variation without its end: reading stops at the next section itself.
     (b"[A \"2\"]\n\n1. e4 (1. d4", 41, 4, 0),
     // A comment without its end.
@@ -131,7 +127,46 @@ const ROWS: &[(&[u8], &[Step])] = &[
             End,
         ],
     ),
-    // A comment with an empty line and a bracket, which is taken for a section.
+    // A malformed tag: the tags on the lines after it are the next game's.
+    (
+        b"[A \"1\"]\n\n1. e4 *\n\n[A ~\"2\"]\n[B \"2\"]\n\n1. e4 *\n\n[A \"3\"]\n\n1. d4 *\n",
+        &[
+            Game(16),
+            Fault(18, 2),
+            Passed(6),
+            Game(43),
+            Game(61),
+            End,
+        ],
+    ),
+    // Tags after one line feed.
+    (
+        b"[A \"1\"]\n\n1. e4 *\n\n[A \"2\"]\n\n1. e4 ~\n[A \"4\"]\n[A \"5\"] *\n\n[A \"3\"]\n\n1. d4 *\n",
+        &[
+            Game(16),
+            Fault(33, 1),
+            Passed(2),
+            Game(52),
+            Game(70),
+            End,
+        ],
+    ),
+    // No empty lines.
+    (
+        b"[A \"1\"]\n1. e4 *\n[A \"2\"]\n1. e4 Ke3 *\n[A \"3\"]\n1. d4 *\n",
+        &[Game(15), Fault(30, 3), Passed(6), Game(51), End],
+    ),
+    // A line of a comment that opens a tag: the comment is one of the bad game's items.
+    (
+        b"[A \"1\"]\n\n1. e4 *\n\n[A \"2\"]\n\n1. e4 Ke3 {a\n[x]} *\n\n[A \"3\"]\n\n1. d4 *\n",
+        &[Game(16), Fault(33, 3), Passed(15), Game(64), End],
+    ),
+    // After a byte order mark a line begins.
+    (
+        b"[A \"1\"]\n\n1. e4 *\n\n[A \"2\"]\n\n1. e4 ~\xEF\xBB\xBF[A \"3\"]\n\n1. d4 *\n",
+        &[Game(16), Fault(33, 1), Passed(4), Game(53), End],
+    ),
+    // A comment after what is no item, with a bracket first on a line, which is taken for a section.
     (
         b"[A \"1\"]\n\n1. e4 *\n\n[A \"2\"]\n\n1. e4 ~ {a\n\n[%eval 1]\n\n[x]} *\n\n[A \"3\"]\n\n1. d4 *\n",
         &[
