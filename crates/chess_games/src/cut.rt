@@ -63,9 +63,11 @@ struct Borders {
     word: u64,
     /// How many line feeds there were since the last byte that is not white space, at most 255.
     feeds: u8,
+    /// Whether the next byte is first on its line but for white space; a byte order mark begins a line, too.
+    is_first: bool,
     /// Whether the last item but white space is the marker of a game's end.
     has_ended: bool,
-    /// Whether a section of tags may begin in a comment: a reader that passes over a bad game would begin there, and another would not.
+    /// Whether a section of tags may begin in a comment, a hidden line or a value: a reader that passes over a bad game would begin there, and another would not.
     is_lost: bool,
     /// How many bytes there were since the last border.
     since: u64,
@@ -122,6 +124,7 @@ impl Borders {
             zone: Zone::LineStart,
             word: 0,
             feeds: 2,
+            is_first: true,
             has_ended: false,
             is_lost: false,
             since: 0,
@@ -192,6 +195,8 @@ impl Borders {
         } else if !is_blank(b) {
             self.feeds = 0;
         }
+        // 191 is the last byte of a mark.
+        self.is_first = b == b'\n' || b == 191 || (self.is_first && is_blank(b));
         self.since = self.since.saturating_add(1);
     }
 
@@ -200,8 +205,8 @@ impl Borders {
         ensures { result ≡ true → 1 < length next.now → OpensTag next.now }
     {
         match next {
-            [b'['] => self.feeds >= 2,
-            [b'[', b, ..] => self.feeds >= 2 && is_name_byte(*b),
+            [b'['] => self.is_first,
+            [b'[', b, ..] => self.is_first && is_name_byte(*b),
             _ => false,
         }
     }
@@ -212,12 +217,17 @@ impl Borders {
         ensures { result ≡ true → OpensTag next.now }
     {
         let may_open = self.may_open(next);
-        if may_open && matches!(self.zone, Zone::Braced) {
+        let is_outside = matches!(self.zone, Zone::LineStart | Zone::InLine);
+        let is_hidden = matches!(
+            self.zone,
+            Zone::Braced | Zone::ToLineEnd | Zone::TagToLineEnd | Zone::InValue | Zone::Escaped
+        );
+        if may_open && is_hidden {
             self.is_lost = true;
         }
-        let is_outside = matches!(self.zone, Zone::LineStart | Zone::InLine);
         let begins = may_open
             && is_outside
+            && self.feeds >= 2
             && self.has_ended
             && !self.is_lost
             && self.since >= least
@@ -271,8 +281,8 @@ fn zeros<A: Allocator>(alloc: A) -> Result<Vec<u8, A>, AllocError>
 
 /// Copies the reader's bytes to the writer, with a zero byte where a game surely begins: before a section of tags (PGN 8.1) after an empty line
 /// and a marker of a game's end, at least so many bytes after the last. Whoever reads the pieces one by one reads the games that are read of
-/// the whole, good and bad, whatever their moves. Where a section may begin in a comment, the rest is one piece, since a reader begins
-/// there only after a bad game.
+/// the whole, good and bad, whatever their moves. Where a section may begin in a comment, a hidden line or a value, the rest is one
+/// piece, since a reader begins there only after a bad game.
 ///
 /// # Errors
 ///

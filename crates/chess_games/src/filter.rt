@@ -1,7 +1,8 @@
-ghost use Rattle.std.specs.Prelude.{◌≡◌, ℕ, ◌≤◌, if◌then◌else◌, [], false, None, IfOk, OnOk};
+ghost use Rattle.std.specs.Prelude.{◌≡◌, ◌≤◌, if◌then◌else◌, [], false, None, Some, IfOk, OnOk};
 ghost use Rattle.byte_streams.specs.Calls.{Carries};
-ghost use Rattle.chess_items.specs.Sections.{PassesOver};
-ghost use Rattle.chess_pgn.specs.Sources.{IsSound};
+ghost use Rattle.chess_items.specs.Coming.{AtHand};
+ghost use Rattle.chess_pgn.specs.Sources.{GivesUp, GoesOn, IsSound, Leaves};
+ghost use Rattle.chess_pgn.specs.declared.games.GamesFault.{GamesFault};
 ghost use Rattle.chess_pgn.specs.Written.{game_text};
 ghost use Rattle.chess_pgn.specs.steps.GameCode.{game_of};
 ghost use Rattle.chess_games.specs.Filtered.{IsFiltered, IsGoneOver};
@@ -41,6 +42,9 @@ fn write_if<'a, A: Allocator, W: Sink>(
     put(writer, text.as_slice())
 }
 
+/// Why a run ends after the most games.
+const TOO_MANY: Failure = Failure::Read;
+
 // A line on the standard error with the number of a game, from 1, and its fault. A fault of the standard error is ignored.
 fn report(rt: &HostRuntime, number: u64, fault: PgnFault) {
     let (place, kind, name) = (fault.place, fault.kind.number(), fault.kind.name());
@@ -69,7 +73,8 @@ fn pass<'a, A: Allocator, R: Source>(games: &mut Games<'a, R, A>) -> Result<(), 
     requires sound { IsSound R.ended games.old }
     ensures sound { IsSound R.ended games.new }
     ensures good { OnOk result (games.new.fault ≡ None) }
-    ensures passes { OnOk result ((count : ℕ) × PassesOver R.gives R.failed games.old.text games.new.text count) }
+    ensures goes_on { OnOk result (GoesOn games.old.fault) }
+    ensures gives_up { (fault : GamesFault) (before : AtHand R) → games.old.fault ≡ Some fault → Leaves R.gives R.failed before games.old.text games.old.halt → OnOk result (GivesUp R.gives R.failed before games.old.text games.new.text) }
 {
     match games.pass_over() {
         Ok(_count) => Ok(()),
@@ -115,7 +120,7 @@ fn write_good<'a, A: Allocator, R: Source, W: Sink>(
             }
         }
     }
-    Err(Failure::Read)
+    Err(TOO_MANY)
 }
 
 /// Writes the good games of a part of the reader's games in export form (PGN 3.2), each before the next is read, and reports the others of the part by

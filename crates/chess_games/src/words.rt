@@ -19,7 +19,7 @@ const ABOUT: &str =
 
 const AFTER: &str = "\
 Of each game that can't be read the standard error has a line `game NUMBER: fault PLACE KIND NAME`; reading goes on
-at the next `[` after an empty line. With `--part K/N` only the games K, K + N, K + 2 N .. are written or reported, so
+at the next `[` that opens a tag, first on its line. With `--part K/N` only the games K, K + N, K + 2 N .. are written or reported, so
 that N processes over one file write all of them. With `--cut BYTES` the input is copied, with a zero byte between
 pieces of whole games, at least so many bytes each; a process over each piece with `--totals` writes its games. The exit
 status is 0, 2 where a game was refused, 1 for wrong words, 3 where a stream or memory failed, or where the input to be
