@@ -141,6 +141,7 @@ abbrev pub NotPassed : {R : Type 0} → (R → List ℕ → R → Type 0) → (R
 NotPassed gives failed old new Read = StopsAt gives failed old new
 NotPassed gives failed old new (Pgn fault) = (fault.kind ≡ Memory) × (bytes : List ℕ) × Came gives failed old bytes new
 
+-- the same of a game that is given up: no more is said of the bytes that came
 abbrev pub NotGivenUp : {R : Type 0} → (R → List ℕ → R → Type 0) → (R → Bool) → AtHand R → AtHand R → GamesFault → Type 0
 NotGivenUp gives failed old new Read = BreaksWhere (λ _. ⊤) gives failed old new
 NotGivenUp gives failed old new (Pgn fault) = (fault.kind ≡ Memory) × (bytes : List ℕ) × Came gives failed old bytes new

@@ -103,6 +103,7 @@ abbrev pub halt_at : Bool → Halt → Option Halt
 halt_at true halt = None
 halt_at false halt = Some halt
 
+-- its items up to there, or white space beyond the limit
 abbrev pub LeavesIn : {X : Type 0} → (X → List ℕ → X → Type 0) → (X → List ℕ) → (X → Type 0) → X → X → Option Halt → Type 0
 LeavesIn comes at_hand all old new (Some halt) = HaltsIn comes at_hand all old new halt
 LeavesIn comes at_hand all old new None = FloodedIn comes at_hand all old new
