@@ -5,14 +5,13 @@ use Rattle.std.proofs.lemmas.Bool.{true≢false}
 use Rattle.byte_streams.specs.Calls.{Carries}
 use Rattle.byte_streams.proofs.CallLemmas.{Carries-append}
 use Rattle.chess_items.specs.Coming.{AtHand}
-use Rattle.chess_items.specs.Sections.{PassesOver}
 use Rattle.chess_items.specs.declared.fault.FaultKind.{FaultKind}
 use Rattle.chess_items.specs.declared.fault.FaultKind.TheVariants.{Memory}
 use Rattle.chess_items.specs.declared.fault.PgnFault.{PgnFault}
 use Rattle.chess_loop.specs.RunEnds.{Broken}
 use Rattle.chess_loop.specs.steps.Sending.{Sent, SentOr}
 use Rattle.chess_loop.proofs.SendingLemmas.{sent_whole}
-use Rattle.chess_pgn.specs.Sources.{Fails, Games, GoesOn, HasFault, HasNone, IsPlaced, ReadFails}
+use Rattle.chess_pgn.specs.Sources.{Fails, Games, GivesUp, GoesOn, HasFault, HasNone, IsPlaced, Leaves, ReadFails}
 use Rattle.chess_pgn.specs.declared.games.GamesFault.TheVariants.{Pgn}
 use Rattle.chess_pgn.specs.declared.games.GamesFault.{GamesFault}
 use Rattle.chess_programs.specs.declared.collection.Failure.{Failure}
@@ -72,14 +71,16 @@ fails_there gives failed ended old new fault not (inr fails) = fails
 
 -- an entry that is no game
 pub bad_there : {R X : Type 0} (gives : R → List ℕ → R → Type 0) (failed : R → Bool) (ended : R → Type 0) (old new : Games R) (offset : ℕ) (fault : PgnFault) (result : Result X GamesFault) → result ≡ Err (Pgn fault) → is_lack fault.kind ≡ false
-    → offset ≡ old.text.used → IfErr result (λ f. IsPlaced old.text.used f) → IfErr result (λ f. HasFault gives failed ended old.text new.text f) → IfErr result (λ f. new.fault ≡ Some f) → IsThere gives failed ended old (Bad offset fault) new
-bad_there gives failed ended old new offset fault result is not here placed has stays =
+    → offset ≡ old.text.used → IfErr result (λ f. IsPlaced old.text.used f) → IfErr result (λ f. HasFault gives failed ended old.text new.text f) → IfErr result (λ f. new.fault ≡ Some f)
+    → IfErr result (λ f. GoesOn (Some f) → Leaves gives failed old.text new.text new.halt) → IsThere gives failed ended old (Bad offset fault) new
+bad_there gives failed ended old new offset fault result is not here placed has stays leaves =
     let dark = no_lack fault.kind not in (
       here,
       dark,
       err_holds (λ f. IsPlaced old.text.used f) result (Pgn fault) is placed,
       fails_there gives failed ended old.text new.text fault dark (err_holds (λ f. HasFault gives failed ended old.text new.text f) result (Pgn fault) is has),
       err_holds (λ f. new.fault ≡ Some f) result (Pgn fault) is stays,
+      err_holds (λ f. GoesOn (Some f) → Leaves gives failed old.text new.text new.halt) result (Pgn fault) is leaves dark,
     )
 
 module _ {W E X : Type 0} (takes : W → List ℕ → W → Type 0) (failed : W → Bool) (w w' : W) where
@@ -111,9 +112,9 @@ module _ {R W : Type 0} (gives : R → List ℕ → R → Type 0) (read_failed :
   goes_on_at_once : (games : Games R) → games.fault ≡ None → GoesOnTo gives read_failed ended games games
   goes_on_at_once games none = (subst (λ (f : Option GamesFault). GoesOnFrom gives read_failed ended f games games) (sym none) refl, none)
 
-  -- after a fault at the next section of tags
-  pub goes_on_after : (old new : Games R) (fault : GamesFault) (count : ℕ) → old.fault ≡ Some fault → PassesOver gives read_failed old.text new.text count → new.fault ≡ None → GoesOnTo gives read_failed ended old new
-  goes_on_after old new fault count is passes none = (subst (λ (f : Option GamesFault). GoesOnFrom gives read_failed ended f old new) (sym is) (count, passes), none)
+  -- after a fault its game is given up
+  pub goes_on_after : (old new : Games R) (fault : GamesFault) → old.fault ≡ Some fault → ((before : AtHand R) → Leaves gives read_failed before old.text old.halt → GivesUp gives read_failed before old.text new.text) → new.fault ≡ None → GoesOnTo gives read_failed ended old new
+  goes_on_after old new fault is gives_up none = (subst (λ (f : Option GamesFault). GoesOnFrom gives read_failed ended f old new) (sym is) gives_up, none)
 
   -- the header is written
   pub none_yet : (start : Games R) (w w' : W) → start.fault ≡ None → failed w ≡ false → Sent takes failed w (header_text asked.format) [] w' → SoFar gives read_failed ended takes failed asked 0 0 start start w w'

@@ -4,7 +4,7 @@
 --   rows_text    the rows of entries, numbered from some number on
 --   report_text  the header, where the format has one, and the rows, numbered from 1
 --   bad_in       how many of the entries are faults
---   GoesOnTo     reading goes on: at once, or after a fault at the next section of tags
+--   GoesOnTo     reading goes on: at once, or after a fault where the bad game's text says that the next game begins
 --   Finds        an entry is the next that a reader finds
 --   AreFound     so are these, one after another
 --   IsJudged     the rows of what was found are written, whole and no more; no write failed
@@ -12,14 +12,14 @@
 --   JudgeEnds    how a run ends: the input has ended and all rows are written, with how many faults; or a read failed, and the rows of all that was found
 --                before are written; or a write failed or took no byte, and a prefix of the rows is written; or there was no memory to go on, and the rows
 --                before are written
-use Rattle.std.specs.Prelude.{◌≡◌, ◌≢◌, ◌⊎◌, ℕ, suc, Bool, false, not, ◌&&◌, if◌then◌else◌, List, [], ◌∷◌, ◌++◌, length, Option, Some, None, Result, Ok, Err}
+use Rattle.std.specs.Prelude.{◌≡◌, ◌≢◌, ◌⊎◌, ℕ, suc, Bool, false, not, ◌&&◌, if◌then◌else◌, List, [], ◌∷◌, ◌++◌, length, Option, Some, None, Result, Ok, Err, ⊤}
 use Rattle.byte_streams.specs.Calls.{Carries}
-use Rattle.chess_items.specs.Sections.{PassesOver, StopsAt}
+use Rattle.chess_items.specs.Coming.{AtHand, BreaksWhere}
 use Rattle.chess_items.specs.declared.fault.FaultKind.TheVariants as lacks
 use Rattle.chess_items.specs.declared.fault.PgnFault.{PgnFault}
 use Rattle.chess_loop.specs.RunEnds.{Broken}
 use Rattle.chess_pgn.specs.Games.{Game}
-use Rattle.chess_pgn.specs.Sources.{Fails, Games, HasNone, IsPlaced, NextGame, ReadFails}
+use Rattle.chess_pgn.specs.Sources.{Fails, Games, GivesUp, HasNone, IsPlaced, Leaves, NextGame, ReadFails}
 use Rattle.chess_pgn.specs.declared.games.GamesFault.{GamesFault}
 use Rattle.chess_pgn.specs.declared.games.GamesFault.TheVariants.{Pgn}
 use Rattle.chess_programs.specs.declared.collection.Failure.{Failure}
@@ -72,9 +72,9 @@ module _ {R : Type 0} (gives : R → List ℕ → R → Type 0) (failed : R → 
   -- from a state with that fault
   abbrev pub GoesOnFrom : Option GamesFault → Games R → Games R → Type 0
   GoesOnFrom None old new = new ≡ old
-  GoesOnFrom (Some fault) old new = (count : ℕ) × PassesOver gives failed old.text new.text count
+  GoesOnFrom (Some fault) old new = (before : AtHand R) → Leaves gives failed before old.text old.halt → GivesUp gives failed before old.text new.text
 
-  -- at once, or after a fault at the next section of tags
+  -- at once, or after a bad game is given up
   abbrev pub GoesOnTo : Games R → Games R → Type 0
   GoesOnTo old new = GoesOnFrom old.fault old new × (new.fault ≡ None)
 
@@ -82,7 +82,7 @@ module _ {R : Type 0} (gives : R → List ℕ → R → Type 0) (failed : R → 
   abbrev pub IsThere : Games R → Entry → Games R → Type 0
   IsThere old (Found offset game) new = (offset ≡ old.text.used) × NextGame gives failed old new game × (new.fault ≡ None)
   IsThere old (Bad offset fault) new =
-      (offset ≡ old.text.used) × (fault.kind ≢ lacks.Memory) × IsPlaced old.text.used (Pgn fault) × Fails gives failed ended old.text new.text × (new.fault ≡ Some (Pgn fault))
+      (offset ≡ old.text.used) × (fault.kind ≢ lacks.Memory) × IsPlaced old.text.used (Pgn fault) × Fails gives failed ended old.text new.text × (new.fault ≡ Some (Pgn fault)) × Leaves gives failed old.text new.text new.halt
 
   -- it is the next
   abbrev pub Finds : Games R → Entry → Games R → Type 0
@@ -97,7 +97,7 @@ module _ {R : Type 0} (gives : R → List ℕ → R → Type 0) (failed : R → 
   abbrev pub Stops : ℕ → Games R → Games R → Type 0
   Stops count last new =
       ((mid : Games R) × GoesOnTo last mid × ReadFails gives failed mid.text new.text)
-      ⊎ StopsAt gives failed last.text new.text
+      ⊎ BreaksWhere (λ _. ⊤) gives failed last.text new.text
       ⊎ (GoesOnTo last new × (count ≡ most_games))
 
   module _ {W : Type 0} (takes : W → List ℕ → W → Type 0) (write_failed : W → Bool) (asked : Asked) where

@@ -1,6 +1,7 @@
-ghost use Rattle.std.specs.Prelude.{◌≡◌, ℕ, false, None, IfErr, IfOk, OnOk};
-ghost use Rattle.chess_items.specs.Sections.{PassesOver};
-ghost use Rattle.chess_pgn.specs.Sources.{GoesOn, IsSound};
+ghost use Rattle.std.specs.Prelude.{◌≡◌, false, None, Some, IfErr, IfOk, OnOk};
+ghost use Rattle.chess_items.specs.Coming.{AtHand};
+ghost use Rattle.chess_pgn.specs.Sources.{GivesUp, GoesOn, IsSound, Leaves};
+ghost use Rattle.chess_pgn.specs.declared.games.GamesFault.{GamesFault};
 ghost use Rattle.chess_pgn.specs.steps.GameCode.{game_of};
 ghost use Rattle.arbiter.specs.Collections.{Bad, Found, JudgeEnds, header_text, row_of};
 ghost use Rattle.arbiter.specs.steps.Judging.{IsReady, NotOn, WritesText, is_lack};
@@ -101,13 +102,13 @@ impl<'t> RowMaker<'t> {
     }
 }
 
-// After a fault of a text reading goes on at the next section of tags.
+// After a fault of a text its game is given up, and reading goes on at the next section of tags.
 fn go_on<R: Source>(games: &mut Games<'_, R, Global>) -> Result<(), Failure>
     requires sound { IsSound R.ended games.old }
     requires goes_on { GoesOn games.old.fault }
     ensures sound { IsSound R.ended games.new }
     ensures good { OnOk result (games.new.fault ≡ None) }
-    ensures passes { IfOk result (λ _. (count : ℕ) × PassesOver R.gives R.failed games.old.text games.new.text count) }
+    ensures gives_up { (fault : GamesFault) (before : AtHand R) → games.old.fault ≡ Some fault → Leaves R.gives R.failed before games.old.text games.old.halt → IfOk result (λ _. GivesUp R.gives R.failed before games.old.text games.new.text) }
     ensures fault { IfErr result (λ failure. NotOn R.gives R.failed games.old games.new failure) }
 {
     match games.pass_over() {

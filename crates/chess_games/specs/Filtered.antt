@@ -1,6 +1,6 @@
 -- What is read of a collection, and written of it.
 --   Entry       a game that was read, or the fault of one that can't be read
---   Goes        games are read one after another: after one that can't be read, bytes are passed over to the next section of tags
+--   Goes        games are read one after another: one that can't be read is given up, from its first byte to where its text says that the next begins
 --   good_text   the export forms of the good games of a part, in order, after so many games
 --   bad_count   how many games of a part can't be read
 --   IsFresh     nothing of a source is read
@@ -9,10 +9,9 @@
 use Rattle.std.specs.Prelude.{◌≡◌, ℕ, ◌+◌, Bool, false, if◌then◌else◌, List, [], ◌∷◌, ◌++◌}
 use Rattle.byte_streams.specs.Calls.{Carries}
 use Rattle.chess_items.specs.Coming.{AtHand}
-use Rattle.chess_items.specs.Sections.{PassesOver}
 use Rattle.chess_items.specs.declared.fault.PgnFault.{PgnFault}
 use Rattle.chess_pgn.specs.Games.{Game}
-use Rattle.chess_pgn.specs.Sources.{HasFault, HasGame, HasNone}
+use Rattle.chess_pgn.specs.Sources.{GivesUp, HasFault, HasGame, HasNone}
 use Rattle.chess_pgn.specs.Written.{game_text}
 use Rattle.chess_pgn.specs.declared.games.GamesFault.TheVariants.{Pgn}
 use Rattle.chess_games.specs.Parts.{Part, is_in}
@@ -26,7 +25,7 @@ module _ {R : Type 0} (gives : R → List ℕ → R → Type 0) (failed : R → 
   Goes old [] new = old ≡ new
   Goes old (Good game ∷ entries) new = (mid : AtHand R) × HasGame gives failed old mid game × Goes mid entries new
   Goes old (Bad fault ∷ entries) new =
-      (there : AtHand R) × (mid : AtHand R) × (count : ℕ) × HasFault gives failed ended old there (Pgn fault) × PassesOver gives failed there mid count × Goes mid entries new
+      (there : AtHand R) × (mid : AtHand R) × HasFault gives failed ended old there (Pgn fault) × GivesUp gives failed old there mid × Goes mid entries new
 
 abbrev pub good_text : Part → ℕ → List Entry → List ℕ
 good_text part before [] = []

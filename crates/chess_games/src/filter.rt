@@ -1,7 +1,8 @@
-ghost use Rattle.std.specs.Prelude.{◌≡◌, ℕ, ◌≤◌, if◌then◌else◌, [], false, None, IfOk, OnOk};
+ghost use Rattle.std.specs.Prelude.{◌≡◌, ◌≤◌, if◌then◌else◌, [], false, None, Some, IfOk, OnOk};
 ghost use Rattle.byte_streams.specs.Calls.{Carries};
-ghost use Rattle.chess_items.specs.Sections.{PassesOver};
-ghost use Rattle.chess_pgn.specs.Sources.{IsSound};
+ghost use Rattle.chess_items.specs.Coming.{AtHand};
+ghost use Rattle.chess_pgn.specs.Sources.{GivesUp, GoesOn, IsSound, Leaves};
+ghost use Rattle.chess_pgn.specs.declared.games.GamesFault.{GamesFault};
 ghost use Rattle.chess_pgn.specs.Written.{game_text};
 ghost use Rattle.chess_pgn.specs.steps.GameCode.{game_of};
 ghost use Rattle.chess_games.specs.Filtered.{IsFiltered, IsGoneOver};
@@ -72,7 +73,8 @@ fn pass<'a, A: Allocator, R: Source>(games: &mut Games<'a, R, A>) -> Result<(), 
     requires sound { IsSound R.ended games.old }
     ensures sound { IsSound R.ended games.new }
     ensures good { OnOk result (games.new.fault ≡ None) }
-    ensures passes { OnOk result ((count : ℕ) × PassesOver R.gives R.failed games.old.text games.new.text count) }
+    ensures goes_on { OnOk result (GoesOn games.old.fault) }
+    ensures gives_up { (fault : GamesFault) (before : AtHand R) → games.old.fault ≡ Some fault → Leaves R.gives R.failed before games.old.text games.old.halt → OnOk result (GivesUp R.gives R.failed before games.old.text games.new.text) }
 {
     match games.pass_over() {
         Ok(_count) => Ok(()),

@@ -259,3 +259,7 @@ module _ {X T : Type 0} (comes : X → List ℕ → X → Type 0) (at_hand : X �
 
   pub ended_after : (new : X) (u : T) (pieces : List (List ℕ)) (at : ℕ) (place : Place) (white : Bool) (why : Stop) → AfterRun comes at_hand all sound size takes limit old pieces new t u at place white why → all old → (joined pieces ≡ []) × all new
   ended_after new u pieces at place white why a = (took_after new u pieces at place white why a).1.at_end
+
+  -- it used no more than the limit
+  pub few_after : (new : X) (u : T) (pieces : List (List ℕ)) (at : ℕ) (place : Place) (white : Bool) (why : Stop) → AfterRun comes at_hand all sound size takes limit old pieces new t u at place white why → at ≤ limit
+  few_after new u pieces at place white why a = (took_after new u pieces at place white why a).1.few

@@ -1,6 +1,6 @@
 -- What is answered of a text that begins with a game, and where a fault is.
 use Rattle.std.proofs.Common.{◌≡◌, ◌⊎◌, ℕ, Bool, true, false, List, [], ◌++◌, refl, sym, subst, ap, ◌∙◌, append-nil}
-use Rattle.std.specs.Prelude.{Ok, Option, Some, None}
+use Rattle.std.specs.Prelude.{Err, Ok, Option, Some, None}
 use mathlib.Core.Logic.{inl, inr}
 use Rattle.byte_streams.specs.Calls.{joined}
 use Rattle.chess_items.specs.Coming.{AtHand, unread}
@@ -9,8 +9,9 @@ use Rattle.chess_items.specs.declared.fault.PgnFault.{PgnFault}
 use Rattle.chess_items.proofs.BreakLemmas.{all_came, breaking, brings, ends_truly, has_all}
 use Rattle.chess_pgn.specs.Games as games
 use Rattle.chess_pgn.specs.Reading.{HasNoGame, IsAnswered, BeginsWithGame, IsWhite}
-use Rattle.chess_pgn.specs.Sources.{HasFault}
-use Rattle.chess_pgn.specs.steps.GameAt.{FoundGame, IsFault, NotCome}
+use Rattle.chess_items.specs.declared.skimming.Halt.{Halt}
+use Rattle.chess_pgn.specs.Sources.{GoesOn, HasFault, Leaves}
+use Rattle.chess_pgn.specs.steps.GameAt.{FoundGame, HaltsAt, IsFault, LeavesIn, NotCome}
 use Rattle.chess_pgn.specs.steps.GameCode.{game_of}
 use Rattle.chess_pgn.specs.steps.Next.{HasKind}
 use Rattle.chess_pgn.specs.declared.game.Game.{Game}
@@ -77,3 +78,15 @@ module _ {R : Type 0} (gives : R → List ℕ → R → Type 0) (failed : R → 
   source_fault (Pgn fault) Read h e = absurd e
   source_fault Read (Pgn placed) h e = absurd e
   source_fault Read Read h e = record { bytes = joined h.pieces; before = h.mid; came = all_came gives failed old h.mid h.pieces h.came; breaks = h.breaks_off; not_ended = not_true h.mid.has_ended h.not_all; none = h.none }
+
+  -- how far its items were used
+  left_there : (halt : Option Halt) → LeavesIn (brings gives failed) unread (has_all gives failed) old new halt → Leaves gives failed old new halt
+  left_there (Some halt) l = l
+  left_there None f = record { bytes = joined f.pieces; came = all_came gives failed old new f.pieces f.came; flooded = f.flooded; still = f.still }
+
+  pub source_leaves : (A : Type 0) (halt : Option Halt) (fault placed : GamesFault) → HaltsAt {A = A} (brings gives failed) unread (has_all gives failed) old new halt (Err fault) → HasKind fault placed → GoesOn (Some placed) → Leaves gives failed old new halt
+  source_leaves A halt (Pgn fault) (Pgn placed) (inl m) k on = absurd (on (k ∙ m))
+  source_leaves A halt (Pgn fault) (Pgn placed) (inr l) k on = left_there halt l
+  source_leaves A halt (Pgn fault) Read h k on = absurd k
+  source_leaves A halt Read (Pgn placed) h k on = absurd k
+  source_leaves A halt Read Read h k on = absurd on

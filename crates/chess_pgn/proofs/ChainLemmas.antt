@@ -172,12 +172,12 @@ pub progress_new : {A : Type 0} (r : Reader A) → IsNew r → Progress [] r
 progress_new r n = inl (record { heading = refl; taken = n.tags; lead = n.lead; moving = n.moving; outcome = n.outcome })
 
 progress_more : {A : Type 0} (is : List Item) (item : Item) (old new : Reader A) → Progress is old → TakesItem old item (Ok GoesOn) new → Progress (is ++ item ∷ []) new
-progress_more is item old new (inl h) t = by (subst (λ (b : Bool). takes_when b item (Ok GoesOn) old new) h.moving t)
+progress_more is item old new (inl h) t = by (subst (λ (b : Bool). takes_when b item (Ok GoesOn) old new) h.moving t.0)
   where
     by : HeadsGame item (Ok GoesOn) old new → Progress (is ++ item ∷ []) new
     by (inl x) = inl (head_more is item old new h x.1)
     by (inr x) = inr (moving_first is item old x.1 new h x.0 x.2 x.3)
-progress_more is item old new (inr h) t = inr (moving_more is item old new h (subst (λ (b : Bool). takes_when b item (Ok GoesOn) old new) h.there.moving t))
+progress_more is item old new (inr h) t = inr (moving_more is item old new h (subst (λ (b : Bool). takes_when b item (Ok GoesOn) old new) h.there.moving t.0))
 
 -- all items that are taken one after another
 pub progress_all : {A : Type 0} (is : List Item) (items : List (ℕ × Item)) (old new : Reader A) → Progress is old → Takes (λ s at item result t. TakesItem s item result t) old items new → Progress (is ++ bare items) new

@@ -96,7 +96,7 @@ module _ {A : Type 0} (is : List Item) (white : list_all is_white is ≡ true) (
   none_told item fault e h (inr (inr k)) = absurd (apart (white_stands item e).1 k.0)
 
   pub white_refused : (item : Item) (fault : PgnFault) (u : Reader A) → is_white item ≡ true → Progress is r → TakesItem r item (Err fault) u → fault.kind ≡ Memory
-  white_refused item fault u e p k = (let h = in_head p in none_told item fault e h (subst (λ (b : Bool). takes_when b item (Err fault) r u) h.moving k))
+  white_refused item fault u e p k = (let h = in_head p in none_told item fault e h (subst (λ (b : Bool). takes_when b item (Err fault) r u) h.moving k.0))
 
 -- ---- what comes next, where all that follows is white
 

@@ -113,13 +113,13 @@ module _ {A : Type 0} (is : List Item) (item : Item) (rest : List ℕ) (game : G
   )
 
   pub ended_gives : Progress is old → TakesItem old item (Ok AtEnd) new → GivesGame (is ++ item ∷ []) rest game × (is_white item ≡ false)
-  ended_gives (inl h) k = by (subst (λ (b : Bool). takes_when b item (Ok AtEnd) old new) h.moving k)
+  ended_gives (inl h) k = by (subst (λ (b : Bool). takes_when b item (Ok AtEnd) old new) h.moving k.0)
     where
       by : HeadsGame item (Ok AtEnd) old new → GivesGame (is ++ item ∷ []) rest game × (is_white item ≡ false)
       by (inl x) = absurd (let e = x.0 in cc)
       by (inr x) = at_marker is [] x.1 (sym (append-nil is)) tt (movetext_first is old x.1 h x.2) x.3
   ended_gives (inr h) k =
-      at_marker h.head h.movetext old h.parts (begun_starts h.movetext h.begun) h.there (subst (λ (b : Bool). takes_when b item (Ok AtEnd) old new) h.there.moving k)
+      at_marker h.head h.movetext old h.parts (begun_starts h.movetext h.begun) h.there (subst (λ (b : Bool). takes_when b item (Ok AtEnd) old new) h.there.moving k.0)
 
 -- before a bracket
 module _ {A : Type 0} (is : List Item) (item : Item) (game : Game A) (old new : Reader A) (c : Closed new game) where
@@ -129,13 +129,13 @@ module _ {A : Type 0} (is : List Item) (item : Item) (game : Game A) (old new : 
       (inr (refl, c.is_outcome ∙ l.outcome ∙ h.there.outcome, inr (h.begun, more, e))) h.there l.closed (subst (λ (k : Header A). HasFound k game.tags) l.header c.has_tags) (subst (λ (m : Moves A). IsRead m game.tree) l.moves c.is_tree)
 
   pub left_gives : Progress is old → TakesItem old item (Ok Leaves) new → (item ≡ items.TagOpen) × (list_all is_white is ≡ false) × ((rest more : List ℕ) → rest ≡ byte "[" ∷ more → GivesGame is rest game)
-  left_gives (inl h) k = absurd (by (subst (λ (b : Bool). takes_when b item (Ok Leaves) old new) h.moving k))
+  left_gives (inl h) k = absurd (by (subst (λ (b : Bool). takes_when b item (Ok Leaves) old new) h.moving k.0))
     where
       by : HeadsGame item (Ok Leaves) old new → ⊥
       by (inl x) = (let e = x.0 in cc)
       by (inr x) = (let e : true ≡ false = sym (ap is_heading x.3.bracket) ∙ x.0 in cc)
   left_gives (inr h) k =
-      let l : Left item old new = subst (λ (b : Bool). takes_when b item (Ok Leaves) old new) h.there.moving k in
+      let l : Left item old new = subst (λ (b : Bool). takes_when b item (Ok Leaves) old new) h.there.moving k.0 in
       (l.bracket, ap (list_all is_white) h.parts ∙ begun_dark h.head h.movetext h.begun, λ rest more e. at_bracket rest more e h l)
 
 -- at the end of the text

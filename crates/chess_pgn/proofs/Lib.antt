@@ -32,6 +32,7 @@ pub mod UndecidedLemmas
 pub mod AnswerLemmas
 pub mod DarkLemmas
 pub mod StopLemmas
+pub mod HaltLemmas
 pub mod RespaceLemmas
 pub mod NumeralLemmas
 pub mod PieceLemmas

@@ -172,8 +172,8 @@ too_long most place rest k next o e =
 module _ {A : Type 0} (t u : Reader A) where
   -- a reader of movetext takes no bracket
   takes_none : t.moving ≡ true → TakesItem t items.TagOpen (Ok GoesOn) u ⊎ TakesItem t items.TagOpen (Ok AtEnd) u → ⊥
-  takes_none m (inl k) = (let r : Read items.TagOpen t u = subst (λ (b : Bool). takes_when b items.TagOpen (Ok GoesOn) t u) m k in let e = r.stands in cc)
-  takes_none m (inr k) = (let r : Ended items.TagOpen t u = subst (λ (b : Bool). takes_when b items.TagOpen (Ok AtEnd) t u) m k in let e = r.marker in cc)
+  takes_none m (inl k) = (let r : Read items.TagOpen t u = subst (λ (b : Bool). takes_when b items.TagOpen (Ok GoesOn) t u) m k.0 in let e = r.stands in cc)
+  takes_none m (inr k) = (let r : Ended items.TagOpen t u = subst (λ (b : Bool). takes_when b items.TagOpen (Ok AtEnd) t u) m k.0 in let e = r.marker in cc)
 
 module _ {A : Type 0} (is : List Item) (t u : Reader A) (p : Progress is t) (at : ℕ) (few : at ≤ 1048576) (input rest : List ℕ) (spelled : Spells GameStart input is rest) (counted : at + length rest ≡ length input)
     (over : Oversized (1048576 - at) (place_behind GameStart is) rest)

@@ -300,7 +300,7 @@ module _ {A : Type 0} (taken : List Item) (t : Reader A) (h : InHead taken t) (i
 -- a game doesn't go on with what was refused
 pub refused_more : {A : Type 0} (is : List Item) (item : Item) (fault : PgnFault) (t u : Reader A) → Progress is t → TakesItem t item (Err fault) u → (fault.kind ≡ Memory → ⊥) → (more : List Item) (rest : List ℕ) (game : Game)
     → Fits game → Gives (is ++ item ∷ more) rest game → ⊥
-refused_more is item fault t u (inl h) takes not more rest game within g = by (subst (λ (b : Bool). takes_when b item (Err fault) t u) h.moving takes)
+refused_more is item fault t u (inl h) takes not more rest game within g = by (subst (λ (b : Bool). takes_when b item (Err fault) t u) h.moving takes.0)
   where
     by : (fault.kind ≡ Memory) ⊎ (Strays item fault t.header ⊎ ((is_heading item ≡ false) × RefusesFirst item fault.kind t)) → ⊥
     by (inl memory) = not memory
@@ -308,7 +308,7 @@ refused_more is item fault t u (inl h) takes not more rest game within g = by (s
     by (inr (inr x)) = first_none is t h (is ++ item ∷ more) rest game g item more fault.kind refl x.0 within not x.1
 refused_more is item fault t u (inr m) takes not more rest game within g =
     let p = moving_parts is t m (is ++ item ∷ more) rest game g (item ∷ more) refl in
-    refused_there m.head m.movetext (is ++ item ∷ more) t m.there rest game g p.0 item more fault.kind p.1 within not (subst (λ (b : Bool). takes_when b item (Err fault) t u) m.there.moving takes)
+    refused_there m.head m.movetext (is ++ item ∷ more) t m.there rest game g p.0 item more fault.kind p.1 within not (subst (λ (b : Bool). takes_when b item (Err fault) t u) m.there.moving takes.0)
 
 -- nor does it end before a bracket that was refused
 pub refused_bracket : {A : Type 0} (is : List Item) (item : Item) (fault : PgnFault) (t u : Reader A) → Progress is t → TakesItem t item (Err fault) u → (fault.kind ≡ Memory → ⊥) → item ≡ items.TagOpen → (rest more : List ℕ)
@@ -324,7 +324,7 @@ refused_bracket is item fault t u (inl h) takes not bracket rest more e game g =
 refused_bracket is item fault t u (inr m) takes not bracket rest more e game g =
     let p = moving_parts is t m is rest game g [] (sym (append-nil is)) in
     bracket_there m.head m.movetext is t m.there rest game g p.0 fault.kind (sym (append-nil m.movetext) ∙ p.1) not
-    (subst (λ (i : Item). RefusesItem i fault.kind t.moves) bracket (subst (λ (b : Bool). takes_when b item (Err fault) t u) m.there.moving takes))
+    (subst (λ (i : Item). RefusesItem i fault.kind t.moves) bracket (subst (λ (b : Bool). takes_when b item (Err fault) t u) m.there.moving takes.0))
 
 -- ---- the end of the text
 

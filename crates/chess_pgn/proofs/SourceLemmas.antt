@@ -1,11 +1,17 @@
 -- Games of a whole text, and of a source.
-use Rattle.std.proofs.Common.{◌≡◌, ℕ, ◌≤◌, ◌<◌, Bool, true, false, List, [], ◌∷◌, ◌++◌, length, refl, sym, subst, ap, ◌∙◌, arith, append-nil, length-append}
+use Rattle.std.proofs.Common.{◌≡◌, ℕ, ◌+◌, ◌≤◌, ◌<◌, Bool, true, false, List, [], ◌∷◌, ◌++◌, length, refl, sym, subst, ap, ◌∙◌, arith, append-nil, length-append}
 use Rattle.std.specs.List.{list_all}
 use mathlib.Core.Logic.{inl, inr}
 use Rattle.std.specs.Prelude.{Result, Ok, Err, Option, Some, None, IfErr, IfOk, IfSome}
 use Rattle.byte_streams.specs.Calls.{Calls, joined}
 use Rattle.chess_items.specs.Items.{Item, Spells, is_white, place_after}
+use Rattle.chess_items.specs.Abandoned.{GivesUpFrom, Halts}
 use Rattle.chess_items.specs.Coming.{AtHand, unread}
+use Rattle.chess_items.specs.Sections.{PassesOver}
+use Rattle.chess_items.specs.declared.at_hand.Fault.{Fault}
+use Rattle.chess_items.specs.declared.at_hand.Fault.TheVariants as off
+use Rattle.chess_items.specs.declared.skimming.Halt.{Halt}
+use Rattle.chess_items.specs.steps.Seeking.{GiveUpBreaks, SeekBreaks}
 use Rattle.chess_items.specs.declared.place.Place.{Place}
 use Rattle.chess_items.specs.declared.place.Place.TheVariants.{GameStart}
 use Rattle.chess_items.proofs.FoundLemmas.{some_is}
@@ -13,7 +19,7 @@ use Rattle.chess_items.proofs.BreakLemmas.{all_came, brings, has_all}
 use Rattle.chess_items.proofs.LocalLemmas.{text_shorter}
 use Rattle.chess_pgn.specs.Games as games
 use Rattle.chess_pgn.specs.Reading.{BeginsWithGame, IsWhite}
-use Rattle.chess_pgn.specs.Sources.{Games, GoesOn, HasFault, HasGame, HasNone, IsPlaced, IsSound, NextGame, NotPassed, ReadsNext}
+use Rattle.chess_pgn.specs.Sources.{Games, GivesUp, GoesOn, HasFault, HasGame, HasNone, IsPlaced, IsSound, Leaves, NextGame, NotGivenUp, ReadsNext, seeks}
 use Rattle.chess_pgn.specs.steps.GameAt.{FoundGame, HasCome, NoneCame}
 use Rattle.chess_pgn.specs.steps.GameCode.{game_of}
 use Rattle.chess_pgn.specs.declared.game.Game.{Game}
@@ -119,10 +125,10 @@ module _ {R : Type 0} (gives : R → List ℕ → R → Type 0) (failed : R → 
       by (Pgn f) on (inr k) = k.told
 
   -- and such a fault stays where bytes can't be passed over
-  pub not_passed_sound : (old : AtHand R) (new : Games R) (fault : GamesFault) → new.fault ≡ Some fault → NotPassed gives failed old new.text fault → IsSound ended new
+  pub not_passed_sound : (old : AtHand R) (new : Games R) (fault : GamesFault) → new.fault ≡ Some fault → NotGivenUp gives failed old new.text fault → IsSound ended new
   not_passed_sound old new fault e h = record { ended_so = λ on. by fault (subst (λ (f : Option GamesFault). GoesOn f) e on) h }
     where
-      by : (fault : GamesFault) → GoesOn (Some fault) → NotPassed gives failed old new.text fault → new.text.has_ended ≡ true → ended new.text.source
+      by : (fault : GamesFault) → GoesOn (Some fault) → NotGivenUp gives failed old new.text fault → new.text.has_ended ≡ true → ended new.text.source
       by Read on h = absurd on
       by (Pgn f) on h = absurd (on h.0)
 
@@ -141,13 +147,15 @@ module _ {R A : Type 0} (gives : R → List ℕ → R → Type 0) (failed : R �
     none = λ h. absurd cc;
     fault = λ h. absurd (let k = sym e ∙ h in cc);
     place = λ h. absurd (let k = sym e ∙ h in cc);
+    leaves = λ h. absurd (let k = sym e ∙ h in cc);
   }
 
   -- none came before
   pub first_reads : (new : Games R) (result : Result (Option (Game A)) GamesFault) → old.fault ≡ None → IsSound ended new → IfErr result (λ fault. new.fault ≡ Some fault) → IfOk result (λ _. new.fault ≡ None)
       → IfOk result (λ found. IfSome found (λ game. NextGame gives failed old new (game_of game))) → IfOk result (λ found. IfSome found (λ game. game.tree.path ≡ [])) → (result ≡ Ok None → HasNone gives failed old.text new.text)
-      → IfErr result (λ fault. HasFault gives failed ended old.text new.text fault) → IfErr result (λ fault. IsPlaced old.text.used fault) → ReadsNext gives failed ended old new result
-  first_reads new result came sound sticky good game cursor none fault place = record {
+      → IfErr result (λ fault. HasFault gives failed ended old.text new.text fault) → IfErr result (λ fault. IsPlaced old.text.used fault)
+      → IfErr result (λ fault. GoesOn (Some fault) → Leaves gives failed old.text new.text new.halt) → ReadsNext gives failed ended old new result
+  first_reads new result came sound sticky good game cursor none fault place leaves = record {
     sound = sound;
     again = λ before h. absurd (let k = sym came ∙ h in cc);
     untouched = λ before h. absurd (let k = sym came ∙ h in cc);
@@ -158,4 +166,36 @@ module _ {R A : Type 0} (gives : R → List ℕ → R → Type 0) (failed : R �
     none = none;
     fault = λ h. fault;
     place = λ h. place;
+    leaves = λ h. leaves;
   }
+
+-- ---- a bad game
+
+module _ {R E : Type 0} (gives : R → List ℕ → R → Type 0) (failed : R → Bool) (old new : AtHand R) (result : Result ℕ E) where
+  if_ok : (P : ℕ → Type 0) (Q : Type 0) → ((count : ℕ) → P count → Q) → (r : Result ℕ E) → IfOk r P → IfOk r (λ _. Q)
+  if_ok P Q f (Ok count) h = f count h
+  if_ok P Q f (Err e) h = tt
+
+  -- where no fault came, reading goes on at once
+  pub passes_on : (fault : Option GamesFault) (halt : Option Halt) → (seeks fault halt ≡ None → IfOk result (λ count. PassesOver gives failed old new count)) → fault ≡ None → IfOk result (λ count. PassesOver gives failed old new count)
+  passes_on fault halt passes none = passes (ap (λ (f : Option GamesFault). seeks f halt) none)
+
+  pub stops_on : (P : Type 0) (fault : Option GamesFault) (halt : Option Halt) → (seeks fault halt ≡ None → P) → fault ≡ None → P
+  stops_on P fault halt stops none = stops (ap (λ (f : Option GamesFault). seeks f halt) none)
+
+  -- and else after the items of the bad game
+  pub gives_up : (before : AtHand R) (fault : Option GamesFault) (halt : Option Halt) → (seeks fault halt ≡ None → IfOk result (λ count. PassesOver gives failed old new count))
+      → ((h : Halt) (before : AtHand R) → seeks fault halt ≡ Some h → Halts gives failed before old h → IfOk result (λ count. GivesUpFrom gives failed before new (h.at + count)))
+      → (why : GamesFault) → fault ≡ Some why → Leaves gives failed before old halt → IfOk result (λ _. GivesUp gives failed before old new)
+  gives_up before None halt passes up why is leaves = absurd (let e = is in cc)
+  gives_up before (Some fault) None passes up why is leaves = if_ok (λ count. PassesOver gives failed old new count) (GivesUp gives failed before old new) (λ count p. inr (leaves, count, p)) result (passes refl)
+  gives_up before (Some fault) (Some h) passes up why is leaves = if_ok (λ count. GivesUpFrom gives failed before new (h.at + count)) (GivesUp gives failed before old new) (λ count p. inl (h.at + count, p)) result (up h before refl leaves)
+
+-- a search that broke off
+pub seek_off : {R : Type 0} (gives : R → List ℕ → R → Type 0) (failed : R → Bool) (old new : AtHand R) (fault : Fault) → SeekBreaks gives failed old new fault → GiveUpBreaks gives failed old new fault
+seek_off gives failed old new off.Memory b = b
+seek_off gives failed old new off.Read b = record { bytes = b.bytes; before = b.before; came = b.came; breaks = b.breaks; not_ended = b.not_ended; none = tt }
+
+pub seek_broken : {R : Type 0} (gives : R → List ℕ → R → Type 0) (failed : R → Bool) (old new : AtHand R) (result : Result ℕ Fault) → IfErr result (λ fault. SeekBreaks gives failed old new fault) → IfErr result (λ fault. GiveUpBreaks gives failed old new fault)
+seek_broken gives failed old new (Ok count) b = tt
+seek_broken gives failed old new (Err fault) b = seek_off gives failed old new fault b

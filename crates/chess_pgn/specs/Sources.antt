@@ -1,5 +1,5 @@
 -- Games of a source, one after another. The bytes that come are those of `chess_items/specs/Coming.antt`.
---   Games      the bytes at hand, how many were used before them, and the fault that came
+--   Games      the bytes at hand, how many were used before them, the fault that came, and how far the items of its game were used
 --   GoesOn     reading may go on: no fault came, or one of a game's text, from which bytes may be passed over
 --   IsSound    where reading may go on, the source has ended where its end was seen
 --   IsPlaced   a fault of the text is after the bytes that were used before its game; a fault for want of memory has its place there
@@ -13,14 +13,21 @@
 --   Starves    bytes came, and then there was no memory
 --   ReadFails  bytes came, and then a read failed, or there may be no more; the source had not ended, and no one game is at their start, whatever follows
 --   HasFault   a read failed, there was no memory, or no game is there; but for the first, no read failed
+--   Floods     white space alone stood before what reaches past 1,048,576 bytes, and the reading stopped within it or behind it
+--   GivesUp    a bad game is given up, from its first byte to where the text alone says that the next begins
+--   seeks      how far the items of a bad game were used, where reading is to go on from there
+--   Leaves     where the reading of a bad game stopped: its items up to there, or white space beyond the limit
 --   ReadsNext  what a call for the next game does: its answer, the bytes, and the fault that is kept
 --   NotPassed  bytes can't be passed over: no section of tags begins among them and a read failed, or there was no memory
+--   NotGivenUp a game can't be passed over: bytes came and then a read failed, before the source's end, or there was no memory
 use Rattle.std.specs.Prelude.{◌≡◌, ◌≢◌, ◌⊎◌, ◌≤◌, ◌<◌, ℕ, ◌+◌, Bool, true, List, [], ◌++◌, length, Option, Some, None, IfErr, IfOk, IfSome, Result, Ok, Err, ⊤}
+use Rattle.chess_items.specs.Abandoned.{GivesUpFrom, Halts}
 use Rattle.chess_items.specs.Coming.{AtHand, BreaksWhere, Came, unread}
-use Rattle.chess_items.specs.Sections.{StopsAt}
+use Rattle.chess_items.specs.Sections.{PassesOver, StopsAt}
 use Rattle.chess_items.specs.declared.fault.FaultKind.TheVariants.{Memory}
 use Rattle.chess_pgn.specs.Games.{Game}
-use Rattle.chess_pgn.specs.Reading.{HasNoGame, HasNoGameYet, BeginsWithGame, IsWhite}
+use Rattle.chess_items.specs.declared.skimming.Halt.{Halt}
+use Rattle.chess_pgn.specs.Reading.{HasNoGame, HasNoGameYet, BeginsWithGame, IsFlooded, IsWhite}
 use Rattle.chess_pgn.specs.declared.game.Game as code
 use Rattle.chess_pgn.specs.declared.games.GamesFault.{GamesFault}
 use Rattle.chess_pgn.specs.declared.games.GamesFault.TheVariants.{Pgn, Read}
@@ -29,6 +36,7 @@ use Rattle.chess_pgn.specs.steps.GameCode.{game_of}
 pub record Games (R : Type 0) : Type 0 where
   pub text : AtHand R
   pub fault : Option GamesFault
+  pub halt : Option Halt
 
 -- a fault of a read, and want of memory, stay
 abbrev pub GoesOn : Option GamesFault → Type 0
@@ -97,6 +105,25 @@ abbrev pub IsPlaced : ℕ → GamesFault → Type 0
 IsPlaced used (Pgn fault) = (used ≤ fault.place) × (fault.kind ≡ Memory → fault.place ≡ used)
 IsPlaced used Read = ⊤
 
+pub record Floods {R : Type 0} (gives : R → List ℕ → R → Type 0) (failed : R → Bool) (old new : AtHand R) : Type 0 where
+  pub bytes : List ℕ
+  pub came : Came gives failed old bytes new
+  pub flooded : (more : List ℕ) → (new.has_ended ≡ true → more ≡ []) → IsFlooded (unread old ++ (bytes ++ more))
+  pub still : old.has_ended ≡ true → (bytes ≡ []) × (new.has_ended ≡ true)
+
+abbrev pub Leaves : {R : Type 0} → (R → List ℕ → R → Type 0) → (R → Bool) → AtHand R → AtHand R → Option Halt → Type 0
+Leaves gives failed old new (Some halt) = Halts gives failed old new halt
+Leaves gives failed old new None = Floods gives failed old new
+
+-- a bad game is given up, counted from its first byte; after white space beyond the limit bytes are passed over from where the reading stopped
+abbrev pub GivesUp : {R : Type 0} → (R → List ℕ → R → Type 0) → (R → Bool) → AtHand R → AtHand R → AtHand R → Type 0
+GivesUp gives failed old there new = ((count : ℕ) × GivesUpFrom gives failed old new count) ⊎ (Floods gives failed old there × (count : ℕ) × PassesOver gives failed there new count)
+
+-- after a fault the items of its game are passed over from there
+abbrev pub seeks : Option GamesFault → Option Halt → Option Halt
+seeks None halt = None
+seeks (Some fault) halt = halt
+
 pub record ReadsNext {R A : Type 0} (gives : R → List ℕ → R → Type 0) (failed : R → Bool) (ended : R → Type 0) (old new : Games R) (result : Result (Option (code.Game A)) GamesFault) : Type 0 where
   pub sound : IsSound ended new
   pub again : (fault : GamesFault) → old.fault ≡ Some fault → result ≡ Err fault
@@ -108,7 +135,13 @@ pub record ReadsNext {R A : Type 0} (gives : R → List ℕ → R → Type 0) (f
   pub none : result ≡ Ok None → HasNone gives failed old.text new.text
   pub fault : old.fault ≡ None → IfErr result (λ fault. HasFault gives failed ended old.text new.text fault)
   pub place : old.fault ≡ None → IfErr result (λ fault. IsPlaced old.text.used fault)
+  pub leaves : old.fault ≡ None → IfErr result (λ fault. GoesOn (Some fault) → Leaves gives failed old.text new.text new.halt)
 
 abbrev pub NotPassed : {R : Type 0} → (R → List ℕ → R → Type 0) → (R → Bool) → AtHand R → AtHand R → GamesFault → Type 0
 NotPassed gives failed old new Read = StopsAt gives failed old new
 NotPassed gives failed old new (Pgn fault) = (fault.kind ≡ Memory) × (bytes : List ℕ) × Came gives failed old bytes new
+
+-- the same of a game that is given up: no more is said of the bytes that came
+abbrev pub NotGivenUp : {R : Type 0} → (R → List ℕ → R → Type 0) → (R → Bool) → AtHand R → AtHand R → GamesFault → Type 0
+NotGivenUp gives failed old new Read = BreaksWhere (λ _. ⊤) gives failed old new
+NotGivenUp gives failed old new (Pgn fault) = (fault.kind ≡ Memory) × (bytes : List ℕ) × Came gives failed old bytes new

@@ -1,14 +1,17 @@
 //! Games of a text or of a source, one after another.
 
-ghost use Rattle.std.specs.Prelude.{◌≡◌, ◌⊎◌, ◌<◌, ◌+◌, ◌^◌, ℕ, false, [], true, Some, None, Ok, Err, IfErr, IfOk, IfSome};
+ghost use Rattle.std.specs.Prelude.{◌≡◌, ◌⊎◌, ◌<◌, ◌≤◌, ◌+◌, ◌^◌, ℕ, false, [], true, Some, None, Ok, Err, IfErr, IfOk, IfSome};
+ghost use Rattle.chess_items.specs.Abandoned.{GivesUpFrom, Halts};
+ghost use Rattle.chess_items.specs.Coming as coming;
 ghost use Rattle.chess_items.specs.Coming.{Breaks, Came, unread};
 ghost use Rattle.chess_items.specs.Sections.{PassesOver};
+ghost use Rattle.chess_items.specs.steps.Seeking.{GiveUpBreaks as Broken, SeekBreaks as Stops};
 ghost use Rattle.chess_items.specs.declared.fault.FaultKind.TheVariants.{Memory};
 ghost use Rattle.chess_pgn.specs.Games as games;
 ghost use Rattle.chess_pgn.specs.declared.games.GamesFault.TheVariants.{Pgn};
 ghost use Rattle.chess_pgn.specs.Reading.{HasNoGame, IsAnswered, BeginsWithGame, IsWhite};
-ghost use Rattle.chess_pgn.specs.Sources.{GoesOn, HasFault, HasNone, IsPlaced, IsSound, NotPassed, ReadsNext};
-ghost use Rattle.chess_pgn.specs.steps.GameAt.{TakesGame};
+ghost use Rattle.chess_pgn.specs.Sources.{GivesUp, GoesOn, HasFault, HasNone, IsPlaced, IsSound, Leaves, NotGivenUp, NotPassed, ReadsNext, seeks};
+ghost use Rattle.chess_pgn.specs.steps.GameAt.{HaltsAt, TakesGame, halt_at, is_flood};
 ghost use Rattle.chess_pgn.specs.steps.GameCode.{game_of};
 ghost use Rattle.chess_pgn.specs.steps.Next.{HasKind, staying};
 ghost use Rattle.chess_pgn.specs.steps.ReaderCode.{Answered, EndsReading, Unanswered};
@@ -19,7 +22,7 @@ use crate::reader::Reader;
 use crate::texts::Texts;
 use byte_streams::Source;
 use chess_items::{
-    AtHand, Fault, FaultKind, PgnFault, Place, Stop, Stopped, Text, Whole, at_place, pass,
+    AtHand, Fault, FaultKind, Halt, PgnFault, Place, Stop, Stopped, Text, Whole, at_place, pass,
 };
 use std::alloc::Allocator;
 use std::marker::Model;
@@ -88,16 +91,45 @@ fn stopped_game<'a, 'k, A: Allocator>(
     reader.into_game()
 }
 
-// The game at the start of a text, and how many bytes it took; and what is known of its moves' texts.
+// Whether white space alone came before what reaches past the limit.
+fn is_flooded(stopped: Stopped) -> bool
+    ensures { result ≡ is_flood stopped.why stopped.white }
+{
+    match stopped.why {
+        Stop::TooLarge => stopped.white,
+        _ => false,
+    }
+}
+
+// Where the reading has stopped; none, where white space beyond the limit was read.
+fn halt_of<A: Allocator>(reader: &Reader<'_, '_, A>, stopped: Stopped) -> Option<Halt>
+    ensures { result ≡ halt_at (is_flood stopped.why stopped.white) (record { place = stopped.place; at = stopped.at; begun = reader.now.moving }) }
+{
+    if is_flooded(stopped) {
+        return None;
+    }
+    Some(Halt {
+        place: stopped.place,
+        at: stopped.at,
+        begun: reader.is_moving(),
+    })
+}
+
+// The game at the start of a text, and how many bytes it took; and what is known of its moves' texts. Where it can't be read, how far its items
+// were used.
 fn take_game<'a, X: Text, A: Allocator>(
     alloc: &'a A,
     basis: &Basis,
     text: &mut X,
     texts: &mut Texts<'a, A>,
+    halt: &mut Option<Halt>,
 ) -> Result<Option<(Game<'a, A>, usize)>, GamesFault>
-    requires { X.sound text.old }
+    requires sound { X.sound text.old }
+    requires within { IfSome halt.old (λ halt. halt.at ≤ 1048576) }
     ensures sound { IfOk result (λ _. X.sound text.new) }
     ensures game { TakesGame X.comes X.at_hand X.all X.sound X.breaks text.old text.new result }
+    ensures halts { HaltsAt X.comes X.at_hand X.all text.old text.new halt.new result }
+    ensures within { IfSome halt.new (λ halt. halt.at ≤ 1048576) }
 {
     let mut reader = Reader::new(alloc, basis, texts.are_wanted());
     let stopped = match pass(text, &mut reader, LIMIT) {
@@ -106,6 +138,7 @@ fn take_game<'a, X: Text, A: Allocator>(
         Err(Fault::Memory) => return Err(GamesFault::Pgn(at_place(0, FaultKind::Memory))),
         Err(Fault::Read) => return Err(GamesFault::Read),
     };
+    *halt = halt_of(&reader, stopped);
     match stopped_game(reader, stopped, text.unread(), texts) {
         Ok(game) => Ok(Some((game, stopped.at))),
         Err(fault) => Err(GamesFault::Pgn(fault)),
@@ -130,7 +163,14 @@ pub fn read_game<'a, A: Allocator>(
     ensures only { (game : games.Game) (used : ℕ) → BeginsWithGame input.now game used → IsAnswered game used result }
 {
     let mut texts = Texts::unwanted(alloc);
-    match take_game(alloc, &Basis::new(), &mut Whole { left: input }, &mut texts) {
+    let mut halt = None;
+    match take_game(
+        alloc,
+        &Basis::new(),
+        &mut Whole { left: input },
+        &mut texts,
+        &mut halt,
+    ) {
         Ok(game) => Ok(game),
         Err(GamesFault::Pgn(fault)) => Err(placed_after(fault, 0)),
         // Nothing is read of a whole text.
@@ -167,21 +207,27 @@ fn placed(fault: GamesFault, used: u64) -> GamesFault
 }
 
 /// The games of a source, one after another. After a fault `next` returns that fault again, until `pass_over` goes on to the next section of
-/// tags. Contracts see the bytes at hand, how many were used before them, and the fault.
+/// tags. Contracts see the bytes at hand, how many were used before them, the fault, and how far the items of its game were used, unless white
+/// space beyond the limit was read.
 #[derive(Drop)]
 pub struct Games<'a, R, A: Allocator> {
     text: AtHand<'a, R, A>,
     fault: Option<GamesFault>,
+    /// How far the items of the game with the fault were used; none, where white space beyond the limit was.
+    halt: Option<Halt>,
     alloc: &'a A,
     basis: Basis,
 }
 
 impl<'a, R, A: Allocator> Model for Games<'a, R, A> {
+    ghost use Rattle.std.specs.Prelude.{◌≤◌, IfSome};
     ghost use Rattle.chess_pgn.specs.Sources as sources;
 
     ghost Value = { sources.Games R };
 
-    ghost view = { λ g. record { text = g.text; fault = g.fault } };
+    ghost view = { λ g. record { text = g.text; fault = g.fault; halt = g.halt } };
+
+    ghost invariant = { λ g. IfSome g.halt (λ halt. halt.at ≤ 1048576) };
 }
 
 impl<'a, R: Source, A: Allocator> Games<'a, R, A> {
@@ -198,6 +244,7 @@ impl<'a, R: Source, A: Allocator> Games<'a, R, A> {
         Games {
             text: AtHand::new(alloc, source),
             fault: None,
+            halt: None,
             alloc,
             basis: Basis::new(),
         }
@@ -210,6 +257,7 @@ impl<'a, R: Source, A: Allocator> Games<'a, R, A> {
         let Games {
             text,
             fault: _,
+            halt: _,
             alloc: _,
             basis: _,
         } = self;
@@ -252,8 +300,42 @@ impl<'a, R: Source, A: Allocator> Games<'a, R, A> {
         ensures sound { IfOk result (λ _. self.new.text.has_ended ≡ true → R.ended self.new.text.source) }
         ensures none { self.new.fault ≡ None }
         ensures game { TakesGame (λ s bytes t. Came R.gives R.failed s bytes t) unread (λ s. s.has_ended ≡ true) (λ s. s.has_ended ≡ true → R.ended s.source) (λ s t. Breaks R.gives R.failed s t) self.old.text self.new.text result }
+        ensures halts { HaltsAt (λ s bytes t. Came R.gives R.failed s bytes t) unread (λ s. s.has_ended ≡ true) self.old.text self.new.text self.new.halt result }
     {
-        take_game(self.alloc, &self.basis, &mut self.text, texts)
+        take_game(
+            self.alloc,
+            &self.basis,
+            &mut self.text,
+            texts,
+            &mut self.halt,
+        )
+    }
+
+    // Uses the bytes before the next section of tags, and those of a bad game before them.
+    fn go_on(&mut self) -> Result<u64, Fault>
+        requires ended { self.old.text.has_ended ≡ true → R.ended self.old.text.source }
+        ensures passes { seeks self.old.fault self.old.halt ≡ None → IfOk result (λ count. PassesOver R.gives R.failed self.old.text self.new.text count) }
+        ensures gives_up { (halt : Halt) (before : coming.AtHand R) → seeks self.old.fault self.old.halt ≡ Some halt → Halts R.gives R.failed before self.old.text halt → IfOk result (λ count. GivesUpFrom R.gives R.failed before self.new.text (halt.at + count)) }
+        ensures used { IfOk result (λ count. self.new.text.used ≡ self.old.text.used + count) }
+        ensures ended { IfOk result (λ _. self.new.text.has_ended ≡ true → R.ended self.new.text.source) }
+        ensures stops { seeks self.old.fault self.old.halt ≡ None → IfErr result (λ fault. Stops R.gives R.failed self.old.text self.new.text fault) }
+        ensures broken { IfErr result (λ fault. Broken R.gives R.failed self.old.text self.new.text fault) }
+    {
+        match self.halted() {
+            None => self.text.pass_to_section(),
+            Some(halt) => self.text.give_up_from(halt),
+        }
+    }
+
+    // How far the items of a bad game were used, from which reading is to go on.
+    fn halted(&self) -> Option<Halt>
+        ensures value { result ≡ seeks self.now.fault self.now.halt }
+        ensures within { IfSome result (λ halt. halt.at ≤ 1048576) }
+    {
+        match self.fault {
+            None => None,
+            Some(_) => self.halt,
+        }
     }
 
     // Passes over bytes, and forgets the fault where that goes well.
@@ -262,11 +344,13 @@ impl<'a, R: Source, A: Allocator> Games<'a, R, A> {
         requires goes_on { GoesOn self.old.fault }
         ensures good { IfOk result (λ _. self.new.fault ≡ None) }
         ensures sound { IfOk result (λ _. self.new.text.has_ended ≡ true → R.ended self.new.text.source) }
-        ensures passes { IfOk result (λ count. PassesOver R.gives R.failed self.old.text self.new.text count) }
+        ensures passes { self.old.fault ≡ None → IfOk result (λ count. PassesOver R.gives R.failed self.old.text self.new.text count) }
+        ensures gives_up { (fault : GamesFault) (before : coming.AtHand R) → self.old.fault ≡ Some fault → Leaves R.gives R.failed before self.old.text self.old.halt → IfOk result (λ _. GivesUp R.gives R.failed before self.old.text self.new.text) }
         ensures used { IfOk result (λ count. self.new.text.used ≡ self.old.text.used + count) }
-        ensures fault { IfErr result (λ fault. NotPassed R.gives R.failed self.old.text self.new.text fault) }
+        ensures fault { self.old.fault ≡ None → IfErr result (λ fault. NotPassed R.gives R.failed self.old.text self.new.text fault) }
+        ensures broken { IfErr result (λ fault. NotGivenUp R.gives R.failed self.old.text self.new.text fault) }
     {
-        match self.text.pass_to_section() {
+        match self.go_on() {
             Ok(count) => {
                 self.fault = None;
                 Ok(count)
@@ -279,6 +363,7 @@ impl<'a, R: Source, A: Allocator> Games<'a, R, A> {
     // Keeps a fault with its place from the input's beginning, after so many bytes, and returns it.
     fn keep(&mut self, fault: GamesFault, used: u64) -> GamesFault
         ensures text { self.new.text ≡ self.old.text }
+        ensures halt { self.new.halt ≡ self.old.halt }
         ensures fault { self.new.fault ≡ Some result }
         ensures kind { HasKind fault result }
         ensures place { IsPlaced used result }
@@ -326,12 +411,14 @@ impl<'a, R: Source, A: Allocator> Games<'a, R, A> {
     }
 
     /// Passes over bytes, from where reading stopped to the next section of tags, and returns how many: `next` goes on there, as if the input
-    /// began there. A section begins with `[` and the first byte of a tag's name (a letter, a digit or `_`), first on their line but for
-    /// white space; a line begins after a line feed, after a byte order mark, and where reading stopped. Where none begins, all bytes are
-    /// passed over, and `next` returns `None`.
+    /// began there. A section begins with `[` and the first byte of a tag's name (a letter, a digit or `_`) where they are first on a
+    /// line, after white space at most; a line begins after a line feed or a byte order mark, and where the search begins. Where none
+    /// begins, all bytes are passed over, and `next` returns `None`.
     ///
-    /// After a fault, reading stopped somewhere in the game that has it. The text of such a game can't be trusted, so a bracket in a
-    /// comment counts as any other. Without a fault, reading stopped after the last game.
+    /// After a fault the search begins after the items of the game that has it, whatever they mean: they end at the bracket of a tag after
+    /// movetext, at what is no item, or at 1,048,576 bytes. So the text alone decides where reading goes on, and not where it stopped; a
+    /// bracket in a comment of that game begins no section, and a left brace without a right one ends its items. Without a fault the search
+    /// begins after the last game.
     ///
     /// # Errors
     ///
@@ -344,9 +431,12 @@ impl<'a, R: Source, A: Allocator> Games<'a, R, A> {
         ensures untouched { (fault : GamesFault) → self.old.fault ≡ Some fault → (GoesOn (Some fault) → ⊥) → self.new ≡ self.old }
         ensures sticky { IfErr result (λ fault. self.new.fault ≡ Some fault) }
         ensures good { IfOk result (λ _. self.new.fault ≡ None) }
-        ensures passes { IfOk result (λ count. PassesOver R.gives R.failed self.old.text self.new.text count) }
+        ensures goes_on { IfOk result (λ _. GoesOn self.old.fault) }
+        ensures passes { self.old.fault ≡ None → IfOk result (λ count. PassesOver R.gives R.failed self.old.text self.new.text count) }
+        ensures gives_up { (fault : GamesFault) (before : coming.AtHand R) → self.old.fault ≡ Some fault → Leaves R.gives R.failed before self.old.text self.old.halt → IfOk result (λ _. GivesUp R.gives R.failed before self.old.text self.new.text) }
         ensures used { IfOk result (λ count. self.new.text.used ≡ self.old.text.used + count) }
-        ensures fault { GoesOn self.old.fault → IfErr result (λ fault. NotPassed R.gives R.failed self.old.text self.new.text fault) }
+        ensures fault { self.old.fault ≡ None → IfErr result (λ fault. NotPassed R.gives R.failed self.old.text self.new.text fault) }
+        ensures broken { GoesOn self.old.fault → IfErr result (λ fault. NotGivenUp R.gives R.failed self.old.text self.new.text fault) }
         ensures place { GoesOn self.old.fault → IfErr result (λ fault. IsPlaced self.old.text.used fault) }
     {
         if let Some(fault) = self.staying() {

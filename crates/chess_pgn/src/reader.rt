@@ -59,7 +59,8 @@ impl<'a, 'k, A: Allocator> Reader<'a, 'k, A> {
 
     // What ends the movetext: a marker, or before it the bracket of a tag.
     fn ending(&mut self, at: usize, marker: Option<Outcome>) -> Result<Taken, PgnFault>
-        ensures { Moved (ending_item marker) result self.old self.new }
+        ensures moved { Moved (ending_item marker) result self.old self.new }
+        ensures still { self.new.moving ≡ self.old.moving }
     {
         if self.moves.is_in_variation() {
             return Err(at_place(at, FaultKind::Variation));
@@ -76,7 +77,8 @@ impl<'a, 'k, A: Allocator> Reader<'a, 'k, A> {
     // An item of the movetext.
     #[inline(always)]
     fn movetext(&mut self, at: usize, token: Token<'_>) -> Result<Taken, PgnFault>
-        ensures { Moved (item_of token.entry) result self.old self.new }
+        ensures moved { Moved (item_of token.entry) result self.old self.new }
+        ensures still { self.new.moving ≡ self.old.moving }
     {
         match token {
             Token::Mark => {}
@@ -135,6 +137,13 @@ impl<'a, 'k, A: Allocator> Reader<'a, 'k, A> {
         } else {
             at_place(at, FaultKind::Token)
         }
+    }
+
+    /// Whether the movetext has begun.
+    pub fn is_moving(&self) -> bool
+        ensures { result ≡ self.now.moving }
+    {
+        self.moving
     }
 
     /// The texts of the moves, as far as they are known. They are forgotten.
@@ -196,6 +205,11 @@ impl<'a, 'k, A: Allocator> Taker for Reader<'a, 'k, A> {
             self.header.take(self.alloc, token)?;
             return Ok(Taken::GoesOn);
         }
-        self.head(at, token)
+        let taken = self.head(at, token);
+        // A refused item begins no movetext.
+        if taken.is_err() {
+            self.moving = false;
+        }
+        taken
     }
 }

@@ -7,7 +7,7 @@
 use Rattle.std.specs.Prelude.{◌≡◌, ℕ, Bool, true, false, List, [], length, None, Result, Ok, Err, ⊤}
 use Rattle.chess_loop.specs.RunEnds.{Broken}
 use Rattle.chess_loop.specs.steps.Sending.{Sent}
-use Rattle.chess_items.specs.Sections.{StopsAt}
+use Rattle.chess_items.specs.Coming.{BreaksWhere}
 use Rattle.chess_items.specs.declared.fault.FaultKind.{FaultKind}
 use Rattle.chess_items.specs.declared.fault.FaultKind.TheVariants.{Memory}
 use Rattle.chess_pgn.specs.Sources.{Games, IsSound}
@@ -30,7 +30,7 @@ is_lack _ = false
 
 -- why bytes aren't passed over
 abbrev pub NotOn : {R : Type 0} → (R → List ℕ → R → Type 0) → (R → Bool) → Games R → Games R → Failure → Type 0
-NotOn gives failed old new by.Read = StopsAt gives failed old.text new.text
+NotOn gives failed old new by.Read = BreaksWhere (λ _. ⊤) gives failed old.text new.text
 NotOn gives failed old new by.Write = ⊥
 NotOn gives failed old new by.Memory = ⊤
 

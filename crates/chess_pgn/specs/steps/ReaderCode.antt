@@ -124,9 +124,14 @@ takes_when true item result old new = Moved item result old new
 takes_when false item (Ok taken) old new = HeadsGame item (Ok taken) old new
 takes_when false item (Err fault) old new = (fault.kind ≡ Memory) ⊎ (Strays item fault old.header ⊎ ((is_heading item ≡ false) × RefusesFirst item fault.kind old))
 
+-- a refused item begins no movetext
+abbrev pub Stays : {A : Type 0} → Result Taken PgnFault → Reader A → Reader A → Type 0
+Stays (Ok taken) old new = ⊤
+Stays (Err fault) old new = new.moving ≡ old.moving
+
 -- what becomes of an item that the reader is offered
 abbrev pub TakesItem : {A : Type 0} → Reader A → Item → Result Taken PgnFault → Reader A → Type 0
-TakesItem old item result new = takes_when old.moving item result old new
+TakesItem old item result new = takes_when old.moving item result old new × Stays result old new
 
 -- ---- the whole game
 

@@ -130,24 +130,43 @@ const ROWS: &[(&[u8], &[Step])] = &[
     // A malformed tag: the tags on the lines after it are the next game's.
     (
         b"[A \"1\"]\n\n1. e4 *\n\n[A ~\"2\"]\n[B \"2\"]\n\n1. e4 *\n\n[A \"3\"]\n\n1. d4 *\n",
-        &[Game(16), Fault(18, 2), Passed(6), Game(43), Game(61), End],
+        &[
+            Game(16),
+            Fault(18, 2),
+            Passed(6),
+            Game(43),
+            Game(61),
+            End,
+        ],
     ),
     // Tags after one line feed.
     (
         b"[A \"1\"]\n\n1. e4 *\n\n[A \"2\"]\n\n1. e4 ~\n[A \"4\"]\n[A \"5\"] *\n\n[A \"3\"]\n\n1. d4 *\n",
-        &[Game(16), Fault(33, 1), Passed(2), Game(52), Game(70), End],
+        &[
+            Game(16),
+            Fault(33, 1),
+            Passed(2),
+            Game(52),
+            Game(70),
+            End,
+        ],
     ),
     // No empty lines.
     (
         b"[A \"1\"]\n1. e4 *\n[A \"2\"]\n1. e4 Ke3 *\n[A \"3\"]\n1. d4 *\n",
         &[Game(15), Fault(30, 3), Passed(6), Game(51), End],
     ),
+    // A line of a comment that opens a tag: the comment is one of the bad game's items.
+    (
+        b"[A \"1\"]\n\n1. e4 *\n\n[A \"2\"]\n\n1. e4 Ke3 {a\n[x]} *\n\n[A \"3\"]\n\n1. d4 *\n",
+        &[Game(16), Fault(33, 3), Passed(15), Game(64), End],
+    ),
     // After a byte order mark a line begins.
     (
         b"[A \"1\"]\n\n1. e4 *\n\n[A \"2\"]\n\n1. e4 ~\xEF\xBB\xBF[A \"3\"]\n\n1. d4 *\n",
         &[Game(16), Fault(33, 1), Passed(4), Game(53), End],
     ),
-    // A comment with a bracket first on a line, which is taken for a section.
+    // A comment after what is no item, with a bracket first on a line, which is taken for a section.
     (
         b"[A \"1\"]\n\n1. e4 *\n\n[A \"2\"]\n\n1. e4 ~ {a\n\n[%eval 1]\n\n[x]} *\n\n[A \"3\"]\n\n1. d4 *\n",
         &[

@@ -12,7 +12,7 @@ use Rattle.arbiter.proofs.judge.write_rows.Goals.{Else-is_lack, in-Ok-Some+in_de
 bad : (g : Over) (c : Else-is_lack g) → IsThere g.R.Source.gives g.R.Source.failed g.R.Source.ended c.loop-before.games (Bad c.used-offset.result c.in-Err-Pgn.fault) c.next.new.self
 bad g c =
     bad_there g.R.Source.gives g.R.Source.failed g.R.Source.ended c.loop-before.games c.next.new.self c.used-offset.result c.in-Err-Pgn.fault c.next.result (c.in-Err-Pgn.is ∙ ap Err c.in-Err-Pgn.field-0-is)
-    (sym c.is_lack.ensures ∙ c.if-is_lack.false) c.used-offset.ensures (c.next.ensures.place c.loop-before.invariant.none) (c.next.ensures.fault c.loop-before.invariant.none) c.next.ensures.sticky
+    (sym c.is_lack.ensures ∙ c.if-is_lack.false) c.used-offset.ensures (c.next.ensures.place c.loop-before.invariant.none) (c.next.ensures.fault c.loop-before.invariant.none) c.next.ensures.sticky (c.next.ensures.leaves c.loop-before.invariant.none)
 
 pub returns-then-is_err : goal.returns-then-is_err
 returns-then-is_err g c =
@@ -96,9 +96,9 @@ loop-before-preserved g c = elim c.match-next.branch [
             fault_more g.R.Source.gives g.R.Source.failed g.R.Source.ended g.W.Sink.takes g.W.Sink.failed c.args.maker.now.asked c.loop-before.before c.loop-before.bad c.args.games.now c.loop-before.games c.args.writer.now c.loop-before.writer
             c.loop-before.invariant.written c.used-offset.result w.in-Err-Pgn.fault c.next.new.self w.go_on.new.games w.fault.new.writer
             (bad_there g.R.Source.gives g.R.Source.failed g.R.Source.ended c.loop-before.games c.next.new.self c.used-offset.result w.in-Err-Pgn.fault c.next.result is (sym w.is_lack.ensures ∙ w.if-is_lack.false) c.used-offset.ensures
-            (c.next.ensures.place c.loop-before.invariant.none) (c.next.ensures.fault c.loop-before.invariant.none) c.next.ensures.sticky)
+            (c.next.ensures.place c.loop-before.invariant.none) (c.next.ensures.fault c.loop-before.invariant.none) c.next.ensures.sticky (c.next.ensures.leaves c.loop-before.invariant.none))
             w.in_default-fault.ensures
-            (goes_on_after g.R.Source.gives g.R.Source.failed g.R.Source.ended g.W.Sink.takes g.W.Sink.failed c.args.maker.now.asked c.next.new.self w.go_on.new.games (Pgn w.in-Err-Pgn.fault) w.in_default-go_on.ensures.passes.0 stays
-            w.in_default-go_on.ensures.passes.1 w.in_default-go_on.ensures.good);
+            (goes_on_after g.R.Source.gives g.R.Source.failed g.R.Source.ended g.W.Sink.takes g.W.Sink.failed c.args.maker.now.asked c.next.new.self w.go_on.new.games (Pgn w.in-Err-Pgn.fault) stays
+            (λ before leaves. w.in_default-go_on.ensures.gives_up (Pgn w.in-Err-Pgn.fault) before stays leaves) w.in_default-go_on.ensures.good);
       })
 ]

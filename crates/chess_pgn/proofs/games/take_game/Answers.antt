@@ -3,6 +3,7 @@ use Rattle.chess_items.specs.declared.at_hand.Fault.{Fault}
 use Rattle.chess_items.specs.steps.Passing.{PassBreaks}
 use Rattle.chess_pgn.specs.steps.ReaderCode.{TakesItem}
 use Rattle.chess_pgn.proofs.FrontLemmas.{game_come, none_come}
+use Rattle.chess_pgn.proofs.HaltLemmas.{few_come, leaves_come}
 use Rattle.chess_pgn.proofs.StopLemmas.{broken_come, no_game_come}
 use Rattle.chess_pgn.proofs.games.take_game.Goals as goal
 
@@ -26,3 +27,18 @@ returns-in-Err-Read-clause-game g c =
     broken_come g.X.Text.comes g.X.Text.at_hand g.X.Text.all g.X.Text.sound g.X.Text.size g.X.Text.breaks c.args.text.now c.pass.new.text c.new-reader.result c.new-reader.ensures
     (subst (λ (f : Fault). PassBreaks {X = g.row.X.Denot} g.X.Text.comes g.X.Text.at_hand g.X.Text.all g.X.Text.sound g.X.Text.size (λ s at item result t. TakesItem s item result t) 1048576 g.X.Text.breaks c.args.text.now c.pass.new.text c.new-reader.result f)
     c.in-Err-Read.field-0-is c.in-Err-Read.ensures.broken)
+
+pub returns-in-Err-clause-halts : goal.returns-in-Err-clause-halts
+returns-in-Err-clause-halts g c =
+    rw c.halt_of.ensures (leaves_come g.X.Text.comes g.X.Text.at_hand g.X.Text.all g.X.Text.sound g.X.Text.size c.args.text.now c.new-reader.result c.pass.new.taker c.new-reader.ensures c.pass.new.text
+    c.in-Ok-Some.field-0 c.in-Ok-Some.stopped c.in-Err.fault c.in-Ok-Some.ensures.passes c.in-Ok-Some.field-0-is c.in-Err.ensures.refused)
+
+pub returns-in-Err-clause-within : goal.returns-in-Err-clause-within
+returns-in-Err-clause-within g c =
+    rw c.halt_of.ensures (few_come g.X.Text.comes g.X.Text.at_hand g.X.Text.all g.X.Text.sound g.X.Text.size c.args.text.now c.new-reader.result c.pass.new.taker c.new-reader.ensures c.pass.new.text
+    c.in-Ok-Some.field-0 c.in-Ok-Some.stopped c.in-Ok-Some.ensures.passes c.in-Ok-Some.field-0-is)
+
+pub returns-in-Ok-clause-within : goal.returns-in-Ok-clause-within
+returns-in-Ok-clause-within g c =
+    rw c.halt_of.ensures (few_come g.X.Text.comes g.X.Text.at_hand g.X.Text.all g.X.Text.sound g.X.Text.size c.args.text.now c.new-reader.result c.pass.new.taker c.new-reader.ensures c.pass.new.text
+    c.in-Ok-Some.field-0 c.in-Ok-Some.stopped c.in-Ok-Some.ensures.passes c.in-Ok-Some.field-0-is)

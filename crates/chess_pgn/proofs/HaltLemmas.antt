@@ -1,0 +1,242 @@
+-- How far the items of a bad game were used: no tag begins among them after movetext, and the reader knows whether that has begun.
+use Rattle.std.proofs.Common.{◌≡◌, ◌⊎◌, ℕ, ◌-◌, ◌≤◌, Bool, true, false, ◌&&◌, ◌||◌, not, List, [], ◌∷◌, ◌++◌, Option, Some, Ok, refl, sym, ap, subst, ◌∙◌, arith, append_assoc, length-append}
+use Rattle.std.specs.Prelude.{IfSome, Result}
+use Rattle.std.specs.List.{list_all}
+use mathlib.Core.Logic.{inl, inr}
+use Rattle.byte_streams.specs.Calls.{Calls, joined}
+use Rattle.byte_streams.proofs.CallLemmas.{Calls-append, joined-append}
+use Rattle.chess_items.specs.Abandoned.{HaltsIn, has_begun, is_bracket, is_one, moves_begin}
+use Rattle.chess_items.specs.Items as items
+use Rattle.chess_items.specs.Items.{Item, Spells, is_white, place_behind}
+use Rattle.chess_items.specs.steps.ItemAt.{item_at}
+use Rattle.chess_items.specs.steps.Passing.{NotWhite, Passed, Passes}
+use Rattle.chess_items.specs.steps.Taking.{AfterRun, Brackets, Ran, RanOver, Takes, Took}
+use Rattle.chess_items.specs.declared.fault.FaultKind.{FaultKind}
+use Rattle.chess_items.specs.declared.fault.FaultKind.TheVariants.{Memory}
+use Rattle.chess_items.specs.declared.fault.PgnFault.{PgnFault}
+use Rattle.chess_items.specs.declared.place.Place.{Place}
+use Rattle.chess_items.specs.declared.place.Place.TheVariants.{GameStart}
+use Rattle.chess_items.specs.declared.skimming.Halt.{Halt}
+use Rattle.chess_items.specs.declared.taker.Taken.{Taken}
+use Rattle.chess_items.specs.declared.taker.Taken.TheVariants.{Ends as AtEnd, GoesOn}
+use Rattle.chess_items.specs.declared.taking.Stop.{Stop}
+use Rattle.chess_items.specs.declared.taking.Stop.TheVariants as stop
+use Rattle.chess_items.specs.declared.taking.Stopped.{Stopped}
+use Rattle.chess_items.proofs.SkimLemmas.{spells_split, too_far}
+use Rattle.chess_items.proofs.TakingLemmas.{bare, ended_after, few_after, spells_bare}
+use Rattle.chess_pgn.specs.Reading.{HasBegun, IsFlooded, is_heading, is_movetext}
+use Rattle.chess_pgn.specs.steps.GameAt.{FloodedIn, LeavesIn, halt_at, is_flood}
+use Rattle.chess_pgn.specs.steps.ReaderCode.{IsNew, TakesItem, Unanswered, takes_when}
+use Rattle.chess_pgn.specs.declared.reader.Reader.{Reader}
+use Rattle.chess_pgn.proofs.ChainLemmas.{Progress, progress_all, progress_new}
+use Rattle.chess_pgn.proofs.FrontLemmas.{behind_bare, whites_bare}
+
+-- ---- items of one game
+
+head_begins : (i : Item) → moves_begin i ≡ not (is_heading i)
+head_begins items.Skipped = refl
+head_begins (items.Word word) = refl
+head_begins (items.Nag n) = refl
+head_begins items.Open = refl
+head_begins items.Close = refl
+head_begins (items.Marker outcome) = refl
+head_begins _ = refl
+
+no_bracket : (i : Item) → is_movetext i ≡ true → is_bracket i ≡ false
+no_bracket items.TagOpen e = absurd cc
+no_bracket _ e = refl
+
+front_true : (a b : Bool) → a && b ≡ true → a ≡ true
+front_true true b e = refl
+front_true false b e = absurd cc
+
+back_true : (a b : Bool) → a && b ≡ true → b ≡ true
+back_true true b e = e
+back_true false b e = absurd cc
+
+and_false : (a : Bool) → a && false ≡ false
+and_false true = refl
+and_false false = refl
+
+or_true : (a : Bool) → a || true ≡ true
+or_true true = refl
+or_true false = refl
+
+movetext_one : (begun : Bool) (is : List Item) → list_all is_movetext is ≡ true → is_one begun is ≡ true
+movetext_one begun [] e = refl
+movetext_one begun (i ∷ is) e =
+    ap (λ (v : Bool). not (begun && v) && is_one (begun || moves_begin i) is) (no_bracket i (front_true (is_movetext i) (list_all is_movetext is) e))
+    ∙ ap (λ (v : Bool). not v && is_one (begun || moves_begin i) is) (and_false begun)
+    ∙ movetext_one (begun || moves_begin i) is (back_true (is_movetext i) (list_all is_movetext is) e)
+
+still_begun : (is : List Item) → has_begun true is ≡ true
+still_begun [] = refl
+still_begun (i ∷ is) = still_begun is
+
+movetext_begun : (is : List Item) → HasBegun is → has_begun false is ≡ true
+movetext_begun [] h = absurd h
+movetext_begun (i ∷ is) h = ap (λ (v : Bool). has_begun v is) (head_begins i ∙ ap not h) ∙ still_begun is
+
+-- a head before other items changes nothing
+behind_head : (head is : List Item) → list_all is_heading head ≡ true → (is_one false (head ++ is) ≡ is_one false is) × (has_begun false (head ++ is) ≡ has_begun false is)
+behind_head [] is e = (refl, refl)
+behind_head (i ∷ head) is e =
+    let none : moves_begin i ≡ false = head_begins i ∙ ap not (front_true (is_heading i) (list_all is_heading head) e) in
+    let r = behind_head head is (back_true (is_heading i) (list_all is_heading head) e) in
+    (ap (λ (v : Bool). is_one v (head ++ is)) none ∙ r.0, ap (λ (v : Bool). has_begun v (head ++ is)) none ∙ r.1)
+
+head_alone : (is : List Item) → list_all is_heading is ≡ true → (is_one false is ≡ true) × (has_begun false is ≡ false)
+head_alone [] e = (refl, refl)
+head_alone (i ∷ is) e =
+    let none : moves_begin i ≡ false = head_begins i ∙ ap not (front_true (is_heading i) (list_all is_heading is) e) in
+    let r = head_alone is (back_true (is_heading i) (list_all is_heading is) e) in
+    (ap (λ (v : Bool). is_one v is) none ∙ r.0, ap (λ (v : Bool). has_begun v is) none ∙ r.1)
+
+one_game : {A : Type 0} (is : List Item) (r : Reader A) → Progress is r → (is_one false is ≡ true) × (r.moving ≡ has_begun false is)
+one_game is r (inl h) = (let o = head_alone is h.heading in (o.0, h.moving ∙ sym o.1))
+one_game is r (inr m) =
+    let o = behind_head m.head m.movetext m.there.heading in (
+      ap (is_one false) m.parts ∙ o.0 ∙ movetext_one false m.movetext m.there.stands,
+      m.there.moving ∙ sym (ap (has_begun false) m.parts ∙ o.1 ∙ movetext_begun m.movetext m.begun),
+    )
+
+-- ---- what was offered beyond the limit
+
+ok_is : (a b : Taken) → ◌≡◌ {A = Result Taken PgnFault} (Ok a) (Ok b) → a ≡ b
+ok_is a b e = cc
+
+offered_still : {A : Type 0} (t u : Reader A) → TakesItem t items.TagOpen (Ok GoesOn) u ⊎ TakesItem t items.TagOpen (Ok AtEnd) u → u.moving ≡ t.moving
+offered_still t u (inl k) = by t.moving k.0
+  where
+    by : (v : Bool) → takes_when v items.TagOpen (Ok GoesOn) t u → u.moving ≡ t.moving
+    by true r = r.moving
+    by false (inl h) = h.1.moving
+    by false (inr h) = absurd (let e = h.0 in cc)
+offered_still t u (inr k) = by t.moving k.0
+  where
+    by : (v : Bool) → takes_when v items.TagOpen (Ok AtEnd) t u → u.moving ≡ t.moving
+    by true r = absurd (let e = r.marker in cc)
+    by false (inl h) = absurd (let e = ok_is AtEnd GoesOn h.0 in cc)
+    by false (inr h) = absurd (let e = h.0 in cc)
+
+-- ---- the game that can't be read
+
+is_memory : (k : FaultKind) → (k ≡ Memory) ⊎ (k ≡ Memory → ⊥)
+is_memory Memory = inl refl
+is_memory _ = inr (λ e. cc)
+
+module _ {X A : Type 0} (comes : X → List ℕ → X → Type 0) (at_hand : X → List ℕ) (all sound : X → Type 0) (size : X → ℕ) (old : X) (t u : Reader A) (new_reader : IsNew t) where
+  abbrev takes : Reader A → ℕ → Item → Result Taken PgnFault → Reader A → Type 0
+  takes s at item result v = TakesItem s item result v
+
+  module _ (pieces : List (List ℕ)) (new : X) (came : Calls comes old pieces new) (at : ℕ) (place : Place) (white : Bool) where
+    abbrev halt : Halt
+    halt = record { place = place; at = at; begun = u.moving }
+
+    halts_after : (is : List (ℕ × Item)) (r : Reader A) → Took comes at_hand all sound size takes 1048576 old pieces new is at place white → Takes takes t is r → u.moving ≡ r.moving → HaltsIn comes at_hand all old new halt
+    halts_after is r took taken same =
+        let one = one_game (bare is) r (progress_all [] is t r (progress_new t new_reader) taken) in
+        record {
+          pieces = pieces;
+          came = came;
+          items = bare is;
+          spelled = λ more so. spells_bare 0 GameStart (at_hand old ++ (joined pieces ++ more)) is (at_hand new ++ more) (took.spelled more so);
+          one = one.0;
+          begun = same ∙ one.1;
+          stands = took.stands ∙ behind_bare GameStart is;
+          counted = (let c = took.counted in omega (arith, c));
+          few = took.few;
+          still = took.at_end;
+        }
+
+    moving_over : (mid : Reader A) → (u ≡ mid) ⊎ Brackets takes at mid u → u.moving ≡ mid.moving
+    moving_over mid (inl e) = ap (λ (r : Reader A). r.moving) e
+    moving_over mid (inr b) = offered_still mid u b
+
+    halts_run : (why : Stop) (fault : PgnFault) → (fault.kind ≡ Memory → ⊥) → AfterRun comes at_hand all sound size takes 1048576 old pieces new t u at place white why → Unanswered why u fault → HaltsIn comes at_hand all old new halt
+    halts_run stop.Full fault kind r a = absurd (kind a)
+    halts_run stop.Left fault kind r a = absurd (kind a)
+    halts_run (stop.Refused why) fault kind r a = halts_after r.items r.mid r.took r.taken r.answered.1
+    halts_run stop.End fault kind r a = halts_after r.items u r.took r.taken refl
+    halts_run stop.NoItem fault kind r a = halts_after r.items u r.took r.taken refl
+    halts_run stop.TooLarge fault kind r a = halts_after r.items r.mid r.took r.taken (moving_over r.mid r.exceeds.same)
+
+  module _ (s : Stopped) (mid new : X) (r : Ran comes at_hand all sound size takes 1048576 old mid t u (Ok s)) (w : NotWhite comes at_hand all sound size takes s mid new) where
+    flooded : FloodedIn comes at_hand all old new
+    flooded = record {
+      pieces = r.pieces ++ w.pieces;
+      came = Calls-append comes old mid new r.pieces w.pieces r.came w.came;
+      flooded = λ more so. subst IsFlooded (sym (regroup more)) (there more so);
+      still = λ e.
+          let b = ended_after comes at_hand all sound size takes 1048576 old t mid u r.pieces s.at s.place s.white s.why r.after e in
+          let c = w.still b.1 in
+          (joined-append r.pieces w.pieces ∙ ap (λ (z : List ℕ). z ++ joined w.pieces) b.0 ∙ c.0, c.1);
+    }
+      where
+        regroup : (more : List ℕ) → at_hand old ++ (joined (r.pieces ++ w.pieces) ++ more) ≡ at_hand old ++ (joined r.pieces ++ (joined w.pieces ++ more))
+        regroup more = ap (λ (z : List ℕ). at_hand old ++ z) (ap (λ (z : List ℕ). z ++ more) (joined-append r.pieces w.pieces) ∙ append_assoc (joined r.pieces) (joined w.pieces) more)
+
+        over : RanOver comes at_hand all sound size takes 1048576 old r.pieces mid t u s.at s.place s.white
+        over = subst (λ (y : Stop). AfterRun comes at_hand all sound size takes 1048576 old r.pieces mid t u s.at s.place s.white y) w.over r.after
+
+        there : (more : List ℕ) → (all new → more ≡ []) → IsFlooded (at_hand old ++ (joined r.pieces ++ (joined w.pieces ++ more)))
+        there more so =
+            let after = joined w.pieces ++ more in
+            let whole = at_hand old ++ (joined r.pieces ++ after) in
+            let rest = at_hand mid ++ after in
+            let none : all mid → after ≡ [] = λ e. let b = w.still e in ap (λ (z : List ℕ). z ++ more) b.0 ∙ so b.1 in
+            let spelled = spells_bare 0 GameStart whole over.items rest (over.took.spelled after none) in
+            let big = over.exceeds.over after none in
+            let a = length-append (at_hand mid) after in
+            let b = length-append (at_hand old) (joined r.pieces ++ after) in
+            let c = length-append (joined r.pieces) after in
+            let n = over.took.counted in
+            let few = over.took.few in
+            let o = big.0 in
+            record {
+              items = bare over.items;
+              rest = rest;
+              white = sym (whites_bare over.items) ∙ sym over.took.whites ∙ w.white;
+              spelled = spelled;
+              long = omega (arith, a, b, c, n, few, o);
+              beyond = λ item next k.
+                  let found = spells_split GameStart whole (bare over.items) rest item next spelled k in
+                  let here = ap (λ (p : Place). item_at p rest) (over.took.stands ∙ behind_bare GameStart over.items) ∙ found in
+                  let far = too_far s.place (1048576 - s.at) rest item next big here in
+                  omega (arith, far, a, b, c, n, few);
+            }
+
+  pub leaves_come : (new : X) (found : Option Stopped) (s : Stopped) (fault : PgnFault) → Passes comes at_hand all sound size takes 1048576 old new t u (Ok found) → found ≡ Some s → Unanswered s.why u fault
+      → (fault.kind ≡ Memory) ⊎ LeavesIn comes at_hand all old new (halt_at (is_flood s.why s.white) (record { place = s.place; at = s.at; begun = u.moving }))
+  leaves_come new found s fault h e a = by (is_memory fault.kind)
+    where
+      here : Halt
+      here = record { place = s.place; at = s.at; begun = u.moving }
+
+      flood : s.why ≡ stop.TooLarge → s.white ≡ true → is_flood s.why s.white ≡ true
+      flood why white = ap (λ (w : Stop). is_flood w s.white) why ∙ white
+
+      dry : (why : Stop) (white : Bool) → (why ≡ stop.TooLarge → white ≡ false) → is_flood why white ≡ false
+      dry stop.TooLarge white k = k refl
+      dry _ white k = refl
+
+      p : Passed comes at_hand all sound size takes 1048576 old new t u s
+      p = subst (λ (o : Option Stopped). Passes comes at_hand all sound size takes 1048576 old new t u (Ok o)) e h
+
+      by : (fault.kind ≡ Memory) ⊎ (fault.kind ≡ Memory → ⊥) → (fault.kind ≡ Memory) ⊎ LeavesIn comes at_hand all old new (halt_at (is_flood s.why s.white) here)
+      by (inl k) = inl k
+      by (inr k) = inr (elim p.after [
+        | inl same ↦
+            subst (λ (b : Bool). LeavesIn comes at_hand all old new (halt_at b here)) (sym (dry s.why s.white same.1))
+            (subst (λ (x : X). HaltsIn comes at_hand all old x here) (sym same.0) (halts_run p.ran.pieces p.mid p.ran.came s.at s.place s.white s.why fault k p.ran.after a))
+        | inr w ↦ subst (λ (b : Bool). LeavesIn comes at_hand all old new (halt_at b here)) (sym (flood w.over w.white)) (flooded s p.mid new p.ran w)
+      ])
+
+  pub few_come : (new : X) (found : Option Stopped) (s : Stopped) → Passes comes at_hand all sound size takes 1048576 old new t u (Ok found) → found ≡ Some s → IfSome (halt_at (is_flood s.why s.white) (record { place = s.place; at = s.at; begun = u.moving })) (λ halt. halt.at ≤ 1048576)
+  few_come new found s h e =
+      let p : Passed comes at_hand all sound size takes 1048576 old new t u s = subst (λ (o : Option Stopped). Passes comes at_hand all sound size takes 1048576 old new t u (Ok o)) e h in
+      by (is_flood s.why s.white) (few_after comes at_hand all sound size takes 1048576 old t p.mid u p.ran.pieces s.at s.place s.white s.why p.ran.after)
+    where
+      by : (b : Bool) → s.at ≤ 1048576 → IfSome (halt_at b (record { place = s.place; at = s.at; begun = u.moving })) (λ halt. halt.at ≤ 1048576)
+      by true few = tt
+      by false few = few
