@@ -61,6 +61,10 @@ pub still_on : (fault : Option GamesFault) → fault ≡ None → GoesOn fault
 still_on fault e = subst (λ (f : Option GamesFault). GoesOn f) (sym e) tt
 
 -- a fault of the text
+-- where a fault came
+pub some_fault : (kept : Option GamesFault) (fault : GamesFault) → kept ≡ Some fault → kept ≢ None
+some_fault kept fault e none = (let z = sym e ∙ none in absurd cc)
+
 no_lack : (kind : FaultKind) → is_lack kind ≡ false → kind ≢ Memory
 no_lack kind not is = true≢false (sym (ap is_lack is) ∙ not)
 
@@ -212,10 +216,10 @@ module _ {R W : Type 0} (gives : R → List ℕ → R → Type 0) (read_failed :
 
       module _ (sent : Sent takes failed w1 (row_of asked (count + 1) entry) [] w2) where
         -- reading doesn't go on
-        pub ends_there : (end : Games R) (failure : Failure) → NotOn gives read_failed new end failure → JudgeEnds gives read_failed ended takes failed asked start end w w2 (Err failure)
-        ends_there end by.Read stops = record { entries = so_far.entries ++ entry ∷ []; last = new; judged = all_judged sent; stops = inr (inl stops) }
-        ends_there end by.Write stops = absurd stops
-        ends_there end by.Memory stops = record { entries = so_far.entries ++ entry ∷ []; last = new; judged = all_judged sent }
+        pub ends_there : new.fault ≢ None → (end : Games R) (failure : Failure) → NotOn gives read_failed new end failure → JudgeEnds gives read_failed ended takes failed asked start end w w2 (Err failure)
+        ends_there some end by.Read stops = record { entries = so_far.entries ++ entry ∷ []; last = new; judged = all_judged sent; stops = inr (inl (some, stops)) }
+        ends_there some end by.Write stops = absurd stops
+        ends_there some end by.Memory stops = record { entries = so_far.entries ++ entry ∷ []; last = new; judged = all_judged sent }
 
         -- it goes on
         one_more : (next : Games R) (bad' : ℕ) → bad' ≡ bad_in (so_far.entries ++ entry ∷ []) → GoesOnTo gives read_failed ended new next → SoFar gives read_failed ended takes failed asked (count + 1) bad' start next w w2

@@ -97,7 +97,7 @@ module _ {R : Type 0} (gives : R → List ℕ → R → Type 0) (failed : R → 
   abbrev pub Stops : ℕ → Games R → Games R → Type 0
   Stops count last new =
       ((mid : Games R) × GoesOnTo last mid × ReadFails gives failed mid.text new.text)
-      ⊎ BreaksWhere (λ _. ⊤) gives failed last.text new.text
+      ⊎ ((last.fault ≢ None) × BreaksWhere (λ _. ⊤) gives failed last.text new.text)
       ⊎ (GoesOnTo last new × (count ≡ most_games))
 
   module _ {W : Type 0} (takes : W → List ℕ → W → Type 0) (write_failed : W → Bool) (asked : Asked) where

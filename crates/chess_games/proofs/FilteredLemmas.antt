@@ -1,12 +1,13 @@
 -- Games read and written one after another.
-use Rattle.std.proofs.Common.{◌≡◌, ℕ, ◌+◌, ◌≤◌, Bool, true, false, if◌then◌else◌, List, [], ◌∷◌, ◌++◌, length, refl, sym, ap, subst, ◌∙◌, arith, append_assoc, append-nil, Option, Result, Ok, Err, Some, None}
+use Rattle.std.proofs.Common.{◌≡◌, ◌≢◌, inl, inr, ℕ, ◌+◌, ◌≤◌, Bool, true, false, if◌then◌else◌, List, [], ◌∷◌, ◌++◌, length, refl, sym, ap, subst, ◌∙◌, arith, append_assoc, append-nil, Option, Result, Ok, Err, Some, None}
 use Rattle.std.specs.Prelude.{IfErr, IfOk, IfSome}
 use Rattle.byte_streams.specs.Calls.{Carries}
 use Rattle.byte_streams.proofs.CallLemmas.{Carries-none, Carries-append}
 use Rattle.chess_items.specs.Coming.{AtHand}
+use Rattle.chess_items.specs.declared.fault.FaultKind.TheVariants as lacks
 use Rattle.chess_items.specs.declared.fault.PgnFault.{PgnFault}
 use Rattle.chess_pgn.specs.Games.{Game}
-use Rattle.chess_pgn.specs.Sources.{Games, GivesUp, GoesOn, HasFault, HasGame, HasNone, Leaves, NextGame}
+use Rattle.chess_pgn.specs.Sources.{Fails, Games, GivesUp, GoesOn, HasFault, HasGame, HasNone, Leaves, NextGame}
 use Rattle.chess_pgn.specs.Written.{game_text}
 use Rattle.chess_pgn.specs.declared.game.Game.{Game as Code}
 use Rattle.chess_pgn.specs.steps.GameCode.{game_of}
@@ -61,13 +62,18 @@ module _ {R : Type 0} (gives : R → List ℕ → R → Type 0) (failed : R → 
   goes_good : (s m n : AtHand R) (entries : List Entry) (game : Game) → Goes gives failed ended s entries m → HasGame gives failed m n game → Goes gives failed ended s (entries ++ Good game ∷ []) n
   goes_good s m n [] game g h = (n, subst (λ (x : AtHand R). HasGame gives failed x n game) (sym g) h, refl)
   goes_good s m n (Good other ∷ entries) game g h = (g.0, g.1, goes_good g.0 m n entries game g.2 h)
-  goes_good s m n (Bad fault ∷ entries) game g h = (g.0, g.1, g.2, g.3, goes_good g.1 m n entries game g.4 h)
+  goes_good s m n (Bad fault ∷ entries) game g h = (g.0, g.1, g.2, g.3, g.4, goes_good g.1 m n entries game g.5 h)
 
-  goes_bad : (s m f n : AtHand R) (entries : List Entry) (fault : PgnFault) → Goes gives failed ended s entries m → HasFault gives failed ended m f (Pgn fault) → GivesUp gives failed m f n
+  goes_bad : (s m f n : AtHand R) (entries : List Entry) (fault : PgnFault) → Goes gives failed ended s entries m → fault.kind ≢ lacks.Memory → Fails gives failed ended m f → GivesUp gives failed m f n
       → Goes gives failed ended s (entries ++ Bad fault ∷ []) n
-  goes_bad s m f n [] fault g h p = (f, n, subst (λ (x : AtHand R). HasFault gives failed ended x f (Pgn fault)) (sym g) h, subst (λ (x : AtHand R). GivesUp gives failed x f n) (sym g) p, refl)
-  goes_bad s m f n (Good other ∷ entries) fault g h p = (g.0, g.1, goes_bad g.0 m f n entries fault g.2 h p)
-  goes_bad s m f n (Bad other ∷ entries) fault g h p = (g.0, g.1, g.2, g.3, goes_bad g.1 m f n entries fault g.4 h p)
+  goes_bad s m f n [] fault g k h p = (f, n, k, subst (λ (x : AtHand R). Fails gives failed ended x f) (sym g) h, subst (λ (x : AtHand R). GivesUp gives failed x f n) (sym g) p, refl)
+  goes_bad s m f n (Good other ∷ entries) fault g k h p = (g.0, g.1, goes_bad g.0 m f n entries fault g.2 k h p)
+  goes_bad s m f n (Bad other ∷ entries) fault g k h p = (g.0, g.1, g.2, g.3, g.4, goes_bad g.1 m f n entries fault g.5 k h p)
+
+  -- a fault of the text, where it isn't want of memory
+  fails_there : (m f : AtHand R) (fault : PgnFault) → HasFault gives failed ended m f (Pgn fault) → fault.kind ≢ lacks.Memory → Fails gives failed ended m f
+  fails_there m f fault (inl starves) k = absurd (k starves.0)
+  fails_there m f fault (inr fails) k = fails
 
 -- what is read and written so far
 pub record SoFar {R W : Type 0} (gives : R → List ℕ → R → Type 0) (failed : R → Bool) (ended : R → Type 0) (takes : W → List ℕ → W → Type 0) (part : Part) (source now : AtHand R) (old new : W) (bad before : ℕ) : Type 0 where
@@ -97,11 +103,11 @@ module _ {R W : Type 0} (gives : R → List ℕ → R → Type 0) (failed : R �
     few = omega (arith, f.few);
   }
 
-  pub one_bad : (s m f n : AtHand R) (old mid : W) (bad more before : ℕ) (fault : PgnFault) → SoFar gives failed ended takes part s m old mid bad before → HasFault gives failed ended m f (Pgn fault)
+  pub one_bad : (s m f n : AtHand R) (old mid : W) (bad more before : ℕ) (fault : PgnFault) → SoFar gives failed ended takes part s m old mid bad before → HasFault gives failed ended m f (Pgn fault) → fault.kind ≢ lacks.Memory
       → GivesUp gives failed m f n → more ≡ (if is_in part before then 1 else 0) → more ≤ 1 → SoFar gives failed ended takes part s n old mid (bad + more) (before + 1)
-  one_bad s m f n old mid bad more before fault g h p counts one = record {
+  one_bad s m f n old mid bad more before fault g h k p counts one = record {
     entries = g.entries ++ Bad fault ∷ [];
-    goes = goes_bad gives failed ended s m f n g.entries fault g.goes h p;
+    goes = goes_bad gives failed ended s m f n g.entries fault g.goes k (fails_there gives failed ended m f fault h k) p;
     writes = subst (λ (t : List ℕ). Carries takes old t mid) (sym (good_text-more part g.entries (Bad fault) ∙ append-nil (good_text part 0 g.entries))) g.writes;
     counted =
         (let there : more ≡ (if is_in part (length g.entries) then 1 else 0) = subst (λ (k : ℕ). more ≡ (if is_in part k then 1 else 0)) g.place counts in
@@ -138,6 +144,10 @@ pub left_off : {R X : Type 0} (gives : R → List ℕ → R → Type 0) (failed 
 left_off gives failed old new result fault is stays on leaves =
     let here = subst (λ r. IfErr r (λ f. new.fault ≡ Some f)) is stays in
     (here, (subst (λ r. IfErr r (λ f. GoesOn (Some f) → Leaves gives failed old.text new.text new.halt)) is leaves) (subst (λ (f : Option GamesFault). GoesOn f) here on))
+
+-- and that isn't want of memory
+pub not_memory : (kept : Option GamesFault) (found : GamesFault) (fault : PgnFault) → kept ≡ Some found → found ≡ Pgn fault → GoesOn kept → fault.kind ≢ lacks.Memory
+not_memory kept found fault e is on = subst (λ (f : GamesFault). GoesOn (Some f)) is (subst (λ (f : Option GamesFault). GoesOn f) e on)
 
 -- where no fault came, reading goes on
 pub still_on : (fault : Option GamesFault) → fault ≡ None → GoesOn fault

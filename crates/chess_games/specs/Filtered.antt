@@ -1,19 +1,19 @@
 -- What is read of a collection, and written of it.
 --   Entry       a game that was read, or the fault of one that can't be read
---   Goes        games are read one after another: one that can't be read is given up, from its first byte to where its text says that the next begins
+--   Goes        games are read one after another: one that can't be read, not for want of memory, is given up, from its first byte to where its text says that the next begins
 --   good_text   the export forms of the good games of a part, in order, after so many games
 --   bad_count   how many games of a part can't be read
 --   IsFresh     nothing of a source is read
 --   IsGoneOver  it is read so to its end, which the source has come to; the good games of the part are written, and nothing else; this many of the part can't be read
 --   IsFiltered  so it is from its beginning
-use Rattle.std.specs.Prelude.{◌≡◌, ℕ, ◌+◌, Bool, false, if◌then◌else◌, List, [], ◌∷◌, ◌++◌}
+use Rattle.std.specs.Prelude.{◌≡◌, ◌≢◌, ℕ, ◌+◌, Bool, false, if◌then◌else◌, List, [], ◌∷◌, ◌++◌}
 use Rattle.byte_streams.specs.Calls.{Carries}
 use Rattle.chess_items.specs.Coming.{AtHand}
+use Rattle.chess_items.specs.declared.fault.FaultKind.TheVariants as lacks
 use Rattle.chess_items.specs.declared.fault.PgnFault.{PgnFault}
 use Rattle.chess_pgn.specs.Games.{Game}
-use Rattle.chess_pgn.specs.Sources.{GivesUp, HasFault, HasGame, HasNone}
+use Rattle.chess_pgn.specs.Sources.{Fails, GivesUp, HasGame, HasNone}
 use Rattle.chess_pgn.specs.Written.{game_text}
-use Rattle.chess_pgn.specs.declared.games.GamesFault.TheVariants.{Pgn}
 use Rattle.chess_games.specs.Parts.{Part, is_in}
 
 pub data Entry : Type 0 where
@@ -25,7 +25,7 @@ module _ {R : Type 0} (gives : R → List ℕ → R → Type 0) (failed : R → 
   Goes old [] new = old ≡ new
   Goes old (Good game ∷ entries) new = (mid : AtHand R) × HasGame gives failed old mid game × Goes mid entries new
   Goes old (Bad fault ∷ entries) new =
-      (there : AtHand R) × (mid : AtHand R) × HasFault gives failed ended old there (Pgn fault) × GivesUp gives failed old there mid × Goes mid entries new
+      (there : AtHand R) × (mid : AtHand R) × (fault.kind ≢ lacks.Memory) × Fails gives failed ended old there × GivesUp gives failed old there mid × Goes mid entries new
 
 abbrev pub good_text : Part → ℕ → List Entry → List ℕ
 good_text part before [] = []

@@ -3,7 +3,7 @@ use Rattle.chess_pgn.specs.Sources.{HasFault, NextGame}
 use Rattle.chess_pgn.specs.declared.games.GamesFault.TheVariants.{Pgn, Read}
 use Rattle.chess_pgn.specs.steps.GameCode.{game_of}
 use Rattle.arbiter.specs.Collections.{Bad, Found, IsThere, header_text}
-use Rattle.arbiter.proofs.JudgeLemmas.{bad_there, ends_all, ends_at, ends_at_header, ends_many, ends_there, ends_unread, err_holds, fault_more, found_game, game_more, goes_on_after, header_broken, header_sent, none_yet, ok_holds, still_on}
+use Rattle.arbiter.proofs.JudgeLemmas.{bad_there, ends_all, ends_at, ends_at_header, ends_many, ends_there, ends_unread, err_holds, fault_more, found_game, game_more, goes_on_after, header_broken, header_sent, none_yet, ok_holds, some_fault, still_on}
 use Rattle.arbiter.proofs.judge.write_rows.Given.{Over}
 use Rattle.arbiter.proofs.judge.write_rows.Goals as goal
 use Rattle.arbiter.proofs.judge.write_rows.Goals.{Else-is_lack, in-Ok-Some+in_default, in-Err-Pgn+else-is_lack+in_default-fault+in_default-go_on}
@@ -63,7 +63,7 @@ pub returns-in-Err-go_on : goal.returns-in-Err-go_on
 returns-in-Err-go_on g c =
     ends_there g.R.Source.gives g.R.Source.failed g.R.Source.ended g.W.Sink.takes g.W.Sink.failed c.args.maker.now.asked c.loop-before.before c.loop-before.bad c.args.games.now c.loop-before.games c.args.writer.now c.loop-before.writer
     c.loop-before.invariant.written (Bad c.used-offset.result c.in-Err-Pgn.fault) c.next.new.self (bad g (goal.at.returns-in-Err-go_on g c).Else-is_lack)
-    c.fault.new.writer c.in_default-fault.ensures c.go_on.new.games c.in-Err-go_on.failure c.in-Err-go_on.ensures.fault
+    c.fault.new.writer c.in_default-fault.ensures (some_fault c.next.new.self.fault _ (bad g (goal.at.returns-in-Err-go_on g c).Else-is_lack).4) c.go_on.new.games c.in-Err-go_on.failure c.in-Err-go_on.ensures.fault
 
 pub returns : goal.returns
 returns g c =

@@ -3,7 +3,7 @@ use Rattle.byte_streams.specs.Calls.{Carries}
 use Rattle.chess_pgn.specs.Sources.{HasFault, IsSound}
 use Rattle.chess_pgn.specs.Written.{game_text}
 use Rattle.chess_pgn.specs.steps.GameCode.{game_of}
-use Rattle.chess_games.proofs.FilteredLemmas.{SoFar, one_good, one_bad, all_read, read_one, read_fault, if_ok, left_off, still_on}
+use Rattle.chess_games.proofs.FilteredLemmas.{SoFar, one_good, one_bad, all_read, read_one, read_fault, if_ok, left_off, not_memory, still_on}
 use Rattle.chess_games.proofs.filter.write_good.Goals as goal
 use Rattle.chess_games.proofs.filter.write_good.Goals.{in-Ok-Some+in_ok-write_if-in-Ok-Some, in-Err+in_ok-fault-in-Err+in_ok-pass-in-Err}
 
@@ -41,10 +41,11 @@ loop-before-preserved g c =
           let refused = read_fault g.R.Source.gives g.R.Source.failed g.R.Source.ended c.loop-before.games.text c.next_with.new.self.text c.next_with.result w.in-Err.fault w.in-Err.is (c.next_with.ensures.fault c.loop-before.invariant.none) in
           let is = subst (λ x. HasFault g.R.Source.gives g.R.Source.failed g.R.Source.ended c.loop-before.games.text c.next_with.new.self.text x) w.in_ok-fault-in-Err.ensures refused in
           let left = left_off g.R.Source.gives g.R.Source.failed c.loop-before.games c.next_with.new.self c.next_with.result w.in-Err.fault w.in-Err.is c.next_with.ensures.sticky w.in_ok-pass-in-Err.ensures.goes_on (c.next_with.ensures.leaves c.loop-before.invariant.none) in
+          let real = not_memory c.next_with.new.self.fault w.in-Err.fault fault left.0 w.in_ok-fault-in-Err.ensures w.in_ok-pass-in-Err.ensures.goes_on in
           let passes = w.in_ok-pass-in-Err.ensures.gives_up w.in-Err.fault c.loop-before.games.text left.0 left.1 in
           let counts = subst (λ asked. w.report_if-bad.result ≡ (if asked then 1 else 0)) c.has-is_asked.ensures w.report_if-bad.ensures.count in
           let there = one_bad g.R.Source.gives g.R.Source.failed g.R.Source.ended g.W.Sink.takes part c.args.games.now.text c.loop-before.games.text c.next_with.new.self.text w.pass.new.games.text c.args.writer.now c.loop-before.writer c.loop-before.bad w.report_if-bad.result before fault
-          c.loop-before.invariant.so_far is passes counts w.report_if-bad.ensures.one in
+          c.loop-before.invariant.so_far is real passes counts w.report_if-bad.ensures.one in
           record {
             sound = subst (λ x. IsSound g.R.Source.ended x) (sym w.games-is) w.in_ok-pass-in-Err.ensures.sound;
             none = ap (λ x. x.fault) w.games-is ∙ w.in_ok-pass-in-Err.ensures.good;
