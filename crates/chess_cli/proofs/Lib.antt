@@ -6,7 +6,6 @@ pub mod PathLaws
 pub mod NumberLemmas
 pub mod TextLemmas
 pub mod ListLemmas
-pub mod EffectLemmas
 pub mod AnswerLemmas
 pub mod PlaceLemmas
 pub mod GotoLemmas
