@@ -27,7 +27,7 @@ use Rattle.chess_search.specs.Best.{best}
 use Rattle.chess_tree.specs.GameTree.{TreeParts}
 use Rattle.chess_cli.specs.declared.board_command.refusal.Refusal.TheVariants.{Argument, AtRoot, Illegal}
 use Rattle.chess_cli.specs.Refusals.{san_refusal}
-use Rattle.chess_cli.specs.Answers.{Effect, Refuses, move_effect}
+use Rattle.chess_cli.specs.Answers.{Effect, Refuses, is_new, move_effect}
 use Rattle.chess_c.specs.declared.moves.CMove.{CMove}
 use Rattle.chess_slots.specs.Codes.{none_best, ok}
 use Rattle.chess_slots.specs.Handed.{IsHanded}

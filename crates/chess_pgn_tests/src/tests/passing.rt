@@ -130,26 +130,12 @@ const ROWS: &[(&[u8], &[Step])] = &[
     // A malformed tag: the tags on the lines after it are the next game's.
     (
         b"[A \"1\"]\n\n1. e4 *\n\n[A ~\"2\"]\n[B \"2\"]\n\n1. e4 *\n\n[A \"3\"]\n\n1. d4 *\n",
-        &[
-            Game(16),
-            Fault(18, 2),
-            Passed(6),
-            Game(43),
-            Game(61),
-            End,
-        ],
+        &[Game(16), Fault(18, 2), Passed(6), Game(43), Game(61), End],
     ),
     // Tags after one line feed.
     (
         b"[A \"1\"]\n\n1. e4 *\n\n[A \"2\"]\n\n1. e4 ~\n[A \"4\"]\n[A \"5\"] *\n\n[A \"3\"]\n\n1. d4 *\n",
-        &[
-            Game(16),
-            Fault(33, 1),
-            Passed(2),
-            Game(52),
-            Game(70),
-            End,
-        ],
+        &[Game(16), Fault(33, 1), Passed(2), Game(52), Game(70), End],
     ),
     // No empty lines.
     (
