@@ -308,8 +308,17 @@ uint32_t jatshegi_engine_line(struct jatshegi_board *board, const char *line, si
 uint32_t jatshegi_engine_slice(struct jatshegi_board *board, char *replies, size_t room, size_t *count);
 uint32_t jatshegi_engine_moment(struct jatshegi_board *board, uint64_t moment, char *replies, size_t room, size_t *count);
 
-/* Whether the session searches, and so wants slices. OK, EMPTY. */
+/*
+ * Whether the session searches, and so wants slices; whether that search is infinite, one that ends by `stop` alone; whether it has done all that it has to
+ * do and waits for `stop`, so that a slice does nothing; whether `quit` came, after which nothing is replied. OK, EMPTY.
+ */
 uint32_t jatshegi_engine_searching(struct jatshegi_board *board, bool *searching);
+uint32_t jatshegi_engine_infinite(struct jatshegi_board *board, bool *infinite);
+uint32_t jatshegi_engine_waiting(struct jatshegi_board *board, bool *waiting);
+uint32_t jatshegi_engine_ended(struct jatshegi_board *board, bool *ended);
+
+/* How many milliseconds after the last moment the clock ends the search, 0 where it is to end now. OK, EMPTY; NONE where no clock ends it, or none runs. */
+uint32_t jatshegi_engine_time_left(struct jatshegi_board *board, uint64_t *milliseconds);
 
 /* Steps to a child, by its place among its siblings, from 0. OK, EMPTY, NO_SUCH. */
 uint32_t jatshegi_board_step(struct jatshegi_board *board, uint32_t place);

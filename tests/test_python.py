@@ -231,7 +231,13 @@ class TheBoard(unittest.TestCase):
         for _ in range(25):
             engine.slice()
         self.assertEqual((engine.line("isready"), len(engine.line("stop")), engine.is_searching()), (["readyok"], 1, False))
-        self.assertEqual((engine.line("go movetime 5"), engine.moment(4), len(engine.moment(1000))), ([], [], 1))
+        self.assertEqual((engine.time_left(), engine.line("go movetime 5"), engine.time_left()), (None, [], 5))
+        self.assertEqual((engine.moment(4), engine.time_left(), len(engine.moment(1000)), engine.time_left()), ([], 1, 1, None))
+        engine.line("position startpos moves f2f3 e7e5 g2g4 d8h4")
+        self.assertEqual((engine.is_infinite(), engine.line("go infinite"), engine.is_infinite(), engine.is_waiting()), (False, [], True, True))
+        self.assertEqual((engine.line("stop"), engine.is_waiting(), engine.has_ended()), (["bestmove 0000"], False, False))
+        self.assertEqual((engine.line("quit"), engine.has_ended(), engine.line("isready")), ([], True, []))
+        engine = jatshegi.Engine()
         with self.assertRaises(ValueError):
             engine.line("uci\nuci")
 
@@ -666,7 +672,8 @@ class NothingIsLost(unittest.TestCase):
         self.assertEqual(len(emptied.legal_moves), 20)
         engine = jatshegi.Engine()
         engine.__del__()
-        for call in (engine.slice, engine.is_searching, lambda: engine.line("uci"), lambda: engine.moment(1)):
+        asked = (engine.is_searching, engine.is_infinite, engine.is_waiting, engine.has_ended, engine.time_left)
+        for call in (*asked, engine.slice, lambda: engine.line("uci"), lambda: engine.moment(1)):
             self.assertRaises(jatshegi.EmptyBoardError, call)
         self.assertRaises(ValueError, jatshegi.Engine().moment, -1)
 

@@ -2,8 +2,8 @@
 from __future__ import annotations
 
 import threading
-from ctypes import byref, c_bool, c_char, c_size_t
-from typing import Any, Callable, List, Tuple
+from ctypes import byref, c_bool, c_char, c_size_t, c_uint64
+from typing import Any, Callable, List, Optional, Tuple
 
 from . import _library as c
 from ._errors import EmptyBoardError, Error
@@ -72,12 +72,38 @@ class Engine:
             raise ValueError(f"a moment is a number of milliseconds, 0 to 2^64 - 1: {milliseconds}")
         return self._replies(c.lib.jatshegi_engine_moment, milliseconds)
 
+    # One of the questions of the session.
+    def _is(self, question: Callable[..., int]) -> bool:
+        answer = c_bool()
+        with self._lock:
+            _answered(question(self._at, byref(answer)))
+        return answer.value
+
     def is_searching(self) -> bool:
         """Whether a search runs, which wants slices."""
-        searching = c_bool()
+        return self._is(c.lib.jatshegi_engine_searching)
+
+    def is_infinite(self) -> bool:
+        """Whether that search is infinite: one that ends by 'stop' alone."""
+        return self._is(c.lib.jatshegi_engine_infinite)
+
+    def is_waiting(self) -> bool:
+        """Whether that search has done all that it has to do and waits for 'stop', so that a slice does nothing."""
+        return self._is(c.lib.jatshegi_engine_waiting)
+
+    def has_ended(self) -> bool:
+        """Whether 'quit' came, after which nothing is replied."""
+        return self._is(c.lib.jatshegi_engine_ended)
+
+    def time_left(self) -> Optional[int]:
+        """How many milliseconds after the last moment the clock ends the search, 0 where it is to end now; None where no clock ends it, or none runs."""
+        left = c_uint64()
         with self._lock:
-            _answered(c.lib.jatshegi_engine_searching(self._at, byref(searching)))
-        return searching.value
+            status = c.lib.jatshegi_engine_time_left(self._at, byref(left))
+        if status == c.NONE:
+            return None
+        _answered(status)
+        return left.value
 
 
 def _answered(status: int) -> None:

@@ -110,6 +110,10 @@ for _name, _types in {
     "engine_slice": [_slot, POINTER(c_char), c_size_t, POINTER(c_size_t)],
     "engine_moment": [_slot, c_uint64, POINTER(c_char), c_size_t, POINTER(c_size_t)],
     "engine_searching": [_slot, POINTER(c_bool)],
+    "engine_infinite": [_slot, POINTER(c_bool)],
+    "engine_waiting": [_slot, POINTER(c_bool)],
+    "engine_ended": [_slot, POINTER(c_bool)],
+    "engine_time_left": [_slot, POINTER(c_uint64)],
 }.items():
     _function = getattr(lib, f"jatshegi_{_name}")
     _function.argtypes, _function.restype = _types, c_uint32

@@ -88,6 +88,8 @@ static void without_a_board(void) {
     CHECK(jatshegi_engine_line(&none, "uci", 3, text, sizeof text, &count) == JATSHEGI_EMPTY);
     CHECK(jatshegi_engine_slice(&none, text, sizeof text, &count) == JATSHEGI_EMPTY && jatshegi_engine_moment(&none, 1, text, sizeof text, &count) == JATSHEGI_EMPTY);
     CHECK(jatshegi_engine_searching(&none, &searching) == JATSHEGI_EMPTY && !searching && count == 7);
+    CHECK(jatshegi_engine_infinite(&none, &searching) == JATSHEGI_EMPTY && jatshegi_engine_waiting(&none, &searching) == JATSHEGI_EMPTY);
+    CHECK(jatshegi_engine_ended(&none, &searching) == JATSHEGI_EMPTY && !searching && jatshegi_engine_time_left(&none, &bits) == JATSHEGI_EMPTY && bits == 7);
     CHECK(jatshegi_board_load(&none, "*", 1, &count) == JATSHEGI_EMPTY && count == 7);
     CHECK(jatshegi_board_step(&none, 0) == JATSHEGI_EMPTY);
     CHECK(jatshegi_board_depth(&none, &number) == JATSHEGI_EMPTY && jatshegi_board_children(&none, &number) == JATSHEGI_EMPTY && jatshegi_board_move(&none, &m) == JATSHEGI_EMPTY);
@@ -472,6 +474,16 @@ static int replies(struct jatshegi_board *b, const char *line, const char *wante
     return jatshegi_engine_line(b, line, strlen(line), text, sizeof text, &count) == JATSHEGI_OK && count == strlen(wanted) && memcmp(text, wanted, count) == 0;
 }
 
+/* What a front end asks of the session: whether it searches, without end, waits for `stop`, has ended; and the time that is left, 99 where there is none. */
+static int shows(struct jatshegi_board *b, bool searching, bool infinite, bool waiting, bool ended, uint64_t left) {
+    bool found[4];
+    uint64_t time = 99;
+    CHECK(jatshegi_engine_searching(b, &found[0]) == JATSHEGI_OK && jatshegi_engine_infinite(b, &found[1]) == JATSHEGI_OK);
+    CHECK(jatshegi_engine_waiting(b, &found[2]) == JATSHEGI_OK && jatshegi_engine_ended(b, &found[3]) == JATSHEGI_OK);
+    CHECK(jatshegi_engine_time_left(b, &time) == (left == 99 ? JATSHEGI_NONE : JATSHEGI_OK));
+    return found[0] == searching && found[1] == infinite && found[2] == waiting && found[3] == ended && time == left;
+}
+
 static void engines(struct jatshegi_board *b) {
     char text[JATSHEGI_MOST_REPLIES], last[JATSHEGI_MOST_REPLIES] = "";
     size_t count = 0, length = 0;
@@ -486,9 +498,12 @@ static void engines(struct jatshegi_board *b) {
         CHECK(jatshegi_engine_searching(b, &searching) == JATSHEGI_OK);
     }
     CHECK(length >= 14 && memcmp(last + length - 14, "bestmove d8h4\n", 14) == 0);
-    CHECK(replies(b, "go movetime 5", "") && jatshegi_engine_moment(b, 4, text, sizeof text, &count) == JATSHEGI_OK && count == 0);
-    CHECK(jatshegi_engine_moment(b, 6, text, 3, &count) == JATSHEGI_NO_ROOM && count == 14);
-    CHECK(jatshegi_engine_searching(b, &searching) == JATSHEGI_OK && !searching && fen_is(b, START));
+    CHECK(shows(b, false, false, false, false, 99) && replies(b, "go movetime 5", "") && shows(b, true, false, false, false, 5));
+    CHECK(jatshegi_engine_moment(b, 4, text, sizeof text, &count) == JATSHEGI_OK && count == 0 && shows(b, true, false, false, false, 1));
+    CHECK(jatshegi_engine_moment(b, 6, text, 3, &count) == JATSHEGI_NO_ROOM && count == 14 && shows(b, false, false, false, false, 99));
+    CHECK(replies(b, "position startpos moves f2f3 e7e5 g2g4 d8h4", "") && replies(b, "go infinite", "") && shows(b, true, true, true, false, 99));
+    CHECK(replies(b, "stop", "bestmove 0000\n") && replies(b, "position startpos", "") && replies(b, "go infinite", "") && shows(b, true, true, false, false, 99));
+    CHECK(replies(b, "quit", "") && shows(b, false, false, false, true, 99) && replies(b, "isready", "") && fen_is(b, START));
 }
 
 int main(void) {

@@ -2,16 +2,18 @@
 --   Asks   of a call that leaves all as it was: an empty slot is answered so, and this is kept; else this holds of the board and the status
 --   Acts   of a call that may change the board: an empty slot is answered so; else the call on the board may end so, from the one board to the other
 --   IsAnswered   of a line: the board may answer it with a text, and go from the one board to the other; the text is handed out, or there was no memory
---   IsReplying   of an event: the engine replies to it (`IsReplied`); IsSearching, whether it searches
+--   IsReplying   of an event: the engine replies to it (`IsReplied`)
+--   IsSearching, IsInfinite, IsWaiting, IsEnded   what is shown of the engine: whether it searches, without an end of its own, and waits for `stop`; whether `quit` came
+--   IsTimed      after how many milliseconds the clock ends the search; the status of none where it ends none
 use Rattle.std.specs.Prelude.{◌≡◌, ℕ, Bool, List, Option, Some, None, is_some, Result}
 use Rattle.chess_tree.specs.GameTree.{TreeParts}
 use Rattle.chess_uci.specs.declared.event.Event.{Event}
-use Rattle.chess_uci.specs.Machine.{State}
+use Rattle.chess_uci.specs.Machine.{State, is_infinite, is_waiting, time_left}
 use Rattle.chess_cli.specs.declared.board_command.refusal.Refusal.{Refusal}
 use Rattle.chess_cli.specs.Answers.{Tells}
 use Rattle.chess_cli.specs.Requests.{request}
 use Rattle.chess_slots.specs.Answers.{IsReplied}
-use Rattle.chess_slots.specs.Codes.{empty_slot, ok}
+use Rattle.chess_slots.specs.Codes.{empty_slot, none_best, ok}
 use Rattle.chess_slots.specs.Handed.{IsAnsweredBy}
 use Rattle.chess_c.specs.Codes.{ended_code}
 use Rattle.chess_c.specs.Held.{Held, with_board, with_engine}
@@ -42,3 +44,28 @@ IsReplying event (Some held) code count count' room room' new =
 abbrev pub IsSearching : Option Held → ℕ → (searching searching' : Bool) → Option Held → Type 0
 IsSearching None code searching searching' new = (code ≡ empty_slot) × (new ≡ None) × (searching' ≡ searching)
 IsSearching (Some held) code searching searching' new = (code ≡ ok) × (new ≡ Some held) × (searching' ≡ is_some held.engine.search)
+
+-- whether an infinite search runs
+abbrev pub IsInfinite : Option Held → ℕ → (infinite infinite' : Bool) → Option Held → Type 0
+IsInfinite None code infinite infinite' new = (code ≡ empty_slot) × (new ≡ None) × (infinite' ≡ infinite)
+IsInfinite (Some held) code infinite infinite' new = (code ≡ ok) × (new ≡ Some held) × (infinite' ≡ is_infinite held.engine.search)
+
+-- whether an infinite search has done all that it has to do
+abbrev pub IsWaiting : Option Held → ℕ → (waiting waiting' : Bool) → Option Held → Type 0
+IsWaiting None code waiting waiting' new = (code ≡ empty_slot) × (new ≡ None) × (waiting' ≡ waiting)
+IsWaiting (Some held) code waiting waiting' new = (code ≡ ok) × (new ≡ Some held) × (waiting' ≡ is_waiting held.engine.search)
+
+-- whether `quit` came
+abbrev pub IsEnded : Option Held → ℕ → (ended ended' : Bool) → Option Held → Type 0
+IsEnded None code ended ended' new = (code ≡ empty_slot) × (new ≡ None) × (ended' ≡ ended)
+IsEnded (Some held) code ended ended' new = (code ≡ ok) × (new ≡ Some held) × (ended' ≡ held.engine.ended)
+
+-- the milliseconds that the clock leaves, with the status of none where it ends no search
+abbrev pub IsLeft : Option ℕ → (code left left' : ℕ) → Type 0
+IsLeft None code left left' = (code ≡ none_best) × (left' ≡ left)
+IsLeft (Some time) code left left' = (code ≡ ok) × (left' ≡ time)
+
+-- after how much time the clock ends the search
+abbrev pub IsTimed : Option Held → (code left left' : ℕ) → Option Held → Type 0
+IsTimed None code left left' new = (code ≡ empty_slot) × (new ≡ None) × (left' ≡ left)
+IsTimed (Some held) code left left' new = IsLeft (time_left held.engine) code left left' × (new ≡ Some held)

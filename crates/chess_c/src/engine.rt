@@ -1,5 +1,5 @@
 ghost use Rattle.std.specs.Prelude.{◌≡◌};
-ghost use Rattle.chess_c.specs.Calls.{IsReplying, IsSearching};
+ghost use Rattle.chess_c.specs.Calls.{IsEnded, IsInfinite, IsReplying, IsSearching, IsTimed, IsWaiting};
 
 use crate::slot::{Slot, put, take};
 use chess_slots::{EMPTY, OK};
@@ -80,4 +80,64 @@ pub extern "C" fn jatshegi_engine_searching(
     *searching = session.searching();
     put(slot, session, alloc);
     OK
+}
+
+/// Whether an infinite search runs, one that ends by `stop` alone.
+#[unsafe(no_mangle)]
+pub extern "C" fn jatshegi_engine_infinite(
+    alloc: Global,
+    slot: &mut Slot,
+    infinite: &mut bool,
+) -> u32
+    ensures { IsInfinite slot.old.held result infinite.old infinite.new slot.new.held }
+{
+    let Some(session) = take(slot, alloc) else {
+        return EMPTY;
+    };
+    *infinite = session.infinite();
+    put(slot, session, alloc);
+    OK
+}
+
+/// Whether the search that runs has done all that it has to do, and waits for `stop`.
+#[unsafe(no_mangle)]
+pub extern "C" fn jatshegi_engine_waiting(
+    alloc: Global,
+    slot: &mut Slot,
+    waiting: &mut bool,
+) -> u32
+    ensures { IsWaiting slot.old.held result waiting.old waiting.new slot.new.held }
+{
+    let Some(session) = take(slot, alloc) else {
+        return EMPTY;
+    };
+    *waiting = session.waiting();
+    put(slot, session, alloc);
+    OK
+}
+
+/// Whether `quit` came.
+#[unsafe(no_mangle)]
+pub extern "C" fn jatshegi_engine_ended(alloc: Global, slot: &mut Slot, ended: &mut bool) -> u32
+    ensures { IsEnded slot.old.held result ended.old ended.new slot.new.held }
+{
+    let Some(session) = take(slot, alloc) else {
+        return EMPTY;
+    };
+    *ended = session.ended();
+    put(slot, session, alloc);
+    OK
+}
+
+/// After how many milliseconds from the last moment the clock ends the search that runs.
+#[unsafe(no_mangle)]
+pub extern "C" fn jatshegi_engine_time_left(alloc: Global, slot: &mut Slot, left: &mut u64) -> u32
+    ensures { IsTimed slot.old.held result left.old left.new slot.new.held }
+{
+    let Some(session) = take(slot, alloc) else {
+        return EMPTY;
+    };
+    let code = session.time_left(left);
+    put(slot, session, alloc);
+    code
 }

@@ -5,6 +5,8 @@ ghost use Rattle.chess_cli.specs.Requests.{request};
 ghost use Rattle.chess_slots.specs.Answers.{IsReplied};
 ghost use Rattle.chess_slots.specs.Handed.{IsAnsweredBy};
 ghost use Rattle.chess_c.specs.Asked.{IsBest};
+ghost use Rattle.chess_c.specs.Calls.{IsLeft};
+ghost use Rattle.chess_uci.specs.Machine.{is_infinite, is_waiting, time_left};
 ghost use Rattle.chess_c.specs.Held.{beginning};
 ghost use Rattle.chess_c.specs.Loads.{LoadsFrom};
 ghost use Rattle.chess_c.specs.Searches.{IsBegunFrom, SlicedFrom, best_of};
@@ -84,6 +86,40 @@ impl Session {
         ensures { result ≡ is_some self.now.engine.search }
     {
         self.engine.searching()
+    }
+
+    /// Whether the engine has an infinite search, one that ends by `stop` alone.
+    pub fn infinite(&self) -> bool
+        ensures { result ≡ is_infinite self.now.engine.search }
+    {
+        self.engine.infinite()
+    }
+
+    /// Whether the engine has an infinite search that has done all that it has to do.
+    pub fn waiting(&self) -> bool
+        ensures { result ≡ is_waiting self.now.engine.search }
+    {
+        self.engine.waiting()
+    }
+
+    /// Whether `quit` came.
+    pub fn ended(&self) -> bool
+        ensures { result ≡ self.now.engine.ended }
+    {
+        self.engine.ended()
+    }
+
+    /// The milliseconds after which the clock ends the engine's search; `NONE` where it ends none.
+    pub fn time_left(&self, left: &mut u64) -> u32
+        ensures { IsLeft (time_left self.now.engine) result left.old left.new }
+    {
+        match self.engine.time_left() {
+            Some(time) => {
+                *left = time;
+                OK
+            }
+            None => NONE,
+        }
     }
 
     /// Begins with the tree of the game at the start of a text, and says how many bytes of the text the game takes; else what `refused` answers of the text.

@@ -10,9 +10,9 @@
 --   slice        one root more is searched, at depths 1, 2, .. up to the last, and at each from the first root to the last
 --   is_reached   the clock has come to the end of the search
 --   step         the replies to an event, and the state afterwards
---   is_infinite, is_waiting, depth_done, so_far   what is shown of a search
+--   is_infinite, is_waiting, depth_done, so_far, time_left   what is shown of a search
 --   IsAhead      a search that runs hasn't passed its last depth, and where it has no root left it is infinite
-use Rattle.std.specs.Prelude.{◌≡◌, ◌≤◌, ⊤, ℕ, ◌+◌, ◌==◌, nat_le, nat_lt, max, Bool, true, false, ◌&&◌, List, [], ◌∷◌, ◌++◌, length, take, filter, Option, Some, None, option_map, ℤ}
+use Rattle.std.specs.Prelude.{◌≡◌, ◌≤◌, ⊤, ℕ, ◌+◌, ◌-◌, ◌==◌, nat_le, nat_lt, max, Bool, true, false, ◌&&◌, List, [], ◌∷◌, ◌++◌, length, take, filter, Option, Some, None, option_map, ℤ}
 use Rattle.chess_types.specs.board.MoveParts.{MoveParts}
 use Rattle.chess_types.specs.board.Texts.{move_text}
 use Rattle.chess_types.specs.board.Legal.{legal_moves}
@@ -259,6 +259,15 @@ depth_done (Some x) = x.done
 abbrev pub so_far : GameLine → Option Search → Option (MoveParts × ℤ)
 so_far line None = None
 so_far line (Some x) = best x.claims x.depth line (take x.searched x.roots)
+
+-- the milliseconds from the moment to the one that ends the search, 0 where it has come
+abbrev pub left_of : ℕ → Option Search → Option ℕ
+left_of moment None = None
+left_of moment (Some x) = option_map (λ end. end - moment) x.end
+
+-- those of the search that runs, from the greatest moment seen
+abbrev pub time_left : State → Option ℕ
+time_left s = left_of s.moment s.search
 
 -- what holds of a search while it runs
 pub record IsRunning (x : Search) : Type 0 where

@@ -1,4 +1,4 @@
-ghost use Rattle.std.specs.Prelude.{◌≡◌, ◌≤◌, ◌<◌, ◌∷◌, ◌++◌, [], ◌+◌, ◌==◌, Some, None, option_map, false, length};
+ghost use Rattle.std.specs.Prelude.{◌≡◌, ◌≤◌, ◌<◌, ◌∷◌, ◌++◌, [], ◌+◌, ◌-◌, ◌==◌, Some, None, option_map, false, length};
 ghost use Rattle.chess_types.specs.board.Lines.{Line as GameLine};
 ghost use Rattle.chess_search.specs.Slices.{GoesWith};
 ghost use Rattle.chess_draws.specs.LineParts.{IsAsBefore};
@@ -132,6 +132,17 @@ impl Search {
         match self.budget {
             Some(budget) => moment - self.begin >= u64::from(budget),
             None => false,
+        }
+    }
+
+    /// After how many milliseconds from the moment the clock ends it, if it does.
+    pub(crate) fn time_left(&self, moment: u64) -> Option<u64>
+        requires { self.now.begin ≤ moment }
+        ensures { result ≡ option_map (λ b. self.now.begin + b - moment) self.now.budget }
+    {
+        match self.budget {
+            Some(budget) => Some(u64::from(budget).saturating_sub(moment - self.begin)),
+            None => None,
         }
     }
 

@@ -2,7 +2,7 @@ ghost use Rattle.std.specs.Prelude.{◌≡◌, ◌⊎◌, max, None, true, is_so
 ghost use Rattle.byte_streams.specs.Words.{words};
 ghost use Rattle.chess_uci.specs.Commands.{gaps, command_in, claims_set as claims_set_of, without_memory, Unplaced};
 ghost use Rattle.chess_uci.specs.Placing.{Grows, placed};
-ghost use Rattle.chess_uci.specs.Machine.{beginning, slice_step, moment_step, line_step, idle_command, placed_at, go, quit, set_claims, introduction, is_infinite, is_waiting, depth_done, so_far, AsksForMemory, IsAhead};
+ghost use Rattle.chess_uci.specs.Machine.{beginning, slice_step, moment_step, line_step, idle_command, placed_at, go, quit, set_claims, introduction, is_infinite, is_waiting, depth_done, so_far, time_left, AsksForMemory, IsAhead};
 ghost use Rattle.chess_uci.specs.steps.Commands.{command_of};
 ghost use Rattle.chess_uci.specs.Events.{Does, Follows};
 ghost use Rattle.chess_search.specs.Slices.{IsInRange};
@@ -285,6 +285,16 @@ impl<'a, A: Allocator> Session<'a, A> {
     {
         match &self.search {
             Some(search) => search.slices.so_far(),
+            None => None,
+        }
+    }
+
+    /// After how many milliseconds from the last moment the clock ends the search that runs; `None` where no clock ends it, and where none runs.
+    pub fn time_left(&self) -> Option<u64>
+        ensures { result ≡ time_left self.now }
+    {
+        match &self.search {
+            Some(search) => search.time_left(self.moment),
             None => None,
         }
     }

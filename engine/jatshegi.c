@@ -1,0 +1,279 @@
+/*
+ * jatshegi, the engine for front ends (UCI): lines, slices of a search and moments of the clock go to a session of the proved library as they come, and what
+ * it replies goes out. There is no chess in it: what an event does, and when a search is over, the session decides.
+ *
+ * One thread. While a search runs, a signal comes every few milliseconds; where there is input, or the search's time is over, its handler raises a flag,
+ * which has the root that is being searched abandoned. The session is then as before it, and the input or the moment is the next event.
+ */
+#define _XOPEN_SOURCE 700
+#include <errno.h>
+#include <inttypes.h>
+#include <poll.h>
+#include <signal.h>
+#include <stdarg.h>
+#include <stdio.h>
+#include <stdlib.h>
+#include <string.h>
+#include <sys/time.h>
+#include <time.h>
+#include <unistd.h>
+
+#include "jatshegi.h"
+
+#ifndef VERSION
+#define VERSION "0"
+#endif
+
+enum {
+    MOST_LINE = 1048576,  /* bytes of a line, without its line feed, as `chess uci` has it */
+    TICK = 4,             /* milliseconds between two looks at the input and the clock in a search */
+    REPORT = 1000         /* milliseconds between two lines `info nodes` in a search */
+};
+
+/* What was read: lines from `begin` on, up to `end`. A line that is too long is passed over up to its line feed. */
+static struct {
+    char bytes[MOST_LINE + 1];
+    size_t begin, end;
+    bool is_over, is_too_long;
+} input;
+
+/* The search that runs: when it began, the positions visited, and when they were last reported. */
+static struct {
+    bool runs;
+    uint64_t begin, visited, reported;
+} search;
+
+static struct jatshegi_keys keys;
+static struct jatshegi_board board;
+static FILE *record;
+
+/* For the handler: what has a root abandoned, and the moment at which that is due. */
+static volatile uint8_t stop;
+static volatile uint64_t due = UINT64_MAX;
+
+static uint64_t now(void) {
+    struct timespec time;
+    clock_gettime(CLOCK_MONOTONIC, &time);
+    return (uint64_t)time.tv_sec * 1000 + (uint64_t)time.tv_nsec / 1000000;
+}
+
+static void fail(const char *what) {
+    fprintf(stderr, "jatshegi: %s\n", what);
+    exit(3);
+}
+
+static void check(uint32_t status) {
+    if (status != JATSHEGI_OK) {
+        fprintf(stderr, "jatshegi: the library reports status %" PRIu32 "\n", status);
+        exit(3);
+    }
+}
+
+/* Writes a line of a record of the events, where one is kept. */
+static void note(const char *form, ...) {
+    va_list words;
+    if (!record) return;
+    va_start(words, form);
+    vfprintf(record, form, words);
+    va_end(words);
+}
+
+/* Of a search: the milliseconds, the positions and the positions a second. */
+static void write_effort(void) {
+    uint64_t time = now() - search.begin;
+    printf(" time %" PRIu64 " nodes %" PRIu64 " nps %" PRIu64, time, search.visited, search.visited * 1000 / (time ? time : 1));
+}
+
+/* Writes a reply: the engine has its own name here, and the report of a depth says besides what it took. */
+static void write_reply(const char *reply, size_t length) {
+    static const char name[] = "id name ", depth[] = "info depth ", moves[] = " pv ";
+    const char *last = length < sizeof depth - 1 || memcmp(reply, depth, sizeof depth - 1) ? NULL : reply;
+    if (length >= sizeof name - 1 && !memcmp(reply, name, sizeof name - 1)) {
+        printf("id name Jatshegi " VERSION "\n");
+        return;
+    }
+    while (last && last + sizeof moves - 1 <= reply + length && memcmp(last, moves, sizeof moves - 1)) last++;
+    fwrite(reply, 1, last ? (size_t)(last - reply) : length, stdout);
+    if (last) {
+        write_effort();
+        fwrite(last, 1, length - (size_t)(last - reply), stdout);
+    }
+    putchar('\n');
+}
+
+/* Writes the replies to an event, and sees whether a search has begun or ended with it. */
+static void reply(const char *replies, size_t count) {
+    const char *end = replies + count;
+    bool runs;
+    check(jatshegi_engine_searching(&board, &runs));
+    if (runs && !search.runs) {
+        search.begin = search.reported = now();
+        search.visited = 0;
+    }
+    search.runs = runs;
+    for (const char *next; replies < end; replies = next + 1) {
+        next = memchr(replies, '\n', (size_t)(end - replies));
+        if (!next) fail("a reply has no line feed");
+        write_reply(replies, (size_t)(next - replies));
+    }
+    if (fflush(stdout) == EOF) fail("the replies can't be written");
+}
+
+static void take_moment(void) {
+    char replies[JATSHEGI_MOST_REPLIES];
+    size_t count;
+    uint64_t moment = now();
+    note("moment %" PRIu64 "\n", moment);
+    check(jatshegi_engine_moment(&board, moment, replies, sizeof replies, &count));
+    reply(replies, count);
+}
+
+static void take_line(const char *line, size_t length) {
+    char replies[JATSHEGI_MOST_REPLIES];
+    size_t count;
+    take_moment();
+    note("line %.*s\n", (int)length, line);
+    check(jatshegi_engine_line(&board, line, length, replies, sizeof replies, &count));
+    reply(replies, count);
+}
+
+/* Searches one root more, as far as the flag and the clock let it; then the clock is read. */
+static void take_slice(void) {
+    char replies[JATSHEGI_MOST_REPLIES];
+    size_t count;
+    uint64_t left, visited;
+    bool searched;
+    uint32_t timed = jatshegi_engine_time_left(&board, &left);
+    if (timed != JATSHEGI_NONE) check(timed);
+    due = timed == JATSHEGI_OK ? now() + left : UINT64_MAX;
+    stop = 0;
+    check(jatshegi_engine_slice_within(&board, UINT64_MAX, &stop, &searched, &visited, replies, sizeof replies, &count));
+    search.visited += visited;
+    if (searched) note("slice\n");
+    reply(replies, count);
+    if (search.runs) take_moment();
+    if (search.runs && now() - search.reported >= REPORT) {
+        printf("info");
+        write_effort();
+        putchar('\n');
+        search.reported = now();
+    }
+}
+
+static void tick(int number) {
+    struct pollfd ready = {STDIN_FILENO, POLLIN, 0};
+    struct timespec time;
+    int error = errno;
+    (void)number;
+    clock_gettime(CLOCK_MONOTONIC, &time);
+    if ((!input.is_over && poll(&ready, 1, 0) > 0) || (uint64_t)time.tv_sec * 1000 + (uint64_t)time.tv_nsec / 1000000 >= due) stop = 1;
+    errno = error;
+}
+
+/* Has the handler run every few milliseconds, or no more. */
+static void set_ticks(bool run) {
+    static bool runs;
+    struct itimerval interval = {{0, run ? TICK * 1000 : 0}, {0, run ? TICK * 1000 : 0}};
+    if (run != runs && setitimer(ITIMER_REAL, &interval, NULL)) fail("there is no timer");
+    runs = run;
+}
+
+/* Reads what there is; waits for it where there is none. At the end of the input nothing comes any more. */
+static void read_more(void) {
+    ssize_t count;
+    if (input.begin) {
+        memmove(input.bytes, input.bytes + input.begin, input.end - input.begin);
+        input.end -= input.begin;
+        input.begin = 0;
+    }
+    count = read(STDIN_FILENO, input.bytes + input.end, sizeof input.bytes - input.end);
+    if (count < 0 && errno != EINTR && errno != EAGAIN) fail("the input can't be read");
+    if (count == 0) input.is_over = true;
+    if (count > 0) input.end += (size_t)count;
+}
+
+/* Takes the next line, if a whole one was read. */
+static bool take_next_line(void) {
+    char *line = input.bytes + input.begin, *end = memchr(line, '\n', input.end - input.begin);
+    bool is_long = input.is_too_long;
+    if (!end && input.end - input.begin == sizeof input.bytes) {
+        input.is_too_long = true;
+        input.begin = input.end;
+    }
+    if (!end) return false;
+    input.begin += (size_t)(end - line) + 1;
+    input.is_too_long = false;
+    if (is_long) {
+        printf("info string line too long\n");
+        if (fflush(stdout) == EOF) fail("the replies can't be written");
+    } else {
+        take_line(line, (size_t)(end - line));
+    }
+    return true;
+}
+
+/* One of the questions of the session: jatshegi_engine_ended, .. */
+static bool is(uint32_t (*question)(struct jatshegi_board *, bool *)) {
+    bool answer;
+    check(question(&board, &answer));
+    return answer;
+}
+
+/* No line follows: a search that ends by itself does so; an infinite one is ended as by `stop`. */
+static void take_end(void) {
+    if (is(jatshegi_engine_infinite)) take_line("stop", 4);
+    if (search.runs) {
+        take_slice();
+    } else {
+        take_line("quit", 4);
+    }
+}
+
+static void run(void) {
+    struct pollfd ready = {STDIN_FILENO, POLLIN, 0};
+    while (!is(jatshegi_engine_ended)) {
+        bool searches = search.runs && !is(jatshegi_engine_waiting);
+        set_ticks(searches);
+        if (take_next_line()) continue;
+        if (input.is_over) {
+            take_end();
+        } else if (poll(&ready, 1, searches ? 0 : -1) > 0) {
+            read_more();
+        } else if (searches) {
+            take_slice();
+        }
+    }
+}
+
+static const char help[] =
+    "Jatshegi " VERSION ": an engine for programs that play and analyse chess by UCI; what it replies to each event is proved.\n\n"
+    "Usage: jatshegi [--record <FILE>]\n\n"
+    "Options:\n"
+    "      --record <FILE>  Write each event of the session to a file: `line TEXT`, `moment MILLISECONDS` or `slice`\n"
+    "  -h, --help           Print help\n"
+    "  -V, --version        Print version\n\n"
+    "It reads lines of UCI from the standard input and writes its replies to the standard output. The exit status is 0, 1 for\n"
+    "other words, 3 where a stream, memory or the timer failed.\n";
+
+/* Writes the text, and returns the status with which the program ends. */
+static int end_with(FILE *to, const char *text, int status) {
+    return fputs(text, to) == EOF || fflush(to) == EOF ? 3 : status;
+}
+
+int main(int count, char **words) {
+    struct sigaction action = {0};
+    if (count == 2 && (!strcmp(words[1], "-h") || !strcmp(words[1], "--help"))) return end_with(stdout, help, 0);
+    if (count == 2 && (!strcmp(words[1], "-V") || !strcmp(words[1], "--version"))) return end_with(stdout, "jatshegi " VERSION "\n", 0);
+    if (count != 1 && !(count == 3 && !strcmp(words[1], "--record"))) return end_with(stderr, help, 1);
+    if (count == 3 && !(record = fopen(words[2], "w"))) fail("the record can't be written");
+    action.sa_handler = tick;
+    action.sa_flags = SA_RESTART;
+    if (sigaction(SIGALRM, &action, NULL)) fail("there is no timer");
+    jatshegi_keys_fill(&keys);
+    check(jatshegi_board_new(&keys, &board));
+    run();
+    set_ticks(false);
+    jatshegi_board_free(&board);
+    if (record && fclose(record)) fail("the record can't be written");
+    return 0;
+}

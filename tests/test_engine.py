@@ -1,0 +1,274 @@
+"""The engine for front ends: one `bestmove` for each search, legal, once it is asked for; its replies are those of the session, event by event.
+
+`python3 tests/test_engine.py N` plays N scripts of lines at random moments, and prints how long `isready` and `stop` took at most; ./test plays 60.
+"""
+import fcntl
+import os
+import pty
+import random
+import re
+import select
+import subprocess
+import sys
+import tempfile
+import time
+import unittest
+
+import runs
+
+ENGINE = f"{runs.TOP}/out/jatshegi"
+RELEASED = f"{runs.TOP}/release/x86_64-linux/bin/jatshegi"
+# Of a search that is far from its end: a machine with much else to do may take so many seconds to answer.
+SOON = 20
+SHARP = "q2k3r/1q5q/8/8/1b6/8/QP4PQ/R2K3q w - - 0 1"
+ONE_MOVE = "r1bqk2r/pppp1Qpp/2n2n2/2b1p3/4P3/8/PPPP1PPP/RNB1KBNR b KQkq - 0 4"
+POSITIONS = ["startpos", f"fen {SHARP}", f"fen {ONE_MOVE}", "startpos moves f2f3 e7e5 g2g4 d8h4", "startpos moves e2e4 e7e5", "startpos moves e2e5"]
+SEARCHES = ["depth 1", "depth 3", "depth 16", "infinite", "movetime 1", "movetime 40", "wtime 800 btime 900 winc 10 binc 10", "infinite searchmoves e2e4"]
+OTHERS = ["isready", "stop", "stop", "uci", "ponderhit", "ucinewgame", "setoption name Claims value true", "", "nothing", "\tisready \r"]
+
+
+def setUpModule():
+    runs.make("libraries")
+    sys.path.insert(0, f"{runs.TOP}/python")
+
+
+class Program:
+    """The engine, as a front end runs it: lines go in, and come out with the moment at which they were read."""
+
+    def __init__(self, *words, program=ENGINE):
+        self.process = subprocess.Popen([program, *words], stdin=subprocess.PIPE, stdout=subprocess.PIPE, stderr=subprocess.PIPE)
+        self.lines, self.rest = [], b""
+        fcntl.fcntl(self.process.stdout, fcntl.F_SETFL, os.O_NONBLOCK)
+
+    def say(self, line):
+        self.process.stdin.write(line.encode() + b"\n")
+        self.process.stdin.flush()
+
+    def read(self, seconds):
+        """Reads what comes within so many seconds, and returns whether anything did."""
+        if not select.select([self.process.stdout], [], [], seconds)[0]:
+            return False
+        piece = self.process.stdout.read()
+        *lines, self.rest = (self.rest + (piece or b"")).split(b"\n")
+        self.lines += [it.decode() for it in lines]
+        return bool(piece)
+
+    def wait(self, form, seconds=SOON):
+        """Waits for a new line of this form, and returns it; None where none comes in time."""
+        seen, end = len(self.lines), time.monotonic() + seconds
+        while time.monotonic() < end:
+            for at in range(seen, len(self.lines)):
+                if re.fullmatch(form, self.lines[at]):
+                    return self.lines[at]
+            seen = len(self.lines)
+            self.read(end - time.monotonic())
+        return None
+
+    def end(self):
+        """Closes its input, reads the rest, and returns the status."""
+        self.process.stdin.close()
+        while self.read(SOON):
+            pass
+        status = self.process.wait(SOON)
+        self.errors = self.process.stderr.read()
+        self.process.stdout.close()
+        self.process.stderr.close()
+        return status
+
+
+def plain(line):
+    """The session's own line: without the effort, and by the session's name."""
+    line = re.sub(r" time \d+ nodes \d+ nps \d+", "", line)
+    return re.sub(r"id name Jatshegi .*", "id name chess_uci 1", line)
+
+
+def replayed(record):
+    """The replies of a session to the events of a record, and of each `go` whether a search was begun or answered at once."""
+    import jatshegi
+
+    session, replies, searches = jatshegi.Engine(), [], 0
+    for event in record:
+        word, _, rest = event.partition(" ")
+        said = session.slice() if word == "slice" else session.moment(int(rest)) if word == "moment" else session.line(rest.rstrip("\r"))
+        if word == "line" and rest.split()[:1] == ["go"]:
+            searches += "info string busy" not in said
+        replies += said
+    return replies, searches, session.is_searching()
+
+
+def record_of(path):
+    with open(path, newline="\n", encoding="utf-8") as text:
+        return text.read().split("\n")[:-1]
+
+
+def script(seed, folder):
+    """Plays a script of lines at random moments. Returns what was said, what was replied, and the record."""
+    chance = random.Random(seed)
+    engine = Program("--record", f"{folder}/record")
+    said = []
+    for _ in range(chance.randrange(2, 14)):
+        line = chance.choice([f"position {chance.choice(POSITIONS)}", f"go {chance.choice(SEARCHES)}", f"go {chance.choice(SEARCHES)}", chance.choice(OTHERS)])
+        said.append(line)
+        engine.say(line)
+        engine.read(chance.choice([0, 0, 0.001, 0.01, 0.05]))
+    for line in ("stop", "isready"):
+        said.append(line)
+        engine.say(line)
+    engine.wait("readyok")
+    status = engine.end()
+    return said, engine, status, record_of(f"{folder}/record")
+
+
+class TheEngine(unittest.TestCase):
+    def setUp(self):
+        folder = tempfile.TemporaryDirectory()
+        self.addCleanup(folder.cleanup)
+        self.folder = folder.name
+
+    def check_script(self, seed):
+        said, engine, status, record = script(seed, self.folder)
+        self.assertEqual((status, engine.errors, engine.rest), (0, b"", b""), (seed, said))
+        lines = [it[5:] for it in record if it.startswith("line ")]
+        # (the end of the input is a `quit`, after a `stop` where the last search is infinite)
+        self.assertEqual([it for it in lines if it not in ("stop", "quit")], [it for it in said if it != "stop"], seed)
+        replies, searches, searching = replayed(record)
+        written = [plain(it) for it in engine.lines]
+        self.assertEqual([it for it in written if it != "info"], replies, (seed, said))
+        self.assertEqual((sum(it.startswith("bestmove ") for it in written), searching), (searches, False), (seed, said))
+
+    def test_random_moments(self):
+        """The replies are those of the session to the recorded events; each search has one `bestmove`, of the session."""
+        for seed in range(60):
+            self.check_script(seed)
+
+    def test_best_moves_are_legal(self):
+        import jatshegi
+
+        for position in POSITIONS[:5]:
+            engine = Program()
+            engine.say(f"position {position}")
+            engine.say("go movetime 30")
+            found = engine.wait("bestmove .*")
+            self.assertEqual(engine.end(), 0)
+            fen = position.removeprefix("fen ") if position.startswith("fen") else jatshegi.STARTING_FEN
+            board = jatshegi.Board(fen)
+            for move in position.split(" moves ")[1].split() if " moves " in position else []:
+                board.push_uci(move)
+            self.assertIn(found.split()[1], [move.uci() for move in board.legal_moves] or ["0000"], position)
+
+    def test_a_long_search_answers(self):
+        """`isready`, `stop` and `quit` are answered long before the search is over."""
+        engine = Program()
+        engine.say(f"position fen {SHARP}")
+        engine.say("go depth 16")
+        time.sleep(0.3)
+        engine.say("isready")
+        self.assertIsNotNone(engine.wait("readyok"))
+        engine.say("stop")
+        self.assertRegex(engine.wait("bestmove .*") or "", "bestmove [a-h][1-8][a-h][1-8]")
+        engine.say("go infinite")
+        time.sleep(0.1)
+        engine.say("quit")
+        self.assertEqual(engine.end(), 0)
+        self.assertEqual(sum(it.startswith("bestmove") for it in engine.lines), 1)
+
+    def test_a_timed_search_ends(self):
+        """Also with one legal move, and where a root takes longer than the whole time."""
+        for fen in (SHARP, ONE_MOVE):
+            engine = Program()
+            engine.say(f"position fen {fen}")
+            engine.say("go movetime 300")
+            self.assertIsNotNone(engine.wait("bestmove .*"), fen)
+            self.assertEqual(engine.end(), 0)
+
+    def test_the_report_of_a_depth(self):
+        engine = Program()
+        engine.say("go depth 4")
+        engine.wait("bestmove .*")
+        engine.end()
+        reports = [re.fullmatch(r"info depth (\d) score cp -?\d+ time \d+ nodes (\d+) nps \d+ pv [a-h][1-8][a-h][1-8]", it) for it in engine.lines[:-1]]
+        self.assertEqual([it[1] for it in reports], ["1", "2", "3", "4"])
+        visited = [int(it[2]) for it in reports]
+        self.assertTrue(20 <= visited[0] and visited == sorted(visited), visited)
+
+    def test_the_end_of_the_input(self):
+        """A search that ends by itself does so; one that doesn't is stopped."""
+        for line, last in (("go depth 3", "bestmove .*"), ("go movetime 50", "bestmove .*"), ("go infinite", "bestmove .*"), ("isready", "readyok"), ("", None)):
+            ran = subprocess.run([ENGINE], input=line + "\n", capture_output=True, text=True, timeout=runs.MOST_SECONDS)
+            self.assertEqual((ran.returncode, ran.stderr), (0, ""), line)
+            lines = ran.stdout.splitlines()
+            self.assertRegex(lines[-1] if lines else "", last or "^$", line)
+        ran = subprocess.run([ENGINE], input="isready", capture_output=True, text=True, timeout=runs.MOST_SECONDS)
+        self.assertEqual((ran.returncode, ran.stdout), (0, "readyok\n"), "a last line without a line feed")
+
+    def test_a_line_that_is_too_long(self):
+        """As `chess uci` has it: 1,048,576 bytes are read, one more is refused, and the next line is read."""
+        for more, wanted in ((0, "readyok\nreadyok\n"), (1, "info string line too long\nreadyok\n"), (3_000_000, "info string line too long\nreadyok\n")):
+            line = "isready" + " " * (1048576 - 7 + more)
+            ran = subprocess.run([ENGINE], input=f"{line}\nisready\n", capture_output=True, text=True, timeout=runs.MOST_SECONDS)
+            self.assertEqual((ran.returncode, ran.stdout), (0, wanted), more)
+
+    def test_output_that_nobody_reads(self):
+        reader, writer = os.pipe()
+        os.close(reader)
+        ran = subprocess.run([ENGINE], input=b"uci\n", stdout=writer, stderr=subprocess.PIPE, timeout=runs.MOST_SECONDS)
+        os.close(writer)
+        self.assertNotEqual(ran.returncode, 0)
+        with open("/dev/full", "wb") as full:
+            ran = subprocess.run([ENGINE], input=b"uci\n", stdout=full, stderr=subprocess.PIPE, timeout=runs.MOST_SECONDS)
+        self.assertEqual((ran.returncode, ran.stderr), (3, b"jatshegi: the replies can't be written\n"))
+
+    def test_a_terminal(self):
+        ours, its = pty.openpty()
+        process = subprocess.Popen([ENGINE], stdin=its, stdout=its)
+        os.close(its)
+        os.write(ours, b"go infinite\nisready\nstop\nquit\n")
+        said = b""
+        while b"bestmove" not in said and select.select([ours], [], [], SOON)[0]:
+            said += os.read(ours, 4096)
+        self.assertIn(b"readyok", said)
+        self.assertEqual(process.wait(SOON), 0)
+        os.close(ours)
+
+    def test_words(self):
+        for words in (["--help"], ["-h"]):
+            ran = subprocess.run([ENGINE, *words], capture_output=True, text=True)
+            self.assertEqual((ran.returncode, ran.stdout, ran.stderr), (0, runs.help_of("jatshegi"), ""))
+        ran = subprocess.run([ENGINE, "--version"], capture_output=True, text=True)
+        self.assertEqual((ran.returncode, ran.stdout), (0, f"jatshegi {runs.VERSION}\n"))
+        for words in (["go"], ["--record"], ["--record", "a", "b"]):
+            ran = subprocess.run([ENGINE, *words], input="", capture_output=True, text=True)
+            self.assertEqual((ran.returncode, ran.stdout, ran.stderr), (1, "", runs.help_of("jatshegi")), words)
+
+
+def play(count):
+    """Plays so many scripts, and prints the longest times of an answer in a search."""
+    setUpModule()
+    case = TheEngine()
+    with tempfile.TemporaryDirectory() as case.folder:
+        for seed in range(count):
+            case.check_script(seed)
+    longest = {"isready": 0, "stop": 0, "movetime": 0}
+    for seed in range(count // 20):
+        chance, engine = random.Random(seed), Program()
+        engine.say(f"position {chance.choice(POSITIONS[:3])}")
+        engine.say("go infinite")
+        engine.read(chance.random())
+        for word, form in (("isready", "readyok"), ("stop", "bestmove .*")):
+            begin = time.monotonic()
+            engine.say(word)
+            engine.wait(form)
+            longest[word] = max(longest[word], time.monotonic() - begin)
+        budget, begin = chance.randrange(1, 400), time.monotonic()
+        engine.say(f"go movetime {budget}")
+        engine.wait("bestmove .*")
+        longest["movetime"] = max(longest["movetime"], time.monotonic() - begin - budget / 1000)
+        engine.end()
+    print(f"{count} scripts;", ", ".join(f"{word} {1000 * most:.1f} ms" for word, most in longest.items()), "at most (movetime: after its end)")
+
+
+if __name__ == "__main__":
+    if len(sys.argv) > 1:
+        play(int(sys.argv[1]))
+    else:
+        unittest.main()
