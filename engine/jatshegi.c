@@ -47,8 +47,8 @@ static struct jatshegi_keys keys;
 static struct jatshegi_board board;
 static FILE *record;
 
-/* For the handler: what has a root abandoned, and the moment at which that is due. */
-static volatile uint8_t stop;
+/* The flag that has a root abandoned, by two handles: the search's and the handler's. The moment at which the handler is to raise it, whatever the input. */
+static struct jatshegi_stop stop, raised;
 static volatile uint64_t due = UINT64_MAX;
 
 static uint64_t now(void) {
@@ -146,7 +146,7 @@ static void take_slice(void) {
     uint32_t timed = jatshegi_engine_time_left(&board, &left);
     if (timed != JATSHEGI_NONE) check(timed);
     due = timed == JATSHEGI_OK ? now() + left : UINT64_MAX;
-    stop = 0;
+    check(jatshegi_stop_set(&stop, false));
     check(jatshegi_engine_slice_within(&board, UINT64_MAX, &stop, &searched, &visited, replies, sizeof replies, &count));
     search.visited += visited;
     if (searched) note("slice\n");
@@ -162,11 +162,11 @@ static void take_slice(void) {
 
 static void tick(int number) {
     struct pollfd ready = {STDIN_FILENO, POLLIN, 0};
-    struct timespec time;
     int error = errno;
     (void)number;
-    clock_gettime(CLOCK_MONOTONIC, &time);
-    if ((!input.is_over && poll(&ready, 1, 0) > 0) || (uint64_t)time.tv_sec * 1000 + (uint64_t)time.tv_nsec / 1000000 >= due) stop = 1;
+    if ((!input.is_over && poll(&ready, 1, 0) > 0) || now() >= due) {
+        if (jatshegi_stop_set(&raised, true) != JATSHEGI_OK) _exit(3);
+    }
     errno = error;
 }
 
@@ -271,8 +271,12 @@ int main(int count, char **words) {
     if (sigaction(SIGALRM, &action, NULL)) fail("there is no timer");
     jatshegi_keys_fill(&keys);
     check(jatshegi_board_new(&keys, &board));
+    check(jatshegi_stop_new(&stop));
+    check(jatshegi_stop_share(&stop, &raised));
     run();
     set_ticks(false);
+    jatshegi_stop_free(&raised);
+    jatshegi_stop_free(&stop);
     jatshegi_board_free(&board);
     if (record && fclose(record)) fail("the record can't be written");
     return 0;

@@ -59,6 +59,7 @@ enum jatshegi_status {
     JATSHEGI_NO_SUCH = 12,    /* there is no such child */
     JATSHEGI_BAD_COMMENT = 13, /* the comment has a right brace */
     JATSHEGI_NO_GAME = 16,    /* only whitespace follows */
+    JATSHEGI_ABANDONED = 17,  /* the search was abandoned: the positions that it may ask for were not enough, or its flag was found set */
     /* A text is no FEN, or fields are no position: the first fault that applies. */
     JATSHEGI_FEN_FIELDS = 21,       /* neither four nor six fields */
     JATSHEGI_FEN_PLACEMENT = 22,    /* the men are not eight ranks of eight squares */
@@ -177,6 +178,16 @@ struct jatshegi_board {
     void *at;
 };
 #define JATSHEGI_NO_BOARD {false, NULL}
+
+/*
+ * A handle of a flag by which one thread has the searches of another abandoned, or nothing: zeros are nothing. Its fields are for the functions below alone.
+ * A handle that is in use is never copied, and one call at a time uses it; it may be passed to another thread.
+ */
+struct jatshegi_stop {
+    bool full;
+    void *at;
+};
+#define JATSHEGI_NO_STOP {false, NULL}
 
 /* No position has more legal moves, no FEN and no line's answer but those of `path` and `pgn` is longer. */
 enum {
@@ -298,6 +309,27 @@ uint32_t jatshegi_search_best(struct jatshegi_board *board, struct jatshegi_move
 uint32_t jatshegi_search_end(struct jatshegi_board *board);
 
 /*
+ * A flag that isn't set, and a handle of it; another handle of the same flag, for another thread; the flag set, or cleared. What was in a handle that is
+ * written is freed. OK, NO_MEMORY; EMPTY.
+ */
+uint32_t jatshegi_stop_new(struct jatshegi_stop *stop);
+uint32_t jatshegi_stop_share(struct jatshegi_stop *stop, struct jatshegi_stop *other);
+uint32_t jatshegi_stop_set(struct jatshegi_stop *stop, bool set);
+
+/* Frees the handle, if there is one, and with its last handle the flag: then there is none. */
+void jatshegi_stop_free(struct jatshegi_stop *stop);
+
+/*
+ * The same searches, which may be abandoned inside a root move: at the first position beyond `nodes` (UINT64_MAX for no limit), and at each 1,024th position
+ * if the flag of `stop` is found set; `stop` may be a handle of nothing. `visited` is how many positions the call has asked for. At ABANDONED it alone is
+ * written, and the board and its search are as before: what is abandoned begins anew, so a caller who gives numbers of positions doubles them. What
+ * jatshegi_board_best_within asks for takes memory for a line of its own. OK, EMPTY, ARGUMENT, NONE, NO_MEMORY, ABANDONED; OK, EMPTY, NONE, ABANDONED.
+ */
+uint32_t jatshegi_board_best_within(struct jatshegi_board *board, uint8_t depth, uint64_t nodes, struct jatshegi_stop *stop,
+                                    struct jatshegi_move *move, int32_t *value, uint64_t *visited);
+uint32_t jatshegi_search_slice_within(struct jatshegi_board *board, uint64_t nodes, struct jatshegi_stop *stop, size_t *left, uint64_t *visited);
+
+/*
  * A session of the universal chess interface (UCI), driven by events. Each board has one, which knows nothing of the board. The replies are handed out,
  * each on a line of its own, with their length, at most JATSHEGI_MOST_REPLIES; at NO_ROOM the event has happened all the same, and the replies are lost. OK,
  * EMPTY, NO_ROOM.
@@ -307,6 +339,13 @@ uint32_t jatshegi_search_end(struct jatshegi_board *board);
 uint32_t jatshegi_engine_line(struct jatshegi_board *board, const char *line, size_t length, char *replies, size_t room, size_t *count);
 uint32_t jatshegi_engine_slice(struct jatshegi_board *board, char *replies, size_t room, size_t *count);
 uint32_t jatshegi_engine_moment(struct jatshegi_board *board, uint64_t moment, char *replies, size_t room, size_t *count);
+
+/*
+ * A slice that may be abandoned, as those of jatshegi_search_slice_within. `visited` is how many positions it has asked for. Where `searched` is true, it was
+ * made, and all is as after jatshegi_engine_slice; where it is false, it was abandoned: nothing is replied, and the session is as before. OK, EMPTY, NO_ROOM.
+ */
+uint32_t jatshegi_engine_slice_within(struct jatshegi_board *board, uint64_t nodes, struct jatshegi_stop *stop, bool *searched, uint64_t *visited,
+                                      char *replies, size_t room, size_t *count);
 
 /*
  * Whether the session searches, and so wants slices; whether that search is infinite, one that ends by `stop` alone; whether it has done all that it has to

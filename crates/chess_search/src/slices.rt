@@ -5,6 +5,7 @@ ghost use Rattle.chess_search.specs.Slices.{Progress, IsInRange, HasBorder, Goes
 ghost use Rattle.chess_search.specs.Asked.{trees_below};
 ghost use Rattle.chess_search.specs.Watches.{Watched};
 
+use crate::nodes::Nodes;
 use crate::search::{LEAST, Searcher};
 use crate::watch::{AtMost, Endless, Watch};
 use arrayvec::ArrayVec;
@@ -143,6 +144,13 @@ impl Slices {
         self.searcher.begin();
     }
 
+    /// Counts the positions anew: none was asked for yet.
+    pub fn count_anew(&mut self)
+        ensures { self.new ≡ record self.old { nodes = 0 } }
+    {
+        self.searcher.nodes = Nodes::new();
+    }
+
     /// How many plies deep each root is searched.
     pub fn depth(&self) -> u8
         ensures value { result ≡ self.now.depth }
@@ -187,7 +195,7 @@ impl Slices {
         }
     }
 
-    /// The positions whose value this search has asked for, its root included.
+    /// The positions whose value this search has asked for, its root included; or those since they were last counted anew.
     pub fn nodes(&self) -> u64
         ensures { result ≡ self.now.nodes }
     {

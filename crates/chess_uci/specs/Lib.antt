@@ -6,6 +6,7 @@ pub mod Go
 pub mod Placing
 pub mod Machine
 pub mod Events
+pub mod Within
 pub mod Replies
 pub mod Laws
 pub mod steps

@@ -1,14 +1,15 @@
-ghost use Rattle.std.specs.Prelude.{◌≡◌, ◌≤◌, ◌<◌, ◌∷◌, ◌++◌, [], ◌+◌, ◌-◌, ◌==◌, Some, None, option_map, false, length};
+ghost use Rattle.std.specs.Prelude.{◌≡◌, ◌≤◌, ◌<◌, ◌∷◌, ◌++◌, [], ◌+◌, ◌-◌, ◌==◌, Some, None, option_map, is_some, IfSome, IfNone, false, length, min};
 ghost use Rattle.chess_types.specs.board.Lines.{Line as GameLine};
 ghost use Rattle.chess_search.specs.Slices.{GoesWith};
 ghost use Rattle.chess_draws.specs.LineParts.{IsAsBefore};
 ghost use Rattle.chess_uci.specs.Machine.{slice, is_reached, ended_with, info, chosen, first_root, complete};
+ghost use Rattle.chess_uci.specs.Within.{IsWatched, search_size};
 ghost use Rattle.chess_uci.specs.steps.Searches.{GoesOn, search_of, turn_of};
 
 use crate::reply::Reply;
 use arrayvec::ArrayVec;
 use chess_draws::Line;
-use chess_search::Slices;
+use chess_search::{Slices, Watch};
 use chess_types::Move;
 use std::alloc::Allocator;
 
@@ -172,24 +173,42 @@ impl Search {
         }
     }
 
-    /// Searches one root more, if one is left.
-    pub(crate) fn slice<A: Allocator>(&mut self, line: &mut Line<'_, A>) -> Turn
+    /// Searches one root more, if one is left, and says how many positions were asked for; `None` where the watch has it abandoned, and then
+    /// the search is as before.
+    pub(crate) fn slice_within<A: Allocator, W: Watch>(
+        &mut self,
+        line: &mut Line<'_, A>,
+        watch: &mut W,
+        nodes: &mut u64,
+    ) -> Option<Turn>
         requires none { line.old.looked ≡ 0 }
         requires goes { GoesOn line.old.line self.old }
-        ensures turn { turn_of result self.new ≡ slice line.old.line (search_of self.old) }
-        ensures going { result.over ≡ false → GoesOn line.old.line self.new }
+        ensures made { IfSome result (λ turn. turn_of turn self.new ≡ slice line.old.line (search_of self.old)) }
+        ensures abandoned { IfNone result (search_of self.new ≡ search_of self.old) }
+        ensures going { IfSome result (λ turn. turn.over ≡ false → GoesOn line.old.line self.new) }
+        ensures goes { IfNone result (GoesOn line.old.line self.new) }
         ensures begun { self.new.begin ≡ self.old.begin }
+        ensures stays { W.says watch.new ≡ W.says watch.old }
+        ensures watched { IsWatched (W.says watch.old) nodes.new (is_some result) }
+        ensures at_least { min 1 (search_size line.old.line (Some (search_of self.old))) ≤ nodes.new }
+        ensures at_most { nodes.new ≤ search_size line.old.line (Some (search_of self.old)) }
         ensures line { IsAsBefore line.old line.new }
     {
+        *nodes = 0;
         let roots = self.slices.roots().len();
         if self.slices.searched() >= roots {
-            return quiet();
+            return Some(quiet());
         }
-        self.slices.next(line);
+        self.slices.count_anew();
+        let searched = self.slices.next_within(line, watch);
+        *nodes = self.slices.nodes();
+        if !searched {
+            return None;
+        }
         if self.slices.searched() < roots {
-            return quiet();
+            return Some(quiet());
         }
         let best = self.slices.done();
-        self.complete(best)
+        Some(self.complete(best))
     }
 }

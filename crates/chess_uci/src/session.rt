@@ -1,10 +1,11 @@
-ghost use Rattle.std.specs.Prelude.{◌≡◌, ◌⊎◌, max, None, true, is_some};
+ghost use Rattle.std.specs.Prelude.{◌≡◌, ◌⊎◌, ◌≤◌, min, max, None, true, is_some, IfSome, IfNone};
 ghost use Rattle.byte_streams.specs.Words.{words};
 ghost use Rattle.chess_uci.specs.Commands.{gaps, command_in, claims_set as claims_set_of, without_memory, Unplaced};
 ghost use Rattle.chess_uci.specs.Placing.{Grows, placed};
 ghost use Rattle.chess_uci.specs.Machine.{beginning, slice_step, moment_step, line_step, idle_command, placed_at, go, quit, set_claims, introduction, is_infinite, is_waiting, depth_done, so_far, time_left, AsksForMemory, IsAhead};
 ghost use Rattle.chess_uci.specs.steps.Commands.{command_of};
 ghost use Rattle.chess_uci.specs.Events.{Does, Follows};
+ghost use Rattle.chess_uci.specs.Within.{IsWatched, search_size, slice_size};
 ghost use Rattle.chess_search.specs.Slices.{IsInRange};
 
 use crate::command::{Command, claims_set, read_command};
@@ -18,7 +19,7 @@ use crate::search::{Search, Turn, one, silence};
 use arrayvec::ArrayVec;
 use chess_draws::Line;
 use chess_key::KeyTable;
-use chess_search::Slices;
+use chess_search::{Endless, Slices, Watch};
 use chess_types::Move;
 use std::alloc::Allocator;
 use std::marker::Model;
@@ -78,17 +79,38 @@ impl<'a, A: Allocator> Session<'a, A> {
         }
     }
 
+    // A slice of the search that runs.
+    fn search_within<W: Watch>(
+        &mut self,
+        watch: &mut W,
+        nodes: &mut u64,
+    ) -> Option<ArrayVec<Reply, 4>>
+        ensures made { IfSome result (λ replies. Does (slice_step self.old.search self.old) replies.items self.new) }
+        ensures abandoned { IfNone result (self.new ≡ self.old) }
+        ensures stays { W.says watch.new ≡ W.says watch.old }
+        ensures watched { IsWatched (W.says watch.old) nodes.new (is_some result) }
+        ensures at_least { min 1 (search_size self.old.line self.old.search) ≤ nodes.new }
+        ensures at_most { nodes.new ≤ search_size self.old.line self.old.search }
+    {
+        *nodes = 0;
+        let Some(search) = &mut self.search else {
+            return Some(silence());
+        };
+        let Turn { replies, over } = search.slice_within(&mut self.line, watch, nodes)?;
+        if over {
+            self.search = None;
+        }
+        Some(replies)
+    }
+
     // There is time to search one root more.
     fn slice(&mut self) -> ArrayVec<Reply, 4>
         ensures { Does (slice_step self.old.search self.old) result.items self.new }
     {
-        let Some(search) = &mut self.search else {
-            return silence();
+        let mut nodes = 0;
+        let Some(replies) = self.search_within(&mut Endless, &mut nodes) else {
+            unreachable!();
         };
-        let Turn { replies, over } = search.slice(&mut self.line);
-        if over {
-            self.search = None;
-        }
         replies
     }
 
@@ -236,6 +258,30 @@ impl<'a, A: Allocator> Session<'a, A> {
             Event::Slice => self.slice(),
             Event::Moment(moment) => self.reach(moment),
         }
+    }
+
+    /// A slice that a watch may have abandoned: what `Event::Slice` is replied, or `None` where it was abandoned, and then the session is as before. The watch
+    /// is asked at each position, with the number of those that this slice has asked for, the first being 1; `nodes` says how many they were.
+    pub fn slice_within<W: Watch>(
+        &mut self,
+        watch: &mut W,
+        nodes: &mut u64,
+    ) -> Option<ArrayVec<Reply, 4>>
+        ensures made { IfSome result (λ replies. Follows self.old Event.Slice replies.items self.new) }
+        ensures abandoned { IfNone result (self.new ≡ self.old) }
+        // It is abandoned where the watch says that the time is up, and nowhere else.
+        ensures stays { W.says watch.new ≡ W.says watch.old }
+        ensures watched { IsWatched (W.says watch.old) nodes.new (is_some result) }
+        // One position at least is asked for where a root is left, and no more than plain minimax asks for it.
+        ensures at_least { min 1 (slice_size self.old) ≤ nodes.new }
+        ensures at_most { nodes.new ≤ slice_size self.old }
+    {
+        *nodes = 0;
+        if self.ended {
+            return Some(silence());
+        }
+        let replies = self.search_within(watch, nodes)?;
+        Some(replies)
     }
 
     /// Whether a search runs.
