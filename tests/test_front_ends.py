@@ -17,6 +17,7 @@ import runs
 GAMES = "/usr/games"
 ENVIRONMENT = {**os.environ, "PATH": os.environ["PATH"] + ":" + GAMES}
 CHESS = f"{runs.TOP}/chess"
+ENGINE = f"{runs.TOP}/release/x86_64-linux/bin/jatshegi"
 # Of GNOME Chess in a screen of 1,024 by 768: the upper left corner of the board, and a square's side.
 LEFT, UPPER, SIDE = 320, 191, 48
 
@@ -88,11 +89,11 @@ def play_white(log):
 def gnome():
     """Plays a game in GNOME Chess, and prints it. A script between it and the engine of the README's lines keeps what is answered, two plies deep."""
     folder = tempfile.mkdtemp()
-    lines = lines_for("GNOME Chess").replace(f"binary={CHESS}", f"binary={folder}/logged")
+    lines = lines_for("GNOME Chess").replace(f"binary={ENGINE}", f"binary={folder}/logged")
     quick = "printf 'uci-go-option-easy-0=depth 2\\n' >> engines.conf"
     subprocess.run(["sh", "-ec", lines + quick], env={**os.environ, "HOME": folder}, check=True)
     with open(f"{folder}/logged", "w", encoding="utf-8") as script:
-        script.write(f'#!/bin/sh\n{CHESS} "$@" | tee -a {folder}/log\n')
+        script.write(f'#!/bin/sh\n{ENGINE} "$@" | tee -a {folder}/log\n')
     os.chmod(f"{folder}/logged", 0o755)
     with open(f"{folder}/game.pgn", "w", encoding="utf-8") as game:
         game.write(runs.SEVEN_TAGS % "*" + '[X-GNOME-BlackAI "Jatshegi"]\n[X-GNOME-BlackLevel "easy"]\n\n*\n')

@@ -90,7 +90,9 @@ class Used(unittest.TestCase):
         self.assertEqual([(row["number"], row["white"], row["agrees"]) for row in rows], [(2, None, None), (3, "c", False)])
         ran = called(f"{folder}/perft", input="3 rnbqkbnr/pppppppp/8/8/8/8/PPPPPPPP/RNBQKBNR w KQkq - 0 1\n")
         self.assertEqual(ran.stdout, "8902\n")
-        for name in ("chess", "chess_games", "arbiter", "perft"):
+        ran = called(f"{folder}/jatshegi", input="position startpos moves f2f3 e7e5 g2g4\ngo depth 1\n")
+        self.assertEqual((ran.returncode, ran.stdout.splitlines()[-1]), (0, "bestmove d8h4"))
+        for name in ("chess", "jatshegi", "chess_games", "arbiter", "perft"):
             self.assertEqual(called(f"{folder}/{name}", "--version").stdout, f"{name} {runs.VERSION}\n")
             self.assertIn(f"Jatshegi {runs.VERSION}", called(f"{folder}/{name}", "--help").stdout)
 
@@ -234,7 +236,7 @@ class Installed(Used):
 
     def test_the_completions(self):
         """What bash offers after a program's name are the options and words of its help."""
-        for name in ("chess", "chess_games", "arbiter", "perft"):
+        for name in ("chess", "jatshegi", "chess_games", "arbiter", "perft"):
             words = f". {runs.TOP}/completions/{name}.bash && _{name} {name} '' {name} && echo ${{COMPREPLY[*]}}"
             offered = set(called("bash", "-c", words).stdout.split())
             help_ = called(f"{runs.TOP}/release/x86_64-linux/bin/{name}", "--help").stdout

@@ -13,6 +13,7 @@ import runs
 SYSTEM = "x86_64-linux"
 PROGRAM = f"{SYSTEM}/bin/chess"
 OTHERS = ("arbiter", "chess_games", "perft")
+ENGINE = f"{SYSTEM}/bin/jatshegi"
 LIBRARIES = ("libjatshegi.a", "libjatshegi.so.0")
 # The system's own folders: no kit is on this path.
 BARE = {"PATH": "/usr/bin:/bin"}
@@ -73,7 +74,7 @@ class TheRelease(unittest.TestCase):
         for folder, _, names in os.walk(f"{runs.TOP}/release"):
             found.update(os.path.relpath(f"{folder}/{name}", f"{runs.TOP}/release") for name in names)
         self.assertEqual(found - {"MANIFEST", "chess.sources", "all.sources"}, set(manifest()[1]))
-        self.assertEqual(set(manifest()[1]), {PROGRAM, *(f"{SYSTEM}/bin/{it}" for it in OTHERS), *(f"{SYSTEM}/lib/{it}" for it in LIBRARIES)})
+        self.assertEqual(set(manifest()[1]), {PROGRAM, ENGINE, *(f"{SYSTEM}/bin/{it}" for it in OTHERS), *(f"{SYSTEM}/lib/{it}" for it in LIBRARIES)})
 
     def test_the_module_of_the_page_is_as_the_manifest_says(self):
         """tests/test_web.py asks whether its sources are those of the repository."""
@@ -108,6 +109,7 @@ class TheRelease(unittest.TestCase):
             self.skipTest("the release was built by another kit or compiler")
         for name in LIBRARIES:
             self.assertEqual(sum_of(read(f"{runs.TOP}/release/{SYSTEM}/lib/{name}")), sum_of(read(f"{runs.TOP}/out/{name}")), name)
+        self.assertEqual(sum_of(read(f"{runs.TOP}/release/{ENGINE}")), sum_of(read(f"{runs.TOP}/out/jatshegi")), ENGINE)
 
     def test_the_module_of_the_page_is_the_one_just_built(self):
         """To the byte under the same kit; tests/test_web.py tries it."""
