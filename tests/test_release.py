@@ -112,11 +112,19 @@ class TheRelease(unittest.TestCase):
         self.assertEqual(sum_of(read(f"{runs.TOP}/release/{ENGINE}")), sum_of(read(f"{runs.TOP}/out/jatshegi")), ENGINE)
 
     def test_the_module_of_the_page_is_the_one_just_built(self):
-        """To the byte under the same kit; tests/test_web.py tries it."""
+        """To the byte under the same kit, and lowered to a 32-bit memory under the same binaryen; tests/test_web.py tries it."""
         if manifest()[0]["kit"] != tool_version("rt", "version"):
             self.skipTest("the module was built by another kit")
         runs.make("prove", "--wasm", "chess_web")
-        self.assertEqual(sum_of(read(f"{runs.TOP}/web/jatshegi.wasm")), sum_of(read(f"{runs.TOP}/crates/chess_web/out/chess_web.wasm")))
+        path, size, digest = manifest()[0]["whole"].split()
+        built = read(f"{runs.TOP}/{path}")
+        self.assertEqual((len(built), sum_of(built)), (int(size), digest), "make release/ anew: tools/release")
+        with tempfile.TemporaryDirectory() as folder:
+            lowered = subprocess.run([f"{runs.TOP}/tools/lower", f"{runs.TOP}/{path}", f"{folder}/lowered.wasm"], capture_output=True, text=True)
+            if lowered.returncode == 127:
+                self.skipTest("binaryen 108 is not installed: the module is not lowered again")
+            self.assertEqual(lowered.returncode, 0, lowered.stderr)
+            self.assertEqual(sum_of(read(f"{runs.TOP}/web/jatshegi.wasm")), sum_of(read(f"{folder}/lowered.wasm")))
 
 
 class ADifference(unittest.TestCase):

@@ -662,14 +662,23 @@ class InTheBrowser(unittest.TestCase):
         finally:
             self.browser.execute_cdp_cmd("Emulation.clearDeviceMetricsOverride", {})
 
-    def test_a_browser_without_64_bit_memories_is_told_so(self):
-        added = self.browser.execute_cdp_cmd("Page.addScriptToEvaluateOnNewDocument", {"source": "WebAssembly.validate = () => false"})
-        try:
-            self.browser.get(f"http://127.0.0.1:{server.server_port}/index.html")
-            self.page.until(lambda: "no 64-bit WebAssembly memories" in self.page.text("lacking"), "it is said")
-            self.assertFalse(self.page.at("main").is_displayed())
-        finally:
-            self.browser.execute_cdp_cmd("Page.removeScriptToEvaluateOnNewDocument", {"identifier": added["identifier"]})
+    def test_a_browser_that_cannot_begin_the_board_says_so(self):
+        """It refuses the module, or the worker is not to be had."""
+        for name in ("jatshegi.wasm", "worker.js"):
+            with self.subTest(lacks=name), tempfile.TemporaryDirectory() as folder:
+                shutil.copytree(WEB, f"{folder}/web")
+                with open(f"{folder}/web/{name}", "wb") as file:
+                    file.write(b"}")
+                spoilt = serve(f"{folder}/web")
+                try:
+                    self.browser.get(f"http://127.0.0.1:{spoilt.server_port}/index.html")
+                    self.page.until(lambda: "The board could not be begun" in self.page.text("lacking"), "it is said")
+                    self.assertFalse(self.page.at("main").is_displayed())
+                finally:
+                    # (before its server is gone, the page is)
+                    self.browser.get("about:blank")
+                    self.browser.get_log("browser")
+                    stop(spoilt)
 
     def test_every_control_has_a_name_and_nothing_comes_from_elsewhere(self):
         unnamed = self.page.script("""

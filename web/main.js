@@ -1,5 +1,5 @@
 // The page: carries what a person does to the module as lines, and draws what it answers.
-import { hasMemory64, toBytes, fromBytes } from './module.js';
+import { toBytes, fromBytes } from './module.js';
 import { Board, man, named } from './board.js';
 import { marker, parts, rows, shown, tagLine, typed } from './pgn.js';
 
@@ -56,6 +56,11 @@ const startWorker = () => {
     waiting.delete(data.id);
     if (data.error) it.failed(new Error(data.error));
     else it.done(data.result);
+  };
+  // (a worker that could not be loaded answers nothing)
+  worker.onerror = (event) => {
+    for (const it of waiting.values()) it.failed(new Error(event.message || 'its worker did not start'));
+    waiting.clear();
   };
 };
 
@@ -712,10 +717,6 @@ const lacks = (text) => {
 };
 
 const main = async () => {
-  if (!hasMemory64()) {
-    lacks('This browser has no 64-bit WebAssembly memories (memory64), which the board needs. Chrome and Edge have them from 133 on, Firefox from 134 on.');
-    return;
-  }
   startWorker();
   view = new Board(by('board'), { wants: move, asks: askPromotion });
   commands();
@@ -734,4 +735,4 @@ const main = async () => {
   document.documentElement.dataset.ready = 'yes';
 };
 
-main().catch((error) => lacks(`The board could not be begun: ${error.message}`));
+main().catch((error) => lacks(`The board could not be begun: ${error.message}. Chrome and Edge from 97 on, Firefox from 114 on and Safari from 15.4 on have what it needs.`));

@@ -1,14 +1,5 @@
 // The module in WebAssembly: its memory, and its functions over byte strings (a string whose characters are bytes). Nothing here knows chess.
 
-/** Whether the browser has 64-bit memories, by a module that has one and nothing else. */
-export const hasMemory64 = () => {
-  try {
-    return WebAssembly.validate(new Uint8Array([0, 97, 115, 109, 1, 0, 0, 0, 5, 3, 1, 4, 1]));
-  } catch {
-    return false;
-  }
-};
-
 export const toBytes = (text) => {
   const bytes = new Uint8Array(text.length);
   for (let i = 0; i < text.length; i++) bytes[i] = text.charCodeAt(i);
@@ -77,13 +68,7 @@ class Session {
   grow(size) {
     const lacks = size - this.exports.memory.buffer.byteLength;
     if (lacks <= 0) return;
-    const pages = Math.ceil(lacks / UNIT);
-    try {
-      this.exports.memory.grow(BigInt(pages));
-    } catch (error) {
-      if (!(error instanceof TypeError)) throw error;
-      this.exports.memory.grow(pages);
-    }
+    this.exports.memory.grow(Math.ceil(lacks / UNIT));
   }
 
   // Puts a text where the module reads it, and returns its address and length.
