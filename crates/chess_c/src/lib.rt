@@ -21,3 +21,4 @@ mod searches;
 mod session;
 mod slot;
 mod squares;
+mod stop;

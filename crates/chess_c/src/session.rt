@@ -4,17 +4,20 @@ ghost use Rattle.chess_cli.specs.Answers.{Tells};
 ghost use Rattle.chess_cli.specs.Requests.{request};
 ghost use Rattle.chess_slots.specs.Answers.{IsReplied};
 ghost use Rattle.chess_slots.specs.Handed.{IsAnsweredBy};
+ghost use Rattle.chess_slots.specs.Within.{IsRepliedWithin, says_within};
 ghost use Rattle.chess_c.specs.Asked.{IsBest};
 ghost use Rattle.chess_c.specs.Held.{beginning};
 ghost use Rattle.chess_c.specs.Loads.{LoadsFrom};
-ghost use Rattle.chess_c.specs.Searches.{IsBegunFrom, SlicedFrom, best_of};
+ghost use Rattle.chess_c.specs.Searches.{IsBegunFrom, SlicedFrom, SlicedWithinFrom, best_of};
 
 use crate::moves::CMove;
 use crate::search::Search;
 use chess_cli::Board;
 use chess_key::KeyTable;
 use chess_loop::OutputBuffer;
-use chess_slots::{ARGUMENT, MEMORY, NO_GAME, NONE, OK, answer, refused, reply};
+use chess_slots::{
+    ABANDONED, ARGUMENT, MEMORY, NO_GAME, NONE, OK, Within, answer, refused, reply, reply_within,
+};
 use chess_tree::TreeFault;
 use chess_types::Move;
 use chess_uci::{Event, Session as Uci};
@@ -79,6 +82,30 @@ impl Session {
         reply(&mut self.engine, &mut self.page, event, room, count)
     }
 
+    /// What a slice that may be abandoned is replied, each reply on a line of its own.
+    pub fn slice_of_engine(
+        &mut self,
+        mut watch: Within<'_>,
+        visited: &mut u64,
+        searched: &mut bool,
+        room: &mut [u8],
+        count: &mut usize,
+    ) -> u32
+        ensures engine { IsRepliedWithin (says_within watch.nodes (is_some watch.flag)) self.old.engine self.new.engine visited.new searched.new result count.new room.old room.new }
+        ensures board { self.new.board ≡ self.old.board }
+        ensures search { self.new.search ≡ self.old.search }
+    {
+        reply_within(
+            &mut self.engine,
+            &mut self.page,
+            &mut watch,
+            visited,
+            searched,
+            room,
+            count,
+        )
+    }
+
     /// Whether the engine searches.
     pub fn searching(&self) -> bool
         ensures { result ≡ is_some self.now.engine.search }
@@ -131,6 +158,27 @@ impl Session {
             return NONE;
         };
         search.next();
+        *left = search.left();
+        OK
+    }
+
+    /// Searches one root more, unless that is abandoned, and says how many are left.
+    pub fn slice_within(
+        &mut self,
+        mut watch: Within<'_>,
+        left: &mut usize,
+        visited: &mut u64,
+    ) -> u32
+        ensures search { SlicedWithinFrom (says_within watch.nodes (is_some watch.flag)) self.old.search result left.old left.new visited.old visited.new self.new.search }
+        ensures board { self.new.board ≡ self.old.board }
+        ensures engine { self.new.engine ≡ self.old.engine }
+    {
+        let Some(search) = &mut self.search else {
+            return NONE;
+        };
+        if !search.next_within(&mut watch, visited) {
+            return ABANDONED;
+        }
         *left = search.left();
         OK
     }
