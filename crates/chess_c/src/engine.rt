@@ -2,8 +2,9 @@ ghost use Rattle.std.specs.Prelude.{◌≡◌, is_some};
 ghost use Rattle.chess_slots.specs.Within.{says_within};
 ghost use Rattle.chess_c.specs.Calls.{IsReplying, IsReplyingWithin, IsSearching};
 
+use crate::flag::within;
 use crate::slot::{Slot, put, take};
-use crate::stop::{Stop, put_stop, take_stop, within};
+use crate::stop::{Stop, put_stop, take_stop};
 use chess_slots::{EMPTY, OK};
 use chess_uci::Event;
 use std::alloc::Global;
@@ -73,8 +74,7 @@ pub extern "C" fn jatshegi_engine_slice_within(
         return EMPTY;
     };
     let flag = take_stop(stop, alloc);
-    let code =
-        session.slice_of_engine(within(nodes, &flag), visited, searched, replies, count);
+    let code = session.slice_of_engine(within(nodes, &flag), visited, searched, replies, count);
     put_stop(stop, flag, alloc);
     put(slot, session, alloc);
     code

@@ -2,9 +2,10 @@ ghost use Rattle.std.specs.Prelude.{◌≡◌, is_some};
 ghost use Rattle.chess_slots.specs.Within.{says_within};
 ghost use Rattle.chess_c.specs.Searches.{IsBegun, IsEnded, IsSliced, IsSlicedWithin, IsSoFar};
 
+use crate::flag::within;
 use crate::moves::CMove;
 use crate::slot::{Slot, put, take};
-use crate::stop::{Stop, put_stop, take_stop, within};
+use crate::stop::{Stop, put_stop, take_stop};
 use chess_slots::{EMPTY, OK};
 use std::alloc::Global;
 

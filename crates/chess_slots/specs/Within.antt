@@ -1,5 +1,5 @@
 -- Searches that may be abandoned.
---   says_within      what a watch over a number of positions and a flag says, of which the flag is looked at at each 1,024th position
+--   says_within      what a watch over a number of positions and a flag says: the flag is looked at at the first position and at each 1,024th after it
 --   IsRepliedWithin  of a slice of an engine: it was made, and the replies to it are handed out, or it was abandoned, and all is as before
 use Rattle.std.specs.Prelude.{◌≡◌, ◌≤◌, ℕ, ◌%◌, ◌==◌, min, nat_lt, Bool, true, false, ◌&&◌, if◌then◌else◌, List, [], Option, Some, None}
 use Rattle.chess_uci.specs.declared.event.Event.TheVariants.{Slice}
@@ -10,9 +10,9 @@ use Rattle.chess_uci.specs.Within.{IsWatched, slice_size}
 use Rattle.chess_cli.specs.TimedSessions.{reply_lines}
 use Rattle.chess_slots.specs.Handed.{IsHanded}
 
--- yes beyond so many; either at each 1,024th, where there is a flag; else no
+-- yes beyond so many; either where a flag is looked at, if there is one; else no
 abbrev pub says_within : (nodes : ℕ) → (flagged : Bool) → ℕ → Option Bool
-says_within nodes flagged n = if nat_lt nodes n then Some true else if flagged && n % 1024 == 0 then None else Some false
+says_within nodes flagged n = if nat_lt nodes n then Some true else if flagged && n % 1024 == 1 then None else Some false
 
 -- the replies to a slice that was made; none, and the engine as before, where it was abandoned
 abbrev pub RepliesIf : Bool → (old new : State) → List Reply → Type 0

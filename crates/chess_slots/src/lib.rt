@@ -21,8 +21,8 @@ mod within;
 pub use along::cursor_line;
 pub use answers::{answer, reply, reply_within};
 pub use codes::{
-    ABANDONED, ARGUMENT, AT_ROOT, EMPTY, FORM, ILLEGAL, MEMORY, NO_GAME, NONE, OK, ROOM, fault_code,
-    outcome_code,
+    ABANDONED, ARGUMENT, AT_ROOT, EMPTY, FORM, ILLEGAL, MEMORY, NO_GAME, NONE, OK, ROOM,
+    fault_code, outcome_code,
 };
 pub use games::{game, passed, refused, report};
 pub use loads::load;

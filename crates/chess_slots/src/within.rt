@@ -4,7 +4,8 @@ ghost use Rattle.std.specs.Prelude.{is_some};
 use chess_search::Watch;
 use std::sync::atomic::{AtomicBool, Ordering};
 
-/// The time is up at the first position beyond so many, and where the flag, if there is one, is found set, which is looked at at each 1,024th position.
+/// The time is up at the first position beyond so many, and where the flag, if there is one, is found set: it is looked at at the first position, and at each
+/// 1,024th after it.
 pub struct Within<'f> {
     /// How many positions.
     pub nodes: u64,
@@ -23,7 +24,7 @@ impl Watch for Within<'_> {
             return true;
         }
         match self.flag {
-            Some(flag) => nodes % 1024 == 0 && flag.load(Ordering::SeqCst),
+            Some(flag) => nodes % 1024 == 1 && flag.load(Ordering::SeqCst),
             None => false,
         }
     }

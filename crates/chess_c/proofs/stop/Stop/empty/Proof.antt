@@ -16,7 +16,7 @@ use denote.Triple.Walked.{Stays, walk_of}
 use Rattle.std.proofs.raw_atomic.Walks.{proved_at, leaves}
 use Rattle.chess_slots.proofs.SlotValues.{slot_val, slot_in}
 use Rattle.chess_c.specs.Slots.{may_free}
-use Rattle.chess_c.specs.contracts.stop.Flag as flag
+use Rattle.chess_c.specs.contracts.flag.Flag as flag
 use Rattle.chess_c.specs.contracts.stop.Stop as slot
 use Rattle.chess_c.specs.contracts.stop.Stop.empty as f
 use Rattle.chess_c.proofs.stop.Stop.empty.Statement.{statement}

@@ -34,7 +34,7 @@ use Rattle.std.specs.contracts.impls.GlobalAllocator.TheImpl as heap_impl
 use denote.Param.Laws.{Laws}
 use Rattle.core.specs.declared.alloc.Allocator.{Ghosts}
 use Rattle.chess_c.specs.Slots.{may_free}
-use Rattle.chess_c.specs.contracts.stop.Flag as flag
+use Rattle.chess_c.specs.contracts.flag.Flag as flag
 use Rattle.chess_c.specs.contracts.stop.Stop as slot
 use Rattle.chess_c.specs.contracts.stop.Stop.loose as f
 use Rattle.chess_c.proofs.stop.Stop.loose.Statement.{statement}
