@@ -1,6 +1,6 @@
 -- What is said of a call on a slot that is known to hold a board.
 use Rattle.std.proofs.Common.{◌≡◌, ◌∙◌, ℕ, List, ap, sym, subst}
-use Rattle.std.specs.Prelude.{Option, Some, Result}
+use Rattle.std.specs.Prelude.{Bool, Option, Some, Result}
 use Rattle.chess_tree.specs.GameTree.{TreeParts}
 use Rattle.chess_uci.specs.declared.event.Event.{Event}
 use Rattle.chess_uci.specs.Machine.{State}
@@ -9,11 +9,12 @@ use Rattle.chess_cli.specs.Answers.{Tells}
 use Rattle.chess_cli.specs.Requests.{request}
 use Rattle.chess_slots.specs.Answers.{IsReplied}
 use Rattle.chess_slots.specs.Handed.{IsAnsweredBy}
-use Rattle.chess_c.specs.Calls.{Acts, IsAnswered, IsReplying}
+use Rattle.chess_slots.specs.Within.{IsRepliedWithin}
+use Rattle.chess_c.specs.Calls.{Acts, IsAnswered, IsReplying, IsReplyingWithin}
 use Rattle.chess_c.specs.Codes.{ended_code}
 use Rattle.chess_c.specs.Held.{Held, Searching, with_board, with_engine, with_search}
 use Rattle.chess_c.specs.Loads.{Loads, LoadsFrom}
-use Rattle.chess_c.specs.Searches.{IsBegun, IsBegunFrom, IsSliced, SlicedFrom}
+use Rattle.chess_c.specs.Searches.{IsBegun, IsBegunFrom, IsSliced, IsSlicedWithin, SlicedFrom, SlicedWithinFrom}
 
 pub acts_some : (ends : TreeParts → Result (Unit {0}) Refusal → TreeParts → Type 0) → (old new : Option Held) → (held : Held) → (after : TreeParts)
     → (ended : Result (Unit {0}) Refusal) → (code : ℕ) → old ≡ Some held → new ≡ Some (with_board after held) → code ≡ ended_code ended → ends held.board ended after → Acts ends old code new
@@ -44,6 +45,13 @@ pub replying_some : (event : Event) → (old new : Option Held) → (held after 
 replying_some event old new held after code count count' room room' is en kb ks replied =
     subst (λ (o : Option Held). IsReplying event o code count count' room room' new) (sym is) (after.engine, replied, en ∙ ap (λ (h : Held). Some h) (same_but_engine held after kb ks))
 
+pub replying_within_some : (says : ℕ → Option Bool) → (old new : Option Held) → (held after : Held) → (nodes nodes' : ℕ) → (made made' : Bool) → (code count count' : ℕ)
+    → (room room' : List ℕ) → old ≡ Some held → new ≡ Some after → after.board ≡ held.board → after.search ≡ held.search
+    → IsRepliedWithin says held.engine after.engine nodes' made' code count' room room' → IsReplyingWithin says old nodes nodes' made made' code count count' room room' new
+replying_within_some says old new held after nodes nodes' made made' code count count' room room' is en kb ks replied =
+    subst (λ (o : Option Held). IsReplyingWithin says o nodes nodes' made made' code count count' room room' new) (sym is)
+    (after.engine, replied, en ∙ ap (λ (h : Held). Some h) (same_but_engine held after kb ks))
+
 pub begun_some : (depth : ℕ) → (old new : Option Held) → (held after : Held) → (code : ℕ) → old ≡ Some held → new ≡ Some after → after.board ≡ held.board → after.engine ≡ held.engine
     → IsBegunFrom depth held.board code held.search after.search → IsBegun depth old code new
 begun_some depth old new held after code is en kb ke begun =
@@ -53,6 +61,13 @@ pub sliced_some : (old new : Option Held) → (held after : Held) → (code said
     → SlicedFrom held.search code said said' after.search → IsSliced old code said said' new
 sliced_some old new held after code said said' is en kb ke sliced =
     subst (λ (o : Option Held). IsSliced o code said said' new) (sym is) (after.search, sliced, en ∙ ap (λ (h : Held). Some h) (same_but_search held after kb ke))
+
+pub sliced_within_some : (says : ℕ → Option Bool) → (old new : Option Held) → (held after : Held) → (code said said' nodes nodes' : ℕ) → old ≡ Some held → new ≡ Some after
+    → after.board ≡ held.board → after.engine ≡ held.engine → SlicedWithinFrom says held.search code said said' nodes nodes' after.search
+    → IsSlicedWithin says old code said said' nodes nodes' new
+sliced_within_some says old new held after code said said' nodes nodes' is en kb ke sliced =
+    subst (λ (o : Option Held). IsSlicedWithin says o code said said' nodes nodes' new) (sym is)
+    (after.search, sliced, en ∙ ap (λ (h : Held). Some h) (same_but_search held after kb ke))
 
 pub loaded_some : (text : List ℕ) → (old new : Option Held) → (held after : Held) → (code used used' : ℕ) → old ≡ Some held → new ≡ Some after → after.search ≡ held.search → after.engine ≡ held.engine
     → LoadsFrom text held.board code used used' after.board → Loads text old code used used' new

@@ -6,11 +6,12 @@
 --   IsWritten    the text of a move in standard algebraic notation
 --   IsBest       the best move and its value
 --   IsBestAt     the same for a depth of 1 to 16 plies
+--   IsBestWithin   the same, unless the search for it is abandoned, or there is no memory
 --   IsMoveHere   the move that leads to a node, or that it is the root
 --   flag         1 for what holds
 --   attackers_of   the men of a colour that attack a square, as a word: the bit of each man's square is 1
 --   IsAttackedBy   that word, for numbers that are a colour and a square
-use Rattle.std.specs.Prelude.{◌≡◌, ℕ, ℤ, nat_le, nat_lt, Bool, true, false, ◌&&◌, List, Option, Some, None, Result, Ok, Err}
+use Rattle.std.specs.Prelude.{◌≡◌, ◌⊎◌, ◌<◌, ◌≤◌, ℕ, ◌+◌, ◌-◌, ℤ, nat_le, nat_lt, Bool, true, false, ◌&&◌, List, [], length, Option, Some, None, Result, Ok, Err}
 use Rattle.chess_types.specs.declared.board.man.Colour.{Colour}
 use Rattle.chess_types.specs.declared.board.man.Man.{Man}
 use Rattle.chess_types.specs.declared.board.outcome.Claims.{Claims}
@@ -23,13 +24,15 @@ use Rattle.chess_types.specs.board.Lines.{Line, last}
 use Rattle.chess_types.specs.board.Outcome.{claims_with}
 use Rattle.chess_san.specs.declared.fault.SanFault.{SanFault}
 use Rattle.chess_san.specs.Writing.{san}
+use Rattle.chess_search.specs.Asked.{trees_below}
 use Rattle.chess_search.specs.Best.{best}
+use Rattle.chess_search.specs.Watches.{Watched}
 use Rattle.chess_tree.specs.GameTree.{TreeParts}
 use Rattle.chess_cli.specs.declared.board_command.refusal.Refusal.TheVariants.{Argument, AtRoot, Illegal}
 use Rattle.chess_cli.specs.Refusals.{san_refusal}
 use Rattle.chess_cli.specs.Answers.{Effect, Refuses, is_new, move_effect}
 use Rattle.chess_c.specs.declared.moves.CMove.{CMove}
-use Rattle.chess_slots.specs.Codes.{none_best, ok}
+use Rattle.chess_slots.specs.Codes.{no_memory, none_best, ok, was_abandoned}
 use Rattle.chess_slots.specs.Handed.{IsHanded}
 use Rattle.chess_c.specs.Codes.{claims_code, refusal_code}
 use Rattle.chess_c.specs.Moves.{shown}
@@ -82,6 +85,34 @@ BestIf false line depth code said said' value value' = (code ≡ refusal_code Ar
 -- the same for a depth from 1 to 16
 abbrev pub IsBestAt : Line → (depth code : ℕ) → (said said' : CMove) → (value value' : ℤ) → Type 0
 IsBestAt line depth code said said' value value' = BestIf (nat_le 1 depth && nat_le depth 16) line depth code said said' value value'
+
+-- what a search of all legal moves asks for: the line itself and each move where it isn't abandoned, and no more than plain minimax
+pub record AsksWithin (says : ℕ → Option Bool) (line : Line) (depth : ℕ) (made : Bool) (nodes : ℕ) : Type 0 where
+  pub watched : Watched says 1 nodes made
+  pub at_least : made ≡ true → length (legal_moves (last line)) + 1 ≤ nodes
+  pub at_most : nodes ≤ 1 + trees_below false (depth - 1) line (legal_moves (last line))
+
+-- by whether it was abandoned
+abbrev pub BestUnless : Bool → Option (MoveParts × ℤ) → ℕ → (said said' : CMove) → (value value' : ℤ) → Type 0
+BestUnless true found code said said' value value' = IsBest found code said said' value value'
+BestUnless false found code said said' value value' = (code ≡ was_abandoned) × (said' ≡ said) × (value' ≡ value)
+
+-- the best of all legal moves, of which there are some, and how many positions were asked for
+abbrev pub BestFound : (says : ℕ → Option Bool) → Line → (depth code : ℕ) → (said said' : CMove) → (value value' : ℤ) → ℕ → Type 0
+BestFound says line depth code said said' value value' nodes =
+    (0 < length (legal_moves (last line)))
+    × ((made : Bool) × AsksWithin says line depth made nodes × BestUnless made (best false depth line (legal_moves (last line))) code said said' value value')
+
+-- why nothing was searched: the depth is none, there is no legal move, or no memory
+abbrev pub IsUnsearched : Line → (depth code : ℕ) → Type 0
+IsUnsearched line depth code =
+    ((code ≡ refusal_code Argument) × ((depth ≡ 0) ⊎ (16 < depth))) ⊎ ((code ≡ none_best) × (legal_moves (last line) ≡ [])) ⊎ (code ≡ no_memory)
+
+-- the best move at a depth from 1 to 16, unless that is abandoned as a watch says, or nothing is searched
+abbrev pub IsBestWithin : (says : ℕ → Option Bool) → Line → (depth code : ℕ) → (said said' : CMove) → (value value' : ℤ) → (nodes nodes' : ℕ) → Type 0
+IsBestWithin says line depth code said said' value value' nodes nodes' =
+    ((1 ≤ depth) × (depth ≤ 16) × BestFound says line depth code said said' value value' nodes')
+    ⊎ (IsUnsearched line depth code × (said' ≡ said) × (value' ≡ value) × (nodes' ≡ nodes))
 
 -- the move that leads to a node is handed out; none leads to the root
 abbrev pub IsMoveHere : Option MoveParts → ℕ → (said said' : CMove) → Type 0

@@ -5,6 +5,7 @@
 --   IsReplying   of an event: the engine replies to it (`IsReplied`)
 --   IsSearching, IsInfinite, IsWaiting, IsEnded   what is shown of the engine: whether it searches, without an end of its own, and waits for `stop`; whether `quit` came
 --   IsTimed      after how many milliseconds the clock ends the search; the status of none where it ends none
+--   IsReplyingWithin   of a slice that may be abandoned (`IsRepliedWithin`)
 use Rattle.std.specs.Prelude.{◌≡◌, ℕ, Bool, List, Option, Some, None, is_some, Result}
 use Rattle.chess_tree.specs.GameTree.{TreeParts}
 use Rattle.chess_uci.specs.declared.event.Event.{Event}
@@ -15,6 +16,7 @@ use Rattle.chess_cli.specs.Requests.{request}
 use Rattle.chess_slots.specs.Answers.{IsReplied}
 use Rattle.chess_slots.specs.Codes.{empty_slot, none_best, ok}
 use Rattle.chess_slots.specs.Handed.{IsAnsweredBy}
+use Rattle.chess_slots.specs.Within.{IsRepliedWithin}
 use Rattle.chess_c.specs.Codes.{ended_code}
 use Rattle.chess_c.specs.Held.{Held, with_board, with_engine}
 
@@ -39,6 +41,13 @@ abbrev pub IsReplying : Event → Option Held → (code count count' : ℕ) → 
 IsReplying event None code count count' room room' new = (code ≡ empty_slot) × (new ≡ None) × (count' ≡ count) × (room' ≡ room)
 IsReplying event (Some held) code count count' room room' new =
     (after : State) × IsReplied event held.engine after code count' room room' × (new ≡ Some (with_engine after held))
+
+-- a slice is replied to, or abandoned as a watch says
+abbrev pub IsReplyingWithin : (says : ℕ → Option Bool) → Option Held → (nodes nodes' : ℕ) → (made made' : Bool) → (code count count' : ℕ) → (room room' : List ℕ) → Option Held → Type 0
+IsReplyingWithin says None nodes nodes' made made' code count count' room room' new =
+    (code ≡ empty_slot) × (new ≡ None) × (nodes' ≡ nodes) × (made' ≡ made) × (count' ≡ count) × (room' ≡ room)
+IsReplyingWithin says (Some held) nodes nodes' made made' code count count' room room' new =
+    (after : State) × IsRepliedWithin says held.engine after nodes' made' code count' room room' × (new ≡ Some (with_engine after held))
 
 -- whether the engine searches
 abbrev pub IsSearching : Option Held → ℕ → (searching searching' : Bool) → Option Held → Type 0

@@ -7,3 +7,4 @@ pub mod Moves
 pub mod Positions
 pub mod Searches
 pub mod Slots
+pub mod Stops

@@ -6,15 +6,18 @@
 --   so_far       the best of the roots that were searched, and its value
 --   IsBegunFrom, IsBegun   a search is begun at a depth from 1 to 16 plies; or the depth is another, or there is no legal move, or no memory
 --   SlicedFrom, IsSliced   one root more is searched, and how many are left is handed out; or none was begun
+--   next_if, next_size     one root more, unless it is abandoned; how many positions plain minimax asks for it, if one is left
+--   SlicedWithinFrom, IsSlicedWithin   one root more is searched, and how many are left is handed out, or it is abandoned; and how many positions were asked for
 --   best_of, IsSoFar       the best so far is handed out; or none was searched
 --   IsEnded                there is no search any more
-use Rattle.std.specs.Prelude.{◌≡◌, ◌⊎◌, ◌<◌, ◌≤◌, ℕ, ◌-◌, ◌+◌, min, false, [], take, length, Option, Some, None, ℤ}
+use Rattle.std.specs.Prelude.{◌≡◌, ◌⊎◌, ◌<◌, ◌≤◌, ℕ, ◌-◌, ◌+◌, min, Bool, true, false, [], take, length, Option, Some, None, ℤ}
 use Rattle.chess_types.specs.board.MoveParts.{MoveParts}
 use Rattle.chess_types.specs.board.Lines.{Line}
 use Rattle.chess_search.specs.Best.{best}
 use Rattle.chess_search.specs.Slices.{GoesWith, Progress}
 use Rattle.chess_tree.specs.GameTree.{TreeParts, line_to}
-use Rattle.chess_slots.specs.Codes.{argument, empty_slot, no_memory, none_best, ok}
+use Rattle.chess_uci.specs.Within.{IsWatched, root_size}
+use Rattle.chess_slots.specs.Codes.{argument, empty_slot, no_memory, none_best, ok, was_abandoned}
 use Rattle.chess_c.specs.declared.moves.CMove.{CMove}
 use Rattle.chess_c.specs.Asked.{IsBest}
 use Rattle.chess_c.specs.Held.{Held, Searching, roots, with_search}
@@ -53,6 +56,32 @@ abbrev pub SlicedFrom : Option Searching → (code said said' : ℕ) → Option 
 SlicedFrom None code said said' new = (code ≡ none_best) × (said' ≡ said) × (new ≡ None)
 SlicedFrom (Some s) code said said' new = (code ≡ ok) × (said' ≡ left (one_more s)) × (new ≡ Some (one_more s))
 
+-- one root more, where it wasn't abandoned
+abbrev pub next_if : Bool → Searching → Searching
+next_if true s = one_more s
+next_if false s = s
+
+-- how many positions the next root is worth at most
+abbrev pub next_size : Searching → ℕ
+next_size s = root_size false s.depth s.line (roots s.line) s.searched
+
+-- by whether it was abandoned
+abbrev pub SlicedIf : Bool → Searching → (code said said' : ℕ) → Type 0
+SlicedIf true s code said said' = (code ≡ ok) × (said' ≡ left (one_more s))
+SlicedIf false s code said said' = (code ≡ was_abandoned) × (said' ≡ said)
+
+-- a root more is searched, or abandoned as a watch says, once so many positions were asked for
+pub record StepsWithin (says : ℕ → Option Bool) (s : Searching) (made : Bool) (nodes : ℕ) : Type 0 where
+  pub watched : IsWatched says nodes made
+  pub at_least : min 1 (next_size s) ≤ nodes
+  pub at_most : nodes ≤ next_size s
+
+-- the same of a search that was begun
+abbrev pub SlicedWithinFrom : (says : ℕ → Option Bool) → Option Searching → (code said said' nodes nodes' : ℕ) → Option Searching → Type 0
+SlicedWithinFrom says None code said said' nodes nodes' new = (code ≡ none_best) × (said' ≡ said) × (nodes' ≡ nodes) × (new ≡ None)
+SlicedWithinFrom says (Some s) code said said' nodes nodes' new =
+    (made : Bool) × StepsWithin says s made nodes' × SlicedIf made s code said said' × (new ≡ Some (next_if made s))
+
 -- the best so far, if there is one
 abbrev pub best_of : Option Searching → Option (MoveParts × ℤ)
 best_of None = None
@@ -67,6 +96,12 @@ IsBegun depth (Some held) code new = (after : Option Searching) × IsBegunFrom d
 abbrev pub IsSliced : Option Held → (code said said' : ℕ) → Option Held → Type 0
 IsSliced None code said said' new = (code ≡ empty_slot) × (new ≡ None) × (said' ≡ said)
 IsSliced (Some held) code said said' new = (after : Option Searching) × SlicedFrom held.search code said said' after × (new ≡ Some (with_search after held))
+
+-- the same, unless it is abandoned
+abbrev pub IsSlicedWithin : (says : ℕ → Option Bool) → Option Held → (code said said' nodes nodes' : ℕ) → Option Held → Type 0
+IsSlicedWithin says None code said said' nodes nodes' new = (code ≡ empty_slot) × (new ≡ None) × (said' ≡ said) × (nodes' ≡ nodes)
+IsSlicedWithin says (Some held) code said said' nodes nodes' new =
+    (after : Option Searching) × SlicedWithinFrom says held.search code said said' nodes nodes' after × (new ≡ Some (with_search after held))
 
 -- the best so far is handed out
 abbrev pub IsSoFar : Option Held → ℕ → (said said' : CMove) → (value value' : ℤ) → Option Held → Type 0

@@ -1,4 +1,4 @@
-ghost use Rattle.std.specs.Prelude.{◌≡◌, ◌<◌, ℕ, map};
+ghost use Rattle.std.specs.Prelude.{◌≡◌, ◌<◌, ℕ, max, map, is_some};
 ghost use Rattle.std.specs.FinSet.{contains};
 ghost use Rattle.chess_types.specs.declared.board.man.Colour.TheVariants.{Black, White};
 ghost use Rattle.chess_types.specs.board.Attack.{attacks_for, checks_from, count};
@@ -12,19 +12,22 @@ ghost use Rattle.chess_eval.specs.Evaluation.{evaluation};
 ghost use Rattle.chess_fen.specs.Writing.{written};
 ghost use Rattle.chess_san.specs.Naming.{san_reading};
 ghost use Rattle.chess_tree.specs.GameTree.{line_to};
-ghost use Rattle.chess_c.specs.Asked.{IsAttackedBy, IsBestAt, IsClaimed, IsRead, IsWritten, attackers_of, claims_in, flag};
+ghost use Rattle.chess_c.specs.Asked.{IsAttackedBy, IsBestAt, IsBestWithin, IsClaimed, IsRead, IsWritten, attackers_of, claims_in, flag};
 ghost use Rattle.chess_c.specs.Calls.{Asks};
 ghost use Rattle.chess_slots.specs.Codes.{outcome_code};
 ghost use Rattle.chess_slots.specs.Handed.{IsHanded};
+ghost use Rattle.chess_slots.specs.Within.{says_within};
 ghost use Rattle.chess_c.specs.Codes.{claims_code, colour_in};
 ghost use Rattle.chess_c.specs.Moves.{move_in, shown};
 ghost use Rattle.chess_c.specs.Positions.{position_shown};
 
 use crate::codes::{claims_code, colour_in, refusal_code};
+use crate::flag::within;
 use crate::moves::{CMove, hand_moves};
 use crate::positions::CPosition;
 use crate::slot::{Slot, put, take};
 use crate::squares::{put_counts, put_set, word_of};
+use crate::stop::{Stop, put_stop, take_stop};
 use chess_attack::attackers;
 use chess_cli::{Board, Refusal};
 use chess_play::Live;
@@ -360,6 +363,32 @@ pub extern "C" fn jatshegi_board_best(
         return EMPTY;
     };
     let code = best(&mut session.board, depth, m, value);
+    put(slot, session, alloc);
+    code
+}
+
+/// The same, for which no more positions may be asked for than so many, the one at the cursor counted, and which is abandoned where the flag of the handle, if
+/// there is one, is found set. How many positions were asked for. It takes memory for a line of its own.
+#[unsafe(no_mangle)]
+pub extern "C" fn jatshegi_board_best_within(
+    alloc: Global,
+    slot: &mut Slot,
+    depth: u8,
+    nodes: u64,
+    stop: &mut Stop,
+    m: &mut CMove,
+    value: &mut i32,
+    visited: &mut u64,
+) -> u32
+    ensures best { Asks ((m.new ≡ m.old) × (value.new ≡ value.old) × (visited.new ≡ visited.old)) (λ board code. IsBestWithin (says_within (max nodes 1) (is_some stop.old.held)) (line_to board) depth code m.old m.new value.old value.new visited.old visited.new) slot.old.held result slot.new.held }
+    ensures stop { stop.new.held ≡ stop.old.held }
+{
+    let Some(session) = take(slot, alloc) else {
+        return EMPTY;
+    };
+    let flag = take_stop(stop, alloc);
+    let code = session.best_within(alloc, depth, within(nodes.max(1), &flag), m, value, visited);
+    put_stop(stop, flag, alloc);
     put(slot, session, alloc);
     code
 }

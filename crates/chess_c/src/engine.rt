@@ -1,7 +1,10 @@
-ghost use Rattle.std.specs.Prelude.{◌≡◌};
-ghost use Rattle.chess_c.specs.Calls.{IsEnded, IsInfinite, IsReplying, IsSearching, IsTimed, IsWaiting};
+ghost use Rattle.std.specs.Prelude.{◌≡◌, is_some};
+ghost use Rattle.chess_slots.specs.Within.{says_within};
+ghost use Rattle.chess_c.specs.Calls.{IsEnded, IsInfinite, IsReplying, IsReplyingWithin, IsSearching, IsTimed, IsWaiting};
 
+use crate::flag::within;
 use crate::slot::{Slot, put, take};
+use crate::stop::{Stop, put_stop, take_stop};
 use chess_slots::{EMPTY, OK};
 use chess_uci::Event;
 use std::alloc::Global;
@@ -49,6 +52,32 @@ pub extern "C" fn jatshegi_engine_slice(
     ensures { IsReplying Event.Slice slot.old.held result count.old count.new replies.old replies.new slot.new.held }
 {
     happen(alloc, slot, Event::Slice, replies, count)
+}
+
+/// The same, for which so many positions may be asked for, and which is abandoned where the flag of the handle, if there is one, is found set at a 1,024th
+/// position. Whether it was made, and how many positions were asked for; where it was abandoned, nothing is replied, and the engine is as before.
+#[unsafe(no_mangle)]
+pub extern "C" fn jatshegi_engine_slice_within(
+    alloc: Global,
+    slot: &mut Slot,
+    nodes: u64,
+    stop: &mut Stop,
+    searched: &mut bool,
+    visited: &mut u64,
+    replies: &mut [u8],
+    count: &mut usize,
+) -> u32
+    ensures replying { IsReplyingWithin (says_within nodes (is_some stop.old.held)) slot.old.held visited.old visited.new searched.old searched.new result count.old count.new replies.old replies.new slot.new.held }
+    ensures stop { stop.new.held ≡ stop.old.held }
+{
+    let Some(mut session) = take(slot, alloc) else {
+        return EMPTY;
+    };
+    let flag = take_stop(stop, alloc);
+    let code = session.slice_of_engine(within(nodes, &flag), visited, searched, replies, count);
+    put_stop(stop, flag, alloc);
+    put(slot, session, alloc);
+    code
 }
 
 /// The clock reads so many milliseconds; the replies.

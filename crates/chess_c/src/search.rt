@@ -1,12 +1,13 @@
 //! A search that the caller drives.
-ghost use Rattle.std.specs.Prelude.{◌≡◌, ◌≤◌, ◌<◌, [], length, IfOk, MatchOption};
+ghost use Rattle.std.specs.Prelude.{◌≡◌, ◌≤◌, ◌<◌, [], length, min, IfOk, MatchOption};
 ghost use Rattle.chess_tree.specs.GameTree.{line_to};
 ghost use Rattle.chess_c.specs.Held.{roots};
-ghost use Rattle.chess_c.specs.Searches.{begun, left, one_more, so_far};
+ghost use Rattle.chess_uci.specs.Within.{IsWatched};
+ghost use Rattle.chess_c.specs.Searches.{begun, left, next_if, next_size, one_more, so_far};
 
 use chess_draws::Line;
 use chess_key::KeyTable;
-use chess_search::Slices;
+use chess_search::{Slices, Watch};
 use chess_slots::cursor_line;
 use chess_tree::Tree;
 use chess_types::Move;
@@ -68,6 +69,23 @@ impl Search {
         if self.slices.searched() < self.slices.roots().len() {
             self.slices.next(&mut self.line);
         }
+    }
+
+    /// Searches one root more, if one is left, and says how many positions were asked for; `false` where the watch has it abandoned, and then all is as before.
+    pub fn next_within<W: Watch>(&mut self, watch: &mut W, nodes: &mut u64) -> bool
+        ensures search { self.new ≡ next_if result self.old }
+        ensures watched { IsWatched (W.says watch.old) nodes.new result }
+        ensures at_least { min 1 (next_size self.old) ≤ nodes.new }
+        ensures at_most { nodes.new ≤ next_size self.old }
+    {
+        *nodes = 0;
+        if self.slices.searched() >= self.slices.roots().len() {
+            return true;
+        }
+        self.slices.count_anew();
+        let searched = self.slices.next_within(&mut self.line, watch);
+        *nodes = self.slices.nodes();
+        searched
     }
 
     /// How many roots are left.

@@ -1,7 +1,11 @@
-ghost use Rattle.chess_c.specs.Searches.{IsBegun, IsEnded, IsSliced, IsSoFar};
+ghost use Rattle.std.specs.Prelude.{◌≡◌, is_some};
+ghost use Rattle.chess_slots.specs.Within.{says_within};
+ghost use Rattle.chess_c.specs.Searches.{IsBegun, IsEnded, IsSliced, IsSlicedWithin, IsSoFar};
 
+use crate::flag::within;
 use crate::moves::CMove;
 use crate::slot::{Slot, put, take};
+use crate::stop::{Stop, put_stop, take_stop};
 use chess_slots::{EMPTY, OK};
 use std::alloc::Global;
 
@@ -28,6 +32,30 @@ pub extern "C" fn jatshegi_search_slice(alloc: Global, slot: &mut Slot, left: &m
         return EMPTY;
     };
     let code = session.slice(left);
+    put(slot, session, alloc);
+    code
+}
+
+/// Searches one legal move more, for which so many positions may be asked for, and which is abandoned where the flag of the handle, if there is one, is found set
+/// at a 1,024th position. How many positions were asked for is written then, too, and the search is as before.
+#[unsafe(no_mangle)]
+pub extern "C" fn jatshegi_search_slice_within(
+    alloc: Global,
+    slot: &mut Slot,
+    nodes: u64,
+    stop: &mut Stop,
+    left: &mut usize,
+    visited: &mut u64,
+) -> u32
+    ensures sliced { IsSlicedWithin (says_within nodes (is_some stop.old.held)) slot.old.held result left.old left.new visited.old visited.new slot.new.held }
+    ensures stop { stop.new.held ≡ stop.old.held }
+{
+    let Some(mut session) = take(slot, alloc) else {
+        return EMPTY;
+    };
+    let flag = take_stop(stop, alloc);
+    let code = session.slice_within(within(nodes, &flag), left, visited);
+    put_stop(stop, flag, alloc);
     put(slot, session, alloc);
     code
 }

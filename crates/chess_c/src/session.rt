@@ -1,22 +1,28 @@
 //! What stays where C keeps it: a board, a search, an engine, and the page on which answers are written.
-ghost use Rattle.std.specs.Prelude.{◌≡◌, ℕ, List, IfOk, is_some};
+ghost use Rattle.std.specs.Prelude.{◌≡◌, ◌≤◌, ℕ, List, IfOk, is_some};
 ghost use Rattle.chess_cli.specs.Answers.{Tells};
 ghost use Rattle.chess_cli.specs.Requests.{request};
+ghost use Rattle.chess_tree.specs.GameTree.{line_to};
 ghost use Rattle.chess_slots.specs.Answers.{IsReplied};
 ghost use Rattle.chess_slots.specs.Handed.{IsAnsweredBy};
-ghost use Rattle.chess_c.specs.Asked.{IsBest};
+ghost use Rattle.chess_slots.specs.Within.{IsRepliedWithin, says_within};
+ghost use Rattle.chess_c.specs.Asked.{IsBest, IsBestWithin};
 ghost use Rattle.chess_c.specs.Calls.{IsLeft};
 ghost use Rattle.chess_uci.specs.Machine.{is_infinite, is_waiting, time_left};
 ghost use Rattle.chess_c.specs.Held.{beginning};
 ghost use Rattle.chess_c.specs.Loads.{LoadsFrom};
-ghost use Rattle.chess_c.specs.Searches.{IsBegunFrom, SlicedFrom, best_of};
+ghost use Rattle.chess_c.specs.Searches.{IsBegunFrom, SlicedFrom, SlicedWithinFrom, best_of};
 
 use crate::moves::CMove;
 use crate::search::Search;
 use chess_cli::Board;
 use chess_key::KeyTable;
 use chess_loop::OutputBuffer;
-use chess_slots::{ARGUMENT, MEMORY, NO_GAME, NONE, OK, answer, refused, reply};
+use chess_search::{Nodes, best_within};
+use chess_slots::{
+    ABANDONED, ARGUMENT, MEMORY, NO_GAME, NONE, OK, Within, answer, cursor_line, refused, reply,
+    reply_within,
+};
 use chess_tree::TreeFault;
 use chess_types::Move;
 use chess_uci::{Event, Session as Uci};
@@ -44,6 +50,20 @@ impl Model for Session {
     ghost view = { λ s. record { board = s.board; search = s.search; engine = s.engine } };
 
     ghost invariant = { λ s. s.page ≡ [] };
+}
+
+// The best move and its value, if there is one.
+fn hand_best(best: Option<(Move, i32)>, m: &mut CMove, value: &mut i32) -> u32
+    ensures { IsBest best result m.old m.new value.old value.new }
+{
+    match best {
+        None => NONE,
+        Some((found, worth)) => {
+            *m = CMove::of(found);
+            *value = worth;
+            OK
+        }
+    }
 }
 
 impl Session {
@@ -79,6 +99,30 @@ impl Session {
         ensures search { self.new.search ≡ self.old.search }
     {
         reply(&mut self.engine, &mut self.page, event, room, count)
+    }
+
+    /// What a slice that may be abandoned is replied, each reply on a line of its own.
+    pub fn slice_of_engine(
+        &mut self,
+        mut watch: Within<'_>,
+        visited: &mut u64,
+        searched: &mut bool,
+        room: &mut [u8],
+        count: &mut usize,
+    ) -> u32
+        ensures engine { IsRepliedWithin (says_within watch.nodes (is_some watch.flag)) self.old.engine self.new.engine visited.new searched.new result count.new room.old room.new }
+        ensures board { self.new.board ≡ self.old.board }
+        ensures search { self.new.search ≡ self.old.search }
+    {
+        reply_within(
+            &mut self.engine,
+            &mut self.page,
+            &mut watch,
+            visited,
+            searched,
+            room,
+            count,
+        )
     }
 
     /// Whether the engine searches.
@@ -171,18 +215,64 @@ impl Session {
         OK
     }
 
+    /// Searches one root more, unless that is abandoned, and says how many are left.
+    pub fn slice_within(
+        &mut self,
+        mut watch: Within<'_>,
+        left: &mut usize,
+        visited: &mut u64,
+    ) -> u32
+        ensures search { SlicedWithinFrom (says_within watch.nodes (is_some watch.flag)) self.old.search result left.old left.new visited.old visited.new self.new.search }
+        ensures board { self.new.board ≡ self.old.board }
+        ensures engine { self.new.engine ≡ self.old.engine }
+    {
+        let Some(search) = &mut self.search else {
+            return NONE;
+        };
+        if !search.next_within(&mut watch, visited) {
+            return ABANDONED;
+        }
+        *left = search.left();
+        OK
+    }
+
+    /// The best move of the position at the cursor at a depth of 1 to 16 plies, unless the search for it is abandoned; on a line of its own.
+    pub fn best_within(
+        &self,
+        alloc: Global,
+        depth: u8,
+        mut watch: Within<'_>,
+        m: &mut CMove,
+        value: &mut i32,
+        visited: &mut u64,
+    ) -> u32
+        requires { 1 ≤ watch.nodes }
+        ensures { IsBestWithin (says_within watch.nodes (is_some watch.flag)) (line_to self.now.board) depth result m.old m.new value.old value.new visited.old visited.new }
+    {
+        if depth < 1 || depth > 16 {
+            return ARGUMENT;
+        }
+        let Ok(mut line) = cursor_line(alloc, self.table, self.board.tree()) else {
+            return MEMORY;
+        };
+        let legal = line.moves();
+        if legal.is_empty() {
+            return NONE;
+        }
+        let mut nodes = Nodes::new();
+        let found = best_within(&mut line, depth, &legal, &mut nodes, false, &mut watch);
+        *visited = nodes.nodes();
+        match found {
+            Some(best) => hand_best(best, m, value),
+            None => ABANDONED,
+        }
+    }
+
     /// The best root so far, and what it is worth.
     pub fn so_far(&self, m: &mut CMove, value: &mut i32) -> u32
         ensures { IsBest (best_of self.now.search) result m.old m.new value.old value.new }
     {
-        match self.best() {
-            None => NONE,
-            Some((found, worth)) => {
-                *m = CMove::of(found);
-                *value = worth;
-                OK
-            }
-        }
+        hand_best(self.best(), m, value)
     }
 
     // The best root so far, if a search was begun.

@@ -1,5 +1,5 @@
 -- What the statuses of calls are, as numbers, and how small values are seen.
---   ok, empty_slot, no_memory, not_legal, argument, no_room, none_best, no_game   statuses of their own
+--   ok, empty_slot, no_memory, not_legal, argument, no_room, none_best, no_game, was_abandoned   statuses of their own
 --   fault_code      the status of a text at whose start no game is
 --   outcome_code    how a game stands
 use Rattle.std.specs.Prelude.{ℕ, ◌+◌}
@@ -40,6 +40,10 @@ none_best = 11
 -- only whitespace follows
 abbrev pub no_game : ℕ
 no_game = 16
+
+-- the search was abandoned
+abbrev pub was_abandoned : ℕ
+was_abandoned = 17
 
 -- 40 and the number of the fault; want of memory is no fault of the text
 abbrev pub fault_code : FaultKind → ℕ

@@ -6,3 +6,4 @@ pub mod Loads
 pub mod Reports
 pub mod Slots
 pub mod Texts
+pub mod Within

@@ -5,6 +5,7 @@ ghost use Rattle.chess_cli.specs.Requests.{request};
 ghost use Rattle.chess_cli.specs.TimedSessions.{reply_lines};
 ghost use Rattle.chess_slots.specs.Answers.{IsReplied};
 ghost use Rattle.chess_slots.specs.Handed.{IsHanded, IsAnsweredBy};
+ghost use Rattle.chess_slots.specs.Within.{IsRepliedWithin};
 
 use crate::codes::MEMORY;
 use crate::gathered::{Gathered, Nowhere};
@@ -13,6 +14,7 @@ use arrayvec::ArrayVec;
 use byte_streams::Failed;
 use chess_cli::Board;
 use chess_loop::OutputBuffer;
+use chess_search::Watch;
 use chess_uci::{Event, Reply, Session as Uci};
 use std::alloc::Allocator;
 
@@ -51,6 +53,33 @@ pub fn reply<A: Allocator, B: Allocator>(
 {
     let replies = engine.event(event);
     put_replies(page, &replies);
+    let code = hand(page.text(), room, count);
+    clear(page);
+    code
+}
+
+/// What an engine replies to a slice that a watch may have abandoned, each reply on a line of its own; nothing where it was abandoned. `nodes` says how many
+/// positions were asked for, `made` whether it wasn't abandoned. The page is empty between calls.
+pub fn reply_within<A: Allocator, B: Allocator, W: Watch>(
+    engine: &mut Uci<'_, A>,
+    page: &mut OutputBuffer<B>,
+    watch: &mut W,
+    nodes: &mut u64,
+    made: &mut bool,
+    room: &mut [u8],
+    count: &mut usize,
+) -> u32
+    requires { page.old ≡ [] }
+    ensures engine { IsRepliedWithin (W.says watch.old) engine.old engine.new nodes.new made.new result count.new room.old room.new }
+    ensures page { page.new ≡ [] }
+{
+    match engine.slice_within(watch, nodes) {
+        Some(replies) => {
+            *made = true;
+            put_replies(page, &replies);
+        }
+        None => *made = false,
+    }
     let code = hand(page.text(), room, count);
     clear(page);
     code

@@ -34,6 +34,9 @@ pub const NONE: u32 = 11;
 /// No game follows.
 pub const NO_GAME: u32 = 16;
 
+/// The search was abandoned.
+pub const ABANDONED: u32 = 17;
+
 /// The status of a text at whose start no game is: 40 and the number of the fault, or that there is no memory.
 pub fn fault_code(kind: FaultKind) -> u32
     ensures { result ≡ fault_code kind }

@@ -16,12 +16,13 @@ mod loose;
 mod lost;
 mod reports;
 mod texts;
+mod within;
 
 pub use along::cursor_line;
-pub use answers::{answer, reply};
+pub use answers::{answer, reply, reply_within};
 pub use codes::{
-    ARGUMENT, AT_ROOT, EMPTY, FORM, ILLEGAL, MEMORY, NO_GAME, NONE, OK, ROOM, fault_code,
-    outcome_code,
+    ABANDONED, ARGUMENT, AT_ROOT, EMPTY, FORM, ILLEGAL, MEMORY, NO_GAME, NONE, OK, ROOM,
+    fault_code, outcome_code,
 };
 pub use games::{game, passed, refused, report};
 pub use loads::load;
@@ -29,3 +30,4 @@ pub use loose::Loose;
 pub use lost::Lost;
 pub use reports::{GameReport, NEVER};
 pub use texts::hand;
+pub use within::Within;

@@ -1,0 +1,65 @@
+ghost use Rattle.std.specs.Prelude.{◌≡◌, None};
+ghost use Rattle.chess_c.specs.Stops.{IsKept, SharesFrom, set_code};
+
+use crate::flag::Flag;
+use crate::stop::{Stop, put_stop, take_stop};
+use chess_slots::{EMPTY, MEMORY, OK};
+use std::alloc::Global;
+
+// Puts a handle there; or there is no memory, and all is as before.
+fn keep(stop: &mut Stop, flag: Option<Flag>, alloc: Global) -> u32
+    ensures { IsKept result stop.old.held stop.new.held }
+{
+    let Some(made) = flag else {
+        return MEMORY;
+    };
+    let Ok(kept) = Box::new(alloc, made) else {
+        return MEMORY;
+    };
+    put_stop(stop, Some(kept), alloc);
+    OK
+}
+
+/// A flag that isn't set, and a handle of it; what was there is freed. Where there is no memory all is as before.
+#[unsafe(no_mangle)]
+pub extern "C" fn jatshegi_stop_new(alloc: Global, stop: &mut Stop) -> u32
+    ensures { IsKept result stop.old.held stop.new.held }
+{
+    keep(stop, Flag::new(alloc), alloc)
+}
+
+/// Another handle of the same flag, for another thread; what was there is freed. Where there is no memory all is as before.
+#[unsafe(no_mangle)]
+pub extern "C" fn jatshegi_stop_share(alloc: Global, stop: &mut Stop, other: &mut Stop) -> u32
+    ensures kept { SharesFrom stop.old.held result other.old.held other.new.held }
+    ensures stop { stop.new.held ≡ stop.old.held }
+{
+    let Some(kept) = take_stop(stop, alloc) else {
+        return EMPTY;
+    };
+    let code = keep(other, kept.another(), alloc);
+    put_stop(stop, Some(kept), alloc);
+    code
+}
+
+/// Sets the flag, or clears it.
+#[unsafe(no_mangle)]
+pub extern "C" fn jatshegi_stop_set(alloc: Global, stop: &mut Stop, set: bool) -> u32
+    ensures code { result ≡ set_code stop.old.held }
+    ensures stop { stop.new.held ≡ stop.old.held }
+{
+    let Some(kept) = take_stop(stop, alloc) else {
+        return EMPTY;
+    };
+    kept.set(set);
+    put_stop(stop, Some(kept), alloc);
+    OK
+}
+
+/// Frees the handle, and with its last handle the flag; there is none then.
+#[unsafe(no_mangle)]
+pub extern "C" fn jatshegi_stop_free(alloc: Global, stop: &mut Stop)
+    ensures { stop.new.held ≡ None }
+{
+    drop(take_stop(stop, alloc));
+}
