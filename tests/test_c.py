@@ -1,5 +1,6 @@
 """The library for C: its header and its functions, as gcc, clang and a compiler of C++ take them; its memory, under valgrind and refused."""
 import os
+import re
 import shutil
 import subprocess
 import tempfile
@@ -69,6 +70,15 @@ class Library(unittest.TestCase):
         ran = called("cc", "-std=c11", *STRICT, f"{self.folder}/page.c", f"{runs.TOP}/out/libjatshegi.a", "-o", f"{self.folder}/page")
         self.assertEqual(ran.returncode, 0, ran.stderr)
         self.assertEqual(self.assert_ends_well(f"{self.folder}/page"), "rnbqkbnr/pppppppp/8/8/4P3/8/PPPP1PPP/RNBQKBNR b KQkq e3 0 1: 20 legal moves\n")
+
+    def test_every_function_on_the_first_amd64(self):
+        """A processor without SSE3 and what came after it; and no instruction of theirs is in the library."""
+        self.wants("objdump")
+        shown = subprocess.run(["objdump", "-d", "--no-show-raw-insn", f"{runs.TOP}/out/libjatshegi.a"], capture_output=True, text=True, check=True).stdout
+        self.assertIsNone(re.search(r"\t(popcnt|pshufb|pblend\w*|pextr[bdq]|pinsr[bdq]|v\w+ |lzcnt|andn|bl\w+ )", shown))
+        self.wants("qemu-x86_64")
+        program = self.build(["cc", "-std=c11", "-static"], "every.c")
+        self.assertIn(" 0 failed", self.assert_ends_well("qemu-x86_64", "-cpu", "qemu64,-sse3,-ssse3,-sse4a,-cx16,-popcnt", program))
 
     def test_no_error_and_no_leak_under_valgrind(self):
         self.wants("valgrind")
