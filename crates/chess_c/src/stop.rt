@@ -95,3 +95,5 @@ pub fn put_stop(stop: &mut Stop, flag: Option<Box<Flag, Global>>, alloc: Global)
     };
     drop(replace(stop, made).into_box(alloc));
 }
+
+unsafe impl Send for Stop {}
