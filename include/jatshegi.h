@@ -5,12 +5,14 @@
  *     struct jatshegi_board board = JATSHEGI_NO_BOARD;
  *     jatshegi_keys_fill(&keys);
  *     if (jatshegi_board_new(&keys, &board) == JATSHEGI_OK) {
- *         jatshegi_board_play_text(&board, "e4", 2);
+ *         bool added;
+ *         jatshegi_board_play_text(&board, "e4", 2, &added);
  *         jatshegi_board_free(&board);
  *     }
  *
- * A board is a game tree with a cursor, as in the program's `board`: a move that is played is a step to the child that has it, or to a new one, and
- * `back` leaves it in the tree. All that is asked is asked of the position at the cursor, or of the line of moves from the root to it.
+ * A board is a game tree with a cursor, as in the program's `board`: a move that is played is a step to the child that has it, or to a new one. `back`
+ * leaves it in the tree; `undo` takes it back, and leaves the tree as it was before. All that is asked is asked of the position at the cursor, or of the line
+ * of moves from the root to it.
  *
  * What a caller owes:
  *   - A board begins as JATSHEGI_NO_BOARD, which is zeros, and after that only these functions write to it. A board that is in use is never copied.
@@ -236,14 +238,27 @@ uint32_t jatshegi_board_position(struct jatshegi_board *board, struct jatshegi_p
 /* The legal moves in order, and how many they are, at most JATSHEGI_MOST_MOVES (FIDE Laws 3.1 to 3.10). OK, EMPTY, NO_ROOM. */
 uint32_t jatshegi_board_moves(struct jatshegi_board *board, struct jatshegi_move *moves, size_t room, size_t *count);
 
-/* Makes a move. OK, EMPTY, NO_MEMORY, ILLEGAL, TOO_LONG, FULL. */
-uint32_t jatshegi_board_play(struct jatshegi_board *board, struct jatshegi_move move);
+/*
+ * Makes a move, and says whether it added a node for it: `false` where a child of the node has the move. OK, EMPTY, NO_MEMORY, ILLEGAL, TOO_LONG, FULL.
+ *
+ * A program that takes the move back keeps the answer, one for each move that it made, and hands it to jatshegi_board_undo.
+ */
+uint32_t jatshegi_board_play(struct jatshegi_board *board, struct jatshegi_move move, bool *added);
 
 /* Makes the move that a text names: Nf3, exd8=Q+, O-O, or e2e4 (PGN 8.2.3). OK, EMPTY, NO_MEMORY, ILLEGAL, AMBIGUOUS, FORM, TOO_LONG, FULL. */
-uint32_t jatshegi_board_play_text(struct jatshegi_board *board, const char *text, size_t length);
+uint32_t jatshegi_board_play_text(struct jatshegi_board *board, const char *text, size_t length, bool *added);
 
-/* Takes the last move back: steps to the parent. OK, EMPTY, AT_ROOT. */
+/* Steps to the parent; the node that it leaves stays in the tree. OK, EMPTY, AT_ROOT. */
 uint32_t jatshegi_board_back(struct jatshegi_board *board);
+
+/*
+ * Takes back the move that led to the cursor: steps to the parent, and takes the node that it leaves out of the tree where `added` is true and nothing hangs
+ * on the node, no child, comment or annotation number; else it stays, as with jatshegi_board_back. OK, EMPTY, AT_ROOT.
+ *
+ * With what the call that made the move answered, the tree and the cursor are then as they were before that call. It takes no memory, and leaves room for as
+ * many nodes as before.
+ */
+uint32_t jatshegi_board_undo(struct jatshegi_board *board, bool added);
 
 /* The legal move that a text names. OK, EMPTY, ILLEGAL, AMBIGUOUS, FORM. */
 uint32_t jatshegi_board_read(struct jatshegi_board *board, const char *text, size_t length, struct jatshegi_move *move);

@@ -23,9 +23,10 @@ int main(void) {
     struct jatshegi_board board = JATSHEGI_NO_BOARD;
     struct jatshegi_move moves[JATSHEGI_MOST_MOVES];
     size_t count;
+    bool added;
     jatshegi_keys_fill(&keys);
     if (jatshegi_board_new(&keys, &board) != JATSHEGI_OK) return 1;
-    jatshegi_board_play_text(&board, "e4", 2);
+    jatshegi_board_play_text(&board, "e4", 2, &added);
     jatshegi_board_moves(&board, moves, JATSHEGI_MOST_MOVES, &count);
     printf("%s %zu\\n", JATSHEGI_VERSION, count);
     jatshegi_board_free(&board);

@@ -411,7 +411,7 @@ class Model:
         def __init__(self, san=None, parent=None):
             self.san, self.parent = san, parent
             self.comment, self.nags, self.children = "", [], []
-            # Whether `push` made it, and no line has led away from it since.
+            # Whether `push` added it, and no line has been answered with `ok` since.
             self.is_made = False
 
     def __init__(self, game=None):
@@ -509,6 +509,79 @@ class NothingIsLost(unittest.TestCase):
         self.assertRaises(IndexError, board.pop)
         self.assertRaises(IndexError, board.back)
 
+    def test_a_push_of_a_node_that_is_there_takes_nothing_out(self):
+        board = jatshegi.Board()
+        for line in ("play d4", "back", "play e4", "back"):
+            self.assertEqual(board.line(line), "ok")
+        for san in ("e4", "d4"):
+            board.push_san(san)
+            self.assertTrue(board.pop())
+        self.assertEqual(self.text(board), "1. d4 (1. e4) *")
+        # Once stepped back from, a node is the game's.
+        board.push_san("c4")
+        board.back()
+        board.push_san("c4")
+        board.pop()
+        self.assertEqual(self.text(board), "1. d4 (1. e4) (1. c4) *")
+
+    def test_a_refusal_changes_nothing_and_forgets_nothing(self):
+        board = jatshegi.Board.from_game(jatshegi.pgn.read_game("1. d4 *"))
+        before = board.pgn()
+        board.push_san("e4")
+        pushed = board.pgn()
+        for refused in (lambda: board.push_san("Ke3"), lambda: board.push(jatshegi.Move(0, 0)), lambda: board.set_fen("rubbish"), lambda: board.push_uci("zz")):
+            self.assertRaises(jatshegi.Error, refused)
+        for line in ("play Ke3", "step 5", "comment }", "set rubbish", "rubbish", "fen", "eval", "pgn"):
+            self.assertNotEqual(board.line(line), "ok")
+        self.assertEqual((board.pgn(), board.ply), (pushed, 1))
+        self.assertEqual((board.pop().uci(), board.pgn()), ("e2e4", before))
+
+    def test_a_call_that_an_exception_stops_loses_nothing(self):
+        from jatshegi import _board
+
+        class Stopped(BaseException):
+            pass
+
+        for name, is_made in (("_play", True), ("_play", False), ("_undo", True), ("_undo", False)):
+            board = jatshegi.Board.from_game(jatshegi.pgn.read_game("1. d4 d5 2. c4 *"))
+            board.line("end")
+            game, call = board.pgn(), getattr(_board, name)
+            board.push_san("e6")
+
+            def stops(*words):
+                if is_made:
+                    self.assertEqual(call(*words), 0)
+                raise Stopped
+
+            setattr(_board, name, stops)
+            try:
+                with self.assertRaises(Stopped):
+                    board.push_san("Nc3") if name == "_play" else board.pop()
+            finally:
+                setattr(_board, name, call)
+            while board.ply:
+                board.pop()
+            nodes = [node.san for node in jatshegi.pgn.read_game(board.pgn()).mainline()]
+            self.assertEqual(nodes[:3], ["d4", "d5", "c4"], (name, is_made))
+            self.assertEqual(jatshegi.Board.from_game(jatshegi.pgn.read_game(game)).pgn(), game)
+
+    def test_a_perft_by_push_and_pop_leaves_the_game(self):
+        def perft(depth):
+            moves = board.legal_moves
+            if depth == 1:
+                return len(moves)
+            leaves = 0
+            for move in moves:
+                board.push(move)
+                leaves += perft(depth - 1)
+                board.pop()
+            return leaves
+
+        for text in ("*", "{start} 1. e4 {king} (1. d4 $1 d5) 1... e5 2. Nf3 *"):
+            board = jatshegi.Board.from_game(jatshegi.pgn.read_game(text))
+            before = board.pgn()
+            self.assertEqual((perft(3), board.pgn(), board.ply), (8902, before, 0))
+
     def test_a_push_that_was_left_by_a_line_is_the_game_s(self):
         for lines, left in ((("start", "end"), "1. e4 *"), (("back", "step 0"), "1. e4 *"), (("goto 0",), "1. e4 *"), (("delete", "play e4"), "1. e4 *"), (("goto 7", "back 1"), "*")):
             board = jatshegi.Board()
@@ -551,6 +624,7 @@ class NothingIsLost(unittest.TestCase):
         kinds = ["play", "play", "back", "start", "end", "step", "goto", "promote", "delete", "comment", "nag", "refused"]
         kind, here = chance.choice(kinds), model.cursor
         line = kind
+        way = model.way()
         if kind == "refused":
             line = chance.choice(["play zz", "step 99", "goto 99", "comment }", "nag 300", "rubbish", "goto x", "set rubbish"])
         elif kind == "play":
@@ -565,10 +639,8 @@ class NothingIsLost(unittest.TestCase):
         elif kind == "back":
             model.up(False)
         elif kind == "start":
-            model.forget()
             model.cursor = model.root
         elif kind == "end":
-            model.forget()
             while model.cursor.children:
                 model.cursor = model.cursor.children[0]
         elif kind == "step":
@@ -579,13 +651,11 @@ class NothingIsLost(unittest.TestCase):
             else:
                 kind = "refused"
         elif kind == "goto":
-            model.forget()
             model.cursor = model.root
             while model.cursor.children and chance.random() < 0.8:
                 model.cursor = chance.choice(model.cursor.children)
             line = "start" if model.cursor is model.root else f"goto {model.path()}"
         elif kind == "promote":
-            model.forget()
             siblings = here.parent.children
             siblings.insert(0, siblings.pop(siblings.index(here)))
         elif kind == "delete":
@@ -596,7 +666,12 @@ class NothingIsLost(unittest.TestCase):
         elif kind == "nag":
             here.nags.append(chance.randrange(1, 140))
             line = f"nag {here.nags[-1]}"
+        if kind != "refused":
+            for node in way:
+                node.is_made = False
         self.assertEqual(board.line(line)[:7], "refused" if kind == "refused" else "ok", line)
+        # What only asks forgets nothing.
+        self.assertNotIn(board.line(chance.choice(["fen", "path", "status", "moves", "eval", ""])), ("ok", "refused 6 Command"))
 
     def test_random_edits_pushes_and_pops_beside_a_plain_model(self):
         chance = random.Random(2026)

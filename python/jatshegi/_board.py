@@ -5,7 +5,7 @@ import codecs
 import ctypes
 import enum
 import threading
-from ctypes import byref, c_char, c_int32, c_size_t, c_uint8, c_uint32, c_uint64
+from ctypes import byref, c_bool, c_char, c_int32, c_size_t, c_uint8, c_uint32, c_uint64
 from typing import TYPE_CHECKING, Any, Callable, Dict, Iterator, List, NamedTuple, Optional, Tuple, Type, TypeVar
 
 from . import _library as c
@@ -105,15 +105,7 @@ def _known(encoding: str) -> str:
     return encoding
 
 
-# The lines that leave the cursor and the moves before it as they are, that take it one step from the root, and one step to it.
-_STAYING = frozenset("fen moves status claims claim count checks counts eval best path pgn comment nag".split())
-_SINKING, _RISING = frozenset(("play", "step")), frozenset(("back", "delete"))
-
-_children, _play, _read = c.lib.jatshegi_board_children, c.lib.jatshegi_board_play, c.lib.jatshegi_board_read
-_move, _back, _delete = c.lib.jatshegi_board_move, c.lib.jatshegi_board_back, c.lib.jatshegi_board_delete
-_comment_of, _annotations_of = c.lib.jatshegi_board_comment_of, c.lib.jatshegi_board_annotations_of
-# No room for what is said of a node, where only whether anything is said is asked.
-_NOTHING = (c_char * 1)()
+_play, _undo, _move, _read = c.lib.jatshegi_board_play, c.lib.jatshegi_board_undo, c.lib.jatshegi_board_move, c.lib.jatshegi_board_read
 
 _Board = TypeVar("_Board", bound="Board")
 
@@ -125,7 +117,7 @@ class Board:
     >>> [move.uci() for move in board.legal_moves]
     ['a5a4', 'a5b5', 'a5a6', 'a5b6', 'd5d6']
 
-    A board is a tree of moves with a cursor: `push` steps to the move's node, which it makes where there is none, and `pop` takes back what `push` did. Any
+    A board is a tree of moves with a cursor: `push` steps to the move's node, which it adds where there is none, and `pop` takes back what `push` did. Any
     thread may use a board; where another one is in a call of it, a call waits.
     """
 
@@ -149,8 +141,8 @@ class Board:
             if c.lib.jatshegi_board_new(c.KEYS, self._at):
                 raise MemoryError("no memory for a board")
             self._searches = 0
-            # Of the last steps to the cursor, for each whether `push` made its node. Shorter than the way to the cursor where lines led there. While a step is
-            # made or taken back it is False, so that a call that an exception stops (as by Ctrl-C) leaves no node that is taken for one of push's.
+            # Of the last steps to the cursor what `push` was answered: whether it added a node. Shorter than the way to the cursor where something else led there;
+            # of those steps `pop` takes no node out. While a call may move the cursor it is empty, so it is empty after an exception (as by Ctrl-C).
             self._made: List[bool] = []
             if fen is not None:
                 self.set_fen(fen)
@@ -182,8 +174,10 @@ class Board:
 
         used = c_size_t()
         with self._lock:
-            self._made.clear()
+            made, self._made = self._made, []
             status = c.lib.jatshegi_board_load(self._at, text, len(text), byref(used))
+            if status:
+                self._made = made
         if status == c.NO_GAME or status > c.PGN:
             raise _fault(status, used.value)
         if status:
@@ -270,12 +264,14 @@ class Board:
         """Begins a new game from that position, as `Board(fen)`. Raises `InvalidFenError`, and the game is then as it was."""
         text = fen.encode(errors="surrogatepass")
         with self._lock:
+            made, self._made = self._made, []
             status = c.lib.jatshegi_board_set(self._at, text, len(text))
+            if status:
+                self._made = made
             if status > c.FEN:
                 raise InvalidFenError(fen, status - c.FEN, _FAULTS[status - c.FEN - 1])
             if status:
                 raise self._fail(status, fen)
-            self._made.clear()
 
     def fen(self) -> str:
         """The position's FEN, with all six fields (PGN 16.1)."""
@@ -359,27 +355,16 @@ class Board:
         return True
 
     def push(self, move: Move) -> None:
-        """Makes the move: steps to its node, which is made where there is none. Raises `IllegalMoveError`, or `LimitError` after 20,000 plies."""
-        numbers, before = _numbers(move), c_uint32()
+        """Makes the move: steps to its node, which is added where there is none. Raises `IllegalMoveError`, or `LimitError` after 20,000 plies."""
+        numbers, added = _numbers(move), c_bool()
         with self._lock:
-            self._made.append(False)
-            status = _children(self._at, byref(before)) or _play(self._at, numbers)
+            made, self._made = self._made, []
+            status = _play(self._at, numbers, byref(added))
+            if not status:
+                made.append(added.value)
+            self._made = made
             if status:
-                self._made.pop()
                 raise self._fail(status, move)
-            self._made[-1] = not before.value or self._is_more(before.value, numbers)
-
-    # Whether the parent of the cursor has more children than so many, once the move was made: then its node is the last of them.
-    def _is_more(self, before: int, numbers: c.CMove) -> bool:
-        self._call(_back, "push")
-        if self._number(_children, "push") > before:
-            self._call(c.lib.jatshegi_board_step, "push", before)
-            return True
-        status = _play(self._at, numbers)
-        if status:
-            self._made.pop()
-            raise self._fail(status, "push")
-        return False
 
     def push_san(self, san: str) -> Move:
         """Makes the move that the text names in standard algebraic notation, and returns it. Raises `InvalidMoveError`, `IllegalMoveError`
@@ -397,8 +382,8 @@ class Board:
         return move
 
     def pop(self) -> Move:
-        """Takes back the last move, and returns it: steps to the parent. The node is taken out of the game where `push` made it, nothing hangs on it, no move,
-        comment or annotation, and no line led away from it since; else it stays, as with `back`. Raises `IndexError` where no move has been made.
+        """Takes back the last move, and returns it: steps to the parent. The node is taken out of the game where `push` added it, nothing hangs on it, no move,
+        comment or annotation, and no `line` was answered with 'ok' since; else it stays, as with `back`. Raises `IndexError` where no move has been made.
 
         >>> board = Board.from_game(jatshegi.pgn.read_game("1. e4 e5 *"))
         >>> for move in board.legal_moves:
@@ -408,12 +393,7 @@ class Board:
         1. e4 e5 *
         """
         with self._lock:
-            move = self._last()
-            status = _delete(self._at) if self._leave() and self._is_bare() else _back(self._at)
-            if status:
-                raise self._fail(status, "pop")
-            del self._made[-1:]
-            return move
+            return self._step_back(bool(self._made) and self._made[-1])
 
     def back(self) -> Move:
         """Steps to the parent, and returns the move that led from there; the node stays in the game. Raises `IndexError` where no move has been made.
@@ -425,36 +405,21 @@ class Board:
         1. e4 *
         """
         with self._lock:
-            move = self._last()
-            self._leave()
-            self._call(_back, "back")
-            del self._made[-1:]
-            return move
+            return self._step_back(False)
 
-    # The move that leads to the cursor.
-    def _last(self) -> Move:
-        move = c.CMove()
+    # Steps to the parent, and returns the move that led from there; its node is undone by whether it was added.
+    def _step_back(self, added: bool) -> Move:
+        move, made = c.CMove(), self._made
         status = _move(self._at, byref(move))
+        if not status:
+            self._made = []
+            status = _undo(self._at, added)
+            if not status:
+                del made[-1:]
+            self._made = made
         if status:
             raise self._fail(status, "pop")
         return _SHOWN[bytes(move)]
-
-    # Whether `push` made the node at the cursor, which is left: that is then forgotten.
-    def _leave(self) -> bool:
-        made = bool(self._made) and self._made[-1]
-        if made:
-            self._made[-1] = False
-        return made
-
-    # Whether nothing hangs on the node at the cursor: no move, comment or annotation.
-    def _is_bare(self) -> bool:
-        children, count = c_uint32(), c_size_t()
-        status = _children(self._at, byref(children))
-        if not (status or children.value):
-            status = _comment_of(self._at, _NOTHING, 0, byref(count)) or _annotations_of(self._at, _NOTHING, 0, byref(count))
-        if status not in (c.OK, c.NO_ROOM):
-            raise self._fail(status, "pop")
-        return not (status or children.value)
 
     def parse_san(self, san: str) -> Move:
         """The legal move that the text names in standard algebraic notation (PGN 8.2.3). Raises as `push_san`."""
@@ -617,17 +582,12 @@ class Board:
         if "\n" in line or "\r" in line:
             raise ValueError("a line has no end of line in it")
         text = line.encode(self.encoding, "surrogateescape")
-        word = "".join(line.split()[:1])
         with self._lock:
-            made = self._made
-            self._made = [] if word not in _STAYING else made
+            made, self._made = self._made, []
             answer = self._shown(self._bytes(text)).rstrip("\n")
-            if answer.startswith("refused"):
+            # What is done is answered with `ok`; any other answer says something of the board, or is a refusal.
+            if answer != "ok":
                 self._made = made
-            elif word in _SINKING:
-                self._made = [*made, False]
-            elif word in _RISING:
-                self._made = made[:-1]
         return answer
 
     # A text of the board's, read in its encoding.

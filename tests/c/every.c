@@ -28,7 +28,12 @@ static struct jatshegi_move move_of(unsigned from, unsigned to, unsigned promoti
 
 static uint32_t set(struct jatshegi_board *board, const char *fen) { return jatshegi_board_set(board, fen, strlen(fen)); }
 
-static uint32_t play(struct jatshegi_board *board, const char *text) { return jatshegi_board_play_text(board, text, strlen(text)); }
+/* What the last move that was played said. */
+static bool added;
+
+static uint32_t play(struct jatshegi_board *board, const char *text) { return jatshegi_board_play_text(board, text, strlen(text), &added); }
+
+static uint32_t make(struct jatshegi_board *board, struct jatshegi_move m) { return jatshegi_board_play(board, m, &added); }
 
 static int fen_is(struct jatshegi_board *board, const char *wanted) {
     char text[JATSHEGI_MOST_FEN];
@@ -69,9 +74,11 @@ static void without_a_board(void) {
     CHECK(jatshegi_board_position(&none, &position) == JATSHEGI_EMPTY && position.men[0] == 7 && position.side == 7 && position.number == 0x07070707);
     CHECK(jatshegi_board_fen(&none, text, sizeof text, &count) == JATSHEGI_EMPTY);
     CHECK(jatshegi_board_moves(&none, moves, JATSHEGI_MOST_MOVES, &count) == JATSHEGI_EMPTY);
-    CHECK(jatshegi_board_play(&none, m) == JATSHEGI_EMPTY);
-    CHECK(play(&none, "e4") == JATSHEGI_EMPTY);
+    added = true;
+    CHECK(make(&none, m) == JATSHEGI_EMPTY && added);
+    CHECK(play(&none, "e4") == JATSHEGI_EMPTY && added);
     CHECK(jatshegi_board_back(&none) == JATSHEGI_EMPTY);
+    CHECK(jatshegi_board_undo(&none, true) == JATSHEGI_EMPTY && jatshegi_board_undo(&none, false) == JATSHEGI_EMPTY);
     CHECK(jatshegi_board_read(&none, "e4", 2, &m) == JATSHEGI_EMPTY);
     CHECK(jatshegi_board_write(&none, m, text, sizeof text, &count) == JATSHEGI_EMPTY);
     CHECK(jatshegi_board_outcome(&none, &number) == JATSHEGI_EMPTY);
@@ -217,17 +224,20 @@ static void moves(struct jatshegi_board *b) {
     CHECK(jatshegi_board_moves(b, found, 20, &count) == JATSHEGI_OK && count == 20);
     CHECK(found[0].from == 1 && found[0].to == 16 && found[0].promotion == 0 && found[20].from == 99);
     for (size_t i = 0; i < count; i++) {
-        CHECK(jatshegi_board_play(b, found[i]) == JATSHEGI_OK);
+        CHECK(make(b, found[i]) == JATSHEGI_OK && added);
+        CHECK(jatshegi_board_back(b) == JATSHEGI_OK);
+        CHECK(make(b, found[i]) == JATSHEGI_OK && !added);
         CHECK(jatshegi_board_back(b) == JATSHEGI_OK);
     }
     CHECK(fen_is(b, START));
     CHECK(jatshegi_board_back(b) == JATSHEGI_AT_ROOT);
-    CHECK(jatshegi_board_play(b, move_of(12, 36, 0)) == JATSHEGI_ILLEGAL);
-    CHECK(jatshegi_board_play(b, move_of(64, 28, 0)) == JATSHEGI_ILLEGAL);
-    CHECK(jatshegi_board_play(b, move_of(12, 255, 0)) == JATSHEGI_ILLEGAL);
-    CHECK(jatshegi_board_play(b, move_of(12, 28, 5)) == JATSHEGI_ILLEGAL);
-    CHECK(play(b, "e5") == JATSHEGI_ILLEGAL);
-    CHECK(play(b, "castle") == JATSHEGI_FORM);
+    CHECK(make(b, move_of(12, 36, 0)) == JATSHEGI_ILLEGAL && !added);
+    added = true;
+    CHECK(make(b, move_of(64, 28, 0)) == JATSHEGI_ILLEGAL && added);
+    CHECK(make(b, move_of(12, 255, 0)) == JATSHEGI_ILLEGAL);
+    CHECK(make(b, move_of(12, 28, 5)) == JATSHEGI_ILLEGAL);
+    CHECK(play(b, "e5") == JATSHEGI_ILLEGAL && added);
+    CHECK(play(b, "castle") == JATSHEGI_FORM && added);
     CHECK(fen_is(b, START));
     CHECK(jatshegi_board_read(b, "Nf3", 3, &m) == JATSHEGI_OK && m.from == 6 && m.to == 21 && m.promotion == 0);
     CHECK(jatshegi_board_read(b, "Nf4", 3, &m) == JATSHEGI_ILLEGAL && m.from == 6);
@@ -243,7 +253,7 @@ static void moves(struct jatshegi_board *b) {
     CHECK(jatshegi_board_write(b, move_of(55, 63, 0), (char *)found, 8, &count) == JATSHEGI_ILLEGAL);
     CHECK(jatshegi_board_write(b, move_of(55, 63, 9), (char *)found, 8, &count) == JATSHEGI_ILLEGAL);
     CHECK(jatshegi_board_write(b, move_of(55, 63, 4), (char *)found, 4, &count) == JATSHEGI_NO_ROOM && count == 5);
-    CHECK(jatshegi_board_play(b, move_of(55, 63, 4)) == JATSHEGI_OK);
+    CHECK(make(b, move_of(55, 63, 4)) == JATSHEGI_OK && added);
     CHECK(fen_is(b, "k6Q/8/8/8/8/8/8/K1N3N1 b - - 0 1"));
     CHECK(jatshegi_board_fen(b, (char *)found, 3, &count) == JATSHEGI_NO_ROOM && count == 32);
 }
@@ -325,6 +335,48 @@ static void trees(struct jatshegi_board *b) {
     CHECK(jatshegi_board_delete(b) == JATSHEGI_OK && answers(b, "path", "0\n"));
     CHECK(jatshegi_board_end(b) == JATSHEGI_OK && answers(b, "path", "0.0\n"));
     CHECK(fen_is(b, "rnbqkbnr/pppp1ppp/8/4p3/4P3/8/PPPP1PPP/RNBQKBNR w KQkq e6 0 2"));
+}
+
+/* How many leaves the tree of legal moves has so many plies below the position, by moves that are played and taken back. */
+static uint64_t perft(struct jatshegi_board *b, int depth) {
+    struct jatshegi_move found[JATSHEGI_MOST_MOVES];
+    uint64_t leaves = 0;
+    size_t count = 0;
+    if (jatshegi_board_moves(b, found, JATSHEGI_MOST_MOVES, &count) != JATSHEGI_OK || depth == 1) return count;
+    for (size_t i = 0; i < count; i++) {
+        bool is_new = false;
+        if (jatshegi_board_play(b, found[i], &is_new) != JATSHEGI_OK) return 0;
+        leaves += perft(b, depth - 1);
+        if (jatshegi_board_undo(b, is_new) != JATSHEGI_OK) return 0;
+    }
+    return leaves;
+}
+
+static void undone(struct jatshegi_board *b) {
+    static const char game[] = "{start} 1. d4 $1 (1. c4 {a} c5) 1... d5 *", wanted[] = SEVEN_TAGS "{start} 1. d4 $1 (1. c4 {a} 1... c5) 1... d5 *\n\n";
+    struct jatshegi_move found[JATSHEGI_MOST_MOVES];
+    size_t used = 0, count = 0;
+    CHECK(set(b, START) == JATSHEGI_OK && jatshegi_board_undo(b, true) == JATSHEGI_AT_ROOT && jatshegi_board_undo(b, false) == JATSHEGI_AT_ROOT);
+    CHECK(perft(b, 4) == 197281 && answers(b, "pgn", SEVEN_TAGS "*\n\n") && answers(b, "path", "-\n"));
+    CHECK(set(b, "r3k2r/p1ppqpb1/bn2pnp1/3PN3/1p2P3/2N2Q1p/PPPBBPPP/R3K2R w KQkq - 0 1") == JATSHEGI_OK && perft(b, 3) == 97862 && answers(b, "step 0", "refused 1 NoSuch\n"));
+    /* A game that was there stays as it is, whatever is tried in each of its positions. */
+    CHECK(jatshegi_board_load(b, game, strlen(game), &used) == JATSHEGI_OK && perft(b, 3) == 8902 && answers(b, "pgn", wanted));
+    for (int step = 0; step < 2; step++) {
+        CHECK(jatshegi_board_step(b, 0) == JATSHEGI_OK && jatshegi_board_moves(b, found, JATSHEGI_MOST_MOVES, &count) == JATSHEGI_OK);
+        for (size_t i = 0; i < count; i++) CHECK(make(b, found[i]) == JATSHEGI_OK && jatshegi_board_undo(b, added) == JATSHEGI_OK);
+    }
+    CHECK(answers(b, "path", "0.0\n") && answers(b, "pgn", wanted));
+    /* What play found stays; so does a node that something hangs on: a child, a comment, an annotation number. */
+    CHECK(jatshegi_board_start(b) == JATSHEGI_OK && play(b, "d4") == JATSHEGI_OK && !added && play(b, "d5") == JATSHEGI_OK && !added);
+    CHECK(jatshegi_board_undo(b, added) == JATSHEGI_OK && answers(b, "path", "0\n") && jatshegi_board_undo(b, false) == JATSHEGI_OK && answers(b, "pgn", wanted));
+    CHECK(set(b, START) == JATSHEGI_OK && play(b, "e4") == JATSHEGI_OK && added && play(b, "e5") == JATSHEGI_OK && added);
+    CHECK(jatshegi_board_back(b) == JATSHEGI_OK && jatshegi_board_undo(b, true) == JATSHEGI_OK && play(b, "d4") == JATSHEGI_OK && added);
+    CHECK(jatshegi_board_comment(b, "x", 1) == JATSHEGI_OK && jatshegi_board_undo(b, true) == JATSHEGI_OK && play(b, "c4") == JATSHEGI_OK && added);
+    CHECK(jatshegi_board_annotate(b, 6) == JATSHEGI_OK && jatshegi_board_undo(b, true) == JATSHEGI_OK && answers(b, "path", "-\n"));
+    CHECK(answers(b, "pgn", SEVEN_TAGS "1. e4 (1. d4 {x}) (1. c4 $6) 1... e5 *\n\n"));
+    /* Before its siblings it is taken out all the same. */
+    CHECK(play(b, "b4") == JATSHEGI_OK && added && jatshegi_board_promote(b) == JATSHEGI_OK && jatshegi_board_undo(b, true) == JATSHEGI_OK);
+    CHECK(answers(b, "pgn", SEVEN_TAGS "1. e4 (1. d4 {x}) (1. c4 $6) 1... e5 *\n\n") && fen_is(b, START));
 }
 
 /* The node at the cursor as `depth children move comment numbers`. */
@@ -519,6 +571,7 @@ int main(void) {
     outcomes(&board);
     numbers(&board);
     trees(&board);
+    undone(&board);
     nodes(&board);
     lines(&board);
     games();

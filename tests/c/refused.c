@@ -55,6 +55,7 @@ struct outputs {
     size_t count, used;
     uint64_t passed;
     struct jatshegi_report report;
+    bool added;
 };
 static struct outputs out, untouched;
 
@@ -98,7 +99,7 @@ static uint32_t step(struct jatshegi_board *board, int number) {
     size_t length = strlen(text);
     out = untouched;
     if (number == 0) return jatshegi_board_new(keys, board);
-    if (number <= 6) return jatshegi_board_play_text(board, played[number - 1], strlen(played[number - 1]));
+    if (number <= 6) return jatshegi_board_play_text(board, played[number - 1], strlen(played[number - 1]), &out.added);
     if (number == 7) return jatshegi_board_comment(board, comment, strlen(comment));
     if (number == 8) return jatshegi_board_annotate(board, 1);
     if (number == 9) return jatshegi_board_answer(board, "pgn", 3, out.text, sizeof out.text, &out.count);
@@ -123,6 +124,7 @@ static int is_right(int number, uint32_t status) {
         return status == JATSHEGI_PGN_MOVE && memcmp(&out, &wanted, sizeof out) == 0;
     }
     if (status != JATSHEGI_OK) return 0;
+    if (out.added != (number >= 1 && number <= 6)) return 0;
     if (number >= 11 && number <= 13 && out.used != sizeof GOOD - 1) return 0;
     if ((number == 9 || number == 11 || number == 12) && (out.count > sizeof out.text || memcmp(out.text, untouched.text, out.count) == 0)) return 0;
     if (number == 12 && (out.report.plies != 4 || out.report.status != JATSHEGI_PLAY)) return 0;
@@ -177,6 +179,7 @@ static int all_is_given_back(void) {
 int main(void) {
     static struct jatshegi_keys filled;
     memset(&untouched, 0x5a, sizeof untouched);
+    untouched.added = false;
     jatshegi_keys_fill(&filled);
     keys = &filled;
     for (int number = 0; number < STEPS; number++) {

@@ -25,12 +25,21 @@ static void play_and_back_lines(void) {
 
 static void play_and_back(void) {
     struct jatshegi_move m = {12, 28, JATSHEGI_NO_PROMOTION};
-    jatshegi_board_play(&board, m);
+    bool added;
+    jatshegi_board_play(&board, m, &added);
     jatshegi_board_back(&board);
 }
 
+static void play_and_undo(void) {
+    struct jatshegi_move m = {11, 27, JATSHEGI_NO_PROMOTION};
+    bool added;
+    jatshegi_board_play(&board, m, &added);
+    jatshegi_board_undo(&board, added);
+}
+
 static void play_text_and_back(void) {
-    jatshegi_board_play_text(&board, "Nf3", 3);
+    bool added;
+    jatshegi_board_play_text(&board, "Nf3", 3, &added);
     jatshegi_board_back(&board);
 }
 
@@ -74,6 +83,7 @@ int main(void) {
     measure("moves, a line", moves_line, 200000);
     measure("play e4 and back, lines", play_and_back_lines, 200000);
     measure("play and back", play_and_back, 1000000);
+    measure("play and undo", play_and_undo, 1000000);
     measure("play_text Nf3 and back", play_text_and_back, 300000);
     measure("moves, 20 of them", typed_moves, 500000);
     measure("evaluation", evaluation, 3000000);

@@ -1,6 +1,7 @@
 -- What typed calls do and answer, in the words of the board's own answers. Three numbers that are no move are answered as a move that isn't legal. What is
 -- written for a caller is named twice, as it was and as it is afterwards: a call that is refused writes nothing.
---   play_in      a move as C sees it is made
+--   play_in, is_new_in   a move as C sees it is made; a node is added for it
+--   SaysAdded    where a move was made, whether a node was added for it
 --   IsClaimed    the draws that may be claimed with a move
 --   IsRead       the move that a text names, or why it names none
 --   IsWritten    the text of a move in standard algebraic notation
@@ -11,7 +12,7 @@
 --   flag         1 for what holds
 --   attackers_of   the men of a colour that attack a square, as a word: the bit of each man's square is 1
 --   IsAttackedBy   that word, for numbers that are a colour and a square
-use Rattle.std.specs.Prelude.{◌≡◌, ◌⊎◌, ◌<◌, ◌≤◌, ℕ, ◌+◌, ◌-◌, ℤ, nat_le, nat_lt, Bool, true, false, ◌&&◌, List, [], length, Option, Some, None, Result, Ok, Err}
+use Rattle.std.specs.Prelude.{◌≡◌, ◌⊎◌, ◌<◌, ◌≤◌, ℕ, ◌+◌, ◌-◌, ℤ, nat_le, nat_lt, ◌==◌, Bool, true, false, ◌&&◌, if◌then◌else◌, List, [], length, Option, Some, None, Result, Ok, Err}
 use Rattle.chess_types.specs.declared.board.man.Colour.{Colour}
 use Rattle.chess_types.specs.declared.board.man.Man.{Man}
 use Rattle.chess_types.specs.declared.board.outcome.Claims.{Claims}
@@ -28,13 +29,15 @@ use Rattle.chess_search.specs.Asked.{trees_below}
 use Rattle.chess_search.specs.Best.{best}
 use Rattle.chess_search.specs.Watches.{Watched}
 use Rattle.chess_tree.specs.GameTree.{TreeParts}
+use Rattle.chess_tree.specs.Plays.{is_new}
 use Rattle.chess_cli.specs.declared.board_command.refusal.Refusal.TheVariants.{Argument, AtRoot, Illegal}
 use Rattle.chess_cli.specs.Refusals.{san_refusal}
-use Rattle.chess_cli.specs.Answers.{Effect, Refuses, is_new, move_effect}
+use Rattle.chess_cli.specs.Answers.{Effect, Refuses, move_effect}
 use Rattle.chess_c.specs.declared.moves.CMove.{CMove}
 use Rattle.chess_slots.specs.Codes.{no_memory, none_best, ok, was_abandoned}
 use Rattle.chess_slots.specs.Handed.{IsHanded}
 use Rattle.chess_c.specs.Codes.{claims_code, refusal_code}
+use Rattle.chess_c.specs.Held.{Held}
 use Rattle.chess_c.specs.Moves.{shown}
 
 -- a move is made, if it is one
@@ -46,6 +49,11 @@ play_in (Some m) board = move_effect board m
 abbrev pub is_new_in : Option MoveParts → TreeParts → Bool
 is_new_in None board = false
 is_new_in (Some m) board = is_new board m
+
+-- where the call is done, whether a node was added is handed out
+abbrev pub SaysAdded : (TreeParts → Bool) → Option Held → (code : ℕ) → (said said' : Bool) → Type 0
+SaysAdded is_new None code said said' = said' ≡ said
+SaysAdded is_new (Some held) code said said' = said' ≡ (if code == ok then is_new held.board else said)
 
 -- none where the move isn't legal
 abbrev pub claims_in : Option MoveParts → Line → Option Claims

@@ -1,12 +1,13 @@
-ghost use Rattle.std.specs.Prelude.{◌≡◌, ◌++◌, ◌∷◌, [], false, nat_lt, true};
+ghost use Rattle.std.specs.Prelude.{◌≡◌, ◌++◌, ◌∷◌, [], false, if◌then◌else◌, is_ok, nat_lt, true};
 ghost use Rattle.chess_types.specs.board.Lines.{last};
 ghost use Rattle.chess_san.specs.Naming.{san_reading};
 ghost use Rattle.chess_tree.specs.Edits.{parent};
 ghost use Rattle.chess_tree.specs.Forest.{count};
 ghost use Rattle.chess_tree.specs.GameTree.{annotated_here, at_path, deleted, line_to, main_line, nodes_here, promoted_here};
 ghost use Rattle.chess_cli.specs.Answers.{Does, HasEffect, comment_effect, has_words, if_it_exists, names_new, not_at_root, play_effect};
+ghost use Rattle.chess_tree.specs.Undo.{undone};
 ghost use Rattle.chess_c.specs.Calls.{Acts};
-ghost use Rattle.chess_c.specs.Asked.{is_new_in, play_in};
+ghost use Rattle.chess_c.specs.Asked.{SaysAdded, is_new_in, play_in};
 ghost use Rattle.chess_c.specs.Moves.{move_in};
 
 use crate::codes::ended_code;
@@ -17,42 +18,82 @@ use chess_slots::EMPTY;
 use std::alloc::Global;
 
 // Makes the move of three numbers.
-fn play(board: &mut Board<'static, Global>, m: CMove) -> Result<(), Refusal>
-    ensures { HasEffect (is_new_in (move_in m) board.old) (play_in (move_in m) board.old) board.old result board.new }
+fn play(board: &mut Board<'static, Global>, m: CMove, added: &mut bool) -> Result<(), Refusal>
+    ensures effect { HasEffect (is_new_in (move_in m) board.old) (play_in (move_in m) board.old) board.old result board.new }
+    ensures adds { added.new ≡ (if is_ok result then is_new_in (move_in m) board.old else added.old) }
 {
-    match m.read() {
-        None => Err(Refusal::Illegal),
-        Some(legal) => board.make(legal),
-    }
+    let Some(legal) = m.read() else {
+        return Err(Refusal::Illegal);
+    };
+    *added = board.make(legal)?;
+    Ok(())
 }
 
-/// Makes a move at the cursor: steps to the first child that has it, else to a new one.
+// Makes the move that a text names.
+fn play_text(
+    board: &mut Board<'static, Global>,
+    text: &[u8],
+    added: &mut bool,
+) -> Result<(), Refusal>
+    ensures effect { HasEffect (names_new board.old (san_reading (last (line_to board.old)) text.now)) (play_effect board.old (san_reading (last (line_to board.old)) text.now)) board.old result board.new }
+    ensures adds { added.new ≡ (if is_ok result then names_new board.old (san_reading (last (line_to board.old)) text.now) else added.old) }
+{
+    *added = board.play(text)?;
+    Ok(())
+}
+
+/// Makes a move at the cursor: steps to the first child that has it, else to a new one, and says whether it added a node.
 #[unsafe(no_mangle)]
-pub extern "C" fn jatshegi_board_play(alloc: Global, slot: &mut Slot, m: CMove) -> u32
-    ensures { Acts (λ board ended after. HasEffect (is_new_in (move_in m) board) (play_in (move_in m) board) board ended after) slot.old.held result slot.new.held }
+pub extern "C" fn jatshegi_board_play(
+    alloc: Global,
+    slot: &mut Slot,
+    m: CMove,
+    added: &mut bool,
+) -> u32
+    ensures acts { Acts (λ board ended after. HasEffect (is_new_in (move_in m) board) (play_in (move_in m) board) board ended after) slot.old.held result slot.new.held }
+    ensures adds { SaysAdded (is_new_in (move_in m)) slot.old.held result added.old added.new }
 {
     let Some(mut session) = take(slot, alloc) else {
         return EMPTY;
     };
-    let ended = play(&mut session.board, m);
+    let ended = play(&mut session.board, m, added);
     put(slot, session, alloc);
     ended_code(ended)
 }
 
-/// Makes the move that a text names, in standard algebraic notation or from square to square.
+/// Makes the move that a text names, in standard algebraic notation or from square to square, and says whether it added a node.
 #[unsafe(no_mangle)]
-pub extern "C" fn jatshegi_board_play_text(alloc: Global, slot: &mut Slot, text: &[u8]) -> u32
-    ensures { Acts (λ board ended after. HasEffect (names_new board (san_reading (last (line_to board)) text.now)) (play_effect board (san_reading (last (line_to board)) text.now)) board ended after) slot.old.held result slot.new.held }
+pub extern "C" fn jatshegi_board_play_text(
+    alloc: Global,
+    slot: &mut Slot,
+    text: &[u8],
+    added: &mut bool,
+) -> u32
+    ensures acts { Acts (λ board ended after. HasEffect (names_new board (san_reading (last (line_to board)) text.now)) (play_effect board (san_reading (last (line_to board)) text.now)) board ended after) slot.old.held result slot.new.held }
+    ensures adds { SaysAdded (λ board. names_new board (san_reading (last (line_to board)) text.now)) slot.old.held result added.old added.new }
 {
     let Some(mut session) = take(slot, alloc) else {
         return EMPTY;
     };
-    let ended = session.board.play(text);
+    let ended = play_text(&mut session.board, text, added);
     put(slot, session, alloc);
     ended_code(ended)
 }
 
-/// Steps to the parent: takes the last move back, which stays in the tree.
+/// Takes a played move back: steps to the parent, and takes the node out that it leaves where it was added and nothing hangs on it.
+#[unsafe(no_mangle)]
+pub extern "C" fn jatshegi_board_undo(alloc: Global, slot: &mut Slot, added: bool) -> u32
+    ensures { Acts (λ board ended after. HasEffect false (not_at_root board.path (undone added board)) board ended after) slot.old.held result slot.new.held }
+{
+    let Some(mut session) = take(slot, alloc) else {
+        return EMPTY;
+    };
+    let ended = session.board.undo(added);
+    put(slot, session, alloc);
+    ended_code(ended)
+}
+
+/// Steps to the parent: the node stays in the tree.
 #[unsafe(no_mangle)]
 pub extern "C" fn jatshegi_board_back(alloc: Global, slot: &mut Slot) -> u32
     ensures { Acts (λ board ended after. HasEffect false (not_at_root board.path (at_path (parent board.path) board)) board ended after) slot.old.held result slot.new.held }

@@ -1,7 +1,7 @@
 -- What the board answers to a line of the input, and its game tree and cursor afterwards. Nothing here keeps a number: the counts, the
 -- evaluation, the repetitions and the status are those that the definitions give afresh for the starting position and the moves from the
 -- root to the cursor.
-use Rattle.std.specs.Prelude.{◌≡◌, ℕ, ◌+◌, ◌*◌, ◌<◌, nat_le, nat_lt, Bool, true, false, not, is_some, if◌then◌else◌, ◌⊎◌, ⊤, List, [], ◌∷◌, ◌++◌, length, map, filter, Option, Some, None, Result, Ok, Err, codes, decimal, ℤ}
+use Rattle.std.specs.Prelude.{◌≡◌, ℕ, ◌+◌, ◌*◌, ◌<◌, nat_le, nat_lt, Bool, true, false, if◌then◌else◌, ◌⊎◌, ⊤, List, [], ◌∷◌, ◌++◌, length, map, filter, Option, Some, None, Result, Ok, Err, codes, decimal, ℤ}
 use Rattle.std.specs.Fmt.{signed_decimal}
 use Rattle.std.specs.List.{range_with_len}
 use Rattle.chess_types.specs.declared.board.man.Colour.{Colour}
@@ -28,6 +28,7 @@ use Rattle.chess_tree.specs.Forest.{Bare, count as count_children, moves_held, m
 use Rattle.chess_tree.specs.Edits.{parent}
 use Rattle.chess_tree.specs.Comments.{has_brace, normalised}
 use Rattle.chess_tree.specs.GameTree.{TreeParts, added, annotated_here, at_path, commented_here, deleted, find, has, line_to, main_line, nodes_here, promoted_here}
+use Rattle.chess_tree.specs.Plays.{is_new}
 use Rattle.chess_loop.specs.InputLines.{line_limit, line_room}
 use Rattle.chess_pgn.specs.Games.{untagged}
 use Rattle.chess_pgn.specs.Written.{game_text}
@@ -200,11 +201,7 @@ answer t request = reply (effect t request)
 abbrev pub tree_after : TreeParts → Request → TreeParts
 tree_after t request = tree_left_by t (effect t request)
 
--- the move has no node yet, so that one is added
-abbrev pub is_new : TreeParts → MoveParts → Bool
-is_new t m = not (is_some (find m (nodes_here t)))
-
--- the move that a text names has none
+-- the move that a text names has no node yet, so that one is added
 abbrev pub names_new : TreeParts → Result MoveParts SanFault → Bool
 names_new t (Ok m) = is_new t m
 names_new t (Err fault) = false

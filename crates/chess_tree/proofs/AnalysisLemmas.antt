@@ -1,6 +1,6 @@
 -- An analysis: what playing a move answers, and that the line stays the one to the cursor, call by call.
 use Rattle.std.proofs.Common.{◌≡◌, ℕ, zero, suc, ◌+◌, ◌<◌, ◌≤◌, Bool, true, false, nat_le, if◌then◌else◌, List, [], ◌∷◌, ◌++◌, length, take, Option, None, Some, refl, sym, ap, subst, ◌∙◌, inl, inr, arith}
-use Rattle.std.specs.Prelude.{◌⊎◌, not, Result, Ok, Err, is_ok, OnOk, OnErr, MatchOption, MatchResult}
+use Rattle.std.specs.Prelude.{◌⊎◌, not, is_some, Result, Ok, Err, is_ok, OnOk, OnErr, MatchOption, MatchResult}
 use Rattle.std.proofs.lemmas.Bool.{false≢true}
 use Rattle.std.proofs.lemmas.Bool.Decides.{nat_tests}
 use Rattle.std.proofs.lemmas.List.{length-append}
@@ -21,7 +21,7 @@ use Rattle.chess_tree.specs.Edits.{annotated, commented, parent, promoted, witho
 use Rattle.chess_tree.specs.Comments.{IsComment, has_brace, normalised}
 use Rattle.chess_tree.specs.GameTree.{GameTree, TreeParts, added, annotated_here, at_path, commented_here, commented_tree, deleted, find, has, here, line_to, nodes_here, promoted_here}
 use Rattle.chess_tree.specs.CursorLine.{GoesOn}
-use Rattle.chess_tree.specs.Plays.{Adds, IsAnswer, Plays, add_answer, led_to, legal_answer, play_answer, played}
+use Rattle.chess_tree.specs.Plays.{Adds, IsAnswer, Plays, add_answer, is_new, led_to, legal_answer, play_answer, played}
 use Rattle.chess_tree.specs.WellFormed.{IsGameTree}
 use Rattle.chess_tree.specs.steps.Analysed.{IsAnalysed}
 use Rattle.chess_tree.proofs.EditLemmas as edits
@@ -153,18 +153,32 @@ pub found_line : (t new : TreeParts) (place : ℕ) (m : MoveParts) → new ≡ a
 found_line t new place m e found = ap line_to e ∙ line_on t place m (find_some m (nodes_here t) place (sym found)).1
 
 -- to a child that has it
-pub plays_there : (t new : TreeParts) (m : MoveParts) → play_answer t m ≡ Ok tt → new ≡ played m t → line_to new ≡ extended (line_to t) m → Plays m t (Ok tt) new
-plays_there t new m answer is line = record { answer = inl (sym answer); found = λ _ _. refl; ok = is; line = line; err = tt }
+pub plays_there : (t new : TreeParts) (m : MoveParts) → is_new t m ≡ false → play_answer t m ≡ Ok tt → new ≡ played m t → line_to new ≡ extended (line_to t) m → Plays m t (Ok false) new
+plays_there t new m old answer is line = record { answer = inl (sym answer); adds = sym old; found = λ _ _. refl; ok = is; line = line; err = tt }
 
 -- to a new one
-pub plays_new : (r : Result (Unit {0}) PlayFault) (t old new : TreeParts) (m : MoveParts) → find m (nodes_here t) ≡ None → old ≡ t → Adds m old r new → Plays m t r new
-plays_new r t old new m none same adds =
-    let is : Adds m t r new = subst (λ (x : TreeParts). Adds m x r new) same adds in
+pub plays_new : (t old new : TreeParts) (m : MoveParts) → find m (nodes_here t) ≡ None → old ≡ t → Adds m old (Ok tt) new → Plays m t (Ok true) new
+plays_new t old new m none same adds =
+    let is : Adds m t (Ok tt) new = subst (λ (x : TreeParts). Adds m x (Ok tt) new) same adds in
     record {
-      answer = subst (λ (o : Option ℕ). IsAnswer (if not (is_legal (last (line_to t)) m) then Err Illegal else legal_answer t o) r) (sym none) is.answer;
+      answer = subst (λ (o : Option ℕ). IsAnswer (if not (is_legal (last (line_to t)) m) then Err Illegal else legal_answer t o) (Ok tt)) (sym none) is.answer;
+      adds = ap (λ (o : Option ℕ). not (is_some o)) (sym none);
       found = λ place there. absurd (none-some place (sym none ∙ there));
-      ok = subst (λ (o : Option ℕ). OnOk r (new ≡ led_to m t o)) (sym none) is.ok;
+      ok = subst (λ (o : Option ℕ). new ≡ led_to m t o) (sym none) is.ok;
       line = is.line;
+      err = tt;
+    }
+
+-- to none
+pub plays_not : (fault : PlayFault) (t old new : TreeParts) (m : MoveParts) → find m (nodes_here t) ≡ None → old ≡ t → Adds m old (Err fault) new → Plays m t (Err fault) new
+plays_not fault t old new m none same adds =
+    let is : Adds m t (Err fault) new = subst (λ (x : TreeParts). Adds m x (Err fault) new) same adds in
+    record {
+      answer = subst (λ (o : Option ℕ). IsAnswer (if not (is_legal (last (line_to t)) m) then Err Illegal else legal_answer t o) (Err fault)) (sym none) is.answer;
+      adds = tt;
+      found = λ place there. absurd (none-some place (sym none ∙ there));
+      ok = tt;
+      line = tt;
       err = is.err;
     }
 

@@ -7,6 +7,7 @@ pub mod StepLemmas
 pub mod KeptLemmas
 pub mod WalkLemmas
 pub mod AnalysisLemmas
+pub mod UndoLemmas
 pub mod FindLemmas
 pub mod CloneLemmas
 pub mod CommentLemmas

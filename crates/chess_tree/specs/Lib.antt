@@ -8,4 +8,5 @@ pub mod WellFormed
 pub mod CursorLine
 pub mod Calls
 pub mod Plays
+pub mod Undo
 pub mod steps

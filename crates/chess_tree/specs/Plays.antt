@@ -2,9 +2,11 @@
 --   add_answer    the answer where there is memory and the move is added whether or not a child has it: the first fault that applies
 --   play_answer   the same where a child that has the move is stepped to
 --   played        the tree and the cursor once a move is played
+--   is_new        no child has the move yet, so that a node is added
 --   IsAnswer      `Memory` is returned only where nothing else is wrong
+--   done          that it is done, or why not
 --   Adds, Plays   what the calls return and leave
-use Rattle.std.specs.Prelude.{◌≡◌, ◌⊎◌, ℕ, nat_le, not, if◌then◌else◌, [], ◌∷◌, ◌++◌, length, Option, None, Some, Result, Ok, Err, OnErr, OnOk}
+use Rattle.std.specs.Prelude.{◌≡◌, ◌⊎◌, ℕ, nat_le, Bool, false, not, is_some, if◌then◌else◌, [], ◌∷◌, ◌++◌, length, Option, None, Some, Result, Ok, Err, IfOk, OnErr, OnOk}
 use Rattle.chess_types.specs.board.MoveParts.{MoveParts}
 use Rattle.chess_types.specs.board.Legal.{is_legal}
 use Rattle.chess_types.specs.board.Lines.{extended, last}
@@ -36,6 +38,10 @@ led_to m t None = added m t
 abbrev pub played : MoveParts → TreeParts → TreeParts
 played m t = led_to m t (find m (nodes_here t))
 
+-- no child has the move yet, so that a node is added
+abbrev pub is_new : TreeParts → MoveParts → Bool
+is_new t m = not (is_some (find m (nodes_here t)))
+
 -- this answer, or for want of memory `Memory`
 abbrev pub IsAnswer : Result (Unit {0}) PlayFault → Result (Unit {0}) PlayFault → Type 0
 IsAnswer answer result = (result ≡ answer) ⊎ ((answer ≡ Ok tt) × (result ≡ Err Memory))
@@ -47,10 +53,16 @@ pub record Adds (m : MoveParts) (old : TreeParts) (result : Result (Unit {0}) Pl
   pub line : OnOk result (line_to new ≡ extended (line_to old) m)
   pub err : OnErr result (new ≡ old)
 
--- A move is played. A step to a child that has it takes no memory. All is as before where it is refused.
-pub record Plays (m : MoveParts) (old : TreeParts) (result : Result (Unit {0}) PlayFault) (new : TreeParts) : Type 0 where
-  pub answer : IsAnswer (play_answer old m) result
-  pub found : (place : ℕ) → find m (nodes_here old) ≡ Some place → result ≡ Ok tt
+-- that it is done, or why not
+abbrev pub done : Result Bool PlayFault → Result (Unit {0}) PlayFault
+done (Ok _) = Ok tt
+done (Err fault) = Err fault
+
+-- A move is played, and whether a node was added for it is returned. A step to a child that has it takes no memory. All is as before where it is refused.
+pub record Plays (m : MoveParts) (old : TreeParts) (result : Result Bool PlayFault) (new : TreeParts) : Type 0 where
+  pub answer : IsAnswer (play_answer old m) (done result)
+  pub adds : IfOk result (λ is_added. is_added ≡ is_new old m)
+  pub found : (place : ℕ) → find m (nodes_here old) ≡ Some place → result ≡ Ok false
   pub ok : OnOk result (new ≡ played m old)
   pub line : OnOk result (line_to new ≡ extended (line_to old) m)
   pub err : OnErr result (new ≡ old)

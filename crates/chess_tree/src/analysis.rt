@@ -7,7 +7,7 @@ ghost use Rattle.chess_tree.specs.declared.fault.PlayFault.TheVariants.{Full as 
 ghost use Rattle.chess_tree.specs.Forest.{Bare, moves_held, most_moves};
 ghost use Rattle.chess_tree.specs.GameTree.{added, at_path, find, line_to, nodes_here};
 ghost use Rattle.chess_tree.specs.WellFormed.{IsGameTree};
-ghost use Rattle.chess_tree.specs.Plays.{Adds, IsAnswer, Plays, play_answer, played};
+ghost use Rattle.chess_tree.specs.Plays.{Adds, IsAnswer, Plays, is_new, play_answer, played};
 
 mod asked;
 mod edits;
@@ -163,6 +163,7 @@ impl<'a, 'k, A: Allocator> Analysis<'a, 'k, A> {
     #[tactic(auto, using(crate::proofs::AnalysisLemmas::found_line))]
     fn follow(&mut self, m: Move) -> bool
         ensures answer { result ≡ true → play_answer self.old m ≡ Ok tt }
+        ensures old { result ≡ true → is_new self.old m ≡ false }
         ensures played { result ≡ true → self.new ≡ played m self.old }
         ensures line { result ≡ true → line_to self.new ≡ extended (line_to self.old) m }
         ensures none { result ≡ false → find m (nodes_here self.old) ≡ None }
@@ -177,19 +178,23 @@ impl<'a, 'k, A: Allocator> Analysis<'a, 'k, A> {
         true
     }
 
-    /// Plays a move: steps to the first child that has it, else adds it.
+    /// Plays a move: steps to the first child that has it, else adds it. Says whether it added a node: with that answer `undo` takes
+    /// the move back.
     ///
     /// # Errors
     ///
     /// Those of `add`; none where a child has the move. All is then as before.
-    #[tactic(auto, using(crate::proofs::AnalysisLemmas::plays_there, crate::proofs::AnalysisLemmas::plays_new))]
-    pub fn play(&mut self, m: Move) -> Result<(), PlayFault>
+    #[tactic(auto, using(crate::proofs::AnalysisLemmas::plays_there, crate::proofs::AnalysisLemmas::plays_new, crate::proofs::AnalysisLemmas::plays_not))]
+    pub fn play(&mut self, m: Move) -> Result<bool, PlayFault>
         ensures { Plays m self.old result self.new }
     {
         if self.follow(m) {
-            return Ok(());
+            return Ok(false);
         }
-        self.add(m)
+        match self.add(m) {
+            Ok(()) => Ok(true),
+            Err(fault) => Err(fault),
+        }
     }
 
     /// The same with a move that is known to be legal, as `read_move` answers it: it isn't asked again.
@@ -197,15 +202,18 @@ impl<'a, 'k, A: Allocator> Analysis<'a, 'k, A> {
     /// # Errors
     ///
     /// Those of `add_legal`; none where a child has the move. All is then as before.
-    #[tactic(auto, using(crate::proofs::AnalysisLemmas::plays_there, crate::proofs::AnalysisLemmas::plays_new))]
-    pub fn play_legal(&mut self, m: Move) -> Result<(), PlayFault>
+    #[tactic(auto, using(crate::proofs::AnalysisLemmas::plays_there, crate::proofs::AnalysisLemmas::plays_new, crate::proofs::AnalysisLemmas::plays_not))]
+    pub fn play_legal(&mut self, m: Move) -> Result<bool, PlayFault>
         requires legal { IsTrue (is_legal (last (line_to self.old)) m) }
         ensures { Plays m self.old result self.new }
     {
         if self.follow(m) {
-            return Ok(());
+            return Ok(false);
         }
-        self.add_legal(m)
+        match self.add_legal(m) {
+            Ok(()) => Ok(true),
+            Err(fault) => Err(fault),
+        }
     }
 
     /// Adds a move as a child of its own, after the others, whether or not one of them has it, and steps into it.

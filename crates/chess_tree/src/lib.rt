@@ -9,10 +9,12 @@
 mod analysis;
 mod arena;
 mod fault;
+mod laws;
 mod node;
 mod tree;
 
 pub use analysis::Analysis;
 pub use fault::{PlayFault, TreeFault};
+pub use laws::undo_laws;
 pub use node::{Children, NodeRef, Notes};
 pub use tree::Tree;

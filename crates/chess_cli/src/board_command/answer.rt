@@ -26,12 +26,12 @@ pub fn put_refused<A: Allocator>(page: &mut OutputBuffer<A>, refusal: Refusal)
 }
 
 /// `ok`, or the refusal, and a line feed.
-pub fn put_done<A: Allocator>(page: &mut OutputBuffer<A>, ended: Result<(), Refusal>)
+pub fn put_done<X: Copy, A: Allocator>(page: &mut OutputBuffer<A>, ended: Result<X, Refusal>)
     requires { length page.old + 2600 ≤ 65536 }
     ensures { page.new ≡ page.old ++ ok_or_refused ended }
 {
     match ended {
-        Ok(()) => page.put(b"ok\n"),
+        Ok(_) => page.put(b"ok\n"),
         Err(refusal) => put_refused(page, refusal),
     }
 }

@@ -15,10 +15,12 @@ ghost use Rattle.chess_pgn.specs.Reading.{HasNoGame, BeginsWithGame, IsWhite};
 ghost use Rattle.chess_tree.specs.Forest.{count as count_children};
 ghost use Rattle.chess_tree.specs.Edits.{parent};
 ghost use Rattle.chess_tree.specs.GameTree.{TreeParts, annotated_here, at_path, deleted, line_to, main_line, nodes_here, promoted_here};
+ghost use Rattle.chess_tree.specs.Plays.{is_new};
+ghost use Rattle.chess_tree.specs.Undo.{undone};
 ghost use Rattle.chess_cli.specs.Loads.{from_root};
 ghost use Rattle.chess_cli.specs.Outcomes.{claims_text};
 ghost use Rattle.chess_cli.specs.Numbers.{depth_in, path_in};
-ghost use Rattle.chess_cli.specs.Answers.{Answers, Does, HasEffect, Tells, MayAnswer, beginning, checks_of, claim_effect, comment_effect, counts_of, has_words, if_it_exists, is_new, list_text, move_effect, not_at_root, play_effect, set_effect, reply, takes_memory, tree_from};
+ghost use Rattle.chess_cli.specs.Answers.{Answers, Does, HasEffect, Tells, MayAnswer, beginning, checks_of, claim_effect, comment_effect, counts_of, has_words, if_it_exists, list_text, move_effect, names_new, not_at_root, play_effect, set_effect, reply, takes_memory, tree_from};
 ghost use Rattle.chess_cli.specs.steps.Replies.{IsGameText, IsOnPage, best_effect, path_effect};
 ghost use Rattle.chess_cli.specs.Requests.{Pgn, Play, request};
 ghost use Rattle.chess_loop.specs.steps.Sending.{Sends};
@@ -124,9 +126,10 @@ impl<'k, A: Allocator> Board<'k, A> {
         self.analysis.moves()
     }
 
-    /// Makes a move: steps to the first child that has it, else to a new one.
-    pub fn make(&mut self, m: Move) -> Result<(), Refusal>
-        ensures { HasEffect (is_new self.old m) (move_effect self.old m) self.old result self.new }
+    /// Makes a move: steps to the first child that has it, else to a new one. Says whether it added a node, for `undo`.
+    pub fn make(&mut self, m: Move) -> Result<bool, Refusal>
+        ensures effect { HasEffect (is_new self.old m) (move_effect self.old m) self.old result self.new }
+        ensures adds { IfOk result (λ is_added. is_added ≡ is_new self.old m) }
     {
         Ok(self.analysis.play(m)?)
     }
@@ -370,9 +373,10 @@ impl<'k, A: Allocator> Board<'k, A> {
         page.put_line(squares_text(&checkers(&setup.placement, setup.side)).as_str());
     }
 
-    /// Makes the move that a text names: steps to the first child that has it, else to a new one.
-    pub fn play(&mut self, word: &[u8]) -> Result<(), Refusal>
-        ensures { HasEffect (takes_memory self.old (Play word.now)) (play_effect self.old (san_reading (last (line_to self.old)) word.now)) self.old result self.new }
+    /// Makes the move that a text names: steps to the first child that has it, else to a new one. Says whether it added a node, for `undo`.
+    pub fn play(&mut self, word: &[u8]) -> Result<bool, Refusal>
+        ensures effect { HasEffect (takes_memory self.old (Play word.now)) (play_effect self.old (san_reading (last (line_to self.old)) word.now)) self.old result self.new }
+        ensures adds { IfOk result (λ is_added. is_added ≡ names_new self.old (san_reading (last (line_to self.old)) word.now)) }
     {
         let m = self.analysis.read_move(word)?;
         Ok(self.analysis.play_legal(m)?)
@@ -383,6 +387,14 @@ impl<'k, A: Allocator> Board<'k, A> {
         ensures { HasEffect false (not_at_root self.old.path (at_path (parent self.old.path) self.old)) self.old result self.new }
     {
         Ok(self.analysis.back()?)
+    }
+
+    /// Takes a made move back: steps to the parent. The node that it leaves is taken out where it was added, as the call that made the move
+    /// said, and nothing hangs on it, no child, comment or annotation number.
+    pub fn undo(&mut self, added: bool) -> Result<(), Refusal>
+        ensures { HasEffect false (not_at_root self.old.path (undone added self.old)) self.old result self.new }
+    {
+        Ok(self.analysis.undo(added)?)
     }
 
     /// Steps to a child, by its place among its siblings, from 0.

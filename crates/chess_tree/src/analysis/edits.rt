@@ -1,5 +1,6 @@
 ghost use Rattle.chess_tree.specs.Calls.{Annotates, Comments, Promotes, StepsUp};
 ghost use Rattle.chess_tree.specs.GameTree.{deleted};
+ghost use Rattle.chess_tree.specs.Undo.{undone};
 
 use super::Analysis;
 use crate::fault::TreeFault;
@@ -14,6 +15,18 @@ impl<'a, 'k, A: Allocator> Analysis<'a, 'k, A> {
         self.tree.delete()?;
         let _gone = self.line.pop();
         Ok(())
+    }
+
+    /// Takes a played move back: steps to the parent. The node that it leaves is taken out where it was added and nothing hangs on it, no
+    /// child, comment or annotation number, else it stays, as with `back`. `added` is what the `play` that led to the node answered: then
+    /// all is as it was before that move (`undo_laws`). No memory is taken. `AtRoot` at the root.
+    pub fn undo(&mut self, added: bool) -> Result<(), TreeFault>
+        ensures { StepsUp (undone added) self.old result self.new }
+    {
+        if added && self.tree.is_bare() {
+            return self.delete();
+        }
+        self.back()
     }
 
     /// Moves the node at the cursor before its siblings, which keep their order; the cursor stays on it. `AtRoot` at the

@@ -1,5 +1,6 @@
 ghost use Rattle.std.specs.Prelude.{◌≡◌};
 ghost use Rattle.chess_tree.specs.GameTree.{here, root_node};
+ghost use Rattle.chess_tree.specs.Undo.{is_bare};
 
 use super::Tree;
 use crate::node::{NodeRef, Notes};
@@ -27,5 +28,14 @@ impl<'a, A: Allocator> Tree<'a, A> {
         ensures comment { result.comment.now ≡ (here self.now).comment }
     {
         self.nodes.node_here().notes()
+    }
+
+    /// Whether nothing hangs on the node at the cursor: no child, no comment and no annotation number.
+    pub fn is_bare(&self) -> bool
+        ensures { result ≡ is_bare (here self.now) }
+    {
+        let node = self.nodes.node_here();
+        let notes = node.notes();
+        notes.nags.is_empty() & (notes.comment.is_empty() & (node.children() == 0))
     }
 }

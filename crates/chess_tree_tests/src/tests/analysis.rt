@@ -25,6 +25,7 @@ pub enum Call {
     Play(&'static str),
     Add(&'static str),
     Back,
+    Undo(bool),
     BackTo(u32),
     Step(u32),
     Start,
@@ -40,6 +41,8 @@ pub enum Call {
 #[derive(Clone, Copy, PartialEq, Eq)]
 pub enum Answer {
     Done,
+    /// The move was played, and a node added for it.
+    Added,
     Illegal,
     AtRoot,
     NoSuch,
@@ -76,12 +79,26 @@ pub enum Row {
     Is(Asked),
 }
 
-fn of_play(played: Result<(), PlayFault>) -> Answer {
-    match played {
+fn of_fault(fault: PlayFault) -> Answer {
+    match fault {
+        PlayFault::Illegal => Answer::Illegal,
+        PlayFault::Memory => Answer::Memory,
+        _ => Answer::Other,
+    }
+}
+
+fn of_add(added: Result<(), PlayFault>) -> Answer {
+    match added {
         Ok(()) => Answer::Done,
-        Err(PlayFault::Illegal) => Answer::Illegal,
-        Err(PlayFault::Memory) => Answer::Memory,
-        Err(_) => Answer::Other,
+        Err(fault) => of_fault(fault),
+    }
+}
+
+fn of_play(played: Result<bool, PlayFault>) -> Answer {
+    match played {
+        Ok(true) => Answer::Added,
+        Ok(false) => Answer::Done,
+        Err(fault) => of_fault(fault),
     }
 }
 
@@ -98,7 +115,7 @@ fn of_tree(edited: Result<(), TreeFault>) -> Answer {
 /// Adds the move that a text in standard algebraic notation names.
 fn read<A: Allocator>(analysis: &mut Analysis<'_, '_, A>, text: &[u8]) -> Answer {
     match analysis.read_move(text) {
-        Ok(m) => of_play(analysis.add(m)),
+        Ok(m) => of_add(analysis.add(m)),
         Err(_) => Answer::Other,
     }
 }
@@ -108,7 +125,7 @@ fn play<A: Allocator>(
     rt: &impl Abort,
     analysis: &mut Analysis<'_, '_, A>,
     text: &str,
-) -> Result<(), PlayFault> {
+) -> Result<bool, PlayFault> {
     analysis.play(a_move(rt, text))
 }
 
@@ -121,8 +138,9 @@ pub fn make_call<A: Allocator>(
     match call {
         Call::Read(text) => read(analysis, text),
         Call::Play(text) => of_play(play(rt, analysis, text)),
-        Call::Add(text) => of_play(analysis.add(a_move(rt, text))),
+        Call::Add(text) => of_add(analysis.add(a_move(rt, text))),
         Call::Back => of_tree(analysis.back()),
+        Call::Undo(added) => of_tree(analysis.undo(added)),
         Call::BackTo(depth) => {
             analysis.back_to(depth);
             Answer::Done
@@ -220,7 +238,7 @@ fn a_variation_is_read(rt: HostRuntime) {
 }
 
 const PLAYED: &[Row] = &[
-    Row::Gives(Answer::Done, Call::Play("e2e4")),
+    Row::Gives(Answer::Added, Call::Play("e2e4")),
     Row::Gives(Answer::Done, Call::Back),
     Row::Gives(Answer::Done, Call::Play("e2e4")),
     Row::Gives(Answer::Done, Call::Back),
@@ -244,16 +262,60 @@ fn plays_and_adds(rt: HostRuntime) {
     run_all(&rt, &rt.alloc(), PLAYED);
 }
 
+const UNDONE: &[Row] = &[
+    Row::Gives(Answer::AtRoot, Call::Undo(true)),
+    Row::Gives(Answer::AtRoot, Call::Undo(false)),
+    Row::Gives(Answer::Added, Call::Play("e2e4")),
+    Row::Gives(Answer::Done, Call::Undo(true)),
+    Row::Is(Asked::Seen(Look::ChildCount(0))),
+    Row::Is(Asked::Plies(0)),
+    // One that is there stays, whatever its place.
+    Row::Gives(Answer::Added, Call::Play("d2d4")),
+    Row::Gives(Answer::Done, Call::Undo(false)),
+    Row::Gives(Answer::Added, Call::Play("c2c4")),
+    Row::Gives(Answer::Done, Call::Undo(false)),
+    Row::Gives(Answer::Done, Call::Play("d2d4")),
+    Row::Gives(Answer::Done, Call::Undo(false)),
+    Row::Is(Asked::Seen(Look::ChildCount(2))),
+    // What a child, a comment or an annotation number hangs on stays, too.
+    Row::Gives(Answer::Added, Call::Play("e2e4")),
+    Row::Gives(Answer::Done, Call::SetComment(b"good")),
+    Row::Gives(Answer::Done, Call::Undo(true)),
+    Row::Is(Asked::Seen(Look::ChildCount(3))),
+    Row::Gives(Answer::Added, Call::Play("a2a3")),
+    Row::Gives(Answer::Done, Call::AddNag(6)),
+    Row::Gives(Answer::Done, Call::Undo(true)),
+    Row::Is(Asked::Seen(Look::ChildCount(4))),
+    Row::Gives(Answer::Added, Call::Play("b2b3")),
+    Row::Gives(Answer::Added, Call::Play("e7e5")),
+    Row::Gives(Answer::Done, Call::Undo(false)),
+    Row::Gives(Answer::Done, Call::Undo(true)),
+    Row::Is(Asked::Seen(Look::ChildCount(5))),
+    // Before its siblings it is taken out all the same.
+    Row::Gives(Answer::Added, Call::Play("g1f3")),
+    Row::Gives(Answer::Done, Call::Promote),
+    Row::Gives(Answer::Done, Call::Undo(true)),
+    Row::Is(Asked::Seen(Look::ChildCount(5))),
+    Row::Is(Asked::Seen(Look::Below(0, "d2d4"))),
+    Row::Is(Asked::Plies(0)),
+];
+
+/// A move is taken back: its node goes where it was added and nothing hangs on it.
+#[test]
+fn undoes(rt: HostRuntime) {
+    run_all(&rt, &rt.alloc(), UNDONE);
+}
+
 const NONE: Claims = Claims {
     threefold: false,
     fifty: false,
 };
 
 const ASKED: &[Row] = &[
-    Row::Gives(Answer::Done, Call::Play("f2f3")),
-    Row::Gives(Answer::Done, Call::Play("e7e5")),
-    Row::Gives(Answer::Done, Call::Play("g2g4")),
-    Row::Gives(Answer::Done, Call::Play("d8h4")),
+    Row::Gives(Answer::Added, Call::Play("f2f3")),
+    Row::Gives(Answer::Added, Call::Play("e7e5")),
+    Row::Gives(Answer::Added, Call::Play("g2g4")),
+    Row::Gives(Answer::Added, Call::Play("d8h4")),
     Row::Is(Asked::Status(Status::Mate)),
     Row::Is(Asked::Count(1)),
     Row::Is(Asked::Moves(0)),

@@ -108,7 +108,7 @@ impl<A: Allocator> Called for Analysis<'_, '_, A> {
             return false;
         }
         let answer = make_call(rt, self, on_an_analysis(call));
-        assert!(rt; answer == Answer::Done || answer == Answer::Memory);
+        assert!(rt; answer == Answer::Done || answer == Answer::Added || answer == Answer::Memory);
         answer == Answer::Memory
     }
 

@@ -1,4 +1,4 @@
-use Rattle.std.proofs.Common.{◌≤◌, arith}
+use Rattle.std.proofs.Common.{arith}
 use Rattle.chess_tree.proofs.ViewLemmas.{viewed_range}
 use Rattle.chess_tree.proofs.node.NodeRef.number.Goals as goal
 
