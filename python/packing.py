@@ -7,7 +7,7 @@ import re
 import zipfile
 
 TAG = "py3-none-linux_x86_64"
-LIBRARIES = ["jatshegi/libjatshegi.so", "../release/x86_64-linux/lib/libjatshegi.so.0"]
+LIBRARIES = ["jatshegi/libjatshegi.so", "../release/x86_64-linux/lib/libjatshegi.so.1"]
 
 
 def read(path):

@@ -271,7 +271,7 @@ class Packages(Used):
                 self.assertTrue(first.read() == second.read(), one)
 
     def test_each_has_the_released_library(self):
-        with open(f"{runs.TOP}/release/x86_64-linux/lib/libjatshegi.so.0", "rb") as file:
+        with open(f"{runs.TOP}/release/x86_64-linux/lib/libjatshegi.so.1", "rb") as file:
             library = file.read()
         for packages in self.packages:
             with zipfile.ZipFile(packages[2]) as wheel:

@@ -14,7 +14,7 @@ SYSTEM = "x86_64-linux"
 PROGRAM = f"{SYSTEM}/bin/chess"
 OTHERS = ("arbiter", "chess_games", "perft")
 ENGINE = f"{SYSTEM}/bin/jatshegi"
-LIBRARIES = ("libjatshegi.a", "libjatshegi.so.0")
+LIBRARIES = ("libjatshegi.a", "libjatshegi.so.1")
 # The system's own folders: no kit is on this path.
 BARE = {"PATH": "/usr/bin:/bin"}
 

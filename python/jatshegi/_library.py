@@ -54,7 +54,7 @@ def _found() -> str:
     """The library beside this file, else in a clone of the repository the one that tools/libraries made, or the released one."""
     here = os.path.dirname(os.path.realpath(__file__))
     top = os.path.dirname(os.path.dirname(here))
-    paths = [f"{here}/libjatshegi.so", f"{top}/out/libjatshegi.so.0", f"{top}/release/x86_64-linux/lib/libjatshegi.so.0"]
+    paths = [f"{here}/libjatshegi.so", f"{top}/out/libjatshegi.so.1", f"{top}/release/x86_64-linux/lib/libjatshegi.so.1"]
     for path in paths:
         if os.path.exists(path):
             return path
