@@ -52,7 +52,14 @@ def positions(games):
 
 def ours(games, file):
     boards = [jatshegi.Board(fen) for fen in positions(games)]
+    tried = [(board, board.legal_moves) for board in boards]
     moves = sum(len(sans) for sans, _ in games)
+
+    def look_ahead():
+        for board, found in tried:
+            for move in found:
+                board.push(move)
+                board.pop()
 
     def replay():
         for sans, _ in games:
@@ -61,6 +68,7 @@ def ours(games, file):
                 board.push_san(san)
 
     yield "legal moves as a list, positions", rate(lambda: [board.legal_moves for board in boards], len(boards))
+    yield "legal moves made and taken back, pairs", rate(look_ahead, sum(len(found) for _, found in tried))
     yield "games replayed from SAN, moves", rate(replay, moves)
     yield "a file of games read, moves", rate(lambda: [sum(1 for _ in game.mainline()) for game in jatshegi.pgn.games(file)], moves)
     yield "the same with a report of each game, moves", rate(lambda: [game.report() for game in jatshegi.pgn.games(file)], moves)
@@ -92,6 +100,14 @@ def theirs(games, file):
             board.popMove()
         return found
 
+    tried = [(board, legal(board)) for board in boards]
+
+    def look_ahead():
+        for board, found in tried:
+            for move in found:
+                board.applyMove(move)
+                board.popMove()
+
     def replay():
         for sans, _ in games:
             board = board_at(start)
@@ -113,6 +129,7 @@ def theirs(games, file):
         opened.close()
 
     yield "legal moves as a list, positions", rate(lambda: [legal(board) for board in boards], len(boards))
+    yield "legal moves made and taken back, pairs", rate(look_ahead, sum(len(found) for _, found in tried))
     yield "games replayed from SAN, moves", rate(replay, moves)
     yield "a file of games read, moves", rate(read, moves)
 

@@ -1,17 +1,20 @@
 -- What is said of a call on a slot that is known to hold a board.
-use Rattle.std.proofs.Common.{◌≡◌, ◌∙◌, ℕ, List, ap, sym, subst}
-use Rattle.std.specs.Prelude.{Bool, Option, Some, Result}
+use Rattle.std.proofs.Common.{◌≡◌, ◌∙◌, ℕ, ◌==◌, Bool, false, if◌then◌else◌, List, ap, refl, sym, subst}
+use Rattle.std.specs.Prelude.{Option, Some, Result, Ok, Err, is_ok}
 use Rattle.chess_tree.specs.GameTree.{TreeParts}
 use Rattle.chess_uci.specs.declared.event.Event.{Event}
 use Rattle.chess_uci.specs.Machine.{State}
 use Rattle.chess_cli.specs.declared.board_command.refusal.Refusal.{Refusal}
+use Rattle.chess_cli.specs.declared.board_command.refusal.Refusal.TheVariants.{Fen}
 use Rattle.chess_cli.specs.Answers.{Tells}
 use Rattle.chess_cli.specs.Requests.{request}
 use Rattle.chess_slots.specs.Answers.{IsReplied}
+use Rattle.chess_slots.specs.Codes.{ok}
 use Rattle.chess_slots.specs.Handed.{IsAnsweredBy}
 use Rattle.chess_slots.specs.Within.{IsRepliedWithin}
+use Rattle.chess_c.specs.Asked.{SaysAdded}
 use Rattle.chess_c.specs.Calls.{Acts, IsAnswered, IsReplying, IsReplyingWithin}
-use Rattle.chess_c.specs.Codes.{ended_code}
+use Rattle.chess_c.specs.Codes.{ended_code, refusal_code}
 use Rattle.chess_c.specs.Held.{Held, Searching, with_board, with_engine, with_search}
 use Rattle.chess_c.specs.Loads.{Loads, LoadsFrom}
 use Rattle.chess_c.specs.Searches.{IsBegun, IsBegunFrom, IsSliced, IsSlicedWithin, SlicedFrom, SlicedWithinFrom}
@@ -19,6 +22,21 @@ use Rattle.chess_c.specs.Searches.{IsBegun, IsBegunFrom, IsSliced, IsSlicedWithi
 pub acts_some : (ends : TreeParts → Result (Unit {0}) Refusal → TreeParts → Type 0) → (old new : Option Held) → (held : Held) → (after : TreeParts)
     → (ended : Result (Unit {0}) Refusal) → (code : ℕ) → old ≡ Some held → new ≡ Some (with_board after held) → code ≡ ended_code ended → ends held.board ended after → Acts ends old code new
 acts_some ends old new held after ended code is en ec end = subst (λ (o : Option Held). Acts ends o code new) (sym is) (ended, after, end, ec, en)
+
+-- only what is done has the status of what is done
+refused_code : (refusal : Refusal) → (refusal_code refusal == ok) ≡ false
+refused_code (Fen fault) = refl
+refused_code _ = refl
+
+ended_ok : (ended : Result (Unit {0}) Refusal) → (ended_code ended == ok) ≡ is_ok ended
+ended_ok (Ok _) = refl
+ended_ok (Err refusal) = refused_code refusal
+
+pub says_added : (is_new : TreeParts → Bool) → (old : Option Held) → (held : Held) → (ended : Result (Unit {0}) Refusal) → (code : ℕ) → (said said' : Bool)
+    → old ≡ Some held → code ≡ ended_code ended → said' ≡ (if is_ok ended then is_new held.board else said) → SaysAdded is_new old code said said'
+says_added is_new old held ended code said said' is ec e =
+    let done : (code == ok) ≡ is_ok ended = ap (λ (c : ℕ). c == ok) ec ∙ ended_ok ended in
+    subst (λ (o : Option Held). SaysAdded is_new o code said said') (sym is) (e ∙ ap (λ (b : Bool). if b then is_new held.board else said) (sym done))
 
 -- the others are as they were
 same_but_board : (held after : Held) → after.search ≡ held.search → after.engine ≡ held.engine → after ≡ with_board after.board held
