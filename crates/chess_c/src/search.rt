@@ -1,17 +1,21 @@
 //! A search that the caller drives.
-ghost use Rattle.std.specs.Prelude.{◌≡◌, ◌≤◌, ◌<◌, [], length, min, IfOk, MatchOption};
+ghost use Rattle.std.specs.Prelude.{◌≡◌, ◌≤◌, ◌<◌, [], false, length, min, is_some, IfOk, IfSome, MatchOption};
 ghost use Rattle.chess_tree.specs.GameTree.{line_to};
 ghost use Rattle.chess_c.specs.Held.{roots};
+ghost use Rattle.chess_search.specs.Best.{AtRoot, best};
+ghost use Rattle.chess_search.specs.Watches.{IsFree};
 ghost use Rattle.chess_uci.specs.Within.{IsWatched};
+ghost use Rattle.chess_c.specs.Asked.{AsksWithin};
 ghost use Rattle.chess_c.specs.Searches.{begun, left, next_if, next_size, one_more, so_far};
 
+use arrayvec::ArrayVec;
 use chess_draws::Line;
 use chess_key::KeyTable;
-use chess_search::{Slices, Watch};
+use chess_search::{Nodes, Slices, Watch, best_within};
 use chess_slots::cursor_line;
 use chess_tree::Tree;
 use chess_types::Move;
-use std::alloc::{AllocError, Global};
+use std::alloc::{AllocError, Allocator, Global};
 use std::marker::Model;
 
 /// A search of all legal moves of a line's last position at one depth, one root at a time. The line is its own.
@@ -33,6 +37,23 @@ impl Model for Search {
     ghost view = { λ s. record { line = s.line.line; depth = s.slices.depth; searched = s.slices.searched } };
 
     ghost invariant = { λ s. IsSearchOf s.line.line s.slices × (s.line.looked ≡ 0) };
+}
+
+/// The best of all legal moves of a line and its value, unless the search for it is abandoned; `nodes` counts the positions asked for.
+pub fn best_of_all<A: Allocator, W: Watch>(
+    line: &mut Line<'_, A>,
+    depth: u8,
+    legal: &ArrayVec<Move, 432>,
+    watch: &mut W,
+    nodes: &mut Nodes,
+) -> Option<Option<(Move, i32)>>
+    requires root { AtRoot line.old depth }
+    requires all { legal.now.items ≡ roots line.old.line }
+    requires free { IsFree (W.says watch.old 1) }
+    ensures best { IfSome result (λ found. found ≡ best false depth line.old.line (roots line.old.line)) }
+    ensures asked { AsksWithin (W.says watch.old) line.old.line depth (is_some result) nodes.new }
+{
+    best_within(line, depth, legal, nodes, false, watch)
 }
 
 impl Search {

@@ -14,11 +14,11 @@ ghost use Rattle.chess_c.specs.Loads.{LoadsFrom};
 ghost use Rattle.chess_c.specs.Searches.{IsBegunFrom, SlicedFrom, SlicedWithinFrom, best_of};
 
 use crate::moves::CMove;
-use crate::search::Search;
+use crate::search::{Search, best_of_all};
 use chess_cli::Board;
 use chess_key::KeyTable;
 use chess_loop::OutputBuffer;
-use chess_search::{Nodes, best_within};
+use chess_search::Nodes;
 use chess_slots::{
     ABANDONED, ARGUMENT, MEMORY, NO_GAME, NONE, OK, Within, answer, cursor_line, refused, reply,
     reply_within,
@@ -110,7 +110,7 @@ impl Session {
         room: &mut [u8],
         count: &mut usize,
     ) -> u32
-        ensures engine { IsRepliedWithin (says_within watch.nodes (is_some watch.flag)) self.old.engine self.new.engine visited.new searched.new result count.new room.old room.new }
+        ensures engine { IsRepliedWithin (says_within watch.entry.nodes (is_some watch.entry.flag)) self.old.engine self.new.engine visited.new searched.new result count.new room.old room.new }
         ensures board { self.new.board ≡ self.old.board }
         ensures search { self.new.search ≡ self.old.search }
     {
@@ -222,7 +222,7 @@ impl Session {
         left: &mut usize,
         visited: &mut u64,
     ) -> u32
-        ensures search { SlicedWithinFrom (says_within watch.nodes (is_some watch.flag)) self.old.search result left.old left.new visited.old visited.new self.new.search }
+        ensures search { SlicedWithinFrom (says_within watch.entry.nodes (is_some watch.entry.flag)) self.old.search result left.old left.new visited.old visited.new self.new.search }
         ensures board { self.new.board ≡ self.old.board }
         ensures engine { self.new.engine ≡ self.old.engine }
     {
@@ -247,7 +247,7 @@ impl Session {
         visited: &mut u64,
     ) -> u32
         requires { 1 ≤ watch.nodes }
-        ensures { IsBestWithin (says_within watch.nodes (is_some watch.flag)) (line_to self.now.board) depth result m.old m.new value.old value.new visited.old visited.new }
+        ensures { IsBestWithin (says_within watch.entry.nodes (is_some watch.entry.flag)) (line_to self.now.board) depth result m.old m.new value.old value.new visited.old visited.new }
     {
         if depth < 1 || depth > 16 {
             return ARGUMENT;
@@ -260,7 +260,7 @@ impl Session {
             return NONE;
         }
         let mut nodes = Nodes::new();
-        let found = best_within(&mut line, depth, &legal, &mut nodes, false, &mut watch);
+        let found = best_of_all(&mut line, depth, &legal, &mut watch, &mut nodes);
         *visited = nodes.nodes();
         match found {
             Some(best) => hand_best(best, m, value),

@@ -6,6 +6,7 @@ use std::sync::atomic::{AtomicBool, Ordering};
 
 /// The time is up at the first position beyond so many, and where the flag, if there is one, is found set: it is looked at at the first position, and at each
 /// 1,024th after it.
+#[derive(Drop)]
 pub struct Within<'f> {
     /// How many positions.
     pub nodes: u64,

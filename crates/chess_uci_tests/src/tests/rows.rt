@@ -1,4 +1,5 @@
 use chess_key::KeyTable;
+use chess_search::AtMost;
 use chess_types::Move;
 use chess_uci::{Event, Reply, Session, session_laws};
 use linked_list_allocator::LocalHeap;
@@ -289,6 +290,49 @@ fn goes_by_the_tables(rt: HostRuntime) {
     for (name, rows) in TABLES {
         run_named(&rt, &rt.alloc(), name, rows);
     }
+}
+
+/// A slice within so many positions: how many lines it was replied, or that it was abandoned; and how many positions it asked for.
+fn within<A: Allocator>(session: &mut Session<'_, A>, most: u64) -> (Option<usize>, u64) {
+    let mut nodes = 7;
+    let made = match session.slice_within(&mut AtMost { nodes: most }, &mut nodes) {
+        Some(replies) => Some(replies.len()),
+        None => None,
+    };
+    (made, nodes)
+}
+
+const FIRST_SEARCHED: &[Row] = &[
+    Shows(SoFar(Some((b"b1a3", 6)))),
+    Slices(19, &[b"info depth 1 score cp 18 pv b1c3"]),
+];
+
+const SECOND_ABANDONED: &[Row] = &[
+    Shows(SoFar(None)),
+    Shows(DepthDone(1)),
+    Slices(20, &[b"info depth 2 score cp 0 pv b1c3", b"bestmove b1c3"]),
+];
+
+/// At depth 1 each root asks for one position, at depth 2 for more.
+#[test]
+fn abandons_slices(rt: HostRuntime) {
+    let alloc = rt.alloc();
+    let table = KeyTable::new([1; 768]);
+    let mut session = Session::new(&alloc, &table);
+    assert!(rt; within(&mut session, 0) == (Some(0), 0));
+    run(&rt, &mut session, &[Line(b"go depth 2", &[])]);
+    assert!(rt; within(&mut session, 0) == (None, 1));
+    run(&rt, &mut session, &[Shows(SoFar(None))]);
+    assert!(rt; within(&mut session, 1) == (Some(0), 1));
+    run(&rt, &mut session, FIRST_SEARCHED);
+    assert!(rt; within(&mut session, 4) == (None, 5));
+    run(&rt, &mut session, SECOND_ABANDONED);
+    run(
+        &rt,
+        &mut session,
+        &[Line(b"go depth 1", &[]), Line(b"quit", &[])],
+    );
+    assert!(rt; within(&mut session, 0) == (Some(0), 0));
 }
 
 const GAME: &[u8] =
