@@ -239,7 +239,8 @@ uint32_t jatshegi_board_position(struct jatshegi_board *board, struct jatshegi_p
 uint32_t jatshegi_board_moves(struct jatshegi_board *board, struct jatshegi_move *moves, size_t room, size_t *count);
 
 /*
- * Makes a move, and says whether it added a node for it: `false` where a child of the node has the move. OK, EMPTY, NO_MEMORY, ILLEGAL, TOO_LONG, FULL.
+ * Makes a move, and says whether it added a node: `false` where a child of the node at the cursor has the move. OK, EMPTY, NO_MEMORY, ILLEGAL, TOO_LONG,
+ * FULL.
  *
  * A program that takes the move back keeps the answer, one for each move that it made, and hands it to jatshegi_board_undo.
  */
@@ -255,8 +256,8 @@ uint32_t jatshegi_board_back(struct jatshegi_board *board);
  * Takes back the move that led to the cursor: steps to the parent, and takes the node that it leaves out of the tree where `added` is true and nothing hangs
  * on the node, no child, comment or annotation number; else it stays, as with jatshegi_board_back. OK, EMPTY, AT_ROOT.
  *
- * With what the call that made the move answered, the tree and the cursor are then as they were before that call. It takes no memory, and leaves room for as
- * many nodes as before.
+ * With what the call that made the move wrote to its `added`, the tree and the cursor are then as they were before that call. It takes no memory. A program
+ * that went elsewhere meanwhile hands over `false`: with `true` a node that was there before would be taken out, where nothing hangs on it.
  */
 uint32_t jatshegi_board_undo(struct jatshegi_board *board, bool added);
 

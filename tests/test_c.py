@@ -80,6 +80,18 @@ class Library(unittest.TestCase):
         program = self.build(["cc", "-std=c11", "-static"], "every.c")
         self.assertIn(" 0 failed", self.assert_ends_well("qemu-x86_64", "-cpu", "qemu64,-sse3,-ssse3,-sse4a,-cx16,-popcnt", program))
 
+    def test_the_perft_of_the_page(self):
+        with open(f"{runs.TOP}/docs/C.md", encoding="utf-8") as page:
+            function = page.read().split("```c\n")[2].split("```")[0]
+        main = 'int main(void) {\n    static struct jatshegi_keys keys;\n    struct jatshegi_board board = JATSHEGI_NO_BOARD;\n    jatshegi_keys_fill(&keys);\n'
+        main += '    if (jatshegi_board_new(&keys, &board) != JATSHEGI_OK) return 1;\n    printf("%u\\n", (unsigned)perft(&board, 4));\n'
+        main += "    jatshegi_board_free(&board);\n    return 0;\n}\n"
+        with open(f"{self.folder}/perft.c", "w", encoding="utf-8") as file:
+            file.write(f'#include <stdio.h>\n#include <stdlib.h>\n#include "jatshegi.h"\n{function}{main}')
+        ran = called("cc", "-std=c11", *STRICT, f"{self.folder}/perft.c", f"{runs.TOP}/out/libjatshegi.a", "-o", f"{self.folder}/perft")
+        self.assertEqual(ran.returncode, 0, ran.stderr)
+        self.assertEqual(self.assert_ends_well(f"{self.folder}/perft"), "197281\n")
+
     def test_no_error_and_no_leak_under_valgrind(self):
         self.wants("valgrind")
         program = self.build(["cc", "-std=c11"], "every.c")
