@@ -93,22 +93,25 @@ class _Worker(threading.Thread):
 
     def __init__(self, work: Callable[[], None]) -> None:
         super().__init__(daemon=True)
-        self._work, self.ended = work, threading.Event()
+        self._work, self.ended, self._cancelled = work, threading.Event(), False
         self._raised: Optional[BaseException] = None
 
     def run(self) -> None:
         try:
-            self._work()
+            if not self._cancelled:
+                self._work()
         except BaseException as raised:
             self._raised = raised
         finally:
             self.ended.set()
 
-    def end(self) -> None:
-        """Waits for the end, also where an exception comes meanwhile, as by Ctrl-C: that is raised then, else what the work raised."""
+    def end(self, flag: _Flag) -> None:
+        """Sets the flag, and waits for the end, also where an exception comes meanwhile, as by Ctrl-C: that is raised then, else what the work raised."""
         came: Optional[BaseException] = None
+        self._cancelled = True
         while self.ident is not None and self.is_alive():
             try:
+                flag.set()
                 self.join()
             except BaseException as it:
                 came = it
@@ -651,8 +654,7 @@ class Board:
                 worker.start()
                 worker.ended.wait(time)
             finally:
-                flag.set()
-                worker.end()
+                worker.end(flag)
         return found[-1] if found else None
 
     # Searches deeper and deeper, until a search is abandoned; no other call is on the board meanwhile.
