@@ -25,9 +25,10 @@
  *
  * Then every input is answered, and nothing aborts. Each function is proved to answer what the Laws of Chess say, and to keep the board as it was wherever
  * the status isn't JATSHEGI_OK, but for what is said at jatshegi_board_answer and at the events of the engine. All outputs are written at JATSHEGI_OK. At
- * JATSHEGI_NO_ROOM the length or the count is written, of jatshegi_game_read and jatshegi_game_report `used`, too, and of the latter the report; the room is
- * as it was. At PGN_... `used` is the place of the fault in the text, in bytes, at most its length, and nothing else is written. At every other status all
- * outputs are as they were. All this is proved, but that the place is that of the first fault.
+ * JATSHEGI_NO_ROOM the length or the count is written, of jatshegi_game_read and jatshegi_game_report `used`, too, of the latter the report, and of
+ * jatshegi_engine_slice_within `searched` and `visited`; the room is as it was. At PGN_... `used` is the place of the fault in the text, in bytes, at most
+ * its length, and nothing else is written; at JATSHEGI_ABANDONED `visited` alone is. At every other status all outputs are as they were. All this is proved,
+ * but that the place is that of the first fault.
  *
  * Texts are bytes and a length, without a byte 0 at the end. Squares are numbers: 0 for a1, 1 for b1, 63 for h8.
  */
@@ -336,10 +337,13 @@ uint32_t jatshegi_stop_set(struct jatshegi_stop *stop, bool set);
 void jatshegi_stop_free(struct jatshegi_stop *stop);
 
 /*
- * The same searches, which may be abandoned inside a root move: at the first position beyond `nodes` (UINT64_MAX for no limit), and at each 1,024th position
- * if the flag of `stop` is found set; `stop` may be a handle of nothing. `visited` is how many positions the call has asked for. At ABANDONED it alone is
- * written, and the board and its search are as before: what is abandoned begins anew, so a caller who gives numbers of positions doubles them. What
- * jatshegi_board_best_within asks for takes memory for a line of its own. OK, EMPTY, ARGUMENT, NONE, NO_MEMORY, ABANDONED; OK, EMPTY, NONE, ABANDONED.
+ * The same searches, which may be abandoned inside a root move: at the first position beyond `nodes` (UINT64_MAX for no limit), and where the flag of `stop`
+ * is found set, which is looked at at the positions of the numbers 1, 1,025, 2,049 and so on; `stop` may be a handle of nothing. `visited` is how many
+ * positions the call has asked for. At ABANDONED it alone is written, and the board and its search are as before: what is abandoned begins anew, so a caller
+ * who gives numbers of positions doubles them.
+ *
+ * jatshegi_board_best_within counts the position at the cursor, too, for which the flag isn't looked at, and takes memory for a line of its own. OK, EMPTY,
+ * NO_MEMORY, ARGUMENT, NONE, ABANDONED; the other OK, EMPTY, NONE, ABANDONED.
  */
 uint32_t jatshegi_board_best_within(struct jatshegi_board *board, uint8_t depth, uint64_t nodes, struct jatshegi_stop *stop,
                                     struct jatshegi_move *move, int32_t *value, uint64_t *visited);

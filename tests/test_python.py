@@ -9,6 +9,7 @@ import pickle
 import random
 import resource
 import shutil
+import signal
 import subprocess
 import sys
 import tempfile
@@ -223,6 +224,39 @@ class TheBoard(unittest.TestCase):
         for depth in (0, 17, -1, 300):
             with self.assertRaises(ValueError):
                 board.search(depth)
+
+    def test_a_search_within_a_time_or_a_number_of_positions(self):
+        board = jatshegi.Board("r3k2r/p1ppqpb1/bn2pnp1/3PN3/1p2P3/2N2Q1p/PPPBBPPP/R3K2R w KQkq - 0 1")
+        whole = board.best_within(3)
+        self.assertEqual((whole[:2], whole.depth), (board.best(3), 3))
+        self.assertEqual((whole.move, whole.value, whole.nodes), (whole[0], whole[1], whole[3]))
+        self.assertEqual(board.best_within(3, nodes=whole.nodes), whole)
+        less = board.best_within(3, nodes=whole.nodes - 1)
+        self.assertEqual((less[:2], less.depth), (board.best(2), 2))
+        for few in (board.best_within(nodes=0), board.best_within(5, time=0), board.best_within(1)):
+            self.assertGreaterEqual((few.depth, few.nodes), (1, 49))
+        self.assertEqual(board.best_within(nodes=0)[:3], (*board.best(1), 1))
+        # The depth that is reached is the machine's; what is answered at it is not. It ends by itself some hours later.
+        timed = board.best_within(time=0.2)
+        self.assertEqual(timed[:2], board.best(timed.depth))
+        self.assertIsNone(jatshegi.Board("7k/8/6Q1/8/8/8/8/K7 b - -").best_within(3, time=9))
+        for words in ({"depth": 0}, {"depth": 17}, {"time": -1}, {"time": float("nan")}, {"nodes": -1}):
+            with self.assertRaises(ValueError):
+                board.best_within(**words)
+
+    def test_a_search_is_left_by_ctrl_c(self):
+        board = jatshegi.Board()
+        board.push_san("e4")
+        before = board.pgn(), board.fen()
+        main = threading.main_thread().ident
+        self.assertEqual(threading.get_ident(), main)
+        for seconds in (0.1, 0.3):
+            timer = threading.Timer(seconds, signal.pthread_kill, (main, signal.SIGINT))
+            timer.start()
+            # It would end by itself some hours later.
+            self.assertRaises(KeyboardInterrupt, board.best_within)
+            timer.join()
+            self.assertEqual((board.pgn(), board.fen(), board.best(2)), (*before, board.best_within(2)[:2]))
 
     def test_an_engine_driven_by_events(self):
         engine = jatshegi.Engine()
@@ -731,7 +765,7 @@ class NothingIsLost(unittest.TestCase):
             yield from (board.fen, board.reset, board.piece_map, board.is_check, board.checkers, board.outcome, board.claims, board.repetitions, board.evaluate)
             yield from (board.pgn, board.pop, board.back, board.copy, board.__str__, board.__repr__, board._repr_svg_, lambda: pickle.dumps(board))
             yield from ((lambda call=call: call(move)) for call in (board.is_legal, board.push, board.san, board.claims))
-            yield from ((lambda call=call: call(1)) for call in (board.best, board.search, board.has_kingside_castling_rights, board.attack_counts))
+            yield from ((lambda call=call: call(1)) for call in (board.best, board.best_within, board.search, board.has_kingside_castling_rights, board.attack_counts))
             yield from (lambda: board.push_san("e4"), lambda: board.push_uci("e2e4"), lambda: board.parse_san("e4"), lambda: board.line("fen"), lambda: board.attackers(True, 0))
 
         emptied, never = jatshegi.Board(), jatshegi.Board.__new__(jatshegi.Board)

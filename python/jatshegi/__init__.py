@@ -11,7 +11,7 @@ A `Board` answers what the Laws of Chess say of its position and of the moves th
 (`include/jatshegi.h`), whose functions a prover has checked against the Laws; this package is a thin layer over it, which is tested.
 """
 from . import pgn
-from ._board import Board, Outcome, Status
+from ._board import Best, Board, Outcome, Status
 from ._engine import Engine
 from ._errors import (
     AmbiguousMoveError,
@@ -58,6 +58,7 @@ __all__ = [
     "STARTING_FEN",
     "WHITE",
     "AmbiguousMoveError",
+    "Best",
     "Board",
     "EmptyBoardError",
     "Engine",

@@ -60,6 +60,66 @@ class Outcome(NamedTuple):
         return "1/2-1/2" if self.winner is None else "1-0" if self.winner else "0-1"
 
 
+class Best(NamedTuple):
+    """What a search has found: the best move at a depth in plies, its value for the side to move, and how many positions all depths asked for."""
+
+    move: Move
+    value: int
+    depth: int
+    nodes: int
+
+
+class _Flag:
+    """A flag that is set in this thread, by one handle, and looked at in another thread, by the other. The block ends once the other thread has."""
+
+    def __enter__(self) -> _Flag:
+        self._mine, self._theirs = c.Stop(), c.Stop()
+        self.mine, self.theirs = byref(self._mine), byref(self._theirs)
+        if c.lib.jatshegi_stop_new(self.mine) or c.lib.jatshegi_stop_share(self.mine, self.theirs):
+            self.__exit__()
+            raise MemoryError("no memory for a flag")
+        return self
+
+    def set(self) -> None:
+        c.lib.jatshegi_stop_set(self.mine, True)
+
+    def __exit__(self, *_: object) -> None:
+        c.lib.jatshegi_stop_free(self.theirs)
+        c.lib.jatshegi_stop_free(self.mine)
+
+
+class _Worker(threading.Thread):
+    """A thread whose end is waited for whatever comes; what its work raises is raised there."""
+
+    def __init__(self, work: Callable[[], None]) -> None:
+        super().__init__(daemon=True)
+        self._work, self.ended, self._cancelled = work, threading.Event(), False
+        self._raised: Optional[BaseException] = None
+
+    def run(self) -> None:
+        try:
+            if not self._cancelled:
+                self._work()
+        except BaseException as raised:
+            self._raised = raised
+        finally:
+            self.ended.set()
+
+    def end(self, flag: _Flag) -> None:
+        """Sets the flag, and waits for the end, also where an exception comes meanwhile, as by Ctrl-C: that is raised then, else what the work raised."""
+        came: Optional[BaseException] = None
+        self._cancelled = True
+        while self.ident is not None and self.is_alive():
+            try:
+                flag.set()
+                self.join()
+            except BaseException as it:
+                came = it
+        raised = came or self._raised
+        if raised is not None:
+            raise raised
+
+
 class _Shown(Dict[bytes, Move]):
     """The move of the three bytes that C sees; each is made once."""
 
@@ -106,6 +166,8 @@ def _known(encoding: str) -> str:
 
 
 _play, _undo, _move, _read = c.lib.jatshegi_board_play, c.lib.jatshegi_board_undo, c.lib.jatshegi_board_move, c.lib.jatshegi_board_read
+# As many positions as a search likes.
+_ANY_NUMBER = (1 << 64) - 1
 
 _Board = TypeVar("_Board", bound="Board")
 
@@ -533,6 +595,45 @@ class Board:
         if status:
             raise self._fail(status, "best")
         return _SHOWN[bytes(move)], value.value
+
+    def best_within(self, depth: int = 16, *, time: Optional[float] = None, nodes: Optional[int] = None) -> Optional[Best]:
+        """The same at depths 1, 2, .. up to that one, as far as a time in seconds and a number of positions allow: what `best` answers at the deepest depth that
+        was completed. Depth 1 always is. None where there is no legal move. It ends some milliseconds after its time, or after an exception that a signal
+        raises, as Ctrl-C does: then the board is as before. Raises `ValueError` for a depth that isn't 1 to 16, and for a time or a number below 0.
+
+        >>> Board("7k/8/6K1/8/8/8/8/R7 w - - 0 1").best_within(3, time=60)[:3]
+        (Move.from_uci('a1a8'), 29999, 3)
+        """
+        if not 1 <= depth <= 16:
+            raise ValueError(f"a depth is 1 to 16 plies: {depth}")
+        if time is not None and not 0 <= time <= threading.TIMEOUT_MAX:
+            raise ValueError(f"a time is a number of seconds, not below 0: {time}")
+        if nodes is not None and nodes < 0:
+            raise ValueError(f"a number of positions is not below 0: {nodes}")
+        most = _ANY_NUMBER if nodes is None else min(nodes, _ANY_NUMBER)
+        # The worker calls on the board in this thread's name, which has the lock until the worker has ended.
+        with self._lock, _Flag() as flag:
+            found: List[Best] = []
+            worker = _Worker(lambda: self._deepen(depth, most, flag, found))
+            try:
+                worker.start()
+                worker.ended.wait(time)
+            finally:
+                worker.end(flag)
+        return found[-1] if found else None
+
+    # Searches deeper and deeper, until a search is abandoned; no other call is on the board meanwhile.
+    def _deepen(self, last: int, most: int, flag: _Flag, found: List[Best]) -> None:
+        move, value, visited, all_visited = c.CMove(), c_int32(), c_uint64(), 0
+        for depth in range(1, last + 1):
+            left = _ANY_NUMBER if depth == 1 else max(most - all_visited, 0)
+            status = c.lib.jatshegi_board_best_within(self._at, depth, left, flag.theirs, byref(move), byref(value), byref(visited))
+            if status in (c.NONE, c.ABANDONED):
+                return
+            if status:
+                raise self._fail(status, "best")
+            all_visited += visited.value
+            found.append(Best(_SHOWN[bytes(move)], value.value, depth, all_visited))
 
     def search(self, depth: int) -> Iterator[Tuple[int, Move, int]]:
         """The same search in slices: one legal move after another is searched, and after each come how many are left, the best so far and its value.

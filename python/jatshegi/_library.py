@@ -6,7 +6,7 @@ import os
 from ctypes import POINTER, c_bool, c_char, c_char_p, c_int32, c_size_t, c_uint8, c_uint32, c_uint64, c_void_p
 
 OK, EMPTY, NO_MEMORY, ILLEGAL, AMBIGUOUS, FORM, TOO_LONG, FULL, AT_ROOT, ARGUMENT, NO_ROOM, NONE, NO_SUCH, BAD_COMMENT = range(14)
-NO_GAME = 16
+NO_GAME, ABANDONED = 16, 17
 
 # The status of a FEN's fault is its number and this; so is that of a game's.
 FEN, PGN = 20, 40
@@ -22,6 +22,12 @@ MOST_MOVES, MOST_FEN, MOST_SAN, MOST_ANSWER, MOST_REPLIES = 432, 128, 8, 2600, 2
 
 class Slot(ctypes.Structure):
     """A board, or nothing."""
+
+    _fields_ = [("full", c_bool), ("at", c_void_p)]
+
+
+class Stop(ctypes.Structure):
+    """A handle of a flag that stops searches, or nothing."""
 
     _fields_ = [("full", c_bool), ("at", c_void_p)]
 
@@ -63,7 +69,7 @@ def _found() -> str:
 
 lib = ctypes.CDLL(_found())
 
-_slot, _number = POINTER(Slot), POINTER(c_uint32)
+_slot, _number, _stop = POINTER(Slot), POINTER(c_uint32), POINTER(Stop)
 for _name, _types in {
     "new": [c_void_p, _slot],
     "set": [_slot, c_char_p, c_size_t],
@@ -86,6 +92,7 @@ for _name, _types in {
     "counts": [_slot, POINTER(c_uint8), POINTER(c_uint8)],
     "evaluation": [_slot, POINTER(c_int32)],
     "best": [_slot, c_uint8, POINTER(CMove), POINTER(c_int32)],
+    "best_within": [_slot, c_uint8, c_uint64, _stop, POINTER(CMove), POINTER(c_int32), POINTER(c_uint64)],
     "step": [_slot, c_uint32],
     "depth": [_slot, _number],
     "children": [_slot, _number],
@@ -107,6 +114,11 @@ for _name, _types in {
     "search_slice": [_slot, POINTER(c_size_t)],
     "search_best": [_slot, POINTER(CMove), POINTER(c_int32)],
     "search_end": [_slot],
+    "search_slice_within": [_slot, c_uint64, _stop, POINTER(c_size_t), POINTER(c_uint64)],
+    "engine_slice_within": [_slot, c_uint64, _stop, POINTER(c_bool), POINTER(c_uint64), POINTER(c_char), c_size_t, POINTER(c_size_t)],
+    "stop_new": [_stop],
+    "stop_share": [_stop, _stop],
+    "stop_set": [_stop, c_bool],
     "engine_line": [_slot, c_char_p, c_size_t, POINTER(c_char), c_size_t, POINTER(c_size_t)],
     "engine_slice": [_slot, POINTER(c_char), c_size_t, POINTER(c_size_t)],
     "engine_moment": [_slot, c_uint64, POINTER(c_char), c_size_t, POINTER(c_size_t)],
@@ -124,6 +136,7 @@ lib.jatshegi_game_report.argtypes = [c_char_p, c_size_t, POINTER(CReport), POINT
 lib.jatshegi_game_report.restype = c_uint32
 lib.jatshegi_game_pass.argtypes, lib.jatshegi_game_pass.restype = [c_void_p, c_size_t, POINTER(c_uint64)], c_uint32
 lib.jatshegi_board_free.argtypes, lib.jatshegi_board_free.restype = [_slot], None
+lib.jatshegi_stop_free.argtypes, lib.jatshegi_stop_free.restype = [_stop], None
 lib.jatshegi_keys_fill.argtypes, lib.jatshegi_keys_fill.restype = [c_void_p], None
 
 # All boards share the keys, which stay as long as this module.

@@ -59,6 +59,8 @@ static const char START[] = "rnbqkbnr/pppppppp/8/8/8/8/PPPPPPPP/RNBQKBNR w KQkq 
 
 static void without_a_board(void) {
     struct jatshegi_board none = JATSHEGI_NO_BOARD;
+    struct jatshegi_stop stop = JATSHEGI_NO_STOP, stop_too = JATSHEGI_NO_STOP;
+    uint64_t visited = 7;
     struct jatshegi_move moves[JATSHEGI_MOST_MOVES], m = move_of(12, 28, 0);
     uint8_t white[64], black[64];
     uint32_t number = 7;
@@ -97,6 +99,11 @@ static void without_a_board(void) {
     CHECK(jatshegi_engine_searching(&none, &searching) == JATSHEGI_EMPTY && !searching && count == 7);
     CHECK(jatshegi_engine_infinite(&none, &searching) == JATSHEGI_EMPTY && jatshegi_engine_waiting(&none, &searching) == JATSHEGI_EMPTY);
     CHECK(jatshegi_engine_ended(&none, &searching) == JATSHEGI_EMPTY && !searching && jatshegi_engine_time_left(&none, &bits) == JATSHEGI_EMPTY && bits == 7);
+    CHECK(jatshegi_engine_slice_within(&none, 9, &stop, &searching, &visited, text, sizeof text, &count) == JATSHEGI_EMPTY && !searching);
+    CHECK(jatshegi_search_slice_within(&none, 9, &stop, &count, &visited) == JATSHEGI_EMPTY);
+    CHECK(jatshegi_board_best_within(&none, 1, 9, &stop, &m, &value, &visited) == JATSHEGI_EMPTY && visited == 7 && count == 7);
+    CHECK(jatshegi_stop_set(&stop, true) == JATSHEGI_EMPTY && jatshegi_stop_share(&stop, &stop_too) == JATSHEGI_EMPTY);
+    jatshegi_stop_free(&stop);
     CHECK(jatshegi_board_load(&none, "*", 1, &count) == JATSHEGI_EMPTY && count == 7);
     CHECK(jatshegi_board_step(&none, 0) == JATSHEGI_EMPTY);
     CHECK(jatshegi_board_depth(&none, &number) == JATSHEGI_EMPTY && jatshegi_board_children(&none, &number) == JATSHEGI_EMPTY && jatshegi_board_move(&none, &m) == JATSHEGI_EMPTY);
@@ -519,6 +526,60 @@ static void searches(struct jatshegi_board *b) {
     CHECK(set(b, "7k/8/6Q1/8/8/8/8/K7 b - - 0 1") == JATSHEGI_OK && jatshegi_search_start(b, 1) == JATSHEGI_NONE);
 }
 
+/* A flag, by two handles: a search is abandoned where it is set, and goes on where it isn't. */
+static void stops(struct jatshegi_board *b) {
+    struct jatshegi_stop stop = JATSHEGI_NO_STOP, other = JATSHEGI_NO_STOP, none = JATSHEGI_NO_STOP;
+    struct jatshegi_move m = move_of(0, 0, 0), whole = m;
+    char text[JATSHEGI_MOST_REPLIES];
+    size_t left = 7, count = 7;
+    uint64_t visited = 7, once = 7;
+    int32_t value = 7, worth = 7;
+    bool searched = false;
+    CHECK(jatshegi_stop_new(&stop) == JATSHEGI_OK && jatshegi_stop_share(&stop, &other) == JATSHEGI_OK && jatshegi_stop_new(&none) == JATSHEGI_OK);
+    jatshegi_stop_free(&none);
+    CHECK(set(b, START) == JATSHEGI_OK && play(b, "e4") == JATSHEGI_OK && jatshegi_board_best(b, 3, &whole, &worth) == JATSHEGI_OK);
+
+    /* The best move: whole, over the number of positions, and stopped. */
+    CHECK(jatshegi_board_best_within(b, 0, UINT64_MAX, &none, &m, &value, &visited) == JATSHEGI_ARGUMENT);
+    CHECK(jatshegi_board_best_within(b, 17, UINT64_MAX, &none, &m, &value, &visited) == JATSHEGI_ARGUMENT);
+    CHECK(jatshegi_board_best_within(b, 3, 9, &none, &m, &value, &visited) == JATSHEGI_ABANDONED && visited == 10 && value == 7 && m.to == 0);
+    CHECK(jatshegi_board_best_within(b, 3, 0, &none, &m, &value, &visited) == JATSHEGI_ABANDONED && visited == 2 && value == 7 && m.to == 0);
+    CHECK(jatshegi_board_best_within(b, 3, UINT64_MAX, &other, &m, &value, &once) == JATSHEGI_OK && value == worth && once > 21);
+    CHECK(m.from == whole.from && m.to == whole.to && m.promotion == whole.promotion);
+    CHECK(jatshegi_board_best_within(b, 3, once, &none, &m, &value, &visited) == JATSHEGI_OK && visited == once);
+    CHECK(jatshegi_board_best_within(b, 3, once - 1, &none, &m, &value, &visited) == JATSHEGI_ABANDONED && visited == once);
+    CHECK(jatshegi_stop_set(&other, true) == JATSHEGI_OK);
+    CHECK(jatshegi_board_best_within(b, 5, UINT64_MAX, &stop, &m, &value, &visited) == JATSHEGI_ABANDONED && visited == 1025);
+
+    /* Slices of a search. */
+    CHECK(jatshegi_search_slice_within(b, UINT64_MAX, &none, &left, &visited) == JATSHEGI_NONE && left == 7);
+    CHECK(jatshegi_search_start(b, 3) == JATSHEGI_OK);
+    CHECK(jatshegi_search_slice_within(b, UINT64_MAX, &stop, &left, &visited) == JATSHEGI_ABANDONED && visited == 1 && left == 7);
+    CHECK(jatshegi_search_slice_within(b, 4, &none, &left, &visited) == JATSHEGI_ABANDONED && visited == 5 && left == 7);
+    CHECK(jatshegi_search_best(b, &m, &value) == JATSHEGI_NONE && jatshegi_stop_set(&stop, false) == JATSHEGI_OK);
+    CHECK(jatshegi_search_slice_within(b, UINT64_MAX, &other, &left, &visited) == JATSHEGI_OK && left == 19 && visited > 20);
+    while (left > 0) CHECK(jatshegi_search_slice_within(b, UINT64_MAX, &none, &left, &visited) == JATSHEGI_OK);
+    CHECK(jatshegi_search_slice_within(b, 0, &none, &left, &visited) == JATSHEGI_OK && left == 0 && visited == 0);
+    CHECK(jatshegi_search_best(b, &m, &value) == JATSHEGI_OK && value == worth && m.from == whole.from && jatshegi_search_end(b) == JATSHEGI_OK);
+
+    /* Slices of the engine. */
+    CHECK(jatshegi_engine_slice_within(b, 9, &none, &searched, &visited, text, sizeof text, &count) == JATSHEGI_OK && searched && visited == 0 && count == 0);
+    CHECK(jatshegi_engine_line(b, "go depth 2 searchmoves e2e4", 27, text, sizeof text, &count) == JATSHEGI_OK);
+    CHECK(jatshegi_engine_slice_within(b, 0, &none, &searched, &visited, text, sizeof text, &count) == JATSHEGI_OK && !searched && visited == 1 && count == 0);
+    CHECK(jatshegi_engine_slice_within(b, 1, &stop, &searched, &visited, text, sizeof text, &count) == JATSHEGI_OK && searched && visited == 1 && count > 0);
+    CHECK(jatshegi_stop_set(&stop, true) == JATSHEGI_OK && jatshegi_engine_searching(b, &searched) == JATSHEGI_OK && searched);
+    CHECK(jatshegi_engine_slice_within(b, UINT64_MAX, &other, &searched, &visited, text, sizeof text, &count) == JATSHEGI_OK && !searched && visited == 1);
+    CHECK(jatshegi_engine_slice_within(b, UINT64_MAX, &none, &searched, &visited, text, 3, &count) == JATSHEGI_NO_ROOM && searched && count > 14);
+    CHECK(jatshegi_engine_searching(b, &searched) == JATSHEGI_OK && !searched);
+
+    CHECK(set(b, "7k/8/6Q1/8/8/8/8/K7 b - - 0 1") == JATSHEGI_OK);
+    CHECK(jatshegi_board_best_within(b, 1, 9, &none, &m, &value, &visited) == JATSHEGI_NONE);
+    jatshegi_stop_free(&stop);
+    CHECK(jatshegi_stop_set(&stop, true) == JATSHEGI_EMPTY && jatshegi_stop_set(&other, true) == JATSHEGI_OK);
+    jatshegi_stop_free(&other);
+    jatshegi_stop_free(&other);
+}
+
 /* Whether the engine replies so to a line. */
 static int replies(struct jatshegi_board *b, const char *line, const char *wanted) {
     char text[JATSHEGI_MOST_REPLIES];
@@ -578,6 +639,7 @@ int main(void) {
     loads(&board);
     reports();
     searches(&board);
+    stops(&board);
     engines(&board);
     CHECK(jatshegi_board_new(&keys, &board) == JATSHEGI_OK && fen_is(&board, START));
     CHECK(fen_is(&other, "rnbqkbnr/pppppppp/8/8/3P4/8/PPP1PPPP/RNBQKBNR b KQkq d3 0 1"));

@@ -2,6 +2,7 @@
 ghost use Rattle.std.specs.Prelude.{◌≡◌, ◌≤◌, ◌<◌, [], false, length, min, is_some, IfOk, IfSome, MatchOption};
 ghost use Rattle.chess_tree.specs.GameTree.{line_to};
 ghost use Rattle.chess_c.specs.Held.{roots};
+ghost use Rattle.chess_draws.specs.LineParts.{IsAsBefore};
 ghost use Rattle.chess_search.specs.Best.{AtRoot, best};
 ghost use Rattle.chess_search.specs.Watches.{IsFree};
 ghost use Rattle.chess_uci.specs.Within.{IsWatched};
@@ -52,6 +53,8 @@ pub fn best_of_all<A: Allocator, W: Watch>(
     requires free { IsFree (W.says watch.old 1) }
     ensures best { IfSome result (λ found. found ≡ best false depth line.old.line (roots line.old.line)) }
     ensures asked { AsksWithin (W.says watch.old) line.old.line depth (is_some result) nodes.new }
+    ensures stays { W.says watch.new ≡ W.says watch.old }
+    ensures line { IsAsBefore line.old line.new }
 {
     best_within(line, depth, legal, nodes, false, watch)
 }
@@ -95,6 +98,7 @@ impl Search {
     /// Searches one root more, if one is left, and says how many positions were asked for; `false` where the watch has it abandoned, and then all is as before.
     pub fn next_within<W: Watch>(&mut self, watch: &mut W, nodes: &mut u64) -> bool
         ensures search { self.new ≡ next_if result self.old }
+        ensures stays { W.says watch.new ≡ W.says watch.old }
         ensures watched { IsWatched (W.says watch.old) nodes.new result }
         ensures at_least { min 1 (next_size self.old) ≤ nodes.new }
         ensures at_most { nodes.new ≤ next_size self.old }

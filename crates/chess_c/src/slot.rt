@@ -26,6 +26,8 @@ impl Model for Slot {
     ghost also_owns = { λ s. slot_owns may_free the_row s.held s.at };
 }
 
+unsafe impl Send for Slot {}
+
 impl Slot {
     fn empty() -> Slot
         ensures { result.held ≡ None }

@@ -26,6 +26,8 @@ impl Model for Stop {
     ghost also_owns = { λ s. slot_owns may_free the_row s.held s.at };
 }
 
+unsafe impl Send for Stop {}
+
 impl Stop {
     fn empty() -> Stop
         ensures { result.held ≡ None }
@@ -95,5 +97,3 @@ pub fn put_stop(stop: &mut Stop, flag: Option<Box<Flag, Global>>, alloc: Global)
     };
     drop(replace(stop, made).into_box(alloc));
 }
-
-unsafe impl Send for Stop {}

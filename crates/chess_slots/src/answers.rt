@@ -70,6 +70,7 @@ pub fn reply_within<A: Allocator, B: Allocator, W: Watch>(
     count: &mut usize,
 ) -> u32
     requires { page.old ≡ [] }
+    ensures stays { W.says watch.new ≡ W.says watch.old }
     ensures engine { IsRepliedWithin (W.says watch.old) engine.old engine.new nodes.new made.new result count.new room.old room.new }
     ensures page { page.new ≡ [] }
 {
