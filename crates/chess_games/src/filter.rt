@@ -74,7 +74,7 @@ fn pass<'a, A: Allocator, R: Source>(games: &mut Games<'a, R, A>) -> Result<(), 
     ensures sound { IsSound R.ended games.new }
     ensures good { OnOk result (games.new.fault ≡ None) }
     ensures goes_on { OnOk result (GoesOn games.old.fault) }
-    ensures gives_up { (fault : GamesFault) (before : AtHand R) → games.old.fault ≡ Some fault → Leaves R.gives R.failed before games.old.text games.old.halt → OnOk result (GivesUp R.gives R.failed before games.old.text games.new.text) }
+    ensures gives_up { (fault : GamesFault) (before : AtHand R) → games.old.fault ≡ Some fault → Leaves R.gives R.failed before games.old.text games.old.halt → OnOk result (GivesUp R.gives R.failed before games.new.text) }
 {
     match games.pass_over() {
         Ok(_count) => Ok(()),

@@ -1,7 +1,6 @@
 -- White items and hidden lines, one after another.
-use Rattle.std.proofs.Common.{◌≡◌, ◌≢◌, ℕ, ◌+◌, ◌-◌, ◌≤◌, ◌<◌, ◌&&◌, eqb, eqb-true, Bool, true, false, List, [], ◌∷◌, ◌++◌, length, Some, refl, sym, ap, subst, ◌∙◌, arith, append_assoc, append-nil, length-append, length-drop, drop, take, Ok, MatchBool, MatchOption, Result}
+use Rattle.std.proofs.Common.{◌≡◌, ◌≢◌, ℕ, ◌+◌, ◌-◌, ◌≤◌, ◌<◌, ◌&&◌, eqb, eqb-true, Bool, true, false, List, [], ◌∷◌, ◌++◌, length, refl, sym, ap, subst, ◌∙◌, arith, append_assoc, append-nil, length-append, length-drop, drop, take, Ok, MatchBool, MatchOption, Result}
 use Rattle.std.specs.List.{list_all, prefix_len}
-use Rattle.std.proofs.lemmas.Bool.{false≢true}
 use Rattle.std.proofs.lemmas.List.{take-append-drop}
 use Rattle.byte_streams.specs.Calls.{Calls, joined}
 use Rattle.byte_streams.proofs.CallLemmas.{Calls-append, Calls-more, joined-append, joined-more}
@@ -9,8 +8,8 @@ use Rattle.chess_items.specs.Items as items
 use Rattle.chess_items.specs.Items.{Each, EndsRun, Item, IsItem, Spells, in_line, is_white, place_after, place_behind, starts_line}
 use Rattle.chess_items.specs.steps.Deciding.{Decides}
 use Rattle.chess_items.specs.steps.ItemAt.{item_at}
-use Rattle.chess_items.specs.steps.Skipping.{BeginsHidden, Hides, HidesLine, SkippedWhite, Skips, TakesWhite}
-use Rattle.chess_items.specs.steps.Taking.{AfterStop, Rests, Steps}
+use Rattle.chess_items.specs.steps.Skipping.{BeginsHidden, HidesLine, SkippedWhite, TakesWhite}
+use Rattle.chess_items.specs.steps.Taking.{AfterStop, Steps}
 use Rattle.chess_items.specs.steps.Texts.{BreaksAt, BreaksOff, Keeps, Oversized, Refills}
 use Rattle.chess_items.specs.declared.at_hand.Fault.{Fault}
 use Rattle.chess_items.specs.declared.at_hand.Fault.TheVariants.{Memory, Read}

@@ -10,7 +10,7 @@ use Rattle.chess_items.specs.declared.outcome.Outcome.TheVariants.{Unfinished}
 use Rattle.chess_items.specs.declared.place.Place.{Place}
 use Rattle.chess_items.specs.declared.place.Place.TheVariants.{GameStart, LineStart, InLine, TagLineStart, InTag, InValue}
 use Rattle.chess_items.proofs.RunLemmas.{run_found}
-use Rattle.chess_items.proofs.ItemLemmas.{glyph_is, no_eqb, plain_byte}
+use Rattle.chess_items.proofs.ItemLemmas.{glyph_is, plain_byte}
 use Rattle.chess_items.proofs.FoundLemmas.{the, some_is}
 use Rattle.chess_items.proofs.ClosedLemmas.{all_each, each-append, closed_decides}
 

@@ -4,7 +4,7 @@
 --   Hides         reads, until a hidden line has ended
 --   SkippedWhite  bytes came, and white items are used as far as they go, whatever follows
 --   Skips         so it is, and whether nothing follows
-use Rattle.std.specs.Prelude.{◌≡◌, ◌≢◌, ◌≤◌, ℕ, ◌+◌, Bool, true, false, List, [], ◌∷◌, ◌++◌, length, Some, MatchBool, Result, Ok, Err}
+use Rattle.std.specs.Prelude.{◌≡◌, ◌≢◌, ◌≤◌, ℕ, ◌+◌, Bool, true, false, List, [], ◌∷◌, ◌++◌, Some, MatchBool, Result, Ok, Err}
 use Rattle.std.specs.List.{list_all}
 use Rattle.byte_streams.specs.Calls.{Calls, joined}
 use Rattle.chess_items.specs.Items.{Each, EndsRun, Item, Spells, in_line, is_white, place_behind, starts_line}

@@ -1,4 +1,4 @@
-use Rattle.std.proofs.Common.{◌≡◌, [], Bool, length, arith, Ok, subst, ◌∙◌}
+use Rattle.std.proofs.Common.{Bool, arith, Ok, subst}
 use Rattle.chess_items.specs.steps.Texts.{Refills}
 use Rattle.chess_items.proofs.BlankLemmas.{hides_all, hides_at, hiding_broken, hiding_falls, hiding_more, hiding_on, hiding_start, left_len, line_stops, now_smaller}
 use Rattle.chess_items.proofs.ReadLemmas.{empty_is}

@@ -1,7 +1,6 @@
-use Rattle.std.proofs.Common.{rules, ◌≡◌, Bool, List, ℕ, false, true, arith, Ok, subst, sym, ap, ◌∙◌}
-use Rattle.chess_items.specs.steps.Skipping.{BeginsHidden, Hides, TakesWhite}
-use Rattle.chess_items.specs.steps.Taking.{Steps}
-use Rattle.chess_items.proofs.BlankLemmas.{empty_or, no_larger_there, skipped, skipping_broken, skipping_falls, skipping_full, skipping_line, skipping_on, skipping_start, skipping_stopped, skipping_stops, sound_there}
+use Rattle.std.proofs.Common.{Bool, List, ℕ, arith, subst}
+use Rattle.chess_items.specs.steps.Skipping.{BeginsHidden}
+use Rattle.chess_items.proofs.BlankLemmas.{empty_or, no_larger_there, skipped, skipping_broken, skipping_falls, skipping_line, skipping_on, skipping_start, skipping_stopped, skipping_stops}
 use Rattle.chess_items.proofs.blanks.skip_white.Goals as goal
 
 pub loop-fault-init : goal.loop-fault-init
