@@ -39,9 +39,11 @@ module _ {X T : Type 0} (comes : X → List ℕ → X → Type 0) (at_hand : X �
         record {
           pieces = r.pieces;
           came = r.came;
-          white =
-              (bare a.items, bare_white a.items ∙ sym a.took.whites ∙ white,
-              subst (λ (x : List ℕ). Spells GameStart x (bare a.items) []) whole (subst (λ (x : List ℕ). Spells GameStart (at_hand old ++ (joined r.pieces ++ [])) (bare a.items) x) (append-nil (at_hand mid) ∙ a.nothing) spelled));
+          white = (
+            bare a.items,
+            bare_white a.items ∙ sym a.took.whites ∙ white,
+            subst (λ (x : List ℕ). Spells GameStart x (bare a.items) []) whole (subst (λ (x : List ℕ). Spells GameStart (at_hand old ++ (joined r.pieces ++ [])) (bare a.items) x) (append-nil (at_hand mid) ∙ a.nothing) spelled),
+          );
           ended = a.ended;
           nothing = a.nothing;
           still = λ h. (a.took.at_end h).0;

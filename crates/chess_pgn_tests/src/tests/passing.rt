@@ -165,7 +165,7 @@ const ROWS: &[(&[u8], &[Step])] = &[
     // Two bytes of one are no item.
     (
         b"[A \"1\"]\n\n1. e4 *\n\xEF\xBB[A \"2\"]\n\n1. e4 *\n",
-        &[Game(16), Fault(17, 1), Passed(20), End],
+        &[Game(16), Fault(17, 1), Passed(19), End],
     ),
     // A comment after what is no item, with a bracket first on a line, which is taken for a section.
     (

@@ -23,7 +23,7 @@ pub returns-then-not-begins_hidden-clause-skips : goal.returns-then-not-begins_h
 returns-then-not-begins_hidden-clause-skips g c =
     let begins = subst (λ (x : List ℕ). BeginsHidden c.loop-fault.place x c.begins_hidden.result) c.unread.ensures c.begins_hidden.ensures in (
       skipped g.X.Text.comes g.X.Text.at_hand g.X.Text.all g.X.Text.sound g.X.Text.size c.args.place c.args.text.now c.loop-fault.place c.loop-fault.text c.take_one.new.text c.in-Ok-Stops.field-0-0 _ c.take_one.new.taker (rw c.in-Ok-Stops.field-0-is at c.in-Ok-Stops.ensures.steps) c.loop-fault.invariant
-      (subst (λ (b : Bool). BeginsHidden c.loop-fault.place (g.X.Text.at_hand c.take_one.new.text) b) c.if-not-begins_hidden.true begins),
+          (subst (λ (b : Bool). BeginsHidden c.loop-fault.place (g.X.Text.at_hand c.take_one.new.text) b) c.if-not-begins_hidden.true begins),
       empty_or (g.X.Text.at_hand c.take_one.new.text) c.unread-then-not-begins_hidden.result.now c.is_empty.result c.unread-then-not-begins_hidden.ensures c.is_empty.ensures,
     )
 
