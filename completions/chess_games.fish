@@ -1,7 +1,7 @@
 complete -c chess_games -f
 complete -c chess_games -l part -x -d 'every N-th game alone, from game K, as 1/4'
 complete -c chess_games -l cut -x -d 'copy the input, cut into pieces of at least so many bytes'
-complete -c chess_games -l totals -d 'the number of games and bytes at the end, on the standard error'
+complete -c chess_games -l totals -d 'the number of games, of bytes and of those passed over, on the standard error'
 complete -c chess_games -l progress -d 'bytes and games so far, once a second'
 complete -c chess_games -s h -l help -d 'print help'
 complete -c chess_games -s V -l version -d 'print version'

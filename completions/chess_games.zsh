@@ -4,5 +4,5 @@ _arguments \
     '(- :)'{-V,--version}'[print version]' \
     '--part[every N-th game alone, from game K, as 1/4]:part:' \
     '--cut[copy the input, cut into pieces of at least so many bytes]:bytes:' \
-    '--totals[the number of games and bytes at the end, on the standard error]' \
+    '--totals[the number of games, of bytes and of those passed over, on the standard error]' \
     '--progress[bytes and games so far, once a second]'

@@ -141,7 +141,7 @@ class Pieces(unittest.TestCase):
             for line in lines:
                 number, place, kind = re.fullmatch(r"game (\d+): fault (\d+) (.*)", line).groups()
                 reports += f"game {int(number) + games_before}: fault {int(place) + bytes_before} {kind}\n"
-            number, count = re.fullmatch(r"games (\d+), bytes (\d+)", totals).groups()
+            number, count = re.fullmatch(r"games (\d+), bytes (\d+), passed over \d+", totals).groups()
             self.assertEqual(int(count), len(piece))
             games_before += int(number)
             bytes_before += int(count)

@@ -117,7 +117,7 @@ module _ {R W : Type 0} (gives : R → List ℕ → R → Type 0) (read_failed :
   goes_on_at_once games none = (subst (λ (f : Option GamesFault). GoesOnFrom gives read_failed ended f games games) (sym none) refl, none)
 
   -- after a fault its game is given up
-  pub goes_on_after : (old new : Games R) (fault : GamesFault) → old.fault ≡ Some fault → ((before : AtHand R) → Leaves gives read_failed before old.text old.halt → GivesUp gives read_failed before old.text new.text) → new.fault ≡ None → GoesOnTo gives read_failed ended old new
+  pub goes_on_after : (old new : Games R) (fault : GamesFault) → old.fault ≡ Some fault → ((before : AtHand R) → Leaves gives read_failed before old.text old.halt → GivesUp gives read_failed before new.text) → new.fault ≡ None → GoesOnTo gives read_failed ended old new
   goes_on_after old new fault is gives_up none = (subst (λ (f : Option GamesFault). GoesOnFrom gives read_failed ended f old new) (sym is) gives_up, none)
 
   -- the header is written

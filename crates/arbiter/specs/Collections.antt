@@ -72,7 +72,7 @@ module _ {R : Type 0} (gives : R → List ℕ → R → Type 0) (failed : R → 
   -- from a state with that fault
   abbrev pub GoesOnFrom : Option GamesFault → Games R → Games R → Type 0
   GoesOnFrom None old new = new ≡ old
-  GoesOnFrom (Some fault) old new = (before : AtHand R) → Leaves gives failed before old.text old.halt → GivesUp gives failed before old.text new.text
+  GoesOnFrom (Some fault) old new = (before : AtHand R) → Leaves gives failed before old.text old.halt → GivesUp gives failed before new.text
 
   -- at once, or after a bad game is given up
   abbrev pub GoesOnTo : Games R → Games R → Type 0

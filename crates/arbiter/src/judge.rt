@@ -108,7 +108,7 @@ fn go_on<R: Source>(games: &mut Games<'_, R, Global>) -> Result<(), Failure>
     requires goes_on { GoesOn games.old.fault }
     ensures sound { IsSound R.ended games.new }
     ensures good { OnOk result (games.new.fault ≡ None) }
-    ensures gives_up { (fault : GamesFault) (before : AtHand R) → games.old.fault ≡ Some fault → Leaves R.gives R.failed before games.old.text games.old.halt → IfOk result (λ _. GivesUp R.gives R.failed before games.old.text games.new.text) }
+    ensures gives_up { (fault : GamesFault) (before : AtHand R) → games.old.fault ≡ Some fault → Leaves R.gives R.failed before games.old.text games.old.halt → IfOk result (λ _. GivesUp R.gives R.failed before games.new.text) }
     ensures fault { IfErr result (λ failure. NotOn R.gives R.failed games.old games.new failure) }
 {
     match games.pass_over() {

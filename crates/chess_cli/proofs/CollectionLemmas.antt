@@ -142,7 +142,7 @@ module _ {R W : Type 0} (gives : R → List ℕ → R → Type 0) (read_failed :
     unfolding collected
     refused_there m n old new so_far fails = record {
       games = so_far.games;
-      reads = collected gives read_failed s m n so_far.games nothing first_read so_far.reads fails.bytes fails.came ended n.has_ended fails.told fails.still;
+      reads = collected gives read_failed s m n so_far.games nothing first_read so_far.reads fails.bytes fails.came ended n.has_ended fails.ended_so fails.still;
       refused = λ more none.
           let same = sym (append_assoc (unread m) fails.bytes more) in
           (subst HasNoGame same (fails.none more none), subst (λ (z : List ℕ). IsWhite z → ⊥) same (fails.dark more none));
@@ -160,7 +160,7 @@ module _ {R W : Type 0} (gives : R → List ℕ → R → Type 0) (read_failed :
     written_there : (m n : AtHand R) (old new : W) → SoFar gives read_failed ended takes failed count s m old new → Fails gives read_failed ended m n → EndsWritten gives read_failed ended takes failed s.source n.source old new
     written_there m n old new so_far fails = record {
       games = so_far.games;
-      reads = collected gives read_failed s m n so_far.games nothing first_read so_far.reads fails.bytes fails.came ended n.has_ended fails.told fails.still;
+      reads = collected gives read_failed s m n so_far.games nothing first_read so_far.reads fails.bytes fails.came ended n.has_ended fails.ended_so fails.still;
       written = so_far.written;
     }
 

@@ -64,9 +64,9 @@ module _ {R : Type 0} (gives : R → List ℕ → R → Type 0) (failed : R → 
   goes_good s m n (Good other ∷ entries) game g h = (g.0, g.1, goes_good g.0 m n entries game g.2 h)
   goes_good s m n (Bad fault ∷ entries) game g h = (g.0, g.1, g.2, g.3, g.4, goes_good g.1 m n entries game g.5 h)
 
-  goes_bad : (s m f n : AtHand R) (entries : List Entry) (fault : PgnFault) → Goes gives failed ended s entries m → fault.kind ≢ lacks.Memory → Fails gives failed ended m f → GivesUp gives failed m f n
+  goes_bad : (s m f n : AtHand R) (entries : List Entry) (fault : PgnFault) → Goes gives failed ended s entries m → fault.kind ≢ lacks.Memory → Fails gives failed ended m f → GivesUp gives failed m n
       → Goes gives failed ended s (entries ++ Bad fault ∷ []) n
-  goes_bad s m f n [] fault g k h p = (f, n, k, subst (λ (x : AtHand R). Fails gives failed ended x f) (sym g) h, subst (λ (x : AtHand R). GivesUp gives failed x f n) (sym g) p, refl)
+  goes_bad s m f n [] fault g k h p = (f, n, k, subst (λ (x : AtHand R). Fails gives failed ended x f) (sym g) h, subst (λ (x : AtHand R). GivesUp gives failed x n) (sym g) p, refl)
   goes_bad s m f n (Good other ∷ entries) fault g k h p = (g.0, g.1, goes_bad g.0 m f n entries fault g.2 k h p)
   goes_bad s m f n (Bad other ∷ entries) fault g k h p = (g.0, g.1, g.2, g.3, g.4, goes_bad g.1 m f n entries fault g.5 k h p)
 
@@ -104,7 +104,7 @@ module _ {R W : Type 0} (gives : R → List ℕ → R → Type 0) (failed : R �
   }
 
   pub one_bad : (s m f n : AtHand R) (old mid : W) (bad more before : ℕ) (fault : PgnFault) → SoFar gives failed ended takes part s m old mid bad before → HasFault gives failed ended m f (Pgn fault) → fault.kind ≢ lacks.Memory
-      → GivesUp gives failed m f n → more ≡ (if is_in part before then 1 else 0) → more ≤ 1 → SoFar gives failed ended takes part s n old mid (bad + more) (before + 1)
+      → GivesUp gives failed m n → more ≡ (if is_in part before then 1 else 0) → more ≤ 1 → SoFar gives failed ended takes part s n old mid (bad + more) (before + 1)
   one_bad s m f n old mid bad more before fault g h k p counts one = record {
     entries = g.entries ++ Bad fault ∷ [];
     goes = goes_bad gives failed ended s m f n g.entries fault g.goes k (fails_there gives failed ended m f fault h k) p;

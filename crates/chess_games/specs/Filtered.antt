@@ -25,7 +25,7 @@ module _ {R : Type 0} (gives : R → List ℕ → R → Type 0) (failed : R → 
   Goes old [] new = old ≡ new
   Goes old (Good game ∷ entries) new = (mid : AtHand R) × HasGame gives failed old mid game × Goes mid entries new
   Goes old (Bad fault ∷ entries) new =
-      (there : AtHand R) × (mid : AtHand R) × (fault.kind ≢ lacks.Memory) × Fails gives failed ended old there × GivesUp gives failed old there mid × Goes mid entries new
+      (there : AtHand R) × (mid : AtHand R) × (fault.kind ≢ lacks.Memory) × Fails gives failed ended old there × GivesUp gives failed old mid × Goes mid entries new
 
 abbrev pub good_text : Part → ℕ → List Entry → List ℕ
 good_text part before [] = []

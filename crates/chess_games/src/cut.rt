@@ -146,8 +146,8 @@ impl Borders {
             b'{' => Zone::Braced,
             b';' => Zone::ToLineEnd,
             b'%' if is_first => Zone::ToLineEnd,
-            // The bytes of a mark, before which nothing but white space is.
-            239 | 187 | 191 if is_first => Zone::LineStart,
+            // The bytes of a mark, after which a line begins.
+            239 | 187 | 191 => Zone::LineStart,
             _ => Zone::InLine,
         };
         if b == b'*' {

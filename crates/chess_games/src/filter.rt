@@ -19,7 +19,7 @@ use std::alloc::Allocator;
 pub struct Wanted {
     /// The games that are written or reported.
     pub part: Part,
-    /// At the end a line with the number of games and of bytes, on the standard error.
+    /// At the end a line with the number of games, of bytes, and of the bytes of bad games, on the standard error.
     pub totals: bool,
 }
 
@@ -51,9 +51,10 @@ fn report(rt: &HostRuntime, number: u64, fault: PgnFault) {
     let _ = eprintln!(rt; "game {number}: fault {place} {kind} {name}");
 }
 
-// A line on the standard error with the number of all games and of their bytes. A fault of the standard error is ignored.
-fn report_totals(rt: &HostRuntime, games: u64, bytes: u64) {
-    let _ = eprintln!(rt; "games {games}, bytes {bytes}");
+// A line on the standard error with the number of all games and of their bytes, and of the bytes that were passed over with bad games. A fault of the
+// standard error is ignored.
+fn report_totals(rt: &HostRuntime, games: u64, bytes: u64, passed: u64) {
+    let _ = eprintln!(rt; "games {games}, bytes {bytes}, passed over {passed}");
 }
 
 // The same of the game after so many others, if it is asked for; how many lines that were.
@@ -74,7 +75,7 @@ fn pass<'a, A: Allocator, R: Source>(games: &mut Games<'a, R, A>) -> Result<(), 
     ensures sound { IsSound R.ended games.new }
     ensures good { OnOk result (games.new.fault ≡ None) }
     ensures goes_on { OnOk result (GoesOn games.old.fault) }
-    ensures gives_up { (fault : GamesFault) (before : AtHand R) → games.old.fault ≡ Some fault → Leaves R.gives R.failed before games.old.text games.old.halt → OnOk result (GivesUp R.gives R.failed before games.old.text games.new.text) }
+    ensures gives_up { (fault : GamesFault) (before : AtHand R) → games.old.fault ≡ Some fault → Leaves R.gives R.failed before games.old.text games.old.halt → OnOk result (GivesUp R.gives R.failed before games.new.text) }
 {
     match games.pass_over() {
         Ok(_count) => Ok(()),
@@ -99,14 +100,16 @@ fn write_good<'a, A: Allocator, R: Source, W: Sink>(
     ensures { IfOk result (λ bad. IsGoneOver R.gives R.failed R.ended W.takes wanted.now.part games.old.text writer.old writer.new bad) }
 {
     let mut bad = 0u64;
+    let mut passed = 0u64;
     let mut texts = Texts::new(alloc);
     for before in 0..GAMES {
-        progress.show(games.used(), before);
+        let from = games.used();
+        progress.show(from, before);
         let is_asked = wanted.part.has(before);
         match games.next_with(&mut texts) {
             Ok(None) => {
                 if wanted.totals {
-                    report_totals(rt, before, games.used());
+                    report_totals(rt, before, games.used(), passed);
                 }
                 return Ok(bad);
             }
@@ -117,6 +120,7 @@ fn write_good<'a, A: Allocator, R: Source, W: Sink>(
                 let fault = fault_of(fault)?;
                 bad += report_if(rt, is_asked, before, fault);
                 pass(games)?;
+                passed = passed.saturating_add(games.used().saturating_sub(from));
             }
         }
     }

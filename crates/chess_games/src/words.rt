@@ -48,7 +48,7 @@ fn matched<S: AsStr>(alloc: Global, words: &[S]) -> Result<Result<Words, &'stati
     let totals = flag(
         alloc,
         "totals",
-        "the number of games and bytes at the end, on the standard error",
+        "the number of games, of bytes and of those passed over, on the standard error",
     );
     let command = Command::new(alloc, "chess_games")
         .about(ABOUT)

@@ -5,8 +5,8 @@ use Rattle.std.proofs.lemmas.Bool.{ltb-false}
 use Rattle.std.proofs.lemmas.Bool.Decides.{nat_tests}
 use Rattle.std.proofs.lemmas.List.{take-append-drop}
 use Rattle.chess_items.specs.Items.{Blank, Each, digits_value, glyph_value, in_braces, in_line, is_blank, is_digit, is_escapable, is_glyph, is_name_byte, is_plain, is_word_byte}
-use Rattle.chess_items.specs.steps.ItemAt.{Found, run_at, word_found, nag_found, small, digits_found, glyph_found, hidden_found, line_found, braces_found, name_found, stretch_found, hidden_at, sign_at, outside_at, tag_at, escaped_at, value_at, mark_at, start_at, item_at}
-use Rattle.chess_items.specs.steps.Deciding.{longer, Decides, sign_open, outside_open, tag_open, escape_open, value_open, mark_open, start_open, is_open}
+use Rattle.chess_items.specs.steps.ItemAt.{Found, run_at, word_found, nag_found, small, digits_found, glyph_found, hidden_found, line_found, braces_found, name_found, stretch_found, hidden_at, sign_at, outside_at, tag_at, escaped_at, value_at, mark_at, item_at}
+use Rattle.chess_items.specs.steps.Deciding.{longer, Decides, sign_open, outside_open, tag_open, escape_open, value_open, mark_open, is_open}
 use Rattle.chess_items.specs.declared.place.Place.{Place}
 use Rattle.chess_items.specs.declared.place.Place.TheVariants.{GameStart, LineStart, InLine, TagLineStart, InTag, InValue}
 use Rattle.chess_items.proofs.RunLemmas.{run_found, prefix_each, prefix_stops}
@@ -169,6 +169,12 @@ one_more : (v : Bool) (x1 x2 y1 y2 : Found) (more : List ℕ) → x1 ≡ longer 
 one_more true x1 x2 y1 y2 more f g = f
 one_more false x1 x2 y1 y2 more f g = g
 
+mark_closed : (bytes more : List ℕ) → mark_open bytes ≡ false → mark_at (bytes ++ more) ≡ longer (mark_at bytes) more
+mark_closed [] more e = absurd cc
+mark_closed (b ∷ []) [] e = refl
+mark_closed (b ∷ []) (c ∷ more) e = rw e refl
+mark_closed (b ∷ c ∷ bytes) more e = one_more (eqb b 187) _ _ _ _ more (one_more (eqb c 191) _ _ _ _ more refl refl) refl
+
 sign_closed : (start : Bool) (b : ℕ) (bytes more : List ℕ) → sign_open start b bytes ≡ false → sign_at start b (bytes ++ more) ≡ longer (sign_at start b bytes) more
 unfolding sign_open sign_at
 sign_closed start b bytes more e =
@@ -176,7 +182,7 @@ sign_closed start b bytes more e =
     agree (eqb b 59) _ _ _ _ _ _ more e (λ w h. run_closed in_line line_found bytes more line_natural h) (λ w e.
     agree (eqb b 123) _ _ _ _ _ _ more e (λ w h. run_closed in_braces braces_found bytes more braces_natural h) (λ w e.
     agree (eqb b 36) _ _ _ _ _ _ more e (λ w h. digits_closed bytes more h) (λ w e.
-    one_more (eqb b 40) _ _ _ _ more refl (one_more (eqb b 41) _ _ _ _ more refl (one_more (eqb b 42) _ _ _ _ more refl (one_more (eqb b 46) _ _ _ _ more refl (one_more (eqb b 91) _ _ _ _ more refl refl))))))))
+    one_more (eqb b 40) _ _ _ _ more refl (one_more (eqb b 41) _ _ _ _ more refl (one_more (eqb b 42) _ _ _ _ more refl (one_more (eqb b 46) _ _ _ _ more refl (one_more (eqb b 91) _ _ _ _ more refl (agree (eqb b 239) _ _ _ _ _ _ more e (λ w h. mark_closed bytes more h) (λ w h. refl))))))))))
 
 -- a run of a class, a blank, or what else begins with the byte
 run_or_closed : (p : ℕ → Bool) (f : List ℕ → List ℕ → Found) → Natural f → (b : ℕ) (bytes more : List ℕ) (o : Bool) (x y : Found) → cond (p b) (list_all p bytes) (cond (is_blank b) false o) ≡ false → (o ≡ false → x ≡ longer y more)
@@ -213,20 +219,9 @@ value_closed (b ∷ bytes) more e =
     agree (eqb b 92) _ _ _ _ _ _ more e (λ w h. escape_closed bytes more h) (λ w2 e.
     agree (eqb b 10) _ _ _ _ _ _ more e (λ w h. refl) (λ w3 h. run_closed is_plain stretch_found (b ∷ bytes) more stretch_natural (rw (plain_byte b w1 w2 w3) h))))
 
-mark_closed : (bytes more : List ℕ) → mark_open bytes ≡ false → mark_at (bytes ++ more) ≡ longer (mark_at bytes) more
-mark_closed [] more e = absurd cc
-mark_closed (b ∷ []) [] e = refl
-mark_closed (b ∷ []) (c ∷ more) e = rw e refl
-mark_closed (b ∷ c ∷ bytes) more e = one_more (eqb b 187) _ _ _ _ more (one_more (eqb c 191) _ _ _ _ more refl refl) refl
-
-start_closed : (prefix more : List ℕ) → start_open prefix ≡ false → start_at (prefix ++ more) ≡ longer (start_at prefix) more
-unfolding start_open start_at
-start_closed [] more e = absurd cc
-start_closed (b ∷ bytes) more e = agree (eqb b 239) _ _ _ _ _ _ more e (λ w h. mark_closed bytes more h) (λ w h. outside_closed true (b ∷ bytes) more h)
-
 pub closed_decides : (place : Place) (prefix : List ℕ) → is_open place prefix ≡ false → Decides place prefix
 unfolding is_open item_at
-closed_decides GameStart prefix e = λ more. start_closed prefix more e
+closed_decides GameStart prefix e = λ more. outside_closed true prefix more e
 closed_decides LineStart prefix e = λ more. outside_closed true prefix more e
 closed_decides InLine prefix e = λ more. outside_closed false prefix more e
 closed_decides TagLineStart prefix e = λ more. tag_closed true prefix more e

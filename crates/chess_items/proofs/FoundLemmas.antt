@@ -7,7 +7,7 @@ use Rattle.std.proofs.Math.Numerals.{one-add}
 use Rattle.std.proofs.lemmas.List.{take-append-drop}
 use Rattle.chess_items.specs.Items.{Item, Mark, Blank, Hidden, Comment, Skipped, Word, Nag, Open, Close, Marker, TagOpen, TagClose, Name, Quote, Stretch, Escaped}
 use Rattle.chess_items.specs.Items.{Each, EndsRun, IsRun, IsToLineEnd, IsSpelled, IsItem, digits_value, glyph_value, in_braces, in_line, is_blank, is_digit, is_escapable, is_glyph, is_name_byte, is_plain, is_word_byte, without_brace, word_item, may_stand}
-use Rattle.chess_items.specs.steps.ItemAt.{Found, run_at, nag_found, small, digits_found, glyph_found, hidden_found, line_found, braces_found, hidden_at, sign_at, outside_at, tag_at, escaped_at, value_at, mark_at, start_at, item_at}
+use Rattle.chess_items.specs.steps.ItemAt.{Found, run_at, nag_found, small, digits_found, glyph_found, hidden_found, line_found, braces_found, hidden_at, sign_at, outside_at, tag_at, escaped_at, value_at, mark_at, item_at}
 use Rattle.chess_items.specs.declared.outcome.Outcome.TheVariants.{WhiteWins, BlackWins, Draw, Unfinished}
 use Rattle.chess_items.specs.declared.place.Place.{Place}
 use Rattle.chess_items.specs.declared.place.Place.TheVariants.{GameStart, LineStart, InLine, TagLineStart, InTag, InValue}
@@ -140,6 +140,13 @@ hidden_taken stands true bytes item next s found =
 
 -- ---- outside of tags
 
+mark_taken : (start : Bool) (bytes : List ℕ) (item : Item) (next : List ℕ) → mark_at bytes ≡ Some (item, next) → Parted (stands_outside start) (239 ∷ bytes) item next
+mark_taken start [] item next e = absurd cc
+mark_taken start (b ∷ []) item next e = absurd cc
+mark_taken start (b ∷ c ∷ bytes) item next e =
+    by_test (eqb b 187) _ _ _ e (λ w e.
+    by_test (eqb c 191) _ _ _ e (λ v h. at_pair (stands_outside start) (239 ∷ b ∷ c ∷ bytes) (239 ∷ 187 ∷ 191 ∷ []) Mark item bytes next h (rw (eqb-true _ _ w, eqb-true _ _ v) refl) refl refl) (λ v h. absurd cc)) (λ w h. absurd cc)
+
 sign_taken : (start : Bool) (b : ℕ) (bytes : List ℕ) (item : Item) (next : List ℕ) → sign_at start b bytes ≡ Some (item, next) → Parted (stands_outside start) (b ∷ bytes) item next
 unfolding sign_at
 sign_taken start b bytes item next e =
@@ -152,7 +159,8 @@ sign_taken start b bytes item next e =
     by_test (eqb b 41) _ _ _ e (λ w h. one_byte at b 41 bytes Close item next w refl refl h) (λ w e.
     by_test (eqb b 42) _ _ _ e (λ w h. one_byte at b 42 bytes (Marker Unfinished) item next w refl (inl (refl, refl)) h) (λ w e.
     by_test (eqb b 46) _ _ _ e (λ w h. one_byte at b 46 bytes Skipped item next w refl (inl refl) h) (λ w e.
-    by_test (eqb b 91) _ _ _ e (λ w h. one_byte at b 91 bytes TagOpen item next w refl refl h) (λ w e. absurd cc)))))))))
+    by_test (eqb b 91) _ _ _ e (λ w h. one_byte at b 91 bytes TagOpen item next w refl refl h) (λ w e.
+    by_test (eqb b 239) _ _ _ e (λ w h. headed at b 239 bytes item next w (mark_taken start bytes item next h)) (λ w e. absurd cc))))))))))
 
 blank_taken : (stands : Item → Bool) (b : ℕ) (bytes : List ℕ) (item : Item) (next : List ℕ) → stands (Blank b) ≡ true → is_blank b ≡ true → the (Blank b) bytes ≡ the item next → Parted stands (b ∷ bytes) item next
 blank_taken stands b bytes item next s h e = at_pair stands (b ∷ bytes) (b ∷ []) (Blank b) item bytes next e refl s (h, refl)
@@ -196,18 +204,6 @@ value_taken (b ∷ bytes) item next e =
 
 -- ---- anywhere
 
-mark_taken : (bytes : List ℕ) (item : Item) (next : List ℕ) → mark_at bytes ≡ Some (item, next) → Parted (may_stand GameStart) (239 ∷ bytes) item next
-mark_taken [] item next e = absurd cc
-mark_taken (b ∷ []) item next e = absurd cc
-mark_taken (b ∷ c ∷ bytes) item next e =
-    by_test (eqb b 187) _ _ _ e (λ w e.
-    by_test (eqb c 191) _ _ _ e (λ v h. at_pair (may_stand GameStart) (239 ∷ b ∷ c ∷ bytes) (239 ∷ 187 ∷ 191 ∷ []) Mark item bytes next h (rw (eqb-true _ _ w, eqb-true _ _ v) refl) refl refl) (λ v h. absurd cc)) (λ w h. absurd cc)
-
--- what may stand outside of tags may stand at the start of a game
-at_start : (item : Item) → stands_outside true item ≡ true → may_stand GameStart item ≡ true
-at_start Mark s = absurd cc
-at_start _ s = s
-
 -- the beginning of the input is the text of the item
 abbrev pub Taken : Place → List ℕ → Item → List ℕ → Type 0
 Taken place input item next = (text : List ℕ) × (input ≡ text ++ next) × IsItem place item text next
@@ -215,17 +211,10 @@ Taken place input item next = (text : List ℕ) × (input ≡ text ++ next) × I
 at_place : (place : Place) (stands : Item → Bool) (input : List ℕ) (item : Item) (next : List ℕ) → ((i : Item) → stands i ≡ true → may_stand place i ≡ true) → Parted stands input item next → Taken place input item next
 at_place place stands input item next f p = (p.0, p.1, record { stands = f item p.2; spelled = p.3 })
 
-start_taken : (input : List ℕ) (item : Item) (next : List ℕ) → start_at input ≡ Some (item, next) → Taken GameStart input item next
-unfolding start_at
-start_taken [] item next e = absurd cc
-start_taken (b ∷ bytes) item next e =
-    by_test (eqb b 239) _ _ _ e (λ w h. at_place GameStart (may_stand GameStart) (b ∷ bytes) item next (λ i s. s) (headed (may_stand GameStart) b 239 bytes item next w (mark_taken bytes item next h)))
-    (λ w h. at_place GameStart (stands_outside true) (b ∷ bytes) item next at_start (outside_taken true (b ∷ bytes) item next h))
-
 -- what is found at a place is an item that may be there
 pub item_taken : (place : Place) (input : List ℕ) (item : Item) (next : List ℕ) → item_at place input ≡ Some (item, next) → Taken place input item next
 unfolding item_at
-item_taken GameStart input item next e = start_taken input item next e
+item_taken GameStart input item next e = at_place GameStart (stands_outside true) input item next (λ i s. may_stand_is GameStart i ∙ s) (outside_taken true input item next e)
 item_taken LineStart input item next e = at_place LineStart (stands_outside true) input item next (λ i s. may_stand_is LineStart i ∙ s) (outside_taken true input item next e)
 item_taken InLine input item next e = at_place InLine (stands_outside false) input item next (λ i s. may_stand_is InLine i ∙ s) (outside_taken false input item next e)
 item_taken TagLineStart input item next e = at_place TagLineStart (stands_in_tag true) input item next (λ i s. may_stand_is TagLineStart i ∙ s) (tag_taken true input item next e)

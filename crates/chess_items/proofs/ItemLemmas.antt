@@ -1,10 +1,10 @@
 -- The code finds exactly the items of the definition: what spells an item is found.
-use Rattle.std.proofs.Common.{◌≡◌, ◌≢◌, ◌<◌, ◌≤◌, ◌⊎◌, inl, inr, ℕ, Bool, true, false, eqb, List, [], ◌∷◌, ◌++◌, Option, Some, None, refl, sym, subst, ap, ◌∙◌, arith, append_assoc, ◌||◌}
+use Rattle.std.proofs.Common.{◌≡◌, ◌≢◌, ◌<◌, ◌≤◌, ◌⊎◌, inl, inr, ℕ, Bool, true, false, eqb, List, [], ◌∷◌, ◌++◌, Option, Some, refl, sym, subst, ap, ◌∙◌, arith, append_assoc, ◌||◌}
 use Rattle.std.proofs.lemmas.Bool.{eqb-true, false≢true, lt-ltb}
 use Rattle.std.proofs.lemmas.Bool.Decides.{nat_tests}
 use Rattle.chess_items.specs.Items.{Item, Mark, Blank, Hidden, Comment, Skipped, Word, Nag, Open, Close, Marker, TagOpen, TagClose, Name, Quote, Stretch, Escaped}
 use Rattle.chess_items.specs.Items.{Each, EndsRun, IsRun, IsSpelled, IsItem, digits_value, glyph_value, in_braces, in_line, is_blank, is_digit, is_escapable, is_glyph, is_name_byte, is_plain, is_word_byte, word_item, may_stand}
-use Rattle.chess_items.specs.steps.ItemAt.{run_at, word_found, nag_found, digits_found, glyph_found, hidden_found, line_found, braces_found, name_found, stretch_found, sign_at, outside_at, tag_at, value_at, start_at, item_at}
+use Rattle.chess_items.specs.steps.ItemAt.{run_at, word_found, nag_found, digits_found, glyph_found, hidden_found, line_found, braces_found, name_found, stretch_found, sign_at, outside_at, tag_at, value_at, item_at}
 use Rattle.chess_items.specs.declared.place.Place.{Place}
 use Rattle.chess_items.specs.declared.place.Place.TheVariants.{GameStart, LineStart, InLine, TagLineStart, InTag, InValue}
 use Rattle.chess_items.proofs.RunLemmas.{run_found}
@@ -65,9 +65,8 @@ blank_goes start b next e =
     let low = blank_low b e in
     rw (word_high b (omega arith), e) refl
 
--- what may stand outside of tags, but for a mark; a hidden line only in the first column
+-- what may stand outside of tags; a hidden line only in the first column
 abbrev pub stands_outside : Bool → Item → Bool
-stands_outside start Mark = false
 stands_outside start Hidden = start
 stands_outside start TagClose = false
 stands_outside start (Name t) = false
@@ -78,6 +77,7 @@ stands_outside start _ = true
 
 pub outside_goes : (start : Bool) (item : Item) (text next : List ℕ) → stands_outside start item ≡ true → IsSpelled item text next → outside_at start (text ++ next) ≡ Some (item, next)
 unfolding outside_at sign_at is_word_byte is_name_byte is_digit is_blank is_glyph
+outside_goes start Mark text next s p = rw p refl
 outside_goes start (Blank b) text next s p = rw p.1 (blank_goes start b next p.0)
 outside_goes start Hidden text next s p = rw (p.1, s) (run_found in_line hidden_found p.0 next p.2.each p.2.stops)
 outside_goes start Skipped text next s (inl e) = rw e refl
@@ -169,31 +169,9 @@ value_goes _ text next s p = absurd cc
 
 -- ---- anywhere
 
-no_mark : (start : Bool) (bytes : List ℕ) → outside_at start (239 ∷ bytes) ≡ None
-unfolding outside_at sign_at is_word_byte is_name_byte is_digit is_blank is_glyph
-no_mark start bytes = refl
-
--- a text that has an item outside of tags doesn't begin as a mark
-not_mark : (start : Bool) (b : ℕ) (bytes : List ℕ) (item : Item) (next : List ℕ) → outside_at start (b ∷ bytes) ≡ Some (item, next) → eqb b 239 ≡ false
-not_mark start b bytes item next e = go (eqb b 239) refl
-  where
-    go : (v : Bool) → eqb b 239 ≡ v → eqb b 239 ≡ false
-    go true h = (let k : outside_at start (239 ∷ bytes) ≡ Some (item, next) = rw (eqb-true b 239 h) at e in let z = sym (no_mark start bytes) ∙ k in absurd cc)
-    go false h = h
-
-start_goes : (bytes : List ℕ) (item : Item) (next : List ℕ) → outside_at true bytes ≡ Some (item, next) → start_at bytes ≡ Some (item, next)
-unfolding start_at outside_at
-start_goes [] item next e = absurd cc
-start_goes (b ∷ bytes) item next e = rw (not_mark true b bytes item next e) e
-
-at_start : (item : Item) (text next : List ℕ) → may_stand GameStart item ≡ true → IsSpelled item text next → start_at (text ++ next) ≡ Some (item, next)
-unfolding start_at
-at_start Mark text next s p = rw p refl
-at_start item text next s p = start_goes (text ++ next) item next (outside_goes true item text next s p)
-
 -- what may stand at a place
 abbrev pub stands_at : Place → Item → Bool
-stands_at GameStart = may_stand GameStart
+stands_at GameStart = stands_outside true
 stands_at LineStart = stands_outside true
 stands_at InLine = stands_outside false
 stands_at TagLineStart = stands_in_tag true
@@ -201,14 +179,13 @@ stands_at InTag = stands_in_tag false
 stands_at InValue = stands_in_value
 
 pub may_stand_is : (place : Place) (item : Item) → may_stand place item ≡ stands_at place item
-may_stand_is GameStart item = refl
-may_stand_is _ Mark = refl
+may_stand_is GameStart Mark = refl
 may_stand_is _ _ = refl
 
 -- what may stand at a place is found there
 pub item_goes : (place : Place) (item : Item) (text next : List ℕ) → IsItem place item text next → item_at place (text ++ next) ≡ Some (item, next)
-unfolding item_at start_at
-item_goes GameStart item text next p = at_start item text next p.stands p.spelled
+unfolding item_at
+item_goes GameStart item text next p = outside_goes true item text next (sym (may_stand_is GameStart item) ∙ p.stands) p.spelled
 item_goes LineStart item text next p = outside_goes true item text next (sym (may_stand_is LineStart item) ∙ p.stands) p.spelled
 item_goes InLine item text next p = outside_goes false item text next (sym (may_stand_is InLine item) ∙ p.stands) p.spelled
 item_goes TagLineStart item text next p = tag_goes true item text next (sym (may_stand_is TagLineStart item) ∙ p.stands) p.spelled

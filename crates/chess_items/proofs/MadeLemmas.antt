@@ -63,6 +63,7 @@ module _ {R : Type 0} (gives : R → List ℕ → R → Type 0) (ended : R → T
     asked = asks r.brought;
     at_end = λ e. (ap joined (r.brought.at_end e).0, (r.brought.at_end e).1);
     sound_still = r.brought.ended_so;
+    no_larger = size_falls r.brought.pieces r.brought.needed r.brought.counted r.brought.whole;
     held = (λ few. rw (r.brought.whole) (held_of most place (unread old) r.brought.pieces r.brought.needed few));
   }
   came_after true r = record {

@@ -150,6 +150,7 @@ module _ {X : Type 0} {comes : X → List ℕ → X → Type 0} {at_hand : X →
               same = inl refl;
             },
             subst (λ (x : List ℕ). Needs at_hand all place old x mid) (sym (append-nil r.more)) a.asked,
+            a.no_larger,
           );
         }
 
@@ -187,7 +188,7 @@ module _ {X : Type 0} {comes : X → List ℕ → X → Type 0} {at_hand : X →
   -- nothing is used
   stops : {T : Type 0} {takes : TakesOne T} {at : ℕ} {t : T} (why : Stop) (u : T) → AfterStop comes at_hand all sound size takes at most place old mid t u why → Steps comes at_hand all sound size takes at most place old mid t u (Ok (step.Stops why))
   stops why u after =
-      record { pieces = ready.pieces; came = ready.came; after = (record { longer = ready.after.longer; at_end = ready.after.at_end; sound_still = sound_still }, after, ready.after.asked) }
+      record { pieces = ready.pieces; came = ready.came; after = (record { longer = ready.after.longer; at_end = ready.after.at_end; sound_still = sound_still }, after, ready.after.asked, ready.after.no_larger) }
 
   all_came : (hand : List ℕ) → hand ≡ [] → Decides place hand ⊎ all mid → all mid
   all_came hand e (inl d) = absurd (nothing_undecided place (subst (λ (x : List ℕ). Decides place x) e d))

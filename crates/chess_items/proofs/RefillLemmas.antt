@@ -60,7 +60,7 @@ module _ {R : Type 0} (gives : R → List ℕ → R → Type 0) (ended : R → T
   some_pieces pieces some e = (let n = ap length e in omega (arith, n, some))
 
   refills_after : (has_more : Bool) (r : HasRefilled gives ended failed old new has_more) → texts.AfterRefill (brings gives failed) unread (has_all gives failed) (ends_truly gives failed ended) (size_at_hand gives failed) old (joined r.pieces) new has_more
-  refills_after false r = (r.after.0, r.after.1, r.after.2, λ e. r.after.3)
+  refills_after false r = (r.after.0, r.after.1, r.after.2, (λ e. r.after.3), (let n = ap length r.after.0 in omega (arith, n, r.counted)))
   refills_after true r = (
     r.after.0,
     (λ e. absurd (false≢true (sym r.after.2 ∙ e))),

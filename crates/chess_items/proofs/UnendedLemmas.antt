@@ -5,8 +5,8 @@ use Rattle.std.proofs.lemmas.Bool.{and_parts, and_from}
 use Rattle.std.proofs.Math.Seq.{take-add, take-length}
 use Rattle.std.proofs.lemmas.List.{drop-drop, take-take}
 use Rattle.chess_items.specs.Items.{in_braces, in_line, is_blank, is_digit, is_glyph, is_name_byte, is_outside, is_word_byte}
-use Rattle.chess_items.specs.steps.ItemAt.{braces_found, item_at, outside_at, run_at, sign_at, start_at}
-use Rattle.chess_items.specs.steps.Deciding.{Decides, is_open, outside_open, sign_open, start_open}
+use Rattle.chess_items.specs.steps.ItemAt.{braces_found, item_at, outside_at, run_at, sign_at}
+use Rattle.chess_items.specs.steps.Deciding.{Decides, is_open, outside_open, sign_open}
 use Rattle.chess_items.specs.steps.Unended.{BeginsComment, IsSearched}
 use Rattle.chess_items.specs.declared.cut.Comment.TheVariants.{Braces, Line}
 use Rattle.chess_items.specs.declared.place.Place.{Place}
@@ -53,14 +53,14 @@ searched_on p to dropped used later bytes le s = record {
 -- ---- a comment
 
 braces_open : (place : Place) (rest : List ℕ) → is_outside place ≡ true → is_open place (123 ∷ rest) ≡ list_all in_braces rest
-unfolding is_open start_open outside_open sign_open is_word_byte is_name_byte is_digit is_blank is_glyph
+unfolding is_open outside_open sign_open is_word_byte is_name_byte is_digit is_blank is_glyph
 braces_open GameStart rest e = refl
 braces_open LineStart rest e = refl
 braces_open InLine rest e = refl
 braces_open _ rest e = absurd cc
 
 line_open : (place : Place) (rest : List ℕ) → is_outside place ≡ true → is_open place (59 ∷ rest) ≡ list_all in_line rest
-unfolding is_open start_open outside_open sign_open is_word_byte is_name_byte is_digit is_blank is_glyph
+unfolding is_open outside_open sign_open is_word_byte is_name_byte is_digit is_blank is_glyph
 line_open GameStart rest e = refl
 line_open LineStart rest e = refl
 line_open InLine rest e = refl
@@ -105,7 +105,7 @@ module _ {place : Place} {bytes : List ℕ} where
   }
 
 braces_item : (place : Place) (rest : List ℕ) → is_outside place ≡ true → item_at place (123 ∷ rest) ≡ run_at in_braces braces_found rest
-unfolding item_at start_at outside_at sign_at is_word_byte is_name_byte is_digit is_blank is_glyph
+unfolding item_at outside_at sign_at is_word_byte is_name_byte is_digit is_blank is_glyph
 braces_item GameStart rest e = refl
 braces_item LineStart rest e = refl
 braces_item InLine rest e = refl

@@ -138,13 +138,8 @@ abbrev pub is_in_value : Place → Bool
 is_in_value InValue = true
 is_in_value _ = false
 
--- where a game begins
-abbrev pub is_game_start : Place → Bool
-is_game_start GameStart = true
-is_game_start _ = false
-
 abbrev pub may_stand : Place → Item → Bool
-may_stand place Mark = is_game_start place
+may_stand place Mark = is_outside place
 may_stand place (Blank b) = is_outside place || is_in_tag place
 may_stand place Hidden = starts_line place
 may_stand place (Comment text) = is_outside place

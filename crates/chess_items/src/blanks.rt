@@ -1,79 +1,102 @@
-//! White space and hidden lines, read on without being kept.
+//! White space, marks and hidden lines, read on without being kept.
 
-ghost use Rattle.std.specs.Prelude.{◌≡◌, Some, IfErr};
-ghost use Rattle.chess_items.specs.steps.Skipping.{Skips, column_at, white_after, white_byte, white_next};
+ghost use Rattle.std.specs.Prelude.{◌≡◌, ℕ, List, ◌∷◌, IfErr};
+ghost use Rattle.chess_items.specs.steps.Skipping.{BeginsHidden, Hides, Skips};
 ghost use Rattle.chess_items.specs.steps.Texts.{BreaksOff};
 
 use crate::at_hand::Fault;
-use crate::class::is_blank;
+use crate::class::Class;
+use crate::fault::PgnFault;
 use crate::place::Place;
+use crate::taker::{Taken, Taker};
+use crate::taking::{Spot, Step, take_one};
 use crate::text::Text;
+use crate::token::Token;
 
-/// Where in white space and hidden lines a byte stands.
+/// The bytes of a mark: no other item of white space has more, but for a hidden line.
+const MARK: usize = 3;
+
+// Takes white space, marks and hidden lines.
 #[derive(Clone, Copy)]
-pub enum Column {
-    /// In the first column.
-    First,
-    /// In a later one.
-    Later,
-    /// In a line that is hidden.
-    Hidden,
+struct Whites;
+
+impl Taker for Whites {
+    ghost use Rattle.chess_items.specs.steps.Skipping.{TakesWhite};
+
+    ghost takes = { λ old at item result new. TakesWhite item result };
+
+    fn take(&mut self, _at: usize, token: Token<'_>) -> Result<Taken, PgnFault> {
+        if token.is_white() {
+            Ok(Taken::GoesOn)
+        } else {
+            Ok(Taken::Leaves)
+        }
+    }
 }
 
-fn column_at(place: Place) -> Column
-    ensures { result ≡ column_at place }
+// Whether the bytes begin as a hidden line does.
+fn begins_hidden(place: Place, bytes: &[u8]) -> bool
+    ensures { BeginsHidden place bytes.now result }
 {
     match place {
-        Place::GameStart | Place::LineStart | Place::TagLineStart => Column::First,
-        Place::InLine | Place::InTag | Place::InValue => Column::Later,
+        Place::GameStart | Place::LineStart | Place::TagLineStart => {}
+        Place::InLine | Place::InTag | Place::InValue => return false,
+    }
+    match bytes.first() {
+        Some(first) => *first == b'%',
+        None => false,
     }
 }
 
-#[tactic(auto, unfolding(crate::specs::steps::Skipping::white_byte, crate::specs::Items::is_blank))]
-fn after_byte(column: Column, b: u8) -> Option<Column>
-    ensures { result ≡ white_byte column b }
+// Uses a hidden line, up to its end, and keeps nothing of it.
+fn skip_line<X: Text>(text: &mut X) -> Result<(), Fault>
+    requires sound { X.sound text.old }
+    requires begins { (rest : List ℕ) × (X.at_hand text.old ≡ 37 ∷ rest) }
+    ensures hides { Hides X.comes X.at_hand X.all X.sound X.size text.old text.new result }
+    ensures broken { IfErr result (λ fault. BreaksOff X.comes X.breaks X.all text.old text.new fault) }
 {
-    match (column, b) {
-        (_, b'\n') => Some(Column::First),
-        (Column::Hidden, _) => Some(Column::Hidden),
-        (Column::First, b'%') => Some(Column::Hidden),
-        _ if is_blank(b) => Some(Column::Later),
-        _ => None,
+    loop {
+        let line = Class::Line.run_len(text.unread());
+        let left = text.unread().len() - line;
+        text.keep(left);
+        if left > 0 {
+            return Ok(());
+        }
+        match text.refill() {
+            Err(fault) => return Err(fault),
+            Ok(false) => return Ok(()),
+            Ok(true) => {}
+        }
     }
 }
 
-fn after_next(column: Option<Column>, b: u8) -> Option<Column>
-    ensures { result ≡ white_next column b }
-{
-    after_byte(column?, b)
-}
-
-fn after(column: Column, bytes: &[u8]) -> Option<Column>
-    ensures { result ≡ white_after (Some column) bytes.now }
-{
-    let mut now = Some(column);
-    for b in bytes {
-        now = after_next(now, *b);
-    }
-    now
-}
-
-/// Reads on over white space and hidden lines, from that place, and keeps nothing. Whether nothing else comes before the text ends.
+/// Uses white space, marks and hidden lines from that place on, and keeps nothing of them. Whether the text ends after them.
 pub fn skip_white<X: Text>(text: &mut X, place: Place) -> Result<bool, Fault>
     requires { X.sound text.old }
     ensures skips { Skips X.comes X.at_hand X.all X.sound place text.old text.new result }
     ensures broken { IfErr result (λ fault. BreaksOff X.comes X.breaks X.all text.old text.new fault) }
 {
-    let mut column = column_at(place);
+    let mut place = place;
     loop {
-        let Some(next) = after(column, text.unread()) else {
-            return Ok(false);
+        let spot = Spot {
+            place,
+            at: 0,
+            most: MARK,
         };
-        column = next;
-        match text.refill() {
+        match take_one(text, &mut Whites, spot) {
             Err(fault) => return Err(fault),
-            Ok(false) => return Ok(true),
-            Ok(true) => {}
+            Ok(Step::On(next, _, _)) => place = next,
+            // Whites end at no item that they use.
+            Ok(Step::Full(_, _, _)) => unreachable!(),
+            Ok(Step::Stops(_)) => {
+                if !begins_hidden(place, text.unread()) {
+                    return Ok(text.unread().is_empty());
+                }
+                if let Err(fault) = skip_line(text) {
+                    return Err(fault);
+                }
+                place = place.after(Token::Hidden);
+            }
         }
     }
 }

@@ -5,7 +5,7 @@ ghost use Rattle.std.specs.List.{list_all};
 ghost use Rattle.chess_items.specs.Items.{digits_value};
 ghost use Rattle.chess_items.specs.steps.Classes.{has_byte};
 ghost use Rattle.chess_items.specs.steps.Unended.{BeginsComment};
-ghost use Rattle.chess_items.specs.steps.Deciding.{Decides, is_open, mark_open, outside_open, start_open, tag_open, value_open};
+ghost use Rattle.chess_items.specs.steps.Deciding.{Decides, is_open, mark_open, outside_open, tag_open, value_open};
 
 use crate::class::{Class, is_blank};
 use crate::lexer::digits_value;
@@ -30,6 +30,17 @@ fn is_small(digits: &[u8], seen: usize) -> bool
     digits_value(&digits[seen.saturating_sub(3)..]).is_some()
 }
 
+// After the first byte of a mark.
+fn is_mark_open(rest: &[u8]) -> bool
+    ensures { result ≡ mark_open rest.now }
+{
+    match rest {
+        [] => true,
+        [b] => *b == 187,
+        _ => false,
+    }
+}
+
 // Outside of tags, in the first column or not.
 #[tactic(auto, unfolding(crate::specs::steps::Deciding::outside_open, crate::specs::steps::Deciding::sign_open))]
 fn is_outside_open(start: bool, bytes: &[u8], looked: usize) -> bool
@@ -49,6 +60,9 @@ fn is_outside_open(start: bool, bytes: &[u8], looked: usize) -> bool
     }
     if Class::Glyph.has(b) {
         return goes_on(Class::Glyph, rest, seen) && rest.len() < 2;
+    }
+    if b == 239 {
+        return is_mark_open(rest);
     }
     match b {
         b'%' => start && goes_on(Class::Line, rest, seen),
@@ -100,33 +114,6 @@ fn is_value_open(bytes: &[u8], looked: usize) -> bool
     }
 }
 
-// After the first byte of a mark.
-fn is_mark_open(rest: &[u8]) -> bool
-    ensures { result ≡ mark_open rest.now }
-{
-    match rest {
-        [] => true,
-        [b] => *b == 187,
-        _ => false,
-    }
-}
-
-// Where a game begins.
-#[tactic(auto, unfolding(crate::specs::steps::Deciding::start_open))]
-fn is_start_open(bytes: &[u8], looked: usize) -> bool
-    requires within { looked ≤ length bytes.now }
-    requires looked { start_open (take looked bytes.now) ≡ true }
-    ensures { result ≡ start_open bytes.now }
-{
-    let Some((&b, rest)) = bytes.split_first() else {
-        return true;
-    };
-    if b == 239 {
-        return is_mark_open(rest);
-    }
-    is_outside_open(true, bytes, looked)
-}
-
 // Whether the first item reaches the end of the bytes and may go on, where it does in the first `looked`.
 #[tactic(auto, unfolding(crate::specs::steps::Deciding::is_open))]
 fn reaches_end(place: Place, bytes: &[u8], looked: usize) -> bool
@@ -135,8 +122,7 @@ fn reaches_end(place: Place, bytes: &[u8], looked: usize) -> bool
     ensures { result ≡ is_open place bytes.now }
 {
     match place {
-        Place::GameStart => is_start_open(bytes, looked),
-        Place::LineStart => is_outside_open(true, bytes, looked),
+        Place::GameStart | Place::LineStart => is_outside_open(true, bytes, looked),
         Place::InLine => is_outside_open(false, bytes, looked),
         Place::TagLineStart => is_tag_open(true, bytes, looked),
         Place::InTag => is_tag_open(false, bytes, looked),

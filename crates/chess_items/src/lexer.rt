@@ -1,7 +1,7 @@
 ghost use Rattle.std.specs.Prelude.{◌≡◌, Some, bytes_eq};
 ghost use Rattle.std.specs.List.{list_all};
 ghost use Rattle.chess_items.specs.Items.{digits_value, glyph_value, is_digit, word_item};
-ghost use Rattle.chess_items.specs.steps.ItemAt.{escaped_at, hidden_at, item_at, mark_at, outside_at, sign_at, small, start_at, tag_at, value_at};
+ghost use Rattle.chess_items.specs.steps.ItemAt.{escaped_at, hidden_at, item_at, mark_at, outside_at, sign_at, small, tag_at, value_at};
 ghost use Rattle.chess_items.specs.steps.Tokens.{found, item_of};
 
 use crate::class::{Class, is_blank, is_escapable};
@@ -93,6 +93,16 @@ fn hidden(start: bool, bytes: &[u8]) -> Option<(Token<'_>, &[u8])>
     Some((Token::Hidden, rest))
 }
 
+// A mark, after its first byte.
+fn mark(rest: &[u8]) -> Option<(Token<'_>, &[u8])>
+    ensures { found result ≡ mark_at rest.now }
+{
+    match rest {
+        [187, 191, rest @ ..] => Some((Token::Mark, rest)),
+        _ => None,
+    }
+}
+
 // What begins with another byte than those of words, white space, ! and ?.
 #[tactic(auto, unfolding(crate::specs::steps::ItemAt::sign_at, crate::specs::steps::ItemAt::run_at))]
 #[inline(always)]
@@ -122,6 +132,7 @@ fn sign(start: bool, b: u8, rest: &[u8]) -> Option<(Token<'_>, &[u8])>
         b'*' => Some((Token::Marker(Outcome::Unfinished), rest)),
         b'.' => Some((Token::Skipped, rest)),
         b'[' => Some((Token::TagOpen, rest)),
+        239 => mark(rest),
         _ => None,
     }
 }
@@ -195,29 +206,6 @@ fn in_value(bytes: &[u8]) -> Option<(Token<'_>, &[u8])>
     }
 }
 
-// A mark, after its first byte.
-fn mark(rest: &[u8]) -> Option<(Token<'_>, &[u8])>
-    ensures { found result ≡ mark_at rest.now }
-{
-    match rest {
-        [187, 191, rest @ ..] => Some((Token::Mark, rest)),
-        _ => None,
-    }
-}
-
-// Where a game begins.
-#[tactic(auto, unfolding(crate::specs::steps::ItemAt::start_at))]
-fn at_start(bytes: &[u8]) -> Option<(Token<'_>, &[u8])>
-    ensures { found result ≡ start_at bytes.now }
-{
-    let (&b, rest) = bytes.split_first()?;
-    if b == 239 {
-        mark(rest)
-    } else {
-        outside(true, bytes)
-    }
-}
-
 /// The first item of a text, and what follows it; `None` where there is none, or its end is missing.
 #[tactic(auto, unfolding(crate::specs::steps::ItemAt::item_at))]
 #[inline(always)]
@@ -225,8 +213,7 @@ pub fn item(place: Place, bytes: &[u8]) -> Option<(Token<'_>, &[u8])>
     ensures { found result ≡ item_at place bytes.now }
 {
     match place {
-        Place::GameStart => at_start(bytes),
-        Place::LineStart => outside(true, bytes),
+        Place::GameStart | Place::LineStart => outside(true, bytes),
         Place::InLine => outside(false, bytes),
         Place::TagLineStart => in_tag(true, bytes),
         Place::InTag => in_tag(false, bytes),

@@ -9,8 +9,8 @@ use crate::taker::Taker;
 use crate::taking::{Stop, Stopped, run};
 use crate::text::Text;
 
-/// Takes items as `run` does; white space and hidden lines after the limit are passed over where nothing else has come. `None` where
-/// nothing else comes at all.
+/// Takes items as `run` does; white space, marks and hidden lines after the limit are passed over, to the last of them, where nothing else has
+/// come. `None` where nothing else comes at all.
 pub fn pass<X: Text, T: Taker>(
     text: &mut X,
     taker: &mut T,

@@ -74,7 +74,7 @@ module _ {R : Type 0} (gives : R → List ℕ → R → Type 0) (failed : R → 
   source_fault (Pgn fault) (Pgn placed) (inl k) e =
       inl (e ∙ k.0, record { bytes = joined k.1.pieces; came = all_came gives failed old new k.1.pieces k.1.came; still = λ h. let s = k.1.still h in (s.0, s.2 s.1) })
   source_fault (Pgn fault) (Pgn placed) (inr h) e =
-      inr (record { bytes = joined h.pieces; came = all_came gives failed old new h.pieces h.came; text = h.text; parts = h.parts; told = h.sound_still; none = h.none; dark = h.dark; still = h.still })
+      inr (record { bytes = joined h.pieces; came = all_came gives failed old new h.pieces h.came; text = h.text; parts = h.parts; ended_so = h.sound_still; none = h.none; dark = h.dark; still = h.still })
   source_fault (Pgn fault) Read h e = absurd e
   source_fault Read (Pgn placed) h e = absurd e
   source_fault Read Read h e = record { bytes = joined h.pieces; before = h.mid; came = all_came gives failed old h.mid h.pieces h.came; breaks = h.breaks_off; not_ended = not_true h.mid.has_ended h.not_all; none = h.none }
@@ -82,7 +82,7 @@ module _ {R : Type 0} (gives : R → List ℕ → R → Type 0) (failed : R → 
   -- how far its items were used
   left_there : (halt : Option Halt) → LeavesIn (brings gives failed) unread (has_all gives failed) old new halt → Leaves gives failed old new halt
   left_there (Some halt) l = l
-  left_there None f = record { bytes = joined f.pieces; came = all_came gives failed old new f.pieces f.came; flooded = f.flooded; still = f.still }
+  left_there None f = f
 
   pub source_leaves : (A : Type 0) (halt : Option Halt) (fault placed : GamesFault) → HaltsAt {A = A} (brings gives failed) unread (has_all gives failed) old new halt (Err fault) → HasKind fault placed → GoesOn (Some placed) → Leaves gives failed old new halt
   source_leaves A halt (Pgn fault) (Pgn placed) (inl m) k on = absurd (on (k ∙ m))

@@ -261,9 +261,9 @@ module _ {X T : Type 0} (comes : X → List ℕ → X → Type 0) (at_hand : X �
     pieces = w.pieces;
     came = w.came;
     white = record {
-      items = bare w.white.0;
-      white = sym (whites_bare w.white.0) ∙ w.white.1;
-      spelled = spells_bare 0 GameStart (at_hand old ++ joined w.pieces) w.white.0 [] w.white.2;
+      items = w.white.0;
+      white = w.white.1;
+      spelled = w.white.2;
     };
     ended = w.ended;
     nothing = w.nothing;

@@ -5,7 +5,7 @@ use Rattle.std.specs.List.{list_all}
 use mathlib.Core.Logic.{inl, inr}
 use Rattle.byte_streams.specs.Calls.{Calls, joined}
 use Rattle.byte_streams.proofs.CallLemmas.{Calls-append, joined-append}
-use Rattle.chess_items.specs.Abandoned.{HaltsIn, has_begun, is_bracket, is_one, moves_begin}
+use Rattle.chess_items.specs.Abandoned.{HaltsIn, UsesAllIn, has_begun, is_bracket, is_one, moves_begin}
 use Rattle.chess_items.specs.Items as items
 use Rattle.chess_items.specs.Items.{Item, Spells, is_white, place_behind}
 use Rattle.chess_items.specs.steps.ItemAt.{item_at}
@@ -22,10 +22,10 @@ use Rattle.chess_items.specs.declared.taker.Taken.TheVariants.{Ends as AtEnd, Go
 use Rattle.chess_items.specs.declared.taking.Stop.{Stop}
 use Rattle.chess_items.specs.declared.taking.Stop.TheVariants as stop
 use Rattle.chess_items.specs.declared.taking.Stopped.{Stopped}
-use Rattle.chess_items.proofs.SkimLemmas.{spells_split, too_far}
+use Rattle.chess_items.proofs.SkimLemmas.{skimmed_white}
 use Rattle.chess_items.proofs.TakingLemmas.{bare, ended_after, few_after, spells_bare}
-use Rattle.chess_pgn.specs.Reading.{HasBegun, IsFlooded, is_heading, is_movetext}
-use Rattle.chess_pgn.specs.steps.GameAt.{FloodedIn, LeavesIn, halt_at, is_flood}
+use Rattle.chess_pgn.specs.Reading.{HasBegun, is_heading, is_movetext}
+use Rattle.chess_pgn.specs.steps.GameAt.{LeavesIn, halt_at, is_flood}
 use Rattle.chess_pgn.specs.steps.ReaderCode.{IsNew, TakesItem, Unanswered, takes_when}
 use Rattle.chess_pgn.specs.declared.reader.Reader.{Reader}
 use Rattle.chess_pgn.proofs.ChainLemmas.{Progress, progress_all, progress_new}
@@ -131,7 +131,7 @@ module _ {X A : Type 0} (comes : X → List ℕ → X → Type 0) (at_hand : X �
 
   module _ (pieces : List (List ℕ)) (new : X) (came : Calls comes old pieces new) (at : ℕ) (place : Place) (white : Bool) where
     abbrev halt : Halt
-    halt = record { place = place; at = at; begun = u.moving }
+    halt = record { place = place; at = at; begun = u.moving; white = white }
 
     halts_after : (is : List (ℕ × Item)) (r : Reader A) → Took comes at_hand all sound size takes 1048576 old pieces new is at place white → Takes takes t is r → u.moving ≡ r.moving → HaltsIn comes at_hand all old new halt
     halts_after is r took taken same =
@@ -143,6 +143,7 @@ module _ {X A : Type 0} (comes : X → List ℕ → X → Type 0) (at_hand : X �
           spelled = λ more so. spells_bare 0 GameStart (at_hand old ++ (joined pieces ++ more)) is (at_hand new ++ more) (took.spelled more so);
           one = one.0;
           begun = same ∙ one.1;
+          white = took.whites ∙ whites_bare is;
           stands = took.stands ∙ behind_bare GameStart is;
           counted = (let c = took.counted in omega (arith, c));
           few = took.few;
@@ -162,56 +163,20 @@ module _ {X A : Type 0} (comes : X → List ℕ → X → Type 0) (at_hand : X �
     halts_run stop.TooLarge fault kind r a = halts_after r.items r.mid r.took r.taken (moving_over r.mid r.exceeds.same)
 
   module _ (s : Stopped) (mid new : X) (r : Ran comes at_hand all sound size takes 1048576 old mid t u (Ok s)) (w : NotWhite comes at_hand all sound size takes s mid new) where
-    flooded : FloodedIn comes at_hand all old new
-    flooded = record {
-      pieces = r.pieces ++ w.pieces;
-      came = Calls-append comes old mid new r.pieces w.pieces r.came w.came;
-      flooded = λ more so. subst IsFlooded (sym (regroup more)) (there more so);
-      still = λ e.
-          let b = ended_after comes at_hand all sound size takes 1048576 old t mid u r.pieces s.at s.place s.white s.why r.after e in
-          let c = w.still b.1 in
-          (joined-append r.pieces w.pieces ∙ ap (λ (z : List ℕ). z ++ joined w.pieces) b.0 ∙ c.0, c.1);
-    }
-      where
-        regroup : (more : List ℕ) → at_hand old ++ (joined (r.pieces ++ w.pieces) ++ more) ≡ at_hand old ++ (joined r.pieces ++ (joined w.pieces ++ more))
-        regroup more = ap (λ (z : List ℕ). at_hand old ++ z) (ap (λ (z : List ℕ). z ++ more) (joined-append r.pieces w.pieces) ∙ append_assoc (joined r.pieces) (joined w.pieces) more)
+    over : RanOver comes at_hand all sound size takes 1048576 old r.pieces mid t u s.at s.place s.white
+    over = subst (λ (y : Stop). AfterRun comes at_hand all sound size takes 1048576 old r.pieces mid t u s.at s.place s.white y) w.over r.after
 
-        over : RanOver comes at_hand all sound size takes 1048576 old r.pieces mid t u s.at s.place s.white
-        over = subst (λ (y : Stop). AfterRun comes at_hand all sound size takes 1048576 old r.pieces mid t u s.at s.place s.white y) w.over r.after
-
-        there : (more : List ℕ) → (all new → more ≡ []) → IsFlooded (at_hand old ++ (joined r.pieces ++ (joined w.pieces ++ more)))
-        there more so =
-            let after = joined w.pieces ++ more in
-            let whole = at_hand old ++ (joined r.pieces ++ after) in
-            let rest = at_hand mid ++ after in
-            let none : all mid → after ≡ [] = λ e. let b = w.still e in ap (λ (z : List ℕ). z ++ more) b.0 ∙ so b.1 in
-            let spelled = spells_bare 0 GameStart whole over.items rest (over.took.spelled after none) in
-            let big = over.exceeds.over after none in
-            let a = length-append (at_hand mid) after in
-            let b = length-append (at_hand old) (joined r.pieces ++ after) in
-            let c = length-append (joined r.pieces) after in
-            let n = over.took.counted in
-            let few = over.took.few in
-            let o = big.0 in
-            record {
-              items = bare over.items;
-              rest = rest;
-              white = sym (whites_bare over.items) ∙ sym over.took.whites ∙ w.white;
-              spelled = spelled;
-              long = omega (arith, a, b, c, n, few, o);
-              beyond = λ item next k.
-                  let found = spells_split GameStart whole (bare over.items) rest item next spelled k in
-                  let here = ap (λ (p : Place). item_at p rest) (over.took.stands ∙ behind_bare GameStart over.items) ∙ found in
-                  let far = too_far s.place (1048576 - s.at) rest item next big here in
-                  omega (arith, far, a, b, c, n, few);
-            }
+    flooded : UsesAllIn comes at_hand all old new
+    flooded =
+        let halts = halts_after r.pieces mid r.came s.at s.place s.white over.items over.mid over.took over.taken (moving_over r.pieces mid r.came s.at s.place s.white over.mid over.exceeds.same) in
+        skimmed_white comes at_hand all sound size old mid s.place s.at (record { begun = u.moving }) s.white halts w.white over.exceeds.over new w.skipped
 
   pub leaves_come : (new : X) (found : Option Stopped) (s : Stopped) (fault : PgnFault) → Passes comes at_hand all sound size takes 1048576 old new t u (Ok found) → found ≡ Some s → Unanswered s.why u fault
-      → (fault.kind ≡ Memory) ⊎ LeavesIn comes at_hand all old new (halt_at (is_flood s.why s.white) (record { place = s.place; at = s.at; begun = u.moving }))
+      → (fault.kind ≡ Memory) ⊎ LeavesIn comes at_hand all old new (halt_at (is_flood s.why s.white) (record { place = s.place; at = s.at; begun = u.moving; white = s.white }))
   leaves_come new found s fault h e a = by (is_memory fault.kind)
     where
       here : Halt
-      here = record { place = s.place; at = s.at; begun = u.moving }
+      here = record { place = s.place; at = s.at; begun = u.moving; white = s.white }
 
       flood : s.why ≡ stop.TooLarge → s.white ≡ true → is_flood s.why s.white ≡ true
       flood why white = ap (λ (w : Stop). is_flood w s.white) why ∙ white
@@ -232,11 +197,11 @@ module _ {X A : Type 0} (comes : X → List ℕ → X → Type 0) (at_hand : X �
         | inr w ↦ subst (λ (b : Bool). LeavesIn comes at_hand all old new (halt_at b here)) (sym (flood w.over w.white)) (flooded s p.mid new p.ran w)
       ])
 
-  pub few_come : (new : X) (found : Option Stopped) (s : Stopped) → Passes comes at_hand all sound size takes 1048576 old new t u (Ok found) → found ≡ Some s → IfSome (halt_at (is_flood s.why s.white) (record { place = s.place; at = s.at; begun = u.moving })) (λ halt. halt.at ≤ 1048576)
+  pub few_come : (new : X) (found : Option Stopped) (s : Stopped) → Passes comes at_hand all sound size takes 1048576 old new t u (Ok found) → found ≡ Some s → IfSome (halt_at (is_flood s.why s.white) (record { place = s.place; at = s.at; begun = u.moving; white = s.white })) (λ halt. halt.at ≤ 1048576)
   few_come new found s h e =
       let p : Passed comes at_hand all sound size takes 1048576 old new t u s = subst (λ (o : Option Stopped). Passes comes at_hand all sound size takes 1048576 old new t u (Ok o)) e h in
       by (is_flood s.why s.white) (few_after comes at_hand all sound size takes 1048576 old t p.mid u p.ran.pieces s.at s.place s.white s.why p.ran.after)
     where
-      by : (b : Bool) → s.at ≤ 1048576 → IfSome (halt_at b (record { place = s.place; at = s.at; begun = u.moving })) (λ halt. halt.at ≤ 1048576)
+      by : (b : Bool) → s.at ≤ 1048576 → IfSome (halt_at b (record { place = s.place; at = s.at; begun = u.moving; white = s.white })) (λ halt. halt.at ≤ 1048576)
       by true few = tt
       by false few = few

@@ -1,5 +1,5 @@
 -- Games of a whole text, and of a source.
-use Rattle.std.proofs.Common.{◌≡◌, ℕ, ◌+◌, ◌≤◌, ◌<◌, Bool, true, false, List, [], ◌∷◌, ◌++◌, length, refl, sym, subst, ap, ◌∙◌, arith, append-nil, length-append}
+use Rattle.std.proofs.Common.{◌≡◌, ℕ, ◌+◌, ◌-◌, ◌≤◌, ◌<◌, Bool, true, false, List, [], ◌∷◌, ◌++◌, length, refl, sym, subst, ap, ◌∙◌, arith, append-nil, length-append}
 use Rattle.std.specs.List.{list_all}
 use mathlib.Core.Logic.{inl, inr}
 use Rattle.std.specs.Prelude.{Result, Ok, Err, Option, Some, None, IfErr, IfOk, IfSome}
@@ -16,6 +16,7 @@ use Rattle.chess_items.specs.declared.place.Place.{Place}
 use Rattle.chess_items.specs.declared.place.Place.TheVariants.{GameStart}
 use Rattle.chess_items.proofs.FoundLemmas.{some_is}
 use Rattle.chess_items.proofs.BreakLemmas.{all_came, brings, has_all}
+use Rattle.chess_items.proofs.GiveUpLemmas.{gives_up_all}
 use Rattle.chess_items.proofs.LocalLemmas.{text_shorter}
 use Rattle.chess_pgn.specs.Games as games
 use Rattle.chess_pgn.specs.Reading.{BeginsWithGame, IsWhite}
@@ -122,7 +123,7 @@ module _ {R : Type 0} (gives : R → List ℕ → R → Type 0) (failed : R → 
       by : (fault : GamesFault) → GoesOn (Some fault) → HasFault gives failed ended old new.text fault → new.text.has_ended ≡ true → ended new.text.source
       by Read on h = absurd on
       by (Pgn f) on (inl k) = absurd (on k.0)
-      by (Pgn f) on (inr k) = k.told
+      by (Pgn f) on (inr k) = k.ended_so
 
   -- and such a fault stays where bytes can't be passed over
   pub not_passed_sound : (old : AtHand R) (new : Games R) (fault : GamesFault) → new.fault ≡ Some fault → NotGivenUp gives failed old new.text fault → IsSound ended new
@@ -186,10 +187,10 @@ module _ {R E : Type 0} (gives : R → List ℕ → R → Type 0) (failed : R �
   -- and else after the items of the bad game
   pub gives_up : (before : AtHand R) (fault : Option GamesFault) (halt : Option Halt) → (seeks fault halt ≡ None → IfOk result (λ count. PassesOver gives failed old new count))
       → ((h : Halt) (before : AtHand R) → seeks fault halt ≡ Some h → Halts gives failed before old h → IfOk result (λ count. GivesUpFrom gives failed before new (h.at + count)))
-      → (why : GamesFault) → fault ≡ Some why → Leaves gives failed before old halt → IfOk result (λ _. GivesUp gives failed before old new)
+      → (why : GamesFault) → fault ≡ Some why → Leaves gives failed before old halt → IfOk result (λ _. GivesUp gives failed before new)
   gives_up before None halt passes up why is leaves = absurd (let e = is in cc)
-  gives_up before (Some fault) None passes up why is leaves = if_ok (λ count. PassesOver gives failed old new count) (GivesUp gives failed before old new) (λ count p. inr (leaves, count, p)) result (passes refl)
-  gives_up before (Some fault) (Some h) passes up why is leaves = if_ok (λ count. GivesUpFrom gives failed before new (h.at + count)) (GivesUp gives failed before old new) (λ count p. inl (h.at + count, p)) result (up h before refl leaves)
+  gives_up before (Some fault) None passes up why is leaves = if_ok (λ count. PassesOver gives failed old new count) (GivesUp gives failed before new) (λ count p. (new.used - before.used, gives_up_all gives failed before old new leaves count p)) result (passes refl)
+  gives_up before (Some fault) (Some h) passes up why is leaves = if_ok (λ count. GivesUpFrom gives failed before new (h.at + count)) (GivesUp gives failed before new) (λ count p. (h.at + count, p)) result (up h before refl leaves)
 
 -- a search that broke off
 pub seek_off : {R : Type 0} (gives : R → List ℕ → R → Type 0) (failed : R → Bool) (old new : AtHand R) (fault : Fault) → SeekBreaks gives failed old new fault → GiveUpBreaks gives failed old new fault

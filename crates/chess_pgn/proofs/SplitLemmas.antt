@@ -5,14 +5,13 @@ use Rattle.std.specs.List.{AllByRecursion, list_all}
 use Rattle.std.specs.Str.{byte}
 use mathlib.Core.Logic.{inl, inr}
 use Rattle.chess_items.specs.Items as items
-use Rattle.chess_items.specs.Items.{Item, TagOpen, Spells, is_blank, is_digit, is_glyph, is_name_byte, is_outside, is_word_byte, place_after, place_behind}
-use Rattle.chess_items.specs.steps.ItemAt.{item_at, outside_at, sign_at, start_at, tag_at, value_at}
+use Rattle.chess_items.specs.Items.{Item, TagOpen, Spells, is_blank, is_digit, is_glyph, is_name_byte, is_in_tag, is_outside, is_word_byte, place_after, place_after_blank, place_behind}
+use Rattle.chess_items.specs.steps.ItemAt.{item_at, outside_at, sign_at, tag_at, value_at}
 use Rattle.chess_items.specs.declared.outcome.Outcome.{Outcome}
 use Rattle.chess_items.specs.declared.place.Place.{Place}
 use Rattle.chess_items.specs.declared.place.Place.TheVariants.{GameStart, LineStart, InLine}
 use Rattle.chess_items.proofs.FoundLemmas.{some_is}
 use Rattle.chess_items.proofs.ItemLemmas.{item_goes}
-use Rattle.chess_items.proofs.WhiteLemmas.{stays_outside}
 use Rattle.chess_pgn.specs.Reading.{Ends, HasBegun, Starts, is_heading, is_movetext}
 use Rattle.chess_pgn.specs.Tags.{AreGaps, AreTags, IsTag, may_part_tags, is_tag_gap, is_value_part}
 
@@ -125,6 +124,16 @@ pub behind_append : (place : Place) (is js : List Item) → place_behind place (
 behind_append place [] js = refl
 behind_append place (i ∷ is) js = behind_append (place_after place i) is js
 
+blank_outside : (v : Bool) → is_outside (place_after_blank false v) ≡ true
+blank_outside true = refl
+blank_outside false = refl
+
+stays_outside : (place : Place) (v : Bool) → is_outside place ≡ true → is_outside (place_after_blank (is_in_tag place) v) ≡ true
+stays_outside GameStart v out = blank_outside v
+stays_outside LineStart v out = blank_outside v
+stays_outside InLine v out = blank_outside v
+stays_outside _ v out = absurd cc
+
 pub movetext_after : (place : Place) (i : Item) → is_outside place ≡ true → is_movetext i ≡ true → is_outside (place_after place i) ≡ true
 movetext_after place (items.Blank b) out e = stays_outside place _ out
 movetext_after place items.Hidden out e = stays_outside place _ out
@@ -150,7 +159,7 @@ unfolding outside_at sign_at is_word_byte is_name_byte is_digit is_blank is_glyp
 bracket_outside start more = refl
 
 pub bracket_found : (place : Place) → is_outside place ≡ true → (more : List ℕ) → item_at place (91 ∷ more) ≡ Some (TagOpen, more)
-unfolding item_at start_at
+unfolding item_at
 bracket_found GameStart out more = bracket_outside true more
 bracket_found LineStart out more = bracket_outside true more
 bracket_found InLine out more = bracket_outside false more
@@ -162,7 +171,7 @@ bracket_item place k ks more rest out s =
     ap (λ (x : Item × List ℕ). x.0) (some_is {A = Item × List ℕ} (k, s.1) (TagOpen, more) (sym (item_goes place k s.0 s.1 s.3) ∙ ap (item_at place) (sym s.2) ∙ bracket_found place out more))
 
 pub nothing_found : (place : Place) → item_at place [] ≡ None
-unfolding item_at start_at outside_at tag_at value_at
+unfolding item_at outside_at tag_at value_at
 nothing_found GameStart = refl
 nothing_found _ = refl
 

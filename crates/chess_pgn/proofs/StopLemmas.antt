@@ -5,11 +5,10 @@ use mathlib.Core.Logic.{inl, inr}
 use Rattle.byte_streams.specs.Calls.{Calls, joined}
 use Rattle.byte_streams.proofs.CallLemmas.{Calls-append, joined-append}
 use Rattle.chess_items.specs.Items as items
-use Rattle.chess_items.specs.Items.{Item, Spells, place_behind}
+use Rattle.chess_items.specs.Items.{Item, Spells, is_white, place_after, place_behind}
 use Rattle.chess_items.specs.steps.ItemAt.{item_at}
 use Rattle.chess_items.specs.steps.Deciding.{Decides}
 use Rattle.chess_items.specs.steps.Passing.{NotWhite, PassBreaks, Passed, Passes, WhiteBroke}
-use Rattle.chess_items.specs.steps.Skipping.{column_at, white_after}
 use Rattle.chess_items.specs.steps.Taking.{AfterRun, Ran, RanAground, RanOut, RanOver, RanUpTo, RunBroke, Takes, Took, behind}
 use Rattle.chess_items.specs.steps.Texts.{Oversized}
 use Rattle.chess_items.specs.declared.at_hand.Fault.TheVariants.{Read}
@@ -30,7 +29,7 @@ use Rattle.chess_pgn.specs.steps.GameAt.{HasBroken, HasStarved, NotCome}
 use Rattle.chess_pgn.specs.steps.ReaderCode.{IsNew, MayNotEnd, TakesItem, Unanswered}
 use Rattle.chess_pgn.specs.declared.reader.Reader.{Reader}
 use Rattle.chess_pgn.proofs.ChainLemmas.{Progress, progress_all, progress_new}
-use Rattle.chess_pgn.proofs.DarkLemmas.{dark_aground, dark_over, dark_refused, dark_taken}
+use Rattle.chess_pgn.proofs.DarkLemmas.{dark_aground, dark_beyond, dark_refused, dark_taken}
 use Rattle.chess_pgn.proofs.FrontLemmas.{behind_bare, spelled_front, whites_bare}
 use Rattle.chess_pgn.proofs.NoGameLemmas.{none_aground, none_out, none_over, none_refused}
 use Rattle.chess_pgn.proofs.UndecidedLemmas.{undecided_none}
@@ -40,6 +39,11 @@ use Rattle.chess_pgn.proofs.UndecidedLemmas.{undecided_none}
 front_nil : (xs ys : List ℕ) → xs ++ ys ≡ [] → xs ≡ []
 front_nil [] ys e = refl
 front_nil (x ∷ xs) ys e = absurd cc
+
+-- the bytes of some items
+front_spelled : (place : Place) (input : List ℕ) (is : List Item) (rest : List ℕ) → Spells place input is rest → (text : List ℕ) × (input ≡ text ++ rest)
+front_spelled place input [] rest s = ([], s)
+front_spelled place input (i ∷ is) rest s = (let f = front_spelled (place_after place i) s.1 is rest s.4 in (s.0 ++ f.0, s.2 ∙ ap (λ (z : List ℕ). s.0 ++ z) f.1 ∙ sym (append_assoc s.0 f.0 rest)))
 
 is_memory : (k : FaultKind) → (k ≡ Memory) ⊎ (k ≡ Memory → ⊥)
 is_memory Memory = inl refl
@@ -133,10 +137,11 @@ module _ {X A : Type 0} (comes : X → List ℕ → X → Type 0) (at_hand : X �
       run_dark stop.TooLarge fault kind r a end over = dark_taken (bare r.items) whole rest (spelled r.items r.took) w (sym (whites_bare r.items) ∙ sym r.took.whites ∙ over refl)
 
       -- after white space beyond the limit
-      over_dark : (hand behind : List ℕ) → RanOver comes at_hand all sound size takes limit old pieces new t u at place white → rest ≡ hand ++ behind → white_after (Some (column_at place)) hand ≡ None → ⊥
-      over_dark hand behind r parts other =
-          dark_over (bare r.items) at whole rest hand behind (spelled r.items r.took) w (counted r.items r.took) (subst (λ (p : Place). Oversized (limit - at) p rest) (there r.items r.took) (r.exceeds.over more none)) parts
-          (subst (λ (p : Place). white_after (Some (column_at p)) hand ≡ None) (there r.items r.took) other)
+      over_dark : (ks : List Item) (last : List ℕ) → RanOver comes at_hand all sound size takes limit old pieces new t u at place white → Spells place rest ks last
+          → ((item : Item) (next : List ℕ) → item_at (place_behind place ks) last ≡ the item next → is_white item ≡ false) → (last ≡ [] → ⊥) → ⊥
+      over_dark ks last r s other some =
+          dark_beyond (bare r.items) ks whole rest last (spelled r.items r.took) (subst (λ (p : Place). Spells p rest ks last) (there r.items r.took) s) w
+          (λ item next e. other item next (subst (λ (p : Place). item_at (place_behind p ks) last ≡ the item next) (sym (there r.items r.took)) e)) some
 
   module _ (s : Stopped) (fault : PgnFault) (kind : fault.kind ≡ Memory → ⊥) (a : Unanswered s.why u fault) (mid : X) (r : Ran comes at_hand all sound size takes limit old mid t u (Ok s)) where
     still_there : all old → (joined r.pieces ≡ []) × all mid
@@ -163,25 +168,32 @@ module _ {X A : Type 0} (comes : X → List ℕ → X → Type 0) (at_hand : X �
     -- after white space beyond the limit
     beyond_none : (new : X) → NotWhite comes at_hand all sound size takes s mid new → sound new → NotCome comes at_hand all sound old new
     beyond_none new w well =
-        let pieces = r.pieces ++ w.pieces in
-        let regroup : (more : List ℕ) → at_hand old ++ (joined pieces ++ more) ≡ at_hand old ++ (joined r.pieces ++ (joined w.pieces ++ more)) =
-        λ more. ap (λ (z : List ℕ). at_hand old ++ z) (ap (λ (z : List ℕ). z ++ more) (joined-append r.pieces w.pieces) ∙ append_assoc (joined r.pieces) (joined w.pieces) more)
+        let k = w.skipped in
+        let pieces = r.pieces ++ k.pieces in
+        let regroup : (more : List ℕ) → at_hand old ++ (joined pieces ++ more) ≡ at_hand old ++ (joined r.pieces ++ (joined k.pieces ++ more)) =
+        λ more. ap (λ (z : List ℕ). at_hand old ++ z) (ap (λ (z : List ℕ). z ++ more) (joined-append r.pieces k.pieces) ∙ append_assoc (joined r.pieces) (joined k.pieces) more)
         in
-        let none_before : (more : List ℕ) → (all new → more ≡ []) → all mid → joined w.pieces ++ more ≡ [] = λ more none e. let b = w.still e in ap (λ (z : List ℕ). z ++ more) b.0 ∙ none b.1 in
+        let none_before : (more : List ℕ) → (all new → more ≡ []) → all mid → joined k.pieces ++ more ≡ [] = λ more none e. let b = k.still e in ap (λ (z : List ℕ). z ++ more) b.0 ∙ none b.1 in
         record {
           pieces = pieces;
-          came = Calls-append comes old mid new r.pieces w.pieces r.came w.came;
-          text = used_here.0 ++ w.text;
-          parts = ap (λ (z : List ℕ). at_hand old ++ z) (joined-append r.pieces w.pieces) ∙ sym (append_assoc (at_hand old) (joined r.pieces) (joined w.pieces)) ∙ ap (λ (z : List ℕ). z ++ joined w.pieces) used_here.1
-              ∙ append_assoc used_here.0 (at_hand mid) (joined w.pieces) ∙ ap (λ (z : List ℕ). used_here.0 ++ z) w.parts ∙ sym (append_assoc used_here.0 w.text (at_hand new));
+          came = Calls-append comes old mid new r.pieces k.pieces r.came k.came;
+          text = used_here.0 ++ skipped_text.0;
+          parts = ap (λ (z : List ℕ). at_hand old ++ z) (joined-append r.pieces k.pieces) ∙ sym (append_assoc (at_hand old) (joined r.pieces) (joined k.pieces)) ∙ ap (λ (z : List ℕ). z ++ joined k.pieces) used_here.1
+              ∙ append_assoc used_here.0 (at_hand mid) (joined k.pieces) ∙ ap (λ (z : List ℕ). used_here.0 ++ z) skipped_text.1 ∙ sym (append_assoc used_here.0 skipped_text.0 (at_hand new));
           sound_still = well;
           none = λ more none g n x.
-              run_none r.pieces mid s.at s.place s.white (joined w.pieces ++ more) (none_before more none) g n (subst (λ (z : List ℕ). BeginsWithGame z g n) (regroup more) x) s.why fault kind r.after a;
+              run_none r.pieces mid s.at s.place s.white (joined k.pieces ++ more) (none_before more none) g n (subst (λ (z : List ℕ). BeginsWithGame z g n) (regroup more) x) s.why fault kind r.after a;
           dark = λ more none white.
-              over_dark r.pieces mid s.at s.place s.white (joined w.pieces ++ more) (none_before more none) (subst (λ (z : List ℕ). IsWhite z) (regroup more) white) (at_hand mid ++ joined w.pieces) more
-              (subst (λ (y : Stop). AfterRun comes at_hand all sound size takes limit old r.pieces mid t u s.at s.place s.white y) w.over r.after) (sym (append_assoc (at_hand mid) (joined w.pieces) more)) w.other;
-          still = λ e. let b = still_there e in let c = w.still b.1 in (joined-append r.pieces w.pieces ∙ ap (λ (z : List ℕ). z ++ joined w.pieces) b.0 ∙ c.0, c.1);
+              over_dark r.pieces mid s.at s.place s.white (joined k.pieces ++ more) (none_before more none) (subst (λ (z : List ℕ). IsWhite z) (regroup more) white) k.items (at_hand new ++ more)
+              (subst (λ (y : Stop). AfterRun comes at_hand all sound size takes limit old r.pieces mid t u s.at s.place s.white y) w.over r.after) (k.spelled more none) (λ item next e. k.last more none item next e) (λ e. w.other (front_nil (at_hand new) more e));
+          still = λ e. let b = still_there e in let c = k.still b.1 in (joined-append r.pieces k.pieces ∙ ap (λ (z : List ℕ). z ++ joined k.pieces) b.0 ∙ c.0, c.1);
         }
+      where
+        skipped_text : (text : List ℕ) × (at_hand mid ++ joined w.skipped.pieces ≡ text ++ at_hand new)
+        skipped_text =
+            let k = w.skipped in
+            let f = front_spelled s.place (at_hand mid ++ (joined k.pieces ++ [])) k.items (at_hand new ++ []) (k.spelled [] (λ e. refl)) in
+            (f.0, ap (λ (z : List ℕ). at_hand mid ++ z) (sym (append-nil (joined k.pieces))) ∙ f.1 ∙ ap (λ (z : List ℕ). f.0 ++ z) (append-nil (at_hand new)))
 
   module _ (s : Stopped) (new : X) (p : Passed comes at_hand all sound size takes limit old new t u s) (well : sound new) where
     still_mid : all old → (joined p.ran.pieces ≡ []) × all p.mid
@@ -192,9 +204,9 @@ module _ {X A : Type 0} (comes : X → List ℕ → X → Type 0) (at_hand : X �
     starved = elim p.after [
       | inl same ↦ record { pieces = p.ran.pieces; came = subst (λ (x : X). Calls comes old p.ran.pieces x) (sym same.0) p.ran.came; still = λ h. ((still_mid h).0, subst all (sym same.0) (still_mid h).1, well) }
       | inr w ↦ record {
-        pieces = p.ran.pieces ++ w.pieces;
-        came = Calls-append comes old p.mid new p.ran.pieces w.pieces p.ran.came w.came;
-        still = λ h. let b = still_mid h in (joined-append p.ran.pieces w.pieces ∙ ap (λ (z : List ℕ). z ++ joined w.pieces) b.0 ∙ (w.still b.1).0, (w.still b.1).1, well);
+        pieces = p.ran.pieces ++ w.skipped.pieces;
+        came = Calls-append comes old p.mid new p.ran.pieces w.skipped.pieces p.ran.came w.skipped.came;
+        still = λ h. let b = still_mid h in (joined-append p.ran.pieces w.skipped.pieces ∙ ap (λ (z : List ℕ). z ++ joined w.skipped.pieces) b.0 ∙ (w.skipped.still b.1).0, (w.skipped.still b.1).1, well);
       }
     ]
 

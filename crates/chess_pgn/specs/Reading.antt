@@ -12,7 +12,6 @@
 --   HasNoGame        no game is at the start of a text
 --   HasNoGameYet     no one game is at the start of every text that begins so
 --   IsWhite          a text has white space, a mark and hidden lines alone
---   IsFlooded        a text begins with white space alone, or nothing, before what is no item or reaches past 1,048,576 bytes
 --   IsAnswered       a reader returns that game, unless there is no memory
 use Rattle.std.specs.Prelude.{◌≡◌, ◌⊎◌, ℕ, ◌+◌, ◌≤◌, ◌<◌, Bool, true, false, not, List, [], ◌∷◌, ◌++◌, length, Option, Some, None, Result, Ok, Err, ⊤}
 use Rattle.std.specs.List.{list_all}
@@ -118,15 +117,6 @@ pub record IsWhite (input : List ℕ) : Type 0 where
   pub items : List Item
   pub white : list_all is_white items ≡ true
   pub spelled : Spells GameStart input items []
-
--- where the reading of a game stops so, it may stop anywhere in white space beyond that limit
-pub record IsFlooded (input : List ℕ) : Type 0 where
-  pub items : List Item
-  pub rest : List ℕ
-  pub white : list_all is_white items ≡ true
-  pub spelled : Spells GameStart input items rest
-  pub long : 1048576 < length input
-  pub beyond : (item : Item) (more : List ℕ) → Spells GameStart input (items ++ item ∷ []) more → 1048576 + length more < length input
 
 -- with the number of bytes that it takes
 abbrev pub IsAnswered : {A : Type 0} → Game → ℕ → Result (Option (code.Game A × ℕ)) PgnFault → Type 0

@@ -13,21 +13,20 @@
 --   Starves    bytes came, and then there was no memory
 --   ReadFails  bytes came, and then a read failed, or there may be no more; the source had not ended, and no one game is at their start, whatever follows
 --   HasFault   a read failed, there was no memory, or no game is there; but for the first, no read failed
---   Floods     white space alone stood before what reaches past 1,048,576 bytes, and the reading stopped within it or behind it
 --   GivesUp    a bad game is given up, from its first byte to where the text alone says that the next begins
 --   seeks      how far the items of a bad game were used, where reading is to go on from there
---   Leaves     where the reading of a bad game stopped: its items up to there, or white space beyond the limit
+--   Leaves     where the reading of a bad game stopped: its items up to there are used, or all of them
 --   ReadsNext  what a call for the next game does: its answer, the bytes, and the fault that is kept
 --   NotPassed  bytes can't be passed over: no section of tags begins among them and a read failed, or there was no memory
 --   NotGivenUp a game can't be passed over: bytes came and then a read failed, before the source's end, or there was no memory
 use Rattle.std.specs.Prelude.{◌≡◌, ◌≢◌, ◌⊎◌, ◌≤◌, ◌<◌, ℕ, ◌+◌, Bool, true, List, [], ◌++◌, length, Option, Some, None, IfErr, IfOk, IfSome, Result, Ok, Err, ⊤}
-use Rattle.chess_items.specs.Abandoned.{GivesUpFrom, Halts}
+use Rattle.chess_items.specs.Abandoned.{GivesUpFrom, Halts, UsesAll}
 use Rattle.chess_items.specs.Coming.{AtHand, BreaksWhere, Came, unread}
 use Rattle.chess_items.specs.Sections.{PassesOver, StopsAt}
 use Rattle.chess_items.specs.declared.fault.FaultKind.TheVariants.{Memory}
 use Rattle.chess_pgn.specs.Games.{Game}
 use Rattle.chess_items.specs.declared.skimming.Halt.{Halt}
-use Rattle.chess_pgn.specs.Reading.{HasNoGame, HasNoGameYet, BeginsWithGame, IsFlooded, IsWhite}
+use Rattle.chess_pgn.specs.Reading.{HasNoGame, HasNoGameYet, BeginsWithGame, IsWhite}
 use Rattle.chess_pgn.specs.declared.game.Game as code
 use Rattle.chess_pgn.specs.declared.games.GamesFault.{GamesFault}
 use Rattle.chess_pgn.specs.declared.games.GamesFault.TheVariants.{Pgn, Read}
@@ -84,7 +83,7 @@ pub record Fails {R : Type 0} (gives : R → List ℕ → R → Type 0) (failed 
   pub came : Came gives failed old bytes new
   pub text : List ℕ
   pub parts : unread old ++ bytes ≡ text ++ unread new
-  pub told : new.has_ended ≡ true → ended new.source
+  pub ended_so : new.has_ended ≡ true → ended new.source
   pub none : (more : List ℕ) → (new.has_ended ≡ true → more ≡ []) → HasNoGame (unread old ++ (bytes ++ more))
   pub dark : (more : List ℕ) → (new.has_ended ≡ true → more ≡ []) → IsWhite (unread old ++ (bytes ++ more)) → ⊥
   pub still : old.has_ended ≡ true → (bytes ≡ []) × (new.has_ended ≡ true)
@@ -105,19 +104,13 @@ abbrev pub IsPlaced : ℕ → GamesFault → Type 0
 IsPlaced used (Pgn fault) = (used ≤ fault.place) × (fault.kind ≡ Memory → fault.place ≡ used)
 IsPlaced used Read = ⊤
 
-pub record Floods {R : Type 0} (gives : R → List ℕ → R → Type 0) (failed : R → Bool) (old new : AtHand R) : Type 0 where
-  pub bytes : List ℕ
-  pub came : Came gives failed old bytes new
-  pub flooded : (more : List ℕ) → (new.has_ended ≡ true → more ≡ []) → IsFlooded (unread old ++ (bytes ++ more))
-  pub still : old.has_ended ≡ true → (bytes ≡ []) × (new.has_ended ≡ true)
-
 abbrev pub Leaves : {R : Type 0} → (R → List ℕ → R → Type 0) → (R → Bool) → AtHand R → AtHand R → Option Halt → Type 0
 Leaves gives failed old new (Some halt) = Halts gives failed old new halt
-Leaves gives failed old new None = Floods gives failed old new
+Leaves gives failed old new None = UsesAll gives failed old new
 
--- a bad game is given up, counted from its first byte; after white space beyond the limit bytes are passed over from where the reading stopped
-abbrev pub GivesUp : {R : Type 0} → (R → List ℕ → R → Type 0) → (R → Bool) → AtHand R → AtHand R → AtHand R → Type 0
-GivesUp gives failed old there new = ((count : ℕ) × GivesUpFrom gives failed old new count) ⊎ (Floods gives failed old there × (count : ℕ) × PassesOver gives failed there new count)
+-- with the number of its bytes, which its text alone decides
+abbrev pub GivesUp : {R : Type 0} → (R → List ℕ → R → Type 0) → (R → Bool) → AtHand R → AtHand R → Type 0
+GivesUp gives failed old new = (count : ℕ) × GivesUpFrom gives failed old new count
 
 -- after a fault the items of its game are passed over from there
 abbrev pub seeks : Option GamesFault → Option Halt → Option Halt

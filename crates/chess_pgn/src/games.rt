@@ -101,9 +101,9 @@ fn is_flooded(stopped: Stopped) -> bool
     }
 }
 
-// Where the reading has stopped; none, where white space beyond the limit was read.
+// Where the reading has stopped; none, where white space alone came before what reaches past the limit, and all of it is used.
 fn halt_of<A: Allocator>(reader: &Reader<'_, '_, A>, stopped: Stopped) -> Option<Halt>
-    ensures { result ≡ halt_at (is_flood stopped.why stopped.white) (record { place = stopped.place; at = stopped.at; begun = reader.now.moving }) }
+    ensures { result ≡ halt_at (is_flood stopped.why stopped.white) (record { place = stopped.place; at = stopped.at; begun = reader.now.moving; white = stopped.white }) }
 {
     if is_flooded(stopped) {
         return None;
@@ -112,6 +112,7 @@ fn halt_of<A: Allocator>(reader: &Reader<'_, '_, A>, stopped: Stopped) -> Option
         place: stopped.place,
         at: stopped.at,
         begun: reader.is_moving(),
+        white: stopped.white,
     })
 }
 
@@ -207,13 +208,13 @@ fn placed(fault: GamesFault, used: u64) -> GamesFault
 }
 
 /// The games of a source, one after another. After a fault `next` returns that fault again, until `pass_over` goes on to the next section of
-/// tags. Contracts see the bytes at hand, how many were used before them, the fault, and how far the items of its game were used, unless white
-/// space beyond the limit was read.
+/// tags. Contracts see the bytes at hand, how many were used before them, the fault, and how far the items of its game were used, unless all
+/// of them were: white space alone, before what reaches past 1,048,576 bytes.
 #[derive(Drop)]
 pub struct Games<'a, R, A: Allocator> {
     text: AtHand<'a, R, A>,
     fault: Option<GamesFault>,
-    /// How far the items of the game with the fault were used; none, where white space beyond the limit was.
+    /// How far the items of the game with the fault were used; none, where all of them were.
     halt: Option<Halt>,
     alloc: &'a A,
     basis: Basis,
@@ -345,7 +346,7 @@ impl<'a, R: Source, A: Allocator> Games<'a, R, A> {
         ensures good { IfOk result (λ _. self.new.fault ≡ None) }
         ensures sound { IfOk result (λ _. self.new.text.has_ended ≡ true → R.ended self.new.text.source) }
         ensures passes { self.old.fault ≡ None → IfOk result (λ count. PassesOver R.gives R.failed self.old.text self.new.text count) }
-        ensures gives_up { (fault : GamesFault) (before : coming.AtHand R) → self.old.fault ≡ Some fault → Leaves R.gives R.failed before self.old.text self.old.halt → IfOk result (λ _. GivesUp R.gives R.failed before self.old.text self.new.text) }
+        ensures gives_up { (fault : GamesFault) (before : coming.AtHand R) → self.old.fault ≡ Some fault → Leaves R.gives R.failed before self.old.text self.old.halt → IfOk result (λ _. GivesUp R.gives R.failed before self.new.text) }
         ensures used { IfOk result (λ count. self.new.text.used ≡ self.old.text.used + count) }
         ensures fault { self.old.fault ≡ None → IfErr result (λ fault. NotPassed R.gives R.failed self.old.text self.new.text fault) }
         ensures broken { IfErr result (λ fault. NotGivenUp R.gives R.failed self.old.text self.new.text fault) }
@@ -433,7 +434,7 @@ impl<'a, R: Source, A: Allocator> Games<'a, R, A> {
         ensures good { IfOk result (λ _. self.new.fault ≡ None) }
         ensures goes_on { IfOk result (λ _. GoesOn self.old.fault) }
         ensures passes { self.old.fault ≡ None → IfOk result (λ count. PassesOver R.gives R.failed self.old.text self.new.text count) }
-        ensures gives_up { (fault : GamesFault) (before : coming.AtHand R) → self.old.fault ≡ Some fault → Leaves R.gives R.failed before self.old.text self.old.halt → IfOk result (λ _. GivesUp R.gives R.failed before self.old.text self.new.text) }
+        ensures gives_up { (fault : GamesFault) (before : coming.AtHand R) → self.old.fault ≡ Some fault → Leaves R.gives R.failed before self.old.text self.old.halt → IfOk result (λ _. GivesUp R.gives R.failed before self.new.text) }
         ensures used { IfOk result (λ count. self.new.text.used ≡ self.old.text.used + count) }
         ensures fault { self.old.fault ≡ None → IfErr result (λ fault. NotPassed R.gives R.failed self.old.text self.new.text fault) }
         ensures broken { GoesOn self.old.fault → IfErr result (λ fault. NotGivenUp R.gives R.failed self.old.text self.new.text fault) }

@@ -18,13 +18,20 @@ longer (Some x) more = Some (x.0, x.1 ++ more)
 abbrev pub Decides : Place → List ℕ → Type 0
 Decides place prefix = (more : List ℕ) → item_at place (prefix ++ more) ≡ longer (item_at place prefix) more
 
+-- after the first byte of a mark
+abbrev pub mark_open : List ℕ → Bool
+mark_open [] = true
+mark_open (b ∷ []) = b == 187
+mark_open (b ∷ c ∷ bytes) = false
+
 -- after one of the other bytes; a number above 255 is one too many
 unfoldable pub sign_open : Bool → ℕ → List ℕ → Bool
 sign_open start b bytes =
     if b == byte "%" then start && list_all in_line bytes
     else (if b == byte ";" then list_all in_line bytes
     else (if b == byte "{" then list_all in_braces bytes
-    else (if b == byte "$" then list_all is_digit bytes && nat_lt (digits_value 0 bytes) 256 else false)))
+    else (if b == byte "$" then list_all is_digit bytes && nat_lt (digits_value 0 bytes) 256
+    else (if b == 239 then mark_open bytes else false))))
 
 -- so is a third glyph
 unfoldable pub outside_open : Bool → List ℕ → Bool
@@ -57,19 +64,8 @@ value_open (b ∷ bytes) =
     else (if b == byte "\\" then escape_open bytes
     else (if b == 10 then false else list_all is_plain bytes))
 
--- after the first byte of a mark
-abbrev pub mark_open : List ℕ → Bool
-mark_open [] = true
-mark_open (b ∷ []) = b == 187
-mark_open (b ∷ c ∷ bytes) = false
-
--- the same where a game begins
-unfoldable pub start_open : List ℕ → Bool
-start_open [] = true
-start_open (b ∷ bytes) = if b == 239 then mark_open bytes else outside_open true (b ∷ bytes)
-
 unfoldable pub is_open : Place → List ℕ → Bool
-is_open GameStart bytes = start_open bytes
+is_open GameStart bytes = outside_open true bytes
 is_open LineStart bytes = outside_open true bytes
 is_open InLine bytes = outside_open false bytes
 is_open TagLineStart bytes = tag_open true bytes

@@ -63,6 +63,12 @@ stretch_found text rest = Some (Stretch text, rest)
 abbrev pub hidden_at : Bool → List ℕ → Found
 hidden_at start bytes = if start then run_at in_line hidden_found bytes else None
 
+-- after the first byte of a mark
+abbrev pub mark_at : List ℕ → Found
+mark_at [] = None
+mark_at (b ∷ []) = None
+mark_at (b ∷ c ∷ bytes) = if b == 187 then (if c == 191 then Some (Mark, bytes) else None) else None
+
 -- what begins with another byte than those of words, white space, ! and ?
 unfoldable pub sign_at : Bool → ℕ → List ℕ → Found
 sign_at start b bytes =
@@ -74,7 +80,8 @@ sign_at start b bytes =
     else (if b == byte ")" then Some (Close, bytes)
     else (if b == byte "*" then Some (Marker Unfinished, bytes)
     else (if b == byte "." then Some (Skipped, bytes)
-    else (if b == byte "[" then Some (TagOpen, bytes) else None))))))))
+    else (if b == byte "[" then Some (TagOpen, bytes)
+    else (if b == 239 then mark_at bytes else None)))))))))
 
 -- outside of tags, in the first column or not
 unfoldable pub outside_at : Bool → List ℕ → Found
@@ -107,20 +114,9 @@ value_at (b ∷ bytes) =
     else (if b == byte "\\" then escaped_at bytes
     else (if b == 10 then None else run_at is_plain stretch_found (b ∷ bytes)))
 
--- after the first byte of a mark
-abbrev pub mark_at : List ℕ → Found
-mark_at [] = None
-mark_at (b ∷ []) = None
-mark_at (b ∷ c ∷ bytes) = if b == 187 then (if c == 191 then Some (Mark, bytes) else None) else None
-
--- where a game begins
-unfoldable pub start_at : List ℕ → Found
-start_at [] = None
-start_at (b ∷ bytes) = if b == 239 then mark_at bytes else outside_at true (b ∷ bytes)
-
 -- the first item at a place
 unfoldable pub item_at : Place → List ℕ → Found
-item_at GameStart bytes = start_at bytes
+item_at GameStart bytes = outside_at true bytes
 item_at LineStart bytes = outside_at true bytes
 item_at InLine bytes = outside_at false bytes
 item_at TagLineStart bytes = tag_at true bytes

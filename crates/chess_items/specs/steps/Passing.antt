@@ -1,43 +1,39 @@
--- Items that are taken, where white space and hidden lines after the limit are passed over.
+-- Items that are taken, where white items after the limit are passed over.
 --   AreWhite  these bytes are white items, one after another
 --   Passes    items are taken, or the text was white
 --   PassBreaks  some are, and then there was no memory, or a read broke off
-use Rattle.std.specs.Prelude.{◌≡◌, ℕ, ◌⊎◌, true, false, List, [], ◌++◌, Option, Some, None, Result, Ok, Err}
+use Rattle.std.specs.Prelude.{◌≡◌, ◌≢◌, ℕ, ◌⊎◌, true, false, List, [], ◌++◌, Option, Some, None, Result, Ok, Err}
+use Rattle.std.specs.List.{list_all}
 use Rattle.byte_streams.specs.Calls.{Calls, joined}
-use Rattle.chess_items.specs.Items.{Item}
-use Rattle.chess_items.specs.steps.Skipping.{column_at, white_after}
-use Rattle.chess_items.specs.steps.Taking.{TakesOne, SpellsFrom, all_white, Ran, RunBroke}
+use Rattle.chess_items.specs.Items.{Item, Spells, is_white}
+use Rattle.chess_items.specs.steps.Skipping.{SkippedWhite}
+use Rattle.chess_items.specs.steps.Taking.{TakesOne, Ran, RunBroke}
 use Rattle.chess_items.specs.steps.Texts.{BreaksOff}
 use Rattle.chess_items.specs.declared.at_hand.Fault.{Fault}
 use Rattle.chess_items.specs.declared.at_hand.Fault.TheVariants as fault
-use Rattle.chess_items.specs.declared.place.Place.{Place}
 use Rattle.chess_items.specs.declared.place.Place.TheVariants.{GameStart}
 use Rattle.chess_items.specs.declared.taking.Stop.TheVariants as stop
 use Rattle.chess_items.specs.declared.taking.Stopped.{Stopped}
 
-abbrev pub AreWhite : ℕ → Place → List ℕ → Type 0
-AreWhite at place bytes = (items : List (ℕ × Item)) × (all_white items ≡ true) × SpellsFrom at place bytes items []
+abbrev pub AreWhite : List ℕ → Type 0
+AreWhite bytes = (items : List Item) × (list_all is_white items ≡ true) × Spells GameStart bytes items []
 
 module _ {X T : Type 0} (comes : X → List ℕ → X → Type 0) (at_hand : X → List ℕ) (all sound : X → Type 0) (size : X → ℕ) (takes : TakesOne T) where
   -- all has come, and was white
   pub record WasWhite (old new : X) : Type 0 where
     pub pieces : List (List ℕ)
     pub came : Calls comes old pieces new
-    pub white : AreWhite 0 GameStart (at_hand old ++ joined pieces)
+    pub white : AreWhite (at_hand old ++ joined pieces)
     pub ended : all new
     pub nothing : at_hand new ≡ []
     pub still : all old → joined pieces ≡ []
 
-  -- only white items stood before the limit, and after them comes something else
+  -- white items alone came before the limit; all are used, and something else comes after them
   pub record NotWhite (stopped : Stopped) (mid new : X) : Type 0 where
     pub over : stopped.why ≡ stop.TooLarge
     pub white : stopped.white ≡ true
-    pub pieces : List (List ℕ)
-    pub came : Calls comes mid pieces new
-    pub other : white_after (Some (column_at stopped.place)) (at_hand mid ++ joined pieces) ≡ None
-    pub still : all mid → (joined pieces ≡ []) × all new
-    pub text : List ℕ
-    pub parts : at_hand mid ++ joined pieces ≡ text ++ at_hand new
+    pub skipped : SkippedWhite comes at_hand all sound stopped.place mid new
+    pub other : at_hand new ≢ []
 
   -- a run of items ended, and white space alone was not taken for a game
   pub record Passed (limit : ℕ) (old new : X) (t u : T) (stopped : Stopped) : Type 0 where

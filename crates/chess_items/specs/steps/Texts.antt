@@ -68,6 +68,7 @@ module _ {X : Type 0} (comes : X → List ℕ → X → Type 0) (at_hand : X →
     pub asked : Needs at_hand all place old more new
     pub at_end : all old → (more ≡ []) × all new
     pub sound_still : sound new
+    pub no_larger : size new ≤ size old
     pub held : length (at_hand old) ≤ most + 65536 → length (at_hand new) ≤ most + 65536
 
   -- they do, or too many are at hand
@@ -96,7 +97,7 @@ module _ {X : Type 0} (comes : X → List ℕ → X → Type 0) (at_hand : X →
   -- others are at hand, or none come
   abbrev pub AfterRefill : X → List ℕ → X → Bool → Type 0
   AfterRefill old more new true = (at_hand new ≡ more) × sound new × (size new + 1 ≤ size old) × (all old → ⊥)
-  AfterRefill old more new false = (at_hand new ≡ []) × (more ≡ []) × all new × sound new
+  AfterRefill old more new false = (at_hand new ≡ []) × (more ≡ []) × all new × sound new × (size new ≤ size old)
 
   -- all bytes at hand are used, and others came, or none do
   pub record Refill (old new : X) (has_more : Bool) : Type 0 where

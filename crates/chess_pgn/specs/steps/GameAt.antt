@@ -9,17 +9,16 @@
 --   HasBroken  bytes came, and then a read broke off; no one game is at the start of what was at hand and what came, whatever follows
 --   IsFault    a read broke off, or there was no memory, or no game is there
 --   TakesGame  what becomes of a text of which one game is taken
---   FloodedIn  bytes came, and white space alone stood before what reaches past the limit, whatever follows
---   is_flood, halt_at  whether such white space was read; where not, how far the items of a game were used
+--   is_flood, halt_at  whether white space alone came before what reaches past the limit; where not, how far the items of a game were used
 --   HaltsAt    how far the items of a game that can't be read were used
 use Rattle.std.specs.Prelude.{◌≡◌, ◌⊎◌, ◌≤◌, ℕ, Bool, true, false, List, [], ◌++◌, length, Option, Some, None, Result, Ok, Err, ⊤}
 use Rattle.byte_streams.specs.Calls.{Calls, joined}
-use Rattle.chess_items.specs.Abandoned.{HaltsIn}
+use Rattle.chess_items.specs.Abandoned.{HaltsIn, UsesAllIn}
 use Rattle.chess_items.specs.declared.fault.FaultKind.TheVariants.{Memory}
 use Rattle.chess_items.specs.declared.skimming.Halt.{Halt}
 use Rattle.chess_items.specs.declared.taking.Stop.{Stop}
 use Rattle.chess_items.specs.declared.taking.Stop.TheVariants as stop
-use Rattle.chess_pgn.specs.Reading.{HasNoGame, HasNoGameYet, BeginsWithGame, IsFlooded, IsWhite}
+use Rattle.chess_pgn.specs.Reading.{HasNoGame, HasNoGameYet, BeginsWithGame, IsWhite}
 use Rattle.chess_pgn.specs.steps.GameCode.{game_of}
 use Rattle.chess_pgn.specs.declared.game.Game.{Game}
 use Rattle.chess_pgn.specs.declared.games.GamesFault.{GamesFault}
@@ -88,12 +87,6 @@ module _ {X : Type 0} (comes : X → List ℕ → X → Type 0) (at_hand : X →
   TakesGame breaks old new (Ok found) = FoundGame comes at_hand all old new found
   TakesGame breaks old new (Err fault) = IsFault breaks old new fault
 
-pub record FloodedIn {X : Type 0} (comes : X → List ℕ → X → Type 0) (at_hand : X → List ℕ) (all : X → Type 0) (old new : X) : Type 0 where
-  pub pieces : List (List ℕ)
-  pub came : Calls comes old pieces new
-  pub flooded : (more : List ℕ) → (all new → more ≡ []) → IsFlooded (at_hand old ++ (joined pieces ++ more))
-  pub still : all old → (joined pieces ≡ []) × all new
-
 -- white space alone came before what reaches past the limit
 abbrev pub is_flood : Stop → Bool → Bool
 is_flood stop.TooLarge white = white
@@ -103,10 +96,10 @@ abbrev pub halt_at : Bool → Halt → Option Halt
 halt_at true halt = None
 halt_at false halt = Some halt
 
--- its items up to there, or white space beyond the limit
+-- its items up to there, or all of them
 abbrev pub LeavesIn : {X : Type 0} → (X → List ℕ → X → Type 0) → (X → List ℕ) → (X → Type 0) → X → X → Option Halt → Type 0
 LeavesIn comes at_hand all old new (Some halt) = HaltsIn comes at_hand all old new halt
-LeavesIn comes at_hand all old new None = FloodedIn comes at_hand all old new
+LeavesIn comes at_hand all old new None = UsesAllIn comes at_hand all old new
 
 abbrev pub HaltsAt : {X A : Type 0} → (X → List ℕ → X → Type 0) → (X → List ℕ) → (X → Type 0) → X → X → Option Halt → Result (Option (Game A × ℕ)) GamesFault → Type 0
 HaltsAt comes at_hand all old new halt (Ok found) = ⊤

@@ -3,6 +3,7 @@ ghost use Rattle.std.specs.Prelude.{◌<◌};
 ghost use Rattle.chess_pgn.specs.Sources.{IsSound};
 
 use super::passing::Step::{End, Fault, Game, NextFails, PassFails, Passed};
+use super::pieces::long_text;
 use byte_streams::{FromBytes, Source};
 use chess_pgn::{FaultKind, Games, GamesFault};
 use linked_list_allocator::LocalHeap;
@@ -152,6 +153,20 @@ const ROWS: &[(&[u8], &[Step])] = &[
         b"[A \"1\"]\n\n1. e4 *\n\n[A \"2\"]\n\n1. e4 ~\xEF\xBB\xBF[A \"3\"]\n\n1. d4 *\n",
         &[Game(16), Fault(33, 1), Passed(4), Game(53), End],
     ),
+    // Byte order marks between games, as in files that were put together: after a marker, and after movetext without one.
+    (
+        b"[A \"1\"]\n\n1. e4 *\r\n\xEF\xBB\xBF[A \"2\"]\n\n1. e4 *\n",
+        &[Game(16), Game(37), End],
+    ),
+    (
+        b"[A \"1\"]\n\n1. e4\n\xEF\xBB\xBF[A \"2\"]\n\n1. d4 *\n\xEF\xBB\xBF",
+        &[Game(18), Game(34), End],
+    ),
+    // Two bytes of one are no item.
+    (
+        b"[A \"1\"]\n\n1. e4 *\n\xEF\xBB[A \"2\"]\n\n1. e4 *\n",
+        &[Game(16), Fault(17, 1), Passed(19), End],
+    ),
     // A comment after what is no item, with a bracket first on a line, which is taken for a section.
     (
         b"[A \"1\"]\n\n1. e4 *\n\n[A \"2\"]\n\n1. e4 ~ {a\n\n[%eval 1]\n\n[x]} *\n\n[A \"3\"]\n\n1. d4 *\n",
@@ -228,6 +243,32 @@ fn goes_on_after_a_bad_game(rt: HostRuntime) -> Result<(), Fail> {
     assert_rows(&rt, &rt.alloc(), 2)?;
     assert_rows(&rt, &rt.alloc(), 7)?;
     assert_rows(&rt, &rt.alloc(), 65_536)?;
+    Ok(())
+}
+
+/// White space that goes past the limit is a bad game of its own: `next` uses all of it, and then so many bytes are passed over.
+fn assert_after_white<A: Allocator>(
+    rt: &impl Abort,
+    alloc: &A,
+    white: &[u8],
+    bad: &[u8],
+) -> Result<(), AllocError> {
+    let mut text = long_text(alloc, b"", b' ', 1_048_570, white)?;
+    text.extend_from_slice(bad)?;
+    text.extend_from_slice(b"[A \"3\"]\n\n1. d4 *")?;
+    let used = text.len() as u64;
+    let passed = Passed(bad.len() as u64);
+    let steps = [Fault(1_048_576, 9), passed, Game(used), End];
+    let mut games = Games::new(alloc, FromBytes::new(text.as_slice(), 65_536));
+    assert_steps(rt, &mut games, &steps);
+    Ok(())
+}
+
+#[test]
+fn after_white_space_past_the_limit(rt: HostRuntime) -> Result<(), Fail> {
+    let alloc = rt.alloc();
+    assert_after_white(&rt, &alloc, b" \n%hidden\n\xEF\xBB\xBF \n", b"")?;
+    assert_after_white(&rt, &alloc, b" \n%[B \"2\"]\n \n", b"e4 *\n")?;
     Ok(())
 }
 

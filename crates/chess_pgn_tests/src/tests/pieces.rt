@@ -87,7 +87,7 @@ const LONG: &[(&[u8], u8, &[u8], Found)] = &[
 ];
 
 /// A text, a byte so many times, and what is after them.
-fn long_text<'a, A: Allocator>(
+pub fn long_text<'a, A: Allocator>(
     alloc: &'a A,
     first: &[u8],
     filler: u8,
