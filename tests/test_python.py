@@ -252,14 +252,16 @@ class TheBoard(unittest.TestCase):
         main = threading.main_thread().ident
         self.assertEqual(threading.get_ident(), main)
 
-        def interrupts(others):
-            while threading.active_count() <= others + 1:
+        def interrupts():
+            # The search has the board's lock.
+            while board._lock.acquire(blocking=False):
+                board._lock.release()
                 time.sleep(0.001)
             time.sleep(0.1)
             signal.pthread_kill(main, signal.SIGINT)
 
         for _ in range(3):
-            thread = threading.Thread(target=interrupts, args=(threading.active_count(),))
+            thread = threading.Thread(target=interrupts)
             thread.start()
             # It would end by itself some hours later.
             self.assertRaises(KeyboardInterrupt, board.best_within)
