@@ -14,6 +14,7 @@ import subprocess
 import sys
 import tempfile
 import threading
+import time
 import unittest
 import xml.dom.minidom
 
@@ -250,12 +251,21 @@ class TheBoard(unittest.TestCase):
         before = board.pgn(), board.fen()
         main = threading.main_thread().ident
         self.assertEqual(threading.get_ident(), main)
-        for seconds in (0.1, 0.3):
-            timer = threading.Timer(seconds, signal.pthread_kill, (main, signal.SIGINT))
-            timer.start()
+
+        def interrupts():
+            # The search has the board's lock.
+            while board._lock.acquire(blocking=False):
+                board._lock.release()
+                time.sleep(0.001)
+            time.sleep(0.1)
+            signal.pthread_kill(main, signal.SIGINT)
+
+        for _ in range(3):
+            thread = threading.Thread(target=interrupts)
+            thread.start()
             # It would end by itself some hours later.
             self.assertRaises(KeyboardInterrupt, board.best_within)
-            timer.join()
+            thread.join()
             self.assertEqual((board.pgn(), board.fen(), board.best(2)), (*before, board.best_within(2)[:2]))
 
     def test_an_engine_driven_by_events(self):

@@ -89,14 +89,17 @@ class _Flag:
 
 
 class _Worker(threading.Thread):
-    """A thread whose end is waited for whatever comes; what its work raises is raised there."""
+    """A thread whose work is waited for whatever comes; what it raises is raised there. `join` isn't used: where Ctrl-C ends it, Python may take a thread that runs
+    for one that has ended."""
 
     def __init__(self, work: Callable[[], None]) -> None:
         super().__init__(daemon=True)
-        self._work, self.ended, self._cancelled = work, threading.Event(), False
+        self._work, self.ended = work, threading.Event()
+        self._begun = self._cancelled = False
         self._raised: Optional[BaseException] = None
 
     def run(self) -> None:
+        self._begun = True
         try:
             if not self._cancelled:
                 self._work()
@@ -109,10 +112,10 @@ class _Worker(threading.Thread):
         """Sets the flag, and waits for the end, also where an exception comes meanwhile, as by Ctrl-C: that is raised then, else what the work raised."""
         came: Optional[BaseException] = None
         self._cancelled = True
-        while self.ident is not None and self.is_alive():
+        while self._begun and not self.ended.is_set():
             try:
                 flag.set()
-                self.join()
+                self.ended.wait()
             except BaseException as it:
                 came = it
         raised = came or self._raised
