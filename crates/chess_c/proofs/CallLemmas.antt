@@ -1,6 +1,7 @@
 -- What is said of a call on a slot that is known to hold a board.
-use Rattle.std.proofs.Common.{◌≡◌, ◌∙◌, ℕ, ◌==◌, Bool, false, if◌then◌else◌, List, ap, refl, sym, subst}
+use Rattle.std.proofs.Common.{◌≡◌, ◌∙◌, ℕ, ◌+◌, ◌==◌, ne_eqb, absurd, arith, Bool, false, if◌then◌else◌, List, ap, refl, sym, subst}
 use Rattle.std.specs.Prelude.{Option, Some, Result, Ok, Err, is_ok}
+use Rattle.chess_fen.specs.Faults.{number_of}
 use Rattle.chess_tree.specs.GameTree.{TreeParts}
 use Rattle.chess_uci.specs.declared.event.Event.{Event}
 use Rattle.chess_uci.specs.Machine.{State}
@@ -25,7 +26,7 @@ acts_some ends old new held after ended code is en ec end = subst (λ (o : Optio
 
 -- only what is done has the status of what is done
 refused_code : (refusal : Refusal) → (refusal_code refusal == ok) ≡ false
-refused_code (Fen fault) = refl
+refused_code (Fen fault) = ne_eqb (20 + number_of fault) 0 (λ same. absurd (omega (arith, same)))
 refused_code _ = refl
 
 ended_ok : (ended : Result (Unit {0}) Refusal) → (ended_code ended == ok) ≡ is_ok ended
