@@ -2,19 +2,18 @@
  * jatshegi, the engine for front ends (UCI): lines, slices of a search and moments of the clock go to a session of the proved library as they come, and what
  * it replies goes out. There is no chess in it: what an event does, and when a search is over, the session decides.
  *
- * One thread. While a search runs, a signal comes every few milliseconds; where there is input, or the search's time is over, its handler raises a flag,
- * which has the root that is being searched abandoned. The session is then as before it, and the input or the moment is the next event.
+ * While a search runs, a second thread looks at the input and the clock every few milliseconds. Where there is input, or the search's time is over, it sets a
+ * flag, which has the root that is being searched abandoned. The session is then as before it, and the input or the moment is the next event.
  */
 #define _XOPEN_SOURCE 700
 #include <errno.h>
 #include <inttypes.h>
 #include <poll.h>
-#include <signal.h>
-#include <stdarg.h>
+#include <pthread.h>
+#include <stdatomic.h>
 #include <stdio.h>
 #include <stdlib.h>
 #include <string.h>
-#include <sys/time.h>
 #include <time.h>
 #include <unistd.h>
 
@@ -26,7 +25,7 @@
 
 enum {
     MOST_LINE = 1048576,  /* bytes of a line, without its line feed, as `chess uci` has it */
-    TICK = 4,             /* milliseconds between two looks at the input and the clock in a search */
+    TICK = 4,             /* milliseconds at most between two looks at the input and the clock in a search */
     REPORT = 1000         /* milliseconds between two lines `info nodes` in a search */
 };
 
@@ -34,8 +33,9 @@ enum {
 static struct {
     char bytes[MOST_LINE + 1];
     size_t begin, end;
-    bool is_over, is_too_long;
+    bool is_too_long;
 } input;
+static atomic_bool input_has_ended;
 
 /* The search that runs: when it began, the positions visited, and when they were last reported. */
 static struct {
@@ -47,9 +47,16 @@ static struct jatshegi_keys keys;
 static struct jatshegi_board board;
 static FILE *record;
 
-/* The flag that has a root abandoned, by two handles: the search's and the handler's. The moment at which the handler is to raise it, whatever the input. */
-static struct jatshegi_stop stop, raised;
-static volatile uint64_t due = UINT64_MAX;
+/* The flag that has a root abandoned, by two handles: the search's and the second thread's. */
+static struct jatshegi_stop stop, set;
+
+/* What the second thread does: it watches, up to a moment at the latest, or rests, or is to end. The lock is held by who reads or writes it. */
+static struct {
+    pthread_mutex_t lock;
+    pthread_cond_t changed;
+    bool runs, is_over;
+    uint64_t due;
+} watch = {PTHREAD_MUTEX_INITIALIZER, PTHREAD_COND_INITIALIZER, false, false, UINT64_MAX};
 
 static uint64_t now(void) {
     struct timespec time;
@@ -69,13 +76,12 @@ static void check(uint32_t status) {
     }
 }
 
-/* Writes a line of a record of the events, where one is kept. */
-static void note(const char *form, ...) {
-    va_list words;
+/* Writes an event into the record, where one is kept. */
+static void note(const char *event, const char *text, size_t length) {
     if (!record) return;
-    va_start(words, form);
-    vfprintf(record, form, words);
-    va_end(words);
+    fputs(event, record);
+    fwrite(text, 1, length, record);
+    if (putc('\n', record) == EOF) fail("the record can't be written");
 }
 
 /* Of a search: the milliseconds, the positions and the positions a second. */
@@ -122,8 +128,9 @@ static void reply(const char *replies, size_t count) {
 static void take_moment(void) {
     char replies[JATSHEGI_MOST_REPLIES];
     size_t count;
+    char digits[24];
     uint64_t moment = now();
-    note("moment %" PRIu64 "\n", moment);
+    note("moment ", digits, (size_t)snprintf(digits, sizeof digits, "%" PRIu64, moment));
     check(jatshegi_engine_moment(&board, moment, replies, sizeof replies, &count));
     reply(replies, count);
 }
@@ -132,9 +139,42 @@ static void take_line(const char *line, size_t length) {
     char replies[JATSHEGI_MOST_REPLIES];
     size_t count;
     take_moment();
-    note("line %.*s\n", (int)length, line);
+    note("line ", line, length);
     check(jatshegi_engine_line(&board, line, length, replies, sizeof replies, &count));
     reply(replies, count);
+}
+
+/* Has the second thread watch up to a moment, or rest. */
+static void set_watch(bool runs, uint64_t due) {
+    pthread_mutex_lock(&watch.lock);
+    watch.runs = runs;
+    watch.due = due;
+    pthread_cond_signal(&watch.changed);
+    pthread_mutex_unlock(&watch.lock);
+}
+
+/* Waits until it is to watch, and up to when; false where it is to end. */
+static bool wait_for_search(uint64_t *due) {
+    bool goes_on;
+    pthread_mutex_lock(&watch.lock);
+    while (!watch.runs && !watch.is_over) pthread_cond_wait(&watch.changed, &watch.lock);
+    goes_on = !watch.is_over;
+    *due = watch.due;
+    pthread_mutex_unlock(&watch.lock);
+    return goes_on;
+}
+
+/* The second thread. Where the input has ended it watches the clock alone. */
+static void *watch_search(void *none) {
+    uint64_t due;
+    while (wait_for_search(&due)) {
+        struct pollfd ready = {atomic_load(&input_has_ended) ? -1 : STDIN_FILENO, POLLIN, 0};
+        uint64_t moment = now(), left = due > moment ? due - moment : 0;
+        bool comes = poll(&ready, 1, left < TICK ? (int)left : TICK) > 0;
+        if (comes || now() >= due) check(jatshegi_stop_set(&set, true));
+        if (comes) poll(NULL, 0, 1);
+    }
+    return none;
 }
 
 /* Searches one root more, as far as the flag and the clock let it; then the clock is read. */
@@ -145,11 +185,11 @@ static void take_slice(void) {
     bool searched;
     uint32_t timed = jatshegi_engine_time_left(&board, &left);
     if (timed != JATSHEGI_NONE) check(timed);
-    due = timed == JATSHEGI_OK ? now() + left : UINT64_MAX;
     check(jatshegi_stop_set(&stop, false));
+    set_watch(true, timed == JATSHEGI_OK ? now() + left : UINT64_MAX);
     check(jatshegi_engine_slice_within(&board, UINT64_MAX, &stop, &searched, &visited, replies, sizeof replies, &count));
     search.visited += visited;
-    if (searched) note("slice\n");
+    if (searched) note("slice", "", 0);
     reply(replies, count);
     if (search.runs) take_moment();
     if (search.runs && now() - search.reported >= REPORT) {
@@ -158,24 +198,6 @@ static void take_slice(void) {
         putchar('\n');
         search.reported = now();
     }
-}
-
-static void tick(int number) {
-    struct pollfd ready = {STDIN_FILENO, POLLIN, 0};
-    int error = errno;
-    (void)number;
-    if ((!input.is_over && poll(&ready, 1, 0) > 0) || now() >= due) {
-        if (jatshegi_stop_set(&raised, true) != JATSHEGI_OK) _exit(3);
-    }
-    errno = error;
-}
-
-/* Has the handler run every few milliseconds, or no more. */
-static void set_ticks(bool run) {
-    static bool runs;
-    struct itimerval interval = {{0, run ? TICK * 1000 : 0}, {0, run ? TICK * 1000 : 0}};
-    if (run != runs && setitimer(ITIMER_REAL, &interval, NULL)) fail("there is no timer");
-    runs = run;
 }
 
 /* Reads what there is; waits for it where there is none. At the end of the input nothing comes any more. */
@@ -188,26 +210,29 @@ static void read_more(void) {
     }
     count = read(STDIN_FILENO, input.bytes + input.end, sizeof input.bytes - input.end);
     if (count < 0 && errno != EINTR && errno != EAGAIN) fail("the input can't be read");
-    if (count == 0) input.is_over = true;
+    if (count == 0) atomic_store(&input_has_ended, true);
     if (count > 0) input.end += (size_t)count;
 }
 
-/* Takes the next line, if a whole one was read. */
+/* Takes the next line, if a whole one was read; the last one may have no line feed. */
 static bool take_next_line(void) {
     char *line = input.bytes + input.begin, *end = memchr(line, '\n', input.end - input.begin);
+    bool is_last = !end && atomic_load(&input_has_ended) && (input.begin < input.end || input.is_too_long);
     bool is_long = input.is_too_long;
-    if (!end && input.end - input.begin == sizeof input.bytes) {
+    size_t length = end ? (size_t)(end - line) : input.end - input.begin;
+    if (!end && !is_last) {
+        if (length < sizeof input.bytes) return false;
         input.is_too_long = true;
         input.begin = input.end;
+        return false;
     }
-    if (!end) return false;
-    input.begin += (size_t)(end - line) + 1;
+    input.begin += length + (end ? 1 : 0);
     input.is_too_long = false;
     if (is_long) {
         printf("info string line too long\n");
         if (fflush(stdout) == EOF) fail("the replies can't be written");
     } else {
-        take_line(line, (size_t)(end - line));
+        take_line(line, length);
     }
     return true;
 }
@@ -233,9 +258,9 @@ static void run(void) {
     struct pollfd ready = {STDIN_FILENO, POLLIN, 0};
     while (!is(jatshegi_engine_ended)) {
         bool searches = search.runs && !is(jatshegi_engine_waiting);
-        set_ticks(searches);
+        if (!searches) set_watch(false, UINT64_MAX);
         if (take_next_line()) continue;
-        if (input.is_over) {
+        if (atomic_load(&input_has_ended)) {
             take_end();
         } else if (poll(&ready, 1, searches ? 0 : -1) > 0) {
             read_more();
@@ -243,6 +268,15 @@ static void run(void) {
             take_slice();
         }
     }
+}
+
+/* Ends the second thread. */
+static void end_watch(pthread_t second) {
+    pthread_mutex_lock(&watch.lock);
+    watch.is_over = true;
+    pthread_cond_signal(&watch.changed);
+    pthread_mutex_unlock(&watch.lock);
+    if (pthread_join(second, NULL)) fail("the second thread doesn't end");
 }
 
 static const char help[] =
@@ -253,7 +287,7 @@ static const char help[] =
     "  -h, --help           Print help\n"
     "  -V, --version        Print version\n\n"
     "It reads lines of UCI from the standard input and writes its replies to the standard output. The exit status is 0, 1 for\n"
-    "other words, 3 where a stream, memory or the timer failed.\n";
+    "other words, 3 where a stream, memory or a thread failed.\n";
 
 /* Writes the text, and returns the status with which the program ends. */
 static int end_with(FILE *to, const char *text, int status) {
@@ -261,21 +295,19 @@ static int end_with(FILE *to, const char *text, int status) {
 }
 
 int main(int count, char **words) {
-    struct sigaction action = {0};
+    pthread_t second;
     if (count == 2 && (!strcmp(words[1], "-h") || !strcmp(words[1], "--help"))) return end_with(stdout, help, 0);
     if (count == 2 && (!strcmp(words[1], "-V") || !strcmp(words[1], "--version"))) return end_with(stdout, "jatshegi " VERSION "\n", 0);
     if (count != 1 && !(count == 3 && !strcmp(words[1], "--record"))) return end_with(stderr, help, 1);
     if (count == 3 && !(record = fopen(words[2], "w"))) fail("the record can't be written");
-    action.sa_handler = tick;
-    action.sa_flags = SA_RESTART;
-    if (sigaction(SIGALRM, &action, NULL)) fail("there is no timer");
     jatshegi_keys_fill(&keys);
     check(jatshegi_board_new(&keys, &board));
     check(jatshegi_stop_new(&stop));
-    check(jatshegi_stop_share(&stop, &raised));
+    check(jatshegi_stop_share(&stop, &set));
+    if (pthread_create(&second, NULL, watch_search, NULL)) fail("there is no second thread");
     run();
-    set_ticks(false);
-    jatshegi_stop_free(&raised);
+    end_watch(second);
+    jatshegi_stop_free(&set);
     jatshegi_stop_free(&stop);
     jatshegi_board_free(&board);
     if (record && fclose(record)) fail("the record can't be written");
