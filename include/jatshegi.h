@@ -17,8 +17,8 @@
  * What a caller owes:
  *   - A board begins as JATSHEGI_NO_BOARD, which is zeros, and after that only these functions write to it. A board that is in use is never copied.
  *   - The keys are filled once, and stay where they are, unchanged, for as long as there is a board with them. Any number of boards share them.
- *   - A board stays on the thread that it was made on, and one call at a time uses it. Boards of different threads are independent: there is no
- *     other state.
+ *   - One call at a time uses a board. It may go to another thread, where a lock, or a thread's start or end, orders the calls. Boards of different
+ *     threads are independent: there is no other state.
  *   - Pointers are not null and are aligned as C aligns their types, also where a length is 0. What is written to overlaps nothing else that the
  *     call is given; a text that is read is not changed meanwhile. Lengths are at most PTRDIFF_MAX bytes.
  *   - `malloc`, `realloc` and `free` are those of one allocator; no call comes from a signal handler.
