@@ -1,6 +1,8 @@
 -- What is said of a call on a slot that is known to hold a board.
-use Rattle.std.proofs.Common.{◌≡◌, ◌∙◌, ℕ, ◌==◌, Bool, false, if◌then◌else◌, List, ap, refl, sym, subst}
+use Rattle.std.proofs.Common.{◌≡◌, ◌∙◌, ℕ, ◌+◌, ◌==◌, Bool, false, if◌then◌else◌, List, ap, refl, sym, subst, arith}
 use Rattle.std.specs.Prelude.{Option, Some, Result, Ok, Err, is_ok}
+use Rattle.std.proofs.lemmas.Bool.Decides.{nat_tests}
+use Rattle.chess_fen.specs.Faults.{number_of}
 use Rattle.chess_tree.specs.GameTree.{TreeParts}
 use Rattle.chess_uci.specs.declared.event.Event.{Event}
 use Rattle.chess_uci.specs.Machine.{State}
@@ -23,8 +25,11 @@ pub acts_some : (ends : TreeParts → Result (Unit {0}) Refusal → TreeParts �
 acts_some ends old new held after ended code is en ec end = subst (λ (o : Option Held). Acts ends o code new) (sym is) (ended, after, end, ec, en)
 
 -- only what is done has the status of what is done
+not_zero : (n : ℕ) → (20 + n == 0) ≡ false
+not_zero n = grind (arith, nat_tests)
+
 refused_code : (refusal : Refusal) → (refusal_code refusal == ok) ≡ false
-refused_code (Fen fault) = refl
+refused_code (Fen fault) = not_zero (number_of fault)
 refused_code _ = refl
 
 ended_ok : (ended : Result (Unit {0}) Refusal) → (ended_code ended == ok) ≡ is_ok ended
