@@ -1,5 +1,5 @@
 -- Where the reading of a game stops with a fault, the text isn't white.
-use Rattle.std.proofs.Common.{◌≡◌, ◌⊎◌, ℕ, ◌+◌, ◌-◌, Bool, true, false, not, cond, eqb, ◌&&◌, List, [], ◌∷◌, ◌++◌, length, Option, Some, None, is_some, Err, refl, sym, ap, subst, ◌∙◌, arith, append-nil, length-append}
+use Rattle.std.proofs.Common.{◌≡◌, ◌⊎◌, ℕ, Bool, true, false, ◌&&◌, List, [], ◌∷◌, ◌++◌, length, Some, None, Err, refl, sym, ap, subst, ◌∙◌, append-nil}
 use Rattle.std.specs.Prelude.{if◌then◌else◌}
 use Rattle.std.specs.List.{list_all}
 use mathlib.Core.Logic.{inl, inr}
@@ -9,7 +9,7 @@ use Rattle.chess_items.specs.steps.ItemAt.{item_at}
 use Rattle.chess_items.specs.declared.fault.FaultKind.TheVariants.{Memory}
 use Rattle.chess_items.specs.declared.fault.PgnFault.{PgnFault}
 use Rattle.chess_items.specs.declared.place.Place.{Place}
-use Rattle.chess_items.specs.declared.place.Place.TheVariants.{GameStart, LineStart, InLine}
+use Rattle.chess_items.specs.declared.place.Place.TheVariants.{GameStart}
 use Rattle.chess_items.proofs.FoundLemmas.{some_is, the}
 use Rattle.chess_items.proofs.SpellLemmas.{first_found, one_spelling, spells_on}
 use Rattle.chess_pgn.specs.Reading.{IsWhite, is_heading, is_movetext, is_tagged}
@@ -20,9 +20,8 @@ use Rattle.chess_pgn.specs.declared.reader.Reader.{Reader}
 use Rattle.chess_pgn.proofs.ChainLemmas.{InHead, Progress}
 use Rattle.chess_pgn.proofs.FrontLemmas.{begun_dark}
 use Rattle.chess_pgn.proofs.GivenLemmas.{between_pass}
-use Rattle.chess_pgn.proofs.NoGameLemmas.{too_long}
 use Rattle.chess_pgn.proofs.OneGameLemmas.{either}
-use Rattle.chess_pgn.proofs.SplitLemmas.{all_imply, behind_append, all_of, movetext_after, movetext_behind, none_some, none_spelled, nothing_found, both_true, first_is, apart}
+use Rattle.chess_pgn.proofs.SplitLemmas.{behind_append, none_some, none_spelled, nothing_found, both_true, apart}
 
 -- ---- a white text goes on with white items
 

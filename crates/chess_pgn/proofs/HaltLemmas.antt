@@ -1,14 +1,12 @@
 -- How far the items of a bad game were used: no tag begins among them after movetext, and the reader knows whether that has begun.
-use Rattle.std.proofs.Common.{◌≡◌, ◌⊎◌, ℕ, ◌-◌, ◌≤◌, Bool, true, false, ◌&&◌, ◌||◌, not, List, [], ◌∷◌, ◌++◌, Option, Some, Ok, refl, sym, ap, subst, ◌∙◌, arith, append_assoc, length-append}
+use Rattle.std.proofs.Common.{◌≡◌, ◌⊎◌, ℕ, ◌≤◌, Bool, true, false, ◌&&◌, ◌||◌, not, List, [], ◌∷◌, ◌++◌, Option, Some, Ok, refl, sym, ap, subst, ◌∙◌, arith}
 use Rattle.std.specs.Prelude.{IfSome, Result}
 use Rattle.std.specs.List.{list_all}
 use mathlib.Core.Logic.{inl, inr}
 use Rattle.byte_streams.specs.Calls.{Calls, joined}
-use Rattle.byte_streams.proofs.CallLemmas.{Calls-append, joined-append}
 use Rattle.chess_items.specs.Abandoned.{HaltsIn, UsesAllIn, has_begun, is_bracket, is_one, moves_begin}
 use Rattle.chess_items.specs.Items as items
 use Rattle.chess_items.specs.Items.{Item, Spells, is_white, place_behind}
-use Rattle.chess_items.specs.steps.ItemAt.{item_at}
 use Rattle.chess_items.specs.steps.Passing.{NotWhite, Passed, Passes}
 use Rattle.chess_items.specs.steps.Taking.{AfterRun, Brackets, Ran, RanOver, Takes, Took}
 use Rattle.chess_items.specs.declared.fault.FaultKind.{FaultKind}
@@ -23,7 +21,7 @@ use Rattle.chess_items.specs.declared.taking.Stop.{Stop}
 use Rattle.chess_items.specs.declared.taking.Stop.TheVariants as stop
 use Rattle.chess_items.specs.declared.taking.Stopped.{Stopped}
 use Rattle.chess_items.proofs.SkimLemmas.{skimmed_white}
-use Rattle.chess_items.proofs.TakingLemmas.{bare, ended_after, few_after, spells_bare}
+use Rattle.chess_items.proofs.TakingLemmas.{bare, few_after, spells_bare}
 use Rattle.chess_pgn.specs.Reading.{HasBegun, is_heading, is_movetext}
 use Rattle.chess_pgn.specs.steps.GameAt.{LeavesIn, halt_at, is_flood}
 use Rattle.chess_pgn.specs.steps.ReaderCode.{IsNew, TakesItem, Unanswered, takes_when}

@@ -9,7 +9,7 @@ use Rattle.chess_items.specs.Items.{Item, Spells, is_white, place_after, place_b
 use Rattle.chess_items.specs.steps.ItemAt.{item_at}
 use Rattle.chess_items.specs.steps.Deciding.{Decides}
 use Rattle.chess_items.specs.steps.Passing.{NotWhite, PassBreaks, Passed, Passes, WhiteBroke}
-use Rattle.chess_items.specs.steps.Taking.{AfterRun, Ran, RanAground, RanOut, RanOver, RanUpTo, RunBroke, Takes, Took, behind}
+use Rattle.chess_items.specs.steps.Taking.{AfterRun, Ran, RanAground, RanOut, RanOver, RanUpTo, RunBroke, Takes, Took}
 use Rattle.chess_items.specs.steps.Texts.{Oversized}
 use Rattle.chess_items.specs.declared.at_hand.Fault.TheVariants.{Read}
 use Rattle.chess_items.specs.declared.fault.PgnFault.{PgnFault}

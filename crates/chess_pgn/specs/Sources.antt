@@ -22,7 +22,7 @@
 use Rattle.std.specs.Prelude.{◌≡◌, ◌≢◌, ◌⊎◌, ◌≤◌, ◌<◌, ℕ, ◌+◌, Bool, true, List, [], ◌++◌, length, Option, Some, None, IfErr, IfOk, IfSome, Result, Ok, Err, ⊤}
 use Rattle.chess_items.specs.Abandoned.{GivesUpFrom, Halts, UsesAll}
 use Rattle.chess_items.specs.Coming.{AtHand, BreaksWhere, Came, unread}
-use Rattle.chess_items.specs.Sections.{PassesOver, StopsAt}
+use Rattle.chess_items.specs.Sections.{StopsAt}
 use Rattle.chess_items.specs.declared.fault.FaultKind.TheVariants.{Memory}
 use Rattle.chess_pgn.specs.Games.{Game}
 use Rattle.chess_items.specs.declared.skimming.Halt.{Halt}
