@@ -1,5 +1,5 @@
 -- What is said of a call on a slot that is known to hold a board.
-use Rattle.std.proofs.Common.{◌≡◌, ◌∙◌, ℕ, ◌+◌, ◌==◌, ne_eqb, absurd, arith, Bool, false, if◌then◌else◌, List, ap, refl, sym, subst}
+use Rattle.std.proofs.Common.{◌≡◌, ◌∙◌, ℕ, ◌+◌, ◌==◌, ne_eqb, arith, Bool, false, if◌then◌else◌, List, ap, refl, sym, subst}
 use Rattle.std.specs.Prelude.{Option, Some, Result, Ok, Err, is_ok}
 use Rattle.chess_fen.specs.Faults.{number_of}
 use Rattle.chess_tree.specs.GameTree.{TreeParts}
