@@ -11,7 +11,7 @@
 --   BeginsWithGame   the items of a text's first bytes give a game
 --   HasNoGame        no game is at the start of a text
 --   HasNoGameYet     no one game is at the start of every text that begins so
---   IsWhite          a text has white space, a mark and hidden lines alone
+--   IsWhite          a text has white space, marks and hidden lines alone
 --   IsAnswered       a reader returns that game, unless there is no memory
 use Rattle.std.specs.Prelude.{◌≡◌, ◌⊎◌, ℕ, ◌+◌, ◌≤◌, Bool, true, false, not, List, [], ◌∷◌, ◌++◌, length, Option, Some, None, Result, Ok, Err, ⊤}
 use Rattle.std.specs.List.{list_all}

@@ -417,9 +417,9 @@ impl<'a, R: Source, A: Allocator> Games<'a, R, A> {
     /// begins, all bytes are passed over, and `next` returns `None`.
     ///
     /// After a fault the search begins after the items of the game that has it, whatever they mean: they end at the bracket of a tag after
-    /// movetext, at what is no item, or at 1,048,576 bytes. So the text alone decides where reading goes on, and not where it stopped; a
-    /// bracket in a comment of that game begins no section, and a left brace without a right one ends its items. Without a fault the search
-    /// begins after the last game.
+    /// movetext, at what is no item, or at 1,048,576 bytes; where white space alone comes before what reaches past these, at its end. So
+    /// the text alone decides where reading goes on, and not where it stopped; a bracket in a comment of that game begins no section, and a
+    /// left brace without a right one ends its items. Without a fault the search begins after the last game.
     ///
     /// # Errors
     ///
