@@ -130,11 +130,7 @@ pub extern "C" fn jatshegi_engine_infinite(
 
 /// Whether the search that runs has done all that it has to do, and waits for `stop`.
 #[unsafe(no_mangle)]
-pub extern "C" fn jatshegi_engine_waiting(
-    alloc: Global,
-    slot: &mut Slot,
-    waiting: &mut bool,
-) -> u32
+pub extern "C" fn jatshegi_engine_waiting(alloc: Global, slot: &mut Slot, waiting: &mut bool) -> u32
     ensures { IsWaiting slot.old.held result waiting.old waiting.new slot.new.held }
 {
     let Some(session) = take(slot, alloc) else {
