@@ -26,6 +26,7 @@ BeginsHidden place bytes true = (starts_line place ≡ true) × (rest : List ℕ
 BeginsHidden place bytes false = starts_line place ≡ true → (rest : List ℕ) → bytes ≡ 37 ∷ rest → ⊥
 
 module _ {X : Type 0} (comes : X → List ℕ → X → Type 0) (at_hand : X → List ℕ) (all sound : X → Type 0) where
+  -- a line is used to its end, whose line feed is left
   pub record HidesLine (size : X → ℕ) (old new : X) : Type 0 where
     pub pieces : List (List ℕ)
     pub came : Calls comes old pieces new
@@ -38,6 +39,7 @@ module _ {X : Type 0} (comes : X → List ℕ → X → Type 0) (at_hand : X →
     pub still : all old → (joined pieces ≡ []) × all new
     pub sound_still : sound new
 
+  -- so it is, unless a read failed
   abbrev pub Hides : (X → ℕ) → X → X → Result (Unit {0}) Fault → Type 0
   Hides size old new (Ok x) = HidesLine size old new
   Hides size old new (Err fault) = Unit {0}
