@@ -1,6 +1,6 @@
 """The engine for front ends: one `bestmove` for each search, legal, once it is asked for; its replies are those of the session, event by event.
 
-`python3 tests/test_engine.py N` plays N scripts of lines at random moments, and prints how long `isready` and `stop` took at most; ./test plays 60.
+`python3 tests/test_engine.py N` plays N scripts of lines at random moments, and prints how long `isready` and `stop` took at most; ./test plays 400.
 """
 import fcntl
 import os
@@ -138,7 +138,7 @@ class TheEngine(unittest.TestCase):
 
     def test_random_moments(self):
         """The replies are those of the session to the recorded events; each search has one `bestmove`, of the session."""
-        for seed in range(60):
+        for seed in range(400):
             self.check_script(seed)
 
     def test_best_moves_are_legal(self):
