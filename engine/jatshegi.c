@@ -26,7 +26,7 @@
 enum {
     MOST_LINE = 1048576,  /* bytes of a line, without its line feed, as `chess uci` has it */
     TICK = 4,             /* milliseconds at most between two looks at the input and the clock in a search */
-    REPORT = 1000         /* milliseconds between two lines `info nodes` in a search */
+    REPORT = 1000         /* milliseconds between two lines `info time` in a search */
 };
 
 /* What was read: lines from `begin` on, up to `end`. A line that is too long is passed over up to its line feed. */
@@ -48,7 +48,7 @@ static struct jatshegi_board board;
 static FILE *record;
 
 /* The flag that has a root abandoned, by two handles: the search's and the second thread's. */
-static struct jatshegi_stop stop, set;
+static struct jatshegi_stop stop, stopper;
 
 /* What the second thread does: it watches, up to a moment at the latest, or rests, or is to end. The lock is held by who reads or writes it. */
 static struct {
@@ -171,7 +171,7 @@ static void *watch_search(void *none) {
         struct pollfd ready = {atomic_load(&input_has_ended) ? -1 : STDIN_FILENO, POLLIN, 0};
         uint64_t moment = now(), left = due > moment ? due - moment : 0;
         bool comes = poll(&ready, 1, left < TICK ? (int)left : TICK) > 0;
-        if (comes || now() >= due) check(jatshegi_stop_set(&set, true));
+        if (comes || now() >= due) check(jatshegi_stop_set(&stopper, true));
         if (comes) poll(NULL, 0, 1);
     }
     return none;
@@ -303,11 +303,11 @@ int main(int count, char **words) {
     jatshegi_keys_fill(&keys);
     check(jatshegi_board_new(&keys, &board));
     check(jatshegi_stop_new(&stop));
-    check(jatshegi_stop_share(&stop, &set));
+    check(jatshegi_stop_share(&stop, &stopper));
     if (pthread_create(&second, NULL, watch_search, NULL)) fail("there is no second thread");
     run();
     end_watch(second);
-    jatshegi_stop_free(&set);
+    jatshegi_stop_free(&stopper);
     jatshegi_stop_free(&stop);
     jatshegi_board_free(&board);
     if (record && fclose(record)) fail("the record can't be written");
