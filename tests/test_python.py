@@ -251,6 +251,8 @@ class TheBoard(unittest.TestCase):
         before = board.pgn(), board.fen()
         main = threading.main_thread().ident
         self.assertEqual(threading.get_ident(), main)
+        # (where a shell has the tests ignore SIGINT, as of what runs in the background, Python has set no handler)
+        self.addCleanup(signal.signal, signal.SIGINT, signal.signal(signal.SIGINT, signal.default_int_handler))
 
         def interrupts():
             # The search has the board's lock.
@@ -263,8 +265,8 @@ class TheBoard(unittest.TestCase):
         for _ in range(3):
             thread = threading.Thread(target=interrupts)
             thread.start()
-            # It would end by itself some hours later.
-            self.assertRaises(KeyboardInterrupt, board.best_within)
+            # It would end by itself after that time.
+            self.assertRaises(KeyboardInterrupt, board.best_within, time=120)
             thread.join()
             self.assertEqual((board.pgn(), board.fen(), board.best(2)), (*before, board.best_within(2)[:2]))
 
