@@ -28,6 +28,14 @@ fn sets_are_compared(rt: HostRuntime) {
 }
 
 #[test]
+fn sets_are_shifted(rt: HostRuntime) {
+    assert!(rt; SquareSet::rank(1).raised(8) == SquareSet::rank(2));
+    assert!(rt; SquareSet::rank(7).raised(8).is_empty());
+    assert!(rt; SquareSet::file(7).lowered(7) == SquareSet::file(0));
+    assert!(rt; SquareSet::rank(0).lowered(8).is_empty());
+}
+
+#[test]
 fn squares_have_colours(rt: HostRuntime) {
     assert!(rt; SquareSet::light() == !SquareSet::dark());
     assert!(rt; SquareSet::light().contains(Square::H1));
