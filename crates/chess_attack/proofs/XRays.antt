@@ -111,17 +111,17 @@ pub unlit_bare :
     (man_on : Men) (axis : Axis) (way : Way) (at : ℕ) → IsBare man_on axis (opposite way) at → (c : Colour) (s : ℕ) → cut_on man_on axis way at c s ≡ 0
 unlit_bare man_on axis way at b c s = rw (seen_bare man_on axis (opposite way) at c b) refl
 
--- a man who moves along the axis is one of those that are kept for it
-of_kind : (axis : Axis) (m : Man) (kind : Kind) → m.kind ≡ kind → slides kind axis ≡ true → movers axis (Some m) ≡ true
+-- a man who moves along the axis is one of those that are kept for it, and no other is
+pub mover_is : (axis : Axis) (kind : Kind) (mine : Colour) → movers axis (Some (record { colour = mine; kind = kind })) ≡ slides kind axis
 unfolding slides
-of_kind Rank m Pawn is h = rw is h
-of_kind File m Pawn is h = rw is h
-of_kind Rising m Pawn is h = rw is h
-of_kind Falling m Pawn is h = rw is h
-of_kind _ m _ is h = rw is h
+mover_is Rank Pawn mine = refl
+mover_is File Pawn mine = refl
+mover_is Rising Pawn mine = refl
+mover_is Falling Pawn mine = refl
+mover_is _ _ mine = refl
 
-pub mover : (axis : Axis) (m : Man) → slides m.kind axis ≡ true → movers axis (Some m) ≡ true
-mover axis m h = of_kind axis m m.kind refl h
+mover : (axis : Axis) (m : Man) → slides m.kind axis ≡ true → movers axis (Some m) ≡ true
+mover axis m h = mover_is axis m.kind m.colour ∙ h
 
 -- where none of those stands on a half, nothing is seen there
 pub seen_no_mover :

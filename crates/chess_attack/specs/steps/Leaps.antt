@@ -3,10 +3,14 @@
 --   lands                       a square is so many files and ranks from another
 --   leap_on                     1 on that square; leap_sides, to both sides; leap_corners, also upwards and downwards
 --   leap_king, leap_pawn        the leaps of a king and of a pawn
-use Rattle.std.specs.Prelude.{ℕ, ◌+◌, ◌==◌, Bool, ◌&&◌}
+--   leaps_there                 a man of a colour leaps from one square to another
+use Rattle.std.specs.Prelude.{ℕ, ◌+◌, ◌==◌, Bool, false, ◌&&◌, Option, Some, None}
 use Rattle.chess_types.specs.declared.board.man.Colour.{Colour}
 use Rattle.chess_types.specs.declared.board.man.Colour.TheVariants.{White, Black}
+use Rattle.chess_types.specs.declared.board.man.Man.{Man}
 use Rattle.chess_types.specs.board.Squares.{file_of, rank_of}
+use Rattle.chess_types.specs.board.Men.{same_colour}
+use Rattle.chess_types.specs.board.Attack.{leaps}
 use Rattle.chess_attack.specs.declared.way.Way.{Way}
 use Rattle.chess_attack.specs.declared.way.Way.TheVariants.{Up, Down}
 use Rattle.chess_attack.specs.steps.Marks.{one_if}
@@ -45,3 +49,8 @@ leap_king colour at c s =
 -- the two squares that a pawn attacks
 abbrev pub leap_pawn : Colour → ℕ → Colour → ℕ → ℕ
 leap_pawn colour at c s = leap_sides colour 1 (forward colour) 1 at c s
+
+-- a holds a man of the colour, who leaps to b
+abbrev pub leaps_there : Option Man → Colour → ℕ → ℕ → Bool
+leaps_there None c a b = false
+leaps_there (Some man) c a b = same_colour man.colour c && leaps man.colour man.kind a b
