@@ -1,10 +1,9 @@
 -- Where a man's legal moves go, by where he goes and what guards his king; and what the moves there name.
-use Rattle.std.proofs.Common.{if◌then◌else◌, ◌≡◌, ℕ, ◌+◌, ◌/◌, ◌<◌, ◌==◌, Bool, true, false, cond, not, ◌&&◌, ◌||◌, [], filter, Option, Some, None, refl, sym, ap, ◌∙◌, arith, inl, inr}
+use Rattle.std.proofs.Common.{if◌then◌else◌, ◌≡◌, ℕ, ◌+◌, ◌/◌, ◌<◌, ◌==◌, Bool, true, false, cond, not, ◌&&◌, ◌||◌, [], filter, Option, Some, None, refl, sym, ap, ◌∙◌, inl, inr}
 use Rattle.std.specs.Ordering.{nat_cmp}
 use Rattle.std.specs.FinSet.{FinSet, contains, insert}
 use Rattle.std.proofs.Math.Bool.{and-true, and-false}
 use Rattle.std.proofs.lemmas.Bool.{and_parts, and_from, cases_Bool, true≢false, or_cases, or_left, or_right, or_parts, eqb-true, not-true, eq-eqb}
-use Rattle.std.proofs.lemmas.Bool.Decides.{nat_tests}
 use Rattle.chess_types.specs.declared.board.man.Colour.{Colour}
 use Rattle.chess_types.specs.declared.board.man.Kind.{Kind}
 use Rattle.chess_types.specs.declared.board.man.Kind.TheVariants.{Pawn, Knight, Bishop, Rook, Queen, King}
@@ -21,6 +20,7 @@ use Rattle.chess_types.specs.board.Legal.{is_legal, moves_between}
 use Rattle.chess_types.specs.board.After.{after, is_en_passant, is_castling}
 use Rattle.chess_types.proofs.TargetLemmas.{target_not_last}
 use Rattle.chess_attack.specs.Pins.{permits, keeps_line}
+use Rattle.chess_attack.proofs.Flips.{equal_flip}
 use Rattle.chess_attack.proofs.Lifted.{OnlyKing}
 use Rattle.chess_attack.proofs.Reached.{inserted}
 use Rattle.chess_play.proofs.Facts.{Facts, facts}
@@ -39,9 +39,6 @@ use Rattle.chess_moves.proofs.PinLaws.{safe_move, safe_king_move}
 or_false : (a b : Bool) → b ≡ false → (a || b) ≡ a
 or_false true b h = refl
 or_false false b h = h
-
-pub flipped : (a b : ℕ) → (a == b) ≡ (b == a)
-flipped a b = grind (arith, nat_tests)
 
 -- a square added where a test holds
 pub inserted_if : (old new : FinSet nat_cmp) (t s : ℕ) (b : Bool) → new ≡ cond b (insert old t) old → contains new s ≡ (contains old s || (b && (t == s)))
@@ -241,7 +238,7 @@ king_set p a to k q steps f g set one two has k_is q_is f_is g_is first second =
     ∙ (λ i. (steps || sym (castles_is p KingSide (move_to a to None)) i) || sym (castles_is p QueenSide (move_to a to None)) i)
   where
     turned : (h m : Bool) (r to : ℕ) → ((h && m) && (r == to)) ≡ ((h && (to == r)) && m)
-    turned true true r to = flipped r to ∙ sym (and-true (to == r))
+    turned true true r to = equal_flip r to ∙ sym (and-true (to == r))
     turned true false r to = sym (and-false (to == r))
     turned false m r to = refl
 

@@ -3,12 +3,12 @@ use Rattle.std.proofs.Common.{◌≡◌, ℕ, zero, suc, ◌+◌, ◌*◌, ◌<�
 use Rattle.std.specs.Prelude.{count_by, nat_lt}
 use Rattle.std.specs.List.{flat_map, range_with_len}
 use Rattle.std.specs.Ordering.{nat_cmp}
-use Rattle.std.specs.FinSet.{FinSet, contains, intersection, contains-intersection}
+use Rattle.std.specs.FinSet.{FinSet, contains}
 use Rattle.std.proofs.Math.Bool.{and-false}
-use Rattle.std.proofs.lemmas.Cmp.{nat_cmp_total}
 use Rattle.std.proofs.lemmas.Bool.{cases_Bool, lt-ltb}
 use Rattle.std.proofs.lemmas.Bool.Decides.{nat_tests}
 use Rattle.chess_types.specs.declared.board.man.Kind.{Kind}
+use Rattle.chess_types.specs.declared.board.man.Kind.TheVariants.{Pawn}
 use Rattle.chess_types.specs.board.Men.{is_pawn}
 use Rattle.chess_types.specs.board.Position.{PositionParts, IsSetup, man_on, cell_of}
 use Rattle.chess_types.specs.board.Pseudo.{last_rank}
@@ -18,11 +18,12 @@ use Rattle.chess_types.specs.board.Outcome.{is_without}
 use Rattle.chess_types.specs.board.MoveParts.{MoveParts}
 use Rattle.chess_types.proofs.Sums.{bit, total, total-agree, total-zero, sum_by-range}
 use Rattle.chess_attack.proofs.Lifted.{OnlyKing}
+use Rattle.chess_moves.specs.steps.PawnCounts.{size, pawn_moves_to}
 use Rattle.chess_moves.specs.steps.Targets.{is_legal_target, promotes, promotion_kinds, moves_named}
 use Rattle.chess_moves.proofs.LegalTargets.{lands_all, lands_none}
 use Rattle.chess_moves.proofs.Pieces.{pieces, pieces_first, from_pieces}
 
-pieces_total :
+pub pieces_total :
     (test : MoveParts → Bool) (f : ℕ → List MoveParts) (w : ℕ → ℕ) (a n : ℕ) → ((x : ℕ) → a ≤ x → x < a + n → length (filter test (f x)) ≡ w x) →
     length (pieces test f (range_with_len a n)) ≡ total w a n
 unfolding total
@@ -52,6 +53,10 @@ pub counted_total : (set : FinSet nat_cmp) (n : ℕ) → n ≡ count_by (contain
 unfolding squares
 counted_total set n is = is ∙ sum_by-range (λ s. bit (contains set s)) 0 64
 
+pub size_total : (test : ℕ → Bool) → size test ≡ total (λ s. bit (test s)) 0 64
+unfolding squares
+size_total test = sum_by-range (λ s. bit (test s)) 0 64
+
 module _ (p : PositionParts) (setup : IsSetup p) (kind : Kind) (from k : ℕ) (hf : from < 64) (here : man_on p from ≡ cell_of p.side kind)
     (king : OnlyKing (man_on p) p.side k) (set : FinSet nat_cmp) (has : (to : ℕ) → to < 64 → contains set to ≡ is_legal_target p kind from to) where
   between_count : (to : ℕ) → to < 64 → length (filter (is_legal p) (moves_between from to)) ≡ bit (contains set to) + 3 * bit (contains set to && promotes p.side kind to)
@@ -63,7 +68,7 @@ module _ (p : PositionParts) (setup : IsSetup p) (kind : Kind) (from k : ℕ) (h
         | inr off ↦ ap length (lands_none p setup kind from to k hf ht here king (sym (has to ht) ∙ off)) ∙ rw off refl
       ]
 
-  from_count :
+  pub from_count :
       length (filter (is_legal p) (moves_from from))
       ≡ total (λ s. bit (contains set s)) 0 64 + 3 * total (λ s. bit (contains set s && promotes p.side kind s)) 0 64
   unfolding squares
@@ -81,18 +86,12 @@ module _ (p : PositionParts) (setup : IsSetup p) (kind : Kind) (from k : ℕ) (h
       omega (arith, counted_total set n counted, from_count)
 
   -- a pawn has three more for each on its last rank
-  pub pawn_count :
-      (n m : ℕ) (last both : FinSet nat_cmp) → is_pawn kind ≡ true → ((s : ℕ) → contains last s ≡ (nat_lt s 64 && rank_of s == last_rank p.side)) →
-      both ≡ intersection set last → n ≡ count_by (contains set) squares → m ≡ count_by (contains both) squares →
-      n + 3 * m ≡ length (filter (is_legal p) (moves_from from))
-  pawn_count n m last both a_pawn is_last is counted counted_both =
-      let same : total (λ s. bit (contains both s)) 0 64 ≡ total (λ s. bit (contains set s && promotes p.side kind s)) 0 64 =
-      total-agree (λ s. bit (contains both s)) (λ s. bit (contains set s && promotes p.side kind s)) 0 64 (λ s low high.
-      ap bit
-      (ap (λ x. contains x s) is ∙ contains-intersection nat_cmp_total set last s
-      ∙ ap (λ b. contains set s && b) (is_last s ∙ ap (λ l. l && rank_of s == last_rank p.side) (lt-ltb s 64 (omega arith))
-      ∙ sym (ap (λ b. b && rank_of s == last_rank p.side) a_pawn)))) in
-      omega (arith, counted_total set n counted, counted_total both m counted_both, from_count, same)
+  pub pawn_count : (n : ℕ) → is_pawn kind ≡ true → n ≡ pawn_moves_to p.side (contains set) → n ≡ length (filter (is_legal p) (moves_from from))
+  pawn_count n a_pawn counted =
+      let same : total (λ s. bit (contains set s && promotes p.side Pawn s)) 0 64 ≡ total (λ s. bit (contains set s && promotes p.side kind s)) 0 64 =
+      total-agree (λ s. bit (contains set s && promotes p.side Pawn s)) (λ s. bit (contains set s && promotes p.side kind s)) 0 64 (λ s low high.
+      ap (λ b. bit (contains set s && (b && rank_of s == last_rank p.side))) (sym a_pawn)) in
+      omega (arith, counted, size_total (contains set), size_total (λ s. contains set s && promotes p.side Pawn s), from_count, same)
 
 -- the moves from one square more
 pub count_split :

@@ -1,28 +1,18 @@
-ghost use Rattle.std.specs.Prelude.{◌≡◌, ◌<◌, ◌≤◌, ◌&&◌, ◌==◌, ℕ, true, filter, length, nat_lt};
+ghost use Rattle.std.specs.Prelude.{◌≡◌, ◌<◌, ◌≤◌, true, filter, length, nat_lt};
 ghost use Rattle.std.specs.FinSet.{contains};
-ghost use Rattle.chess_types.specs.board.Squares.{rank_of};
 ghost use Rattle.chess_types.specs.board.Men.{is_of};
 ghost use Rattle.chess_types.specs.board.Position.{man_on};
-ghost use Rattle.chess_types.specs.board.Pseudo.{last_rank};
 ghost use Rattle.chess_types.specs.board.Legal.{is_legal, legal_moves, moves_from};
 ghost use Rattle.chess_moves.specs.steps.Guarded.{IsGuard};
+ghost use Rattle.chess_moves.specs.steps.PawnCounts.{AreFree};
 
 use crate::guard::{CheckInfo, check_info};
 use crate::own::{own_kind, own_men};
+use crate::pawns::{count_pawns, pawn_moves_to};
 use crate::targets::targets;
+use chess_attack::leap_squares;
 use chess_play::Live;
-use chess_types::{Colour, Square, SquareSet};
-
-/// The squares of the rank on which the pawns of a colour are promoted (FIDE Laws 3.7.3.3).
-#[inline(always)]
-fn last_squares(side: Colour) -> SquareSet
-    ensures { (s : ℕ) → contains result s ≡ (nat_lt s 64 && rank_of s == last_rank side) }
-{
-    match side {
-        Colour::White => SquareSet::rank(7),
-        Colour::Black => SquareSet::rank(0),
-    }
-}
+use chess_types::{Kind, Square, SquareSet};
 
 /// How many legal moves start on a square on which a man of the side to move stands.
 #[inline(always)]
@@ -39,10 +29,25 @@ fn count_from(live: &mut Live, guard: &CheckInfo, from: Square) -> usize
     let side = live.position().side;
     let squares = targets(live, guard, kind, from);
     if kind.is_pawn() {
-        let last = squares.intersection(last_squares(side));
-        squares.len() + 3 * last.len()
+        pawn_moves_to(side, squares)
     } else {
         squares.len()
+    }
+}
+
+/// The pawns of the side to move that aren't pinned and take nothing en passant.
+#[inline(always)]
+fn free_pawns(live: &Live, guard: &CheckInfo) -> SquareSet
+    requires guard { IsGuard guard.now live.now.position }
+    ensures { AreFree live.now.position (contains result) }
+{
+    let setup = live.position();
+    let side = setup.side;
+    let pawns = setup.placement.of_kind(side, Kind::Pawn);
+    let loose = pawns.difference(guard.pinned);
+    match setup.target {
+        Some(target) => loose.difference(leap_squares(side.opponent(), Kind::Pawn, target)),
+        None => loose,
     }
 }
 
@@ -59,8 +64,12 @@ fn count_up_to(live: &mut Live, enough: usize) -> usize
 {
     let guard = check_info(live);
     let own = own_men(live);
-    let mut count = 0;
-    for from in own.iter() {
+    let free = free_pawns(live, &guard);
+    let mut count = count_pawns(live.position(), free, guard.check_mask);
+    if count >= enough {
+        return count;
+    }
+    for from in own.difference(free).iter() {
         count += count_from(live, &guard, from);
         if count >= enough {
             return count;

@@ -1,10 +1,8 @@
-use Rattle.std.proofs.Common.{◌≡◌, ◌==◌, ◌&&◌, ℕ, sym, subst, ◌∙◌, arith}
-use Rattle.std.specs.Prelude.{nat_lt}
+use Rattle.std.proofs.Common.{sym, ap, ◌∙◌, arith}
 use Rattle.std.specs.FinSet.{contains}
-use Rattle.chess_types.specs.board.Squares.{rank_of}
-use Rattle.chess_types.specs.board.Pseudo.{last_rank}
 use Rattle.chess_types.specs.board.Position.{PositionParts, man_on}
 use Rattle.chess_attack.proofs.Lifted.{OnlyKing, only_king}
+use Rattle.chess_moves.specs.steps.PawnCounts.{pawn_moves_to}
 use Rattle.chess_moves.proofs.SetCounts.{plain_count, pawn_count}
 use Rattle.chess_moves.proofs.counting.count_from.Goals as goal
 
@@ -16,9 +14,8 @@ returns-then-is_pawn-clause-count c =
     let king : OnlyKing (man_on p) p.side c.args.guard.now.king =
     only_king p.placement p.side c.args.guard.now.king (setup.kings p.side) c.requires.guard.on_board c.requires.guard.king in
     pawn_count p setup c.own_kind-kind.result c.args.from c.args.guard.now.king (omega arith) c.own_kind-kind.ensures king c.targets-squares.result c.targets-squares.ensures.is_legal_target
-    c.len.result c.len-then-is_pawn.result c.last_squares.result c.intersection-last.result (sym c.is_pawn.ensures ∙ c.if-is_pawn.true)
-    (subst (λ (q : PositionParts). (s : ℕ) → contains c.last_squares.result s ≡ (nat_lt s 64 && rank_of s == last_rank q.side)) same c.last_squares.ensures)
-    c.intersection-last.ensures c.len.ensures.counted c.len-then-is_pawn.ensures.counted
+    c.pawn_moves_to.result (sym c.is_pawn.ensures ∙ c.if-is_pawn.true)
+    (c.pawn_moves_to.ensures.value ∙ ap (λ (q : PositionParts). pawn_moves_to q.side (contains c.targets-squares.result)) same)
 
 pub returns-else-is_pawn-clause-count : goal.returns-else-is_pawn-clause-count
 returns-else-is_pawn-clause-count c =
@@ -27,4 +24,4 @@ returns-else-is_pawn-clause-count c =
     let king : OnlyKing (man_on p) p.side c.args.guard.now.king =
     only_king p.placement p.side c.args.guard.now.king (setup.kings p.side) c.requires.guard.on_board c.requires.guard.king in
     plain_count p setup c.own_kind-kind.result c.args.from c.args.guard.now.king (omega arith) c.own_kind-kind.ensures king c.targets-squares.result c.targets-squares.ensures.is_legal_target
-    c.len-else-is_pawn.result (sym c.is_pawn.ensures ∙ c.if-is_pawn.false) c.len-else-is_pawn.ensures.counted
+    c.len.result (sym c.is_pawn.ensures ∙ c.if-is_pawn.false) c.len.ensures.counted

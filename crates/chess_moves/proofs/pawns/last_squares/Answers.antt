@@ -1,7 +1,7 @@
 use Rattle.std.proofs.Common.{◌==◌, ◌&&◌, ltb, sym, ap, ◌∙◌}
 use Rattle.chess_types.specs.board.Squares.{rank_of}
 use Rattle.chess_types.specs.board.Pseudo.{last_rank}
-use Rattle.chess_moves.proofs.counting.last_squares.Goals as goal
+use Rattle.chess_moves.proofs.pawns.last_squares.Goals as goal
 
 pub returns-in-White : goal.returns-in-White
 returns-in-White c = λ s. c.rank.ensures s ∙ ap (λ side. ltb s 64 && (rank_of s == last_rank side)) (sym c.in-White.is)
