@@ -19,16 +19,16 @@ use Rattle.chess_types.proofs.MoveLemmas.{legal_pseudo}
 use Rattle.chess_types.specs.board.Board.{Men}
 use Rattle.chess_types.specs.board.Squares.{line_of, file_of, rank_of}
 use Rattle.chess_types.specs.board.Men.{opponent, same_colour, is_of, is_king_of, is_pawn, is_king, holds_pawn, kind_number}
-use Rattle.chess_types.specs.board.Attack.{distance, leaps, slides, slides_on, slides_to, attacks_as}
+use Rattle.chess_types.specs.board.Attack.{leaps, slides, slides_on, slides_to, attacks_as}
 use Rattle.chess_types.specs.steps.KeptSets.{Gathers, is_straight, is_diagonal, holds_straight, holds_diagonal}
 use Rattle.chess_types.specs.board.MoveParts.{MoveParts}
 use Rattle.chess_types.specs.board.Position.{PositionParts, man_on, cell_of}
 use Rattle.chess_types.specs.board.Legal.{is_legal}
+use Rattle.chess_attack.proofs.Flips.{equal_flip, leap_back, leap_flip}
 use Rattle.chess_attack.proofs.KingSteps.{clear_flip}
 use Rattle.chess_attack.proofs.Reached.{inserted, leaper_targets}
 use Rattle.chess_moves.specs.steps.Targets.{is_forward, attacks_from, is_candidate}
 use Rattle.chess_moves.proofs.Candidates.{pseudo_is, go_reach}
-use Rattle.chess_moves.proofs.LegalTargets.{flipped}
 use Rattle.chess_san.specs.declared.form.Course.{Course}
 use Rattle.chess_san.specs.declared.form.Form.TheVariants.{Castles, Piece, Plain}
 use Rattle.chess_san.specs.Naming.{is_kind, fits, names}
@@ -40,30 +40,12 @@ use Rattle.chess_san.proofs.SameLemmas.{mover, kind_is, followed}
 pub within : (s : ℕ) (b : Bool) → s < 64 → (nat_lt s 64 && b) ≡ b
 within s b h = let low : nat_lt s 64 ≡ true = grind (arith, nat_tests) in rw low refl
 
-gap_flip : (m n : ℕ) → distance m n ≡ distance n m
-gap_flip m n = omega arith
-
--- a leap goes both ways; a pawn's is the way back of the other colour's pawn
-leap_flip : (c : Colour) (kind : Kind) (a b : ℕ) → is_pawn kind ≡ false → leaps c kind a b ≡ leaps c kind b a
-unfolding leaps
-leap_flip c Pawn a b h = absurd (true≢false h)
-leap_flip c Knight a b h = rw (gap_flip (file_of a) (file_of b), gap_flip (rank_of a) (rank_of b)) refl
-leap_flip c King a b h = rw (gap_flip (file_of a) (file_of b), gap_flip (rank_of a) (rank_of b), flipped a b) refl
-leap_flip c Bishop a b h = refl
-leap_flip c Rook a b h = refl
-leap_flip c Queen a b h = refl
-
-pawn_flip : (c : Colour) (a b : ℕ) → leaps c Pawn a b ≡ leaps (opponent c) Pawn b a
-unfolding leaps
-pawn_flip White a b = rw (gap_flip (file_of a) (file_of b)) refl
-pawn_flip Black a b = rw (gap_flip (file_of a) (file_of b)) refl
-
 on_flip : (kind : Kind) (axis : Axis) (a b : ℕ) → slides_on kind axis a b ≡ slides_on kind axis b a
-on_flip k axis a b = ap (λ (x : Bool). slides k axis && x) (flipped (line_of axis a) (line_of axis b))
+on_flip k axis a b = ap (λ (x : Bool). slides k axis && x) (equal_flip (line_of axis a) (line_of axis b))
 
 slide_flip : (kind : Kind) (a b : ℕ) → slides_to kind a b ≡ slides_to kind b a
 unfolding slides_to
-slide_flip k a b = rw (on_flip k Rank a b, on_flip k File a b, on_flip k Rising a b, on_flip k Falling a b, flipped a b) refl
+slide_flip k a b = rw (on_flip k Rank a b, on_flip k File a b, on_flip k Rising a b, on_flip k Falling a b, equal_flip a b) refl
 
 attack_flip : (man : Man) (man_on : Men) (a b : ℕ) → is_pawn man.kind ≡ false → attacks_as man man_on a b ≡ attacks_as man man_on b a
 unfolding attacks_as
@@ -116,7 +98,7 @@ pawn_reach : (p : PositionParts) (a b : ℕ) → is_candidate p Pawn a b ≡ tru
 unfolding is_candidate
 pawn_reach p a b h =
     let leap : leaps (opponent p.side) Pawn b a ≡ attacks_from p Pawn a b =
-    sym (pawn_flip p.side a b) ∙ leaper_targets (record { colour = p.side; kind = Pawn }) (man_on p) a b (inl refl) in
+    leap_back p.side Pawn a b ∙ leaper_targets (record { colour = p.side; kind = Pawn }) (man_on p) a b (inl refl) in
     ap (λ (x : Bool). x || is_forward p.side 8 a b || is_forward p.side 16 a b) leap ∙ h
 
 -- a pawn begins diagonally behind, or one or two squares behind
