@@ -2,7 +2,6 @@
 -- of it.
 pub mod RepetitionKeyLemmas
 pub mod SetLemmas
-pub mod SettleLemmas
 pub mod DeadLemmas
 pub mod TargetLemmas
 pub mod SameLemmas

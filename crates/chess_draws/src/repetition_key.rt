@@ -1,7 +1,6 @@
-ghost use Rattle.std.specs.Prelude.{◌≡◌, Option};
-ghost use Rattle.chess_types.specs.board.Position.{PositionParts, man_on};
+ghost use Rattle.std.specs.Prelude.{◌≡◌};
 ghost use Rattle.chess_types.specs.board.Repetition.{counting_target, same_rights, same_target};
-ghost use Rattle.chess_draws.specs.steps.RepetitionKeys.{IsKeyOf, Settles, same_ply};
+ghost use Rattle.chess_draws.specs.steps.RepetitionKeys.{IsKeyOf, same_ply};
 
 use crate::men::MenSets;
 use crate::ply::Ply;
@@ -36,6 +35,7 @@ fn same_target(some: Option<Square>, other: Option<Square>) -> bool
 
 impl RepetitionKey {
     /// That of the position, whose target counts or doesn't.
+    #[inline(always)]
     pub(crate) fn of(live: &Live, target: Option<Square>) -> RepetitionKey
         requires { target ≡ counting_target live.now.position }
         ensures { IsKeyOf result live.now.position }
@@ -43,21 +43,6 @@ impl RepetitionKey {
         let setup = live.position();
         RepetitionKey {
             men: MenSets::of(&setup.placement),
-            side: setup.side,
-            rights: setup.rights,
-            target,
-        }
-    }
-
-    /// That of the position to which a move to that square has led.
-    #[inline(always)]
-    pub(crate) fn moved(&self, live: &Live, to: Square, target: Option<Square>) -> RepetitionKey
-        requires { target ≡ counting_target live.now.position }
-        ensures { (before : PositionParts) → IsKeyOf self.now before → Settles to (man_on before) (man_on live.now.position) → IsKeyOf result live.now.position }
-    {
-        let setup = live.position();
-        RepetitionKey {
-            men: self.men.moved(&setup.placement, to),
             side: setup.side,
             rights: setup.rights,
             target,

@@ -34,7 +34,7 @@ pub(crate) fn step(live: &mut Live, here: &mut RepetitionKey, m: Move) -> Ply
         target: here.target,
         past,
     };
-    *here = here.moved(live, m.to, target);
+    *here = RepetitionKey::of(live, target);
     ply
 }
 

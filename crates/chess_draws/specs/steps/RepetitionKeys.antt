@@ -1,15 +1,11 @@
 -- What is kept of a position to compare it with others.
 --   holds_straight_or_king   a man stands there that is kept among those that go along ranks and files
 --   holds_short     one that is kept with the pawns; the kings are in both
---   holds_pawn_or_knight   a pawn or a knight stands there
---   Settles         what a move may change elsewhere than on its target
 --   IsMenOf         the sets of squares are those of what stands on a board
 --   IsKeyOf       what is kept is that of a position
 --   same_ply        it agrees with what is kept of the position before a ply
-use Rattle.std.specs.Prelude.{ℕ, ◌≡◌, ◌≢◌, ◌⊎◌, Bool, true, false, ◌&&◌, ◌||◌, Option, Some, None}
+use Rattle.std.specs.Prelude.{◌≡◌, Bool, false, ◌&&◌, ◌||◌, Option, Some, None}
 use Rattle.chess_types.specs.declared.board.man.Man.{Man}
-use Rattle.chess_types.specs.declared.board.man.Kind.{Kind}
-use Rattle.chess_types.specs.declared.board.man.Kind.TheVariants.{Pawn, Knight}
 use Rattle.chess_types.specs.declared.board.man.Colour.TheVariants.{White, Black}
 use Rattle.chess_types.specs.board.Board.{Men}
 use Rattle.chess_types.specs.board.Men.{same_colour, is_of, is_pawn, is_king}
@@ -30,21 +26,6 @@ holds_straight_or_king (Some man) = is_straight man.kind || is_king man.kind
 abbrev pub holds_short : Option Man → Bool
 holds_short None = false
 holds_short (Some man) = is_pawn man.kind || is_king man.kind
-
--- a pawn or a knight
-abbrev pub is_pawn_or_knight : Kind → Bool
-is_pawn_or_knight Pawn = true
-is_pawn_or_knight Knight = true
-is_pawn_or_knight _ = false
-
--- a pawn or a knight stands there
-abbrev pub holds_pawn_or_knight : Option Man → Bool
-holds_pawn_or_knight None = false
-holds_pawn_or_knight (Some man) = is_pawn_or_knight man.kind
-
--- each other square than the move's target is as before, or no pawn and no knight stands there any more
-abbrev pub Settles : ℕ → Men → Men → Type 0
-Settles to before after = (s : ℕ) → s ≢ to → (after s ≡ before s) ⊎ (holds_pawn_or_knight (after s) ≡ false)
 
 -- the five sets are those of the board
 pub record IsMenOf (men : MenSets) (man_on : Men) : Type 0 where
