@@ -10,7 +10,7 @@ use Rattle.chess_items.specs.steps.Deciding.{Decides}
 use Rattle.chess_items.specs.steps.ItemAt.{item_at}
 use Rattle.chess_items.specs.steps.Skipping.{BeginsHidden, HidesLine, SkippedWhite, TakesWhite}
 use Rattle.chess_items.specs.steps.Taking.{AfterStop, Steps}
-use Rattle.chess_items.specs.steps.Texts.{BreaksAt, BreaksOff, Keeps, Oversized, Refills}
+use Rattle.chess_items.specs.steps.Texts.{BreaksAt, BreaksOff, Keeps, Oversized, Refills, size}
 use Rattle.chess_items.specs.declared.at_hand.Fault.{Fault}
 use Rattle.chess_items.specs.declared.at_hand.Fault.TheVariants.{Memory, Read}
 use Rattle.chess_items.specs.declared.fault.PgnFault.{PgnFault}
@@ -56,7 +56,7 @@ long_white place input item rest o found hidden = by item (item_taken place inpu
     by items.Hidden text e parts is = (let s = subst (λ (k : Item). IsItem place k text rest) (sym e) is in absurd (hidden s.stands (s.spelled.0 ++ rest) (parts ∙ ap (λ (x : List ℕ). x ++ rest) s.spelled.1)))
     by _ text e parts is = refl
 
-module _ {X : Type 0} (comes : X → List ℕ → X → Type 0) (at_hand : X → List ℕ) (all sound : X → Type 0) (size : X → ℕ) where
+module _ {X : Type 0} (comes : X → List ℕ → X → Type 0) (at_hand : X → List ℕ) (all sound : X → Type 0) (reads : X → ℕ) where
   abbrev takes : {T : Type 0} → T → ℕ → Item → Result Taken PgnFault → T → Type 0
   takes old at item result new = TakesWhite item result
 
@@ -69,7 +69,7 @@ module _ {X : Type 0} (comes : X → List ℕ → X → Type 0) (at_hand : X →
     pub line : List ℕ
     pub used : at_hand old ++ joined pieces ≡ line ++ at_hand now
     pub each : Each in_line line
-    pub smaller : size now + length line ≤ size old
+    pub smaller : size at_hand reads now + length line ≤ size at_hand reads old
     pub still : all old → (joined pieces ≡ []) × all now
     pub sound_still : sound now
 
@@ -78,7 +78,7 @@ module _ {X : Type 0} (comes : X → List ℕ → X → Type 0) (at_hand : X →
 
   module _ (old now : X) (h : Hiding old now) where
     -- the bytes at hand that are of the line are used
-    module _ (hand two : List ℕ) (e : hand ≡ at_hand now) (f : two ≡ at_hand now) (n : ℕ) (run : n ≡ prefix_len in_line hand) (new : X) (k : Keeps comes at_hand all sound size (length two - n) now new) where
+    module _ (hand two : List ℕ) (e : hand ≡ at_hand now) (f : two ≡ at_hand now) (n : ℕ) (run : n ≡ prefix_len in_line hand) (new : X) (k : Keeps comes at_hand all sound reads (length two - n) now new) where
       abbrev text : List ℕ
       text = take n hand
 
@@ -100,7 +100,7 @@ module _ {X : Type 0} (comes : X → List ℕ → X → Type 0) (at_hand : X →
       pub left_len : length (at_hand new) ≡ length two - n
       left_len = ap length left_now ∙ rest_len
 
-      pub now_smaller : size new ≤ size now
+      pub now_smaller : size at_hand reads new ≤ size at_hand reads now
       now_smaller = (let p = ap length parts ∙ length-append text rest in let r = rest_len in omega (arith, p, r, k.smaller))
 
       pub hiding_on : Hiding old new
@@ -128,7 +128,7 @@ module _ {X : Type 0} (comes : X → List ℕ → X → Type 0) (at_hand : X →
       absurd (let wrong : EndsRun in_line (37 ∷ (r ++ more)) = subst (λ (x : List ℕ). EndsRun in_line x) starts stops in cc)
 
   -- another byte comes after the line
-  pub hides_at : (old new : X) (r : List ℕ) → at_hand old ≡ 37 ∷ r → Hiding old new → EndsRun in_line (at_hand new) → 0 < length (at_hand new) → HidesLine comes at_hand all sound size old new
+  pub hides_at : (old new : X) (r : List ℕ) → at_hand old ≡ 37 ∷ r → Hiding old new → EndsRun in_line (at_hand new) → 0 < length (at_hand new) → HidesLine comes at_hand all sound reads old new
   hides_at old new r begins h stops some = record {
     pieces = h.pieces;
     came = h.came;
@@ -143,7 +143,7 @@ module _ {X : Type 0} (comes : X → List ℕ → X → Type 0) (at_hand : X →
   }
 
   -- all bytes at hand were of it, and more come, or none do
-  module _ (old now new : X) (h : Hiding old now) (none : at_hand now ≡ []) (r : Refills comes at_hand all sound size now new (Ok true)) where
+  module _ (old now new : X) (h : Hiding old now) (none : at_hand now ≡ []) (r : Refills comes at_hand all sound reads now new (Ok true)) where
     pub hiding_more : Hiding old new
     hiding_more = record {
       pieces = h.pieces ++ r.more ∷ [];
@@ -158,10 +158,10 @@ module _ {X : Type 0} (comes : X → List ℕ → X → Type 0) (at_hand : X →
       sound_still = r.after.1;
     }
 
-    pub hiding_falls : size new + 1 ≤ size now
+    pub hiding_falls : size at_hand reads new + 1 ≤ size at_hand reads now
     hiding_falls = r.after.2
 
-  pub hides_all : (old now new : X) (r : List ℕ) → at_hand old ≡ 37 ∷ r → Hiding old now → at_hand now ≡ [] → Refills comes at_hand all sound size now new (Ok false) → HidesLine comes at_hand all sound size old new
+  pub hides_all : (old now new : X) (r : List ℕ) → at_hand old ≡ 37 ∷ r → Hiding old now → at_hand now ≡ [] → Refills comes at_hand all sound reads now new (Ok false) → HidesLine comes at_hand all sound reads old new
   hides_all old now new r begins h none f =
       let same : at_hand old ++ joined (h.pieces ++ f.more ∷ []) ≡ h.line ++ at_hand new =
       ap (λ (x : List ℕ). at_hand old ++ x) (joined-more comes h.pieces f.more ∙ ap (λ (x : List ℕ). joined h.pieces ++ x) f.after.1 ∙ append-nil (joined h.pieces)) ∙ h.used ∙ ap (λ (x : List ℕ). h.line ++ x) (none ∙ sym f.after.0) in
@@ -200,11 +200,11 @@ module _ {X : Type 0} (comes : X → List ℕ → X → Type 0) (at_hand : X →
   pub skipping_broken : (breaks : X → X → Type 0) (place : Place) (old : X) (here : Place) (now new : X) (fault : Fault) → Skipping place old here now → BreaksOff comes breaks all now new fault → BreaksOff comes breaks all old new fault
   skipping_broken breaks place old here now new fault s b = breaks_later comes breaks all old now new s.pieces s.came (λ e. (s.still e).1) fault b
 
-  pub skipping_stopped : (breaks : X → X → Type 0) (place : Place) (old : X) (here : Place) (now new : X) (fault : Fault) → Skipping place old here now → BreaksAt comes at_hand breaks all sound here now new fault → BreaksOff comes breaks all old new fault
+  pub skipping_stopped : (breaks : X → X → Type 0) (place : Place) (old : X) (here : Place) (now new : X) (fault : Fault) → Skipping place old here now → BreaksAt comes at_hand breaks all sound reads 3 here now new fault → BreaksOff comes breaks all old new fault
   skipping_stopped breaks place old here now new fault s b = skipping_broken breaks place old here now new fault s (off fault b)
     where
-      off : (fault : Fault) → BreaksAt comes at_hand breaks all sound here now new fault → BreaksOff comes breaks all now new fault
-      off Memory b = b
+      off : (fault : Fault) → BreaksAt comes at_hand breaks all sound reads 3 here now new fault → BreaksOff comes breaks all now new fault
+      off Memory b = (b.not_yet, b.pieces, b.came)
       off Read b = (b.not_yet, b.pieces, b.mid, b.came, b.breaks_off, b.not_all)
 
   module _ (place : Place) (old : X) (here : Place) (now : X) (s : Skipping place old here now) (ps : List (List ℕ)) (new : X) (came : Calls comes now ps new) (still : all now → (joined ps ≡ []) × all new) (so : sound new) where
@@ -252,18 +252,18 @@ module _ {X : Type 0} (comes : X → List ℕ → X → Type 0) (at_hand : X →
       sound_still = so;
     }
 
-  pub skipping_on : {T : Type 0} (place : Place) (old : X) (here next : Place) (now new : X) (used : ℕ) (white : Bool) (t u : T) → Skipping place old here now → Steps comes at_hand all sound size takes 0 3 here now new t u (Ok (step.On next used white)) → Skipping place old next new
+  pub skipping_on : {T : Type 0} (place : Place) (old : X) (here next : Place) (now new : X) (used : ℕ) (white : Bool) (t u : T) → Skipping place old here now → Steps comes at_hand all sound reads takes 0 3 here now new t u (Ok (step.On next used white)) → Skipping place old next new
   skipping_on place old here next now new used white t u s k =
       let one = k.after.1 in skipping_item place old here now s k.pieces new k.came one.at_end one.sound_still k.after.0 k.after.2 one.found next k.after.3
 
-  pub skipping_falls : {T : Type 0} (here next : Place) (now new : X) (used : ℕ) (white : Bool) (t u : T) → Steps comes at_hand all sound size takes 0 3 here now new t u (Ok (step.On next used white)) → size new + 1 ≤ size now
+  pub skipping_falls : {T : Type 0} (here next : Place) (now new : X) (used : ℕ) (white : Bool) (t u : T) → Steps comes at_hand all sound reads takes 0 3 here now new t u (Ok (step.On next used white)) → size at_hand reads new + 1 ≤ size at_hand reads now
   skipping_falls here next now new used white t u k = (let one = k.after.1 in one.smaller)
 
-  pub skipping_full : {T : Type 0} (here next : Place) (now new : X) (used : ℕ) (white : Bool) (t u : T) → Steps comes at_hand all sound size takes 0 3 here now new t u (Ok (step.Full next used white)) → ⊥
+  pub skipping_full : {T : Type 0} (here next : Place) (now new : X) (used : ℕ) (white : Bool) (t u : T) → Steps comes at_hand all sound reads takes 0 3 here now new t u (Ok (step.Full next used white)) → ⊥
   skipping_full here next now new used white t u k = k.after.2
 
   -- a hidden line more
-  pub skipping_line : (place : Place) (old : X) (here : Place) (now new : X) (next : Place) → Skipping place old here now → BeginsHidden here (at_hand now) true → HidesLine comes at_hand all sound size now new → next ≡ place_after here items.Hidden → Skipping place old next new
+  pub skipping_line : (place : Place) (old : X) (here : Place) (now new : X) (next : Place) → Skipping place old here now → BeginsHidden here (at_hand now) true → HidesLine comes at_hand all sound reads now new → next ≡ place_after here items.Hidden → Skipping place old next new
   skipping_line place old here now new next s b h e = skipping_item place old here now s h.pieces new h.came h.still h.sound_still items.Hidden refl found next e
     where
       tail : (x : ℕ) (xs ys : List ℕ) (a : ℕ) (zs : List ℕ) → x ∷ xs ≡ a ∷ zs → a ≡ x
@@ -293,18 +293,18 @@ module _ {X : Type 0} (comes : X → List ℕ → X → Type 0) (at_hand : X →
 
   -- ---- what comes after them
 
-  module _ {T : Type 0} (place : Place) (old : X) (here : Place) (now new : X) (why : Stop) (t u : T) (k : Steps comes at_hand all sound size takes 0 3 here now new t u (Ok (step.Stops why))) where
+  module _ {T : Type 0} (place : Place) (old : X) (here : Place) (now new : X) (why : Stop) (t u : T) (k : Steps comes at_hand all sound reads takes 0 3 here now new t u (Ok (step.Stops why))) where
     pub skipping_stops : Skipping place old here now → Skipping place old here new
     skipping_stops s = (let r = k.after.0 in skipping_rests place old here now s k.pieces new k.came r.at_end r.sound_still r.longer)
 
     pub sound_there : sound new
     sound_there = (let r = k.after.0 in r.sound_still)
 
-    pub no_larger_there : size new ≤ size now
+    pub no_larger_there : size at_hand reads new ≤ size at_hand reads now
     no_larger_there = k.after.3
 
     -- what comes next isn't white, where it is no hidden line
-    not_white : (why : Stop) → AfterStop comes at_hand all sound size takes 0 3 here now new t u why → BeginsHidden here (at_hand new) false → (more : List ℕ) → (all new → more ≡ []) → (item : Item) (rest : List ℕ) → item_at here (at_hand new ++ more) ≡ the item rest → is_white item ≡ false
+    not_white : (why : Stop) → AfterStop comes at_hand all sound reads takes 0 3 here now new t u why → BeginsHidden here (at_hand new) false → (more : List ℕ) → (all new → more ≡ []) → (item : Item) (rest : List ℕ) → item_at here (at_hand new ++ more) ≡ the item rest → is_white item ≡ false
     not_white stop.Full a b more none item rest found = absurd a
     not_white (stop.Refused fault) a b more none item rest found = absurd a.2
     not_white stop.Left a b more none item rest found =
@@ -332,7 +332,7 @@ module _ {X : Type 0} (comes : X → List ℕ → X → Type 0) (at_hand : X →
             head a b xs ys e = cc
 
     -- nothing is at hand at the end alone
-    ended_there : (why : Stop) → AfterStop comes at_hand all sound size takes 0 3 here now new t u why → at_hand new ≡ [] → all new
+    ended_there : (why : Stop) → AfterStop comes at_hand all sound reads takes 0 3 here now new t u why → at_hand new ≡ [] → all new
     ended_there stop.Full a e = absurd a
     ended_there (stop.Refused fault) a e = absurd a.2
     ended_there stop.Left a e =

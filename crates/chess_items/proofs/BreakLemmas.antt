@@ -1,5 +1,5 @@
 -- Reads that went well, one after another, and the one that didn't.
-use Rattle.std.proofs.Common.{◌≡◌, ◌<◌, ℕ, ◌+◌, ◌*◌, inl, inr, Bool, true, false, List, [], ◌∷◌, ◌++◌, length, refl, sym, ap, subst, ◌∙◌, arith, append-nil, length-append, Ok, Err}
+use Rattle.std.proofs.Common.{◌≡◌, ◌<◌, ◌≤◌, ℕ, ◌+◌, ◌*◌, inl, inr, Bool, true, false, List, [], ◌∷◌, ◌++◌, length, refl, sym, ap, subst, ◌∙◌, arith, append-nil, length-append, Ok, Err}
 use Rattle.std.specs.List.{AllByRecursion}
 use Rattle.std.proofs.lemmas.Bool.{false≢true}
 use Rattle.std.specs.Prelude.{Result}
@@ -8,7 +8,7 @@ use Rattle.byte_streams.proofs.CallLemmas.{Calls-append, joined-append}
 use Rattle.chess_items.specs.Coming.{AtHand, Breaks, Came, unread}
 use Rattle.chess_items.specs.steps.AtHands.{Reads, Tries}
 use Rattle.chess_items.specs.steps.Deciding.{Decides}
-use Rattle.chess_items.specs.steps.Texts.{BreaksAt, BreaksOff}
+use Rattle.chess_items.specs.steps.Texts.{BreaksAt, BreaksOff, Needs}
 use Rattle.chess_items.specs.declared.place.Place.{Place}
 use Rattle.chess_items.specs.declared.at_hand.Fault.{Fault}
 use Rattle.chess_items.specs.declared.at_hand.Fault.TheVariants.{Memory, Read}
@@ -37,8 +37,8 @@ module _ {R : Type 0} (gives : R → List ℕ → R → Type 0) (failed : R → 
   abbrev pub ends_truly : (R → Type 0) → AtHand R → Type 0
   ends_truly ended s = s.has_ended ≡ true → ended s.source
 
-  abbrev pub size_at_hand : AtHand R → ℕ
-  size_at_hand s = s.reads * 65537 + length (unread s)
+  abbrev pub reads_left : AtHand R → ℕ
+  reads_left s = s.reads
 
   -- no read was made
   pub came_none : (s t : AtHand R) → t.source ≡ s.source → t.reads ≡ s.reads → t.has_ended ≡ s.has_ended → t.used + length (unread t) ≡ s.used + length (unread s) → Came gives failed s [] t
@@ -71,14 +71,25 @@ module _ {R : Type 0} (gives : R → List ℕ → R → Type 0) (failed : R → 
   all_came s t [] c = came_none s t (ap (λ (x : AtHand R). x.source) (sym c)) (ap (λ (x : AtHand R). x.reads) (sym c)) (ap (λ (x : AtHand R). x.has_ended) (sym c)) (ap (λ (x : AtHand R). x.used + length (unread x)) (sym c))
   all_came s t (p ∷ ps) c = came_append s c.0 t p (joined ps) c.1 (all_came c.0 t ps c.2)
 
+-- one read more
+pub read_came : {R : Type 0} {gives : R → List ℕ → R → Type 0} {failed : R → Bool} {now : AtHand R} (goes : now.has_ended ≡ false) (ended : R → Type 0) (new : AtHand R) (r : Reads gives ended failed now new (Ok tt)) → Came gives failed now r.piece new
+read_came goes ended new r = record {
+  pieces = r.piece ∷ [];
+  calls = (new.source, r.call, refl);
+  whole = append-nil r.piece;
+  counted = r.counted;
+  small = r.small;
+  placed = r.placed;
+  well = r.after.3;
+  each = λ e. (r.after.4 e, tt);
+  ended_still = λ e. absurd (false≢true (sym goes ∙ e));
+}
+
 pub err_is : (a b : Fault) → ◌≡◌ {A = Result (Unit {0}) Fault} (Err a) (Err b) → a ≡ b
 err_is a b e = cc
 
 -- these bytes came, and the source has not ended
 module _ {R : Type 0} {gives : R → List ℕ → R → Type 0} {failed : R → Bool} {old now : AtHand R} {bytes : List ℕ} (came : Came gives failed old bytes now) (goes : now.has_ended ≡ false) where
-  abbrev Off : AtHand R → Fault → Type 0
-  Off new fault = BreaksOff (brings gives failed) (breaking gives failed) (has_all gives failed) old new fault
-
   not_all : now.has_ended ≡ true → ⊥
   not_all e = false≢true (sym goes ∙ e)
 
@@ -87,25 +98,24 @@ module _ {R : Type 0} {gives : R → List ℕ → R → Type 0} {failed : R → 
 
   -- there may be no more reads
   many : (new : AtHand R) → new ≡ now → now.reads ≡ 0 → Breaks gives failed now new
-  many new same none = inr (ap (λ (x : AtHand R). x.source) same, none)
-
-  -- no buffer could be made
-  off_poor : (new : AtHand R) → new ≡ now → Off new Memory
-  off_poor new same = (not_ended, bytes ∷ [], (now, came, sym same))
+  many new same none = (inr (ap (λ (x : AtHand R). x.source) same, none), ap (λ (x : AtHand R). unread x) same, ap (λ (x : AtHand R). x.used) same)
 
   fails : (ended : R → Type 0) (new : AtHand R) → Reads gives ended failed now new (Err Read) → Breaks gives failed now new
-  fails ended new r = inl (subst (λ (p : List ℕ). gives now.source p new.source) r.after.1 r.call, r.after.0)
+  fails ended new r = (
+    inl (subst (λ (p : List ℕ). gives now.source p new.source) r.after.1 r.call, r.after.0),
+    r.after.2,
+    (let n = ap length r.after.1 in let k = ap length r.after.2 in omega (arith, n, k, r.placed)),
+  )
 
-  off_read : (ended : R → Type 0) (new : AtHand R) → Reads gives ended failed now new (Err Memory) → Off new Memory
-  off_read ended new r = (not_ended, bytes ∷ r.piece ∷ [], (now, came, (new, one, refl)))
-    where
-      one : Came gives failed now r.piece new
-      one = record { pieces = r.piece ∷ []; calls = (new.source, r.call, refl); whole = append-nil r.piece; counted = r.counted; small = r.small; placed = r.placed; well = r.after.0; each = λ e. (r.after.1, tt); ended_still = λ e. absurd (not_all e) }
+  -- a read for whose bytes there was no memory
+  lost : (ended : R → Type 0) (new : AtHand R) (r : Reads gives ended failed now new (Err Memory)) → Came gives failed now r.piece new
+  lost ended new r = record { pieces = r.piece ∷ []; calls = (new.source, r.call, refl); whole = append-nil r.piece; counted = r.counted; small = r.small; placed = r.placed; well = r.after.0; each = λ e. (r.after.1, tt); ended_still = λ e. absurd (not_all e) }
 
-  -- the bytes at hand don't decide the item that they begin with
-  module _ (ended : R → Type 0) (place : Place) (longer : unread now ≡ unread old ++ bytes) (undecided : Decides place (unread now) → ⊥) where
+  -- the bytes at hand don't decide the item that they begin with, and are no more than may be
+  module _ (ended : R → Type 0) (most : ℕ) (place : Place) (longer : unread now ≡ unread old ++ bytes) (undecided : Decides place (unread now) → ⊥) (few : length (unread now) ≤ most)
+      (asked : Needs (brings gives failed) unread (has_all gives failed) (reads_left gives failed) most place old bytes now) where
     abbrev At : AtHand R → Fault → Type 0
-    At new fault = BreaksAt (brings gives failed) unread (breaking gives failed) (has_all gives failed) (ends_truly gives failed ended) place old new fault
+    At new fault = BreaksAt (brings gives failed) unread (breaking gives failed) (has_all gives failed) (ends_truly gives failed ended) (reads_left gives failed) most place old new fault
 
     broke : (new : AtHand R) → Breaks gives failed now new → At new Read
     broke new b = record {
@@ -114,10 +124,45 @@ module _ {R : Type 0} {gives : R → List ℕ → R → Type 0} {failed : R → 
       came = (now, came, refl);
       longer = longer ∙ ap (λ (x : List ℕ). unread old ++ x) (sym (append-nil bytes));
       undecided = undecided;
+      few = few;
       not_yet = not_ended;
       not_all = not_all;
       sound_still = λ e. absurd (not_all e);
       breaks_off = b;
+    }
+
+    -- no buffer could be made
+    poor : (new : AtHand R) → new ≡ now → At new Memory
+    poor new same = record {
+      pieces = bytes ∷ [];
+      came = (now, came, sym same);
+      asked = subst (λ (x : AtHand R). Needs (brings gives failed) unread (has_all gives failed) (reads_left gives failed) most place old (bytes ++ []) x) (sym same)
+          (subst (λ (x : List ℕ). Needs (brings gives failed) unread (has_all gives failed) (reads_left gives failed) most place old x now) (sym (append-nil bytes)) asked);
+      not_yet = not_ended;
+    }
+
+    whole : unread old ++ (bytes ++ []) ≡ unread now
+    whole = ap (λ (x : List ℕ). unread old ++ x) (append-nil bytes) ∙ sym longer
+
+    short : (new : AtHand R) → Reads gives ended failed now new (Err Memory) → At new Memory
+    short new r = record {
+      pieces = bytes ∷ r.piece ∷ [];
+      came = (now, came, (new, lost ended new r, refl));
+      asked = inr (record {
+        came = record {
+          earlier = bytes ∷ [];
+          before = now;
+          first = (now, came, refl);
+          last = r.piece ∷ [];
+          brought = (new, lost ended new r, refl);
+          once = r.counted;
+          parts = ap (λ (x : List ℕ). x ++ (r.piece ++ [])) (sym (append-nil bytes));
+        };
+        few = subst (λ (x : List ℕ). length x ≤ most) (sym whole) few;
+        undecided = subst (λ (x : List ℕ). Decides place x → ⊥) (sym whole) undecided;
+        not_yet = not_ended;
+      });
+      not_yet = not_ended;
     }
 
     pub at_many : now.reads ≡ 0 → At now Read
@@ -126,8 +171,8 @@ module _ {R : Type 0} {gives : R → List ℕ → R → Type 0} {failed : R → 
     pub at_fault : (new : AtHand R) (e : Fault) → Tries gives ended failed now new (Err e) → At new e
     at_fault new Read (inl p) = (let wrong : Read ≡ Memory = err_is Read Memory p.0 in cc)
     at_fault new Read (inr r) = broke new (fails ended new r)
-    at_fault new Memory (inl p) = off_poor new p.1
-    at_fault new Memory (inr r) = off_read ended new r
+    at_fault new Memory (inl p) = poor new p.1
+    at_fault new Memory (inr r) = short new r
 
 -- a read that went well
 pub has_read : {R : Type 0} (gives : R → List ℕ → R → Type 0) (ended : R → Type 0) (failed : R → Bool) (now new : AtHand R) → Tries gives ended failed now new (Ok tt) → Reads gives ended failed now new (Ok tt)

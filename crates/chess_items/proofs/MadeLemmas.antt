@@ -3,11 +3,11 @@ use Rattle.std.proofs.Common.{◌≡◌, ◌⊎◌, ℕ, ◌+◌, ◌≤◌, inl
 use Rattle.byte_streams.specs.Calls.{joined}
 use Rattle.chess_items.specs.steps.Deciding.{Decides}
 use Rattle.chess_items.specs.Coming.{AtHand, unread}
-use Rattle.chess_items.specs.steps.AtHands.{Brought, Needed, HasRead, Readied}
-use Rattle.chess_items.specs.steps.Texts.{Near, Needs, AfterCame, MadeReady}
+use Rattle.chess_items.specs.steps.AtHands.{Needed, HasRead, Readied}
+use Rattle.chess_items.specs.steps.Texts.{Near, AfterCame, MadeReady, size}
 use Rattle.chess_items.specs.declared.at_hand.Fault.{Fault}
 use Rattle.chess_items.specs.declared.place.Place.{Place}
-use Rattle.chess_items.proofs.BreakLemmas.{brings, ends_truly, has_all, size_at_hand}
+use Rattle.chess_items.proofs.BreakLemmas.{brings, ends_truly, has_all, reads_left}
 use Rattle.chess_items.proofs.ReadLemmas.{joined_small}
 use Rattle.chess_items.proofs.ReadyLemmas.{so_far}
 
@@ -21,19 +21,6 @@ near_of most place prefix (p ∷ pieces) n =
     near_on place prefix p (prefix ++ (p ++ joined pieces)) n.2 n.0
     (subst (λ (x : List ℕ). Near place (prefix ++ p) x) (append_assoc prefix p (joined pieces)) (near_of most place (prefix ++ p) pieces n.3))
 
--- the last of the pieces, and those before it
-abbrev LastOf : Place → List ℕ → List (List ℕ) → Type 0
-LastOf place prefix pieces =
-    (earlier : List ℕ) × (piece : List ℕ) × (joined pieces ≡ earlier ++ piece) × (length piece ≤ 65536) × (Decides place (prefix ++ earlier) → ⊥) × (pieces ≡ [] → ⊥)
-
-last_of : (most : ℕ) (place : Place) (prefix : List ℕ) (pieces : List (List ℕ)) → Needed most place prefix pieces → (pieces ≡ []) ⊎ LastOf place prefix pieces
-last_of most place prefix [] n = inl refl
-last_of most place prefix (p ∷ pieces) n = inr (on (last_of most place (prefix ++ p) pieces n.3))
-  where
-    on : (pieces ≡ []) ⊎ LastOf place (prefix ++ p) pieces → LastOf place prefix (p ∷ pieces)
-    on (inl e) = ([], p, ap (λ (x : List (List ℕ)). p ++ joined x) e ∙ append-nil p, n.2, subst (λ (x : List ℕ). Decides place x → ⊥) (sym (append-nil prefix)) n.0, λ h. cc)
-    on (inr h) = (p ++ h.0, h.1, ap (λ (x : List ℕ). p ++ x) h.2 ∙ sym (append_assoc p h.0 h.1), h.3, subst (λ (x : List ℕ). Decides place x → ⊥) (append_assoc prefix p h.0) h.4, λ e. cc)
-
 -- What is held stays below the most that is asked for, and one piece.
 held_of : (most : ℕ) (place : Place) (prefix : List ℕ) (pieces : List (List ℕ)) → Needed most place prefix pieces → length prefix ≤ most + 65536 → length (prefix ++ joined pieces) ≤ most + 65536
 held_of most place prefix [] n few = rw (append-nil prefix) few
@@ -42,25 +29,18 @@ held_of most place prefix (p ∷ pieces) n few =
     subst (λ (x : List ℕ). length x ≤ most + 65536) (append_assoc prefix p (joined pieces)) (held_of most place (prefix ++ p) pieces n.3 (omega (arith, l, n.1, n.2)))
 
 module _ {R : Type 0} (gives : R → List ℕ → R → Type 0) (ended : R → Type 0) (failed : R → Bool) (most : ℕ) (place : Place) (old new : AtHand R) where
-  size_falls : (pieces : List (List ℕ)) → Needed most place (unread old) pieces → new.reads + length pieces ≡ old.reads → unread new ≡ unread old ++ joined pieces → size_at_hand gives failed new ≤ size_at_hand gives failed old
+  size_falls : (pieces : List (List ℕ)) → Needed most place (unread old) pieces → new.reads + length pieces ≡ old.reads → unread new ≡ unread old ++ joined pieces → size unread (reads_left gives failed) new ≤ size unread (reads_left gives failed) old
   size_falls pieces n counted e =
       let k = joined_small most place (unread old) pieces n in
       let l : length (unread new) ≡ length (unread old) + length (joined pieces) = ap length e ∙ length-append (unread old) (joined pieces) in
       omega (arith, k, l, counted)
 
-  asks : (b : Brought gives ended failed most place old new) → Needs unread (has_all gives failed) place old (joined b.pieces) new
-  asks b = by (last_of most place (unread old) b.pieces b.needed)
-    where
-      by : (b.pieces ≡ []) ⊎ LastOf place (unread old) b.pieces → Needs unread (has_all gives failed) place old (joined b.pieces) new
-      by (inl e) = inl (ap joined e, b.quiet e)
-      by (inr h) = inr (h.0, h.1, h.2, h.3, h.4, λ e. h.5 (b.at_end e).0)
-
-  came_after : (is_ready : Bool) (r : HasRead gives ended failed most place old new is_ready) → AfterCame (brings gives failed) unread (has_all gives failed) (ends_truly gives failed ended) (size_at_hand gives failed) most place old (joined r.brought.pieces) new is_ready
+  came_after : (is_ready : Bool) (r : HasRead gives ended failed most place old new is_ready) → AfterCame (brings gives failed) unread (has_all gives failed) (ends_truly gives failed ended) (reads_left gives failed) most place old (joined r.brought.pieces) new is_ready
   came_after false r = record {
     longer = r.brought.whole;
     over = r.after.0;
     undecided = r.after.1;
-    asked = asks r.brought;
+    asked = r.brought.asked;
     at_end = λ e. (ap joined (r.brought.at_end e).0, (r.brought.at_end e).1);
     sound_still = r.brought.ended_so;
     no_larger = size_falls r.brought.pieces r.brought.needed r.brought.counted r.brought.whole;
@@ -70,14 +50,14 @@ module _ {R : Type 0} (gives : R → List ℕ → R → Type 0) (ended : R → T
     longer = r.brought.whole;
     decided = r.after;
     near = rw (r.brought.whole) (near_of most place (unread old) r.brought.pieces r.brought.needed);
-    asked = asks r.brought;
+    asked = r.brought.asked;
     at_end = λ e. (ap joined (r.brought.at_end e).0, (r.brought.at_end e).1);
     sound_still = r.brought.ended_so;
     no_larger = size_falls r.brought.pieces r.brought.needed r.brought.counted r.brought.whole;
     held = (λ few. rw (r.brought.whole) (held_of most place (unread old) r.brought.pieces r.brought.needed few));
   }
 
-  pub made_ready : (result : Result Bool Fault) → Readied gives ended failed most place old new result → MadeReady (brings gives failed) unread (has_all gives failed) (ends_truly gives failed ended) (size_at_hand gives failed) most place old new result
+  pub made_ready : (result : Result Bool Fault) → Readied gives ended failed most place old new result → MadeReady (brings gives failed) unread (has_all gives failed) (ends_truly gives failed ended) (reads_left gives failed) most place old new result
   made_ready (Err e) r = tt
   made_ready (Ok is_ready) r = record {
     more = joined r.brought.pieces;

@@ -124,18 +124,18 @@ found_within place {hand} {bytes} {again} {item} {rest} same man_on once_more =
     omega (arith, s, n, m)
 
 -- bytes came, and those at hand decide the item that they begin with, or all have come
-pub record Seen {X : Type 0} (comes : X → List ℕ → X → Type 0) (at_hand : X → List ℕ) (all sound : X → Type 0) (size : X → ℕ) (most : ℕ) (place : Place) (old mid : X) : Type 0 where
+pub record Seen {X : Type 0} (comes : X → List ℕ → X → Type 0) (at_hand : X → List ℕ) (all sound : X → Type 0) (reads : X → ℕ) (most : ℕ) (place : Place) (old mid : X) : Type 0 where
   pub pieces : List (List ℕ)
   pub came : Calls comes old pieces mid
-  pub after : IsReady comes at_hand all sound size most place old (joined pieces) mid
+  pub after : IsReady comes at_hand all sound reads most place old (joined pieces) mid
 
-module _ {X : Type 0} {comes : X → List ℕ → X → Type 0} {at_hand : X → List ℕ} {all sound : X → Type 0} {size : X → ℕ} {most : ℕ} {place : Place} where
-  module _ {old mid : X} {is_ready : Bool} (made : MadeReady comes at_hand all sound size most place old mid (Ok is_ready)) where
-    made_as : (b : Bool) → is_ready ≡ b → MadeReady comes at_hand all sound size most place old mid (Ok b)
-    made_as b e = subst (λ (b : Bool). MadeReady comes at_hand all sound size most place old mid (Ok b)) e made
+module _ {X : Type 0} {comes : X → List ℕ → X → Type 0} {at_hand : X → List ℕ} {all sound : X → Type 0} {reads : X → ℕ} {most : ℕ} {place : Place} where
+  module _ {old mid : X} {is_ready : Bool} (made : MadeReady comes at_hand all sound reads most place old mid (Ok is_ready)) where
+    made_as : (b : Bool) → is_ready ≡ b → MadeReady comes at_hand all sound reads most place old mid (Ok b)
+    made_as b e = subst (λ (b : Bool). MadeReady comes at_hand all sound reads most place old mid (Ok b)) e made
 
     -- too many bytes don't decide the item
-    pub step_undecided : {T : Type 0} {takes : TakesOne T} {at : ℕ} {t : T} → is_ready ≡ false → Steps comes at_hand all sound size takes at most place old mid t t (Ok (step.Stops stop.TooLarge))
+    pub step_undecided : {T : Type 0} {takes : TakesOne T} {at : ℕ} {t : T} → is_ready ≡ false → Steps comes at_hand all sound reads takes at most place old mid t t (Ok (step.Stops stop.TooLarge))
     step_undecided not =
         let r = made_as false not in
         let a = r.after in
@@ -149,22 +149,22 @@ module _ {X : Type 0} {comes : X → List ℕ → X → Type 0} {at_hand : X →
               bracket = λ further none rest found. absurd (undecided_bracket place (at_hand mid) further rest (omega (arith, a.over)) a.undecided found);
               same = inl refl;
             },
-            subst (λ (x : List ℕ). Needs at_hand all place old x mid) (sym (append-nil r.more)) a.asked,
+            subst (λ (x : List ℕ). Needs comes at_hand all reads most place old x mid) (sym (append-nil r.more)) a.asked,
             a.no_larger,
           );
         }
 
-    pub seen_read : is_ready ≡ true → Seen comes at_hand all sound size most place old mid
+    pub seen_read : is_ready ≡ true → Seen comes at_hand all sound reads most place old mid
     seen_read ok =
         let r = made_as true ok in
         record {
           pieces = r.more ∷ [];
           came = (mid, r.came, refl);
-          after = subst (λ (x : List ℕ). IsReady comes at_hand all sound size most place old x mid) (sym (append-nil r.more)) r.after;
+          after = subst (λ (x : List ℕ). IsReady comes at_hand all sound reads most place old x mid) (sym (append-nil r.more)) r.after;
         }
 
   -- nothing came
-  pub seen_at_once : {old : X} {bytes : List ℕ} {item : Item} {rest : List ℕ} → sound old → bytes ≡ at_hand old → the item rest ≡ item_at place bytes → 0 < length rest → Seen comes at_hand all sound size most place old old
+  pub seen_at_once : {old : X} {bytes : List ℕ} {item : Item} {rest : List ℕ} → sound old → bytes ≡ at_hand old → the item rest ≡ item_at place bytes → 0 < length rest → Seen comes at_hand all sound reads most place old old
   seen_at_once {old = old} {item = item} {rest = rest} sure same man_on some = record {
     pieces = [];
     came = refl;
@@ -172,7 +172,7 @@ module _ {X : Type 0} {comes : X → List ℕ → X → Type 0} {at_hand : X →
       longer = sym (append-nil (at_hand old));
       decided = inl (found_decides place (at_hand old) item rest (ap (item_at place) (sym same) ∙ sym man_on) some);
       near = inl refl;
-      asked = inl (refl, λ h. h);
+      asked = inl refl;
       at_end = λ h. (refl, h);
       sound_still = sure;
       no_larger = omega arith;
@@ -180,13 +180,13 @@ module _ {X : Type 0} {comes : X → List ℕ → X → Type 0} {at_hand : X →
     };
   }
 
-module _ {X : Type 0} {comes : X → List ℕ → X → Type 0} {at_hand : X → List ℕ} {all sound : X → Type 0} {size : X → ℕ} {most : ℕ} {place : Place} {old mid : X}
-    (ready : Seen comes at_hand all sound size most place old mid) where
+module _ {X : Type 0} {comes : X → List ℕ → X → Type 0} {at_hand : X → List ℕ} {all sound : X → Type 0} {reads : X → ℕ} {most : ℕ} {place : Place} {old mid : X}
+    (ready : Seen comes at_hand all sound reads most place old mid) where
   sound_still : sound mid
   sound_still = ready.after.sound_still
 
   -- nothing is used
-  stops : {T : Type 0} {takes : TakesOne T} {at : ℕ} {t : T} (why : Stop) (u : T) → AfterStop comes at_hand all sound size takes at most place old mid t u why → Steps comes at_hand all sound size takes at most place old mid t u (Ok (step.Stops why))
+  stops : {T : Type 0} {takes : TakesOne T} {at : ℕ} {t : T} (why : Stop) (u : T) → AfterStop comes at_hand all sound reads takes at most place old mid t u why → Steps comes at_hand all sound reads takes at most place old mid t u (Ok (step.Stops why))
   stops why u after =
       record { pieces = ready.pieces; came = ready.came; after = (record { longer = ready.after.longer; at_end = ready.after.at_end; sound_still = sound_still }, after, ready.after.asked, ready.after.no_larger) }
 
@@ -194,7 +194,7 @@ module _ {X : Type 0} {comes : X → List ℕ → X → Type 0} {at_hand : X →
   all_came hand e (inl d) = absurd (nothing_undecided place (subst (λ (x : List ℕ). Decides place x) e d))
   all_came hand e (inr h) = h
 
-  pub step_end : {T : Type 0} {takes : TakesOne T} {at : ℕ} {t : T} → at_hand mid ≡ [] → Steps comes at_hand all sound size takes at most place old mid t t (Ok (step.Stops stop.End))
+  pub step_end : {T : Type 0} {takes : TakesOne T} {at : ℕ} {t : T} → at_hand mid ≡ [] → Steps comes at_hand all sound reads takes at most place old mid t t (Ok (step.Stops stop.End))
   step_end {t = t} e = stops stop.End t (all_came (at_hand mid) e ready.after.decided, e, refl)
 
   -- what is found at the beginning is found whatever follows
@@ -205,7 +205,7 @@ module _ {X : Type 0} {comes : X → List ℕ → X → Type 0} {at_hand : X →
     -- no item
     module _ (man_on : None ≡ item_at place bytes) {seen : List ℕ} (as_seen : seen ≡ at_hand mid) {T : Type 0} {takes : TakesOne T} {at : ℕ} {t : T} where
       -- and too many bytes for its fault
-      pub step_exceeds : (most < length seen) × (Decides place (take (most + 1) seen) → ⊥) → Steps comes at_hand all sound size takes at most place old mid t t (Ok (step.Stops stop.TooLarge))
+      pub step_exceeds : (most < length seen) × (Decides place (take (most + 1) seen) → ⊥) → Steps comes at_hand all sound reads takes at most place old mid t t (Ok (step.Stops stop.TooLarge))
       step_exceeds exceeds =
           let both = subst (λ (x : List ℕ). (most < length x) × (Decides place (take (most + 1) x) → ⊥)) as_seen exceeds in
           stops stop.TooLarge t (record {
@@ -214,7 +214,7 @@ module _ {X : Type 0} {comes : X → List ℕ → X → Type 0} {at_hand : X →
             same = inl refl;
           })
 
-      pub step_none : at_hand mid ≢ [] → (most < length seen → Decides place (take (most + 1) seen)) → Steps comes at_hand all sound size takes at most place old mid t t (Ok (step.Stops stop.NoItem))
+      pub step_none : at_hand mid ≢ [] → (most < length seen → Decides place (take (most + 1) seen)) → Steps comes at_hand all sound reads takes at most place old mid t t (Ok (step.Stops stop.NoItem))
       step_none some within =
           stops stop.NoItem t
           (record { none = finds None man_on; decided = ready.after.decided; within = subst (λ (x : List ℕ). most < length x → Decides place (take (most + 1) x)) as_seen within; some = some }, refl)
@@ -235,7 +235,7 @@ module _ {X : Type 0} {comes : X → List ℕ → X → Type 0} {at_hand : X →
       counts : used + length rest ≡ length (at_hand mid)
       counts = (let w = rest_within in let n = ap length once_more in omega (arith, w, n))
 
-      next_item : {T : Type 0} {takes : TakesOne T} → Next comes at_hand all sound size takes place old mid item
+      next_item : {T : Type 0} {takes : TakesOne T} → Next comes at_hand all sound reads takes place old mid item
       next_item = record {
         rest = rest;
         found = found_on;
@@ -245,7 +245,7 @@ module _ {X : Type 0} {comes : X → List ℕ → X → Type 0} {at_hand : X →
 
       module _ {T : Type 0} {takes : TakesOne T} {at : ℕ} {t : T} where
         -- the item is too long
-        step_over : most < used → (u : T) → (item ≡ TagOpen → Brackets takes at t u) → (u ≡ t) ⊎ Brackets takes at t u → Steps comes at_hand all sound size takes at most place old mid t u (Ok (step.Stops stop.TooLarge))
+        step_over : most < used → (u : T) → (item ≡ TagOpen → Brackets takes at t u) → (u ≡ t) ⊎ Brackets takes at t u → Steps comes at_hand all sound reads takes at most place old mid t u (Ok (step.Stops stop.TooLarge))
         step_over long u bracket same =
             stops stop.TooLarge u (record {
               over = λ more none. long_oversized most place (at_hand mid) more item rest (omega (arith, counts, long)) (found_on more none);
@@ -254,7 +254,7 @@ module _ {X : Type 0} {comes : X → List ℕ → X → Type 0} {at_hand : X →
             })
 
         -- it isn't used
-        step_stops : (why : Stop) (u : T) → Offered takes at most place item used t u (step.Stops why) → Steps comes at_hand all sound size takes at most place old mid t u (Ok (step.Stops why))
+        step_stops : (why : Stop) (u : T) → Offered takes at most place item used t u (step.Stops why) → Steps comes at_hand all sound reads takes at most place old mid t u (Ok (step.Stops why))
         step_stops stop.Left u o = stops stop.Left u (item, next_item, o)
         step_stops (stop.Refused fault) u o = stops (stop.Refused fault) u (item, next_item, o)
         step_stops stop.TooLarge u o = step_over o.0 u o.1 o.2
@@ -262,7 +262,7 @@ module _ {X : Type 0} {comes : X → List ℕ → X → Type 0} {at_hand : X →
         step_stops stop.End u o = absurd o
         step_stops stop.NoItem u o = absurd o
 
-      module _ {new : X} (k : Keeps comes at_hand all sound size (length rest) mid new) where
+      module _ {new : X} (k : Keeps comes at_hand all sound reads (length rest) mid new) where
         left : at_hand new ≡ rest
         left = (let t = item_taken place (at_hand mid) item rest found in k.kept t.0 rest t.1 refl)
 
@@ -278,9 +278,24 @@ module _ {X : Type 0} {comes : X → List ℕ → X → Type 0} {at_hand : X →
             ap (λ (x : List ℕ). x ++ more) ready.after.longer ∙ append_assoc (at_hand old) (joined ready.pieces) more ∙ ap (λ (x : List ℕ). at_hand old ++ (x ++ more)) (sym no_more) in
             ap (item_at place) (sym e) ∙ found_on more (λ h. none (k.at_end h)) ∙ ap (λ (x : List ℕ). the item (x ++ more)) (sym left)
 
-        asks : Needs at_hand all place old (joined ready.pieces) mid → Needs at_hand all place old (joined pieces) new
-        asks (inl n) = inl (no_more ∙ n.0, λ h. n.1 (k.not_yet h))
-        asks (inr n) = inr (n.0, n.1, no_more ∙ n.2, n.3, n.4, n.5)
+        asks : Needs comes at_hand all reads most place old (joined ready.pieces) mid → Needs comes at_hand all reads most place old (joined pieces) new
+        asks (inl same) = inl (k.no_read ∙ same)
+        asks (inr n) =
+            let s = n.came in
+            inr (record {
+              came = record {
+                earlier = s.earlier;
+                before = s.before;
+                first = s.first;
+                last = s.last ++ [] ∷ [];
+                brought = Calls-more comes s.before mid new s.last [] s.brought k.came;
+                once = ap (λ (m : ℕ). m + 1) k.no_read ∙ s.once;
+                parts = no_more ∙ s.parts ∙ ap (λ (x : List ℕ). joined s.earlier ++ x) (sym (joined-more comes s.last [] ∙ append-nil (joined s.last)));
+              };
+              few = n.few;
+              undecided = n.undecided;
+              not_yet = n.not_yet;
+            })
 
         counted : length (at_hand old) + length (joined pieces) ≡ length (at_hand new) + used
         counted =
@@ -290,7 +305,7 @@ module _ {X : Type 0} {comes : X → List ℕ → X → Type 0} {at_hand : X →
             let n = ap length left in
             omega (arith, e, l, j, n, counts)
 
-        uses : {T : Type 0} {takes : TakesOne T} → used ≤ most → UsesItem comes at_hand all sound size takes most place old pieces new item used
+        uses : {T : Type 0} {takes : TakesOne T} → used ≤ most → UsesItem comes at_hand all sound reads takes most place old pieces new item used
         uses few = record {
           found = finds_left;
           asked = asks ready.after.asked;
@@ -305,26 +320,26 @@ module _ {X : Type 0} {comes : X → List ℕ → X → Type 0} {at_hand : X →
         all_calls : Calls comes old pieces new
         all_calls = Calls-more comes old mid new ready.pieces [] ready.came k.came
 
-        uses_as : {T : Type 0} {takes : TakesOne T} (len : ℕ) → used ≤ most → len ≡ used → UsesItem comes at_hand all sound size takes most place old pieces new item len
-        uses_as {takes = takes} len few e = subst (λ (n : ℕ). UsesItem comes at_hand all sound size takes most place old pieces new item n) (sym e) (uses few)
+        uses_as : {T : Type 0} {takes : TakesOne T} (len : ℕ) → used ≤ most → len ≡ used → UsesItem comes at_hand all sound reads takes most place old pieces new item len
+        uses_as {takes = takes} len few e = subst (λ (n : ℕ). UsesItem comes at_hand all sound reads takes most place old pieces new item n) (sym e) (uses few)
 
       module _ {T : Type 0} {takes : TakesOne T} {at : ℕ} {t u : T} where
-        settles : {new : X} (one : Step) → Offered takes at most place item used t u one → Settles comes at_hand all sound size (length rest) one mid new → Steps comes at_hand all sound size takes at most place old new t u (Ok one)
+        settles : {new : X} (one : Step) → Offered takes at most place item used t u one → Settles comes at_hand all sound reads (length rest) one mid new → Steps comes at_hand all sound reads takes at most place old new t u (Ok one)
         settles {new} (step.On next len white) o k = record { pieces = pieces k; came = all_calls k; after = (item, uses_as k len o.1 o.2, o.0, o.3, o.4) }
         settles {new} (step.Full next len white) o k = record { pieces = pieces k; came = all_calls k; after = (item, uses_as k len o.1 o.2, o.0, o.3, o.4) }
-        settles {new} (step.Stops why) o k = subst (λ (x : X). Steps comes at_hand all sound size takes at most place old x t u (Ok (step.Stops why))) (sym k) (step_stops why u o)
+        settles {new} (step.Stops why) o k = subst (λ (x : X). Steps comes at_hand all sound reads takes at most place old x t u (Ok (step.Stops why))) (sym k) (step_stops why u o)
 
-        pub step_settled : {new : X} {one : Step} (offered : Step) → Offered takes at most place item used t u offered → one ≡ offered → Settles comes at_hand all sound size (length rest) offered mid new
-            → Steps comes at_hand all sound size takes at most place old new t u (Ok one)
-        step_settled {new} offered o is k = subst (λ (x : Step). Steps comes at_hand all sound size takes at most place old new t u (Ok x)) (sym is) (settles offered o k)
+        pub step_settled : {new : X} {one : Step} (offered : Step) → Offered takes at most place item used t u offered → one ≡ offered → Settles comes at_hand all sound reads (length rest) offered mid new
+            → Steps comes at_hand all sound reads takes at most place old new t u (Ok one)
+        step_settled {new} offered o is k = subst (λ (x : Step). Steps comes at_hand all sound reads takes at most place old new t u (Ok x)) (sym is) (settles offered o k)
 
 -- the first item within a line, at once
-pub step_first : {X T : Type 0} {comes : X → List ℕ → X → Type 0} {at_hand : X → List ℕ} {all sound : X → Type 0} {size : X → ℕ} {takes : TakesOne T} {at most : ℕ} {place : Place} {old new : X} {t u : T} {item : Item} {again : List ℕ} {left : ℕ} {one : Step}
+pub step_first : {X T : Type 0} {comes : X → List ℕ → X → Type 0} {at_hand : X → List ℕ} {all sound : X → Type 0} {reads : X → ℕ} {takes : TakesOne T} {at most : ℕ} {place : Place} {old new : X} {t u : T} {item : Item} {again : List ℕ} {left : ℕ} {one : Step}
     (first : IsFirst (at_hand old) item left) → sound old → place ≡ InLine → again ≡ at_hand old → (offered : Step)
-    → Offered takes at most place item (length again - left) t u offered → one ≡ offered → Settles comes at_hand all sound size left offered old new
-    → Steps comes at_hand all sound size takes at most place old new t u (Ok one)
-step_first {comes = comes} {at_hand} {all} {sound} {size} {takes} {at} {most} {place} {old} {new} {t} {u} {item} {again} {left} {one} first sure here once_more offered =
+    → Offered takes at most place item (length again - left) t u offered → one ≡ offered → Settles comes at_hand all sound reads left offered old new
+    → Steps comes at_hand all sound reads takes at most place old new t u (Ok one)
+step_first {comes = comes} {at_hand} {all} {sound} {reads} {takes} {at} {most} {place} {old} {new} {t} {u} {item} {again} {left} {one} first sure here once_more offered =
     let followed = first.followed in
-    subst (λ (p : Place). Offered takes at most p item (length again - left) t u offered → one ≡ offered → Settles comes at_hand all sound size left offered old new → Steps comes at_hand all sound size takes at most p old new t u (Ok one)) (sym here)
-    (subst (λ (n : ℕ). Offered takes at most InLine item (length again - n) t u offered → one ≡ offered → Settles comes at_hand all sound size n offered old new → Steps comes at_hand all sound size takes at most InLine old new t u (Ok one))
+    subst (λ (p : Place). Offered takes at most p item (length again - left) t u offered → one ≡ offered → Settles comes at_hand all sound reads left offered old new → Steps comes at_hand all sound reads takes at most p old new t u (Ok one)) (sym here)
+    (subst (λ (n : ℕ). Offered takes at most InLine item (length again - n) t u offered → one ≡ offered → Settles comes at_hand all sound reads n offered old new → Steps comes at_hand all sound reads takes at most InLine old new t u (Ok one))
     (sym first.counted) (λ o is k. step_settled (seen_at_once sure refl followed.found followed.some) refl followed.found once_more offered o is k))

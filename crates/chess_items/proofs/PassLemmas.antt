@@ -15,10 +15,9 @@ use Rattle.chess_items.specs.declared.place.Place.TheVariants.{GameStart}
 use Rattle.chess_items.specs.declared.taking.Stop.{Stop}
 use Rattle.chess_items.specs.declared.taking.Stop.TheVariants as stop
 use Rattle.chess_items.specs.declared.taking.Stopped.{Stopped}
-use Rattle.chess_items.proofs.BreakLemmas.{breaks_later}
 use Rattle.chess_items.proofs.SkimLemmas.{white_join}
 use Rattle.chess_items.proofs.SpellLemmas.{spells_on}
-use Rattle.chess_items.proofs.TakingLemmas.{bare, ended_after, spells_bare}
+use Rattle.chess_items.proofs.TakingLemmas.{bare, spells_bare}
 
 bare_white : (items : List (ℕ × Item)) → list_all is_white (bare items) ≡ all_white items
 bare_white [] = refl
@@ -28,12 +27,12 @@ behind_bare : (place : Place) (items : List (ℕ × Item)) → behind place item
 behind_bare place [] = refl
 behind_bare place (x ∷ items) = behind_bare (place_after place x.1) items
 
-module _ {X T : Type 0} (comes : X → List ℕ → X → Type 0) (at_hand : X → List ℕ) (all sound : X → Type 0) (size : X → ℕ) (takes : TakesOne T) (limit : ℕ) (old : X) (t : T) where
-  module _ (mid : X) (u : T) (s : Stopped) (r : Ran comes at_hand all sound size takes limit old mid t u (Ok s)) where
+module _ {X T : Type 0} (comes : X → List ℕ → X → Type 0) (at_hand : X → List ℕ) (all sound : X → Type 0) (reads : X → ℕ) (takes : TakesOne T) (limit : ℕ) (old : X) (t : T) where
+  module _ (mid : X) (u : T) (s : Stopped) (r : Ran comes at_hand all sound reads takes limit old mid t u (Ok s)) where
     -- the text has ended, and was white
-    pub ended_white : s.why ≡ stop.End → s.white ≡ true → WasWhite comes at_hand all sound size takes old mid
+    pub ended_white : s.why ≡ stop.End → s.white ≡ true → WasWhite comes at_hand all sound reads takes old mid
     ended_white why white =
-        let a = subst (λ (w : Stop). AfterRun comes at_hand all sound size takes limit old r.pieces mid t u s.at s.place s.white w) why r.after in
+        let a = subst (λ (w : Stop). AfterRun comes at_hand all sound reads takes limit old r.pieces mid t u s.at s.place s.white w) why r.after in
         let whole : at_hand old ++ (joined r.pieces ++ []) ≡ at_hand old ++ joined r.pieces = ap (λ (x : List ℕ). at_hand old ++ x) (append-nil (joined r.pieces)) in
         let spelled : Spells GameStart (at_hand old ++ (joined r.pieces ++ [])) (bare a.items) (at_hand mid ++ []) = spells_bare 0 GameStart _ a.items _ (a.took.spelled [] (λ h. refl)) in
         record {
@@ -50,11 +49,11 @@ module _ {X T : Type 0} (comes : X → List ℕ → X → Type 0) (at_hand : X �
         }
 
     -- what is after the limit is white as well
-    pub passed_white : (new : X) → s.why ≡ stop.TooLarge → s.white ≡ true → Skips comes at_hand all sound s.place mid new (Ok true) → WasWhite comes at_hand all sound size takes old new
+    pub passed_white : (new : X) → s.why ≡ stop.TooLarge → s.white ≡ true → Skips comes at_hand all sound s.place mid new (Ok true) → WasWhite comes at_hand all sound reads takes old new
     passed_white new why white skips =
         let k = skips.0 in
         let nothing : at_hand new ≡ [] = skips.1 in
-        let a = subst (λ (w : Stop). AfterRun comes at_hand all sound size takes limit old r.pieces mid t u s.at s.place s.white w) why r.after in
+        let a = subst (λ (w : Stop). AfterRun comes at_hand all sound reads takes limit old r.pieces mid t u s.at s.place s.white w) why r.after in
         let more = joined k.pieces in
         let none : all mid → more ++ [] ≡ [] = λ h. ap (λ (x : List ℕ). x ++ []) (k.still h).0 in
         let input = at_hand old ++ (joined r.pieces ++ (more ++ [])) in
@@ -77,14 +76,13 @@ module _ {X T : Type 0} (comes : X → List ℕ → X → Type 0) (at_hand : X �
         }
 
     -- something else comes after the limit
-    pub passed_other : (new : X) → s.why ≡ stop.TooLarge → s.white ≡ true → Skips comes at_hand all sound s.place mid new (Ok false) → Passed comes at_hand all sound size takes limit old new t u s
+    pub passed_other : (new : X) → s.why ≡ stop.TooLarge → s.white ≡ true → Skips comes at_hand all sound s.place mid new (Ok false) → Passed comes at_hand all sound reads takes limit old new t u s
     passed_other new why white k = record { mid = mid; ran = r; after = inr (record { over = why; white = white; skipped = k.0; other = k.1 }); more = λ e. absurd (let h : stop.TooLarge ≡ stop.End = sym why ∙ e in cc) }
 
-    pub passed_broken : (breaks : X → X → Type 0) (new : X) (fault : Fault) → s.why ≡ stop.TooLarge → BreaksOff comes breaks all mid new fault → PassBreaks comes at_hand all sound size takes limit breaks old new t fault
-    passed_broken breaks new Memory over b =
-        breaks_later comes breaks all old mid new r.pieces r.came (λ h. (ended_after comes at_hand all sound size takes limit old t mid u r.pieces s.at s.place s.white s.why r.after h).1) Memory b
-    passed_broken breaks new Read over b = inr (record { mid = mid; last = u; stopped = s; ran = r; over = over; broke = b })
+    pub passed_broken : (breaks : X → X → Type 0) (new : X) (fault : Fault) → s.why ≡ stop.TooLarge → s.white ≡ true → BreaksOff comes breaks all mid new fault → PassBreaks comes at_hand all sound reads takes limit breaks old new t fault
+    passed_broken breaks new Memory over white b = inr (record { mid = mid; last = u; stopped = s; ran = r; over = over; white = white; broke = b })
+    passed_broken breaks new Read over white b = inr (record { mid = mid; last = u; stopped = s; ran = r; over = over; white = white; broke = b })
 
-  pub run_broken : (breaks : X → X → Type 0) (new : X) (fault : Fault) → RunBreaks comes at_hand all sound size takes limit breaks old new t fault → PassBreaks comes at_hand all sound size takes limit breaks old new t fault
-  run_broken breaks new Memory b = b
+  pub run_broken : (breaks : X → X → Type 0) (new : X) (fault : Fault) → RunBreaks comes at_hand all sound reads takes limit breaks old new t fault → PassBreaks comes at_hand all sound reads takes limit breaks old new t fault
+  run_broken breaks new Memory b = inl b
   run_broken breaks new Read b = inl b

@@ -1,5 +1,5 @@
 -- Reads until an item is decided.
-use Rattle.std.proofs.Common.{◌≡◌, ℕ, ◌+◌, ◌≤◌, Bool, true, false, List, [], ◌∷◌, ◌++◌, length, take, refl, sym, ap, subst, ◌∙◌, arith, append_assoc, append-nil, length-append, Ok}
+use Rattle.std.proofs.Common.{◌≡◌, ℕ, ◌+◌, ◌≤◌, inl, inr, Bool, true, false, List, [], ◌∷◌, ◌++◌, length, take, refl, sym, ap, subst, ◌∙◌, arith, append_assoc, append-nil, length-append, Ok}
 use Rattle.std.proofs.lemmas.Bool.{false≢true}
 use Rattle.byte_streams.specs.Calls.{joined}
 use Rattle.byte_streams.proofs.CallLemmas.{Calls-more, joined-more}
@@ -7,7 +7,7 @@ use Rattle.chess_items.specs.steps.Deciding.{Decides}
 use Rattle.chess_items.specs.Coming.{AtHand, Came, unread}
 use Rattle.chess_items.specs.steps.AtHands.{Brought, Reads}
 use Rattle.chess_items.specs.declared.place.Place.{Place}
-use Rattle.chess_items.proofs.BreakLemmas.{each_append}
+use Rattle.chess_items.proofs.BreakLemmas.{each_append, read_came}
 use Rattle.chess_items.proofs.ReadLemmas.{joined_small, needed_more, take_front}
 
 -- So far each read was needed, and the bytes that were looked at don't decide the item.
@@ -15,6 +15,11 @@ pub record Going {R : Type 0} (gives : R → List ℕ → R → Type 0) (ended :
   pub brought : Brought gives ended failed most place old now
   pub within : looked ≤ length (unread now)
   pub undecided : Decides place (take looked (unread now)) → ⊥
+
+-- what came so far
+module _ {R : Type 0} {gives : R → List ℕ → R → Type 0} {ended : R → Type 0} {failed : R → Bool} {most : ℕ} {place : Place} {old now : AtHand R} (b : Brought gives ended failed most place old now) where
+  pub so_far : Came gives failed old (joined b.pieces) now
+  so_far = record { pieces = b.pieces; calls = b.calls; whole = refl; counted = b.counted; small = joined_small most place (unread old) b.pieces b.needed; placed = b.placed; well = b.well; each = b.each; ended_still = λ e. (b.at_end e).1 }
 
 module _ {R : Type 0} (gives : R → List ℕ → R → Type 0) (ended : R → Type 0) (failed : R → Bool) (most : ℕ) (place : Place) (old : AtHand R) where
   pub going_start : (looked : ℕ) → looked ≤ length (unread old) → (Decides place (take looked (unread old)) → ⊥) → (old.has_ended ≡ true → ended old.source) → Going gives ended failed most place looked old old
@@ -27,7 +32,7 @@ module _ {R : Type 0} (gives : R → List ℕ → R → Type 0) (ended : R → T
       well = refl;
       placed = omega arith;
       at_end = λ e. (refl, e);
-      quiet = λ e h. h;
+      asked = inl refl;
       each = λ e. tt;
       whole = sym (append-nil (unread old));
       ended_so = so;
@@ -51,7 +56,20 @@ module _ {R : Type 0} (gives : R → List ℕ → R → Type 0) (ended : R → T
           well = r.after.3 ∙ b.well;
           placed = (let j = ap length (joined-more gives b.pieces r.piece) in let n = length-append (joined b.pieces) r.piece in omega (arith, j, n, r.placed, b.placed));
           at_end = λ e. absurd (false≢true (sym goes ∙ (b.at_end e).1));
-          quiet = λ e h. absurd (let n = length-append b.pieces (r.piece ∷ []) in let k = ap length e in omega (arith, n, k));
+          asked = inr (record {
+            came = record {
+              earlier = joined b.pieces ∷ [];
+              before = now;
+              first = (now, so_far b, refl);
+              last = r.piece ∷ [];
+              brought = (new, read_came goes ended new r, refl);
+              once = r.counted;
+              parts = joined-more gives b.pieces r.piece ∙ rw (append-nil (joined b.pieces), append-nil r.piece) refl;
+            };
+            few = rw (append-nil (joined b.pieces)) (subst (λ (x : List ℕ). length x ≤ most) b.whole few);
+            undecided = rw (append-nil (joined b.pieces)) (subst (λ (x : List ℕ). Decides place x → ⊥) b.whole undecided);
+            not_yet = λ e. false≢true (sym goes ∙ (b.at_end e).1);
+          });
           each = λ e. each_append b.pieces (r.piece ∷ []) (b.each goes) (r.after.4 e, tt);
           whole = first ∙ ap (λ (x : List ℕ). x ++ r.piece) b.whole ∙ append_assoc (unread old) (joined b.pieces) r.piece ∙ ap (λ (x : List ℕ). unread old ++ x) (sym (joined-more gives b.pieces r.piece));
           ended_so = r.after.1;
@@ -59,8 +77,3 @@ module _ {R : Type 0} (gives : R → List ℕ → R → Type 0) (ended : R → T
         within = (let n : length (unread new) ≡ length (unread now) + length r.piece = ap length first ∙ length-append (unread now) r.piece in omega (arith, n));
         undecided = subst (λ (x : List ℕ). Decides place (take (length (unread now)) x) → ⊥) (sym first) (subst (λ (x : List ℕ). Decides place x → ⊥) (sym (take_front (unread now) r.piece)) undecided);
       }
-
--- what came so far
-module _ {R : Type 0} {gives : R → List ℕ → R → Type 0} {ended : R → Type 0} {failed : R → Bool} {most : ℕ} {place : Place} {old now : AtHand R} (b : Brought gives ended failed most place old now) where
-  pub so_far : Came gives failed old (joined b.pieces) now
-  so_far = record { pieces = b.pieces; calls = b.calls; whole = refl; counted = b.counted; small = joined_small most place (unread old) b.pieces b.needed; placed = b.placed; well = b.well; each = b.each; ended_still = λ e. (b.at_end e).1 }

@@ -10,7 +10,7 @@ use Rattle.chess_items.specs.steps.Texts.{BreaksOff, Refills}
 use Rattle.chess_items.specs.steps.Texts as texts
 use Rattle.chess_items.specs.declared.at_hand.Fault.{Fault}
 use Rattle.chess_items.specs.declared.at_hand.Fault.TheVariants.{Memory, Read}
-use Rattle.chess_items.proofs.BreakLemmas.{breaking, brings, came_none, ends_truly, has_all, size_at_hand}
+use Rattle.chess_items.proofs.BreakLemmas.{breaking, brings, came_none, ends_truly, has_all, reads_left}
 use Rattle.chess_items.proofs.ReadLemmas.{empty_is}
 
 -- so many bytes are left
@@ -25,7 +25,7 @@ module _ {R : Type 0} (gives : R → List ℕ → R → Type 0) (ended : R → T
       (h.longer ∙ ap (λ (x : List ℕ). x ++ h.bytes) (empty_is (unread mid) none) ∙ sym h.came.whole, (let f = h.fewer refl in omega (arith, f, h.came.counted)), h.goes_on refl)
   refill_after false h none =
       let e = h.ended_now refl in
-      (h.longer ∙ rw (empty_is (unread mid) none) e.1, h.came.whole ∙ e.1, e.0, h.ended_so e.0)
+      (h.longer ∙ rw (empty_is (unread mid) none) e.1, h.came.whole ∙ e.1, h.at_most, e.0, h.ended_so e.0)
 
   pub refilled : (result : Result Bool Fault) → length (unread mid) ≡ 0 → Prolonged gives ended failed mid new result → Refilled gives ended failed old new result
   refilled (Err e) none p = tt
@@ -56,19 +56,20 @@ module _ {R : Type 0} (gives : R → List ℕ → R → Type 0) (ended : R → T
   broken (Err fault) b = off fault b
 
 module _ {R : Type 0} (gives : R → List ℕ → R → Type 0) (ended : R → Type 0) (failed : R → Bool) (old new : AtHand R) where
-  some_pieces : (pieces : List (List ℕ)) → 1 ≤ length pieces → pieces ≡ [] → ⊥
+  some_pieces : (pieces : List (List ℕ)) → length pieces ≡ 1 → pieces ≡ [] → ⊥
   some_pieces pieces some e = (let n = ap length e in omega (arith, n, some))
 
-  refills_after : (has_more : Bool) (r : HasRefilled gives ended failed old new has_more) → texts.AfterRefill (brings gives failed) unread (has_all gives failed) (ends_truly gives failed ended) (size_at_hand gives failed) old (joined r.pieces) new has_more
-  refills_after false r = (r.after.0, r.after.1, r.after.2, (λ e. r.after.3), (let n = ap length r.after.0 in omega (arith, n, r.counted)))
+  refills_after : (has_more : Bool) (r : HasRefilled gives ended failed old new has_more) → texts.AfterRefill (brings gives failed) unread (has_all gives failed) (ends_truly gives failed ended) (reads_left gives failed) old (joined r.pieces) new has_more
+  refills_after false r = (r.after.0, r.after.1, r.after.3, (λ e. r.after.4), (let n = ap length r.after.0 in omega (arith, n, r.counted)))
   refills_after true r = (
     r.after.0,
     (λ e. absurd (false≢true (sym r.after.2 ∙ e))),
     (let n = ap length r.after.0 in omega (arith, n, r.small, r.after.1, r.counted)),
-    λ e. some_pieces r.pieces r.after.1 (r.at_end e).0,
+    (λ e. some_pieces r.pieces r.after.1 (r.at_end e).0),
+    omega (arith, r.after.1, r.counted),
   )
 
-  pub refills : (result : Result Bool Fault) → Refilled gives ended failed old new result → Refills (brings gives failed) unread (has_all gives failed) (ends_truly gives failed ended) (size_at_hand gives failed) old new result
+  pub refills : (result : Result Bool Fault) → Refilled gives ended failed old new result → Refills (brings gives failed) unread (has_all gives failed) (ends_truly gives failed ended) (reads_left gives failed) old new result
   refills (Err e) r = tt
   refills (Ok has_more) r = record {
     more = joined r.pieces;
@@ -80,12 +81,13 @@ module _ {R : Type 0} (gives : R → List ℕ → R → Type 0) (ended : R → T
     (placed : new.used + length (unread new) ≡ old.used + length (unread old)) where
   -- the first bytes are used
   pub keeps : (left : ℕ) → ((text rest : List ℕ) → unread old ≡ text ++ rest → length rest ≡ left → unread new ≡ rest) → (old.has_ended ≡ true → ended old.source) → length (unread new) ≡ left
-      → texts.Keeps (brings gives failed) unread (has_all gives failed) (ends_truly gives failed ended) (size_at_hand gives failed) left old new
+      → texts.Keeps (brings gives failed) unread (has_all gives failed) (ends_truly gives failed ended) (reads_left gives failed) left old new
   keeps left kept so len = record {
     kept = kept;
     came = came_none gives failed old new source reads same placed;
     at_end = λ e. same ∙ e;
     not_yet = λ e. sym same ∙ e;
     sound_still = λ e. subst ended (sym source) (so (sym same ∙ e));
+    no_read = reads;
     smaller = omega (arith, reads, len);
   }

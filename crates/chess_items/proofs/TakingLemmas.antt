@@ -4,8 +4,8 @@ use Rattle.byte_streams.specs.Calls.{Calls, joined}
 use Rattle.byte_streams.proofs.CallLemmas.{Calls-append, joined-append}
 use Rattle.chess_items.specs.Items.{Item, Spells, is_white, place_after}
 use Rattle.chess_items.specs.steps.Deciding.{Decides}
-use Rattle.chess_items.specs.steps.Taking.{TakesOne, SpellsFrom, Takes, behind, all_white, Asked, LastRead, UsesItem, Rests, AfterStop, Steps, Took, AfterRun, Ran, RunBreaks}
-use Rattle.chess_items.specs.steps.Texts.{BreaksAt, Needs}
+use Rattle.chess_items.specs.steps.Taking.{TakesOne, SpellsFrom, Takes, behind, all_white, Asked, UsesItem, Rests, AfterStop, Steps, Took, AfterRun, Ran, RunBreaks}
+use Rattle.chess_items.specs.steps.Texts.{BreaksAt, Needs, size}
 use Rattle.chess_items.specs.declared.at_hand.Fault.{Fault}
 use Rattle.chess_items.specs.declared.at_hand.Fault.TheVariants.{Memory, Read}
 use Rattle.chess_items.specs.declared.place.Place.{Place}
@@ -14,7 +14,6 @@ use Rattle.chess_items.specs.declared.taker.Taken.TheVariants.{GoesOn, Ends}
 use Rattle.chess_items.specs.declared.taking.Stop.{Stop}
 use Rattle.chess_items.specs.declared.taking.Stop.TheVariants as stop
 use Rattle.chess_items.specs.declared.taking.Step.TheVariants as step
-use Rattle.chess_items.proofs.BreakLemmas.{breaks_later}
 use Rattle.chess_items.proofs.FoundLemmas.{Taken, item_taken}
 
 pub behind-more : (place : Place) (items : List (ℕ × Item)) (x : ℕ × Item) → behind place (items ++ x ∷ []) ≡ place_after (behind place items) x.1
@@ -55,15 +54,15 @@ module _ {T : Type 0} (takes : TakesOne T) where
   takes_more t m u [] x s one = (u, subst (λ y. takes y x.0 x.1 (Ok GoesOn) u) (sym s) one, refl)
   takes_more t m u (y ∷ items) x s one = (s.0, s.1, takes_more s.0 m u items x s.2 one)
 
-module _ {X T : Type 0} (comes : X → List ℕ → X → Type 0) (at_hand : X → List ℕ) (all sound : X → Type 0) (size : X → ℕ) (takes : TakesOne T) (limit : ℕ) (old : X) (t : T) where
+module _ {X T : Type 0} (comes : X → List ℕ → X → Type 0) (at_hand : X → List ℕ) (all sound : X → Type 0) (reads : X → ℕ) (takes : TakesOne T) (limit : ℕ) (old : X) (t : T) where
   -- So far these items were taken, and the taker wants another.
   pub record Underway (at : ℕ) (place : Place) (white : Bool) (now : X) (u : T) : Type 0 where
     pub pieces : List (List ℕ)
     pub came : Calls comes old pieces now
     pub items : List (ℕ × Item)
-    pub took : Took comes at_hand all sound size takes limit old pieces now items at place white
+    pub took : Took comes at_hand all sound reads takes limit old pieces now items at place white
     pub taken : Takes takes t items u
-    pub asked : Asked comes at_hand all sound size takes old (joined pieces) now t
+    pub asked : Asked comes at_hand all sound reads takes limit old (joined pieces) now t items
     pub near : length (at_hand old) ≤ 65537 → length (at_hand now) ≤ 65537
 
   pub underway_start : sound old → Underway 0 GameStart true old t
@@ -81,7 +80,7 @@ module _ {X T : Type 0} (comes : X → List ℕ → X → Type 0) (at_hand : X �
       sound_still = so;
     };
     taken = refl;
-    asked = inl (refl, λ e. e);
+    asked = inl refl;
     near = (λ h. h);
   }
 
@@ -109,28 +108,78 @@ module _ {X T : Type 0} (comes : X → List ℕ → X → Type 0) (at_hand : X �
         let b = at_end a.1 in
         (rw (joined-append w.pieces ps, a.0) b.0, b.1)
 
-    -- nothing more came
-    as_asked : joined ps ≡ [] → (all new → all now) → Asked comes at_hand all sound size takes old (joined w.pieces) now t → Asked comes at_hand all sound size takes old (joined (w.pieces ++ ps)) new t
-    as_asked none still (inl a) = inl (joined-append w.pieces ps ∙ ap (λ (x : List ℕ). joined w.pieces ++ x) none ∙ append-nil (joined w.pieces) ∙ a.0, λ e. a.1 (still e))
-    as_asked none still (inr r) =
-        inr (subst (λ (x : List ℕ). LastRead comes at_hand all sound size takes old x t) (sym (joined-append w.pieces ps ∙ ap (λ (x : List ℕ). joined w.pieces ++ x) none ∙ append-nil (joined w.pieces))) r)
+    -- no more reads were made
+    still_asked : reads new ≡ reads now → Asked comes at_hand all sound reads takes limit old (joined w.pieces) now t w.items → Asked comes at_hand all sound reads takes limit old (joined (w.pieces ++ ps)) new t w.items
+    still_asked same (inl a) = inl (same ∙ a)
+    still_asked same (inr r) =
+        let s = r.split in
+        inr (record {
+          split = record {
+            earlier = s.earlier;
+            before = s.before;
+            first = s.first;
+            last = s.last ++ ps;
+            brought = Calls-append comes s.before now new s.last ps s.brought came;
+            once = ap (λ (n : ℕ). n + 1) same ∙ s.once;
+            parts = joined-append w.pieces ps ∙ ap (λ (x : List ℕ). x ++ joined ps) s.parts ∙ append_assoc (joined s.earlier) (joined s.last) (joined ps) ∙ ap (λ (x : List ℕ). joined s.earlier ++ x) (sym (joined-append s.last ps));
+          };
+          few = r.few;
+          items = r.items;
+          others = r.others;
+          front = r.front;
+          rest = r.rest;
+          last = r.last;
+          spelled = r.spelled;
+          taken = r.taken;
+          undecided = r.undecided;
+        })
 
-    asked_on : Needs at_hand all place now (joined ps) new → Asked comes at_hand all sound size takes old (joined (w.pieces ++ ps)) new t
-    asked_on (inl n) = as_asked n.0 n.1 w.asked
-    asked_on (inr n) = inr (record {
-      earlier = joined w.pieces ++ n.0;
-      piece = n.1;
-      parts = joined-append w.pieces ps ∙ ap (λ (x : List ℕ). joined w.pieces ++ x) n.2 ∙ sym (append_assoc (joined w.pieces) n.0 n.1);
-      small = n.3;
-      items = w.items;
-      rest = at_hand now ++ n.0;
-      last = u;
-      spelled = λ more. rw (append_assoc (joined w.pieces) n.0 more, append_assoc (at_hand now) n.0 more) (w.took.spelled (n.0 ++ more) (λ e. absurd (n.5 e)));
-      taken = w.taken;
-      undecided = subst (λ (p : Place). Decides p (at_hand now ++ n.0) → ⊥) w.took.stands n.4;
+    asked_on : Needs comes at_hand all reads (limit - at) place now (joined ps) new → Asked comes at_hand all sound reads takes limit old (joined (w.pieces ++ ps)) new t w.items
+    asked_on (inl n) = still_asked n w.asked
+    asked_on (inr n) =
+        let s = n.came in
+        inr (record {
+          split = record {
+            earlier = w.pieces ++ s.earlier;
+            before = s.before;
+            first = Calls-append comes old now s.before w.pieces s.earlier w.came s.first;
+            last = s.last;
+            brought = s.brought;
+            once = s.once;
+            parts = joined-append w.pieces ps ∙ ap (λ (x : List ℕ). joined w.pieces ++ x) s.parts ∙ sym (append_assoc (joined w.pieces) (joined s.earlier) (joined s.last)) ∙ ap (λ (x : List ℕ). x ++ joined s.last) (sym (joined-append w.pieces s.earlier));
+          };
+          few =
+              (let a = length-append (at_hand old) (joined (w.pieces ++ s.earlier)) in
+              let b = ap length (joined-append w.pieces s.earlier) ∙ length-append (joined w.pieces) (joined s.earlier) in
+              let c = length-append (at_hand now) (joined s.earlier) in
+              omega (arith, a, b, c, n.few, w.took.few, w.took.counted));
+          items = w.items;
+          others = [];
+          front = sym (append-nil w.items);
+          rest = at_hand now ++ joined s.earlier;
+          last = u;
+          spelled = λ more. rw (joined-append w.pieces s.earlier, append_assoc (joined w.pieces) (joined s.earlier) more, append_assoc (at_hand now) (joined s.earlier) more) (w.took.spelled (joined s.earlier ++ more) (λ e. absurd (n.not_yet e)));
+          taken = w.taken;
+          undecided = subst (λ (p : Place). Decides p (at_hand now ++ joined s.earlier) → ⊥) w.took.stands n.undecided;
+        })
+
+    -- with one item more
+    asked_more : (came : List ℕ) (x : ℕ × Item) → Asked comes at_hand all sound reads takes limit old came new t w.items → Asked comes at_hand all sound reads takes limit old came new t (w.items ++ x ∷ [])
+    asked_more came x (inl a) = inl a
+    asked_more came x (inr r) = inr (record {
+      split = r.split;
+      few = r.few;
+      items = r.items;
+      others = r.others ++ x ∷ [];
+      front = ap (λ (z : List (ℕ × Item)). z ++ x ∷ []) r.front ∙ append_assoc r.items r.others (x ∷ []);
+      rest = r.rest;
+      last = r.last;
+      spelled = r.spelled;
+      taken = r.taken;
+      undecided = r.undecided;
     })
 
-    module _ (item : Item) (used : ℕ) (one : UsesItem comes at_hand all sound size takes (limit - at) place now ps new item used) where
+    module _ (item : Item) (used : ℕ) (one : UsesItem comes at_hand all sound reads takes (limit - at) place now ps new item used) where
       here : (more : List ℕ) → at + length (at_hand now ++ (joined ps ++ more)) ≡ 0 + length (at_hand old ++ (joined (w.pieces ++ ps) ++ more))
       here more =
           let a = length-append (at_hand now) (joined ps ++ more) in
@@ -146,7 +195,7 @@ module _ {X T : Type 0} (comes : X → List ℕ → X → Type 0) (at_hand : X �
           spells_more 0 GameStart _ w.items mid item next at (here more) (spelled_before more one.at_end none)
           (subst (λ (s : Place). Taken s mid item next) w.took.stands (item_taken place mid item next (one.found more none)))
 
-      took_one : (next : Place) (is : Bool) → next ≡ place_after place item → is ≡ is_white item → Took comes at_hand all sound size takes limit old (w.pieces ++ ps) new (w.items ++ (at, item) ∷ []) (at + used) next (white && is)
+      took_one : (next : Place) (is : Bool) → next ≡ place_after place item → is ≡ is_white item → Took comes at_hand all sound reads takes limit old (w.pieces ++ ps) new (w.items ++ (at, item) ∷ []) (at + used) next (white && is)
       took_one next is e h = record {
         spelled = spelled_now;
         counted = omega (arith, joined_len, one.counted, w.took.counted);
@@ -164,12 +213,12 @@ module _ {X T : Type 0} (comes : X → List ℕ → X → Type 0) (at_hand : X �
         items = w.items ++ (at, item) ∷ [];
         took = took_one next is e h;
         taken = takes_more takes t u v w.items (at, item) w.taken taken;
-        asked = asked_on one.asked;
+        asked = asked_more (joined (w.pieces ++ ps)) (at, item) (asked_on one.asked);
         near = (λ h. one.near (w.near h));
       }
 
       pub ran_full : (v : T) (next : Place) (is : Bool) → takes u at item (Ok Ends) v → next ≡ place_after place item → is ≡ is_white item
-          → Ran comes at_hand all sound size takes limit old new t v (Ok (record { why = stop.Full; at = at + used; place = next; white = white && is }))
+          → Ran comes at_hand all sound reads takes limit old new t v (Ok (record { why = stop.Full; at = at + used; place = next; white = white && is }))
       ran_full v next is taken e h = record {
         pieces = w.pieces ++ ps;
         came = all_came;
@@ -185,13 +234,13 @@ module _ {X T : Type 0} (comes : X → List ℕ → X → Type 0) (at_hand : X �
         };
       }
 
-    module _ (rests : Rests comes at_hand all sound size takes now ps new) where
+    module _ (rests : Rests comes at_hand all sound reads takes now ps new) where
       spelled_rest : (more : List ℕ) → (all new → more ≡ []) → SpellsFrom 0 GameStart (at_hand old ++ (joined (w.pieces ++ ps) ++ more)) w.items (at_hand new ++ more)
       spelled_rest more none =
           let e : at_hand now ++ (joined ps ++ more) ≡ at_hand new ++ more = sym (append_assoc (at_hand now) (joined ps) more) ∙ ap (λ (x : List ℕ). x ++ more) (sym rests.longer) in
           subst (λ (x : List ℕ). SpellsFrom 0 GameStart (at_hand old ++ (joined (w.pieces ++ ps) ++ more)) w.items x) e (spelled_before more rests.at_end none)
 
-      took_rest : Took comes at_hand all sound size takes limit old (w.pieces ++ ps) new w.items at place white
+      took_rest : Took comes at_hand all sound reads takes limit old (w.pieces ++ ps) new w.items at place white
       took_rest = record {
         spelled = spelled_rest;
         counted = (let n = ap length rests.longer ∙ length-append (at_hand now) (joined ps) in omega (arith, joined_len, n, w.took.counted));
@@ -202,29 +251,35 @@ module _ {X T : Type 0} (comes : X → List ℕ → X → Type 0) (at_hand : X �
         sound_still = rests.sound_still;
       }
 
-      after_stop : (v : T) (why : Stop) → AfterStop comes at_hand all sound size takes at (limit - at) place now new u v why → Needs at_hand all place now (joined ps) new → AfterRun comes at_hand all sound size takes limit old (w.pieces ++ ps) new t v at place white why
+      after_stop : (v : T) (why : Stop) → AfterStop comes at_hand all sound reads takes at (limit - at) place now new u v why → Needs comes at_hand all reads (limit - at) place now (joined ps) new → AfterRun comes at_hand all sound reads takes limit old (w.pieces ++ ps) new t v at place white why
       after_stop v stop.Full a n = absurd a
       after_stop v stop.Left a n = record { items = w.items; took = took_rest; mid = u; taken = w.taken; item = a.0; rest = a.1.rest; found = a.1.found; answered = a.2; asked = asked_on n; near = (λ h. a.1.near (w.near h)); bracket = (λ e h. a.1.bracket e (w.near h)) }
       after_stop v (stop.Refused fault) a n = record { items = w.items; took = took_rest; mid = u; taken = w.taken; item = a.0; rest = a.1.rest; found = a.1.found; answered = a.2; asked = asked_on n; near = (λ h. a.1.near (w.near h)); bracket = (λ e h. a.1.bracket e (w.near h)) }
       after_stop v stop.End a n = record { items = w.items; took = took_rest; taken = subst (λ x. Takes takes t w.items x) (sym a.2) w.taken; asked = asked_on n; ended = a.0; nothing = a.1 }
-      after_stop v stop.NoItem a n = record { items = w.items; took = took_rest; taken = subst (λ x. Takes takes t w.items x) (sym a.1) w.taken; none = a.0 }
-      after_stop v stop.TooLarge a n = record { items = w.items; took = took_rest; mid = u; taken = w.taken; exceeds = a }
+      after_stop v stop.NoItem a n = record { items = w.items; took = took_rest; taken = subst (λ x. Takes takes t w.items x) (sym a.1) w.taken; none = a.0; asked = asked_on n }
+      after_stop v stop.TooLarge a n = record { items = w.items; took = took_rest; mid = u; taken = w.taken; exceeds = a; asked = asked_on n }
 
-  pub ran : (at : ℕ) (place : Place) (white : Bool) (now new : X) (u v : T) (why : Stop) → Underway at place white now u → Steps comes at_hand all sound size takes at (limit - at) place now new u v (Ok (step.Stops why))
-      → Ran comes at_hand all sound size takes limit old new t v (Ok (record { why = why; at = at; place = place; white = white }))
+  pub ran : (at : ℕ) (place : Place) (white : Bool) (now new : X) (u v : T) (why : Stop) → Underway at place white now u → Steps comes at_hand all sound reads takes at (limit - at) place now new u v (Ok (step.Stops why))
+      → Ran comes at_hand all sound reads takes limit old new t v (Ok (record { why = why; at = at; place = place; white = white }))
   ran at place white now new u v why w s = record {
     pieces = w.pieces ++ s.pieces;
     came = all_came at place white now u w s.pieces new s.came;
     after = after_stop at place white now u w s.pieces new s.came s.after.0 v why s.after.1 s.after.2;
   }
 
-  pub ran_ends : (at : ℕ) (place : Place) (white : Bool) (now new : X) (u v : T) (next : Place) (used : ℕ) (is : Bool) → Underway at place white now u → Steps comes at_hand all sound size takes at (limit - at) place now new u v (Ok (step.Full next used is))
-      → Ran comes at_hand all sound size takes limit old new t v (Ok (record { why = stop.Full; at = at + used; place = next; white = white && is }))
+  pub ran_ends : (at : ℕ) (place : Place) (white : Bool) (now new : X) (u v : T) (next : Place) (used : ℕ) (is : Bool) → Underway at place white now u → Steps comes at_hand all sound reads takes at (limit - at) place now new u v (Ok (step.Full next used is))
+      → Ran comes at_hand all sound reads takes limit old new t v (Ok (record { why = stop.Full; at = at + used; place = next; white = white && is }))
   ran_ends at place white now new u v next used is w s = ran_full at place white now u w s.pieces new s.came s.after.0 used s.after.1 v next is s.after.2 s.after.3 s.after.4
 
-  pub ran_broken : (breaks : X → X → Type 0) (at : ℕ) (place : Place) (white : Bool) (now new : X) (u : T) (e : Fault) → Underway at place white now u → BreaksAt comes at_hand breaks all sound place now new e
-      → RunBreaks comes at_hand all sound size takes limit breaks old new t e
-  ran_broken breaks at place white now new u Memory w b = breaks_later comes breaks all old now new w.pieces w.came (λ h. (w.took.at_end h).1) Memory b
+  pub ran_broken : (breaks : X → X → Type 0) (at : ℕ) (place : Place) (white : Bool) (now new : X) (u : T) (e : Fault) → Underway at place white now u → BreaksAt comes at_hand breaks all sound reads (limit - at) place now new e
+      → RunBreaks comes at_hand all sound reads takes limit breaks old new t e
+  ran_broken breaks at place white now new u Memory w b = record {
+    pieces = w.pieces ++ b.pieces;
+    came = all_came at place white now u w b.pieces new b.came;
+    items = w.items;
+    asked = asked_on at place white now u w b.pieces new b.came b.asked;
+    not_yet = λ e. b.not_yet (w.took.at_end e).1;
+  }
   ran_broken breaks at place white now new u Read w b = record {
     pieces = w.pieces ++ b.pieces;
     mid = b.mid;
@@ -237,29 +292,30 @@ module _ {X T : Type 0} (comes : X → List ℕ → X → Type 0) (at_hand : X �
     last = u;
     taken = w.taken;
     undecided = b.undecided;
+    within = omega (arith, b.few, w.took.few);
     not_yet = λ e. b.not_yet (w.took.at_end e).1;
     not_all = b.not_all;
     breaks_off = b.breaks_off;
   }
 
-  pub goes_on : (at : ℕ) (place : Place) (white : Bool) (now new : X) (u v : T) (next : Place) (used : ℕ) (is : Bool) → Underway at place white now u → Steps comes at_hand all sound size takes at (limit - at) place now new u v (Ok (step.On next used is))
+  pub goes_on : (at : ℕ) (place : Place) (white : Bool) (now new : X) (u v : T) (next : Place) (used : ℕ) (is : Bool) → Underway at place white now u → Steps comes at_hand all sound reads takes at (limit - at) place now new u v (Ok (step.On next used is))
       → Underway (at + used) next (white && is) new v
   goes_on at place white now new u v next used is w s = underway_on at place white now u w s.pieces new s.came s.after.0 used s.after.1 v next is s.after.2 s.after.3 s.after.4
 
-  pub falls : (at : ℕ) (place : Place) (now new : X) (u v : T) (next : Place) (used : ℕ) (is : Bool) → Steps comes at_hand all sound size takes at (limit - at) place now new u v (Ok (step.On next used is)) → size new + 1 ≤ size now
+  pub falls : (at : ℕ) (place : Place) (now new : X) (u v : T) (next : Place) (used : ℕ) (is : Bool) → Steps comes at_hand all sound reads takes at (limit - at) place now new u v (Ok (step.On next used is)) → size at_hand reads new + 1 ≤ size at_hand reads now
   falls at place now new u v next used is s = (s.after.1).smaller
 
   -- whatever stopped it, it took some items
-  took_after : (new : X) (u : T) (pieces : List (List ℕ)) (at : ℕ) (place : Place) (white : Bool) (why : Stop) → AfterRun comes at_hand all sound size takes limit old pieces new t u at place white why → (items : List (ℕ × Item)) × Took comes at_hand all sound size takes limit old pieces new items at place white
+  took_after : (new : X) (u : T) (pieces : List (List ℕ)) (at : ℕ) (place : Place) (white : Bool) (why : Stop) → AfterRun comes at_hand all sound reads takes limit old pieces new t u at place white why → (items : List (ℕ × Item)) × Took comes at_hand all sound reads takes limit old pieces new items at place white
   took_after new u pieces at place white stop.Full a = (_, a.took)
   took_after new u pieces at place white _ a = (_, a.took)
 
-  pub sound_after : (new : X) (u : T) (pieces : List (List ℕ)) (at : ℕ) (place : Place) (white : Bool) (why : Stop) → AfterRun comes at_hand all sound size takes limit old pieces new t u at place white why → sound new
+  pub sound_after : (new : X) (u : T) (pieces : List (List ℕ)) (at : ℕ) (place : Place) (white : Bool) (why : Stop) → AfterRun comes at_hand all sound reads takes limit old pieces new t u at place white why → sound new
   sound_after new u pieces at place white why a = (took_after new u pieces at place white why a).1.sound_still
 
-  pub ended_after : (new : X) (u : T) (pieces : List (List ℕ)) (at : ℕ) (place : Place) (white : Bool) (why : Stop) → AfterRun comes at_hand all sound size takes limit old pieces new t u at place white why → all old → (joined pieces ≡ []) × all new
+  pub ended_after : (new : X) (u : T) (pieces : List (List ℕ)) (at : ℕ) (place : Place) (white : Bool) (why : Stop) → AfterRun comes at_hand all sound reads takes limit old pieces new t u at place white why → all old → (joined pieces ≡ []) × all new
   ended_after new u pieces at place white why a = (took_after new u pieces at place white why a).1.at_end
 
   -- it used no more than the limit
-  pub few_after : (new : X) (u : T) (pieces : List (List ℕ)) (at : ℕ) (place : Place) (white : Bool) (why : Stop) → AfterRun comes at_hand all sound size takes limit old pieces new t u at place white why → at ≤ limit
+  pub few_after : (new : X) (u : T) (pieces : List (List ℕ)) (at : ℕ) (place : Place) (white : Bool) (why : Stop) → AfterRun comes at_hand all sound reads takes limit old pieces new t u at place white why → at ≤ limit
   few_after new u pieces at place white why a = (took_after new u pieces at place white why a).1.few

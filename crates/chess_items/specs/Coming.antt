@@ -2,7 +2,7 @@
 --   AtHand  a source, its bytes that were read and not used, whether its end was seen, how many more reads there may be, and how many of
 --           its bytes were used
 --   Came    reads of at most 65,536 bytes each gave these bytes, and none of them failed; before the end each gave a byte
---   Breaks  the next read failed, or there may be no more: of a new source, 2^40 were made
+--   Breaks  the next read failed, or there may be no more: of a new source, 2^40 were made; what was at hand still is, and as many bytes are used
 --   BreaksWhere  bytes came, and then a read broke off before the source's end; of the bytes that were at hand and those that came, this holds
 use Rattle.std.specs.Prelude.{◌≡◌, ◌⊎◌, ◌<◌, ◌≤◌, ℕ, ◌+◌, ◌*◌, Bool, true, false, List, [], ◌++◌, length}
 use Rattle.std.specs.List.{AllByRecursion}
@@ -32,7 +32,9 @@ pub record Came {R : Type 0} (gives : R → List ℕ → R → Type 0) (failed :
   pub ended_still : old.has_ended ≡ true → new.has_ended ≡ true
 
 abbrev pub Breaks : {R : Type 0} → (R → List ℕ → R → Type 0) → (R → Bool) → AtHand R → AtHand R → Type 0
-Breaks gives failed old new = (gives old.source [] new.source × (failed new.source ≡ true)) ⊎ ((new.source ≡ old.source) × (old.reads ≡ 0))
+Breaks gives failed old new =
+    ((gives old.source [] new.source × (failed new.source ≡ true)) ⊎ ((new.source ≡ old.source) × (old.reads ≡ 0)))
+    × (unread new ≡ unread old) × (new.used ≡ old.used)
 
 pub record BreaksWhere {R : Type 0} (none_in : List ℕ → Type 0) (gives : R → List ℕ → R → Type 0) (failed : R → Bool) (old new : AtHand R) : Type 0 where
   pub bytes : List ℕ

@@ -52,7 +52,7 @@ fn begins_hidden(place: Place, bytes: &[u8]) -> bool
 fn skip_line<X: Text>(text: &mut X) -> Result<(), Fault>
     requires sound { X.sound text.old }
     requires begins { (rest : List ℕ) × (X.at_hand text.old ≡ 37 ∷ rest) }
-    ensures hides { Hides X.comes X.at_hand X.all X.sound X.size text.old text.new result }
+    ensures hides { Hides X.comes X.at_hand X.all X.sound X.reads text.old text.new result }
     ensures broken { IfErr result (λ fault. BreaksOff X.comes X.breaks X.all text.old text.new fault) }
 {
     loop {

@@ -18,8 +18,8 @@ pub fn pass<X: Text, T: Taker>(
 ) -> Result<Option<Stopped>, Fault>
     requires { X.sound text.old }
     ensures sound { IfOk result (λ _. X.sound text.new) }
-    ensures passes { Passes X.comes X.at_hand X.all X.sound X.size T.takes limit text.old text.new taker.old taker.new result }
-    ensures broken { IfErr result (λ fault. PassBreaks X.comes X.at_hand X.all X.sound X.size T.takes limit X.breaks text.old text.new taker.old fault) }
+    ensures passes { Passes X.comes X.at_hand X.all X.sound X.reads T.takes limit text.old text.new taker.old taker.new result }
+    ensures broken { IfErr result (λ fault. PassBreaks X.comes X.at_hand X.all X.sound X.reads T.takes limit X.breaks text.old text.new taker.old fault) }
 {
     let stopped = match run(text, taker, limit) {
         Err(fault) => return Err(fault),

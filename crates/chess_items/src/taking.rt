@@ -124,7 +124,7 @@ fn settle<X: Text>(text: &mut X, step: Step, left: usize) -> Step
     requires within { left ≤ length (X.at_hand text.old) }
     requires sound { X.sound text.old }
     ensures step { result ≡ step }
-    ensures text { Settles X.comes X.at_hand X.all X.sound X.size left step text.old text.new }
+    ensures text { Settles X.comes X.at_hand X.all X.sound X.reads left step text.old text.new }
 {
     match step {
         Step::Stops(_) => {}
@@ -136,8 +136,8 @@ fn settle<X: Text>(text: &mut X, step: Step, left: usize) -> Step
 // Takes one item, once the bytes at hand decide it or no more come.
 fn take_read<X: Text, T: Taker>(text: &mut X, taker: &mut T, spot: Spot) -> Result<Step, Fault>
     requires { X.sound text.old }
-    ensures steps { Steps X.comes X.at_hand X.all X.sound X.size T.takes spot.at spot.most spot.place text.old text.new taker.old taker.new result }
-    ensures broken { IfErr result (λ fault. BreaksAt X.comes X.at_hand X.breaks X.all X.sound spot.place text.old text.new fault) }
+    ensures steps { Steps X.comes X.at_hand X.all X.sound X.reads T.takes spot.at spot.most spot.place text.old text.new taker.old taker.new result }
+    ensures broken { IfErr result (λ fault. BreaksAt X.comes X.at_hand X.breaks X.all X.sound X.reads spot.most spot.place text.old text.new fault) }
 {
     match text.ready(spot.place, spot.most) {
         Err(fault) => return Err(fault),
@@ -216,7 +216,7 @@ fn take_first<X: Text, T: Taker>(
     requires sound { X.sound text.old }
     requires here { spot.place ≡ InLine }
     requires first { IsFirst (X.at_hand text.old) (item_of token) left }
-    ensures steps { Steps X.comes X.at_hand X.all X.sound X.size T.takes spot.at spot.most spot.place text.old text.new taker.old taker.new (Ok result) }
+    ensures steps { Steps X.comes X.at_hand X.all X.sound X.reads T.takes spot.at spot.most spot.place text.old text.new taker.old taker.new (Ok result) }
 {
     let used = text.unread().len() - left;
     let step = offer(taker, spot, token, used);
@@ -228,8 +228,8 @@ fn take_first<X: Text, T: Taker>(
 #[inline(always)]
 pub fn take_one<X: Text, T: Taker>(text: &mut X, taker: &mut T, spot: Spot) -> Result<Step, Fault>
     requires { X.sound text.old }
-    ensures steps { Steps X.comes X.at_hand X.all X.sound X.size T.takes spot.at spot.most spot.place text.old text.new taker.old taker.new result }
-    ensures broken { IfErr result (λ fault. BreaksAt X.comes X.at_hand X.breaks X.all X.sound spot.place text.old text.new fault) }
+    ensures steps { Steps X.comes X.at_hand X.all X.sound X.reads T.takes spot.at spot.most spot.place text.old text.new taker.old taker.new result }
+    ensures broken { IfErr result (λ fault. BreaksAt X.comes X.at_hand X.breaks X.all X.sound X.reads spot.most spot.place text.old text.new fault) }
 {
     if let Some((b, left)) = first_within(spot.place, text.unread()) {
         let spot = Spot {
@@ -273,8 +273,8 @@ pub fn take_one<X: Text, T: Taker>(text: &mut X, taker: &mut T, spot: Spot) -> R
 pub fn run<X: Text, T: Taker>(text: &mut X, taker: &mut T, limit: usize) -> Result<Stopped, Fault>
     requires { X.sound text.old }
     ensures sound { IfOk result (λ _. X.sound text.new) }
-    ensures ran { Ran X.comes X.at_hand X.all X.sound X.size T.takes limit text.old text.new taker.old taker.new result }
-    ensures broken { IfErr result (λ fault. RunBreaks X.comes X.at_hand X.all X.sound X.size T.takes limit X.breaks text.old text.new taker.old fault) }
+    ensures ran { Ran X.comes X.at_hand X.all X.sound X.reads T.takes limit text.old text.new taker.old taker.new result }
+    ensures broken { IfErr result (λ fault. RunBreaks X.comes X.at_hand X.all X.sound X.reads T.takes limit X.breaks text.old text.new taker.old fault) }
 {
     let mut place = Place::GameStart;
     let mut at = 0usize;

@@ -24,15 +24,15 @@ pub trait Text {
 
     ghost sound: { Self → Type 0 };
 
-    /// Falls with each byte used, and doesn't grow with the bytes that come.
-    ghost size: { Self → ℕ };
+    /// How many more reads there may be.
+    ghost reads: { Self → ℕ };
 
     /// Lets bytes come until those at hand decide the item that they begin with, or all have come. False where more than `most` are at hand
     /// and don't decide it.
     fn ready(&mut self, place: Place, most: usize) -> Result<bool, Fault>
         requires { sound self.old }
-        ensures made { MadeReady comes at_hand all sound size most place self.old self.new result }
-        ensures broken { IfErr result (λ fault. BreaksAt comes at_hand breaks all sound place self.old self.new fault) };
+        ensures made { MadeReady comes at_hand all sound reads most place self.old self.new result }
+        ensures broken { IfErr result (λ fault. BreaksAt comes at_hand breaks all sound reads most place self.old self.new fault) };
 
     /// The bytes at hand.
     fn unread(&self) -> &[u8]
@@ -47,12 +47,12 @@ pub trait Text {
     fn keep(&mut self, left: usize)
         requires within { left ≤ length (at_hand self.old) }
         requires sound { sound self.old }
-        ensures { Keeps comes at_hand all sound size left self.old self.new };
+        ensures { Keeps comes at_hand all sound reads left self.old self.new };
 
-    /// Uses all bytes at hand, and lets more come. False where all have come.
+    /// Uses all bytes at hand, and lets more come by one read. False where all have come.
     fn refill(&mut self) -> Result<bool, Fault>
         requires { sound self.old }
-        ensures refills { Refills comes at_hand all sound size self.old self.new result }
+        ensures refills { Refills comes at_hand all sound reads self.old self.new result }
         ensures broken { IfErr result (λ fault. BreaksOff comes breaks all self.old self.new fault) };
 }
 
@@ -75,7 +75,7 @@ impl<'a> Text for Whole<'a> {
 
     ghost sound = { λ s. Unit {0} };
 
-    ghost size = { λ s. length s.left.now };
+    ghost reads = { λ s. 0 };
 
     fn ready(&mut self, _place: Place, _most: usize) -> Result<bool, Fault> {
         Ok(true)
@@ -116,7 +116,7 @@ impl<'a, R: Source, A: Allocator> Text for AtHand<'a, R, A> {
 
     ghost sound = { λ s. s.has_ended ≡ true → R.ended s.source };
 
-    ghost size = { λ s. s.reads * 65537 + length (unread s) };
+    ghost reads = { λ s. s.reads };
 
     fn ready(&mut self, place: Place, most: usize) -> Result<bool, Fault> {
         self.read_until_decided(place, most)

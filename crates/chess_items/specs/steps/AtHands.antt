@@ -8,8 +8,9 @@
 use Rattle.std.specs.Prelude.{◌≡◌, ℕ, ◌+◌, ◌*◌, ◌≤◌, ◌<◌, ◌⊎◌, Bool, true, false, List, [], ◌∷◌, ◌++◌, length, Result, Ok, Err}
 use Rattle.std.specs.List.{AllByRecursion}
 use Rattle.byte_streams.specs.Calls.{Calls, joined}
-use Rattle.chess_items.specs.Coming.{AtHand, unread}
+use Rattle.chess_items.specs.Coming.{AtHand, Came, unread}
 use Rattle.chess_items.specs.steps.Deciding.{Decides}
+use Rattle.chess_items.specs.steps.Texts.{Needs}
 use Rattle.chess_items.specs.declared.place.Place.{Place}
 use Rattle.chess_items.specs.declared.at_hand.Fault.{Fault}
 use Rattle.chess_items.specs.declared.at_hand.Fault.TheVariants.{Memory, Read}
@@ -18,7 +19,7 @@ use Rattle.chess_items.specs.declared.at_hand.Fault.TheVariants.{Memory, Read}
 abbrev pub After : {R : Type 0} → (R → Type 0) → (R → Bool) → AtHand R → List ℕ → AtHand R → Result (Unit {0}) Fault → Type 0
 After ended failed old piece new (Ok x) =
     (unread new ≡ unread old ++ piece) × (new.has_ended ≡ true → ended new.source) × (new.has_ended ≡ true → piece ≡ []) × (failed new.source ≡ failed old.source) × (new.has_ended ≡ false → 0 < length piece)
-After ended failed old piece new (Err Read) = (failed new.source ≡ true) × (piece ≡ [])
+After ended failed old piece new (Err Read) = (failed new.source ≡ true) × (piece ≡ []) × (unread new ≡ unread old)
 After ended failed old piece new (Err Memory) = (failed new.source ≡ failed old.source) × (0 < length piece)
 
 pub record Reads {R : Type 0} (gives : R → List ℕ → R → Type 0) (ended : R → Type 0) (failed : R → Bool) (old new : AtHand R) (result : Result (Unit {0}) Fault) : Type 0 where
@@ -45,7 +46,7 @@ pub record Brought {R : Type 0} (gives : R → List ℕ → R → Type 0) (ended
   pub well : failed new.source ≡ failed old.source
   pub placed : new.used + length (unread new) ≡ old.used + length (unread old) + length (joined pieces)
   pub at_end : old.has_ended ≡ true → (pieces ≡ []) × (new.has_ended ≡ true)
-  pub quiet : pieces ≡ [] → new.has_ended ≡ true → old.has_ended ≡ true
+  pub asked : Needs (λ s bytes t. Came gives failed s bytes t) unread (λ s. s.has_ended ≡ true) (λ s. s.reads) most place old (joined pieces) new
   pub each : new.has_ended ≡ false → AllByRecursion (λ piece. 0 < length piece) pieces
   pub whole : unread new ≡ unread old ++ joined pieces
   pub ended_so : new.has_ended ≡ true → ended new.source
@@ -66,8 +67,8 @@ Readied gives ended failed most place old new (Err e) = Unit {0}
 
 -- what follows: these bytes alone are at hand, or the source has ended
 abbrev pub AfterReading : {R : Type 0} → (R → Type 0) → List (List ℕ) → AtHand R → Bool → Type 0
-AfterReading ended pieces new true = (unread new ≡ joined pieces) × (0 < length pieces) × (new.has_ended ≡ false)
-AfterReading ended pieces new false = (unread new ≡ []) × (joined pieces ≡ []) × (new.has_ended ≡ true) × ended new.source
+AfterReading ended pieces new true = (unread new ≡ joined pieces) × (length pieces ≡ 1) × (new.has_ended ≡ false)
+AfterReading ended pieces new false = (unread new ≡ []) × (joined pieces ≡ []) × (length pieces ≤ 1) × (new.has_ended ≡ true) × ended new.source
 
 -- all bytes at hand are used, and others were read, or none are left
 pub record HasRefilled {R : Type 0} (gives : R → List ℕ → R → Type 0) (ended : R → Type 0) (failed : R → Bool) (old new : AtHand R) (has_more : Bool) : Type 0 where

@@ -7,7 +7,7 @@ use Rattle.std.specs.List.{list_all}
 use Rattle.byte_streams.specs.Calls.{Calls, joined}
 use Rattle.chess_items.specs.Items.{Item, Spells, is_white}
 use Rattle.chess_items.specs.steps.Skipping.{SkippedWhite}
-use Rattle.chess_items.specs.steps.Taking.{TakesOne, Ran, RunBroke}
+use Rattle.chess_items.specs.steps.Taking.{TakesOne, Ran, RunBroke, RunShort}
 use Rattle.chess_items.specs.steps.Texts.{BreaksOff}
 use Rattle.chess_items.specs.declared.at_hand.Fault.{Fault}
 use Rattle.chess_items.specs.declared.at_hand.Fault.TheVariants as fault
@@ -18,7 +18,7 @@ use Rattle.chess_items.specs.declared.taking.Stopped.{Stopped}
 abbrev pub AreWhite : List ℕ → Type 0
 AreWhite bytes = (items : List Item) × (list_all is_white items ≡ true) × Spells GameStart bytes items []
 
-module _ {X T : Type 0} (comes : X → List ℕ → X → Type 0) (at_hand : X → List ℕ) (all sound : X → Type 0) (size : X → ℕ) (takes : TakesOne T) where
+module _ {X T : Type 0} (comes : X → List ℕ → X → Type 0) (at_hand : X → List ℕ) (all sound : X → Type 0) (reads : X → ℕ) (takes : TakesOne T) where
   -- all has come, and was white
   pub record WasWhite (old new : X) : Type 0 where
     pub pieces : List (List ℕ)
@@ -38,7 +38,7 @@ module _ {X T : Type 0} (comes : X → List ℕ → X → Type 0) (at_hand : X �
   -- a run of items ended, and white space alone was not taken for a game
   pub record Passed (limit : ℕ) (old new : X) (t u : T) (stopped : Stopped) : Type 0 where
     pub mid : X
-    pub ran : Ran comes at_hand all sound size takes limit old mid t u (Ok stopped)
+    pub ran : Ran comes at_hand all sound reads takes limit old mid t u (Ok stopped)
     pub after : ((new ≡ mid) × (stopped.why ≡ stop.TooLarge → stopped.white ≡ false)) ⊎ NotWhite stopped mid new
     pub more : stopped.why ≡ stop.End → stopped.white ≡ false
 
@@ -52,10 +52,21 @@ module _ {X T : Type 0} (comes : X → List ℕ → X → Type 0) (at_hand : X �
     pub mid : X
     pub last : T
     pub stopped : Stopped
-    pub ran : Ran comes at_hand all sound size takes limit old mid t last (Ok stopped)
+    pub ran : Ran comes at_hand all sound reads takes limit old mid t last (Ok stopped)
     pub over : stopped.why ≡ stop.TooLarge
+    pub white : stopped.white ≡ true
     pub broke : BreaksOff comes breaks all mid new fault.Read
 
+  -- there was no memory for it
+  pub record WhiteShort (limit : ℕ) (breaks : X → X → Type 0) (old new : X) (t : T) : Type 0 where
+    pub mid : X
+    pub last : T
+    pub stopped : Stopped
+    pub ran : Ran comes at_hand all sound reads takes limit old mid t last (Ok stopped)
+    pub over : stopped.why ≡ stop.TooLarge
+    pub white : stopped.white ≡ true
+    pub broke : BreaksOff comes breaks all mid new fault.Memory
+
   abbrev pub PassBreaks : ℕ → (X → X → Type 0) → X → X → T → Fault → Type 0
-  PassBreaks limit breaks old new t fault.Memory = BreaksOff comes breaks all old new fault.Memory
-  PassBreaks limit breaks old new t fault.Read = RunBroke comes at_hand all sound size takes limit breaks old new t ⊎ WhiteBroke limit breaks old new t
+  PassBreaks limit breaks old new t fault.Memory = RunShort comes at_hand all sound reads takes limit old new t ⊎ WhiteShort limit breaks old new t
+  PassBreaks limit breaks old new t fault.Read = RunBroke comes at_hand all sound reads takes limit breaks old new t ⊎ WhiteBroke limit breaks old new t

@@ -9,6 +9,7 @@ use Rattle.std.specs.List.{list_all}
 use Rattle.byte_streams.specs.Calls.{Calls, joined}
 use Rattle.chess_items.specs.Items.{Each, EndsRun, Item, Spells, in_line, is_white, place_behind, starts_line}
 use Rattle.chess_items.specs.steps.ItemAt.{item_at}
+use Rattle.chess_items.specs.steps.Texts.{size}
 use Rattle.chess_items.specs.declared.at_hand.Fault.{Fault}
 use Rattle.chess_items.specs.declared.fault.PgnFault.{PgnFault}
 use Rattle.chess_items.specs.declared.place.Place.{Place}
@@ -27,7 +28,7 @@ BeginsHidden place bytes false = starts_line place ≡ true → (rest : List ℕ
 
 module _ {X : Type 0} (comes : X → List ℕ → X → Type 0) (at_hand : X → List ℕ) (all sound : X → Type 0) where
   -- a line is used to its end, whose line feed is left
-  pub record HidesLine (size : X → ℕ) (old new : X) : Type 0 where
+  pub record HidesLine (reads : X → ℕ) (old new : X) : Type 0 where
     pub pieces : List (List ℕ)
     pub came : Calls comes old pieces new
     pub line : List ℕ
@@ -35,14 +36,14 @@ module _ {X : Type 0} (comes : X → List ℕ → X → Type 0) (at_hand : X →
     pub each : Each in_line line
     pub stops : EndsRun in_line (at_hand new)
     pub ended : at_hand new ≡ [] → all new
-    pub smaller : size new + 1 ≤ size old
+    pub smaller : size at_hand reads new + 1 ≤ size at_hand reads old
     pub still : all old → (joined pieces ≡ []) × all new
     pub sound_still : sound new
 
   -- so it is, unless a read failed
   abbrev pub Hides : (X → ℕ) → X → X → Result (Unit {0}) Fault → Type 0
-  Hides size old new (Ok x) = HidesLine size old new
-  Hides size old new (Err fault) = Unit {0}
+  Hides reads old new (Ok x) = HidesLine reads old new
+  Hides reads old new (Err fault) = Unit {0}
 
   pub record SkippedWhite (place : Place) (old new : X) : Type 0 where
     pub pieces : List (List ℕ)

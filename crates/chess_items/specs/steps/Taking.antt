@@ -5,7 +5,7 @@
 --   Brackets    the taker took the bracket of a tag
 --   Offered     what becomes of an item that is offered
 --   Settles     what is used after an offer
---   Asked       no read was made, or the last was made where the bytes before it did not decide the item after those taken so far
+--   Asked       no read was made, or the last was made where at most so many bytes had come, which did not decide the item after those taken so far
 --   Steps       one item is taken, or none
 --   Ran         items are taken, and why no more are
 --   RunBreaks   items are taken, and then there was no memory, or a read broke off
@@ -15,7 +15,7 @@ use Rattle.byte_streams.specs.Calls.{Calls, joined}
 use Rattle.chess_items.specs.Items.{Item, TagOpen, IsItem, is_white, place_after}
 use Rattle.chess_items.specs.steps.ItemAt.{item_at}
 use Rattle.chess_items.specs.steps.Deciding.{Decides}
-use Rattle.chess_items.specs.steps.Texts.{BreaksOff, Keeps, Needs, Oversized}
+use Rattle.chess_items.specs.steps.Texts.{Keeps, LastCame, Needs, Oversized, size}
 use Rattle.chess_items.specs.declared.at_hand.Fault.{Fault}
 use Rattle.chess_items.specs.declared.at_hand.Fault.TheVariants as fault
 use Rattle.chess_items.specs.declared.fault.PgnFault.{PgnFault}
@@ -66,25 +66,25 @@ Offered takes at most place item used t u (step.Stops stop.Full) = ⊥
 Offered takes at most place item used t u (step.Stops stop.End) = ⊥
 Offered takes at most place item used t u (step.Stops stop.NoItem) = ⊥
 
-module _ {X : Type 0} (comes : X → List ℕ → X → Type 0) (at_hand : X → List ℕ) (all sound : X → Type 0) (size : X → ℕ) where
+module _ {X : Type 0} (comes : X → List ℕ → X → Type 0) (at_hand : X → List ℕ) (all sound : X → Type 0) (reads : X → ℕ) where
   -- so many bytes are left, or nothing is used
   abbrev pub Settles : ℕ → Step → X → X → Type 0
-  Settles left (step.On next used white) old new = Keeps comes at_hand all sound size left old new
-  Settles left (step.Full next used white) old new = Keeps comes at_hand all sound size left old new
+  Settles left (step.On next used white) old new = Keeps comes at_hand all sound reads left old new
+  Settles left (step.Full next used white) old new = Keeps comes at_hand all sound reads left old new
   Settles left (step.Stops why) old new = new ≡ old
 
-module _ {X T : Type 0} (comes : X → List ℕ → X → Type 0) (at_hand : X → List ℕ) (all sound : X → Type 0) (size : X → ℕ) (takes : TakesOne T) where
+module _ {X T : Type 0} (comes : X → List ℕ → X → Type 0) (at_hand : X → List ℕ) (all sound : X → Type 0) (reads : X → ℕ) (takes : TakesOne T) where
   abbrev pub Whatever : X → (List ℕ → Type 0) → Type 0
   Whatever s P = (more : List ℕ) → (all s → more ≡ []) → P more
 
   -- one item is used
   pub record UsesItem (most : ℕ) (place : Place) (old : X) (pieces : List (List ℕ)) (new : X) (item : Item) (used : ℕ) : Type 0 where
     pub found : Whatever new (λ more. item_at place (at_hand old ++ (joined pieces ++ more)) ≡ Some (item, at_hand new ++ more))
-    pub asked : Needs at_hand all place old (joined pieces) new
+    pub asked : Needs comes at_hand all reads most place old (joined pieces) new
     pub near : length (at_hand old) ≤ 65537 → length (at_hand new) ≤ 65537
     pub at_end : all old → (joined pieces ≡ []) × all new
     pub sound_still : sound new
-    pub smaller : size new + 1 ≤ size old
+    pub smaller : size at_hand reads new + 1 ≤ size at_hand reads old
     pub counted : length (at_hand old) + length (joined pieces) ≡ length (at_hand new) + used
     pub few : used ≤ most
 
@@ -129,7 +129,7 @@ module _ {X T : Type 0} (comes : X → List ℕ → X → Type 0) (at_hand : X �
       (item : Item) × UsesItem most place old pieces new item used × takes t at item (Ok GoesOn) u × (next ≡ place_after place item) × (white ≡ is_white item)
   AfterStep at most place old pieces new t u (step.Full next used white) =
       (item : Item) × UsesItem most place old pieces new item used × takes t at item (Ok Ends) u × (next ≡ place_after place item) × (white ≡ is_white item)
-  AfterStep at most place old pieces new t u (step.Stops why) = Rests old pieces new × AfterStop at most place old new t u why × Needs at_hand all place old (joined pieces) new × (size new ≤ size old)
+  AfterStep at most place old pieces new t u (step.Stops why) = Rests old pieces new × AfterStop at most place old new t u why × Needs comes at_hand all reads most place old (joined pieces) new × (size at_hand reads new ≤ size at_hand reads old)
 
   -- bytes came, and one item is used, or none
   pub record Stepped (at most : ℕ) (place : Place) (old new : X) (t u : T) (one : Step) : Type 0 where
@@ -141,21 +141,21 @@ module _ {X T : Type 0} (comes : X → List ℕ → X → Type 0) (at_hand : X �
   Steps at most place old new t u (Ok one) = Stepped at most place old new t u one
   Steps at most place old new t u (Err e) = Unit {0}
 
-  -- the last read, before which these items were taken
-  pub record LastRead (old : X) (came : List ℕ) (t : T) : Type 0 where
-    pub earlier : List ℕ
-    pub piece : List ℕ
-    pub parts : came ≡ earlier ++ piece
-    pub small : length piece ≤ 65536
+  -- the last read, before which the first of these items were taken
+  pub record LastRead (limit : ℕ) (old : X) (came : List ℕ) (new : X) (t : T) (all_items : List (ℕ × Item)) : Type 0 where
+    pub split : LastCame comes reads old came new
+    pub few : length (at_hand old ++ joined split.earlier) ≤ limit
     pub items : List (ℕ × Item)
+    pub others : List (ℕ × Item)
+    pub front : all_items ≡ items ++ others
     pub rest : List ℕ
     pub last : T
-    pub spelled : (more : List ℕ) → SpellsFrom 0 GameStart (at_hand old ++ (earlier ++ more)) items (rest ++ more)
+    pub spelled : (more : List ℕ) → SpellsFrom 0 GameStart (at_hand old ++ (joined split.earlier ++ more)) items (rest ++ more)
     pub taken : Takes takes t items last
     pub undecided : Decides (behind GameStart items) rest → ⊥
 
-  abbrev pub Asked : X → List ℕ → X → T → Type 0
-  Asked old came new t = ((came ≡ []) × (all new → all old)) ⊎ LastRead old came t
+  abbrev pub Asked : ℕ → X → List ℕ → X → T → List (ℕ × Item) → Type 0
+  Asked limit old came new t items = (reads new ≡ reads old) ⊎ LastRead limit old came new t items
 
   -- the items are at the beginning of what was at hand and what came, whatever follows
   pub record Took (limit : ℕ) (old : X) (pieces : List (List ℕ)) (new : X) (items : List (ℕ × Item)) (at : ℕ) (place : Place) (white : Bool) : Type 0 where
@@ -175,7 +175,7 @@ module _ {X T : Type 0} (comes : X → List ℕ → X → Type 0) (at_hand : X �
     pub mid : T
     pub taken : Takes takes t items mid
     pub ends : takes mid last.0 last.1 (Ok Ends) u
-    pub asked : Asked old (joined pieces) new t
+    pub asked : Asked limit old (joined pieces) new t items
     pub near : length (at_hand old) ≤ 65537 → length (at_hand new) ≤ 65537
 
   -- the next item isn't used, with this answer
@@ -188,7 +188,7 @@ module _ {X T : Type 0} (comes : X → List ℕ → X → Type 0) (at_hand : X �
     pub rest : List ℕ
     pub found : Whatever new (λ more. item_at place (at_hand new ++ more) ≡ Some (item, rest ++ more))
     pub answered : takes mid at item answer u
-    pub asked : Asked old (joined pieces) new t
+    pub asked : Asked limit old (joined pieces) new t items
     pub near : length (at_hand old) ≤ 65537 → length rest ≤ 65537
     pub bracket : item ≡ TagOpen → length (at_hand old) ≤ 65537 → length (at_hand new) ≤ 65537
 
@@ -197,7 +197,7 @@ module _ {X T : Type 0} (comes : X → List ℕ → X → Type 0) (at_hand : X �
     pub items : List (ℕ × Item)
     pub took : Took limit old pieces new items at place white
     pub taken : Takes takes t items u
-    pub asked : Asked old (joined pieces) new t
+    pub asked : Asked limit old (joined pieces) new t items
     pub ended : all new
     pub nothing : at_hand new ≡ []
 
@@ -207,6 +207,7 @@ module _ {X T : Type 0} (comes : X → List ℕ → X → Type 0) (at_hand : X �
     pub took : Took limit old pieces new items at place white
     pub taken : Takes takes t items u
     pub none : NoNext (limit - at) place new
+    pub asked : Asked limit old (joined pieces) new t items
 
   -- what comes next reaches past the limit
   pub record RanOver (limit : ℕ) (old : X) (pieces : List (List ℕ)) (new : X) (t u : T) (at : ℕ) (place : Place) (white : Bool) : Type 0 where
@@ -215,6 +216,7 @@ module _ {X T : Type 0} (comes : X → List ℕ → X → Type 0) (at_hand : X �
     pub mid : T
     pub taken : Takes takes t items mid
     pub exceeds : RunsPast at (limit - at) place new mid u
+    pub asked : Asked limit old (joined pieces) new t items
 
   -- why no more items are used
   abbrev pub AfterRun : ℕ → X → List (List ℕ) → X → T → T → ℕ → Place → Bool → Stop → Type 0
@@ -248,10 +250,19 @@ module _ {X T : Type 0} (comes : X → List ℕ → X → Type 0) (at_hand : X �
     pub last : T
     pub taken : Takes takes t items last
     pub undecided : Decides place (at_hand mid) → ⊥
+    pub within : at + length (at_hand mid) ≤ limit
     pub not_yet : all old → ⊥
     pub not_all : all mid → ⊥
     pub breaks_off : breaks mid new
 
+  -- there was no memory to read into, or for what was read
+  pub record RunShort (limit : ℕ) (old new : X) (t : T) : Type 0 where
+    pub pieces : List (List ℕ)
+    pub came : Calls comes old pieces new
+    pub items : List (ℕ × Item)
+    pub asked : Asked limit old (joined pieces) new t items
+    pub not_yet : all old → ⊥
+
   abbrev pub RunBreaks : ℕ → (X → X → Type 0) → X → X → T → Fault → Type 0
-  RunBreaks limit breaks old new t fault.Memory = BreaksOff comes breaks all old new fault.Memory
+  RunBreaks limit breaks old new t fault.Memory = RunShort limit old new t
   RunBreaks limit breaks old new t fault.Read = RunBroke limit breaks old new t

@@ -1,14 +1,17 @@
 -- A text that comes bit by bit.
 --   Near        where bytes came, the last read was made where the bytes before it did not decide the item
---   Needs       no read was made, or the last was made where the bytes before it did not decide the item
+--   size        falls with each byte used, and doesn't grow with the bytes that come
+--   LastCame    bytes came, the last of them by one read
+--   Needs       no read was made, or the last was made where at most so many bytes were at hand, which did not decide the item
 --   MadeReady   bytes came until the first item is decided or all have come
 --   Keeps       the first bytes are used
---   Refills     all bytes at hand are used, and more come
+--   Refills     all bytes at hand are used, and more come by one read
 --   BreaksOff   why no more bytes come, though not all have: bytes came, and then there was no memory, or a read broke off
+--   RanShort    bytes came, each read needed, and then there was no memory
 --   Broke       bytes came, and then a read broke off; those before it don't decide the item that they begin with
 --   BreaksAt    either
 --   Oversized   no item within so many bytes, and that there is none isn't decided by one byte more
-use Rattle.std.specs.Prelude.{◌≡◌, ℕ, ◌+◌, ◌≤◌, ◌<◌, ◌⊎◌, Bool, true, false, List, [], ◌++◌, length, take, MatchOption, Result, Ok, Err}
+use Rattle.std.specs.Prelude.{◌≡◌, ℕ, ◌+◌, ◌*◌, ◌≤◌, ◌<◌, ◌⊎◌, Bool, true, false, List, [], ◌++◌, length, take, MatchOption, Result, Ok, Err}
 use Rattle.byte_streams.specs.Calls.{Calls, joined}
 use Rattle.chess_items.specs.steps.Deciding.{Decides}
 use Rattle.chess_items.specs.steps.ItemAt.{item_at}
@@ -19,11 +22,28 @@ use Rattle.chess_items.specs.declared.place.Place.{Place}
 abbrev pub Near : Place → List ℕ → List ℕ → Type 0
 Near place old new = (new ≡ old) ⊎ ((prefix : List ℕ) × (piece : List ℕ) × (new ≡ prefix ++ piece) × (length piece ≤ 65536) × (Decides place prefix → ⊥))
 
--- with the bytes that came: each read before the end of the text brings some
-abbrev pub Needs : {X : Type 0} → (X → List ℕ) → (X → Type 0) → Place → X → List ℕ → X → Type 0
-Needs at_hand all place old more new =
-    ((more ≡ []) × (all new → all old))
-    ⊎ ((earlier : List ℕ) × (piece : List ℕ) × (more ≡ earlier ++ piece) × (length piece ≤ 65536) × (Decides place (at_hand old ++ earlier) → ⊥) × (all old → ⊥))
+abbrev pub size : {X : Type 0} → (X → List ℕ) → (X → ℕ) → X → ℕ
+size at_hand reads s = reads s * 65537 + length (at_hand s)
+
+-- those before the last read, and the state then
+pub record LastCame {X : Type 0} (comes : X → List ℕ → X → Type 0) (reads : X → ℕ) (old : X) (came : List ℕ) (new : X) : Type 0 where
+  pub earlier : List (List ℕ)
+  pub before : X
+  pub first : Calls comes old earlier before
+  pub last : List (List ℕ)
+  pub brought : Calls comes before last new
+  pub once : reads new + 1 ≡ reads before
+  pub parts : came ≡ joined earlier ++ joined last
+
+pub record LastNeeded {X : Type 0} (comes : X → List ℕ → X → Type 0) (at_hand : X → List ℕ) (all : X → Type 0) (reads : X → ℕ) (most : ℕ) (place : Place) (old : X) (more : List ℕ) (new : X) : Type 0 where
+  pub came : LastCame comes reads old more new
+  pub few : length (at_hand old ++ joined came.earlier) ≤ most
+  pub undecided : Decides place (at_hand old ++ joined came.earlier) → ⊥
+  pub not_yet : all old → ⊥
+
+-- with the bytes that came
+abbrev pub Needs : {X : Type 0} → (X → List ℕ → X → Type 0) → (X → List ℕ) → (X → Type 0) → (X → ℕ) → ℕ → Place → X → List ℕ → X → Type 0
+Needs comes at_hand all reads most place old more new = (reads new ≡ reads old) ⊎ LastNeeded comes at_hand all reads most place old more new
 
 -- more than `most` bytes, of which no item of at most `most` is the first, and the first `most + 1` don't decide that there is none
 abbrev pub Oversized : ℕ → Place → List ℕ → Type 0
@@ -33,31 +53,38 @@ abbrev pub BreaksOff : {X : Type 0} → (X → List ℕ → X → Type 0) → (X
 BreaksOff comes breaks all old new Memory = (all old → ⊥) × (pieces : List (List ℕ)) × Calls comes old pieces new
 BreaksOff {X} comes breaks all old new Read = (all old → ⊥) × (pieces : List (List ℕ)) × (mid : X) × Calls comes old pieces mid × breaks mid new × (all mid → ⊥)
 
-pub record Broke {X : Type 0} (comes : X → List ℕ → X → Type 0) (at_hand : X → List ℕ) (breaks : X → X → Type 0) (all sound : X → Type 0) (place : Place) (old new : X) : Type 0 where
+pub record Broke {X : Type 0} (comes : X → List ℕ → X → Type 0) (at_hand : X → List ℕ) (breaks : X → X → Type 0) (all sound : X → Type 0) (reads : X → ℕ) (most : ℕ) (place : Place) (old new : X) : Type 0 where
   pub pieces : List (List ℕ)
   pub mid : X
   pub came : Calls comes old pieces mid
   pub longer : at_hand mid ≡ at_hand old ++ joined pieces
   pub undecided : Decides place (at_hand mid) → ⊥
+  pub few : length (at_hand mid) ≤ most
   pub not_yet : all old → ⊥
   pub not_all : all mid → ⊥
   pub sound_still : sound mid
   pub breaks_off : breaks mid new
 
-abbrev pub BreaksAt : {X : Type 0} → (X → List ℕ → X → Type 0) → (X → List ℕ) → (X → X → Type 0) → (X → Type 0) → (X → Type 0) → Place → X → X → Fault → Type 0
-BreaksAt comes at_hand breaks all sound place old new Memory = BreaksOff comes breaks all old new Memory
-BreaksAt comes at_hand breaks all sound place old new Read = Broke comes at_hand breaks all sound place old new
+pub record RanShort {X : Type 0} (comes : X → List ℕ → X → Type 0) (at_hand : X → List ℕ) (all : X → Type 0) (reads : X → ℕ) (most : ℕ) (place : Place) (old new : X) : Type 0 where
+  pub pieces : List (List ℕ)
+  pub came : Calls comes old pieces new
+  pub asked : Needs comes at_hand all reads most place old (joined pieces) new
+  pub not_yet : all old → ⊥
 
-module _ {X : Type 0} (comes : X → List ℕ → X → Type 0) (at_hand : X → List ℕ) (all sound : X → Type 0) (size : X → ℕ) where
+abbrev pub BreaksAt : {X : Type 0} → (X → List ℕ → X → Type 0) → (X → List ℕ) → (X → X → Type 0) → (X → Type 0) → (X → Type 0) → (X → ℕ) → ℕ → Place → X → X → Fault → Type 0
+BreaksAt comes at_hand breaks all sound reads most place old new Memory = RanShort comes at_hand all reads most place old new
+BreaksAt comes at_hand breaks all sound reads most place old new Read = Broke comes at_hand breaks all sound reads most place old new
+
+module _ {X : Type 0} (comes : X → List ℕ → X → Type 0) (at_hand : X → List ℕ) (all sound : X → Type 0) (reads : X → ℕ) where
   -- the bytes at hand decide the next item, or no more come
   pub record IsReady (most : ℕ) (place : Place) (old : X) (more : List ℕ) (new : X) : Type 0 where
     pub longer : at_hand new ≡ at_hand old ++ more
     pub decided : Decides place (at_hand new) ⊎ all new
     pub near : Near place (at_hand old) (at_hand new)
-    pub asked : Needs at_hand all place old more new
+    pub asked : Needs comes at_hand all reads most place old more new
     pub at_end : all old → (more ≡ []) × all new
     pub sound_still : sound new
-    pub no_larger : size new ≤ size old
+    pub no_larger : size at_hand reads new ≤ size at_hand reads old
     pub held : length (at_hand old) ≤ most + 65536 → length (at_hand new) ≤ most + 65536
 
   -- too many bytes are at hand, and they don't decide the item
@@ -65,10 +92,10 @@ module _ {X : Type 0} (comes : X → List ℕ → X → Type 0) (at_hand : X →
     pub longer : at_hand new ≡ at_hand old ++ more
     pub over : most < length (at_hand new)
     pub undecided : Decides place (at_hand new) → ⊥
-    pub asked : Needs at_hand all place old more new
+    pub asked : Needs comes at_hand all reads most place old more new
     pub at_end : all old → (more ≡ []) × all new
     pub sound_still : sound new
-    pub no_larger : size new ≤ size old
+    pub no_larger : size at_hand reads new ≤ size at_hand reads old
     pub held : length (at_hand old) ≤ most + 65536 → length (at_hand new) ≤ most + 65536
 
   -- they do, or too many are at hand
@@ -91,15 +118,16 @@ module _ {X : Type 0} (comes : X → List ℕ → X → Type 0) (at_hand : X →
     pub came : comes old [] new
     pub at_end : all old → all new
     pub not_yet : all new → all old
+    pub no_read : reads new ≡ reads old
     pub sound_still : sound new
-    pub smaller : size new + length (at_hand old) ≤ size old + left
+    pub smaller : size at_hand reads new + length (at_hand old) ≤ size at_hand reads old + left
 
   -- others are at hand, or none come
   abbrev pub AfterRefill : X → List ℕ → X → Bool → Type 0
-  AfterRefill old more new true = (at_hand new ≡ more) × sound new × (size new + 1 ≤ size old) × (all old → ⊥)
-  AfterRefill old more new false = (at_hand new ≡ []) × (more ≡ []) × all new × sound new × (size new ≤ size old)
+  AfterRefill old more new true = (at_hand new ≡ more) × sound new × (size at_hand reads new + 1 ≤ size at_hand reads old) × (all old → ⊥) × (reads new + 1 ≡ reads old)
+  AfterRefill old more new false = (at_hand new ≡ []) × (more ≡ []) × all new × sound new × (size at_hand reads new ≤ size at_hand reads old)
 
-  -- all bytes at hand are used, and others came, or none do
+  -- all bytes at hand are used, and others came by one read, or none do
   pub record Refill (old new : X) (has_more : Bool) : Type 0 where
     pub more : List ℕ
     pub came : comes old more new

@@ -1,3 +1,4 @@
+use Rattle.chess_items.specs.steps.Texts.{size}
 use Rattle.std.proofs.Common.{◌≤◌}
 use Rattle.chess_items.specs.Abandoned.{HaltsIn}
 use Rattle.chess_items.specs.steps.Skimming.{Onward}
@@ -9,4 +10,4 @@ invariant-loop-fault g l =
     × ((first : g.row.X.Denot) → HaltsIn g.X.Text.comes g.X.Text.at_hand g.X.Text.all first l.fn.text l.fn.halt → HaltsIn g.X.Text.comes g.X.Text.at_hand g.X.Text.all first l.text (record { place = l.place; at = l.at; begun = l.skimmer.begun; white = l.white }))
 
 abbrev pub decreases-loop-fault : goal.decreases-loop-fault
-decreases-loop-fault g l = g.X.Text.size l.text
+decreases-loop-fault g l = size g.X.Text.at_hand g.X.Text.reads l.text

@@ -4,25 +4,25 @@ use Rattle.chess_items.proofs.TakingLemmas.{underway_start, ran, ran_ends, ran_b
 use Rattle.chess_items.proofs.taking.run.Goals as goal
 
 pub loop-fault-init : goal.loop-fault-init
-loop-fault-init g c = underway_start g.X.Text.comes g.X.Text.at_hand g.X.Text.all g.X.Text.sound g.X.Text.size g.T.Taker.takes c.args.limit c.args.text.now c.args.taker.now c.requires
+loop-fault-init g c = underway_start g.X.Text.comes g.X.Text.at_hand g.X.Text.all g.X.Text.sound g.X.Text.reads g.T.Taker.takes c.args.limit c.args.text.now c.args.taker.now c.requires
 
 pub returns-in-Err-clause-broken : goal.returns-in-Err-clause-broken
-returns-in-Err-clause-broken g c = ran_broken g.X.Text.comes g.X.Text.at_hand g.X.Text.all g.X.Text.sound g.X.Text.size g.T.Taker.takes c.args.limit c.args.text.now c.args.taker.now g.X.Text.breaks c.loop-fault.at c.loop-fault.place c.loop-fault.white c.loop-fault.text c.take_one.new.text c.loop-fault.taker c.in-Err.fault c.loop-fault.invariant c.in-Err.ensures.broken
+returns-in-Err-clause-broken g c = ran_broken g.X.Text.comes g.X.Text.at_hand g.X.Text.all g.X.Text.sound g.X.Text.reads g.T.Taker.takes c.args.limit c.args.text.now c.args.taker.now g.X.Text.breaks c.loop-fault.at c.loop-fault.place c.loop-fault.white c.loop-fault.text c.take_one.new.text c.loop-fault.taker c.in-Err.fault c.loop-fault.invariant c.in-Err.ensures.broken
 
 pub returns-in-Ok-Stops : goal.returns-in-Ok-Stops
 returns-in-Ok-Stops g c =
-    let ended = ran g.X.Text.comes g.X.Text.at_hand g.X.Text.all g.X.Text.sound g.X.Text.size g.T.Taker.takes c.args.limit c.args.text.now c.args.taker.now c.loop-fault.at c.loop-fault.place c.loop-fault.white c.loop-fault.text c.take_one.new.text c.loop-fault.taker c.take_one.new.taker c.in-Ok-Stops.why c.loop-fault.invariant (rw c.in-Ok-Stops.field-0-is at c.in-Ok-Stops.ensures.steps) in
-    record { sound = sound_after g.X.Text.comes g.X.Text.at_hand g.X.Text.all g.X.Text.sound g.X.Text.size g.T.Taker.takes c.args.limit c.args.text.now c.args.taker.now c.take_one.new.text c.take_one.new.taker ended.pieces c.loop-fault.at c.loop-fault.place c.loop-fault.white c.in-Ok-Stops.why ended.after; ran = ended; broken = tt }
+    let ended = ran g.X.Text.comes g.X.Text.at_hand g.X.Text.all g.X.Text.sound g.X.Text.reads g.T.Taker.takes c.args.limit c.args.text.now c.args.taker.now c.loop-fault.at c.loop-fault.place c.loop-fault.white c.loop-fault.text c.take_one.new.text c.loop-fault.taker c.take_one.new.taker c.in-Ok-Stops.why c.loop-fault.invariant (rw c.in-Ok-Stops.field-0-is at c.in-Ok-Stops.ensures.steps) in
+    record { sound = sound_after g.X.Text.comes g.X.Text.at_hand g.X.Text.all g.X.Text.sound g.X.Text.reads g.T.Taker.takes c.args.limit c.args.text.now c.args.taker.now c.take_one.new.text c.take_one.new.taker ended.pieces c.loop-fault.at c.loop-fault.place c.loop-fault.white c.in-Ok-Stops.why ended.after; ran = ended; broken = tt }
 
 pub returns-in-Ok-Full : goal.returns-in-Ok-Full
 returns-in-Ok-Full g c =
-    let ended = ran_ends g.X.Text.comes g.X.Text.at_hand g.X.Text.all g.X.Text.sound g.X.Text.size g.T.Taker.takes c.args.limit c.args.text.now c.args.taker.now c.loop-fault.at c.loop-fault.place c.loop-fault.white c.loop-fault.text c.take_one.new.text c.loop-fault.taker c.take_one.new.taker c.in-Ok-Full.next c.in-Ok-Full.used c.in-Ok-Full.is_white c.loop-fault.invariant (rw c.in-Ok-Full.field-0-is at c.in-Ok-Full.ensures.steps) in
-    record { sound = sound_after g.X.Text.comes g.X.Text.at_hand g.X.Text.all g.X.Text.sound g.X.Text.size g.T.Taker.takes c.args.limit c.args.text.now c.args.taker.now c.take_one.new.text c.take_one.new.taker ended.pieces (c.loop-fault.at + c.in-Ok-Full.used) c.in-Ok-Full.next (c.loop-fault.white && c.in-Ok-Full.is_white) stop.Full ended.after; ran = ended; broken = tt }
+    let ended = ran_ends g.X.Text.comes g.X.Text.at_hand g.X.Text.all g.X.Text.sound g.X.Text.reads g.T.Taker.takes c.args.limit c.args.text.now c.args.taker.now c.loop-fault.at c.loop-fault.place c.loop-fault.white c.loop-fault.text c.take_one.new.text c.loop-fault.taker c.take_one.new.taker c.in-Ok-Full.next c.in-Ok-Full.used c.in-Ok-Full.is_white c.loop-fault.invariant (rw c.in-Ok-Full.field-0-is at c.in-Ok-Full.ensures.steps) in
+    record { sound = sound_after g.X.Text.comes g.X.Text.at_hand g.X.Text.all g.X.Text.sound g.X.Text.reads g.T.Taker.takes c.args.limit c.args.text.now c.args.taker.now c.take_one.new.text c.take_one.new.taker ended.pieces (c.loop-fault.at + c.in-Ok-Full.used) c.in-Ok-Full.next (c.loop-fault.white && c.in-Ok-Full.is_white) stop.Full ended.after; ran = ended; broken = tt }
 
 pub loop-fault-preserved : goal.loop-fault-preserved
-loop-fault-preserved g c = goes_on g.X.Text.comes g.X.Text.at_hand g.X.Text.all g.X.Text.sound g.X.Text.size g.T.Taker.takes c.args.limit c.args.text.now c.args.taker.now c.loop-fault.at c.loop-fault.place c.loop-fault.white c.loop-fault.text c.take_one.new.text c.loop-fault.taker c.take_one.new.taker c.in-Ok-On.next c.in-Ok-On.used c.in-Ok-On.is_white c.loop-fault.invariant (rw c.in-Ok-On.field-0-is at c.in-Ok-On.ensures.steps)
+loop-fault-preserved g c = goes_on g.X.Text.comes g.X.Text.at_hand g.X.Text.all g.X.Text.sound g.X.Text.reads g.T.Taker.takes c.args.limit c.args.text.now c.args.taker.now c.loop-fault.at c.loop-fault.place c.loop-fault.white c.loop-fault.text c.take_one.new.text c.loop-fault.taker c.take_one.new.taker c.in-Ok-On.next c.in-Ok-On.used c.in-Ok-On.is_white c.loop-fault.invariant (rw c.in-Ok-On.field-0-is at c.in-Ok-On.ensures.steps)
 
 pub loop-fault-smaller : goal.loop-fault-smaller
 loop-fault-smaller g c =
-    let f = falls g.X.Text.comes g.X.Text.at_hand g.X.Text.all g.X.Text.sound g.X.Text.size g.T.Taker.takes c.args.limit c.args.text.now c.args.taker.now c.loop-fault.at c.loop-fault.place c.loop-fault.text c.take_one.new.text c.loop-fault.taker c.take_one.new.taker c.in-Ok-On.next c.in-Ok-On.used c.in-Ok-On.is_white (rw c.in-Ok-On.field-0-is at c.in-Ok-On.ensures.steps) in
+    let f = falls g.X.Text.comes g.X.Text.at_hand g.X.Text.all g.X.Text.sound g.X.Text.reads g.T.Taker.takes c.args.limit c.args.text.now c.args.taker.now c.loop-fault.at c.loop-fault.place c.loop-fault.text c.take_one.new.text c.loop-fault.taker c.take_one.new.taker c.in-Ok-On.next c.in-Ok-On.used c.in-Ok-On.is_white (rw c.in-Ok-On.field-0-is at c.in-Ok-On.ensures.steps) in
     omega (arith, f)

@@ -24,13 +24,15 @@ pub returns-then-reads_left-eq0-clause-broken : goal.returns-then-reads_left-eq0
 returns-then-reads_left-eq0-clause-broken g c =
     let at = (goal.at.returns-then-reads_left-eq0-clause-broken g c).After-note in
     let so = noted g at in
-    at_many (so_far so.brought) (search rules) g.R.Source.ended c.args.place so.brought.whole (undecided g at) (search rules)
+    let few : length (unread c.note.new.self) ≤ c.args.most = subst (λ (x : List ℕ). length x ≤ c.args.most) c.unread-in-loop-place.ensures c.if-unread-most.false in
+    at_many (so_far so.brought) (search rules) g.R.Source.ended c.args.most c.args.place so.brought.whole (undecided g at) few so.brought.asked (search rules)
 
 pub returns-in-Err-clause-broken : goal.returns-in-Err-clause-broken
 returns-in-Err-clause-broken g c =
     let at = (goal.at.returns-in-Err-clause-broken g c).After-note in
     let so = noted g at in
-    at_fault (so_far so.brought) (search rules) g.R.Source.ended c.args.place so.brought.whole (undecided g at) c.read_on.new.self c.in-Err.fault c.in-Err.ensures
+    let few : length (unread c.note.new.self) ≤ c.args.most = subst (λ (x : List ℕ). length x ≤ c.args.most) c.unread-in-loop-place.ensures c.if-unread-most.false in
+    at_fault (so_far so.brought) (search rules) g.R.Source.ended c.args.most c.args.place so.brought.whole (undecided g at) few so.brought.asked c.read_on.new.self c.in-Err.fault c.in-Err.ensures
 
 pub loop-place-preserved : goal.loop-place-preserved
 loop-place-preserved g c =
