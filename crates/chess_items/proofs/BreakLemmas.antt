@@ -19,7 +19,7 @@ each_append [] b x y = y
 each_append (p ∷ ps) b x y = (x.0, each_append ps b x.1 y)
 
 -- what has not ended afterwards had not before
-not_before : (v w : Bool) → (v ≡ true → w ≡ true) → w ≡ false → v ≡ false
+pub not_before : (v w : Bool) → (v ≡ true → w ≡ true) → w ≡ false → v ≡ false
 not_before false w h e = refl
 not_before true w h e = absurd (false≢true (sym e ∙ h refl))
 

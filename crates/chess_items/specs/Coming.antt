@@ -3,8 +3,9 @@
 --           its bytes were used
 --   Came    reads of at most 65,536 bytes each gave these bytes, and none of them failed; before the end each gave a byte
 --   Breaks  the next read failed, or there may be no more: of a new source, 2^40 were made; what was at hand still is, and as many bytes are used
+--   LastReadWhere  no read was made, or the last, of at most 65,536 bytes, was made where this holds of the bytes that were at hand and those before it
 --   BreaksWhere  bytes came, and then a read broke off before the source's end; of the bytes that were at hand and those that came, this holds
-use Rattle.std.specs.Prelude.{◌≡◌, ◌⊎◌, ◌<◌, ◌≤◌, ℕ, ◌+◌, ◌*◌, Bool, true, false, List, [], ◌++◌, length}
+use Rattle.std.specs.Prelude.{◌≡◌, ◌⊎◌, ◌<◌, ◌≤◌, ℕ, ◌+◌, ◌*◌, Bool, true, false, List, [], ◌∷◌, ◌++◌, length}
 use Rattle.std.specs.List.{AllByRecursion}
 use Rattle.byte_streams.specs.Calls.{Calls, joined}
 
@@ -30,6 +31,10 @@ pub record Came {R : Type 0} (gives : R → List ℕ → R → Type 0) (failed :
   pub well : failed new.source ≡ failed old.source
   pub each : new.has_ended ≡ false → AllByRecursion (λ piece. 0 < length piece) pieces
   pub ended_still : old.has_ended ≡ true → new.has_ended ≡ true
+
+-- of some pieces, one for each read
+abbrev pub LastReadWhere : (List ℕ → Type 0) → List ℕ → List (List ℕ) → Type 0
+LastReadWhere holds hand pieces = (pieces ≡ []) ⊎ ((before : List (List ℕ)) × (piece : List ℕ) × (pieces ≡ before ++ piece ∷ []) × (length piece ≤ 65536) × holds (hand ++ joined before))
 
 abbrev pub Breaks : {R : Type 0} → (R → List ℕ → R → Type 0) → (R → Bool) → AtHand R → AtHand R → Type 0
 Breaks gives failed old new =

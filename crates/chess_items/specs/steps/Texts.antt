@@ -2,6 +2,7 @@
 --   Near        where bytes came, the last read was made where the bytes before it did not decide the item
 --   size        falls with each byte used, and doesn't grow with the bytes that come
 --   LastCame    bytes came, the last of them by one read
+--   LastWhere   no read was made, or the last was made where this holds of the bytes before it
 --   Needs       no read was made, or the last was made where at most so many bytes were at hand, which did not decide the item
 --   MadeReady   bytes came until the first item is decided or all have come
 --   Keeps       the first bytes are used
@@ -34,6 +35,9 @@ pub record LastCame {X : Type 0} (comes : X → List ℕ → X → Type 0) (read
   pub brought : Calls comes before last new
   pub once : reads new + 1 ≡ reads before
   pub parts : came ≡ joined earlier ++ joined last
+
+abbrev pub LastWhere : {X : Type 0} → (X → List ℕ → X → Type 0) → (X → List ℕ) → (X → ℕ) → (List ℕ → Type 0) → X → List ℕ → X → Type 0
+LastWhere comes at_hand reads holds old came new = (reads new ≡ reads old) ⊎ ((l : LastCame comes reads old came new) × holds (at_hand old ++ joined l.earlier))
 
 pub record LastNeeded {X : Type 0} (comes : X → List ℕ → X → Type 0) (at_hand : X → List ℕ) (all : X → Type 0) (reads : X → ℕ) (most : ℕ) (place : Place) (old : X) (more : List ℕ) (new : X) : Type 0 where
   pub came : LastCame comes reads old more new
