@@ -18,6 +18,22 @@ pub each_append : (a b : List (List ℕ)) → AllByRecursion (λ piece. 0 < leng
 each_append [] b x y = y
 each_append (p ∷ ps) b x y = (x.0, each_append ps b x.1 y)
 
+-- pieces that are no longer than a read's, and more of them
+abbrev pub Sized : List (List ℕ) → Type 0
+Sized pieces = AllByRecursion (λ piece. length piece ≤ 65536) pieces
+
+pub sized_append : (a b : List (List ℕ)) → Sized a → Sized b → Sized (a ++ b)
+sized_append [] b x y = y
+sized_append (p ∷ ps) b x y = (x.0, sized_append ps b x.1 y)
+
+pub sized_joined : (pieces : List (List ℕ)) → Sized pieces → length (joined pieces) ≤ 65536 * length pieces
+sized_joined [] x = omega arith
+sized_joined (p ∷ ps) x = (let n = length-append p (joined ps) in let k = sized_joined ps x.1 in omega (arith, n, k, x.0))
+
+-- so many bytes came at most
+pub came_small : {R : Type 0} {gives : R → List ℕ → R → Type 0} {failed : R → Bool} {old new : AtHand R} {bytes : List ℕ} (came : Came gives failed old bytes new) → length bytes ≤ 65536 * length came.pieces
+came_small came = (let n = ap length came.whole in let k = sized_joined came.pieces came.sized in omega (arith, n, k))
+
 -- what has not ended afterwards had not before
 pub not_before : (v w : Bool) → (v ≡ true → w ≡ true) → w ≡ false → v ≡ false
 not_before false w h e = refl
@@ -47,7 +63,7 @@ module _ {R : Type 0} (gives : R → List ℕ → R → Type 0) (failed : R → 
     calls = sym source;
     whole = refl;
     counted = omega (arith, reads);
-    small = omega arith;
+    sized = tt;
     placed = omega (arith, placed);
     well = ap failed source;
     each = λ e. tt;
@@ -60,7 +76,7 @@ module _ {R : Type 0} (gives : R → List ℕ → R → Type 0) (failed : R → 
     calls = Calls-append gives s.source m.source t.source first.pieces second.pieces first.calls second.calls;
     whole = rw (joined-append first.pieces second.pieces, first.whole, second.whole) refl;
     counted = (let n = length-append first.pieces second.pieces in omega (arith, n, first.counted, second.counted));
-    small = (let n = length-append first.pieces second.pieces in let k = length-append a b in omega (arith, n, k, first.small, second.small));
+    sized = sized_append first.pieces second.pieces first.sized second.sized;
     placed = (let k = length-append a b in omega (arith, k, first.placed, second.placed));
     well = second.well ∙ first.well;
     each = λ e. each_append first.pieces second.pieces (first.each (not_before m.has_ended t.has_ended second.ended_still e)) (second.each e);
@@ -78,7 +94,7 @@ read_came goes ended new r = record {
   calls = (new.source, r.call, refl);
   whole = append-nil r.piece;
   counted = r.counted;
-  small = r.small;
+  sized = (r.small, tt);
   placed = r.placed;
   well = r.after.3;
   each = λ e. (r.after.4 e, tt);
@@ -109,7 +125,7 @@ module _ {R : Type 0} {gives : R → List ℕ → R → Type 0} {failed : R → 
 
   -- a read for whose bytes there was no memory
   lost : (ended : R → Type 0) (new : AtHand R) (r : Reads gives ended failed now new (Err Memory)) → Came gives failed now r.piece new
-  lost ended new r = record { pieces = r.piece ∷ []; calls = (new.source, r.call, refl); whole = append-nil r.piece; counted = r.counted; small = r.small; placed = r.placed; well = r.after.0; each = λ e. (r.after.1, tt); ended_still = λ e. absurd (not_all e) }
+  lost ended new r = record { pieces = r.piece ∷ []; calls = (new.source, r.call, refl); whole = append-nil r.piece; counted = r.counted; sized = (r.small, tt); placed = r.placed; well = r.after.0; each = λ e. (r.after.1, tt); ended_still = λ e. absurd (not_all e) }
 
   -- the bytes at hand don't decide the item that they begin with, and are no more than may be
   module _ (ended : R → Type 0) (most : ℕ) (place : Place) (longer : unread now ≡ unread old ++ bytes) (undecided : Decides place (unread now) → ⊥) (few : length (unread now) ≤ most)

@@ -1,6 +1,7 @@
 -- Lemmas on bytes at hand and calls.
 use Rattle.std.proofs.Common.{◌≡◌, ℕ, ◌+◌, ◌*◌, ◌-◌, ◌≤◌, List, [], ◌∷◌, ◌++◌, length, take, drop, refl, sym, ap, subst, ◌∙◌, arith, append_assoc, append-nil, length-append}
 use Rattle.std.proofs.lemmas.List.{take-append-drop, drop_at, take_at}
+use Rattle.std.specs.List.{AllByRecursion}
 use Rattle.byte_streams.specs.Calls.{joined}
 use Rattle.chess_items.specs.steps.Deciding.{Decides}
 use Rattle.chess_items.specs.steps.AtHands.{Needed}
@@ -21,6 +22,10 @@ pub needed_more : (most : ℕ) (place : Place) (prefix : List ℕ) (pieces : Lis
 needed_more most place prefix [] piece n h few small = (subst (λ (x : List ℕ). Decides place x → ⊥) (append-nil prefix) h, subst (λ (x : List ℕ). length x ≤ most) (append-nil prefix) few, small, tt)
 needed_more most place prefix (p ∷ pieces) piece n h few small =
     (n.0, n.1, n.2, needed_more most place (prefix ++ p) pieces piece n.3 (subst (λ (x : List ℕ). Decides place x → ⊥) (sym (append_assoc prefix p (joined pieces))) h) (subst (λ (x : List ℕ). length x ≤ most) (sym (append_assoc prefix p (joined pieces))) few) small)
+
+pub needed_sized : (most : ℕ) (place : Place) (prefix : List ℕ) (pieces : List (List ℕ)) → Needed most place prefix pieces → AllByRecursion (λ piece. length piece ≤ 65536) pieces
+needed_sized most place prefix [] n = tt
+needed_sized most place prefix (p ∷ pieces) n = (n.2, needed_sized most place (prefix ++ p) pieces n.3)
 
 pub joined_small : (most : ℕ) (place : Place) (prefix : List ℕ) (pieces : List (List ℕ)) → Needed most place prefix pieces → length (joined pieces) ≤ 65536 * length pieces
 joined_small most place prefix [] n = omega arith

@@ -8,7 +8,7 @@ use Rattle.chess_items.specs.Coming.{AtHand, Came, unread}
 use Rattle.chess_items.specs.steps.AtHands.{Brought, Reads}
 use Rattle.chess_items.specs.declared.place.Place.{Place}
 use Rattle.chess_items.proofs.BreakLemmas.{each_append, read_came}
-use Rattle.chess_items.proofs.ReadLemmas.{joined_small, needed_more, take_front}
+use Rattle.chess_items.proofs.ReadLemmas.{needed_more, needed_sized, take_front}
 
 -- So far each read was needed, and the bytes that were looked at don't decide the item.
 pub record Going {R : Type 0} (gives : R → List ℕ → R → Type 0) (ended : R → Type 0) (failed : R → Bool) (most : ℕ) (place : Place) (looked : ℕ) (old now : AtHand R) : Type 0 where
@@ -19,7 +19,7 @@ pub record Going {R : Type 0} (gives : R → List ℕ → R → Type 0) (ended :
 -- what came so far
 module _ {R : Type 0} {gives : R → List ℕ → R → Type 0} {ended : R → Type 0} {failed : R → Bool} {most : ℕ} {place : Place} {old now : AtHand R} (b : Brought gives ended failed most place old now) where
   pub so_far : Came gives failed old (joined b.pieces) now
-  so_far = record { pieces = b.pieces; calls = b.calls; whole = refl; counted = b.counted; small = joined_small most place (unread old) b.pieces b.needed; placed = b.placed; well = b.well; each = b.each; ended_still = λ e. (b.at_end e).1 }
+  so_far = record { pieces = b.pieces; calls = b.calls; whole = refl; counted = b.counted; sized = needed_sized most place (unread old) b.pieces b.needed; placed = b.placed; well = b.well; each = b.each; ended_still = λ e. (b.at_end e).1 }
 
 module _ {R : Type 0} (gives : R → List ℕ → R → Type 0) (ended : R → Type 0) (failed : R → Bool) (most : ℕ) (place : Place) (old : AtHand R) where
   pub going_start : (looked : ℕ) → looked ≤ length (unread old) → (Decides place (take looked (unread old)) → ⊥) → (old.has_ended ≡ true → ended old.source) → Going gives ended failed most place looked old old

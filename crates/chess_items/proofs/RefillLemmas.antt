@@ -10,7 +10,7 @@ use Rattle.chess_items.specs.steps.Texts.{BreaksOff, Refills}
 use Rattle.chess_items.specs.steps.Texts as texts
 use Rattle.chess_items.specs.declared.at_hand.Fault.{Fault}
 use Rattle.chess_items.specs.declared.at_hand.Fault.TheVariants.{Memory, Read}
-use Rattle.chess_items.proofs.BreakLemmas.{breaking, brings, came_none, ends_truly, has_all, reads_left}
+use Rattle.chess_items.proofs.BreakLemmas.{breaking, brings, came_none, ends_truly, has_all, reads_left, sized_joined}
 use Rattle.chess_items.proofs.ReadLemmas.{empty_is}
 
 -- so many bytes are left
@@ -33,7 +33,7 @@ module _ {R : Type 0} (gives : R → List ℕ → R → Type 0) (ended : R → T
     pieces = h.came.pieces;
     calls = subst (λ (x : R). Calls gives x h.came.pieces new.source) source h.came.calls;
     counted = omega (arith, h.came.counted, reads);
-    small = rw h.came.whole h.came.small;
+    sized = h.came.sized;
     placed = (let n = ap length h.came.whole in omega (arith, n, h.came.placed, placed));
     well = h.came.well ∙ ap failed source;
     at_end = λ e. (empty_is h.came.pieces (let n = h.no_read (has_ended ∙ e) in omega (arith, n, h.came.counted)), (h.at_end (has_ended ∙ e)).1);
@@ -64,7 +64,7 @@ module _ {R : Type 0} (gives : R → List ℕ → R → Type 0) (ended : R → T
   refills_after true r = (
     r.after.0,
     (λ e. absurd (false≢true (sym r.after.2 ∙ e))),
-    (let n = ap length r.after.0 in omega (arith, n, r.small, r.after.1, r.counted)),
+    (let n = ap length r.after.0 in let s = sized_joined r.pieces r.sized in omega (arith, n, s, r.after.1, r.counted)),
     (λ e. some_pieces r.pieces r.after.1 (r.at_end e).0),
     omega (arith, r.after.1, r.counted),
   )
@@ -73,7 +73,7 @@ module _ {R : Type 0} (gives : R → List ℕ → R → Type 0) (ended : R → T
   refills (Err e) r = tt
   refills (Ok has_more) r = record {
     more = joined r.pieces;
-    came = record { pieces = r.pieces; calls = r.calls; whole = refl; counted = r.counted; small = r.small; placed = r.placed; well = r.well; each = r.each; ended_still = λ e. (r.at_end e).1 };
+    came = record { pieces = r.pieces; calls = r.calls; whole = refl; counted = r.counted; sized = r.sized; placed = r.placed; well = r.well; each = r.each; ended_still = λ e. (r.at_end e).1 };
     after = refills_after has_more r;
   }
 

@@ -5,7 +5,7 @@
 --   Breaks  the next read failed, or there may be no more: of a new source, 2^40 were made; what was at hand still is, and as many bytes are used
 --   LastReadWhere  no read was made, or the last, of at most 65,536 bytes, was made where this holds of the bytes that were at hand and those before it
 --   BreaksWhere  bytes came, and then a read broke off before the source's end; of the bytes that were at hand and those that came, this holds
-use Rattle.std.specs.Prelude.{◌≡◌, ◌⊎◌, ◌<◌, ◌≤◌, ℕ, ◌+◌, ◌*◌, Bool, true, false, List, [], ◌∷◌, ◌++◌, length}
+use Rattle.std.specs.Prelude.{◌≡◌, ◌⊎◌, ◌<◌, ◌≤◌, ℕ, ◌+◌, Bool, true, false, List, [], ◌∷◌, ◌++◌, length}
 use Rattle.std.specs.List.{AllByRecursion}
 use Rattle.byte_streams.specs.Calls.{Calls, joined}
 
@@ -26,7 +26,7 @@ pub record Came {R : Type 0} (gives : R → List ℕ → R → Type 0) (failed :
   pub calls : Calls gives old.source pieces new.source
   pub whole : joined pieces ≡ bytes
   pub counted : new.reads + length pieces ≡ old.reads
-  pub small : length bytes ≤ 65536 * length pieces
+  pub sized : AllByRecursion (λ piece. length piece ≤ 65536) pieces
   pub placed : new.used + length (unread new) ≡ old.used + length (unread old) + length bytes
   pub well : failed new.source ≡ failed old.source
   pub each : new.has_ended ≡ false → AllByRecursion (λ piece. 0 < length piece) pieces

@@ -23,21 +23,21 @@ use Rattle.chess_pgn.proofs.SourceLemmas.{no_bytes, whole_game, whole_none}
 -- ---- a whole text
 
 module _ {X : Type 0} (at_hand : X → List ℕ) (all : X → Type 0) (old new : X) where
-  pub white_found : {A : Type 0} (found : Option (Game A × ℕ)) → FoundGame (λ x bytes y. bytes ≡ []) at_hand all old new found → IsWhite (at_hand old) → found ≡ None
+  pub white_found : {A : Type 0} (found : Option (Game A × ℕ)) → FoundGame (λ x bytes y. bytes ≡ []) at_hand all reads old new found → IsWhite (at_hand old) → found ≡ None
   white_found (Some x) h w = absurd (white_no_game (at_hand old) (game_of x.0) x.1 w (whole_game at_hand all old new (Some x) h))
   white_found None h w = refl
 
-  pub only_found : {A : Type 0} (found : Option (Game A × ℕ)) → FoundGame (λ x bytes y. bytes ≡ []) at_hand all old new found → (game : games.Game) (used : ℕ) → BeginsWithGame (at_hand old) game used → IsAnswered game used (Ok found)
+  pub only_found : {A : Type 0} (found : Option (Game A × ℕ)) → FoundGame (λ x bytes y. bytes ≡ []) at_hand all reads old new found → (game : games.Game) (used : ℕ) → BeginsWithGame (at_hand old) game used → IsAnswered game used (Ok found)
   only_found {A} (Some x) h game used y = one_game (at_hand old) (game_of x.0) game x.1 used (whole_game at_hand all old new (Some x) h) y
   only_found {A} None h game used y = white_no_game (at_hand old) game used (whole_none at_hand all old new {A = A} None h refl) y
 
 module _ {X : Type 0} (breaks : X → X → Type 0) (at_hand : X → List ℕ) (all sound : X → Type 0) (old new : X) where
-  none_there : NotCome (λ x bytes y. bytes ≡ []) at_hand all sound old new → HasNoGame (at_hand old)
+  none_there : NotCome (λ x bytes y. bytes ≡ []) at_hand all sound reads old new → HasNoGame (at_hand old)
   none_there h =
       subst (λ (z : List ℕ). HasNoGame z) (ap (λ (z : List ℕ). at_hand old ++ (z ++ [])) (no_bytes old new h.pieces h.came) ∙ append-nil (at_hand old)) (h.none [] (λ e. refl))
 
   abbrev Faulty : GamesFault → Type 0
-  Faulty told = IsFault (λ x bytes y. bytes ≡ []) at_hand all sound breaks old new told
+  Faulty told = IsFault (λ x bytes y. bytes ≡ []) at_hand all sound reads breaks old new told
 
   fault_there : (fault : PgnFault) → Faulty (Pgn fault) → (fault.kind ≡ Memory) ⊎ HasNoGame (at_hand old)
   fault_there fault (inl k) = inl k.0
@@ -70,7 +70,7 @@ not_true false h = refl
 
 module _ {R : Type 0} (gives : R → List ℕ → R → Type 0) (failed : R → Bool) (ended : R → Type 0) (old new : AtHand R) where
   -- wherever the fault is placed
-  pub source_fault : (fault placed : GamesFault) → IsFault (brings gives failed) unread (has_all gives failed) (ends_truly gives failed ended) (breaking gives failed) old new fault → HasKind fault placed → HasFault gives failed ended old new placed
+  pub source_fault : (fault placed : GamesFault) → IsFault (brings gives failed) unread (has_all gives failed) (ends_truly gives failed ended) (reads_left gives failed) (breaking gives failed) old new fault → HasKind fault placed → HasFault gives failed ended old new placed
   source_fault (Pgn fault) (Pgn placed) (inl k) e =
       inl (e ∙ k.0, record { bytes = joined k.1.pieces; came = all_came gives failed old new k.1.pieces k.1.came; still = λ h. let s = k.1.still h in (s.0, s.2 s.1) })
   source_fault (Pgn fault) (Pgn placed) (inr h) e =

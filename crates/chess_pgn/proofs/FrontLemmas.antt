@@ -166,7 +166,7 @@ spelled_front at place input (x ∷ is) rest s =
 bracket_first : (text : List ℕ) (item : Item) (hand next : List ℕ) → item ≡ items.TagOpen → IsSpelled item text next → hand ≡ text ++ next → hand ≡ byte "[" ∷ next
 bracket_first text item hand next e s h = (let o : text ≡ byte "[" ∷ [] = subst (λ (i : Item). IsSpelled i text next) e s in h ∙ ap (λ (z : List ℕ). z ++ next) o)
 
-module _ {X A : Type 0} (comes : X → List ℕ → X → Type 0) (at_hand : X → List ℕ) (all sound : X → Type 0) (size : X → ℕ) (old : X) (t u : Reader A) (new_reader : IsNew t) (game : Game A) where
+module _ {X A : Type 0} (comes : X → List ℕ → X → Type 0) (at_hand : X → List ℕ) (all sound : X → Type 0) (reads : X → ℕ) (old : X) (t u : Reader A) (new_reader : IsNew t) (game : Game A) where
   abbrev takes : Reader A → ℕ → Item → Result Taken PgnFault → Reader A → Type 0
   takes s at item result v = TakesItem s item result v
 
@@ -175,7 +175,7 @@ module _ {X A : Type 0} (comes : X → List ℕ → X → Type 0) (at_hand : X �
 
   module _ (pieces : List (List ℕ)) (new : X) (came : Calls comes old pieces new) (at : ℕ) (place : Place) (white : Bool) where
     -- the last read was made where no one game was at the start of the bytes before it
-    needs : Asked comes at_hand all sound size takes old (joined pieces) new t → ReadsNeeded comes at_hand all old (joined pieces) new
+    needs : Asked comes at_hand all sound reads takes old (joined pieces) new t → ReadsNeeded comes at_hand all old (joined pieces) new
     needs (inl a) = inl a
     needs (inr r) = inr (
       at_hand old ++ r.earlier,
@@ -188,8 +188,8 @@ module _ {X A : Type 0} (comes : X → List ℕ → X → Type 0) (at_hand : X �
           (subst (λ (p : Place). Decides p r.rest → ⊥) (behind_bare GameStart r.items) r.undecided) g n x,
     )
 
-    come : (is : List (ℕ × Item)) → Took comes at_hand all sound size takes limit old pieces new is at place white → list_all is_white (bare is) ≡ false → game.tree.path ≡ [] → (length (at_hand old) ≤ 65537 → length (at_hand new) ≤ 65537)
-        → Asked comes at_hand all sound size takes old (joined pieces) new t → IsWithinLimits (game_of game) → ((more : List ℕ) → (all new → more ≡ []) → Gives (bare is) (at_hand new ++ more) (game_of game)) → HasCome comes at_hand all old new game at
+    come : (is : List (ℕ × Item)) → Took comes at_hand all sound reads takes limit old pieces new is at place white → list_all is_white (bare is) ≡ false → game.tree.path ≡ [] → (length (at_hand old) ≤ 65537 → length (at_hand new) ≤ 65537)
+        → Asked comes at_hand all sound reads takes old (joined pieces) new t → IsWithinLimits (game_of game) → ((more : List ℕ) → (all new → more ≡ []) → Gives (bare is) (at_hand new ++ more) (game_of game)) → HasCome comes at_hand all reads old new game at
     come is took some cursor near asked within gives = let prefix = spelled_front 0 GameStart (at_hand old ++ (joined pieces ++ [])) is (at_hand new ++ []) (took.spelled [] (λ h. refl)) in record {
       pieces = pieces;
       came = came;
@@ -212,7 +212,7 @@ module _ {X A : Type 0} (comes : X → List ℕ → X → Type 0) (at_hand : X �
       still = took.at_end;
     }
 
-    come_full : RanFull comes at_hand all sound size takes limit old pieces new t u at place white → Closed u game → HasCome comes at_hand all old new game at
+    come_full : RanFull comes at_hand all sound reads takes limit old pieces new t u at place white → Closed u game → HasCome comes at_hand all reads old new game at
     come_full r c =
         let is = bare r.items in
         let p : Progress is r.mid = progress_all [] r.items t r.mid (progress_new t new_reader) r.taken in
@@ -220,7 +220,7 @@ module _ {X A : Type 0} (comes : X → List ℕ → X → Type 0) (at_hand : X �
         come (r.items ++ r.last ∷ []) r.took (ap (list_all is_white) (bare_more r.items r.last) ∙ dark_after is r.last.1 [] g.1) g.0.1 r.near r.asked c.within
         (λ more none. subst (λ (z : List Item). Gives z (at_hand new ++ more) (game_of game)) (sym (bare_more r.items r.last)) (ended_gives is r.last.1 (at_hand new ++ more) game r.mid u c p r.ends).0.0)
 
-    come_left : RanUpTo comes at_hand all sound size takes limit old pieces new t u at place white (Ok Leaves) → Closed u game → HasCome comes at_hand all old new game at
+    come_left : RanUpTo comes at_hand all sound reads takes limit old pieces new t u at place white (Ok Leaves) → Closed u game → HasCome comes at_hand all reads old new game at
     come_left r c =
         let is = bare r.items in
         let p : Progress is r.mid = progress_all [] r.items t r.mid (progress_new t new_reader) r.taken in
@@ -230,7 +230,7 @@ module _ {X A : Type 0} (comes : X → List ℕ → X → Type 0) (at_hand : X �
         let k = item_taken place (at_hand new ++ more) r.item (r.rest ++ more) (r.found more none) in
         (g.2 (at_hand new ++ more) (r.rest ++ more) (bracket_first k.0 r.item (at_hand new ++ more) (r.rest ++ more) g.0 k.2.spelled k.1)).0)
 
-    come_out : RanOut comes at_hand all sound size takes limit old pieces new t u at place white → white ≡ false → Finished u game → HasCome comes at_hand all old new game at
+    come_out : RanOut comes at_hand all sound reads takes limit old pieces new t u at place white → white ≡ false → Finished u game → HasCome comes at_hand all reads old new game at
     come_out r dark f =
         let is = bare r.items in
         let p : Progress is u = progress_all [] r.items t u (progress_new t new_reader) r.taken in
@@ -238,7 +238,7 @@ module _ {X A : Type 0} (comes : X → List ℕ → X → Type 0) (at_hand : X �
         come r.items r.took (sym (whites_bare r.items) ∙ sym r.took.whites ∙ dark) g.1 (λ h. rw r.nothing (omega arith)) r.asked f.ends.within
         (λ more none. subst (λ (z : List ℕ). Gives is z (game_of game)) (sym (ap (λ (z : List ℕ). z ++ more) r.nothing ∙ none r.ended)) g.0)
 
-    come_run : (why : Stop) → AfterRun comes at_hand all sound size takes limit old pieces new t u at place white why → (why ≡ stop.End → white ≡ false) → Answered why u game → HasCome comes at_hand all old new game at
+    come_run : (why : Stop) → AfterRun comes at_hand all sound reads takes limit old pieces new t u at place white why → (why ≡ stop.End → white ≡ false) → Answered why u game → HasCome comes at_hand all reads old new game at
     come_run stop.Full r dark a = come_full r a
     come_run stop.Left r dark a = come_left r a
     come_run stop.End r dark a = come_out r (dark refl) a
@@ -246,17 +246,17 @@ module _ {X A : Type 0} (comes : X → List ℕ → X → Type 0) (at_hand : X �
     come_run stop.NoItem r dark a = absurd a
     come_run stop.TooLarge r dark a = absurd a
 
-  pub game_come : (new : X) (found : Option Stopped) (s : Stopped) → Passes comes at_hand all sound size takes 1048576 old new t u (Ok found) → found ≡ Some s → Answered s.why u game → HasCome comes at_hand all old new game s.at
+  pub game_come : (new : X) (found : Option Stopped) (s : Stopped) → Passes comes at_hand all sound reads takes 1048576 old new t u (Ok found) → found ≡ Some s → Answered s.why u game → HasCome comes at_hand all reads old new game s.at
   game_come new found s h e a =
-      let p : Passed comes at_hand all sound size takes limit old new t u s = subst (λ (o : Option Stopped). Passes comes at_hand all sound size takes limit old new t u (Ok o)) e h in
+      let p : Passed comes at_hand all sound reads takes limit old new t u s = subst (λ (o : Option Stopped). Passes comes at_hand all sound reads takes limit old new t u (Ok o)) e h in
       let c = come_run p.ran.pieces p.mid p.ran.came s.at s.place s.white s.why p.ran.after p.more a in
       elim p.after [
-        | inl e ↦ subst (λ (x : X). HasCome comes at_hand all old x game s.at) (sym e.0) c
+        | inl e ↦ subst (λ (x : X). HasCome comes at_hand all reads old x game s.at) (sym e.0) c
         | inr n ↦ absurd (subst (λ (w : Stop). Answered w u game) n.over a)
       ]
 
-module _ {X T : Type 0} (comes : X → List ℕ → X → Type 0) (at_hand : X → List ℕ) (all sound : X → Type 0) (size : X → ℕ) where
-  none_white : (old new : X) (takes : TakesOne T) → WasWhite comes at_hand all sound size takes old new → NoneCame comes at_hand all old new
+module _ {X T : Type 0} (comes : X → List ℕ → X → Type 0) (at_hand : X → List ℕ) (all sound : X → Type 0) (reads : X → ℕ) where
+  none_white : (old new : X) (takes : TakesOne T) → WasWhite comes at_hand all sound reads takes old new → NoneCame comes at_hand all reads old new
   none_white old new takes w = record {
     pieces = w.pieces;
     came = w.came;
@@ -270,5 +270,5 @@ module _ {X T : Type 0} (comes : X → List ℕ → X → Type 0) (at_hand : X �
     still = w.still;
   }
 
-  pub none_come : (takes : TakesOne T) (limit : ℕ) (old new : X) (t u : T) (found : Option Stopped) → Passes comes at_hand all sound size takes limit old new t u (Ok found) → found ≡ None → NoneCame comes at_hand all old new
-  none_come takes limit old new t u found h e = none_white old new takes (subst (λ (o : Option Stopped). Passes comes at_hand all sound size takes limit old new t u (Ok o)) e h)
+  pub none_come : (takes : TakesOne T) (limit : ℕ) (old new : X) (t u : T) (found : Option Stopped) → Passes comes at_hand all sound reads takes limit old new t u (Ok found) → found ≡ None → NoneCame comes at_hand all reads old new
+  none_come takes limit old new t u found h e = none_white old new takes (subst (λ (o : Option Stopped). Passes comes at_hand all sound reads takes limit old new t u (Ok o)) e h)

@@ -123,7 +123,7 @@ is_memory : (k : FaultKind) → (k ≡ Memory) ⊎ (k ≡ Memory → ⊥)
 is_memory Memory = inl refl
 is_memory _ = inr (λ e. cc)
 
-module _ {X A : Type 0} (comes : X → List ℕ → X → Type 0) (at_hand : X → List ℕ) (all sound : X → Type 0) (size : X → ℕ) (old : X) (t u : Reader A) (new_reader : IsNew t) where
+module _ {X A : Type 0} (comes : X → List ℕ → X → Type 0) (at_hand : X → List ℕ) (all sound : X → Type 0) (reads : X → ℕ) (old : X) (t u : Reader A) (new_reader : IsNew t) where
   abbrev takes : Reader A → ℕ → Item → Result Taken PgnFault → Reader A → Type 0
   takes s at item result v = TakesItem s item result v
 
@@ -131,7 +131,7 @@ module _ {X A : Type 0} (comes : X → List ℕ → X → Type 0) (at_hand : X �
     abbrev halt : Halt
     halt = record { place = place; at = at; begun = u.moving; white = white }
 
-    halts_after : (is : List (ℕ × Item)) (r : Reader A) → Took comes at_hand all sound size takes 1048576 old pieces new is at place white → Takes takes t is r → u.moving ≡ r.moving → HaltsIn comes at_hand all old new halt
+    halts_after : (is : List (ℕ × Item)) (r : Reader A) → Took comes at_hand all sound reads takes 1048576 old pieces new is at place white → Takes takes t is r → u.moving ≡ r.moving → HaltsIn comes at_hand all old new halt
     halts_after is r took taken same =
         let one = one_game (bare is) r (progress_all [] is t r (progress_new t new_reader) taken) in
         record {
@@ -152,7 +152,7 @@ module _ {X A : Type 0} (comes : X → List ℕ → X → Type 0) (at_hand : X �
     moving_over mid (inl e) = ap (λ (r : Reader A). r.moving) e
     moving_over mid (inr b) = offered_still mid u b
 
-    halts_run : (why : Stop) (fault : PgnFault) → (fault.kind ≡ Memory → ⊥) → AfterRun comes at_hand all sound size takes 1048576 old pieces new t u at place white why → Unanswered why u fault → HaltsIn comes at_hand all old new halt
+    halts_run : (why : Stop) (fault : PgnFault) → (fault.kind ≡ Memory → ⊥) → AfterRun comes at_hand all sound reads takes 1048576 old pieces new t u at place white why → Unanswered why u fault → HaltsIn comes at_hand all old new halt
     halts_run stop.Full fault kind r a = absurd (kind a)
     halts_run stop.Left fault kind r a = absurd (kind a)
     halts_run (stop.Refused why) fault kind r a = halts_after r.items r.mid r.took r.taken r.answered.1
@@ -160,16 +160,16 @@ module _ {X A : Type 0} (comes : X → List ℕ → X → Type 0) (at_hand : X �
     halts_run stop.NoItem fault kind r a = halts_after r.items u r.took r.taken refl
     halts_run stop.TooLarge fault kind r a = halts_after r.items r.mid r.took r.taken (moving_over r.mid r.exceeds.same)
 
-  module _ (s : Stopped) (mid new : X) (r : Ran comes at_hand all sound size takes 1048576 old mid t u (Ok s)) (w : NotWhite comes at_hand all sound size takes s mid new) where
-    over : RanOver comes at_hand all sound size takes 1048576 old r.pieces mid t u s.at s.place s.white
-    over = subst (λ (y : Stop). AfterRun comes at_hand all sound size takes 1048576 old r.pieces mid t u s.at s.place s.white y) w.over r.after
+  module _ (s : Stopped) (mid new : X) (r : Ran comes at_hand all sound reads takes 1048576 old mid t u (Ok s)) (w : NotWhite comes at_hand all sound reads takes s mid new) where
+    over : RanOver comes at_hand all sound reads takes 1048576 old r.pieces mid t u s.at s.place s.white
+    over = subst (λ (y : Stop). AfterRun comes at_hand all sound reads takes 1048576 old r.pieces mid t u s.at s.place s.white y) w.over r.after
 
     flooded : UsesAllIn comes at_hand all old new
     flooded =
         let halts = halts_after r.pieces mid r.came s.at s.place s.white over.items over.mid over.took over.taken (moving_over r.pieces mid r.came s.at s.place s.white over.mid over.exceeds.same) in
-        skimmed_white comes at_hand all sound size old mid s.place s.at (record { begun = u.moving }) s.white halts w.white over.exceeds.over new w.skipped
+        skimmed_white comes at_hand all sound reads old mid s.place s.at (record { begun = u.moving }) s.white halts w.white over.exceeds.over new w.skipped
 
-  pub leaves_come : (new : X) (found : Option Stopped) (s : Stopped) (fault : PgnFault) → Passes comes at_hand all sound size takes 1048576 old new t u (Ok found) → found ≡ Some s → Unanswered s.why u fault
+  pub leaves_come : (new : X) (found : Option Stopped) (s : Stopped) (fault : PgnFault) → Passes comes at_hand all sound reads takes 1048576 old new t u (Ok found) → found ≡ Some s → Unanswered s.why u fault
       → (fault.kind ≡ Memory) ⊎ LeavesIn comes at_hand all old new (halt_at (is_flood s.why s.white) (record { place = s.place; at = s.at; begun = u.moving; white = s.white }))
   leaves_come new found s fault h e a = by (is_memory fault.kind)
     where
@@ -183,8 +183,8 @@ module _ {X A : Type 0} (comes : X → List ℕ → X → Type 0) (at_hand : X �
       dry stop.TooLarge white k = k refl
       dry _ white k = refl
 
-      p : Passed comes at_hand all sound size takes 1048576 old new t u s
-      p = subst (λ (o : Option Stopped). Passes comes at_hand all sound size takes 1048576 old new t u (Ok o)) e h
+      p : Passed comes at_hand all sound reads takes 1048576 old new t u s
+      p = subst (λ (o : Option Stopped). Passes comes at_hand all sound reads takes 1048576 old new t u (Ok o)) e h
 
       by : (fault.kind ≡ Memory) ⊎ (fault.kind ≡ Memory → ⊥) → (fault.kind ≡ Memory) ⊎ LeavesIn comes at_hand all old new (halt_at (is_flood s.why s.white) here)
       by (inl k) = inl k
@@ -195,10 +195,10 @@ module _ {X A : Type 0} (comes : X → List ℕ → X → Type 0) (at_hand : X �
         | inr w ↦ subst (λ (b : Bool). LeavesIn comes at_hand all old new (halt_at b here)) (sym (flood w.over w.white)) (flooded s p.mid new p.ran w)
       ])
 
-  pub few_come : (new : X) (found : Option Stopped) (s : Stopped) → Passes comes at_hand all sound size takes 1048576 old new t u (Ok found) → found ≡ Some s → IfSome (halt_at (is_flood s.why s.white) (record { place = s.place; at = s.at; begun = u.moving; white = s.white })) (λ halt. halt.at ≤ 1048576)
+  pub few_come : (new : X) (found : Option Stopped) (s : Stopped) → Passes comes at_hand all sound reads takes 1048576 old new t u (Ok found) → found ≡ Some s → IfSome (halt_at (is_flood s.why s.white) (record { place = s.place; at = s.at; begun = u.moving; white = s.white })) (λ halt. halt.at ≤ 1048576)
   few_come new found s h e =
-      let p : Passed comes at_hand all sound size takes 1048576 old new t u s = subst (λ (o : Option Stopped). Passes comes at_hand all sound size takes 1048576 old new t u (Ok o)) e h in
-      by (is_flood s.why s.white) (few_after comes at_hand all sound size takes 1048576 old t p.mid u p.ran.pieces s.at s.place s.white s.why p.ran.after)
+      let p : Passed comes at_hand all sound reads takes 1048576 old new t u s = subst (λ (o : Option Stopped). Passes comes at_hand all sound reads takes 1048576 old new t u (Ok o)) e h in
+      by (is_flood s.why s.white) (few_after comes at_hand all sound reads takes 1048576 old t p.mid u p.ran.pieces s.at s.place s.white s.why p.ran.after)
     where
       by : (b : Bool) → s.at ≤ 1048576 → IfSome (halt_at b (record { place = s.place; at = s.at; begun = u.moving; white = s.white })) (λ halt. halt.at ≤ 1048576)
       by true few = tt

@@ -34,15 +34,15 @@ no_bytes s t [] c = refl
 no_bytes s t (p ∷ ps) c = rw (c.1, no_bytes c.0 t ps c.2) refl
 
 module _ {X : Type 0} (at_hand : X → List ℕ) (all : X → Type 0) (old new : X) where
-  none_white : NoneCame (λ x bytes y. bytes ≡ []) at_hand all old new → IsWhite (at_hand old)
+  none_white : NoneCame (λ x bytes y. bytes ≡ []) at_hand all reads old new → IsWhite (at_hand old)
   none_white h = subst (λ (z : List ℕ). IsWhite z) (ap (λ (z : List ℕ). at_hand old ++ z) (no_bytes old new h.pieces h.came) ∙ append-nil (at_hand old)) h.white
 
-  pub whole_game : {A : Type 0} (found : Option (Game A × ℕ)) → FoundGame (λ x bytes y. bytes ≡ []) at_hand all old new found → IfSome found (λ x. BeginsWithGame (at_hand old) (game_of x.0) x.1)
+  pub whole_game : {A : Type 0} (found : Option (Game A × ℕ)) → FoundGame (λ x bytes y. bytes ≡ []) at_hand all reads old new found → IfSome found (λ x. BeginsWithGame (at_hand old) (game_of x.0) x.1)
   whole_game (Some x) h =
       subst (λ (z : List ℕ). BeginsWithGame z (game_of x.0) x.1) (ap (λ (z : List ℕ). at_hand old ++ (z ++ [])) (no_bytes old new h.pieces h.came) ∙ append-nil (at_hand old)) (h.reads [] (λ e. refl))
   whole_game None h = tt
 
-  pub whole_none : {A : Type 0} (found : Option (Game A × ℕ)) → FoundGame (λ x bytes y. bytes ≡ []) at_hand all old new found → found ≡ None → IsWhite (at_hand old)
+  pub whole_none : {A : Type 0} (found : Option (Game A × ℕ)) → FoundGame (λ x bytes y. bytes ≡ []) at_hand all reads old new found → found ≡ None → IsWhite (at_hand old)
   whole_none (Some x) h e = absurd cc
   whole_none None h e = none_white h
 
@@ -70,7 +70,7 @@ front_some : (input : List ℕ) (game : games.Game) (used : ℕ) → BeginsWithG
 front_some input game used f = (let k = items_some input f.items f.rest f.spelled f.some in omega (arith, k, f.counted))
 
 module _ {R : Type 0} (gives : R → List ℕ → R → Type 0) (failed : R → Bool) where
-  one_game : {B : Type 0} (old new : AtHand R) (game : Game B) (used : ℕ) → HasCome (brings gives failed) unread (has_all gives failed) old new game used → HasGame gives failed old new (game_of game)
+  one_game : {B : Type 0} (old new : AtHand R) (game : Game B) (used : ℕ) → HasCome (brings gives failed) unread (has_all gives failed) (reads_left gives failed) old new game used → HasGame gives failed old new (game_of game)
   one_game old new game used h = record {
     bytes = joined h.pieces;
     came = all_came gives failed old new h.pieces h.came;
@@ -83,7 +83,7 @@ module _ {R : Type 0} (gives : R → List ℕ → R → Type 0) (failed : R → 
     still = h.still;
   }
 
-  no_game : (old new : AtHand R) → NoneCame (brings gives failed) unread (has_all gives failed) old new → HasNone gives failed old new
+  no_game : (old new : AtHand R) → NoneCame (brings gives failed) unread (has_all gives failed) (reads_left gives failed) old new → HasNone gives failed old new
   no_game old new h = record {
     bytes = joined h.pieces;
     came = all_came gives failed old new h.pieces h.came;
@@ -93,21 +93,21 @@ module _ {R : Type 0} (gives : R → List ℕ → R → Type 0) (failed : R → 
     still = h.still;
   }
 
-  taken : {B : Type 0} (old new : AtHand R) (found : Option (Game B × ℕ)) (game : Game B) (used : ℕ) → FoundGame (brings gives failed) unread (has_all gives failed) old new found → found ≡ Some (game, used) → HasCome (brings gives failed) unread (has_all gives failed) old new game used
-  taken old new found game used h e = subst (λ o. FoundGame (brings gives failed) unread (has_all gives failed) old new o) e h
+  taken : {B : Type 0} (old new : AtHand R) (found : Option (Game B × ℕ)) (game : Game B) (used : ℕ) → FoundGame (brings gives failed) unread (has_all gives failed) (reads_left gives failed) old new found → found ≡ Some (game, used) → HasCome (brings gives failed) unread (has_all gives failed) (reads_left gives failed) old new game used
+  taken old new found game used h e = subst (λ o. FoundGame (brings gives failed) unread (has_all gives failed) (reads_left gives failed) old new o) e h
 
-  module _ {B : Type 0} (old new : AtHand R) (found : Option (Game B × ℕ)) (game : Game B) (used : ℕ) (h : FoundGame (brings gives failed) unread (has_all gives failed) old new found) (e : found ≡ Some (game, used)) where
+  module _ {B : Type 0} (old new : AtHand R) (found : Option (Game B × ℕ)) (game : Game B) (used : ℕ) (h : FoundGame (brings gives failed) unread (has_all gives failed) (reads_left gives failed) old new found) (e : found ≡ Some (game, used)) where
     pub source_game : HasGame gives failed old new (game_of game)
     source_game = one_game old new game used (taken old new found game used h e)
 
-  pub source_none : {B : Type 0} (old new : AtHand R) (found : Option (Game B × ℕ)) → FoundGame (brings gives failed) unread (has_all gives failed) old new found → found ≡ None → HasNone gives failed old new
-  source_none old new found h e = no_game old new (subst (λ o. FoundGame (brings gives failed) unread (has_all gives failed) old new o) e h)
+  pub source_none : {B : Type 0} (old new : AtHand R) (found : Option (Game B × ℕ)) → FoundGame (brings gives failed) unread (has_all gives failed) (reads_left gives failed) old new found → found ≡ None → HasNone gives failed old new
+  source_none old new found h e = no_game old new (subst (λ o. FoundGame (brings gives failed) unread (has_all gives failed) (reads_left gives failed) old new o) e h)
 
 -- ---- games, one after another
 
 module _ {R : Type 0} (gives : R → List ℕ → R → Type 0) (failed : R → Bool) where
   -- its bytes are used
-  pub next_game : {B : Type 0} (old new : Games R) (found : Option (Game B × ℕ)) (game : Game B) (used : ℕ) → FoundGame (brings gives failed) unread (has_all gives failed) old.text new.text found → found ≡ Some (game, used) → NextGame gives failed old new (game_of game)
+  pub next_game : {B : Type 0} (old new : Games R) (found : Option (Game B × ℕ)) (game : Game B) (used : ℕ) → FoundGame (brings gives failed) unread (has_all gives failed) (reads_left gives failed) old.text new.text found → found ≡ Some (game, used) → NextGame gives failed old new (game_of game)
   next_game old new found game used h e =
       let took = source_game gives failed old.text new.text found game used h e in
       record {

@@ -49,7 +49,7 @@ is_memory : (k : FaultKind) → (k ≡ Memory) ⊎ (k ≡ Memory → ⊥)
 is_memory Memory = inl refl
 is_memory _ = inr (λ e. cc)
 
-module _ {X A : Type 0} (comes : X → List ℕ → X → Type 0) (at_hand : X → List ℕ) (all sound : X → Type 0) (size : X → ℕ) (old : X) (t u : Reader A) (new_reader : IsNew t) where
+module _ {X A : Type 0} (comes : X → List ℕ → X → Type 0) (at_hand : X → List ℕ) (all sound : X → Type 0) (reads : X → ℕ) (old : X) (t u : Reader A) (new_reader : IsNew t) where
   abbrev takes : Reader A → ℕ → Item → Result Taken PgnFault → Reader A → Type 0
   takes s at item result v = TakesItem s item result v
 
@@ -63,7 +63,7 @@ module _ {X A : Type 0} (comes : X → List ℕ → X → Type 0) (at_hand : X �
     abbrev rest : List ℕ
     rest = at_hand new ++ more
 
-    module _ (is : List (ℕ × Item)) (took : Took comes at_hand all sound size takes limit old pieces new is at place white) where
+    module _ (is : List (ℕ × Item)) (took : Took comes at_hand all sound reads takes limit old pieces new is at place white) where
       spelled : Spells GameStart whole (bare is) rest
       spelled = spells_bare 0 GameStart whole is rest (took.spelled more none)
 
@@ -81,7 +81,7 @@ module _ {X A : Type 0} (comes : X → List ℕ → X → Type 0) (at_hand : X �
           omega (arith, a, b, c, took.counted)
 
     -- the bytes of the items
-    run_front : (why : Stop) → AfterRun comes at_hand all sound size takes limit old pieces new t u at place white why → (text : List ℕ) × (whole ≡ text ++ rest)
+    run_front : (why : Stop) → AfterRun comes at_hand all sound reads takes limit old pieces new t u at place white why → (text : List ℕ) × (whole ≡ text ++ rest)
     run_front stop.Full r = prefix (r.items ++ r.last ∷ []) r.took
     run_front stop.Left r = prefix r.items r.took
     run_front (stop.Refused fault) r = prefix r.items r.took
@@ -93,28 +93,28 @@ module _ {X A : Type 0} (comes : X → List ℕ → X → Type 0) (at_hand : X �
     taken_so is r k = progress_all [] is t r (progress_new t new_reader) k
 
     module _ (g : Game) (n : ℕ) (x : BeginsWithGame whole g n) where
-      run_refused : (fault : PgnFault) → (fault.kind ≡ Memory → ⊥) → RanUpTo comes at_hand all sound size takes limit old pieces new t u at place white (Err fault) → ⊥
+      run_refused : (fault : PgnFault) → (fault.kind ≡ Memory → ⊥) → RanUpTo comes at_hand all sound reads takes limit old pieces new t u at place white (Err fault) → ⊥
       run_refused fault kind r =
           let is = bare r.items in
           none_refused is r.item fault r.mid u (taken_so r.items r.mid r.taken) r.answered kind whole rest (r.rest ++ more) (spelled r.items r.took)
           (subst (λ (p : Place). item_at p rest ≡ the r.item (r.rest ++ more)) (there r.items r.took) (r.found more none)) g n x
 
-      run_out : MayNotEnd u → RanOut comes at_hand all sound size takes limit old pieces new t u at place white → ⊥
+      run_out : MayNotEnd u → RanOut comes at_hand all sound reads takes limit old pieces new t u at place white → ⊥
       run_out not_yet r =
           none_out (bare r.items) u (taken_so r.items u r.taken) not_yet whole rest (spelled r.items r.took) (ap (λ (z : List ℕ). z ++ more) r.nothing ∙ none r.ended) g n x
 
-      run_aground : RanAground comes at_hand all sound size takes limit old pieces new t u at place white → ⊥
+      run_aground : RanAground comes at_hand all sound reads takes limit old pieces new t u at place white → ⊥
       run_aground r =
           none_aground (bare r.items) u (taken_so r.items u r.taken) whole rest (spelled r.items r.took)
           (subst (λ (p : Place). item_at p rest ≡ None) (there r.items r.took) (r.none.none more none)) (λ e. r.none.some (front_nil (at_hand new) more e)) g n x
 
-      run_over : RanOver comes at_hand all sound size takes limit old pieces new t u at place white → ⊥
+      run_over : RanOver comes at_hand all sound reads takes limit old pieces new t u at place white → ⊥
       run_over r =
           none_over (bare r.items) r.mid u (taken_so r.items r.mid r.taken) at r.took.few whole rest (spelled r.items r.took) (counted r.items r.took)
           (subst (λ (p : Place). Oversized (limit - at) p rest) (there r.items r.took) (r.exceeds.over more none))
           (λ next e. r.exceeds.bracket more none next (subst (λ (p : Place). item_at p rest ≡ the items.TagOpen next) (sym (there r.items r.took)) e)) g n x
 
-      run_none : (why : Stop) (fault : PgnFault) → (fault.kind ≡ Memory → ⊥) → AfterRun comes at_hand all sound size takes limit old pieces new t u at place white why → Unanswered why u fault → ⊥
+      run_none : (why : Stop) (fault : PgnFault) → (fault.kind ≡ Memory → ⊥) → AfterRun comes at_hand all sound reads takes limit old pieces new t u at place white why → Unanswered why u fault → ⊥
       run_none stop.Full fault kind r a = kind a
       run_none stop.Left fault kind r a = kind a
       run_none (stop.Refused why) fault kind r a = run_refused why (λ e. kind (ap (λ (f : PgnFault). f.kind) a ∙ e)) r
@@ -124,7 +124,7 @@ module _ {X A : Type 0} (comes : X → List ℕ → X → Type 0) (at_hand : X �
       run_none stop.TooLarge fault kind r a = run_over r
 
     module _ (w : IsWhite whole) where
-      run_dark : (why : Stop) (fault : PgnFault) → (fault.kind ≡ Memory → ⊥) → AfterRun comes at_hand all sound size takes limit old pieces new t u at place white why → Unanswered why u fault
+      run_dark : (why : Stop) (fault : PgnFault) → (fault.kind ≡ Memory → ⊥) → AfterRun comes at_hand all sound reads takes limit old pieces new t u at place white why → Unanswered why u fault
           → (why ≡ stop.End → white ≡ false) → (why ≡ stop.TooLarge → white ≡ false) → ⊥
       run_dark stop.Full fault kind r a end over = kind a
       run_dark stop.Left fault kind r a end over = kind a
@@ -137,15 +137,15 @@ module _ {X A : Type 0} (comes : X → List ℕ → X → Type 0) (at_hand : X �
       run_dark stop.TooLarge fault kind r a end over = dark_taken (bare r.items) whole rest (spelled r.items r.took) w (sym (whites_bare r.items) ∙ sym r.took.whites ∙ over refl)
 
       -- after white space beyond the limit
-      over_dark : (ks : List Item) (last : List ℕ) → RanOver comes at_hand all sound size takes limit old pieces new t u at place white → Spells place rest ks last
+      over_dark : (ks : List Item) (last : List ℕ) → RanOver comes at_hand all sound reads takes limit old pieces new t u at place white → Spells place rest ks last
           → ((item : Item) (next : List ℕ) → item_at (place_behind place ks) last ≡ the item next → is_white item ≡ false) → (last ≡ [] → ⊥) → ⊥
       over_dark ks last r s other some =
           dark_beyond (bare r.items) ks whole rest last (spelled r.items r.took) (subst (λ (p : Place). Spells p rest ks last) (there r.items r.took) s) w
           (λ item next e. other item next (subst (λ (p : Place). item_at (place_behind p ks) last ≡ the item next) (sym (there r.items r.took)) e)) some
 
-  module _ (s : Stopped) (fault : PgnFault) (kind : fault.kind ≡ Memory → ⊥) (a : Unanswered s.why u fault) (mid : X) (r : Ran comes at_hand all sound size takes limit old mid t u (Ok s)) where
+  module _ (s : Stopped) (fault : PgnFault) (kind : fault.kind ≡ Memory → ⊥) (a : Unanswered s.why u fault) (mid : X) (r : Ran comes at_hand all sound reads takes limit old mid t u (Ok s)) where
     still_there : all old → (joined r.pieces ≡ []) × all mid
-    still_there = ended_after comes at_hand all sound size takes limit old t mid u r.pieces s.at s.place s.white s.why r.after
+    still_there = ended_after comes at_hand all sound reads takes limit old t mid u r.pieces s.at s.place s.white s.why r.after
 
     -- the bytes that are used
     used_here : (text : List ℕ) × (at_hand old ++ joined r.pieces ≡ text ++ at_hand mid)
@@ -153,7 +153,7 @@ module _ {X A : Type 0} (comes : X → List ℕ → X → Type 0) (at_hand : X �
         let f = run_front r.pieces mid s.at s.place s.white [] (λ e. refl) s.why r.after in
         (f.0, ap (λ (z : List ℕ). at_hand old ++ z) (sym (append-nil (joined r.pieces))) ∙ f.1 ∙ ap (λ (z : List ℕ). f.0 ++ z) (append-nil (at_hand mid)))
 
-    here_none : (s.why ≡ stop.End → s.white ≡ false) → (s.why ≡ stop.TooLarge → s.white ≡ false) → sound mid → NotCome comes at_hand all sound old mid
+    here_none : (s.why ≡ stop.End → s.white ≡ false) → (s.why ≡ stop.TooLarge → s.white ≡ false) → sound mid → NotCome comes at_hand all sound reads old mid
     here_none end over well = record {
       pieces = r.pieces;
       came = r.came;
@@ -166,7 +166,7 @@ module _ {X A : Type 0} (comes : X → List ℕ → X → Type 0) (at_hand : X �
     }
 
     -- after white space beyond the limit
-    beyond_none : (new : X) → NotWhite comes at_hand all sound size takes s mid new → sound new → NotCome comes at_hand all sound old new
+    beyond_none : (new : X) → NotWhite comes at_hand all sound reads takes s mid new → sound new → NotCome comes at_hand all sound reads old new
     beyond_none new w well =
         let k = w.skipped in
         let pieces = r.pieces ++ k.pieces in
@@ -185,7 +185,7 @@ module _ {X A : Type 0} (comes : X → List ℕ → X → Type 0) (at_hand : X �
               run_none r.pieces mid s.at s.place s.white (joined k.pieces ++ more) (none_before more none) g n (subst (λ (z : List ℕ). BeginsWithGame z g n) (regroup more) x) s.why fault kind r.after a;
           dark = λ more none white.
               over_dark r.pieces mid s.at s.place s.white (joined k.pieces ++ more) (none_before more none) (subst (λ (z : List ℕ). IsWhite z) (regroup more) white) k.items (at_hand new ++ more)
-              (subst (λ (y : Stop). AfterRun comes at_hand all sound size takes limit old r.pieces mid t u s.at s.place s.white y) w.over r.after) (k.spelled more none) (λ item next e. k.last more none item next e) (λ e. w.other (front_nil (at_hand new) more e));
+              (subst (λ (y : Stop). AfterRun comes at_hand all sound reads takes limit old r.pieces mid t u s.at s.place s.white y) w.over r.after) (k.spelled more none) (λ item next e. k.last more none item next e) (λ e. w.other (front_nil (at_hand new) more e));
           still = λ e. let b = still_there e in let c = k.still b.1 in (joined-append r.pieces k.pieces ∙ ap (λ (z : List ℕ). z ++ joined k.pieces) b.0 ∙ c.0, c.1);
         }
       where
@@ -195,12 +195,12 @@ module _ {X A : Type 0} (comes : X → List ℕ → X → Type 0) (at_hand : X �
             let f = front_spelled s.place (at_hand mid ++ (joined k.pieces ++ [])) k.items (at_hand new ++ []) (k.spelled [] (λ e. refl)) in
             (f.0, ap (λ (z : List ℕ). at_hand mid ++ z) (sym (append-nil (joined k.pieces))) ∙ f.1 ∙ ap (λ (z : List ℕ). f.0 ++ z) (append-nil (at_hand new)))
 
-  module _ (s : Stopped) (new : X) (p : Passed comes at_hand all sound size takes limit old new t u s) (well : sound new) where
+  module _ (s : Stopped) (new : X) (p : Passed comes at_hand all sound reads takes limit old new t u s) (well : sound new) where
     still_mid : all old → (joined p.ran.pieces ≡ []) × all p.mid
-    still_mid = ended_after comes at_hand all sound size takes limit old t p.mid u p.ran.pieces s.at s.place s.white s.why p.ran.after
+    still_mid = ended_after comes at_hand all sound reads takes limit old t p.mid u p.ran.pieces s.at s.place s.white s.why p.ran.after
 
     -- there was no memory for what was read
-    starved : HasStarved comes at_hand all sound old new
+    starved : HasStarved comes at_hand all sound reads old new
     starved = elim p.after [
       | inl same ↦ record { pieces = p.ran.pieces; came = subst (λ (x : X). Calls comes old p.ran.pieces x) (sym same.0) p.ran.came; still = λ h. ((still_mid h).0, subst all (sym same.0) (still_mid h).1, well) }
       | inr w ↦ record {
@@ -210,23 +210,23 @@ module _ {X A : Type 0} (comes : X → List ℕ → X → Type 0) (at_hand : X �
       }
     ]
 
-  pub no_game_come : (new : X) (found : Option Stopped) (s : Stopped) (fault : PgnFault) → Passes comes at_hand all sound size takes 1048576 old new t u (Ok found) → found ≡ Some s → Unanswered s.why u fault → sound new
-      → ((fault.kind ≡ Memory) × HasStarved comes at_hand all sound old new) ⊎ NotCome comes at_hand all sound old new
+  pub no_game_come : (new : X) (found : Option Stopped) (s : Stopped) (fault : PgnFault) → Passes comes at_hand all sound reads takes 1048576 old new t u (Ok found) → found ≡ Some s → Unanswered s.why u fault → sound new
+      → ((fault.kind ≡ Memory) × HasStarved comes at_hand all sound reads old new) ⊎ NotCome comes at_hand all sound reads old new
   no_game_come new found s fault h e a well = by (is_memory fault.kind)
     where
-      p : Passed comes at_hand all sound size takes limit old new t u s
-      p = subst (λ (o : Option Stopped). Passes comes at_hand all sound size takes limit old new t u (Ok o)) e h
+      p : Passed comes at_hand all sound reads takes limit old new t u s
+      p = subst (λ (o : Option Stopped). Passes comes at_hand all sound reads takes limit old new t u (Ok o)) e h
 
-      by : (fault.kind ≡ Memory) ⊎ (fault.kind ≡ Memory → ⊥) → ((fault.kind ≡ Memory) × HasStarved comes at_hand all sound old new) ⊎ NotCome comes at_hand all sound old new
+      by : (fault.kind ≡ Memory) ⊎ (fault.kind ≡ Memory → ⊥) → ((fault.kind ≡ Memory) × HasStarved comes at_hand all sound reads old new) ⊎ NotCome comes at_hand all sound reads old new
       by (inl k) = inl (k, starved s new p well)
       by (inr k) = inr (elim p.after [
-        | inl same ↦ subst (λ (x : X). NotCome comes at_hand all sound old x) (sym same.0) (here_none s fault k a p.mid p.ran p.more same.1 (subst sound same.0 well))
+        | inl same ↦ subst (λ (x : X). NotCome comes at_hand all sound reads old x) (sym same.0) (here_none s fault k a p.mid p.ran p.more same.1 (subst sound same.0 well))
         | inr w ↦ beyond_none s fault k a p.mid p.ran new w well
       ])
 
 -- ---- a read broke off
 
-module _ {X A : Type 0} (comes : X → List ℕ → X → Type 0) (at_hand : X → List ℕ) (all sound : X → Type 0) (size : X → ℕ) (breaks : X → X → Type 0) (old new : X) (t : Reader A) (new_reader : IsNew t) where
+module _ {X A : Type 0} (comes : X → List ℕ → X → Type 0) (at_hand : X → List ℕ) (all sound : X → Type 0) (reads : X → ℕ) (breaks : X → X → Type 0) (old new : X) (t : Reader A) (new_reader : IsNew t) where
   abbrev takes_item : Reader A → ℕ → Item → Result Taken PgnFault → Reader A → Type 0
   takes_item s at item result v = TakesItem s item result v
 
@@ -234,7 +234,7 @@ module _ {X A : Type 0} (comes : X → List ℕ → X → Type 0) (at_hand : X �
   front_is pieces more = sym (append_assoc (at_hand old) (joined pieces) more)
 
   -- where an item isn't decided
-  run_none_yet : (r : RunBroke comes at_hand all sound size takes_item 1048576 breaks old new t) → HasNoGameYet (at_hand old ++ joined r.pieces)
+  run_none_yet : (r : RunBroke comes at_hand all sound reads takes_item 1048576 breaks old new t) → HasNoGameYet (at_hand old ++ joined r.pieces)
   run_none_yet r = λ g n x.
       let ended : (more : List ℕ) → all r.mid → more ≡ [] = λ more e. absurd (r.not_all e) in
       undecided_none (bare r.items) r.last (progress_all [] r.items t r.last (progress_new t new_reader) r.taken) (at_hand old ++ joined r.pieces) (at_hand r.mid)
@@ -242,23 +242,23 @@ module _ {X A : Type 0} (comes : X → List ℕ → X → Type 0) (at_hand : X �
       (subst (λ (p : Place). Decides p (at_hand r.mid) → ⊥) (r.took.stands ∙ behind_bare GameStart r.items) r.undecided) g n x
 
   -- after white space beyond the limit
-  white_none_yet : (w : WhiteBroke comes at_hand all sound size takes_item 1048576 breaks old new t) → HasNoGameYet (at_hand old ++ joined (w.ran.pieces ++ w.broke.1))
+  white_none_yet : (w : WhiteBroke comes at_hand all sound reads takes_item 1048576 breaks old new t) → HasNoGameYet (at_hand old ++ joined (w.ran.pieces ++ w.broke.1))
   white_none_yet w = λ g n x.
       let more = joined w.broke.1 in
       let whole : (at_hand old ++ joined (w.ran.pieces ++ w.broke.1)) ++ [] ≡ at_hand old ++ (joined w.ran.pieces ++ more) =
       append-nil (at_hand old ++ joined (w.ran.pieces ++ w.broke.1)) ∙ ap (λ (z : List ℕ). at_hand old ++ z) (joined-append w.ran.pieces w.broke.1)
       in
-      run_over comes at_hand all sound size old t w.last new_reader w.ran.pieces w.mid w.stopped.at w.stopped.place w.stopped.white more (λ e. absurd (w.broke.0 e)) g n (subst (λ (z : List ℕ). BeginsWithGame z g n) whole (x []))
-      (subst (λ (y : Stop). AfterRun comes at_hand all sound size takes_item 1048576 old w.ran.pieces w.mid t w.last w.stopped.at w.stopped.place w.stopped.white y) w.over w.ran.after)
+      run_over comes at_hand all sound reads old t w.last new_reader w.ran.pieces w.mid w.stopped.at w.stopped.place w.stopped.white more (λ e. absurd (w.broke.0 e)) g n (subst (λ (z : List ℕ). BeginsWithGame z g n) whole (x []))
+      (subst (λ (y : Stop). AfterRun comes at_hand all sound reads takes_item 1048576 old w.ran.pieces w.mid t w.last w.stopped.at w.stopped.place w.stopped.white y) w.over w.ran.after)
 
-  pub broken_come : PassBreaks comes at_hand all sound size takes_item 1048576 breaks old new t Read → HasBroken comes at_hand all sound breaks old new
+  pub broken_come : PassBreaks comes at_hand all sound reads takes_item 1048576 breaks old new t Read → HasBroken comes at_hand all sound reads breaks old new
   broken_come (inl r) = record { pieces = r.pieces; mid = r.mid; came = r.came; breaks_off = r.breaks_off; not_yet = r.not_yet; not_all = r.not_all; none = run_none_yet r }
   broken_come (inr w) = record {
     pieces = w.ran.pieces ++ w.broke.1;
     mid = w.broke.2;
     came = Calls-append comes old w.mid w.broke.2 w.ran.pieces w.broke.1 w.ran.came w.broke.3;
     breaks_off = w.broke.4;
-    not_yet = λ e. w.broke.0 (ended_after comes at_hand all sound size takes_item 1048576 old t w.mid w.last w.ran.pieces w.stopped.at w.stopped.place w.stopped.white w.stopped.why w.ran.after e).1;
+    not_yet = λ e. w.broke.0 (ended_after comes at_hand all sound reads takes_item 1048576 old t w.mid w.last w.ran.pieces w.stopped.at w.stopped.place w.stopped.white w.stopped.why w.ran.after e).1;
     not_all = w.broke.5;
     none = white_none_yet w;
   }

@@ -5,13 +5,18 @@
 --   IsPlaced   a fault of the text is after the bytes that were used before its game; a fault for want of memory has its place there
 --   ReadsNeeded  no read was made, or the last, of at most 65,536 bytes, was made where no one game was at the start of the bytes before it,
 --              whatever follows; so was each read before it, since fewer bytes say no more
+--   IsFlood    white space, marks and hidden lines alone, more than a game may have
+--   IsOpen     bytes are no more than a game may have, and don't decide both these items and what comes after them
 --   HasGame    a game is at the start of the bytes at hand and those that the source gave, whatever it gives next, and is used; no read was
 --              made that wasn't needed, and at most one piece and a byte are left; a source that has ended gives no more
 --   NextGame   so it does, and its bytes are counted
 --   HasNone    the source has ended, and those bytes are white space
---   Fails      no game is at the start of those bytes, which aren't white space, whatever the source gives next; the first of them are used
---   Starves    bytes came, and then there was no memory
---   ReadFails  bytes came, and then a read failed, or there may be no more; the source had not ended, and no one game is at their start, whatever follows
+--   Fails      no game is at the start of those bytes, which aren't white space, whatever the source gives next; their first items are used, and the
+--              last read was made where the bytes before it didn't decide that they are, and what comes after them
+--   Starves    bytes came, by needed reads, and then there was no memory
+--   EndsWithin bytes end within an item, and all before it is used
+--   ReadFails  bytes came, and then a read failed, or there may be no more; the source had not ended, and no one game is at their start, whatever
+--              follows; they end within an item, unless they are more than a game may have
 --   HasFault   a read failed, there was no memory, or no game is there; but for the first, no read failed
 --   GivesUp    a bad game is given up, from its first byte to where the text alone says that the next begins
 --   seeks      how far the items of a bad game were used, where reading is to go on from there
@@ -20,10 +25,14 @@
 --   NotPassed  bytes can't be passed over: no section of tags begins among them and a read failed, or there was no memory
 --   NotGivenUp a game can't be passed over: bytes came and then a read failed, before the source's end, or there was no memory
 use Rattle.std.specs.Prelude.{◌≡◌, ◌≢◌, ◌⊎◌, ◌≤◌, ◌<◌, ℕ, ◌+◌, Bool, true, List, [], ◌++◌, length, Option, Some, None, IfErr, IfOk, IfSome, Result, Ok, Err, ⊤}
+use Rattle.std.specs.List.{list_all}
 use Rattle.chess_items.specs.Abandoned.{GivesUpFrom, Halts, UsesAll}
-use Rattle.chess_items.specs.Coming.{AtHand, BreaksWhere, Came, unread}
+use Rattle.chess_items.specs.Coming.{AtHand, BreaksWhere, Came, LastReadWhere, unread}
+use Rattle.chess_items.specs.Decided.{DecidesItems, IsDecided}
+use Rattle.chess_items.specs.Items.{Item, Spells, is_white, place_behind}
 use Rattle.chess_items.specs.Sections.{StopsAt}
 use Rattle.chess_items.specs.declared.fault.FaultKind.TheVariants.{Memory}
+use Rattle.chess_items.specs.declared.place.Place.TheVariants.{GameStart}
 use Rattle.chess_pgn.specs.Games.{Game}
 use Rattle.chess_items.specs.declared.skimming.Halt.{Halt}
 use Rattle.chess_pgn.specs.Reading.{HasNoGame, HasNoGameYet, BeginsWithGame, IsWhite}
@@ -46,11 +55,15 @@ GoesOn (Some (Pgn fault)) = fault.kind ≢ Memory
 pub record IsSound {R : Type 0} (ended : R → Type 0) (games : Games R) : Type 0 where
   pub ended_so : GoesOn games.fault → games.text.has_ended ≡ true → ended games.text.source
 
--- with the bytes that came; each read before the end of the source brings some
-abbrev pub ReadsNeeded : {R : Type 0} → AtHand R → List ℕ → AtHand R → Type 0
-ReadsNeeded old bytes new =
-    ((bytes ≡ []) × (new.has_ended ≡ true → old.has_ended ≡ true))
-    ⊎ ((begun : List ℕ) × (piece : List ℕ) × (unread old ++ bytes ≡ begun ++ piece) × (length piece ≤ 65536) × HasNoGameYet begun)
+-- of the bytes at hand and the pieces that came, one for each read
+abbrev pub ReadsNeeded : List ℕ → List (List ℕ) → Type 0
+ReadsNeeded hand pieces = LastReadWhere HasNoGameYet hand pieces
+
+abbrev pub IsFlood : List Item → List ℕ → Type 0
+IsFlood items bytes = (list_all is_white items ≡ true) × (1048576 < length bytes)
+
+abbrev pub IsOpen : List Item → List ℕ → Type 0
+IsOpen items begun = (length begun ≤ 1048576) × (DecidesItems begun items → ⊥)
 
 pub record HasGame {R : Type 0} (gives : R → List ℕ → R → Type 0) (failed : R → Bool) (old new : AtHand R) (game : Game) : Type 0 where
   pub bytes : List ℕ
@@ -60,7 +73,7 @@ pub record HasGame {R : Type 0} (gives : R → List ℕ → R → Type 0) (faile
   pub parts : unread old ++ bytes ≡ text ++ unread new
   pub reads : (more : List ℕ) → (new.has_ended ≡ true → more ≡ []) → BeginsWithGame (unread old ++ (bytes ++ more)) game (length text)
   pub near : length (unread old) ≤ 65537 → length (unread new) ≤ 65537
-  pub needed : ReadsNeeded old bytes new
+  pub needed : ReadsNeeded (unread old) came.pieces
   pub still : old.has_ended ≡ true → (bytes ≡ []) × (new.has_ended ≡ true)
 
 -- and its bytes are counted
@@ -81,8 +94,9 @@ pub record HasNone {R : Type 0} (gives : R → List ℕ → R → Type 0) (faile
 pub record Fails {R : Type 0} (gives : R → List ℕ → R → Type 0) (failed : R → Bool) (ended : R → Type 0) (old new : AtHand R) : Type 0 where
   pub bytes : List ℕ
   pub came : Came gives failed old bytes new
-  pub text : List ℕ
-  pub parts : unread old ++ bytes ≡ text ++ unread new
+  pub items : List Item
+  pub used : (more : List ℕ) → (new.has_ended ≡ true → more ≡ []) → Spells GameStart (unread old ++ (bytes ++ more)) items (unread new ++ more)
+  pub needed : IsFlood items (unread old ++ bytes) ⊎ LastReadWhere (IsOpen items) (unread old) came.pieces
   pub ended_so : new.has_ended ≡ true → ended new.source
   pub none : (more : List ℕ) → (new.has_ended ≡ true → more ≡ []) → HasNoGame (unread old ++ (bytes ++ more))
   pub dark : (more : List ℕ) → (new.has_ended ≡ true → more ≡ []) → IsWhite (unread old ++ (bytes ++ more)) → ⊥
@@ -91,10 +105,17 @@ pub record Fails {R : Type 0} (gives : R → List ℕ → R → Type 0) (failed 
 pub record Starves {R : Type 0} (gives : R → List ℕ → R → Type 0) (failed : R → Bool) (ended : R → Type 0) (old new : AtHand R) : Type 0 where
   pub bytes : List ℕ
   pub came : Came gives failed old bytes new
+  pub needed : ReadsNeeded (unread old) came.pieces
   pub still : old.has_ended ≡ true → (bytes ≡ []) × ended new.source
 
-abbrev pub ReadFails : {R : Type 0} → (R → List ℕ → R → Type 0) → (R → Bool) → AtHand R → AtHand R → Type 0
-ReadFails gives failed old new = BreaksWhere HasNoGameYet gives failed old new
+pub record EndsWithin (begun left : List ℕ) : Type 0 where
+  pub items : List Item
+  pub used : (more : List ℕ) → Spells GameStart (begun ++ more) items (left ++ more)
+  pub undecided : IsDecided (place_behind GameStart items) left → ⊥
+
+pub record ReadFails {R : Type 0} (gives : R → List ℕ → R → Type 0) (failed : R → Bool) (old new : AtHand R) : Type 0 where
+  pub breaks : BreaksWhere HasNoGameYet gives failed old new
+  pub within : (1048576 < length (unread old ++ breaks.bytes)) ⊎ EndsWithin (unread old ++ breaks.bytes) (unread new)
 
 abbrev pub HasFault : {R : Type 0} → (R → List ℕ → R → Type 0) → (R → Bool) → (R → Type 0) → AtHand R → AtHand R → GamesFault → Type 0
 HasFault gives failed ended old new Read = ReadFails gives failed old new

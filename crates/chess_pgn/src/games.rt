@@ -128,7 +128,7 @@ fn take_game<'a, X: Text, A: Allocator>(
     requires sound { X.sound text.old }
     requires within { IfSome halt.old (λ halt. halt.at ≤ 1048576) }
     ensures sound { IfOk result (λ _. X.sound text.new) }
-    ensures game { TakesGame X.comes X.at_hand X.all X.sound X.breaks text.old text.new result }
+    ensures game { TakesGame X.comes X.at_hand X.all X.sound X.reads X.breaks text.old text.new result }
     ensures halts { HaltsAt X.comes X.at_hand X.all text.old text.new halt.new result }
     ensures within { IfSome halt.new (λ halt. halt.at ≤ 1048576) }
 {
@@ -300,7 +300,7 @@ impl<'a, R: Source, A: Allocator> Games<'a, R, A> {
         requires none { self.old.fault ≡ None }
         ensures sound { IfOk result (λ _. self.new.text.has_ended ≡ true → R.ended self.new.text.source) }
         ensures none { self.new.fault ≡ None }
-        ensures game { TakesGame (λ s bytes t. Came R.gives R.failed s bytes t) unread (λ s. s.has_ended ≡ true) (λ s. s.has_ended ≡ true → R.ended s.source) (λ s t. Breaks R.gives R.failed s t) self.old.text self.new.text result }
+        ensures game { TakesGame (λ s bytes t. Came R.gives R.failed s bytes t) unread (λ s. s.has_ended ≡ true) (λ s. s.has_ended ≡ true → R.ended s.source) (λ s. s.reads) (λ s t. Breaks R.gives R.failed s t) self.old.text self.new.text result }
         ensures halts { HaltsAt (λ s bytes t. Came R.gives R.failed s bytes t) unread (λ s. s.has_ended ≡ true) self.old.text self.new.text self.new.halt result }
     {
         take_game(

@@ -75,7 +75,7 @@ pub record HasRefilled {R : Type 0} (gives : R → List ℕ → R → Type 0) (e
   pub pieces : List (List ℕ)
   pub calls : Calls gives old.source pieces new.source
   pub counted : new.reads + length pieces ≡ old.reads
-  pub small : length (joined pieces) ≤ 65536 * length pieces
+  pub sized : AllByRecursion (λ piece. length piece ≤ 65536) pieces
   pub placed : new.used + length (unread new) ≡ old.used + length (unread old) + length (joined pieces)
   pub well : failed new.source ≡ failed old.source
   pub at_end : old.has_ended ≡ true → (pieces ≡ []) × (new.has_ended ≡ true)
