@@ -5,7 +5,7 @@ use Rattle.std.proofs.lemmas.Bool.{false≢true}
 use Rattle.std.specs.Prelude.{Result}
 use Rattle.byte_streams.specs.Calls.{Calls, joined}
 use Rattle.byte_streams.proofs.CallLemmas.{Calls-append, joined-append}
-use Rattle.chess_items.specs.Coming.{AtHand, Breaks, Came, unread}
+use Rattle.chess_items.specs.Coming.{AtHand, Breaks, Came, EachBrings, unread}
 use Rattle.chess_items.specs.steps.AtHands.{Reads, Tries}
 use Rattle.chess_items.specs.steps.Deciding.{Decides}
 use Rattle.chess_items.specs.steps.Texts.{BreaksAt, BreaksOff, Needs}
@@ -17,6 +17,33 @@ use Rattle.chess_items.specs.declared.at_hand.Fault.TheVariants.{Memory, Read}
 pub each_append : (a b : List (List ℕ)) → AllByRecursion (λ piece. 0 < length piece) a → AllByRecursion (λ piece. 0 < length piece) b → AllByRecursion (λ piece. 0 < length piece) (a ++ b)
 each_append [] b x y = y
 each_append (p ∷ ps) b x y = (x.0, each_append ps b x.1 y)
+
+pub all_bring : (pieces : List (List ℕ)) → EachBrings false pieces → AllByRecursion (λ piece. 0 < length piece) pieces
+all_bring [] x = tt
+all_bring (p ∷ ps) (inl k, x) = (k, all_bring ps x)
+all_bring (p ∷ ps) (inr k, x) = absurd (false≢true k.1)
+
+pub brings_all : (ended : Bool) (pieces : List (List ℕ)) → AllByRecursion (λ piece. 0 < length piece) pieces → EachBrings ended pieces
+brings_all ended [] x = tt
+brings_all ended (p ∷ ps) x = (inl x.0, brings_all ended ps x.1)
+
+-- where the end was seen no more were read
+pub brings_append : (v w : Bool) (a b : List (List ℕ)) → EachBrings v a → EachBrings w b → (v ≡ true → (b ≡ []) × (w ≡ true)) → EachBrings w (a ++ b)
+brings_append true w a b x y still =
+    let k = still refl in
+    subst (λ (z : List (List ℕ)). EachBrings w z) (sym (ap (λ (z : List (List ℕ)). a ++ z) k.0 ∙ append-nil a)) (subst (λ (e : Bool). EachBrings e a) (sym k.1) x)
+brings_append false w a b x y still = on a (all_bring a x)
+  where
+    on : (a : List (List ℕ)) → AllByRecursion (λ piece. 0 < length piece) a → EachBrings w (a ++ b)
+    on [] x = y
+    on (p ∷ ps) x = (inl x.0, on ps x.1)
+
+pub one_brings : (ended : Bool) (piece : List ℕ) → (ended ≡ false → 0 < length piece) → EachBrings ended (piece ∷ [])
+one_brings true piece some = (inr (refl, refl), tt)
+one_brings false piece some = (inl (some refl), tt)
+
+pub both_none : (a b : List (List ℕ)) → a ≡ [] → b ≡ [] → a ++ b ≡ []
+both_none a b x y = rw x y
 
 -- pieces that are no longer than a read's, and more of them
 abbrev pub Sized : List (List ℕ) → Type 0
@@ -33,11 +60,6 @@ sized_joined (p ∷ ps) x = (let n = length-append p (joined ps) in let k = size
 -- so many bytes came at most
 pub came_small : {R : Type 0} {gives : R → List ℕ → R → Type 0} {failed : R → Bool} {old new : AtHand R} {bytes : List ℕ} (came : Came gives failed old bytes new) → length bytes ≤ 65536 * length came.pieces
 came_small came = (let n = ap length came.whole in let k = sized_joined came.pieces came.sized in omega (arith, n, k))
-
--- what has not ended afterwards had not before
-pub not_before : (v w : Bool) → (v ≡ true → w ≡ true) → w ≡ false → v ≡ false
-not_before false w h e = refl
-not_before true w h e = absurd (false≢true (sym e ∙ h refl))
 
 module _ {R : Type 0} (gives : R → List ℕ → R → Type 0) (failed : R → Bool) where
   -- bytes at hand as a text
@@ -66,8 +88,8 @@ module _ {R : Type 0} (gives : R → List ℕ → R → Type 0) (failed : R → 
     sized = tt;
     placed = omega (arith, placed);
     well = ap failed source;
-    each = λ e. tt;
-    ended_still = λ e. ended ∙ e;
+    each = tt;
+    ended_still = λ e. (refl, ended ∙ e);
   }
 
   pub came_append : (s m t : AtHand R) (a b : List ℕ) → Came gives failed s a m → Came gives failed m b t → Came gives failed s (a ++ b) t
@@ -79,8 +101,8 @@ module _ {R : Type 0} (gives : R → List ℕ → R → Type 0) (failed : R → 
     sized = sized_append first.pieces second.pieces first.sized second.sized;
     placed = (let k = length-append a b in omega (arith, k, first.placed, second.placed));
     well = second.well ∙ first.well;
-    each = λ e. each_append first.pieces second.pieces (first.each (not_before m.has_ended t.has_ended second.ended_still e)) (second.each e);
-    ended_still = λ e. second.ended_still (first.ended_still e);
+    each = brings_append m.has_ended t.has_ended first.pieces second.pieces first.each second.each second.ended_still;
+    ended_still = λ e. let a = first.ended_still e in let b = second.ended_still a.1 in (both_none first.pieces second.pieces a.0 b.0, b.1);
   }
 
   pub all_came : (s t : AtHand R) (pieces : List (List ℕ)) → Calls (λ x bytes y. Came gives failed x bytes y) s pieces t → Came gives failed s (joined pieces) t
@@ -97,7 +119,7 @@ read_came goes ended new r = record {
   sized = (r.small, tt);
   placed = r.placed;
   well = r.after.3;
-  each = λ e. (r.after.4 e, tt);
+  each = one_brings new.has_ended r.piece r.after.4;
   ended_still = λ e. absurd (false≢true (sym goes ∙ e));
 }
 
@@ -110,7 +132,7 @@ module _ {R : Type 0} {gives : R → List ℕ → R → Type 0} {failed : R → 
   not_all e = false≢true (sym goes ∙ e)
 
   not_ended : old.has_ended ≡ true → ⊥
-  not_ended e = not_all (came.ended_still e)
+  not_ended e = not_all (came.ended_still e).1
 
   -- there may be no more reads
   many : (new : AtHand R) → new ≡ now → now.reads ≡ 0 → Breaks gives failed now new
@@ -125,7 +147,7 @@ module _ {R : Type 0} {gives : R → List ℕ → R → Type 0} {failed : R → 
 
   -- a read for whose bytes there was no memory
   lost : (ended : R → Type 0) (new : AtHand R) (r : Reads gives ended failed now new (Err Memory)) → Came gives failed now r.piece new
-  lost ended new r = record { pieces = r.piece ∷ []; calls = (new.source, r.call, refl); whole = append-nil r.piece; counted = r.counted; sized = (r.small, tt); placed = r.placed; well = r.after.0; each = λ e. (r.after.1, tt); ended_still = λ e. absurd (not_all e) }
+  lost ended new r = record { pieces = r.piece ∷ []; calls = (new.source, r.call, refl); whole = append-nil r.piece; counted = r.counted; sized = (r.small, tt); placed = r.placed; well = r.after.0; each = (inl r.after.1, tt); ended_still = λ e. absurd (not_all e) }
 
   -- the bytes at hand don't decide the item that they begin with, and are no more than may be
   module _ (ended : R → Type 0) (most : ℕ) (place : Place) (longer : unread now ≡ unread old ++ bytes) (undecided : Decides place (unread now) → ⊥) (few : length (unread now) ≤ most)

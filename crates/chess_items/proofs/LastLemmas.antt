@@ -4,7 +4,7 @@ use Rattle.byte_streams.specs.Calls.{joined}
 use Rattle.byte_streams.proofs.CallLemmas.{Calls-append, joined-append}
 use Rattle.chess_items.specs.Coming.{AtHand, Came, LastReadWhere, unread}
 use Rattle.chess_items.specs.steps.Texts.{LastCame, LastWhere}
-use Rattle.chess_items.proofs.BreakLemmas.{Sized, all_came, brings, each_append, not_before, reads_left, sized_append}
+use Rattle.chess_items.proofs.BreakLemmas.{Sized, all_came, both_none, brings, brings_append, reads_left, sized_append}
 use Rattle.chess_items.proofs.ReadLemmas.{empty_is}
 
 -- bytes that came, the last read of which was made where this holds
@@ -25,9 +25,9 @@ front_nil : (xs ys : List ℕ) → xs ++ ys ≡ [] → xs ≡ []
 front_nil [] ys e = refl
 front_nil (x ∷ xs) ys e = absurd cc
 
-module _ {R : Type 0} (P : List ℕ → Type 0) (gives : R → List ℕ → R → Type 0) (failed : R → Bool) (old new : AtHand R) where
-  -- reads, and then others
-  abbrev joins : (mid : AtHand R) (a b bytes : List ℕ) → Came gives failed old a mid → Came gives failed mid b new → bytes ≡ a ++ b → Came gives failed old bytes new
+-- reads, and then others
+module _ {R : Type 0} (gives : R → List ℕ → R → Type 0) (failed : R → Bool) (old new : AtHand R) where
+  abbrev pub joins : (mid : AtHand R) (a b bytes : List ℕ) → Came gives failed old a mid → Came gives failed mid b new → bytes ≡ a ++ b → Came gives failed old bytes new
   joins mid a b bytes first second parts = record {
     pieces = first.pieces ++ second.pieces;
     calls = Calls-append gives old.source mid.source new.source first.pieces second.pieces first.calls second.calls;
@@ -36,16 +36,17 @@ module _ {R : Type 0} (P : List ℕ → Type 0) (gives : R → List ℕ → R �
     sized = sized_append first.pieces second.pieces first.sized second.sized;
     placed = (let k = length-append a b in let m = ap length parts in omega (arith, k, m, first.placed, second.placed));
     well = second.well ∙ first.well;
-    each = λ e. each_append first.pieces second.pieces (first.each (not_before mid.has_ended new.has_ended second.ended_still e)) (second.each e);
-    ended_still = λ e. second.ended_still (first.ended_still e);
+    each = brings_append mid.has_ended new.has_ended first.pieces second.pieces first.each second.each second.ended_still;
+    ended_still = λ e. let a = first.ended_still e in let b = second.ended_still a.1 in (both_none first.pieces second.pieces a.0 b.0, b.1);
   }
 
+module _ {R : Type 0} (P : List ℕ → Type 0) (gives : R → List ℕ → R → Type 0) (failed : R → Bool) (old new : AtHand R) where
   -- one read more
   came_one : (mid : AtHand R) (a b bytes : List ℕ) → Came gives failed old a mid → (second : Came gives failed mid b new) → new.reads + 1 ≡ mid.reads → bytes ≡ a ++ b → P (unread old ++ a) → CameWhere P gives failed old bytes new
   came_one mid a b bytes first second once parts holds =
       let one = one_piece second.pieces (omega (arith, once, second.counted)) in
       record {
-        came = joins mid a b bytes first second parts;
+        came = joins gives failed old new mid a b bytes first second parts;
         asked = inr (
           first.pieces,
           one.0,
@@ -66,7 +67,7 @@ module _ {R : Type 0} (P : List ℕ → Type 0) (gives : R → List ℕ → R �
   -- what came after other bytes, where it holds of these and whatever came since
   pub came_beyond : (mid : AtHand R) (a b bytes : List ℕ) → CameWhere P gives failed old a mid → Came gives failed mid b new → bytes ≡ a ++ b → (mid.has_ended ≡ true → b ≡ [])
       → ((more : List ℕ) → (mid.has_ended ≡ true → more ≡ []) → P (unread old ++ (a ++ more))) → CameWhere P gives failed old bytes new
-  came_beyond mid a b bytes first second parts none holds = record { came = joins mid a b bytes first.came second parts; asked = by (last_of second.pieces second.sized) }
+  came_beyond mid a b bytes first second parts none holds = record { came = joins gives failed old new mid a b bytes first.came second parts; asked = by (last_of second.pieces second.sized) }
     where
       by : (second.pieces ≡ []) ⊎ ((before : List (List ℕ)) × (piece : List ℕ) × (second.pieces ≡ before ++ piece ∷ []) × (length piece ≤ 65536)) → LastReadWhere P (unread old) (first.came.pieces ++ second.pieces)
       by (inl e) = subst (λ (x : List (List ℕ)). LastReadWhere P (unread old) x) (sym (ap (λ (x : List (List ℕ)). first.came.pieces ++ x) e ∙ append-nil first.came.pieces)) first.asked

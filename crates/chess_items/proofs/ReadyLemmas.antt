@@ -7,7 +7,7 @@ use Rattle.chess_items.specs.steps.Deciding.{Decides}
 use Rattle.chess_items.specs.Coming.{AtHand, Came, unread}
 use Rattle.chess_items.specs.steps.AtHands.{Brought, Reads}
 use Rattle.chess_items.specs.declared.place.Place.{Place}
-use Rattle.chess_items.proofs.BreakLemmas.{each_append, read_came}
+use Rattle.chess_items.proofs.BreakLemmas.{brings_append, one_brings, read_came}
 use Rattle.chess_items.proofs.ReadLemmas.{needed_more, needed_sized, take_front}
 
 -- So far each read was needed, and the bytes that were looked at don't decide the item.
@@ -19,7 +19,7 @@ pub record Going {R : Type 0} (gives : R → List ℕ → R → Type 0) (ended :
 -- what came so far
 module _ {R : Type 0} {gives : R → List ℕ → R → Type 0} {ended : R → Type 0} {failed : R → Bool} {most : ℕ} {place : Place} {old now : AtHand R} (b : Brought gives ended failed most place old now) where
   pub so_far : Came gives failed old (joined b.pieces) now
-  so_far = record { pieces = b.pieces; calls = b.calls; whole = refl; counted = b.counted; sized = needed_sized most place (unread old) b.pieces b.needed; placed = b.placed; well = b.well; each = b.each; ended_still = λ e. (b.at_end e).1 }
+  so_far = record { pieces = b.pieces; calls = b.calls; whole = refl; counted = b.counted; sized = needed_sized most place (unread old) b.pieces b.needed; placed = b.placed; well = b.well; each = b.each; ended_still = b.at_end }
 
 module _ {R : Type 0} (gives : R → List ℕ → R → Type 0) (ended : R → Type 0) (failed : R → Bool) (most : ℕ) (place : Place) (old : AtHand R) where
   pub going_start : (looked : ℕ) → looked ≤ length (unread old) → (Decides place (take looked (unread old)) → ⊥) → (old.has_ended ≡ true → ended old.source) → Going gives ended failed most place looked old old
@@ -33,7 +33,7 @@ module _ {R : Type 0} (gives : R → List ℕ → R → Type 0) (ended : R → T
       placed = omega arith;
       at_end = λ e. (refl, e);
       asked = inl refl;
-      each = λ e. tt;
+      each = tt;
       whole = sym (append-nil (unread old));
       ended_so = so;
     };
@@ -70,7 +70,7 @@ module _ {R : Type 0} (gives : R → List ℕ → R → Type 0) (ended : R → T
             undecided = rw (append-nil (joined b.pieces)) (subst (λ (x : List ℕ). Decides place x → ⊥) b.whole undecided);
             not_yet = λ e. false≢true (sym goes ∙ (b.at_end e).1);
           });
-          each = λ e. each_append b.pieces (r.piece ∷ []) (b.each goes) (r.after.4 e, tt);
+          each = brings_append now.has_ended new.has_ended b.pieces (r.piece ∷ []) b.each (one_brings new.has_ended r.piece r.after.4) (λ e. absurd (false≢true (sym goes ∙ e)));
           whole = first ∙ ap (λ (x : List ℕ). x ++ r.piece) b.whole ∙ append_assoc (unread old) (joined b.pieces) r.piece ∙ ap (λ (x : List ℕ). unread old ++ x) (sym (joined-more gives b.pieces r.piece));
           ended_so = r.after.1;
         };

@@ -73,7 +73,7 @@ module _ {R : Type 0} (gives : R → List ℕ → R → Type 0) (ended : R → T
   refills (Err e) r = tt
   refills (Ok has_more) r = record {
     more = joined r.pieces;
-    came = record { pieces = r.pieces; calls = r.calls; whole = refl; counted = r.counted; sized = r.sized; placed = r.placed; well = r.well; each = r.each; ended_still = λ e. (r.at_end e).1 };
+    came = record { pieces = r.pieces; calls = r.calls; whole = refl; counted = r.counted; sized = r.sized; placed = r.placed; well = r.well; each = r.each; ended_still = r.at_end };
     after = refills_after has_more r;
   }
 

@@ -166,6 +166,20 @@ spelled_front at place input (x ∷ is) rest s =
 bracket_first : (text : List ℕ) (item : Item) (hand next : List ℕ) → item ≡ items.TagOpen → IsSpelled item text next → hand ≡ text ++ next → hand ≡ byte "[" ∷ next
 bracket_first text item hand next e s h = (let o : text ≡ byte "[" ∷ [] = subst (λ (i : Item). IsSpelled i text next) e s in h ∙ ap (λ (z : List ℕ). z ++ next) o)
 
+-- the last read was made where no one game was at the start of the bytes before it
+pub asked_needed : {X A : Type 0} (comes : X → List ℕ → X → Type 0) (at_hand : X → List ℕ) (all sound : X → Type 0) (reads : X → ℕ) (old : X) (t : Reader A) (new_reader : IsNew t) (came : List ℕ) (new : X) (is : List (ℕ × Item))
+    → Asked comes at_hand all sound reads (λ s at item result v. TakesItem s item result v) 1048576 old came new t is → ReadsNeeded comes at_hand all reads old came new
+asked_needed comes at_hand all sound reads old t new_reader came new is (inl same) = inl same
+asked_needed comes at_hand all sound reads old t new_reader came new is (inr r) =
+    let begun = joined r.split.earlier in
+    inr (
+      r.split,
+      λ g n x. undecided_none (bare r.items) r.last (progress_all [] r.items t r.last (progress_new t new_reader) r.taken) (at_hand old ++ begun) r.rest
+          (λ more. subst (λ (z : List ℕ). Spells GameStart z (bare r.items) (r.rest ++ more)) (sym (append_assoc (at_hand old) begun more))
+          (spells_bare 0 GameStart (at_hand old ++ (begun ++ more)) r.items (r.rest ++ more) (r.spelled more)))
+          (subst (λ (p : Place). Decides p r.rest → ⊥) (behind_bare GameStart r.items) r.undecided) g n x,
+    )
+
 module _ {X A : Type 0} (comes : X → List ℕ → X → Type 0) (at_hand : X → List ℕ) (all sound : X → Type 0) (reads : X → ℕ) (old : X) (t u : Reader A) (new_reader : IsNew t) (game : Game A) where
   abbrev takes : Reader A → ℕ → Item → Result Taken PgnFault → Reader A → Type 0
   takes s at item result v = TakesItem s item result v
@@ -174,23 +188,12 @@ module _ {X A : Type 0} (comes : X → List ℕ → X → Type 0) (at_hand : X �
   limit = 1048576
 
   module _ (pieces : List (List ℕ)) (new : X) (came : Calls comes old pieces new) (at : ℕ) (place : Place) (white : Bool) where
-    -- the last read was made where no one game was at the start of the bytes before it
-    needs : Asked comes at_hand all sound reads takes old (joined pieces) new t → ReadsNeeded comes at_hand all old (joined pieces) new
-    needs (inl a) = inl a
-    needs (inr r) = inr (
-      at_hand old ++ r.earlier,
-      r.piece,
-      ap (λ (z : List ℕ). at_hand old ++ z) r.parts ∙ sym (append_assoc (at_hand old) r.earlier r.piece),
-      r.small,
-      λ g n x. undecided_none (bare r.items) r.last (progress_all [] r.items t r.last (progress_new t new_reader) r.taken) (at_hand old ++ r.earlier) r.rest
-          (λ more. subst (λ (z : List ℕ). Spells GameStart z (bare r.items) (r.rest ++ more)) (sym (append_assoc (at_hand old) r.earlier more))
-          (spells_bare 0 GameStart (at_hand old ++ (r.earlier ++ more)) r.items (r.rest ++ more) (r.spelled more)))
-          (subst (λ (p : Place). Decides p r.rest → ⊥) (behind_bare GameStart r.items) r.undecided) g n x,
-    )
+    needs : (is : List (ℕ × Item)) → Asked comes at_hand all sound reads takes limit old (joined pieces) new t is → ReadsNeeded comes at_hand all reads old (joined pieces) new
+    needs is asked = asked_needed comes at_hand all sound reads old t new_reader (joined pieces) new is asked
 
     come : (is : List (ℕ × Item)) → Took comes at_hand all sound reads takes limit old pieces new is at place white → list_all is_white (bare is) ≡ false → game.tree.path ≡ [] → (length (at_hand old) ≤ 65537 → length (at_hand new) ≤ 65537)
-        → Asked comes at_hand all sound reads takes old (joined pieces) new t → IsWithinLimits (game_of game) → ((more : List ℕ) → (all new → more ≡ []) → Gives (bare is) (at_hand new ++ more) (game_of game)) → HasCome comes at_hand all reads old new game at
-    come is took some cursor near asked within gives = let prefix = spelled_front 0 GameStart (at_hand old ++ (joined pieces ++ [])) is (at_hand new ++ []) (took.spelled [] (λ h. refl)) in record {
+        → ReadsNeeded comes at_hand all reads old (joined pieces) new → IsWithinLimits (game_of game) → ((more : List ℕ) → (all new → more ≡ []) → Gives (bare is) (at_hand new ++ more) (game_of game)) → HasCome comes at_hand all reads old new game at
+    come is took some cursor near needed within gives = let prefix = spelled_front 0 GameStart (at_hand old ++ (joined pieces ++ [])) is (at_hand new ++ []) (took.spelled [] (λ h. refl)) in record {
       pieces = pieces;
       came = came;
       reads = λ more none. record {
@@ -207,7 +210,7 @@ module _ {X A : Type 0} (comes : X → List ℕ → X → Type 0) (at_hand : X �
       parts = ap (λ (z : List ℕ). at_hand old ++ z) (sym (append-nil (joined pieces))) ∙ prefix.1 ∙ ap (λ (z : List ℕ). prefix.0 ++ z) (append-nil (at_hand new));
       counted = (let a = ap length prefix.1 in let b = length-append prefix.0 (at_hand new ++ []) in let c = length-append (at_hand new) [] in let d = length-append (at_hand old) (joined pieces ++ []) in let e = length-append (joined pieces) [] in omega (arith, a, b, c, d, e, took.counted));
       near = near;
-      needed = needs asked;
+      needed = needed;
       cursor = cursor;
       still = took.at_end;
     }
@@ -217,7 +220,7 @@ module _ {X A : Type 0} (comes : X → List ℕ → X → Type 0) (at_hand : X �
         let is = bare r.items in
         let p : Progress is r.mid = progress_all [] r.items t r.mid (progress_new t new_reader) r.taken in
         let g = ended_gives is r.last.1 [] game r.mid u c p r.ends in
-        come (r.items ++ r.last ∷ []) r.took (ap (list_all is_white) (bare_more r.items r.last) ∙ dark_after is r.last.1 [] g.1) g.0.1 r.near r.asked c.within
+        come (r.items ++ r.last ∷ []) r.took (ap (list_all is_white) (bare_more r.items r.last) ∙ dark_after is r.last.1 [] g.1) g.0.1 r.near (needs r.items r.asked) c.within
         (λ more none. subst (λ (z : List Item). Gives z (at_hand new ++ more) (game_of game)) (sym (bare_more r.items r.last)) (ended_gives is r.last.1 (at_hand new ++ more) game r.mid u c p r.ends).0.0)
 
     come_left : RanUpTo comes at_hand all sound reads takes limit old pieces new t u at place white (Ok Leaves) → Closed u game → HasCome comes at_hand all reads old new game at
@@ -225,7 +228,7 @@ module _ {X A : Type 0} (comes : X → List ℕ → X → Type 0) (at_hand : X �
         let is = bare r.items in
         let p : Progress is r.mid = progress_all [] r.items t r.mid (progress_new t new_reader) r.taken in
         let g = left_gives is r.item game r.mid u c p r.answered in
-        come r.items r.took g.1 (g.2 (byte "[" ∷ []) [] refl).1 (r.bracket g.0) r.asked c.within
+        come r.items r.took g.1 (g.2 (byte "[" ∷ []) [] refl).1 (r.bracket g.0) (needs r.items r.asked) c.within
         (λ more none.
         let k = item_taken place (at_hand new ++ more) r.item (r.rest ++ more) (r.found more none) in
         (g.2 (at_hand new ++ more) (r.rest ++ more) (bracket_first k.0 r.item (at_hand new ++ more) (r.rest ++ more) g.0 k.2.spelled k.1)).0)

@@ -15,11 +15,12 @@ use Rattle.chess_items.specs.steps.Seeking.{GiveUpBreaks, SeekBreaks}
 use Rattle.chess_items.specs.declared.place.Place.{Place}
 use Rattle.chess_items.specs.declared.place.Place.TheVariants.{GameStart}
 use Rattle.chess_items.proofs.FoundLemmas.{some_is}
-use Rattle.chess_items.proofs.BreakLemmas.{all_came, brings, has_all}
+use Rattle.chess_items.proofs.BreakLemmas.{all_came, brings, has_all, reads_left}
 use Rattle.chess_items.proofs.GiveUpLemmas.{gives_up_all}
+use Rattle.chess_items.proofs.LastLemmas.{came_where}
 use Rattle.chess_items.proofs.LocalLemmas.{text_shorter}
 use Rattle.chess_pgn.specs.Games as games
-use Rattle.chess_pgn.specs.Reading.{BeginsWithGame, IsWhite}
+use Rattle.chess_pgn.specs.Reading.{BeginsWithGame, HasNoGameYet, IsWhite}
 use Rattle.chess_pgn.specs.Sources.{Games, GivesUp, GoesOn, HasFault, HasGame, HasNone, IsPlaced, IsSound, Leaves, NextGame, NotGivenUp, ReadsNext, seeks}
 use Rattle.chess_pgn.specs.steps.GameAt.{FoundGame, HasCome, NoneCame}
 use Rattle.chess_pgn.specs.steps.GameCode.{game_of}
@@ -33,7 +34,7 @@ pub no_bytes : {X : Type 0} (s t : X) (pieces : List (List ℕ)) → Calls (λ x
 no_bytes s t [] c = refl
 no_bytes s t (p ∷ ps) c = rw (c.1, no_bytes c.0 t ps c.2) refl
 
-module _ {X : Type 0} (at_hand : X → List ℕ) (all : X → Type 0) (old new : X) where
+module _ {X : Type 0} (at_hand : X → List ℕ) (all : X → Type 0) (reads : X → ℕ) (old new : X) where
   none_white : NoneCame (λ x bytes y. bytes ≡ []) at_hand all reads old new → IsWhite (at_hand old)
   none_white h = subst (λ (z : List ℕ). IsWhite z) (ap (λ (z : List ℕ). at_hand old ++ z) (no_bytes old new h.pieces h.came) ∙ append-nil (at_hand old)) h.white
 
@@ -71,15 +72,15 @@ front_some input game used f = (let k = items_some input f.items f.rest f.spelle
 
 module _ {R : Type 0} (gives : R → List ℕ → R → Type 0) (failed : R → Bool) where
   one_game : {B : Type 0} (old new : AtHand R) (game : Game B) (used : ℕ) → HasCome (brings gives failed) unread (has_all gives failed) (reads_left gives failed) old new game used → HasGame gives failed old new (game_of game)
-  one_game old new game used h = record {
+  one_game old new game used h = let c = came_where HasNoGameYet gives failed old new h.pieces (all_came gives failed old new h.pieces h.came) h.needed in record {
     bytes = joined h.pieces;
-    came = all_came gives failed old new h.pieces h.came;
+    came = c.came;
     text = h.text;
     some = (let k = front_some _ (game_of game) used (h.reads [] (λ e. refl)) in omega (arith, k, h.counted));
     parts = h.parts;
     reads = λ more none. subst (λ (n : ℕ). BeginsWithGame (unread old ++ (joined h.pieces ++ more)) (game_of game) n) (sym h.counted) (h.reads more none);
     near = h.near;
-    needed = h.needed;
+    needed = c.asked;
     still = h.still;
   }
 

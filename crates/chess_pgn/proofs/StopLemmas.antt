@@ -5,13 +5,13 @@ use mathlib.Core.Logic.{inl, inr}
 use Rattle.byte_streams.specs.Calls.{Calls, joined}
 use Rattle.byte_streams.proofs.CallLemmas.{Calls-append, joined-append}
 use Rattle.chess_items.specs.Items as items
-use Rattle.chess_items.specs.Items.{Item, Spells, is_white, place_after, place_behind}
+use Rattle.chess_items.specs.Items.{Item, Spells, is_white, place_behind}
 use Rattle.chess_items.specs.steps.ItemAt.{item_at}
 use Rattle.chess_items.specs.steps.Deciding.{Decides}
 use Rattle.chess_items.specs.steps.Passing.{NotWhite, PassBreaks, Passed, Passes, WhiteBroke}
-use Rattle.chess_items.specs.steps.Taking.{AfterRun, Ran, RanAground, RanOut, RanOver, RanUpTo, RunBroke, Takes, Took}
-use Rattle.chess_items.specs.steps.Texts.{Oversized}
-use Rattle.chess_items.specs.declared.at_hand.Fault.TheVariants.{Read}
+use Rattle.chess_items.specs.steps.Taking.{AfterRun, Asked, Ran, RanAground, RanOut, RanOver, RanUpTo, RunBroke, Takes, Took}
+use Rattle.chess_items.specs.steps.Texts.{LastWhere, Oversized}
+use Rattle.chess_items.specs.declared.at_hand.Fault.TheVariants.{Read, Memory as Short}
 use Rattle.chess_items.specs.declared.fault.PgnFault.{PgnFault}
 use Rattle.chess_items.specs.declared.fault.FaultKind.{FaultKind}
 use Rattle.chess_items.specs.declared.fault.FaultKind.TheVariants.{Memory}
@@ -21,16 +21,20 @@ use Rattle.chess_items.specs.declared.taker.Taken.{Taken}
 use Rattle.chess_items.specs.declared.taking.Stop.{Stop}
 use Rattle.chess_items.specs.declared.taking.Stop.TheVariants as stop
 use Rattle.chess_items.specs.declared.taking.Stopped.{Stopped}
+use Rattle.chess_items.proofs.DecidedLemmas.{is_decided, not_decided}
 use Rattle.chess_items.proofs.FoundLemmas.{the}
+use Rattle.chess_items.proofs.SkimLemmas.{white_join}
+use Rattle.chess_items.proofs.SpellLemmas.{spells_on}
 use Rattle.chess_items.proofs.TakingLemmas.{bare, ended_after, spells_bare}
 use Rattle.chess_pgn.specs.Games.{Game}
 use Rattle.chess_pgn.specs.Reading.{HasNoGameYet, BeginsWithGame, IsWhite}
-use Rattle.chess_pgn.specs.steps.GameAt.{HasBroken, HasStarved, NotCome}
+use Rattle.chess_pgn.specs.Sources.{IsOpen}
+use Rattle.chess_pgn.specs.steps.GameAt.{Beyond, EndsWithin, HasBroken, HasStarved, NotCome, ReadsNeeded}
 use Rattle.chess_pgn.specs.steps.ReaderCode.{IsNew, MayNotEnd, TakesItem, Unanswered}
 use Rattle.chess_pgn.specs.declared.reader.Reader.{Reader}
 use Rattle.chess_pgn.proofs.ChainLemmas.{Progress, progress_all, progress_new}
 use Rattle.chess_pgn.proofs.DarkLemmas.{dark_aground, dark_beyond, dark_refused, dark_taken}
-use Rattle.chess_pgn.proofs.FrontLemmas.{behind_bare, spelled_front, whites_bare}
+use Rattle.chess_pgn.proofs.FrontLemmas.{asked_needed, behind_bare, whites_bare}
 use Rattle.chess_pgn.proofs.NoGameLemmas.{none_aground, none_out, none_over, none_refused}
 use Rattle.chess_pgn.proofs.UndecidedLemmas.{undecided_none}
 
@@ -39,11 +43,6 @@ use Rattle.chess_pgn.proofs.UndecidedLemmas.{undecided_none}
 front_nil : (xs ys : List ℕ) → xs ++ ys ≡ [] → xs ≡ []
 front_nil [] ys e = refl
 front_nil (x ∷ xs) ys e = absurd cc
-
--- the bytes of some items
-front_spelled : (place : Place) (input : List ℕ) (is : List Item) (rest : List ℕ) → Spells place input is rest → (text : List ℕ) × (input ≡ text ++ rest)
-front_spelled place input [] rest s = ([], s)
-front_spelled place input (i ∷ is) rest s = (let f = front_spelled (place_after place i) s.1 is rest s.4 in (s.0 ++ f.0, s.2 ∙ ap (λ (z : List ℕ). s.0 ++ z) f.1 ∙ sym (append_assoc s.0 f.0 rest)))
 
 is_memory : (k : FaultKind) → (k ≡ Memory) ⊎ (k ≡ Memory → ⊥)
 is_memory Memory = inl refl
@@ -55,6 +54,41 @@ module _ {X A : Type 0} (comes : X → List ℕ → X → Type 0) (at_hand : X �
 
   abbrev limit : ℕ
   limit = 1048576
+
+  -- the items that are used where the reading stops with a fault
+  record IsStopped (pieces : List (List ℕ)) (new : X) (at : ℕ) (place : Place) (white : Bool) : Type 0 where
+    pub items : List (ℕ × Item)
+    pub took : Took comes at_hand all sound reads takes limit old pieces new items at place white
+    pub asked : Asked comes at_hand all sound reads takes limit old (joined pieces) new t items
+
+  stopped_at : (pieces : List (List ℕ)) (new : X) (at : ℕ) (place : Place) (white : Bool) (why : Stop) (fault : PgnFault) → (fault.kind ≡ Memory → ⊥) → AfterRun comes at_hand all sound reads takes limit old pieces new t u at place white why → Unanswered why u fault
+      → IsStopped pieces new at place white
+  stopped_at pieces new at place white stop.Full fault kind r a = absurd (kind a)
+  stopped_at pieces new at place white stop.Left fault kind r a = absurd (kind a)
+  stopped_at pieces new at place white _ fault kind r a = record { items = r.items; took = r.took; asked = r.asked }
+
+  -- whatever it stops with
+  run_needed : (pieces : List (List ℕ)) (new : X) (at : ℕ) (place : Place) (white : Bool) (why : Stop) → AfterRun comes at_hand all sound reads takes limit old pieces new t u at place white why → ReadsNeeded comes at_hand all reads old (joined pieces) new
+  run_needed pieces new at place white _ r = asked_needed comes at_hand all sound reads old t new_reader (joined pieces) new r.items r.asked
+
+  bare_both : (is ks : List (ℕ × Item)) → bare (is ++ ks) ≡ bare is ++ bare ks
+  bare_both [] ks = refl
+  bare_both (x ∷ is) ks = ap (λ (z : List Item). x.1 ∷ z) (bare_both is ks)
+
+  -- the bytes before the last read don't decide the items and what comes after them
+  asked_open : (came : List ℕ) (new : X) (is : List (ℕ × Item)) → Asked comes at_hand all sound reads takes limit old came new t is → LastWhere comes at_hand reads (IsOpen (bare is)) old came new
+  asked_open came new is (inl same) = inl same
+  asked_open came new is (inr r) =
+      let begun = joined r.split.earlier in
+      inr (
+        r.split,
+        (
+          r.few,
+          not_decided (at_hand old ++ begun) (bare r.items) r.rest
+          (λ more. subst (λ (z : List ℕ). Spells GameStart z (bare r.items) (r.rest ++ more)) (sym (append_assoc (at_hand old) begun more)) (spells_bare 0 GameStart (at_hand old ++ (begun ++ more)) r.items (r.rest ++ more) (r.spelled more)))
+          (subst (λ (p : Place). Decides p r.rest → ⊥) (behind_bare GameStart r.items) r.undecided) (bare is) (bare r.others) (ap bare r.front ∙ bare_both r.items r.others),
+        ),
+      )
 
   module _ (pieces : List (List ℕ)) (new : X) (at : ℕ) (place : Place) (white : Bool) (more : List ℕ) (none : all new → more ≡ []) where
     abbrev whole : List ℕ
@@ -70,24 +104,12 @@ module _ {X A : Type 0} (comes : X → List ℕ → X → Type 0) (at_hand : X �
       there : place ≡ place_behind GameStart (bare is)
       there = took.stands ∙ behind_bare GameStart is
 
-      prefix : (text : List ℕ) × (whole ≡ text ++ rest)
-      prefix = spelled_front 0 GameStart whole is rest (took.spelled more none)
-
       counted : at + length rest ≡ length whole
       counted =
           let a = length-append (at_hand new) more in
           let b = length-append (at_hand old) (joined pieces ++ more) in
           let c = length-append (joined pieces) more in
           omega (arith, a, b, c, took.counted)
-
-    -- the bytes of the items
-    run_front : (why : Stop) → AfterRun comes at_hand all sound reads takes limit old pieces new t u at place white why → (text : List ℕ) × (whole ≡ text ++ rest)
-    run_front stop.Full r = prefix (r.items ++ r.last ∷ []) r.took
-    run_front stop.Left r = prefix r.items r.took
-    run_front (stop.Refused fault) r = prefix r.items r.took
-    run_front stop.End r = prefix r.items r.took
-    run_front stop.NoItem r = prefix r.items r.took
-    run_front stop.TooLarge r = prefix r.items r.took
 
     taken_so : (is : List (ℕ × Item)) (r : Reader A) → Takes takes t is r → Progress (bare is) r
     taken_so is r k = progress_all [] is t r (progress_new t new_reader) k
@@ -147,18 +169,17 @@ module _ {X A : Type 0} (comes : X → List ℕ → X → Type 0) (at_hand : X �
     still_there : all old → (joined r.pieces ≡ []) × all mid
     still_there = ended_after comes at_hand all sound reads takes limit old t mid u r.pieces s.at s.place s.white s.why r.after
 
-    -- the bytes that are used
-    used_here : (text : List ℕ) × (at_hand old ++ joined r.pieces ≡ text ++ at_hand mid)
-    used_here =
-        let f = run_front r.pieces mid s.at s.place s.white [] (λ e. refl) s.why r.after in
-        (f.0, ap (λ (z : List ℕ). at_hand old ++ z) (sym (append-nil (joined r.pieces))) ∙ f.1 ∙ ap (λ (z : List ℕ). f.0 ++ z) (append-nil (at_hand mid)))
+    -- the items that are used
+    here : IsStopped r.pieces mid s.at s.place s.white
+    here = stopped_at r.pieces mid s.at s.place s.white s.why fault kind r.after a
 
     here_none : (s.why ≡ stop.End → s.white ≡ false) → (s.why ≡ stop.TooLarge → s.white ≡ false) → sound mid → NotCome comes at_hand all sound reads old mid
     here_none end over well = record {
       pieces = r.pieces;
       came = r.came;
-      text = used_here.0;
-      parts = used_here.1;
+      items = bare here.items;
+      used = λ more none. spells_bare 0 GameStart (at_hand old ++ (joined r.pieces ++ more)) here.items (at_hand mid ++ more) (here.took.spelled more none);
+      needed = inr (asked_open (joined r.pieces) mid here.items here.asked);
       sound_still = well;
       none = λ more none g n x. run_none r.pieces mid s.at s.place s.white more none g n x s.why fault kind r.after a;
       dark = λ more none w. run_dark r.pieces mid s.at s.place s.white more none w s.why fault kind r.after a end over;
@@ -177,9 +198,20 @@ module _ {X A : Type 0} (comes : X → List ℕ → X → Type 0) (at_hand : X �
         record {
           pieces = pieces;
           came = Calls-append comes old mid new r.pieces k.pieces r.came k.came;
-          text = used_here.0 ++ skipped_text.0;
-          parts = ap (λ (z : List ℕ). at_hand old ++ z) (joined-append r.pieces k.pieces) ∙ sym (append_assoc (at_hand old) (joined r.pieces) (joined k.pieces)) ∙ ap (λ (z : List ℕ). z ++ joined k.pieces) used_here.1
-              ∙ append_assoc used_here.0 (at_hand mid) (joined k.pieces) ∙ ap (λ (z : List ℕ). used_here.0 ++ z) skipped_text.1 ∙ sym (append_assoc used_here.0 skipped_text.0 (at_hand new));
+          items = bare over.items ++ k.items;
+          used = λ more none.
+              subst (λ (z : List ℕ). Spells GameStart z (bare over.items ++ k.items) (at_hand new ++ more)) (sym (regroup more))
+              (spells_on GameStart _ (bare over.items) k.items (at_hand mid ++ (joined k.pieces ++ more)) (at_hand new ++ more)
+              (spells_bare 0 GameStart _ over.items _ (over.took.spelled (joined k.pieces ++ more) (none_before more none)))
+              (subst (λ (p : Place). Spells p (at_hand mid ++ (joined k.pieces ++ more)) k.items (at_hand new ++ more)) (over.took.stands ∙ behind_bare GameStart over.items) (k.spelled more none)));
+          needed = inl (
+            white_join (bare over.items) k.items (sym (whites_bare over.items) ∙ sym over.took.whites ∙ w.white) k.white,
+            (let n = (over.exceeds.over [] (λ e. refl)).0 in
+            let m = length-append (at_hand mid) [] in
+            let c = length-append (at_hand old) (joined pieces) in
+            let d = ap length (joined-append r.pieces k.pieces) ∙ length-append (joined r.pieces) (joined k.pieces) in
+            omega (arith, n, m, c, d, over.took.counted)),
+          );
           sound_still = well;
           none = λ more none g n x.
               run_none r.pieces mid s.at s.place s.white (joined k.pieces ++ more) (none_before more none) g n (subst (λ (z : List ℕ). BeginsWithGame z g n) (regroup more) x) s.why fault kind r.after a;
@@ -189,11 +221,24 @@ module _ {X A : Type 0} (comes : X → List ℕ → X → Type 0) (at_hand : X �
           still = λ e. let b = still_there e in let c = k.still b.1 in (joined-append r.pieces k.pieces ∙ ap (λ (z : List ℕ). z ++ joined k.pieces) b.0 ∙ c.0, c.1);
         }
       where
-        skipped_text : (text : List ℕ) × (at_hand mid ++ joined w.skipped.pieces ≡ text ++ at_hand new)
-        skipped_text =
-            let k = w.skipped in
-            let f = front_spelled s.place (at_hand mid ++ (joined k.pieces ++ [])) k.items (at_hand new ++ []) (k.spelled [] (λ e. refl)) in
-            (f.0, ap (λ (z : List ℕ). at_hand mid ++ z) (sym (append-nil (joined k.pieces))) ∙ f.1 ∙ ap (λ (z : List ℕ). f.0 ++ z) (append-nil (at_hand new)))
+        over : RanOver comes at_hand all sound reads takes limit old r.pieces mid t u s.at s.place s.white
+        over = subst (λ (y : Stop). AfterRun comes at_hand all sound reads takes limit old r.pieces mid t u s.at s.place s.white y) w.over r.after
+
+  -- beyond the limit no game is there in any case
+  beyond : (s : Stopped) (mid : X) (r : Ran comes at_hand all sound reads takes limit old mid t u (Ok s)) → s.why ≡ stop.TooLarge → (others : List (List ℕ)) (new : X) → Calls comes mid others new → (all mid → joined others ≡ []) → Beyond comes at_hand all reads old new (r.pieces ++ others)
+  beyond s mid r over others new later still = record {
+    first = r.pieces;
+    mid = mid;
+    came = r.came;
+    others = others;
+    later = later;
+    parts = refl;
+    still = still;
+    needed = run_needed r.pieces mid s.at s.place s.white s.why r.after;
+    none = λ more none g n x.
+        run_over r.pieces mid s.at s.place s.white more none g n (subst (λ (z : List ℕ). BeginsWithGame z g n) (append-nil (at_hand old ++ (joined r.pieces ++ more))) (x []))
+        (subst (λ (y : Stop). AfterRun comes at_hand all sound reads takes limit old r.pieces mid t u s.at s.place s.white y) over r.after);
+  }
 
   module _ (s : Stopped) (new : X) (p : Passed comes at_hand all sound reads takes limit old new t u s) (well : sound new) where
     still_mid : all old → (joined p.ran.pieces ≡ []) × all p.mid
@@ -202,10 +247,16 @@ module _ {X A : Type 0} (comes : X → List ℕ → X → Type 0) (at_hand : X �
     -- there was no memory for what was read
     starved : HasStarved comes at_hand all sound reads old new
     starved = elim p.after [
-      | inl same ↦ record { pieces = p.ran.pieces; came = subst (λ (x : X). Calls comes old p.ran.pieces x) (sym same.0) p.ran.came; still = λ h. ((still_mid h).0, subst all (sym same.0) (still_mid h).1, well) }
+      | inl same ↦ record {
+        pieces = p.ran.pieces;
+        came = subst (λ (x : X). Calls comes old p.ran.pieces x) (sym same.0) p.ran.came;
+        needed = inl (subst (λ (x : X). ReadsNeeded comes at_hand all reads old (joined p.ran.pieces) x) (sym same.0) (run_needed p.ran.pieces p.mid s.at s.place s.white s.why p.ran.after));
+        still = λ h. ((still_mid h).0, subst all (sym same.0) (still_mid h).1, well);
+      }
       | inr w ↦ record {
         pieces = p.ran.pieces ++ w.skipped.pieces;
         came = Calls-append comes old p.mid new p.ran.pieces w.skipped.pieces p.ran.came w.skipped.came;
+        needed = inr (beyond s p.mid p.ran w.over w.skipped.pieces new w.skipped.came (λ e. (w.skipped.still e).0));
         still = λ h. let b = still_mid h in (joined-append p.ran.pieces w.skipped.pieces ∙ ap (λ (z : List ℕ). z ++ joined w.skipped.pieces) b.0 ∙ (w.skipped.still b.1).0, (w.skipped.still b.1).1, well);
       }
     ]
@@ -241,7 +292,23 @@ module _ {X A : Type 0} (comes : X → List ℕ → X → Type 0) (at_hand : X �
       (λ more. subst (λ (z : List ℕ). Spells GameStart z (bare r.items) (at_hand r.mid ++ more)) (front_is r.pieces more) (spells_bare 0 GameStart (at_hand old ++ (joined r.pieces ++ more)) r.items (at_hand r.mid ++ more) (r.took.spelled more (ended more))))
       (subst (λ (p : Place). Decides p (at_hand r.mid) → ⊥) (r.took.stands ∙ behind_bare GameStart r.items) r.undecided) g n x
 
+  run_within : (r : RunBroke comes at_hand all sound reads takes_item 1048576 breaks old new t) → EndsWithin comes at_hand all sound reads old r.pieces r.mid
+  run_within r = record {
+    items = bare r.items;
+    used = λ more. spells_bare 0 GameStart (at_hand old ++ (joined r.pieces ++ more)) r.items (at_hand r.mid ++ more) (r.took.spelled more (λ e. absurd (r.not_all e)));
+    undecided = λ d. r.undecided (subst (λ (p : Place). Decides p (at_hand r.mid)) (sym (r.took.stands ∙ behind_bare GameStart r.items)) (is_decided (place_behind GameStart (bare r.items)) (at_hand r.mid) d));
+  }
+
   -- after white space beyond the limit
+  white_long : (w : WhiteBroke comes at_hand all sound reads takes_item 1048576 breaks old new t) → 1048576 < length (at_hand old ++ joined (w.ran.pieces ++ w.broke.1))
+  white_long w =
+      let over = subst (λ (y : Stop). AfterRun comes at_hand all sound reads takes_item 1048576 old w.ran.pieces w.mid t w.last w.stopped.at w.stopped.place w.stopped.white y) w.over w.ran.after in
+      let n = (over.exceeds.over [] (λ e. refl)).0 in
+      let m = length-append (at_hand w.mid) [] in
+      let c = length-append (at_hand old) (joined (w.ran.pieces ++ w.broke.1)) in
+      let d = ap length (joined-append w.ran.pieces w.broke.1) ∙ length-append (joined w.ran.pieces) (joined w.broke.1) in
+      omega (arith, n, m, c, d, over.took.counted)
+
   white_none_yet : (w : WhiteBroke comes at_hand all sound reads takes_item 1048576 breaks old new t) → HasNoGameYet (at_hand old ++ joined (w.ran.pieces ++ w.broke.1))
   white_none_yet w = λ g n x.
       let more = joined w.broke.1 in
@@ -252,7 +319,7 @@ module _ {X A : Type 0} (comes : X → List ℕ → X → Type 0) (at_hand : X �
       (subst (λ (y : Stop). AfterRun comes at_hand all sound reads takes_item 1048576 old w.ran.pieces w.mid t w.last w.stopped.at w.stopped.place w.stopped.white y) w.over w.ran.after)
 
   pub broken_come : PassBreaks comes at_hand all sound reads takes_item 1048576 breaks old new t Read → HasBroken comes at_hand all sound reads breaks old new
-  broken_come (inl r) = record { pieces = r.pieces; mid = r.mid; came = r.came; breaks_off = r.breaks_off; not_yet = r.not_yet; not_all = r.not_all; none = run_none_yet r }
+  broken_come (inl r) = record { pieces = r.pieces; mid = r.mid; came = r.came; breaks_off = r.breaks_off; not_yet = r.not_yet; not_all = r.not_all; none = run_none_yet r; within = inr (run_within r) }
   broken_come (inr w) = record {
     pieces = w.ran.pieces ++ w.broke.1;
     mid = w.broke.2;
@@ -261,4 +328,15 @@ module _ {X A : Type 0} (comes : X → List ℕ → X → Type 0) (at_hand : X �
     not_yet = λ e. w.broke.0 (ended_after comes at_hand all sound reads takes_item 1048576 old t w.mid w.last w.ran.pieces w.stopped.at w.stopped.place w.stopped.white w.stopped.why w.ran.after e).1;
     not_all = w.broke.5;
     none = white_none_yet w;
+    within = inl (white_long w);
+  }
+
+  -- there was no memory to read on
+  pub short_come : PassBreaks comes at_hand all sound reads takes_item 1048576 breaks old new t Short → HasStarved comes at_hand all sound reads old new
+  short_come (inl r) = record { pieces = r.pieces; came = r.came; needed = inl (asked_needed comes at_hand all sound reads old t new_reader (joined r.pieces) new r.items r.asked); still = λ e. absurd (r.not_yet e) }
+  short_come (inr w) = record {
+    pieces = w.ran.pieces ++ w.broke.1;
+    came = Calls-append comes old w.mid new w.ran.pieces w.broke.1 w.ran.came w.broke.2;
+    needed = inr (beyond comes at_hand all sound reads old t w.last new_reader w.stopped w.mid w.ran w.over w.broke.1 new w.broke.2 (λ e. absurd (w.broke.0 e)));
+    still = λ e. absurd (w.broke.0 (ended_after comes at_hand all sound reads takes_item 1048576 old t w.mid w.last w.ran.pieces w.stopped.at w.stopped.place w.stopped.white w.stopped.why w.ran.after e).1);
   }

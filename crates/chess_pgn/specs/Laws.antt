@@ -7,17 +7,20 @@
 --   WrittenIsRead  a game that is written is read again
 --   NewIsGame      a new game is one
 --   ReadIsGame     what is read is one
+--   OneGame        no text begins with two games, nor with one where it is white
+--   OneCollection  no text is two collections
 use Rattle.std.specs.Prelude.{◌≡◌, ◌≢◌, ℕ, ◌<◌, ◌≤◌, ◌+◌, max, Bool, true, false, List, [], ◌++◌, length, None, ⊤}
 use Rattle.std.specs.List.{AllByRecursion}
 use Rattle.chess_types.specs.board.Board.{man_at}
 use Rattle.chess_types.specs.board.Position.{IsWellFormed, PositionParts}
+use Rattle.chess_items.specs.Collections.{Entry, IsCollection}
 use Rattle.chess_items.specs.Items.{Each, in_line, is_blank, is_name_byte}
 use Rattle.chess_draws.specs.Pushes.{most_plies}
 use Rattle.chess_tree.specs.Comments.{IsComment}
 use Rattle.chess_tree.specs.Forest.{Forest, Bare, Node, height, moves_held, most_moves}
 use Rattle.chess_tree.specs.WellFormed.{AreSound}
 use Rattle.chess_pgn.specs.Games.{Game, Tags, untagged}
-use Rattle.chess_pgn.specs.Reading.{BeginsWithGame}
+use Rattle.chess_pgn.specs.Reading.{BeginsWithGame, IsWhite}
 use Rattle.chess_pgn.specs.Tags.{Ascend, is_own}
 use Rattle.chess_pgn.specs.Written.{game_text}
 
@@ -80,3 +83,12 @@ NewIsGame =
 -- long.
 abbrev pub ReadIsGame : Type 0
 ReadIsGame = (input : List ℕ) (game : Game) (used : ℕ) → BeginsWithGame input game used → IsGame game × (nesting false game.tree.below ≤ 128)
+
+abbrev pub OneGame : Type 0
+OneGame =
+    ((input : List ℕ) (g h : Game) (m n : ℕ) → BeginsWithGame input g m → BeginsWithGame input h n → (g ≡ h) × (m ≡ n))
+    × ((input : List ℕ) (g : Game) (m : ℕ) → IsWhite input → BeginsWithGame input g m → ⊥)
+
+-- So the entries of a collection, good and bad, are a function of its text.
+abbrev pub OneCollection : Type 0
+OneCollection = (text : List ℕ) (a b : List (Entry Game)) → IsCollection BeginsWithGame IsWhite text a → IsCollection BeginsWithGame IsWhite text b → a ≡ b

@@ -8,7 +8,7 @@
 use Rattle.std.specs.Prelude.{◌≡◌, ℕ, ◌+◌, ◌*◌, ◌≤◌, ◌<◌, ◌⊎◌, Bool, true, false, List, [], ◌∷◌, ◌++◌, length, Result, Ok, Err}
 use Rattle.std.specs.List.{AllByRecursion}
 use Rattle.byte_streams.specs.Calls.{Calls, joined}
-use Rattle.chess_items.specs.Coming.{AtHand, Came, unread}
+use Rattle.chess_items.specs.Coming.{AtHand, Came, EachBrings, unread}
 use Rattle.chess_items.specs.steps.Deciding.{Decides}
 use Rattle.chess_items.specs.steps.Texts.{Needs}
 use Rattle.chess_items.specs.declared.place.Place.{Place}
@@ -47,7 +47,7 @@ pub record Brought {R : Type 0} (gives : R → List ℕ → R → Type 0) (ended
   pub placed : new.used + length (unread new) ≡ old.used + length (unread old) + length (joined pieces)
   pub at_end : old.has_ended ≡ true → (pieces ≡ []) × (new.has_ended ≡ true)
   pub asked : Needs (λ s bytes t. Came gives failed s bytes t) unread (λ s. s.has_ended ≡ true) (λ s. s.reads) most place old (joined pieces) new
-  pub each : new.has_ended ≡ false → AllByRecursion (λ piece. 0 < length piece) pieces
+  pub each : EachBrings new.has_ended pieces
   pub whole : unread new ≡ unread old ++ joined pieces
   pub ended_so : new.has_ended ≡ true → ended new.source
 
@@ -79,7 +79,7 @@ pub record HasRefilled {R : Type 0} (gives : R → List ℕ → R → Type 0) (e
   pub placed : new.used + length (unread new) ≡ old.used + length (unread old) + length (joined pieces)
   pub well : failed new.source ≡ failed old.source
   pub at_end : old.has_ended ≡ true → (pieces ≡ []) × (new.has_ended ≡ true)
-  pub each : new.has_ended ≡ false → AllByRecursion (λ piece. 0 < length piece) pieces
+  pub each : EachBrings new.has_ended pieces
   pub after : AfterReading ended pieces new has_more
 
 abbrev pub Refilled : {R : Type 0} → (R → List ℕ → R → Type 0) → (R → Type 0) → (R → Bool) → AtHand R → AtHand R → Result Bool Fault → Type 0

@@ -42,8 +42,9 @@ module _ {X : Type 0} (comes : X → List ℕ → X → Type 0) (at_hand : X →
     pub others : List (List ℕ)
     pub later : Calls comes mid others new
     pub parts : pieces ≡ first ++ others
+    pub still : all mid → joined others ≡ []
     pub needed : ReadsNeeded old (joined first) mid
-    pub none : (more : List ℕ) → HasNoGameYet (at_hand old ++ (joined first ++ more))
+    pub none : (more : List ℕ) → (all mid → more ≡ []) → HasNoGameYet (at_hand old ++ (joined first ++ more))
 
   abbrev pub ReadsOn : X → List (List ℕ) → X → Type 0
   ReadsOn old pieces new = ReadsNeeded old (joined pieces) new ⊎ Beyond old new pieces

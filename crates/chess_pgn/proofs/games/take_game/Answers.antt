@@ -1,10 +1,10 @@
-use Rattle.std.proofs.Common.{subst}
+use Rattle.std.proofs.Common.{inl, refl, subst}
 use Rattle.chess_items.specs.declared.at_hand.Fault.{Fault}
 use Rattle.chess_items.specs.steps.Passing.{PassBreaks}
 use Rattle.chess_pgn.specs.steps.ReaderCode.{TakesItem}
 use Rattle.chess_pgn.proofs.FrontLemmas.{game_come, none_come}
 use Rattle.chess_pgn.proofs.HaltLemmas.{few_come, leaves_come}
-use Rattle.chess_pgn.proofs.StopLemmas.{broken_come, no_game_come}
+use Rattle.chess_pgn.proofs.StopLemmas.{broken_come, no_game_come, short_come}
 use Rattle.chess_pgn.proofs.games.take_game.Goals as goal
 
 pub returns-in-Ok-None-clause-game : goal.returns-in-Ok-None-clause-game
@@ -27,6 +27,12 @@ returns-in-Err-Read-clause-game g c =
     broken_come g.X.Text.comes g.X.Text.at_hand g.X.Text.all g.X.Text.sound g.X.Text.reads g.X.Text.breaks c.args.text.now c.pass.new.text c.new-reader.result c.new-reader.ensures
     (subst (λ (f : Fault). PassBreaks {X = g.row.X.Denot} g.X.Text.comes g.X.Text.at_hand g.X.Text.all g.X.Text.sound g.X.Text.reads (λ s at item result t. TakesItem s item result t) 1048576 g.X.Text.breaks c.args.text.now c.pass.new.text c.new-reader.result f)
     c.in-Err-Read.field-0-is c.in-Err-Read.ensures.broken)
+
+pub returns-in-Err-Memory-clause-game : goal.returns-in-Err-Memory-clause-game
+returns-in-Err-Memory-clause-game g c =
+    inl (refl, short_come g.X.Text.comes g.X.Text.at_hand g.X.Text.all g.X.Text.sound g.X.Text.reads g.X.Text.breaks c.args.text.now c.pass.new.text c.new-reader.result c.new-reader.ensures
+    (subst (λ (f : Fault). PassBreaks {X = g.row.X.Denot} g.X.Text.comes g.X.Text.at_hand g.X.Text.all g.X.Text.sound g.X.Text.reads (λ s at item result t. TakesItem s item result t) 1048576 g.X.Text.breaks c.args.text.now c.pass.new.text c.new-reader.result f)
+    c.in-Err-Memory.field-0-is c.in-Err-Memory.ensures.broken))
 
 pub returns-in-Err-clause-halts : goal.returns-in-Err-clause-halts
 returns-in-Err-clause-halts g c =
