@@ -4,18 +4,20 @@ use Rattle.std.proofs.lemmas.Bool.{false≢true}
 use Rattle.std.specs.Prelude.{Result, Ok, Option, Some, None, IfErr, IfOk, IfSome}
 use Rattle.byte_streams.specs.Calls.{Carries, joined}
 use Rattle.byte_streams.proofs.CallLemmas.{Calls-append, Carries-none, Carries-append, joined-append}
-use Rattle.chess_items.specs.Coming.{AtHand, Breaks, Came, unread}
+use Rattle.chess_items.specs.Coming.{AtHand, Breaks, Came, EachBrings, LastReadWhere, unread}
 use Rattle.chess_items.specs.declared.fault.PgnFault.{PgnFault}
-use Rattle.chess_items.proofs.BreakLemmas.{came_append, came_none, each_append}
+use Rattle.chess_items.proofs.BreakLemmas.{all_bring, came_none, came_small, each_append}
+use Rattle.chess_items.proofs.LastLemmas.{joins}
+use Rattle.chess_items.proofs.ReadLemmas.{empty_is}
 use Rattle.chess_pgn.specs.Games.{Game}
-use Rattle.chess_pgn.specs.Reading.{HasNoGame, BeginsWithGame, IsWhite}
+use Rattle.chess_pgn.specs.Reading.{HasNoGame, HasNoGameYet, BeginsWithGame, IsWhite}
 use Rattle.chess_pgn.specs.Sources.{Fails, Games, GoesOn, HasFault, HasGame, HasNone, NextGame, Starves}
 use Rattle.chess_pgn.specs.Written.{game_text}
 use Rattle.chess_pgn.specs.steps.GameCode.{game_of}
 use Rattle.chess_pgn.specs.declared.game.Game.{Game as Code}
 use Rattle.chess_pgn.specs.declared.games.GamesFault.{GamesFault}
 use Rattle.chess_pgn.specs.declared.games.GamesFault.TheVariants.{Pgn, Read}
-use Rattle.chess_cli.specs.Collections.{AreGames, Collected, EndsAtFault, EndsInPart, EndsUnread, EndsWhole, EndsWritten, games_text}
+use Rattle.chess_cli.specs.Collections.{AreGames, Collected, EndsAtFault, EndsInPart, EndsUnread, EndsWhole, EndsWritten, HoldsWhole, games_text}
 use Rattle.chess_loop.specs.RunEnds.{Broken, most_reads}
 use Rattle.chess_loop.specs.steps.Sending.{Sent}
 use Rattle.chess_cli.specs.steps.Collecting.{EndsBy, Reads, SoFar, WritesAll, WritesOne}
@@ -41,15 +43,62 @@ are_more input (g ∷ games) mid text rest game a parts prefix = (a.0, a.1, a.2,
 
 module _ {R : Type 0} (gives : R → List ℕ → R → Type 0) (failed : R → Bool) where
   pub reads_none : (s : AtHand R) → Reads gives failed s s []
-  reads_none s = record { bytes = []; came = came_none gives failed s s refl refl refl refl; are = λ more none. refl }
+  reads_none s = record { bytes = []; came = came_none gives failed s s refl refl refl refl; are = λ more none. refl; whole = inl (empty_is (came_none gives failed s s refl refl refl refl).pieces (let n = (came_none gives failed s s refl refl refl refl).counted in omega (arith, n))) }
 
-  carries : (s n : AtHand R) (bytes : List ℕ) → Came gives failed s bytes n → Carries gives s.source bytes n.source
+  abbrev carries : (s n : AtHand R) (bytes : List ℕ) → Came gives failed s bytes n → Carries gives s.source bytes n.source
   carries s n bytes c = record { pieces = c.pieces; calls = c.calls; whole = c.whole }
+
+  -- where the last read was made, if one was, no one game was after those before it
+  abbrev Yet : AtHand R → List (List ℕ) → Type 0
+  Yet m pieces = (pieces ≡ []) ⊎ ((before : List (List ℕ)) × (piece : List ℕ) × (pieces ≡ before ++ piece ∷ []) × HasNoGameYet (unread m ++ joined before))
+
+  asked_yet : (m : AtHand R) (pieces : List (List ℕ)) → LastReadWhere HasNoGameYet (unread m) pieces → Yet m pieces
+  asked_yet m pieces (inl e) = inl e
+  asked_yet m pieces (inr w) = inr (w.0, w.1, w.2, w.4)
+
+  some_pieces : (before : List (List ℕ)) (piece : List ℕ) → before ++ piece ∷ [] ≡ [] → ⊥
+  some_pieces [] piece e = cc
+  some_pieces (p ∷ before) piece e = cc
+
+  whole_on : (s m n : AtHand R) (games others : List Game) (r : Reads gives failed s m games) (bytes : List ℕ) (came : Came gives failed m bytes n) → Yet m came.pieces → HoldsWhole (unread s) (r.came.pieces ++ came.pieces) (games ++ others)
+  whole_on s m n games others r bytes came (inl e) =
+      subst (λ (z : List (List ℕ)). HoldsWhole (unread s) z (games ++ others)) (sym (ap (λ (z : List (List ℕ)). r.came.pieces ++ z) e ∙ append-nil r.came.pieces)) (more r.whole)
+    where
+      more : HoldsWhole (unread s) r.came.pieces games → HoldsWhole (unread s) r.came.pieces (games ++ others)
+      more (inl none) = inl none
+      more (inr w) = inr (record {
+        before = w.before;
+        piece = w.piece;
+        parts = w.parts;
+        first = w.first;
+        others = w.others ++ others;
+        split = ap (λ (z : List Game). z ++ others) w.split ∙ append_assoc w.first w.others others;
+        left = w.left;
+        are = w.are;
+        none = w.none;
+      })
+  whole_on s m n games others r bytes came (inr y) = inr (record {
+    before = r.came.pieces ++ y.0;
+    piece = y.1;
+    parts = ap (λ (z : List (List ℕ)). r.came.pieces ++ z) y.2 ∙ sym (append_assoc r.came.pieces y.0 (y.1 ∷ []));
+    first = games;
+    others = others;
+    split = refl;
+    left = unread m ++ joined y.0;
+    are = λ more.
+        let here = r.are (joined y.0 ++ more) (λ e. absurd (some_pieces y.0 y.1 (sym y.2 ∙ (came.ended_still e).0))) in
+        let text : r.bytes ++ (joined y.0 ++ more) ≡ joined (r.came.pieces ++ y.0) ++ more =
+        sym (append_assoc r.bytes (joined y.0) more) ∙ ap (λ (z : List ℕ). z ++ more) (ap (λ (z : List ℕ). z ++ joined y.0) (sym r.came.whole) ∙ sym (joined-append r.came.pieces y.0)) in
+        subst (λ (z : List ℕ). AreGames (unread s ++ z) games ((unread m ++ joined y.0) ++ more)) text
+        (subst (λ (z : List ℕ). AreGames (unread s ++ (r.bytes ++ (joined y.0 ++ more))) games z) (sym (append_assoc (unread m) (joined y.0) more)) here);
+    none = y.3;
+  })
 
   reads_more : (s m n : AtHand R) (games : List Game) (game : Game) → Reads gives failed s m games → HasGame gives failed m n game → Reads gives failed s n (games ++ game ∷ [])
   reads_more s m n games game r h = record {
     bytes = r.bytes ++ h.bytes;
-    came = came_append gives failed s m n r.bytes h.bytes r.came h.came;
+    came = joins gives failed s n m r.bytes h.bytes (r.bytes ++ h.bytes) r.came h.came refl;
+    whole = whole_on s m n games (game ∷ []) r h.bytes h.came (asked_yet m h.came.pieces h.needed);
     are = λ more none.
         let before = r.are (h.bytes ++ more) (λ e. (let still = h.still e in ap (λ (z : List ℕ). z ++ more) still.0 ∙ none still.1)) in
         let parts : unread m ++ (h.bytes ++ more) ≡ h.text ++ (unread n ++ more) =
@@ -60,8 +109,12 @@ module _ {R : Type 0} (gives : R → List ℕ → R → Type 0) (failed : R → 
 
   -- bytes that came after the games
   module _ (s m n : AtHand R) (games : List Game) (nothing : unread s ≡ []) (first : failed s.source ≡ false) (r : Reads gives failed s m games) (bytes : List ℕ) (came : Came gives failed m bytes n) where
-    all_bytes : Came gives failed s (r.bytes ++ bytes) n
-    all_bytes = came_append gives failed s m n r.bytes bytes r.came came
+    abbrev all_bytes : Came gives failed s (r.bytes ++ bytes) n
+    all_bytes = joins gives failed s n m r.bytes bytes (r.bytes ++ bytes) r.came came refl
+
+    -- the games hold each that is whole before the last read
+    whole_still : Yet m came.pieces → HoldsWhole [] (r.came.pieces ++ came.pieces) games
+    whole_still yet = subst (λ (z : List ℕ). HoldsWhole z (r.came.pieces ++ came.pieces) games) nothing (subst (λ (z : List Game). HoldsWhole (unread s) (r.came.pieces ++ came.pieces) z) (append-nil games) (whole_on s m n games [] r bytes came yet))
 
     well_read : failed n.source ≡ false
     well_read = came.well ∙ r.came.well ∙ first
@@ -151,15 +204,41 @@ module _ {R W : Type 0} (gives : R → List ℕ → R → Type 0) (read_failed :
 
     -- there was no memory for it
     starved_there : (m n : AtHand R) (old new : W) → SoFar gives read_failed ended takes failed count s m old new → Starves gives read_failed ended m n → EndsWritten gives read_failed ended takes failed s.source n.source old new
+    unfolding collected
     starved_there m n old new so_far starves = record {
       games = so_far.games;
+      whole = whole_still gives read_failed s m n so_far.games nothing first_read so_far.reads starves.bytes starves.came (asked_yet gives read_failed m starves.came.pieces starves.needed);
       reads = collected gives read_failed s m n so_far.games nothing first_read so_far.reads starves.bytes starves.came ended m.has_ended (λ e. (starves.still e).1) (λ e. ((starves.still e).0, e));
       written = so_far.written;
     }
 
+    -- where no game is there in any case
+    fails_yet : (m n : AtHand R) (fails : Fails gives read_failed ended m n) → Yet gives read_failed m fails.came.pieces
+    fails_yet m n fails = by fails.came.pieces fails.came.whole
+      where
+        last_of : (pieces : List (List ℕ)) → (pieces ≡ []) ⊎ ((before : List (List ℕ)) × (piece : List ℕ) × (pieces ≡ before ++ piece ∷ []))
+        last_of [] = inl refl
+        last_of (p ∷ ps) = inr (elim (last_of ps) [ | inl e ↦ ([], p, ap (λ (z : List (List ℕ)). p ∷ z) e) | inr l ↦ (p ∷ l.0, l.1, ap (λ (z : List (List ℕ)). p ∷ z) l.2) ])
+
+        by : (pieces : List (List ℕ)) → joined pieces ≡ fails.bytes → Yet gives read_failed m pieces
+        by pieces whole = elim (last_of pieces) [
+          | inl e ↦ inl e
+          | inr l ↦ inr (
+            l.0,
+            l.1,
+            l.2,
+            λ g k x.
+                let text : (unread m ++ joined l.0) ++ (l.1 ++ []) ≡ unread m ++ (fails.bytes ++ []) =
+                append_assoc (unread m) (joined l.0) (l.1 ++ []) ∙ ap (λ (z : List ℕ). unread m ++ z) (sym (joined-append l.0 (l.1 ∷ [])) ∙ ap joined (sym l.2) ∙ whole ∙ sym (append-nil fails.bytes)) in
+                fails.none [] (λ e. refl) g k (subst (λ (z : List ℕ). BeginsWithGame z g k) text (x (l.1 ++ []))),
+          )
+        ]
+
     written_there : (m n : AtHand R) (old new : W) → SoFar gives read_failed ended takes failed count s m old new → Fails gives read_failed ended m n → EndsWritten gives read_failed ended takes failed s.source n.source old new
+    unfolding collected
     written_there m n old new so_far fails = record {
       games = so_far.games;
+      whole = whole_still gives read_failed s m n so_far.games nothing first_read so_far.reads fails.bytes fails.came (fails_yet m n fails);
       reads = collected gives read_failed s m n so_far.games nothing first_read so_far.reads fails.bytes fails.came ended n.has_ended fails.ended_so fails.still;
       written = so_far.written;
     }
@@ -175,25 +254,27 @@ module _ {R W : Type 0} (gives : R → List ℕ → R → Type 0) (read_failed :
     -- why a read was the last
     caused : (m b n : AtHand R) (bytes : List ℕ) (games : List Game) (r : Reads gives read_failed s m games) (came : Came gives read_failed m bytes b) → s.reads ≡ most_reads → Breaks gives read_failed b n
         → (gives b.source [] n.source × (read_failed n.source ≡ true)) ⊎ ((b.source ≡ n.source) × (length (r.came.pieces ++ came.pieces) ≡ most_reads))
-    caused m b n bytes games r came many (inl failed_read) = inl failed_read
-    caused m b n bytes games r came many (inr none_left) = inr (sym none_left.0, (let k = length-append r.came.pieces came.pieces in omega (arith, k, r.came.counted, came.counted, many, none_left.1)))
+    caused m b n bytes games r came many (inl failed_read, same) = inl failed_read
+    caused m b n bytes games r came many (inr none_left, same) = inr (sym none_left.0, (let k = length-append r.came.pieces came.pieces in omega (arith, k, r.came.counted, came.counted, many, none_left.1)))
 
     -- the last read failed, or there were 2^40
     pub ends_unread : (m n : AtHand R) (old new : W) → s.reads ≡ most_reads → SoFar gives read_failed ended takes failed count s m old new → HasFault gives read_failed ended m n Read → EndsUnread gives read_failed ended takes failed most_reads s.source n.source old new
-    ends_unread m n old new many so_far fails =
+    ends_unread m n old new many so_far reads =
+        let fails = reads.breaks in
         let r = so_far.reads in
+        let goes : m.has_ended ≡ false = not_before m.has_ended fails.before.has_ended (λ e. (fails.came.ended_still e).1) fails.not_ended in
         let whole : joined (r.came.pieces ++ fails.came.pieces) ≡ r.bytes ++ fails.bytes = rw (joined-append r.came.pieces fails.came.pieces, r.came.whole, fails.came.whole) refl in
         record {
           pieces = r.came.pieces ++ fails.came.pieces;
           before = fails.before.source;
           calls = Calls-append gives s.source m.source fails.before.source r.came.pieces fails.came.pieces r.came.calls fails.came.calls;
           well_read = well_read gives read_failed s m fails.before so_far.games nothing first_read r fails.bytes fails.came;
-          each = each_append r.came.pieces fails.came.pieces (r.came.each (not_before m.has_ended fails.before.has_ended fails.came.ended_still fails.not_ended)) (fails.came.each fails.not_ended);
+          each = each_append r.came.pieces fails.came.pieces (all_bring r.came.pieces (subst (λ (e : Bool). EachBrings e r.came.pieces) goes r.came.each)) (all_bring fails.came.pieces (subst (λ (e : Bool). EachBrings e fails.came.pieces) fails.not_ended fails.came.each));
           cause = caused m fails.before n fails.bytes so_far.games r fails.came many fails.breaks;
           games = so_far.games;
           rest = unread m ++ fails.bytes;
           are = λ more. subst (λ (z : List ℕ). AreGames (z ++ more) so_far.games ((unread m ++ fails.bytes) ++ more)) (sym whole)
-              (are_on gives read_failed s m fails.before so_far.games nothing first_read r fails.bytes fails.came more (λ e. absurd (false≢true (sym fails.not_ended ∙ fails.came.ended_still e))));
+              (are_on gives read_failed s m fails.before so_far.games nothing first_read r fails.bytes fails.came more (λ e. absurd (false≢true (sym goes ∙ e))));
           none = fails.none;
           written = so_far.written;
         }
@@ -203,7 +284,8 @@ module _ {R W : Type 0} (gives : R → List ℕ → R → Type 0) (read_failed :
     not_so_many m old new many so_far so =
         let c = so_far.reads.came in
         let n = ap length nothing in
-        omega (arith, n, c.counted, c.small, many, so, so_far.few)
+        let s = came_small c in
+        omega (arith, n, c.counted, s, many, so, so_far.few)
 
     -- a prefix of one more
     broken_more : (m n : AtHand R) (old mid new : W) (game : Game) → (n.has_ended ≡ true → ended n.source) → failed old ≡ false → SoFar gives read_failed ended takes failed count s m old mid → HasGame gives read_failed m n game
@@ -228,8 +310,10 @@ module _ {R W : Type 0} (gives : R → List ℕ → R → Type 0) (read_failed :
 
     -- there was no memory for the text of a game
     ends_written : (m n : AtHand R) (old new : W) (game : Game) → (n.has_ended ≡ true → ended n.source) → SoFar gives read_failed ended takes failed count s m old new → HasGame gives read_failed m n game → EndsWritten gives read_failed ended takes failed s.source n.source old new
+    unfolding collected
     ends_written m n old new game told so_far read = record {
       games = so_far.games;
+      whole = whole_still gives read_failed s m n so_far.games nothing first_read so_far.reads read.bytes read.came (asked_yet gives read_failed m read.came.pieces read.needed);
       reads = collected gives read_failed s m n so_far.games nothing first_read so_far.reads read.bytes read.came ended n.has_ended told read.still;
       written = so_far.written;
     }

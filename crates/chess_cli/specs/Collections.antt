@@ -3,7 +3,8 @@
 --   AreGames      games stand one after another at the start of a text, and this is left
 --   Collected     these games stand so at the start of what a source gave up to where it was left, whatever it gives next; no read failed
 --   WritesGames   they are written whole, and nothing else; no write failed
---   EndsWritten   so they are; no call failed
+--   HoldsWhole    of the reads that were made, games hold each that is whole, whatever comes next, before the last of them
+--   EndsWritten   these games are written, which are at least those that are whole before the last read; no call failed
 --   EndsWhole     so they are, the source has ended, and what is left of its bytes is white; no call failed
 --   EndsAtFault   so they are, and after them stands no game, and not white alone, whatever comes next
 --   EndsUnread    a read failed, the last, or there were as many reads as there may be, of some bytes each; the games at the start of what was read are
@@ -43,10 +44,27 @@ pub record WritesGames {W : Type 0} (takes : W → List ℕ → W → Type 0) (f
   pub writes : Carries takes old (games_text games) new
   pub well_written : failed new ≡ false
 
+-- before the last read the first games were there, and no one game after them
+pub record WholeBefore (hand : List ℕ) (pieces : List (List ℕ)) (games : List Game) : Type 0 where
+  pub before : List (List ℕ)
+  pub piece : List ℕ
+  pub parts : pieces ≡ before ++ piece ∷ []
+  pub first : List Game
+  pub others : List Game
+  pub split : games ≡ first ++ others
+  pub left : List ℕ
+  pub are : (more : List ℕ) → AreGames (hand ++ (joined before ++ more)) first (left ++ more)
+  pub none : HasNoGameYet left
+
+-- with the bytes that were at hand before
+abbrev pub HoldsWhole : List ℕ → List (List ℕ) → List Game → Type 0
+HoldsWhole hand pieces games = (pieces ≡ []) ⊎ WholeBefore hand pieces games
+
 module _ {R W : Type 0} (gives : R → List ℕ → R → Type 0) (read_failed : R → Bool) (ended : R → Type 0) (takes : W → List ℕ → W → Type 0) (failed : W → Bool) where
   pub record EndsWritten (reader reader' : R) (old new : W) : Type 0 where
     pub games : List Game
     pub reads : Collected gives read_failed ended reader reader' games
+    pub whole : HoldsWhole [] reads.came.pieces games
     pub written : WritesGames takes failed games old new
 
   pub record EndsWhole (reader reader' : R) (old new : W) : Type 0 where

@@ -238,7 +238,7 @@ module _ {X A : Type 0} (comes : X → List ℕ → X → Type 0) (at_hand : X �
         let is = bare r.items in
         let p : Progress is u = progress_all [] r.items t u (progress_new t new_reader) r.taken in
         let g = finished_gives is game u f p in
-        come r.items r.took (sym (whites_bare r.items) ∙ sym r.took.whites ∙ dark) g.1 (λ h. rw r.nothing (omega arith)) r.asked f.ends.within
+        come r.items r.took (sym (whites_bare r.items) ∙ sym r.took.whites ∙ dark) g.1 (λ h. rw r.nothing (omega arith)) (needs r.items r.asked) f.ends.within
         (λ more none. subst (λ (z : List ℕ). Gives is z (game_of game)) (sym (ap (λ (z : List ℕ). z ++ more) r.nothing ∙ none r.ended)) g.0)
 
     come_run : (why : Stop) → AfterRun comes at_hand all sound reads takes limit old pieces new t u at place white why → (why ≡ stop.End → white ≡ false) → Answered why u game → HasCome comes at_hand all reads old new game at

@@ -1,5 +1,5 @@
 -- Why the reading of a game stops with a fault: no game is there, whatever follows.
-use Rattle.std.proofs.Common.{◌≡◌, ◌⊎◌, ℕ, ◌+◌, ◌-◌, Bool, false, List, [], ◌∷◌, ◌++◌, length, Option, Some, None, Ok, Err, refl, sym, ap, subst, ◌∙◌, arith, append_assoc, append-nil, length-append}
+use Rattle.std.proofs.Common.{◌≡◌, ◌⊎◌, ◌<◌, ℕ, ◌+◌, ◌-◌, Bool, false, List, [], ◌∷◌, ◌++◌, length, Option, Some, None, Ok, Err, refl, sym, ap, subst, ◌∙◌, arith, append_assoc, append-nil, length-append}
 use Rattle.std.specs.Prelude.{Result}
 use mathlib.Core.Logic.{inl, inr}
 use Rattle.byte_streams.specs.Calls.{Calls, joined}
@@ -69,6 +69,7 @@ module _ {X A : Type 0} (comes : X → List ℕ → X → Type 0) (at_hand : X �
 
   -- whatever it stops with
   run_needed : (pieces : List (List ℕ)) (new : X) (at : ℕ) (place : Place) (white : Bool) (why : Stop) → AfterRun comes at_hand all sound reads takes limit old pieces new t u at place white why → ReadsNeeded comes at_hand all reads old (joined pieces) new
+  run_needed pieces new at place white stop.Full r = asked_needed comes at_hand all sound reads old t new_reader (joined pieces) new r.items r.asked
   run_needed pieces new at place white _ r = asked_needed comes at_hand all sound reads old t new_reader (joined pieces) new r.items r.asked
 
   bare_both : (is ks : List (ℕ × Item)) → bare (is ++ ks) ≡ bare is ++ bare ks

@@ -31,9 +31,9 @@ use Rattle.chess_pgn.specs.declared.game.Game.{Game}
 use Rattle.chess_pgn.specs.declared.games.GamesFault.{GamesFault}
 use Rattle.chess_pgn.specs.declared.games.GamesFault.TheVariants.{Pgn, Read}
 
-module _ {X : Type 0} (comes : X → List ℕ → X → Type 0) (at_hand : X → List ℕ) (all : X → Type 0) (reads : X → ℕ) where
+module _ {X : Type 0} (comes : X → List ℕ → X → Type 0) (at_hand : X → List ℕ) (all : X → Type 0) (reads_left : X → ℕ) where
   abbrev pub ReadsNeeded : X → List ℕ → X → Type 0
-  ReadsNeeded old came new = LastWhere comes at_hand reads HasNoGameYet old came new
+  ReadsNeeded old came new = LastWhere comes at_hand reads_left HasNoGameYet old came new
 
   pub record Beyond (old new : X) (pieces : List (List ℕ)) : Type 0 where
     pub first : List (List ℕ)
@@ -73,13 +73,13 @@ module _ {X : Type 0} (comes : X → List ℕ → X → Type 0) (at_hand : X →
   FoundGame old new (Some x) = HasCome old new x.0 x.1
   FoundGame old new None = NoneCame old new
 
-module _ {X : Type 0} (comes : X → List ℕ → X → Type 0) (at_hand : X → List ℕ) (all sound : X → Type 0) (reads : X → ℕ) where
+module _ {X : Type 0} (comes : X → List ℕ → X → Type 0) (at_hand : X → List ℕ) (all sound : X → Type 0) (reads_left : X → ℕ) where
   pub record NotCome (old new : X) : Type 0 where
     pub pieces : List (List ℕ)
     pub came : Calls comes old pieces new
     pub items : List Item
     pub used : (more : List ℕ) → (all new → more ≡ []) → Spells GameStart (at_hand old ++ (joined pieces ++ more)) items (at_hand new ++ more)
-    pub needed : IsFlood items (at_hand old ++ joined pieces) ⊎ LastWhere comes at_hand reads (IsOpen items) old (joined pieces) new
+    pub needed : IsFlood items (at_hand old ++ joined pieces) ⊎ LastWhere comes at_hand reads_left (IsOpen items) old (joined pieces) new
     pub sound_still : sound new
     pub none : (more : List ℕ) → (all new → more ≡ []) → HasNoGame (at_hand old ++ (joined pieces ++ more))
     pub dark : (more : List ℕ) → (all new → more ≡ []) → IsWhite (at_hand old ++ (joined pieces ++ more)) → ⊥
@@ -89,7 +89,7 @@ module _ {X : Type 0} (comes : X → List ℕ → X → Type 0) (at_hand : X →
   pub record HasStarved (old new : X) : Type 0 where
     pub pieces : List (List ℕ)
     pub came : Calls comes old pieces new
-    pub needed : ReadsOn comes at_hand all reads old pieces new
+    pub needed : ReadsOn comes at_hand all reads_left old pieces new
     pub still : all old → (joined pieces ≡ []) × all new × sound new
 
   -- the bytes that came don't decide the item after those that are used
@@ -113,7 +113,7 @@ module _ {X : Type 0} (comes : X → List ℕ → X → Type 0) (at_hand : X →
   IsFault breaks old new (Pgn fault) = ((fault.kind ≡ Memory) × HasStarved old new) ⊎ NotCome old new
 
   abbrev pub TakesGame : {A : Type 0} → (X → X → Type 0) → X → X → Result (Option (Game A × ℕ)) GamesFault → Type 0
-  TakesGame breaks old new (Ok found) = FoundGame comes at_hand all reads old new found
+  TakesGame breaks old new (Ok found) = FoundGame comes at_hand all reads_left old new found
   TakesGame breaks old new (Err fault) = IsFault breaks old new fault
 
 -- white space alone came before what reaches past the limit
