@@ -17,7 +17,7 @@ one_piece [] e = absurd (omega (arith, e))
 one_piece (p ∷ []) e = (p, refl)
 one_piece (p ∷ q ∷ pieces) e = absurd (omega (arith, e))
 
-last_of : (pieces : List (List ℕ)) → Sized pieces → (pieces ≡ []) ⊎ ((before : List (List ℕ)) × (piece : List ℕ) × (pieces ≡ before ++ piece ∷ []) × (length piece ≤ 65536))
+pub last_of : (pieces : List (List ℕ)) → Sized pieces → (pieces ≡ []) ⊎ ((before : List (List ℕ)) × (piece : List ℕ) × (pieces ≡ before ++ piece ∷ []) × (length piece ≤ 65536))
 last_of [] s = inl refl
 last_of (p ∷ ps) s = inr (elim (last_of ps s.1) [ | inl e ↦ ([], p, ap (λ (x : List (List ℕ)). p ∷ x) e, s.0) | inr l ↦ (p ∷ l.0, l.1, ap (λ (x : List (List ℕ)). p ∷ x) l.2, l.3) ])
 
