@@ -6,7 +6,7 @@ use Rattle.byte_streams.specs.Calls.{Carries, joined}
 use Rattle.byte_streams.proofs.CallLemmas.{Calls-append, Carries-none, Carries-append, joined-append}
 use Rattle.chess_items.specs.Coming.{AtHand, Breaks, Came, EachBrings, LastReadWhere, unread}
 use Rattle.chess_items.specs.declared.fault.PgnFault.{PgnFault}
-use Rattle.chess_items.proofs.BreakLemmas.{all_bring, came_none, came_small, each_append}
+use Rattle.chess_items.proofs.BreakLemmas.{all_bring, came_append, came_none, came_small, each_append}
 use Rattle.chess_items.proofs.LastLemmas.{joins}
 use Rattle.chess_items.proofs.ReadLemmas.{empty_is}
 use Rattle.chess_pgn.specs.Games.{Game}
@@ -254,8 +254,8 @@ module _ {R W : Type 0} (gives : R → List ℕ → R → Type 0) (read_failed :
     -- why a read was the last
     caused : (m b n : AtHand R) (bytes : List ℕ) (games : List Game) (r : Reads gives read_failed s m games) (came : Came gives read_failed m bytes b) → s.reads ≡ most_reads → Breaks gives read_failed b n
         → (gives b.source [] n.source × (read_failed n.source ≡ true)) ⊎ ((b.source ≡ n.source) × (length (r.came.pieces ++ came.pieces) ≡ most_reads))
-    caused m b n bytes games r came many (inl failed_read, same) = inl failed_read
-    caused m b n bytes games r came many (inr none_left, same) = inr (sym none_left.0, (let k = length-append r.came.pieces came.pieces in omega (arith, k, r.came.counted, came.counted, many, none_left.1)))
+    caused m b n bytes games r came many (inl failed_read, hand, used) = inl failed_read
+    caused m b n bytes games r came many (inr none_left, hand, used) = inr (sym none_left.0, (let k = length-append r.came.pieces came.pieces in omega (arith, k, r.came.counted, came.counted, many, none_left.1)))
 
     -- the last read failed, or there were 2^40
     pub ends_unread : (m n : AtHand R) (old new : W) → s.reads ≡ most_reads → SoFar gives read_failed ended takes failed count s m old new → HasFault gives read_failed ended m n Read → EndsUnread gives read_failed ended takes failed most_reads s.source n.source old new

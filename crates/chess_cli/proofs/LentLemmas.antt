@@ -22,7 +22,7 @@ module _ {S R N : Type 0} (now : S → R) (name : S → N) (gives : R → List �
   calls_name s [] t c = ap name (sym c)
   calls_name s (p ∷ ps) t c = calls_name c.0 ps t c.2 ∙ c.1.0
 
-  carries_now : (s : S) (bytes : List ℕ) (t : S) → Carries lent_gives s bytes t → Carries gives (now s) bytes (now t)
+  abbrev carries_now : (s : S) (bytes : List ℕ) (t : S) → Carries lent_gives s bytes t → Carries gives (now s) bytes (now t)
   carries_now s bytes t c = record { pieces = c.pieces; calls = calls_now s c.pieces t c.calls; whole = c.whole }
 
   module _ (failed : R → Bool) (ended : R → Type 0) (s t : S) where
@@ -69,7 +69,8 @@ module _ {S R N : Type 0} (now : S → R) (name : S → N) (gives : R → List �
       part_now e = record { games = e.games; reads = collected_now e.games e.reads; broken = e.broken }
 
       written_now : EndsWritten lent_gives (λ x. failed (now x)) (λ x. ended (now x)) takes write_failed s t old new → EndsWritten gives failed ended takes write_failed (now s) (now t) old new
-      written_now e = record { games = e.games; reads = collected_now e.games e.reads; written = e.written }
+      unfolding collected_now
+      written_now e = record { games = e.games; reads = collected_now e.games e.reads; whole = e.whole; written = e.written }
 
       abbrev All : Ended → Type 0
       All result = WritesAll lent_gives (λ x. failed (now x)) (λ x. ended (now x)) takes write_failed s t old new result

@@ -1,5 +1,5 @@
 -- Bytes that don't decide an item decide no items with it.
-use Rattle.std.proofs.Common.{◌≡◌, inl, inr, ℕ, ◌+◌, ◌≤◌, List, [], ◌∷◌, ◌++◌, length, Some, None, refl, sym, ap, subst, ◌∙◌, arith, append_assoc, append-nil, length-append}
+use Rattle.std.proofs.Common.{◌≡◌, inl, inr, ℕ, List, [], ◌∷◌, ◌++◌, Some, None, refl, sym, ap, subst, ◌∙◌, arith, append_assoc, append-nil, length-append}
 use Rattle.chess_items.specs.Decided.{DecidesItems, IsDecided}
 use Rattle.chess_items.specs.Items.{Item, IsItem, Spells, place_after, place_behind}
 use Rattle.chess_items.specs.steps.Deciding.{longer, Decides}

@@ -3,7 +3,7 @@ use Rattle.std.proofs.Common.{◌≡◌, ◌⊎◌, ◌≤◌, ℕ, ◌+◌, inl
 use Rattle.byte_streams.specs.Calls.{joined}
 use Rattle.byte_streams.proofs.CallLemmas.{Calls-append, joined-append}
 use Rattle.chess_items.specs.Coming.{AtHand, Came, LastReadWhere, unread}
-use Rattle.chess_items.specs.steps.Texts.{LastCame, LastWhere}
+use Rattle.chess_items.specs.steps.Texts.{LastWhere}
 use Rattle.chess_items.proofs.BreakLemmas.{Sized, all_came, both_none, brings, brings_append, reads_left, sized_append}
 use Rattle.chess_items.proofs.ReadLemmas.{empty_is}
 
@@ -19,7 +19,7 @@ one_piece (p ∷ q ∷ pieces) e = absurd (omega (arith, e))
 
 pub last_of : (pieces : List (List ℕ)) → Sized pieces → (pieces ≡ []) ⊎ ((before : List (List ℕ)) × (piece : List ℕ) × (pieces ≡ before ++ piece ∷ []) × (length piece ≤ 65536))
 last_of [] s = inl refl
-last_of (p ∷ ps) s = inr (elim (last_of ps s.1) [ | inl e ↦ ([], p, ap (λ (x : List (List ℕ)). p ∷ x) e, s.0) | inr l ↦ (p ∷ l.0, l.1, ap (λ (x : List (List ℕ)). p ∷ x) l.2, l.3) ])
+last_of (p ∷ ps) s = inr (elim (last_of ps s.1) [ inl e ↦ ([], p, ap (λ (x : List (List ℕ)). p ∷ x) e, s.0) | inr l ↦ (p ∷ l.0, l.1, ap (λ (x : List (List ℕ)). p ∷ x) l.2, l.3) ])
 
 front_nil : (xs ys : List ℕ) → xs ++ ys ≡ [] → xs ≡ []
 front_nil [] ys e = refl
