@@ -218,7 +218,7 @@ module _ {R W : Type 0} (gives : R → List ℕ → R → Type 0) (read_failed :
       where
         last_of : (pieces : List (List ℕ)) → (pieces ≡ []) ⊎ ((before : List (List ℕ)) × (piece : List ℕ) × (pieces ≡ before ++ piece ∷ []))
         last_of [] = inl refl
-        last_of (p ∷ ps) = inr (elim (last_of ps) [ | inl e ↦ ([], p, ap (λ (z : List (List ℕ)). p ∷ z) e) | inr l ↦ (p ∷ l.0, l.1, ap (λ (z : List (List ℕ)). p ∷ z) l.2) ])
+        last_of (p ∷ ps) = inr (elim (last_of ps) [ inl e ↦ ([], p, ap (λ (z : List (List ℕ)). p ∷ z) e) | inr l ↦ (p ∷ l.0, l.1, ap (λ (z : List (List ℕ)). p ∷ z) l.2) ])
 
         by : (pieces : List (List ℕ)) → joined pieces ≡ fails.bytes → Yet gives read_failed m pieces
         by pieces whole = elim (last_of pieces) [

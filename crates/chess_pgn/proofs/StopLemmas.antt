@@ -86,8 +86,8 @@ module _ {X A : Type 0} (comes : X → List ℕ → X → Type 0) (at_hand : X �
         (
           r.few,
           not_decided (at_hand old ++ begun) (bare r.items) r.rest
-          (λ more. subst (λ (z : List ℕ). Spells GameStart z (bare r.items) (r.rest ++ more)) (sym (append_assoc (at_hand old) begun more)) (spells_bare 0 GameStart (at_hand old ++ (begun ++ more)) r.items (r.rest ++ more) (r.spelled more)))
-          (subst (λ (p : Place). Decides p r.rest → ⊥) (behind_bare GameStart r.items) r.undecided) (bare is) (bare r.others) (ap bare r.front ∙ bare_both r.items r.others),
+              (λ more. subst (λ (z : List ℕ). Spells GameStart z (bare r.items) (r.rest ++ more)) (sym (append_assoc (at_hand old) begun more)) (spells_bare 0 GameStart (at_hand old ++ (begun ++ more)) r.items (r.rest ++ more) (r.spelled more)))
+              (subst (λ (p : Place). Decides p r.rest → ⊥) (behind_bare GameStart r.items) r.undecided) (bare is) (bare r.others) (ap bare r.front ∙ bare_both r.items r.others),
         ),
       )
 
@@ -208,10 +208,10 @@ module _ {X A : Type 0} (comes : X → List ℕ → X → Type 0) (at_hand : X �
           needed = inl (
             white_join (bare over.items) k.items (sym (whites_bare over.items) ∙ sym over.took.whites ∙ w.white) k.white,
             (let n = (over.exceeds.over [] (λ e. refl)).0 in
-            let m = length-append (at_hand mid) [] in
-            let c = length-append (at_hand old) (joined pieces) in
-            let d = ap length (joined-append r.pieces k.pieces) ∙ length-append (joined r.pieces) (joined k.pieces) in
-            omega (arith, n, m, c, d, over.took.counted)),
+                let m = length-append (at_hand mid) [] in
+                let c = length-append (at_hand old) (joined pieces) in
+                let d = ap length (joined-append r.pieces k.pieces) ∙ length-append (joined r.pieces) (joined k.pieces) in
+                omega (arith, n, m, c, d, over.took.counted)),
           );
           sound_still = well;
           none = λ more none g n x.

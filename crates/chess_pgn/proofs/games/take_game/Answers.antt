@@ -30,9 +30,12 @@ returns-in-Err-Read-clause-game g c =
 
 pub returns-in-Err-Memory-clause-game : goal.returns-in-Err-Memory-clause-game
 returns-in-Err-Memory-clause-game g c =
-    inl (search rules, short_come g.X.Text.comes g.X.Text.at_hand g.X.Text.all g.X.Text.sound g.X.Text.reads g.X.Text.breaks c.args.text.now c.pass.new.text c.new-reader.result c.new-reader.ensures
-    (subst (λ (f : Fault). PassBreaks {X = g.row.X.Denot} g.X.Text.comes g.X.Text.at_hand g.X.Text.all g.X.Text.sound g.X.Text.reads (λ s at item result t. TakesItem s item result t) 1048576 g.X.Text.breaks c.args.text.now c.pass.new.text c.new-reader.result f)
-    c.in-Err-Memory.field-0-is c.in-Err-Memory.ensures.broken))
+    inl (
+      search rules,
+      short_come g.X.Text.comes g.X.Text.at_hand g.X.Text.all g.X.Text.sound g.X.Text.reads g.X.Text.breaks c.args.text.now c.pass.new.text c.new-reader.result c.new-reader.ensures
+          (subst (λ (f : Fault). PassBreaks {X = g.row.X.Denot} g.X.Text.comes g.X.Text.at_hand g.X.Text.all g.X.Text.sound g.X.Text.reads (λ s at item result t. TakesItem s item result t) 1048576 g.X.Text.breaks c.args.text.now c.pass.new.text c.new-reader.result f)
+          c.in-Err-Memory.field-0-is c.in-Err-Memory.ensures.broken),
+    )
 
 pub returns-in-Err-clause-halts : goal.returns-in-Err-clause-halts
 returns-in-Err-clause-halts g c =
