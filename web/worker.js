@@ -6,10 +6,23 @@ let session;
 
 const line = (text) => session.line(text);
 
+// The words of the moves by their paths, as the board writes them.
+const namedBy = (pgn) => new Map((pgn.startsWith('refused') ? [] : rows(parts(`${pgn}\n`).movetext)).filter((it) => it.kind === 'move').map((it) => [it.path.join('.'), it.san]));
+
+// The move that led to the cursor, in long algebraic notation; empty at the root.
+const lastMove = ({ path, pgn }) => {
+  if (path === '-') return '';
+  line('back');
+  const found = session.read(namedBy(pgn).get(path) ?? '');
+  line(`goto ${path}`);
+  return found;
+};
+
 // All that the page draws of the position at the cursor. `told` is what the board answers.
 const state = () => {
   const told = {};
   for (const asked of ['path', 'fen', 'moves', 'status', 'claims', 'checks', 'count', 'eval', 'counts w', 'counts b', 'pgn']) told[asked] = line(asked).replace(/\n$/, '');
+  told.last = lastMove(told);
   // What may be claimed with a move that is then made.
   told.with = told.moves === 'none' ? [] : told.moves.split(' ').map((m) => [m, line(`claim ${m}`).trim()]).filter(([, claims]) => claims !== 'none');
   return told;
@@ -56,7 +69,7 @@ const jobs = {
   position() {
     const path = line('path').trim();
     const steps = path === '-' ? [] : path.split('.');
-    const named = new Map(rows(parts(line('pgn')).movetext).filter((it) => it.kind === 'move').map((it) => [it.path.join('.'), it.san]));
+    const named = namedBy(line('pgn'));
     line('start');
     const fen = line('fen').trim();
     const moves = steps.map((step, i) => {
@@ -80,6 +93,28 @@ const jobs = {
     if (loaded.status !== OK) return loaded;
     if (path && path !== '-') line(`goto ${path}`);
     return { ...game, state: state() };
+  },
+
+  // The board's tree becomes that of a text which the board wrote, the cursor at that path.
+  restore({ bytes, path }) {
+    session.hold(bytes);
+    const loaded = session.load(0);
+    if (loaded.status !== OK) return loaded;
+    if (path !== '-') line(`goto ${path}`);
+    return { status: OK, used: loaded.used, state: state() };
+  },
+
+  // Where the game with that number among those of the text begins, and its length; null where there is none.
+  place({ bytes, number }) {
+    session.hold(bytes);
+    for (let at = 0, i = 1; ; i++) {
+      const { status, used } = session.game(at);
+      if (status === NONE) return null;
+      const passed = status === OK ? used : session.pass(at);
+      if (i === number) return status === OK ? { at, used } : null;
+      if (passed === 0) return null;
+      at += passed;
+    }
   },
 
   // The games of a text, or the faults of those that can't be read, some at a time.

@@ -1,0 +1,474 @@
+"""What a person made on the page is there again: by undo and redo, after a reload, after a crash, in several games, and in the file that a game came from."""
+import os
+import random
+import shutil
+import signal
+import tempfile
+import time
+import unittest
+
+import firefox
+import runs
+import test_web
+
+setUpModule, tearDownModule = test_web.setUpModule, test_web.tearDownModule
+
+# All that the module says of the game on the page, once what was asked for is done.
+SEEN = """
+const done = arguments[arguments.length - 1];
+const { game, exported, settled } = window.jatshegi;
+settled().then(exported).then((text) => done([text, game.state.path, game.state.fen, game.draft?.text ?? null, game.history.canUndo(), game.history.canRedo()]), (error) => done(String(error)));
+"""
+TAGS = {"tagWhite": "White", "tagBlack": "Black", "tagEvent": "Event"}
+
+
+class Browsing:
+    """A page of one browser; `new` makes the browser over a folder."""
+
+    def setUp(self):
+        self.folder = tempfile.mkdtemp()
+        self.addCleanup(shutil.rmtree, self.folder, ignore_errors=True)
+        self.begin()
+        self.page.open()
+
+    def begin(self):
+        self.browser = self.new(self.folder)
+        self.addCleanup(self.end, self.browser)
+        self.page = test_web.Page(self.browser)
+
+    def end(self, browser):
+        try:
+            browser.quit()
+        except OSError:
+            # (it was killed)
+            pass
+
+    def seen(self):
+        return self.browser.execute_async_script(SEEN)
+
+    def text(self):
+        return self.seen()[0]
+
+    def until_kept(self):
+        self.page.until(lambda: self.page.script("return document.documentElement.dataset.kept") == "yes", "all is kept")
+
+    def reload(self):
+        self.until_kept()
+        self.browser.get("about:blank")
+        self.page.open(keeps=True)
+
+    def press(self, *keys):
+        """Presses keys together, where no field has the focus."""
+        self.page.script("document.activeElement?.blur()")
+        if isinstance(self.browser, firefox.Firefox):
+            self.browser.perform(*keys)
+            return
+        from selenium.webdriver import ActionChains
+        chain = ActionChains(self.browser)
+        for key in keys:
+            chain.key_down(key)
+        for key in reversed(keys):
+            chain.key_up(key)
+        chain.perform()
+
+    def until_text(self, wanted):
+        self.page.until(lambda: self.text() == wanted, f"the game is {wanted!r}")
+
+
+class Model:
+    """Beside the page: the board of the library, the tags and the result, and the states so far as texts."""
+
+    def __init__(self, jatshegi):
+        self.jatshegi = jatshegi
+        self.board, self.tags, self.result, self.draft = jatshegi.Board(), {}, "*", None
+        self.states, self.at = [], -1
+        self.note()
+
+    def exported(self):
+        head, movetext = self.board.pgn().split("\n\n", 1)
+        start = "".join(f"{line}\n" for line in head.split("\n") if line.startswith(("[FEN ", "[SetUp ")))
+        moves = movetext.rstrip()[:-1] + self.result
+        return str(self.jatshegi.pgn.read_game(("".join(f'[{name} "{value}"]\n' for name, value in self.tags.items()) + f"{start}\n{moves}\n").encode()))
+
+    def note(self):
+        state = [self.exported(), self.board.line("path"), self.board.fen(), self.board.pgn(), dict(self.tags), self.result]
+        if self.at >= 0 and self.states[self.at][0] == state[0]:
+            self.states[self.at] = state
+            return
+        self.states[self.at + 1:] = [state]
+        self.at += 1
+
+    def settle(self):
+        if self.draft is not None:
+            if self.board.line(f"comment {self.draft}") != "ok":
+                return False
+            self.draft = None
+            self.note()
+        return True
+
+    def do(self, line, tags=None, result=None):
+        if not self.settle():
+            return
+        if line is None or not self.board.line(line).startswith("refused"):
+            self.tags = self.tags if tags is None else tags
+            self.result = result or self.result
+        self.note()
+
+    def load(self, text):
+        if not self.settle():
+            return
+        game = self.jatshegi.pgn.read_game(text.encode())
+        self.board = self.jatshegi.Board.from_game(game)
+        self.tags = {name: value for name, value in game.headers.items() if name not in ("Result", "FEN", "SetUp") and value.strip("?.")}
+        self.result = game.result
+        self.note()
+
+    def travel(self, by):
+        if not self.settle() or not 0 <= self.at + by < len(self.states):
+            return
+        self.at += by
+        _, path, _, pgn, tags, self.result = self.states[self.at]
+        self.board, self.tags = self.jatshegi.Board.from_game(self.jatshegi.pgn.read_game(pgn.encode())), dict(tags)
+        self.board.line("start" if path == "-" else f"goto {path}")
+
+    def seen(self):
+        return [*self.states[self.at][:3], self.draft, self.at > 0, self.at + 1 < len(self.states)]
+
+
+GAMES = [
+    '[White "One"]\n[Black "Two"]\n\n{r} 1. e4 {a} (1. e4 {b} e5) (1. d4 $1 d5 (1... f5 {y})) 1... c5 2. Nf3 1/2-1/2',
+    '[Event "Ends"]\n[FEN "7k/P7/8/8/8/8/8/K7 w - - 4 60"]\n\n60. a8=Q+ {so it goes} Kh7 (60... Kg7 $14 $5) 1-0',
+    "1. f3 e5 2. g4 Qh4# 0-1",
+]
+
+
+class Keeping(Browsing):
+    """The tests, for each browser."""
+
+    RANDOM_DOINGS = 150
+
+    def doing(self, rng, model):
+        """One random thing on the page and beside it."""
+        page, keys = self.page, {"ctrl": "\ue009", "shift": "\ue008"}
+        what = rng.choice(["play"] * 6 + ["type"] * 2 + ["undo", "undo", "ctrl-z", "redo", "ctrl-y", "ctrl-shift-z", "reload", "reload"]
+                          + ["illegal", "enter", "escape", "back", "forward", "start", "end", "nag", "delete", "promote", "tag", "result", "new", "fen", "paste"])
+        board = model.board
+        if what == "type":
+            model.draft = rng.choice(["good", "so-so", "sch\u00f6n (it) is; $5 %", "a } brace", "word " * 12 + "end"]) + f" {rng.randrange(1000)}"
+            page.type("comment", model.draft, then="")
+        elif what == "escape":
+            page.at("comment").send_keys("\ue00c")
+            model.draft = None
+        elif what == "enter":
+            page.at("comment").send_keys("\n")
+            model.settle()
+        elif what in ("play", "illegal"):
+            san = board.san(rng.choice(board.legal_moves)) if what == "play" and board.legal_moves else "Kh8"
+            page.type("san", san)
+            model.do(f"play {san}")
+        elif what in ("undo", "redo"):
+            page.script("document.getElementById(arguments[0]).click()", what)
+            model.travel(-1 if what == "undo" else 1)
+        elif what.startswith("ctrl"):
+            self.press(keys["ctrl"], *([keys["shift"]] if "shift" in what else []), what[-1])
+            model.travel(-1 if what == "ctrl-z" else 1)
+        elif what == "reload":
+            self.reload()
+        elif what == "nag":
+            page.choose("nag", "5")
+            model.do("nag 5")
+        elif what == "tag":
+            field, name = rng.choice(list(TAGS.items()))
+            value = rng.choice(["", "Caf\u00e9, A.", 'the "great"', "back\\slash"])
+            page.script("const it = document.getElementById(arguments[0]); it.value = arguments[1]; it.dispatchEvent(new Event('change'))", field, value)
+            tags = {key: it for key, it in model.tags.items() if key != name}
+            self.retag(model, {**tags, **({name: value.replace("\\", "\\\\").replace('"', '\\"')} if value else {})}, None)
+        elif what == "result":
+            result = rng.choice(["*", "1-0", "0-1", "1/2-1/2"])
+            page.choose("tagResult", result)
+            self.retag(model, None, result)
+        elif what == "new":
+            page.script("document.getElementById('new').click()")
+            model.do("new", {}, "*")
+        elif what == "fen":
+            fen = rng.choice(["r3k2r/8/8/8/8/8/8/R3K2R w KQkq - 3 7", "8/8/8/8/8/8/8/8 w - - 0 1", "4k3/8/8/3pP3/8/8/8/4K3 w - d6 0 2"])
+            page.set_fen_now(fen)
+            model.do(f"set {fen}", {}, "*")
+        elif what == "paste":
+            text = rng.choice(GAMES)
+            page.paste(text)
+            model.load(text)
+        elif what in ("back", "start", "delete", "promote") and board.line("path") == "-":
+            page.script("document.getElementById(arguments[0]).click()", what)
+        else:
+            page.script("document.getElementById(arguments[0]).click()", what)
+            model.do("step 0" if what == "forward" else what)
+        return what
+
+    def retag(self, model, tags, result):
+        """The names and the result are changed at once, and no comment that is being typed is set by it."""
+        model.tags = model.tags if tags is None else tags
+        model.result = result or model.result
+        model.note()
+
+    def test_random_doings_undone_and_reloaded_lose_nothing(self):
+        rng, model, done = random.Random(65), Model(test_web.library()), []
+        for _ in range(self.RANDOM_DOINGS):
+            done.append(self.doing(rng, model))
+            # (what is pasted comes when it has been read)
+            self.page.until(lambda: self.seen() == model.seen(), f"after {done[-8:]}: {model.seen()}, not {self.seen()}")
+        while model.at > 0:
+            model.draft = None
+            self.page.at("comment").send_keys("\ue00c")
+            self.page.script("document.getElementById('undo').click()")
+            model.travel(-1)
+            self.assertEqual(self.seen(), model.seen())
+        while model.at + 1 < len(model.states):
+            self.page.script("document.getElementById('redo').click()")
+            model.travel(1)
+            self.assertEqual(self.seen(), model.seen())
+
+    def test_each_change_is_undone_and_done_again(self):
+        page = self.page
+        page.play("e4", "e5", "Nf3")
+        page.click("back")
+        page.play("Nc3")
+        changes = [
+            lambda: page.type("comment", "a word"), lambda: page.choose("nag", "3"), lambda: page.script("document.getElementById('promote').click()"),
+            lambda: page.script("document.getElementById('delete').click()"), lambda: page.set_fen_now("4k3/8/8/8/8/8/8/R3K3 w - - 0 1"),
+            lambda: page.script("document.getElementById('new').click()"), lambda: page.paste(GAMES[0]), lambda: page.choose("tagResult", "1-0"),
+        ]
+        texts = [self.seen()[:3]]
+        for change in changes:
+            change()
+            page.until(lambda: self.seen()[0] != texts[-1][0], f"change {len(texts)} is made")
+            texts.append(self.seen()[:3])
+        for wanted in reversed(texts[:-1]):
+            self.press("\ue009", "z")
+            self.assertEqual(self.seen()[:3], wanted)
+        for wanted in texts[1:]:
+            self.press("\ue009", "\ue008", "z")
+            self.assertEqual(self.seen()[:3], wanted)
+
+    def test_a_field_undoes_its_own_text(self):
+        page = self.page
+        page.play("e4")
+        page.at("comment").send_keys("typed")
+        if not isinstance(self.browser, firefox.Firefox):
+            page.at("comment").send_keys("\ue009" + "z")
+        self.assertEqual(page.moves, "1. e4")
+
+    def test_a_game_that_no_link_holds_comes_back(self):
+        rng = random.Random(1)
+        comment = " ".join("".join(rng.choice("abcdefghijklmnopqrstuvwxyz0123456789") for _ in range(12)) for _ in range(9000))
+        self.page.play("d4")
+        self.page.until(lambda: "#g=" in self.page.script("return location.hash"), "the address holds the game")
+        self.page.paste(f"1. e4 {{{comment}}} e5 *")
+        self.page.until(lambda: self.page.moves.startswith("1. e4"), "it is read")
+        self.page.until(lambda: self.page.script("return location.hash") == "", "the address holds no other game")
+        had = self.seen()
+        self.reload()
+        self.assertEqual(self.seen(), had)
+
+    def test_a_comment_that_is_being_typed_comes_back(self):
+        page = self.page
+        page.play("e4", "e5")
+        page.type("comment", "half a sent", then="")
+        self.reload()
+        self.assertEqual(page.script("return document.getElementById('comment').value"), "half a sent")
+        page.click("back")
+        page.until(lambda: page.moves == "1. e4 e5 half a sent", "it is set")
+
+    def test_several_games_with_their_names(self):
+        page = self.page
+
+        def names():
+            return page.script("return [...document.querySelectorAll('#own .open')].map((it) => it.firstChild.data.trim())")
+
+        page.play("e4")
+        page.script("const it = document.getElementById('name'); it.value = 'Mine'; it.dispatchEvent(new Event('change'))")
+        first = self.text()
+        page.script("document.getElementById('another').click()")
+        page.until(lambda: page.moves == "", "another game is begun")
+        page.play("d4", "d5")
+        page.script("const it = document.getElementById('tagWhite'); it.value = 'Anna'; it.dispatchEvent(new Event('change'))")
+        page.until(lambda: names() == ["Mine", "Anna \u2013 ?"], "both are listed")
+        second = self.text()
+        self.reload()
+        self.assertEqual(self.text(), second)
+        page.script("document.querySelector('#own .open').click()")
+        self.until_text(first)
+        self.assertTrue(self.seen()[4])
+        page.script("document.querySelectorAll('#own li')[1].lastChild.click()")
+        page.until(lambda: names() == ["Mine"], "one is put away")
+        page.script("document.querySelector('#away button').click()")
+        page.until(lambda: names() == ["Mine", "Anna \u2013 ?"], "it is brought back")
+        page.script("document.querySelectorAll('#own .open')[1].click()")
+        self.until_text(second)
+        page.script("document.querySelectorAll('#own li')[1].lastChild.click()")
+        page.until(lambda: page.moves == "" and names()[0] == "Mine", "the one on the board is put away")
+        page.script("document.querySelector('#away button').click()")
+        page.until(lambda: "Anna \u2013 ?" in names(), "it is brought back")
+
+    def test_two_windows_with_one_game_lose_nothing(self):
+        page = self.page
+        page.play("e4")
+        self.until_kept()
+        page.script("""
+            const it = document.createElement('iframe');
+            it.src = location.pathname;
+            it.id = 'other';
+            document.body.append(it);
+        """)
+        inner = "const page = document.getElementById('other').contentDocument; "
+        page.until(lambda: page.script(inner + "return page.documentElement?.dataset.ready") == "yes", "the other window is ready")
+        page.script(inner + "page.getElementById('san').value = 'c5'; page.getElementById('sanform').requestSubmit()")
+        page.until(lambda: page.script(inner + "return page.documentElement.dataset.kept === 'yes' && page.getElementById('moves').textContent.includes('c5')"), "a move is made there")
+        page.play("e5")
+        self.until_kept()
+        page.until(lambda: len(page.script("return [...document.querySelectorAll('#own .open')].map((it) => it.textContent)")) == 2, "there are two games")
+        self.browser.get("about:blank")
+        page.open(keeps=True)
+        found = set()
+        for number in range(2):
+            page.script("document.querySelectorAll('#own .open')[arguments[0]].click()", number)
+            self.seen()
+            found.add(page.moves)
+        self.assertEqual(found, {"1. e4 c5", "1. e4 e5"})
+
+    def test_a_link_is_opened_beside_the_own_game(self):
+        page = self.page
+        page.play("e4", "e5")
+        page.until(lambda: "#g=" in page.script("return location.hash"), "the address holds the game")
+        page.until(lambda: page.script("return location.hash").endswith("p=0.0"), "and its place")
+        link = page.script("return location.hash")
+        page.play("Nf3")
+        page.script("document.getElementById('another').click()")
+        page.until_moves("")
+        page.play("d4")
+        self.until_kept()
+        self.browser.get("about:blank")
+        page.open(link, keeps=True)
+        page.until_moves("1. e4 e5")
+        page.until(lambda: len(page.script("return [...document.querySelectorAll('#own li')]")) == 3, "all three are there")
+        self.reload()
+        page.until_moves("1. e4 e5")
+
+    def test_a_file_opens_beside_and_a_game_goes_back_into_its_place(self):
+        page = self.page
+        page.play("e4", "e5", "Nf3")
+        page.type("comment", "mine")
+        own = self.text()
+        games = ['[White "One"]\n\n1. e4 e5 1-0', '\n\n% a line that readers pass over\n[White "Two"]\n[Custom "x"]\n\n1. d4 {kept} d5 (1... Nf6) 0-1', '\r\n\r\n[White "Bad"]\r\n\r\n1. e4 e4 *', '\n\n[White "Four"]\n\n1. c4 c5 *\n']
+        with tempfile.NamedTemporaryFile(suffix=".pgn", dir=self.folder) as file:
+            file.write("".join(games).encode())
+            file.flush()
+            page.at("file").send_keys(file.name)
+            page.until(lambda: page.text("howmany") == "3 games, and 1 that can\u2019t be read", "the games are listed")
+            name = os.path.basename(file.name)
+        page.until_moves("1. e4 e5")
+        for number in (1, 2, 1):
+            page.script("document.querySelectorAll('#games button')[arguments[0]].click()", number)
+            page.until(lambda: ("c4" if number == 2 else "d4") in page.moves, "it is on the board")
+        page.play("c4")
+        page.script("document.getElementById('tagBlack').value = 'Black'; document.getElementById('tagBlack').dispatchEvent(new Event('change'))")
+        changed = self.text()
+        self.reload()
+        self.assertEqual(self.text(), changed)
+        written = self.saved_back(name)
+        wanted = games[0].encode() + b"\n\n" + changed.rstrip().encode() + "".join(games[2:]).encode()
+        # (the line that readers pass over stands before the game, and stays)
+        self.assertEqual(written.replace(b"% a line that readers pass over\n", b""), wanted)
+        page.script("document.querySelector('#own .open').click()")
+        self.until_text(own)
+
+    def saved_back(self, name):
+        path = f"{self.folder}/{name}"
+        if os.path.exists(path):
+            os.remove(path)
+        self.page.script("document.getElementById('saveback').click()")
+        self.page.until(lambda: os.path.exists(path) and os.path.getsize(path) and not [it for it in os.listdir(self.folder) if it.endswith((".crdownload", ".part"))], "the file is written")
+        with open(path, "rb") as file:
+            return file.read()
+
+    def test_what_was_made_is_there_after_a_crash(self):
+        page = self.page
+        page.play("e4", "c5", "Nf3")
+        page.type("comment", "before the crash")
+        page.click("back")
+        page.type("comment", "half", then="")
+        had = self.seen()
+        self.until_kept()
+        self.kill()
+        self.begin()
+        self.page.open(keeps=True)
+        self.assertEqual(self.seen(), had)
+        self.page.at("comment").send_keys("\ue00c")
+        for _ in range(4):
+            self.page.script("document.getElementById('undo').click()")
+        self.assertEqual((self.seen()[4], self.page.moves), (False, ""))
+
+
+class InChromium(Keeping, unittest.TestCase):
+    def new(self, folder):
+        return test_web.new_browser(folder, f"--user-data-dir={folder}/profile")
+
+    def kill(self):
+        """Ends the browser's processes, and no others, without a word."""
+        for pid in filter(str.isdigit, os.listdir("/proc")):
+            try:
+                with open(f"/proc/{pid}/cmdline", "rb") as file:
+                    is_ours = f"--user-data-dir={self.folder}/profile".encode() in file.read().split(b"\0")
+                if is_ours:
+                    os.kill(int(pid), signal.SIGKILL)
+            except OSError:
+                pass
+        time.sleep(0.5)
+        for name in ("SingletonLock", "SingletonCookie", "SingletonSocket"):
+            if os.path.lexists(f"{self.folder}/profile/{name}"):
+                os.remove(f"{self.folder}/profile/{name}")
+
+    def test_a_file_that_may_be_written_is(self):
+        """The browser gives a file to be written: here one of its own."""
+        page = self.page
+        text = '[White "One"]\n\n1. e4 e5 *\n\n[White "Two"]\n\n1. d4 d5 *\n'
+        self.browser.execute_async_script("""
+            const [text, done] = arguments;
+            (async () => {
+              const root = await navigator.storage.getDirectory();
+              window.given = await root.getFileHandle('mine.pgn', { create: true });
+              const out = await given.createWritable();
+              await out.write(text);
+              await out.close();
+              window.showOpenFilePicker = async () => [given];
+            })().then(() => done(''), (error) => done(String(error)));
+        """, text)
+        read = "const done = arguments[0]; given.getFile().then((it) => it.text()).then(done)"
+        page.script("document.getElementById('open').click()")
+        page.until(lambda: page.text("howmany") == "2 games", "the games are listed")
+        page.until_moves("1. e4 e5")
+        page.play("Nf3")
+        wanted = self.text().rstrip() + text[text.index("\n\n[White \"Two"):]
+        page.script("document.getElementById('saveback').click()")
+        page.until_told("The game is in its place in mine.pgn.")
+        self.assertEqual(self.browser.execute_async_script(read), wanted)
+        self.browser.execute_async_script("const done = arguments[0]; given.createWritable().then(async (it) => { await it.write('other'); await it.close(); done(); })")
+        page.play("Nc6")
+        page.script("document.getElementById('saveback').click()")
+        page.until_told("was changed since it was opened")
+        self.assertEqual(self.browser.execute_async_script(read), "other")
+
+
+@unittest.skipUnless(shutil.which("firefox-esr"), "the package firefox-esr is missing")
+class InFirefox(Keeping, unittest.TestCase):
+    RANDOM_DOINGS = 60
+
+    def new(self, folder):
+        return firefox.Firefox(folder)
+
+    def kill(self):
+        self.browser.kill()
+
+
+if __name__ == "__main__":
+    unittest.main()

@@ -1,0 +1,204 @@
+// Games that are read from a text or a file, their list, and a game written back into its file's place.
+import { ask } from './ask.js';
+import { begin, doing, exported, game, inTurn, isSettled, page, taken } from './game.js';
+import { isAsLoaded, isFresh, noteLoaded } from './mine.js';
+import { fromBytes, toBytes } from './module.js';
+import { shown } from './pgn.js';
+import { hasStore, readFile, writeFile } from './store.js';
+import { FAULTS } from './words.js';
+
+const by = (id) => document.getElementById(id);
+const MOST_SHOWN = 500;
+
+// The games that were read last: the bytes, what was found in them, and the file, where they are of one: `{id, name, handle}`.
+let collection = { bytes: null, file: null, found: [], bad: 0, wrong: 0, isWhole: false };
+
+// ---- The list.
+
+const label = (it) => {
+  if (it.fault !== undefined) return `${it.number}. Can\u2019t be read: ${it.fault < 0 ? 'no memory' : FAULTS[it.fault]}, at byte ${it.place}`;
+  const tag = (name) => shown(it.tags.find(([is]) => is === name)?.[1] ?? '?');
+  return `${it.number}. ${tag('White')} \u2013 ${tag('Black')} ${tag('Result')} ${tag('Event')} ${tag('Date')}${it.finding ? ` \u2014 ${it.finding}` : ''}`;
+};
+
+const originOf = (it) => (collection.file ? { file: collection.file.id, number: it.number } : null);
+
+// A game of the list: beside what has been done, and in the place of one that is as it came from a file.
+const openListed = (it) => doing(async () => {
+  const { bytes } = collection;
+  const origin = originOf(it);
+  if (!await isSettled() || !await taken(bytes.slice(it.at, it.at + it.used), { isBeside: !isFresh() && !isAsLoaded(), origin })) return;
+  noteLoaded();
+});
+
+const entry = (it) => {
+  const row = document.createElement('li');
+  if (it.fault !== undefined) {
+    row.className = 'bad';
+    row.textContent = it.label;
+    return row;
+  }
+  const button = document.createElement('button');
+  button.textContent = it.label;
+  button.onclick = () => openListed(it);
+  if (it.finding) row.className = 'finding';
+  row.append(button);
+  return row;
+};
+
+// What is listed stays where it is while the list grows, so that it can be clicked.
+let listing = { of: null, words: '' };
+export const showCollection = () => {
+  const words = by('find').value.toLowerCase();
+  if (listing.of !== collection || listing.words !== words) by('games').replaceChildren();
+  listing = { of: collection, words };
+  const { found, bad, wrong } = collection;
+  const matches = found.filter((it) => it.label.toLowerCase().includes(words));
+  by('games').append(...matches.slice(by('games').children.length, MOST_SHOWN).map(entry));
+  by('howmany').textContent = `${found.length - bad} games${bad ? `, and ${bad} that can\u2019t be read` : ''}${wrong ? `; ${wrong} with a finding` : ''}${matches.length > MOST_SHOWN ? `; the first ${MOST_SHOWN} are shown` : ''}`;
+};
+
+// ---- Reading.
+
+const isFen = (text) => /^\s*[pnbrqkPNBRQK1-8]+(\/[pnbrqkPNBRQK1-8]+){7}\s+[wb]\s/.test(text) && text.trim().split('\n').length === 1;
+
+/**
+ * Reads a text that was given when so much was done: a FEN, a game, or many. The first game comes on the board, in the place of the one that is there, or, of a file,
+ * beside it; but where something was done since, the board stays, and it is in the list.
+ */
+export const read = async (bytes, { before = game.acts, file = null } = {}) => {
+  if (bytes.length < 200 && isFen(fromBytes(bytes))) {
+    await begin(`set ${fromBytes(bytes).trim()}`);
+    return;
+  }
+  const mine = { bytes, file, found: [], bad: 0, wrong: 0, first: null, isLoaded: null, isWhole: false };
+  collection = mine;
+  by('collection').hidden = true;
+  // (`before` is null where none is to come on the board)
+  const take = (it) => inTurn(async () => {
+    if (game.acts !== before || collection !== mine || !await isSettled()) return false;
+    const isTaken = await taken(bytes.slice(it.at, it.at + it.used), { isBeside: Boolean(file) && !isFresh() && !isAsLoaded(), origin: originOf(it) });
+    if (isTaken && file) noteLoaded();
+    return isTaken;
+  });
+  const show = () => {
+    by('collection').hidden = mine.found.length < 2 && !mine.bad && mine.isLoaded !== false;
+    showCollection();
+  };
+  const add = (found) => {
+    if (collection !== mine) return;
+    for (const it of found) {
+      mine.found.push({ ...it, label: label(it) });
+      if (it.fault !== undefined) mine.bad++;
+      if (it.finding) mine.wrong++;
+    }
+    const first = found.find((it) => it.fault === undefined);
+    if (first) mine.first ??= take(first).then((is) => { mine.isLoaded = is; });
+    show();
+  };
+  add((await ask('games', { bytes }, add)).found);
+  await mine.first;
+  if (collection !== mine) return;
+  mine.isWhole = true;
+  show();
+  if (before === null) return;
+  if (mine.first) {
+    if (!mine.isLoaded && game.acts !== before) page.told('The games of the file are in the list; the board is as you left it.');
+  } else if (mine.found.length) page.told(`No game can be read: ${FAULTS[Math.max(0, mine.found[0].fault)]}, at byte ${mine.found[0].place}.`);
+  else page.told('There is no game in it.');
+};
+
+const newId = () => `f${Date.now().toString(36)}-${Math.random().toString(36).slice(2, 10)}`;
+
+/** Reads a file, which is kept in the browser, so that a game of it can be written back. */
+export const readWhole = async (given, before, handle = null) => {
+  const bytes = new Uint8Array(await given.arrayBuffer());
+  const file = { id: newId(), name: given.name, handle };
+  if (hasStore()) {
+    try {
+      await writeFile({ ...file, bytes: new Blob([bytes]) });
+    } catch (error) {
+      page.told(`The file could not be kept in the browser: ${error.message}`);
+    }
+  }
+  await read(bytes, { before, file });
+};
+
+/** Opens a file that is chosen: where the browser gives files to be written, with that. */
+export const choose = async () => {
+  const before = game.acts;
+  if (!globalThis.showOpenFilePicker) {
+    by('file').click();
+    return;
+  }
+  let handle;
+  try {
+    [handle] = await showOpenFilePicker({ types: [{ description: 'Chess games', accept: { 'text/plain': ['.pgn', '.fen', '.txt'] } }] });
+  } catch {
+    // (none was chosen)
+    return;
+  }
+  await readWhole(await handle.getFile(), before, handle);
+};
+
+// ---- Writing.
+
+export const download = (bytes, name) => {
+  const it = document.createElement('a');
+  it.href = URL.createObjectURL(new Blob([bytes], { type: 'application/x-chess-pgn' }));
+  it.download = name;
+  it.click();
+  URL.revokeObjectURL(it.href);
+};
+
+const joined = (parts) => {
+  const whole = new Uint8Array(parts.reduce((sum, it) => sum + it.length, 0));
+  let at = 0;
+  for (const it of parts) {
+    whole.set(it, at);
+    at += it.length;
+  }
+  return whole;
+};
+
+const isEqual = (a, b) => a.length === b.length && a.every((it, i) => it === b[i]);
+
+// The file's bytes with that game in the place of the one with the number. What is before it and after it, and the whitespace before its first byte, stays.
+const withGame = async (bytes, number, text) => {
+  const place = await ask('place', { bytes, number });
+  if (!place) throw new Error(`There is no game ${number} in the file.`);
+  let from = place.at;
+  while (from < place.at + place.used && [9, 10, 11, 12, 13, 32].includes(bytes[from])) from++;
+  return joined([bytes.subarray(0, from), toBytes(text.trimEnd()), bytes.subarray(place.at + place.used)]);
+};
+
+// Writes where the file was opened from, if it is still what was read there; else the file is downloaded.
+const delivered = async ({ handle, name }, was, now) => {
+  if (!handle) {
+    download(now, name);
+    return `The file ${name} is downloaded with the game in its place.`;
+  }
+  if (!isEqual(new Uint8Array(await (await handle.getFile()).arrayBuffer()), was)) throw new Error(`${name} was changed since it was opened: open it again.`);
+  const out = await handle.createWritable();
+  await out.write(now);
+  await out.close();
+  return `The game is in its place in ${name}.`;
+};
+
+/** Writes the game on the board back into its place in the file that it came from. */
+export const saveBack = async () => {
+  const { origin } = game;
+  if (!origin) throw new Error('This game came from no file.');
+  const isListed = collection.file?.id === origin.file;
+  const kept = hasStore() ? await readFile(origin.file) : null;
+  const file = kept ?? (isListed ? collection.file : null);
+  if (!file) throw new Error('The file of this game is no more in this browser.');
+  // (asked for at once, while the browser still knows of the click)
+  if (file.handle && await file.handle.requestPermission({ mode: 'readwrite' }) !== 'granted') throw new Error(`${file.name} may not be written.`);
+  const was = kept ? new Uint8Array(await kept.bytes.arrayBuffer()) : collection.bytes;
+  const now = await withGame(was, origin.number, await exported());
+  const said = await delivered(file, was, now);
+  if (kept) await writeFile({ ...kept, bytes: new Blob([now]) });
+  page.told(said);
+  if (isListed) await read(now, { before: null, file: collection.file });
+};

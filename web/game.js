@@ -1,0 +1,212 @@
+// The game on the board: what the board says of it, the tags and the result, which the board doesn't keep, the comment that is being typed, and the states before.
+import { ask } from './ask.js';
+import { History } from './history.js';
+import { toBytes } from './module.js';
+import { marker, parts, shown, tagLine, typed } from './pgn.js';
+import { REFUSED, ROSTER, faultText, refusal } from './words.js';
+
+/**
+ * `acts` is how much a person has done: what is read from a file meanwhile doesn't take its place. `draft` is the comment that is being typed, with the path of its
+ * node: it is kept until it is set or given up.
+ */
+export const game = { state: null, tags: [], result: '*', origin: null, history: new History(), draft: null, acts: 0 };
+
+/** What the page does when the game is another, when it has been noted, when one begins beside it, and when something is to be said. */
+export const page = { draw() {}, drawTags() {}, noted() {}, beside() {}, told() {} };
+
+// What the board is asked to do: one thing after another, each once the one before is drawn.
+let turn = Promise.resolve();
+export const inTurn = (work) => {
+  const it = turn.then(work);
+  turn = it.catch(() => {});
+  return it;
+};
+export const settled = () => turn;
+
+/** As `inTurn`, and an error is told. */
+export const doing = (work) => {
+  game.acts++;
+  return inTurn(work).catch((error) => {
+    page.told(error.message);
+    return false;
+  });
+};
+
+/** The text of the game as the module is to read it: its tags, and the moves as the board writes them. */
+const composed = () => {
+  if (game.state.pgn.startsWith('refused')) throw new Error(refusal(game.state.pgn));
+  const { tags, movetext } = parts(`${game.state.pgn}\n`);
+  const start = tags.filter(([name]) => name === 'FEN' || name === 'SetUp');
+  const moves = movetext.replace(/(^|\s)\*$/, `$1${game.result}`);
+  return [...game.tags, ...start].map(tagLine).join('') + `\n${moves}\n`;
+};
+
+/** The game in export form, as the module writes it. */
+export const exported = async () => {
+  const { status, text, used } = await ask('export', { bytes: toBytes(composed()) });
+  if (status !== 0) throw new Error(`The game can\u2019t be written: ${status === 10 ? REFUSED.TooLongToShow : faultText(status, used)}`);
+  return text;
+};
+
+// ---- The states.
+
+// Notes how the game now is. What can't be written can't be noted.
+const note = () => {
+  const { state, tags, result, origin } = game;
+  if (state.pgn.startsWith('refused')) {
+    page.told(`Since the last move or so nothing can be undone or kept: ${refusal(state.pgn)}`);
+    return;
+  }
+  game.history.note({ tags, result, origin, pgn: state.pgn, path: state.path });
+  page.noted();
+};
+
+/** Has the module restore a state. Where it can't, all is as before. */
+const restored = async ({ tags, result, origin, pgn, path }) => {
+  const found = await ask('restore', { bytes: toBytes(pgn), path });
+  if (found.status !== 0) {
+    page.told(`That can\u2019t be restored: ${faultText(found.status, found.used)}.`);
+    return false;
+  }
+  Object.assign(game, { tags, result, origin: origin ?? null, state: found.state });
+  const isExact = found.state.pgn === pgn && found.state.path === path;
+  page.told(isExact ? '' : 'The module gives this state otherwise than it was.');
+  return true;
+};
+
+const travel = (by) => doing(async () => {
+  if (game.draft && !await answered([])) return false;
+  const { history } = game;
+  const wanted = history.states[history.at + by];
+  if (!wanted || !await restored(wanted)) return false;
+  history.at += by;
+  page.noted();
+  page.drawTags();
+  page.draw();
+  return true;
+});
+export const undo = () => travel(-1);
+export const redo = () => travel(1);
+
+/** Puts a game with its states on the board, as it was left; `put` is called once it is there. Only in turn. */
+export const shownAgain = async (history, draft, put) => {
+  if (!await restored(history.here)) return false;
+  Object.assign(game, { history, draft });
+  put();
+  page.drawTags();
+  page.draw();
+  return true;
+};
+
+// ---- Lines of the board.
+
+const to = (path) => (path === '-' ? 'start' : `goto ${path}`);
+const commentLine = ({ text }) => `comment ${typed(text)}`;
+
+// Has the board answer lines, up to one that is refused.
+const say = async (all) => {
+  const { answers, state } = await ask('lines', { lines: all.map((it) => it.replace(/[\r\n]+/g, ' ')) });
+  return { answers, bad: answers.find((it) => it.startsWith('refused')), state };
+};
+
+// A comment that was typed while the board answered is one of the node that was shown then.
+const settle = async (all, { bad, state }) => {
+  if (!game.draft || game.draft.path === state.path) return { bad, state };
+  const late = game.draft;
+  if (all.includes('promote')) game.draft = { ...late, path: state.path };
+  else if (all.some((it) => it === 'delete' || it === 'new' || it.startsWith('set '))) game.draft = null;
+  else {
+    const more = await say([to(late.path), commentLine(late), to(state.path)]);
+    if (game.draft === late && !more.bad) game.draft = null;
+    return { bad: bad ?? more.bad, state: more.state };
+  }
+  return { bad, state };
+};
+
+/** Sets the comment that is being typed: a state of its own. Where it is refused, it stays in its box. Only in turn. */
+const setDraft = async () => {
+  const kept = game.draft;
+  if (!kept) return undefined;
+  const { bad, state } = await say([commentLine(kept)]);
+  if (!bad) {
+    if (game.draft === kept) game.draft = null;
+    game.state = state;
+    note();
+  }
+  return bad;
+};
+
+/** Has the board answer lines, with other tags and another result where they are given, and draws what it then is. Only in turn. */
+const answered = async (all, more = {}) => {
+  let bad = await setDraft();
+  if (!bad) {
+    const found = await settle(all, await say(all));
+    game.state = found.state;
+    bad = found.bad;
+    if (!bad) Object.assign(game, more);
+  }
+  page.told(bad ? refusal(bad) : '');
+  note();
+  page.draw();
+  return !bad;
+};
+
+/** Has the board answer lines, and draws what it then is. Returns whether all were answered. */
+export const lines = (...all) => doing(() => answered(all));
+
+/** Begins another game by `new` or `set FEN`, in the place of the one that is there. */
+export const begin = (line) => doing(async () => {
+  if (!await answered([line], { tags: [], result: '*', origin: null })) return false;
+  page.drawTags();
+  return true;
+});
+
+/** The board as it begins, with no state before. Only in turn, and with no comment that is being typed. */
+export const beginAlone = async () => {
+  const { bad, state } = await say(['new']);
+  if (bad) {
+    page.told(refusal(bad));
+    return false;
+  }
+  Object.assign(game, { state, tags: [], result: '*', origin: null, history: new History(), draft: null });
+  game.history.note({ tags: [], result: '*', pgn: state.pgn, path: state.path });
+  return true;
+};
+
+/** Sets a comment that is being typed, before something else is done with the game. Only in turn. */
+export const isSettled = async () => !game.draft || answered([]);
+
+/** Changes the tags or the result. */
+export const retag = (change) => doing(async () => {
+  Object.assign(game, change(game));
+  note();
+  page.draw();
+});
+
+/**
+ * The text's first game comes on the board, at the node with that path: in the place of the one that is there, or beside it, with no state before. `origin` is the file
+ * and the number of the game there. Only in turn, once `isSettled`.
+ */
+export const taken = async (bytes, { path = '-', isBeside = false, origin = null } = {}) => {
+  const found = await ask('load', { bytes, path });
+  if (found.status !== 0) {
+    page.told(found.status === 16 ? 'There is no game in it.' : `No game: ${faultText(found.status, found.used)}.`);
+    return false;
+  }
+  if (isBeside) {
+    game.history = new History();
+    page.beside();
+  }
+  const { tags, movetext } = parts(found.text);
+  game.tags = tags.filter(([name, value]) => !['Result', 'FEN', 'SetUp'].includes(name) && !(ROSTER.includes(name) && /^[?.]+$/.test(value)));
+  game.result = marker(movetext);
+  Object.assign(game, { state: found.state, origin, draft: null });
+  page.told('');
+  note();
+  page.drawTags();
+  page.draw();
+  return true;
+};
+
+/** What a tag says, empty where it isn't there. */
+export const tag = (name, tags = game.tags) => shown(tags.find(([it]) => it === name)?.[1] ?? '');

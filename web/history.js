@@ -1,0 +1,55 @@
+// The states that a game has been in, for undo and redo. A state is what the module wrote of the board, its text and the path of its cursor, with the tags and
+// the result, which the board doesn't keep: `{tags, result, pgn, path}`. It is restored by the module alone.
+const MOST_STATES = 1000;
+const MOST_TEXT = 32 << 20;
+
+/** Whether two states differ in their place at most. */
+export const isSame = (a, b) => a.pgn === b.pgn && a.result === b.result && JSON.stringify(a.tags) === JSON.stringify(b.tags);
+
+export class History {
+  /** `first` is the number of the first state that is still there. */
+  constructor(states = [], at = states.length - 1, first = 0) {
+    this.states = states;
+    this.at = at;
+    this.first = first;
+  }
+
+  get here() {
+    return this.states[this.at];
+  }
+
+  /** The number of the state that is there now. */
+  get number() {
+    return this.first + this.at;
+  }
+
+  get last() {
+    return this.first + this.states.length - 1;
+  }
+
+  canUndo() {
+    return this.at > 0;
+  }
+
+  canRedo() {
+    return this.at < this.states.length - 1;
+  }
+
+  /** Notes how the game is: after a change a new state, which takes the place of those that were undone, else the place alone. Returns whether it is a new one. */
+  note(state) {
+    if (this.here && isSame(this.here, state)) {
+      this.here.path = state.path;
+      return false;
+    }
+    this.states.splice(this.at + 1);
+    this.states.push(state);
+    this.at++;
+    let text = this.states.reduce((sum, it) => sum + it.pgn.length, 0);
+    while (this.states.length > 2 && (this.states.length > MOST_STATES || text > MOST_TEXT)) {
+      text -= this.states.shift().pgn.length;
+      this.first++;
+      this.at--;
+    }
+    return true;
+  }
+}

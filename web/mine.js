@@ -1,0 +1,227 @@
+// The games that are kept in this browser: several at once, each with its name and the states that it has been in.
+import { game, beginAlone, doing, inTurn, isSettled, page, shownAgain, tag } from './game.js';
+import { History } from './history.js';
+import { allGames, changeGame, dropGame, hasStore, openStore, readGame, writeGame } from './store.js';
+
+/** `here` is the game on the board; `records` are those that are kept; `trouble` is why nothing is kept, `failed` why the last change isn’t. */
+export const mine = { here: null, records: [], trouble: '', failed: '' };
+
+let show = () => {};
+
+// ---- Which game a window had on its board is kept with the window.
+
+const remember = (id) => {
+  try {
+    sessionStorage.setItem('game', id);
+  } catch {
+    // (a window that may keep nothing)
+  }
+};
+const remembered = () => {
+  try {
+    return sessionStorage.getItem('game');
+  } catch {
+    return null;
+  }
+};
+
+const newId = () => `${Date.now().toString(36)}-${Math.random().toString(36).slice(2, 10)}`;
+
+// A game that isn't in the store yet; `kept` has the path with which each of its states is there.
+const fresh = () => {
+  const serial = Math.max(mine.here?.record.serial ?? 0, ...mine.records.map((it) => it.serial)) + 1;
+  const record = { id: newId(), serial, name: '', players: '', version: 0, made: Date.now(), removed: 0, link: '' };
+  return { record, history: game.history, draft: null, kept: new WeakMap(), isDirty: false, saving: null };
+};
+
+/** What a game is called: by the name that was given to it, else by its players, else by its number. */
+export const nameOf = ({ name, players, serial }) => name || players || `Game ${serial}`;
+
+/** Whether nothing has been done with the game on the board. */
+export const isFresh = () => mine.here.record.version === 0 && mine.here.history.last === 0 && !game.draft && !mine.here.record.name;
+
+/** Whether the game on the board is as it came from a file. */
+export const isAsLoaded = () => game.origin !== null && mine.here.record.loaded === mine.here.history.number && mine.here.history.last === mine.here.history.number && !game.draft;
+
+export const noteLoaded = () => {
+  mine.here.record.loaded = mine.here.history.number;
+};
+
+// ---- Writing.
+
+let unkept = 0;
+const showKept = () => {
+  document.documentElement.dataset.kept = mine.trouble ? 'never' : unkept || mine.failed ? 'no' : 'yes';
+  show();
+};
+
+const players = ({ tags }) => {
+  const [white, black] = [tag('White', tags), tag('Black', tags)];
+  return white || black ? `${white || '?'} \u2013 ${black || '?'}` : '';
+};
+
+// What is to be written: the record, and the states that aren't in the store as they are. The place of the state that is there now is the record's.
+const snapshot = (it) => {
+  const { history, kept } = it;
+  const states = history.states.map((state, i) => ({ state, number: history.first + i }))
+    .filter(({ state, number }) => !kept.has(state) || (number !== history.number && kept.get(state) !== state.path));
+  it.record = { ...it.record, players: players(history.here), draft: it.draft, at: history.number, path: history.here.path, changed: Date.now() };
+  return { states, record: { ...it.record, version: it.record.version + 1 }, first: history.first, last: history.last };
+};
+
+const written = async (it, { states, record, first, last }) => {
+  const rows = states.map(({ state, number }) => ({ ...state, game: record.id, number }));
+  const paths = states.map(({ state }) => state.path);
+  const isOurs = await writeGame(record, { was: record.version - 1, states: rows, first, last });
+  if (isOurs) {
+    it.record.version = record.version;
+    states.forEach(({ state }, i) => it.kept.set(state, paths[i]));
+    mine.records = [...mine.records.filter(({ id }) => id !== record.id), record];
+    return;
+  }
+  // Another window went on with it: this one's is kept as a game of its own.
+  it.record = { ...it.record, id: newId(), version: 0, name: `${nameOf(it.record)} (in another window)` };
+  it.kept = new WeakMap();
+  it.isDirty = true;
+  if (it === mine.here) remember(it.record.id);
+};
+
+const save = async (it) => {
+  unkept++;
+  showKept();
+  try {
+    while (it.isDirty) {
+      it.isDirty = false;
+      await written(it, snapshot(it));
+      mine.failed = '';
+    }
+  } catch (error) {
+    it.isDirty = true;
+    mine.failed = `The last change could not be kept in the browser: ${error.message}`;
+  } finally {
+    it.saving = null;
+    unkept--;
+    showKept();
+  }
+};
+
+/** Keeps the game on the board as it is now. */
+export const keep = () => {
+  const it = mine.here;
+  if (!it || mine.trouble) return;
+  if (isFresh()) {
+    show();
+    return;
+  }
+  it.draft = game.draft;
+  it.isDirty = true;
+  it.saving ??= save(it);
+};
+
+export const keepLinkOf = (link) => {
+  if (!mine.here || mine.here.record.link === link) return;
+  Object.assign(mine.here.record, { link, linkAt: mine.here.history.number });
+  keep();
+};
+
+// ---- From one game to another.
+
+const put = (it) => {
+  mine.here = it;
+  remember(it.record.id);
+  showKept();
+};
+
+/** The game that is on the board is one beside those that are kept. */
+export const beside = () => put(fresh());
+
+const opened = async (id) => {
+  await mine.here?.saving;
+  const { record, states } = await readGame(id);
+  const at = states.findIndex(({ number }) => number === record?.at);
+  if (at < 0) {
+    page.told('That game is no more in this browser.');
+    return false;
+  }
+  const first = states[0].number;
+  const kept = new WeakMap();
+  const all = states.map(({ tags, result, origin, pgn, path }) => ({ tags, result, origin, pgn, path }));
+  all.forEach((state) => kept.set(state, state.path));
+  all[at].path = record.path;
+  const history = new History(all, at, first);
+  const draft = record.draft ?? null;
+  return shownAgain(history, draft, () => put({ record, history, draft, kept, isDirty: false, saving: null }));
+};
+
+/** Puts a kept game on the board, as it was left. */
+export const openGame = (id) => doing(async () => {
+  if (id === mine.here.record.id) return true;
+  return await isSettled() && opened(id);
+});
+
+/** Begins another game beside the one that is there. */
+export const another = () => doing(async () => {
+  if (!await isSettled() || !await beginAlone()) return false;
+  beside();
+  page.drawTags();
+  page.draw();
+  return true;
+});
+
+export const rename = (id, name) => doing(async () => {
+  if (id === mine.here.record.id) {
+    mine.here.record.name = name;
+    keep();
+    return;
+  }
+  await changeGame(id, () => ({ name }));
+  mine.records = await allGames();
+  show();
+});
+
+/** Puts a game away, or brings it back. */
+export const putAway = (id, isAway) => doing(async () => {
+  if (isAway && id === mine.here.record.id) {
+    if (!await isSettled() || !await beginAlone()) return;
+    await mine.here.saving;
+    beside();
+    page.drawTags();
+    page.draw();
+  }
+  await changeGame(id, () => ({ removed: isAway ? Date.now() : 0 }));
+  mine.records = await allGames();
+  show();
+});
+
+/** Takes a game that was put away out of the store, for good. */
+export const drop = (id) => doing(async () => {
+  await dropGame(id);
+  mine.records = await allGames();
+  show();
+});
+
+/**
+ * Opens the store and puts on the board the game that `wanted` names among those that are kept, or the one that this window had, or in a new window the last one that
+ * was changed, or none. A `wanted` that answers null wants none.
+ */
+export const start = async (showing, wanted) => {
+  show = showing;
+  const own = remembered();
+  try {
+    await openStore();
+    mine.records = await allGames();
+  } catch (error) {
+    mine.trouble = `Nothing is kept in this browser: ${error.message}`;
+  }
+  beside();
+  addEventListener('beforeunload', (event) => {
+    if (unkept) event.preventDefault();
+  });
+  if (!hasStore()) return 'none';
+  const live = mine.records.filter((it) => !it.removed);
+  const latest = () => (own === null ? [...live].sort((a, b) => b.changed - a.changed)[0] : undefined);
+  let chosen = wanted(live, own);
+  if (chosen === undefined) chosen = live.find((it) => it.id === own) ?? latest();
+  if (!chosen || !await inTurn(() => opened(chosen.id))) return 'none';
+  return chosen.id === own ? 'as it was' : 'opened';
+};

@@ -1,0 +1,56 @@
+// The list of the games that are kept in this browser.
+import { another, drop, mine, nameOf, openGame, putAway, rename } from './mine.js';
+
+const by = (id) => document.getElementById(id);
+
+const button = (text, says, does) => {
+  const it = document.createElement('button');
+  it.type = 'button';
+  it.textContent = text;
+  it.setAttribute('aria-label', says);
+  it.onclick = does;
+  return it;
+};
+
+const when = (time) => new Date(time).toLocaleString([], { dateStyle: 'medium', timeStyle: 'short' });
+
+const row = (it, isHere) => {
+  const place = document.createElement('li');
+  place.dataset.game = it.id;
+  if (it.removed) {
+    place.append(document.createTextNode(`${nameOf(it)} `), button('Bring back', `Bring back ${nameOf(it)}`, () => putAway(it.id, false)), button('Erase', `Erase ${nameOf(it)} for good`, () => drop(it.id)));
+    return place;
+  }
+  const open = button(nameOf(it), `Open ${nameOf(it)}`, () => openGame(it.id));
+  open.className = 'open';
+  if (isHere) open.setAttribute('aria-current', 'true');
+  const time = document.createElement('small');
+  time.textContent = it.changed ? when(it.changed) : 'new';
+  open.append(' ', time);
+  place.append(open, button('\u2715', `Put ${nameOf(it)} away`, () => putAway(it.id, true)));
+  return place;
+};
+
+let drawn = '';
+
+export const drawOwn = () => {
+  const here = mine.here?.record;
+  if (!here) return;
+  const others = mine.records.filter((it) => it.id !== here.id);
+  const live = [here, ...others.filter((it) => !it.removed)].sort((a, b) => a.serial - b.serial || a.made - b.made);
+  const away = others.filter((it) => it.removed).sort((a, b) => b.removed - a.removed);
+  if (document.activeElement !== by('name')) by('name').value = here.name;
+  by('name').placeholder = nameOf({ ...here, name: '' });
+  by('nokeeping').textContent = mine.trouble || mine.failed;
+  const now = JSON.stringify([here.id, ...[...live, ...away].map((it) => [it.id, nameOf(it), it.removed, it.changed && when(it.changed)])]);
+  if (drawn === now) return;
+  drawn = now;
+  by('own').replaceChildren(...live.map((it) => row(it, it.id === here.id)));
+  by('away').replaceChildren(...away.map((it) => row(it, false)));
+  by('awaybox').hidden = !away.length;
+};
+
+export const ownCommands = () => {
+  by('another').onclick = () => another();
+  by('name').onchange = () => rename(mine.here.record.id, by('name').value.trim());
+};

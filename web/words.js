@@ -1,0 +1,40 @@
+// The answers of the module in words, each with its article of the FIDE Laws of Chess.
+export const ROSTER = ['Event', 'Site', 'Date', 'Round', 'White', 'Black'];
+
+export const MARKS = {
+  1: '!', 2: '?', 3: '!!', 4: '??', 5: '!?', 6: '?!', 10: '=', 13: '\u221e', 14: '\u2a72', 15: '\u2a71', 16: '\u00b1', 17: '\u2213', 18: '+\u2212', 19: '\u2212+',
+};
+
+export const STATUS = {
+  mate: 'Checkmate: the game is over (Article 5.1.1)',
+  stalemate: 'Stalemate: a draw (Article 5.2.1)',
+  dead: 'Dead position: a draw (Article 5.2.2)',
+  fivefold: 'The position has come up five times: a draw (Article 9.6.1)',
+  seventyfive: '75 moves by each side without a capture or a pawn\u2019s move: a draw (Article 9.6.2)',
+};
+
+export const CLAIMS_WITH = { threefold: 'a draw by threefold repetition (Article 9.2.1)', fifty: 'a draw by the 50 moves (Article 9.3.1)' };
+export const CLAIMS = { threefold: 'a draw by threefold repetition (Article 9.2.2)', fifty: 'a draw by the 50 moves (Article 9.3.2)' };
+
+export const REFUSED = {
+  Form: 'That isn\u2019t written as a move.', Illegal: 'That move isn\u2019t legal here.', Ambiguous: 'More than one man can make that move: say which.',
+  TooLong: 'The line has 20,000 moves.', Full: 'The tree has a million moves.', NoSuch: 'There is no such move.', AtRoot: 'There is no move here to change.',
+  BadComment: 'A comment can\u2019t have a closing brace: change it, or give it up by Escape.', Memory: 'There is no memory left.', Argument: 'That number is out of range.', LongLine: 'That is too long.',
+  Fields: 'A FEN has four or six fields.', Placement: 'The FEN\u2019s men are wrong.', Kings: 'Each side has exactly one king.', PawnRank: 'A pawn can\u2019t stand on the first or last rank.',
+  TooManyMen: 'A side has at most 16 men.', Side: 'The FEN\u2019s side to move is w or b.', Castling: 'The FEN\u2019s castling rights are wrong.', Target: 'The FEN\u2019s en passant square is wrong.',
+  Counter: 'The FEN\u2019s counters are wrong.', InCheck: 'The side that isn\u2019t to move is in check.', TooLongToShow: 'The game is too long for this page.',
+};
+
+export const FAULTS = [
+  '', 'a byte that begins no token', 'a malformed tag', 'a word that names no legal move', 'a misplaced variation', 'more than 128 open variations',
+  'the text ends too soon', 'a FEN that spells no position', 'no memory', 'a game that is too large',
+];
+
+/** A refusal of the board, `refused NUMBER NAME`, as a sentence. */
+export const refusal = (answer) => {
+  const name = answer.split(' ')[2];
+  return REFUSED[name] ?? answer;
+};
+
+/** Why a text isn't read: the status of the call, and the place of its fault. */
+export const faultText = (status, place) => (status === 2 ? 'There is no memory for it.' : `${FAULTS[status - 40] ?? 'a fault'}, at byte ${place}`);
