@@ -195,7 +195,19 @@ class Page:
         from selenium.webdriver import ActionChains
         ActionChains(self.browser).drag_and_drop(self.square(a), self.square(b)).perform()
 
+    def shows(self, name):
+        """Opens the box or the menu that a control is in, by what opens it."""
+        box = self.script("return document.getElementById(arguments[0]).closest('dialog')?.id ?? ''", name)
+        if box and not self.script("return document.getElementById(arguments[0]).open", box):
+            opener = self.script("return document.querySelector(`[data-opens=${arguments[0]}]:not(#mygames)`).id", box)
+            self.click(opener)
+        self.script("for (const it of document.querySelectorAll('dialog[open]')) if (it.id !== arguments[0]) it.close()", box)
+
+    def closes(self):
+        self.script("document.querySelector('dialog[open]')?.close()")
+
     def click(self, name):
+        self.shows(name)
         self.script("arguments[0].scrollIntoView({block: 'center'})", self.at(name))
         self.at(name).click()
 
@@ -204,6 +216,7 @@ class Page:
             self.square(name).click()
 
     def type(self, name, text, then="\n"):
+        self.shows(name)
         field = self.at(name)
         self.script("arguments[0].value = ''", field)
         field.send_keys(text + then)
@@ -225,7 +238,7 @@ class Page:
         self.until(lambda: self.fen == fen and not self.moves, f"{fen} is set")
 
     def paste(self, text):
-        self.script("document.getElementById('pastebox').open = true; document.getElementById('pgn').value = arguments[0]", text)
+        self.script("document.getElementById('pgn').value = arguments[0]", text)
         self.click("read")
 
 
@@ -308,6 +321,8 @@ class InTheBrowser(unittest.TestCase):
         page.until_told("isn’t legal")
         page.type("fen", "8/8/8/8/8/8/8/8 w - - 0 1")
         page.until_told("exactly one king")
+        self.assertIn("exactly one king", page.text("fentold"))
+        page.closes()
         page.paste("1. e4 e5 2. Ke3 *")
         page.until_told("a word that names no legal move, at byte 12")
         page.paste("   ")
@@ -582,15 +597,16 @@ class InTheBrowser(unittest.TestCase):
         page = self.page
         page.choose("depth", "16")
         page.click("analyse")
-        page.until(lambda: "1" in page.script("return [...document.querySelectorAll('#lines li')].map((it) => String(it.value))"), "depth 1 is told")
+        page.until(lambda: "1" in page.script("return [...document.querySelectorAll('#lines li')].map((it) => it.dataset.depth)"), "depth 1 is told")
         page.click("analyse")
-        page.until(lambda: page.text("lines") == "", "the lines are gone")
+        page.until(lambda: page.text("thinking").startswith("Stopped"), "it is stopped")
+        self.assertNotEqual(page.text("lines"), "")
         page.play("e4")
         page.choose("depth", "2")
         page.click("analyse")
         told = chess("uci", given=b"position fen rnbqkbnr/pppppppp/8/8/4P3/8/PPPP1PPP/RNBQKBNR b KQkq e3 0 1\ngo depth 2\n").stdout.decode()
         best = [line.split()[-1] for line in told.splitlines() if line.startswith("info depth")]
-        page.until(lambda: page.script("return [...document.querySelectorAll('#lines li')].map((it) => it.textContent.split(' ')[0])") == best, f"the best moves are {best}")
+        page.until(lambda: page.script("return [...document.querySelectorAll('#lines li')].map((it) => it.dataset.move).reverse()") == best, f"the best moves are {best}")
         page.click("analyse")
         page.choose("plays", "b")
         page.until(lambda: page.fen.split()[1] == "w", "the engine moves")
@@ -619,7 +635,7 @@ class InTheBrowser(unittest.TestCase):
     def test_claims_and_ends_have_their_articles(self):
         page = self.page
         page.play("Nf3", "Nf6", "Ng1", "Ng8", "Nf3", "Nf6", "Ng1")
-        page.until(lambda: "With f6g8 a draw by threefold repetition (Article 9.2.1)" in page.script("return document.getElementById('laws').innerText").replace("\n", " "), "it may be claimed with the move")
+        page.until(lambda: "With Ng8 a draw by threefold repetition (Article 9.2.1)" in page.script("return document.getElementById('laws').innerText").replace("\n", " "), "it may be claimed with the move")
         page.play("Ng8")
         page.until(lambda: "a draw by threefold repetition (Article 9.2.2)" in page.text("laws"), "it may be claimed")
         for fen, article in (("7k/5Q2/6K1/8/8/8/8/8 b - - 0 1", "5.2.1"), ("8/8/8/8/8/4k3/8/4K3 w - - 0 1", "5.2.2"), ("4k3/8/8/8/8/8/8/R3K3 w - - 150 90", "9.6.2")):
@@ -644,6 +660,10 @@ class InTheBrowser(unittest.TestCase):
             for key in all_of_them:
                 ActionChains(self.browser).send_keys(key).perform()
 
+        def shifted(*all_of_them):
+            for key in all_of_them:
+                ActionChains(self.browser).key_down(Keys.SHIFT).send_keys(key).key_up(Keys.SHIFT).perform()
+
         def focused():
             return page.script("const it = document.activeElement; return it.dataset.square || it.id || it.textContent")
 
@@ -654,11 +674,19 @@ class InTheBrowser(unittest.TestCase):
         self.assertEqual(focused(), "e2")
         keys(Keys.ENTER)
         self.assertIn("may be moved to", page.square("e4").get_attribute("aria-label"))
-        keys(Keys.UP, Keys.UP, Keys.ENTER)
+        shifted(Keys.UP, Keys.UP)
+        keys(Keys.ENTER)
         page.until_moves("1. e4")
         self.assertEqual(focused(), "e4")
-        keys(Keys.UP, Keys.UP, Keys.UP, Keys.SPACE, Keys.DOWN, Keys.DOWN, Keys.SPACE)
+        shifted(Keys.UP, Keys.UP, Keys.UP)
+        keys(Keys.SPACE)
+        shifted(Keys.DOWN, Keys.DOWN)
+        keys(Keys.SPACE)
         page.until_moves("1. e4 e5")
+        keys(Keys.LEFT, Keys.LEFT)
+        page.until(lambda: page.fen.endswith("w KQkq - 0 1"), "arrows alone step, on the board, too")
+        keys(Keys.DOWN)
+        page.until(lambda: page.fen.split()[1] == "w" and "/4p3/" in page.fen, "down goes to the end")
         ActionChains(self.browser).key_down(Keys.ALT).send_keys(Keys.ARROW_LEFT).key_up(Keys.ALT).perform()
         page.until(lambda: page.fen.split()[1] == "b", "one move is taken back")
         keys(Keys.HOME)
@@ -699,10 +727,24 @@ class InTheBrowser(unittest.TestCase):
                     self.browser.get_log("browser")
                     stop(spoilt)
 
+    def test_a_page_whose_scripts_do_not_come_says_so(self):
+        with tempfile.TemporaryDirectory() as folder:
+            shutil.copytree(WEB, f"{folder}/web")
+            os.remove(f"{folder}/web/game.js")
+            spoilt = serve(f"{folder}/web")
+            try:
+                self.browser.get(f"http://127.0.0.1:{spoilt.server_port}/index.html")
+                self.page.until(lambda: self.page.at("lacking").is_displayed(), "it is said")
+                self.assertIn("has not begun", self.page.text("lacking"))
+            finally:
+                self.browser.get("about:blank")
+                self.browser.get_log("browser")
+                stop(spoilt)
+
     def test_every_control_has_a_name_and_nothing_comes_from_elsewhere(self):
         unnamed = self.page.script("""
-            return [...document.querySelectorAll('button, input, select, textarea, [role=img], [role=grid]')].filter((it) => !it.hidden && it.type !== 'file').filter((it) => {
-                const label = it.labels?.[0]?.textContent || it.getAttribute('aria-label') || (it.tagName === 'BUTTON' && it.textContent);
+            return [...document.querySelectorAll('button, input, select, textarea, dialog, [role=img], [role=grid], [role=group]')].filter((it) => !it.hidden && it.type !== 'file').filter((it) => {
+                const label = it.labels?.[0]?.textContent || it.getAttribute('aria-label') || document.getElementById(it.getAttribute('aria-labelledby'))?.textContent || (it.tagName === 'BUTTON' && it.textContent);
                 return !label || !label.trim();
             }).map((it) => it.outerHTML)""")
         self.assertEqual(unnamed, [])
@@ -1082,22 +1124,21 @@ def pictures():
     with tempfile.TemporaryDirectory() as folder:
         browser = new_browser(folder, "--hide-scrollbars")
         page = Page(browser)
-        for name, scheme, width, height in (("light", "light", 1160, 800), ("dark", "dark", 1160, 800), ("narrow", "light", 360, 740)):
+        for name, scheme, width, height in (("light", "light", 1280, 800), ("dark", "dark", 1024, 768), ("narrow", "light", 360, 740)):
             browser.execute_cdp_cmd("Emulation.setDeviceMetricsOverride", {"width": width, "height": height, "deviceScaleFactor": 1, "mobile": width < 500})
             browser.execute_cdp_cmd("Emulation.setEmulatedMedia", {"features": [{"name": "prefers-color-scheme", "value": scheme}]})
             page.open()
             page.paste("1. e4 e5 2. Nf3 Nc6 3. Bc4 {The Italian.} Bc5 (3... Nf6 4. Ng5 $5 d5 5. exd5 Na5 $1 {and not 5... Nxd5}) 4. b4 $1 Bxb4 5. c3 Ba5 6. d4 exd4 7. O-O *")
             page.until(lambda: "O-O" in page.moves, "the game is read")
-            page.script("document.getElementById('pastebox').open = false; scrollTo(0, 0)")
             page.click("end")
             page.until(lambda: "RNBQ1RK1" in page.fen, "the end is shown")
             if name == "dark":
                 page.choose("heat", "counts w")
             page.click("analyse")
             page.until(lambda: page.script("return document.querySelectorAll('#lines li').length") == 4, "four depths are told")
-            if name != "dark":
+            if name == "light":
                 page.square("d8").click()
-            page.script("scrollTo(0, 0)")
+            page.script("document.activeElement.blur(); scrollTo(0, 0)")
             time.sleep(0.5)
             browser.save_screenshot(f"{runs.TOP}/docs/web-{name}.png")
         browser.quit()

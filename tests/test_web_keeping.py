@@ -376,9 +376,8 @@ class Keeping(Browsing):
         self.reload()
         self.assertEqual(self.text(), changed)
         written = self.saved_back(name)
-        wanted = games[0].encode() + b"\n\n" + changed.rstrip().encode() + "".join(games[2:]).encode()
         # (the line that readers pass over stands before the game, and stays)
-        self.assertEqual(written.replace(b"% a line that readers pass over\n", b""), wanted)
+        self.assertEqual(written.decode(), games[0] + "\n\n% a line that readers pass over\n" + changed.rstrip() + "".join(games[2:]))
         page.script("document.querySelector('#own .open').click()")
         self.until_text(own)
 

@@ -37,10 +37,13 @@ export class Board {
     this.chosen = '';
     this.at = 'e2';
     this.squares = {};
-    this.shown = { men: {}, moves: [], heat: null, checks: [] };
+    this.shown = { men: {}, moves: [], heat: null, checks: [], last: '' };
+    this.dropped = '';
+    this.pointed = '';
     this.lay();
     place.addEventListener('pointerdown', (event) => this.down(event));
     place.addEventListener('keydown', (event) => this.key(event));
+    place.addEventListener('focusin', ({ target }) => { this.at = target.dataset.square ?? this.at; });
   }
 
   // The 64 squares in the order that they are seen.
@@ -71,56 +74,131 @@ export class Board {
     this.turned = turned;
     this.lay();
     this.draw();
+    this.point(this.pointed);
     if (had) this.squares[this.at].focus();
   }
 
-  /** Shows a position: its FEN, legal moves in long algebraic notation, attack counts or null, squares of men that check. A square stays chosen in the same one. */
-  show({ fen, moves, heat, checks }) {
-    this.shown = { men: placed(fen), moves, heat, checks };
+  /**
+   * Shows a position: its FEN, legal moves and the last move in long algebraic notation, attack counts or null, squares of men that check. A square stays chosen in
+   * the same one. Men that went a step glide there, unless it is `still`.
+   */
+  show({ fen, moves, heat, checks, last, still }) {
+    const was = this.shown.men;
+    this.shown = { men: placed(fen), moves, heat, checks, last };
     this.side = fen.split(' ')[1];
-    if (fen !== this.fen) this.chosen = '';
+    const isOther = fen !== this.fen;
+    if (isOther) this.chosen = '';
     this.fen = fen;
     this.draw();
+    if (isOther && !still) this.glide(was);
+    this.dropped = '';
+  }
+
+  // The square that a man came from: the nearest from which an equal one went, or where the last move began.
+  cameFrom(to, was) {
+    const { men, last } = this.shown;
+    const far = (it) => Math.hypot(it.charCodeAt(0) - to.charCodeAt(0), it.charCodeAt(1) - to.charCodeAt(1));
+    const gone = Object.keys(was).filter((it) => was[it] === men[to] && men[it] !== was[it]).sort((a, b) => far(a) - far(b));
+    return gone[0] ?? (last.slice(2, 4) === to ? last.slice(0, 2) : '');
+  }
+
+  // Lets the men that stand elsewhere than before glide there, where it is a step.
+  glide(was) {
+    const { men } = this.shown;
+    const came = Object.keys(men).filter((it) => men[it] !== was[it]);
+    if (came.length > 3) return;
+    for (const to of came) {
+      const from = this.cameFrom(to, was);
+      const picture = this.squares[to].querySelector('.man');
+      if (!from || to === this.dropped || !picture.animate) continue;
+      const [a, b] = [this.squares[from].getBoundingClientRect(), this.squares[to].getBoundingClientRect()];
+      this.squares[to].style.zIndex = 4;
+      const done = () => { this.squares[to].style.zIndex = ''; };
+      const glides = picture.animate([{ transform: `translate(${a.left - b.left}px, ${a.top - b.top}px)` }, { transform: 'none' }], { duration: 180, easing: 'ease-out' });
+      glides.onfinish = done;
+      glides.oncancel = done;
+    }
+  }
+
+  /** An arrow from the square to the square of a move in long algebraic notation, or none where it is empty. */
+  point(m) {
+    this.pointed = m;
+    this.place.querySelector('.arrow')?.remove();
+    if (!m) return;
+    const middle = (name) => {
+      const [x, y] = [FILES.indexOf(name[0]) + 0.5, 8.5 - Number(name[1])];
+      return this.turned ? [8 - x, 8 - y] : [x, y];
+    };
+    const [[x, y], [to, down]] = [middle(m.slice(0, 2)), middle(m.slice(2, 4))];
+    const long = Math.hypot(to - x, down - y);
+    const picture = document.createElementNS(SVG, 'svg');
+    picture.setAttribute('class', 'arrow');
+    picture.setAttribute('viewBox', '0 0 8 8');
+    picture.setAttribute('aria-hidden', 'true');
+    const path = document.createElementNS(SVG, 'path');
+    path.setAttribute('d', `M.32-.06H${long - 0.4}V-.18L${long - 0.08} 0L${long - 0.4} .18V.06H.32z`);
+    path.setAttribute('stroke-width', '0.03');
+    path.setAttribute('transform', `translate(${x} ${y}) rotate(${Math.atan2(down - y, to - x) * 180 / Math.PI})`);
+    picture.append(path);
+    this.place.append(picture);
   }
 
   targets() {
     return this.shown.moves.filter((it) => it.slice(0, 2) === this.chosen).map((it) => it.slice(2, 4));
   }
 
+  // The coordinates stand in corners that no man covers.
+  names(name) {
+    const [file, number] = name;
+    const found = [];
+    const put = (text, kind) => {
+      const at = document.createElement('span');
+      at.className = `at ${kind}`;
+      at.textContent = text;
+      at.setAttribute('aria-hidden', 'true');
+      found.push(at);
+    };
+    if (file === (this.turned ? 'h' : 'a')) put(number, 'rankname');
+    if (number === (this.turned ? '8' : '1')) put(file, 'filename');
+    return found;
+  }
+
   draw() {
+    const { men, checks, heat, last } = this.shown;
     const targets = this.chosen ? this.targets() : [];
+    const king = this.side === 'w' ? 'K' : 'k';
     for (const [name, square] of Object.entries(this.squares)) {
-      const letter = this.shown.men[name];
-      const file = FILES.indexOf(name[0]);
-      const number = Number(name[1]);
-      const dark = (file + number) % 2 === 1;
+      const letter = men[name];
+      const dark = (FILES.indexOf(name[0]) + Number(name[1])) % 2 === 1;
       const target = targets.includes(name);
-      square.className = ['square', dark && 'dark', name === this.chosen && 'chosen', target && 'target', target && letter && 'taken', this.shown.checks.includes(name) && 'checking'].filter(Boolean).join(' ');
+      const isLast = last.slice(0, 2) === name || last.slice(2, 4) === name;
+      const isChecked = checks.length > 0 && letter === king;
+      const is = { dark, last: isLast, chosen: name === this.chosen, target, taken: target && letter, checking: checks.includes(name), checked: isChecked };
+      square.className = ['square', ...Object.keys(is).filter((it) => is[it])].join(' ');
       square.tabIndex = name === this.at ? 0 : -1;
-      square.replaceChildren();
-      const edge = this.turned ? 8 : 1;
-      if (number === edge || name[0] === (this.turned ? 'h' : 'a')) {
-        const at = document.createElement('span');
-        at.className = 'at';
-        at.textContent = number !== edge ? number : name[0] === (this.turned ? 'h' : 'a') ? name : name[0];
-        at.setAttribute('aria-hidden', 'true');
-        square.append(at);
-      }
+      square.replaceChildren(...this.names(name));
       if (letter) square.append(man(letter));
-      if (this.shown.heat) {
-        const count = this.shown.heat.counts[(number - 1) * 8 + file];
-        const heat = document.createElement('span');
-        heat.className = 'heat';
-        square.classList.add(`by${this.shown.heat.colour}`);
+      if (name === this.at) {
+        const ring = document.createElement('span');
+        ring.className = 'ring';
+        square.append(ring);
+      }
+      const count = heat ? heat.counts[(Number(name[1]) - 1) * 8 + FILES.indexOf(name[0])] : 0;
+      if (heat) {
+        const shown = document.createElement('span');
+        shown.className = 'heat';
+        square.classList.add(`by${heat.colour}`);
         square.style.setProperty('--n', count);
-        heat.textContent = count || '';
-        square.append(heat);
+        shown.textContent = count || '';
+        square.append(shown);
       }
       const said = [name, letter ? named(letter) : 'empty'];
       if (name === this.chosen) said.push('chosen');
       if (target) said.push('may be moved to');
-      if (this.shown.checks.includes(name)) said.push('gives check');
-      if (this.shown.heat) said.push(`attacked ${this.shown.heat.counts[(number - 1) * 8 + file]} times`);
+      if (isLast) said.push('last move');
+      if (isChecked) said.push('in check');
+      if (checks.includes(name)) said.push('gives check');
+      if (heat) said.push(`attacked ${count} times`);
       square.setAttribute('aria-label', said.join(', '));
       square.setAttribute('aria-selected', String(name === this.chosen));
     }
@@ -196,7 +274,11 @@ export class Board {
         return;
       }
       ghost.remove();
-      if (to && to !== from) this.move(from, to);
+      if (to && to !== from) {
+        // (it lies there already)
+        this.dropped = to;
+        this.move(from, to);
+      }
       else {
         this.chosen = '';
         this.draw();
@@ -210,6 +292,8 @@ export class Board {
   key(event) {
     const steps = { ArrowLeft: [-1, 0], ArrowRight: [1, 0], ArrowUp: [0, 1], ArrowDown: [0, -1] };
     if (event.altKey || event.ctrlKey || event.metaKey) return;
+    // An arrow alone steps through the game.
+    if (steps[event.key] && !event.shiftKey) return;
     if (steps[event.key]) {
       event.preventDefault();
       const by = this.turned ? -1 : 1;

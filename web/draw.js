@@ -16,18 +16,41 @@ const element = (name, text = '', className = '') => {
 
 const inWords = (claims, words) => (claims === 'none' ? 'none' : claims.split(' ').map((it) => words[it]).join('; '));
 
-export const drawStatus = () => {
+const statusText = () => {
   const { state } = game;
   const side = state.fen.split(' ')[1] === 'w' ? 'White' : 'Black';
   const check = state.checks === 'none' ? '' : `, in check from ${state.checks.replaceAll(' ', ' and ')} (Article 3.9.1)`;
-  by('status').textContent = state.status === 'play' ? `${side} to move${check}` : STATUS[state.status];
+  return state.status === 'play' ? `${side} to move${check}` : STATUS[state.status];
+};
+
+export const drawStatus = () => {
+  const { state } = game;
+  by('status').textContent = statusText();
   const facts = [
-    ['May be claimed', inWords(state.claims, CLAIMS)],
-    ...state.with.slice(0, 5).map(([m, claims]) => [`With ${m}`, inWords(claims, CLAIMS_WITH)]),
-    ['Position came up', `${state.count} time${state.count === '1' ? '' : 's'} (Article 9.2.2)`],
-    ['Static evaluation', `${(Number(state.eval) / 100).toFixed(2)} for White`],
+    ...(state.claims === 'none' ? [] : [['May be claimed', inWords(state.claims, CLAIMS)]]),
+    ...state.with.map(([m, claims]) => [`With ${m}`, inWords(claims, CLAIMS_WITH)]),
+    ...(state.count === '1' ? [] : [['Position came up', `${state.count} times (Article 9.2.2)`]]),
   ];
   by('laws').replaceChildren(...facts.flatMap(([name, value]) => [element('dt', name), element('dd', value)]));
+};
+
+// ---- The players.
+
+const POINTS = { '1-0': ['1', '0'], '0-1': ['0', '1'], '1/2-1/2': ['\u00bd', '\u00bd'] };
+
+const drawPlayer = (place, side) => {
+  const name = side === 'w' ? 'White' : 'Black';
+  const title = tag(`${name}Title`);
+  const points = POINTS[game.result]?.[side === 'w' ? 0 : 1] ?? '';
+  place.classList.toggle('turn', game.state.fen.split(' ')[1] === side && game.state.status === 'play');
+  place.setAttribute('role', 'group');
+  place.setAttribute('aria-label', name);
+  place.replaceChildren(element('span', '', `disc ${side}`), element('span', `${title ? `${title} ` : ''}${tag(name) || name}`, 'name'), element('span', tag(`${name}Elo`), 'rating'), element('span', points, 'result'));
+};
+
+export const drawPlayers = (isTurned) => {
+  drawPlayer(by('player1'), isTurned ? 'b' : 'w');
+  drawPlayer(by('player2'), isTurned ? 'w' : 'b');
 };
 
 // ---- The moves.
@@ -40,26 +63,42 @@ const rowsNow = () => {
   return listed.rows;
 };
 
-const moveButton = (row) => {
-  const button = element('button', `${row.number ? `${row.number} ` : ''}${row.san}${row.nags.map((it) => MARKS[it] ?? ` $${it}`).join('')}`, 'move');
+const moveText = (row) => `${row.san}${row.nags.map((it) => MARKS[it] ?? ` $${it}`).join('')}`;
+
+const moveButton = (row, text) => {
+  const button = element('button', text, 'move');
   button.dataset.path = row.path.join('.');
+  button.tabIndex = -1;
   return button;
+};
+
+// A move's number, which Black's needs only where something stands between it and White's.
+const numberOf = (row, before) => (row.number.endsWith('...') && before?.kind === 'move' && !before.comment ? '' : row.number);
+
+// A move of the main line in its column, with its number.
+const inColumns = (row, number) => {
+  const button = moveButton(row, moveText(row));
+  button.classList.add(row.number && !row.number.endsWith('...') ? 'white' : 'black');
+  return [...(number ? [element('span', number, 'number'), ' '] : []), button, ' '];
 };
 
 const drawTree = (all) => {
   const top = document.createElement('div');
   const open = [top];
-  for (const row of all) {
+  for (const [i, row] of all.entries()) {
     const to = open.at(-1);
     if (row.kind === 'open') {
       const inner = element('div', '', 'variation');
       inner.setAttribute('role', 'group');
       inner.setAttribute('aria-label', 'Variation');
-      to.append(inner);
+      to.append(inner, ' ');
       open.push(inner);
     } else if (row.kind === 'close') open.pop();
     else {
-      if (row.kind === 'move') to.append(moveButton(row), ' ');
+      if (row.kind === 'move') {
+        const number = numberOf(row, all[i - 1]);
+        to.append(...(open.length === 1 ? inColumns(row, number) : [moveButton(row, `${number ? `${number} ` : ''}${moveText(row)}`), ' ']));
+      }
       if (row.comment) to.append(element('span', ` ${shown(row.comment)} `, 'remark'));
     }
   }
@@ -77,26 +116,64 @@ export const showComment = () => {
 export const saidHere = () => said;
 
 let drawn = null;
+let marked = null;
+
+// Has the move at the cursor in sight.
+const showCurrent = () => {
+  const box = by('moves');
+  const current = box.querySelector('[aria-current]');
+  if (!current) {
+    box.scrollTop = 0;
+    return;
+  }
+  const [a, b] = [current.getBoundingClientRect(), box.getBoundingClientRect()];
+  if (a.top < b.top || a.bottom > b.bottom) box.scrollTop += a.top - b.top - box.clientHeight / 2;
+};
+new ResizeObserver(showCurrent).observe(by('moves'));
+
+// Marks the move at the cursor, which is the list's one tab stop, and where the focus goes on.
+const markCurrent = (path) => {
+  const box = by('moves');
+  const had = box.contains(document.activeElement) || document.activeElement === marked;
+  marked?.removeAttribute('aria-current');
+  if (marked) marked.tabIndex = -1;
+  const current = path ? box.querySelector(`[data-path="${path}"]`) : null;
+  current?.setAttribute('aria-current', 'step');
+  marked = current ?? box.querySelector('.move');
+  if (marked) marked.tabIndex = 0;
+  if (had) (marked ?? by('san')).focus({ preventScroll: true });
+  showCurrent();
+};
+
+let announced = { path: '-', fen: '' };
+
+// What is said to who doesn't see: the move that led here, and how the game stands.
+const announce = (row) => {
+  const { path, fen } = game.state;
+  if (announced.path === path && announced.fen === fen) return;
+  const isFirst = !announced.fen;
+  announced = { path, fen };
+  if (isFirst) return;
+  const move = row?.kind === 'move' ? `${row.number || '\u2026'} ${moveText(row)}. ` : 'The start. ';
+  by('said').textContent = `${move}${statusText()}.`;
+};
 
 export const drawMoves = () => {
   const all = rowsNow();
-  const box = by('moves');
+  const path = game.state.path === '-' ? '' : game.state.path;
+  const had = by('moves').contains(document.activeElement);
   if (drawn !== all) drawTree(all);
   drawn = all;
-  box.querySelector('[aria-current]')?.removeAttribute('aria-current');
-  const path = game.state.path === '-' ? '' : game.state.path;
-  const current = path ? box.querySelector(`[data-path="${path}"]`) : null;
-  if (current) {
-    current.setAttribute('aria-current', 'step');
-    const place = current.offsetTop - box.offsetTop;
-    if (place < box.scrollTop || place > box.scrollTop + box.clientHeight - 30) box.scrollTop = place - box.clientHeight / 2;
-  } else box.scrollTop = 0;
+  if (had && !by('moves').contains(document.activeElement)) by('moves').querySelector('.move')?.focus({ preventScroll: true });
+  markCurrent(path);
   const row = all.find((it) => it.path && it.path.join('.') === path);
   said = row ? shown(row.comment) : '';
   showComment();
-  for (const id of ['promote', 'delete', 'back', 'start']) by(id).disabled = path === '';
-  by('undo').disabled = !game.history.canUndo();
-  by('redo').disabled = !game.history.canRedo();
+  announce(row);
+  // (a control that can do nothing keeps the focus)
+  const next = game.state.pgn.startsWith('refused') || by('moves').querySelector(`[data-path="${path ? `${path}.0` : '0'}"]`);
+  const can = { promote: path, delete: path, back: path, start: path, forward: next, end: next, undo: game.history.canUndo() || game.draft, redo: game.history.canRedo() };
+  for (const [id, is] of Object.entries(can)) by(id).setAttribute('aria-disabled', String(!is));
 };
 
 // ---- The names and the result.

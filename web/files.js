@@ -163,13 +163,11 @@ const joined = (parts) => {
 
 const isEqual = (a, b) => a.length === b.length && a.every((it, i) => it === b[i]);
 
-// The file's bytes with that game in the place of the one with the number. What is before it and after it, and the whitespace before its first byte, stays.
+// The file's bytes with that game in the place of the one with the number. What is before it and after it stays.
 const withGame = async (bytes, number, text) => {
   const place = await ask('place', { bytes, number });
   if (!place) throw new Error(`There is no game ${number} in the file.`);
-  let from = place.at;
-  while (from < place.at + place.used && [9, 10, 11, 12, 13, 32].includes(bytes[from])) from++;
-  return joined([bytes.subarray(0, from), toBytes(text.trimEnd()), bytes.subarray(place.at + place.used)]);
+  return joined([bytes.subarray(0, place.from), toBytes(text.trimEnd()), bytes.subarray(place.end)]);
 };
 
 // Writes where the file was opened from, if it is still what was read there; else the file is downloaded.

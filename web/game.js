@@ -7,9 +7,9 @@ import { REFUSED, ROSTER, faultText, refusal } from './words.js';
 
 /**
  * `acts` is how much a person has done: what is read from a file meanwhile doesn't take its place. `draft` is the comment that is being typed, with the path of its
- * node: it is kept until it is set or given up.
+ * node: it is kept until it is set or given up. `isMoved` is whether what is drawn comes of a move that was made, or of a game that was begun.
  */
-export const game = { state: null, tags: [], result: '*', origin: null, history: new History(), draft: null, acts: 0 };
+export const game = { state: null, tags: [], result: '*', origin: null, history: new History(), draft: null, acts: 0, isMoved: false };
 
 /** What the page does when the game is another, when it has been noted, when one begins beside it, and when something is to be said. */
 export const page = { draw() {}, drawTags() {}, noted() {}, beside() {}, told() {} };
@@ -144,6 +144,7 @@ const answered = async (all, more = {}) => {
     game.state = found.state;
     bad = found.bad;
     if (!bad) Object.assign(game, more);
+    game.isMoved = !bad && all.some((it) => /^(play|new|set)\b/.test(it));
   }
   page.told(bad ? refusal(bad) : '');
   note();
@@ -153,6 +154,9 @@ const answered = async (all, more = {}) => {
 
 /** Has the board answer lines, and draws what it then is. Returns whether all were answered. */
 export const lines = (...all) => doing(() => answered(all));
+
+/** As `lines`, for one line, in turn. */
+export const stepped = (line) => answered([line]);
 
 /** Begins another game by `new` or `set FEN`, in the place of the one that is there. */
 export const begin = (line) => doing(async () => {

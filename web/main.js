@@ -1,15 +1,17 @@
 // The page: carries what a person does to the module as lines, and draws what it answers.
 import { MODULE, ask, startWorker } from './ask.js';
-import { positionChanged, positionDrawn, reply, toggleAnalysis } from './analysis.js';
+import { moveNow, points, positionChanged, positionDrawn, reply, toggleAnalysis } from './analysis.js';
 import { Board, man, named } from './board.js';
-import { drawMoves, drawStatus, drawTags, saidHere, showComment } from './draw.js';
+import { dialogs, openDialog } from './dialogs.js';
+import { drawMoves, drawPlayers, drawStatus, drawTags, saidHere, showComment } from './draw.js';
 import { choose, download, read, readWhole, saveBack, showCollection } from './files.js';
-import { begin, exported, game, isSettled, lines, page, redo, settled, doing, undo } from './game.js';
+import { begin, exported, game, isSettled, lines, page, redo, settled, stepped, doing, undo } from './game.js';
 import { keepLink, linkNow, linked, openLink } from './link.js';
 import { beside, keep, mine, start } from './mine.js';
 import { toBytes } from './module.js';
 import { drawOwn, ownCommands } from './own.js';
 import { shown, typed } from './pgn.js';
+import { isStill, settings } from './settings.js';
 
 const by = (id) => document.getElementById(id);
 
@@ -27,19 +29,25 @@ const drawBoard = () => {
     moves: state.moves === 'none' ? [] : state.moves.split(' '),
     heat: heat ? { counts: attacks(state[heat]), colour: heat.at(-1) } : null,
     checks: state.checks === 'none' ? [] : state.checks.split(' '),
+    last: state.last,
+    still: isStill(),
   });
+  by('heat').parentElement.classList.toggle('on', heat !== '');
 };
 
 page.told = (text) => {
   by('told').textContent = text;
+  by('fentold').textContent = by('fenbox').open ? text : '';
 };
 page.draw = () => {
   drawBoard();
   drawStatus();
+  drawPlayers(view.turned);
   drawMoves();
   if (document.activeElement !== by('fen')) by('fen').value = game.state.fen;
   by('saveback').hidden = !game.origin;
-  positionDrawn();
+  positionDrawn(game.isMoved);
+  game.isMoved = false;
   keepLink(view.turned);
   keep();
 };
@@ -71,19 +79,22 @@ const askPromotion = (moves) => {
 const turnRound = (isTurned) => {
   view.turn(isTurned);
   by('bar').classList.toggle('turned', isTurned);
+  if (game.state) drawPlayers(isTurned);
 };
+const flip = () => {
+  turnRound(!view.turned);
+  keepLink(view.turned);
+};
+const can = (id) => by(id).getAttribute('aria-disabled') !== 'true';
+// (asked in turn: keys come faster than what they ask for is drawn)
+const back = () => doing(() => can('back') && stepped('back'));
+const forward = () => doing(() => can('forward') && stepped('step 0'));
+const toStart = () => lines('start');
+const toEnd = () => lines('end');
 
 const steps = () => {
-  by('start').onclick = () => lines('start');
-  by('end').onclick = () => lines('end');
-  by('back').onclick = () => lines('back');
-  by('forward').onclick = () => lines('step 0');
-  by('undo').onclick = undo;
-  by('redo').onclick = redo;
-  by('flip').onclick = () => {
-    turnRound(!view.turned);
-    keepLink(view.turned);
-  };
+  const does = { start: toStart, back, forward, end: toEnd, undo, redo, flip, promote: () => lines('promote'), delete: () => lines('delete') };
+  for (const [id, call] of Object.entries(does)) by(id).onclick = call;
   by('heat').onchange = drawBoard;
   by('sanform').onsubmit = async (event) => {
     event.preventDefault();
@@ -97,8 +108,6 @@ const steps = () => {
 };
 
 const annotations = () => {
-  by('promote').onclick = () => lines('promote');
-  by('delete').onclick = () => lines('delete');
   by('nag').onchange = () => {
     const mark = by('nag').value;
     by('nag').value = '';
@@ -134,8 +143,9 @@ const copy = async (text, what) => {
     page.told(`${what} is copied.`);
   } catch {
     by('pgn').value = text;
-    by('pastebox').open = true;
-    page.told(`${what} is in the box below.`);
+    openDialog('pastebox');
+    by('pgn').select();
+    page.told(`The browser gives no clipboard: ${what.toLowerCase()} is in the box.`);
   }
 };
 
@@ -151,9 +161,9 @@ const out = (give) => async () => {
 };
 
 const games = () => {
-  by('fenform').onsubmit = (event) => {
+  by('fenform').onsubmit = async (event) => {
     event.preventDefault();
-    begin(`set ${typed(by('fen').value)}`);
+    if (await begin(`set ${typed(by('fen').value)}`)) by('fenbox').close();
   };
   by('new').onclick = () => begin('new');
   by('open').onclick = choose;
@@ -163,7 +173,10 @@ const games = () => {
     if (file) await readWhole(file, before);
     by('file').value = '';
   };
-  by('read').onclick = () => read(new TextEncoder().encode(by('pgn').value));
+  by('read').onclick = () => {
+    by('pastebox').close();
+    read(new TextEncoder().encode(by('pgn').value));
+  };
   by('copy').onclick = out(async () => copy(shown(await exported()), 'The game'));
   by('copyfen').onclick = () => copy(game.state.fen, 'The FEN');
   by('link').onclick = out(async () => {
@@ -178,29 +191,31 @@ const games = () => {
 
 const engine = () => {
   by('analyse').onclick = toggleAnalysis;
-  by('depth').onchange = positionChanged;
-  by('plays').onchange = positionChanged;
+  by('now').onclick = moveNow;
+  for (const id of ['depth', 'plays']) by(id).addEventListener('change', () => positionChanged());
 };
 
+// An arrow steps wherever nothing is typed and no box is open.
+const KEYS = { ArrowLeft: back, ArrowRight: forward, ArrowUp: toStart, ArrowDown: toEnd, Home: toStart, End: toEnd, f: flip, l: toggleAnalysis, '/': () => by('san').focus() };
+
 const keys = (event) => {
-  const typing = event.target.closest('input, textarea, select, dialog');
+  if (event.defaultPrevented || event.target.closest('dialog')) return;
+  const typing = event.target.closest('input, textarea, select');
+  const key = event.key.length === 1 ? event.key.toLowerCase() : event.key;
   if (event.ctrlKey || event.metaKey) {
     // (a field undoes its own text)
     if (typing || event.altKey) return;
-    const key = event.key.toLowerCase();
     if (key === 'z' && !event.shiftKey) undo();
     else if (key === 'y' || key === 'z') redo();
     else return;
     event.preventDefault();
     return;
   }
-  const free = event.altKey || !(typing || event.target.closest('#board'));
-  if (free && event.key === 'ArrowLeft') lines('back');
-  else if (free && event.key === 'ArrowRight') lines('step 0');
-  else if (!typing && event.key === 'Home') lines('start');
-  else if (!typing && event.key === 'End') lines('end');
-  else return;
+  // (with Alt an arrow steps from a field, too)
+  const isStep = event.altKey && !event.shiftKey && (key === 'ArrowLeft' || key === 'ArrowRight');
+  if (!KEYS[key] || !(isStep || !(typing || event.altKey || event.shiftKey))) return;
   event.preventDefault();
+  KEYS[key]();
 };
 
 const drops = () => {
@@ -221,7 +236,7 @@ const drops = () => {
     else if (event.dataTransfer.getData('text')) read(new TextEncoder().encode(event.dataTransfer.getData('text')));
   });
   addEventListener('paste', (event) => {
-    if (event.target.closest('input, textarea')) return;
+    if (event.target.closest('input, textarea, dialog')) return;
     const text = event.clipboardData.getData('text');
     if (text) read(new TextEncoder().encode(text));
   });
@@ -229,6 +244,7 @@ const drops = () => {
 
 const lacks = (text) => {
   by('lacking').textContent = text;
+  by('lacking').classList.remove('starting');
   by('lacking').hidden = false;
   by('main').hidden = true;
 };
@@ -246,7 +262,8 @@ const beginning = async () => {
 const main = async () => {
   startWorker();
   view = new Board(by('board'), { wants: move, asks: askPromotion });
-  for (const give of [steps, annotations, games, engine, drops, ownCommands]) give();
+  points.at = (m) => view.point(m);
+  for (const give of [settings, dialogs, steps, annotations, games, engine, drops, ownCommands]) give();
   addEventListener('keydown', keys);
   const first = await ask('start', { module: MODULE });
   if (first.status !== 0) {
@@ -262,6 +279,7 @@ const main = async () => {
     const link = linked();
     if (link) openLink(link);
   });
+  by('lacking').hidden = true;
   performance.mark('ready');
   document.documentElement.dataset.ready = 'yes';
 };

@@ -21,7 +21,9 @@ const row = (it, isHere) => {
     place.append(document.createTextNode(`${nameOf(it)} `), button('Bring back', `Bring back ${nameOf(it)}`, () => putAway(it.id, false)), button('Erase', `Erase ${nameOf(it)} for good`, () => drop(it.id)));
     return place;
   }
-  const open = button(nameOf(it), `Open ${nameOf(it)}`, () => openGame(it.id));
+  const open = button(nameOf(it), `Open ${nameOf(it)}`, async () => {
+    if (await openGame(it.id)) by('gamesbox').close();
+  });
   open.className = 'open';
   if (isHere) open.setAttribute('aria-current', 'true');
   const time = document.createElement('small');
@@ -41,16 +43,22 @@ export const drawOwn = () => {
   const away = others.filter((it) => it.removed).sort((a, b) => b.removed - a.removed);
   if (document.activeElement !== by('name')) by('name').value = here.name;
   by('name').placeholder = nameOf({ ...here, name: '' });
+  by('gamename').textContent = nameOf(here);
+  by('keeping').textContent = mine.trouble || mine.failed ? 'not kept' : here.version ? 'kept' : '';
   by('nokeeping').textContent = mine.trouble || mine.failed;
   const now = JSON.stringify([here.id, ...[...live, ...away].map((it) => [it.id, nameOf(it), it.removed, it.changed && when(it.changed)])]);
   if (drawn === now) return;
   drawn = now;
+  const had = by('gamesbox').contains(document.activeElement) && document.activeElement.closest('li');
   by('own').replaceChildren(...live.map((it) => row(it, it.id === here.id)));
   by('away').replaceChildren(...away.map((it) => row(it, false)));
   by('awaybox').hidden = !away.length;
+  if (had) (by('own').querySelector('[aria-current]') ?? by('another')).focus();
 };
 
 export const ownCommands = () => {
-  by('another').onclick = () => another();
+  by('another').onclick = async () => {
+    if (await another()) by('gamesbox').close();
+  };
   by('name').onchange = () => rename(mine.here.record.id, by('name').value.trim());
 };

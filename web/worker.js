@@ -7,7 +7,12 @@ let session;
 const line = (text) => session.line(text);
 
 // The words of the moves by their paths, as the board writes them.
-const namedBy = (pgn) => new Map((pgn.startsWith('refused') ? [] : rows(parts(`${pgn}\n`).movetext)).filter((it) => it.kind === 'move').map((it) => [it.path.join('.'), it.san]));
+let written = { pgn: '', moves: new Map() };
+const namedBy = (pgn) => {
+  if (written.pgn !== pgn) written = { pgn, moves: wordsOf(pgn) };
+  return written.moves;
+};
+const wordsOf = (pgn) => new Map((pgn.startsWith('refused') ? [] : rows(parts(`${pgn}\n`).movetext)).filter((it) => it.kind === 'move').map((it) => [it.path.join('.'), it.san]));
 
 // The move that led to the cursor, in long algebraic notation; empty at the root.
 const lastMove = ({ path, pgn }) => {
@@ -24,7 +29,9 @@ const state = () => {
   for (const asked of ['path', 'fen', 'moves', 'status', 'claims', 'checks', 'count', 'eval', 'counts w', 'counts b', 'pgn']) told[asked] = line(asked).replace(/\n$/, '');
   told.last = lastMove(told);
   // What may be claimed with a move that is then made.
-  told.with = told.moves === 'none' ? [] : told.moves.split(' ').map((m) => [m, line(`claim ${m}`).trim()]).filter(([, claims]) => claims !== 'none');
+  told.with = told.moves === 'none' ? [] : told.moves.split(' ').map((m) => [m, line(`claim ${m}`).trim()]).filter(([, claims]) => claims !== 'none').slice(0, 5);
+  const named = words(told.fen, told.with.map(([m]) => m));
+  told.with = told.with.map(([, claims], i) => [named[i], claims]);
   return told;
 };
 
@@ -32,6 +39,20 @@ const state = () => {
 const readOne = (bytes) => {
   session.hold(bytes);
   return session.game(0);
+};
+
+const isSpace = (byte) => byte === 32 || (byte >= 9 && byte <= 13);
+
+// Where a game begins after the whitespace and the lines with a % that stand before it, if the module reads the same game from there.
+const begins = (bytes, at, { text, used }) => {
+  let from = at;
+  for (;;) {
+    if (isSpace(bytes[from])) from++;
+    else if (bytes[from] === 37 && (from === 0 || bytes[from - 1] === 10)) while (from < at + used && bytes[from] !== 10) from++;
+    else break;
+  }
+  const game = session.game(from);
+  return game.status === OK && game.text === text && from + game.used === at + used ? from : at;
 };
 
 const heading = (text) => {
@@ -49,9 +70,19 @@ const finding = (report) => {
   return [over < plies ? `played on after ${ENDS[why]}` : '', agrees ? '' : `the board says ${RESULTS[winner]}`].filter(Boolean).join(', ');
 };
 
+// The words of moves, as a board beside writes them.
+let beside;
+const words = (fen, moves) => moves.map((m) => {
+  if (beside.line(`set ${fen}`) !== 'ok\n' || beside.line(`play ${m}`) !== 'ok\n') return m;
+  return namedBy(beside.line('pgn').trim()).get('0') ?? m;
+});
+
 const jobs = {
   async start({ module }) {
-    session = await open(module);
+    const bytes = new Uint8Array(await (await fetch(module)).arrayBuffer());
+    session = await open(bytes);
+    beside = await open(bytes, { heap: 1 << 20, room: 1 << 16 });
+    if (beside.opened !== OK) return { status: beside.opened, state: null };
     return { status: session.opened, state: session.opened === OK ? state() : null };
   },
 
@@ -63,6 +94,11 @@ const jobs = {
       if (answers.at(-1).startsWith('refused')) break;
     }
     return { answers, state: state() };
+  },
+
+  // The moves of a position as they are written (SAN).
+  words({ fen, moves }) {
+    return words(fen, moves);
   },
 
   // The line of moves to the cursor, as the engine reads it.
@@ -104,14 +140,14 @@ const jobs = {
     return { status: OK, used: loaded.used, state: state() };
   },
 
-  // Where the game with that number among those of the text begins, and its length; null where there is none.
+  // Where the game with that number among those of the text begins and ends; null where there is none.
   place({ bytes, number }) {
     session.hold(bytes);
     for (let at = 0, i = 1; ; i++) {
-      const { status, used } = session.game(at);
-      if (status === NONE) return null;
-      const passed = status === OK ? used : session.pass(at);
-      if (i === number) return status === OK ? { at, used } : null;
+      const game = session.game(at);
+      if (game.status === NONE) return null;
+      if (i === number) return game.status === OK ? { from: begins(bytes, at, game), end: at + game.used } : null;
+      const passed = game.status === OK ? game.used : session.pass(at);
       if (passed === 0) return null;
       at += passed;
     }

@@ -1,0 +1,344 @@
+"""How the page looks and is used: its sizes and themes, its marks and contrasts, what is announced, and where the focus is."""
+import tempfile
+import shutil
+import time
+import unittest
+
+import firefox
+import test_web
+
+setUpModule, tearDownModule = test_web.setUpModule, test_web.tearDownModule
+
+SIZES = {"phone": (360, 740), "tablet": (768, 1024), "laptop": (1024, 768), "desk": (1440, 900), "wide": (2560, 1440), "on its side": (844, 390), "twice as large": (720, 450)}
+GAME = ('[White "Caruana, Fabiano"]\n[Black "Nakamura, Hikaru"]\n[WhiteElo "2804"]\n[BlackElo "2802"]\n[Result "1-0"]\n\n1. e4 e5 2. Nf3 Nc6 3. Bc4 {The Italian.} Bc5 (3... Nf6 4. Ng5 $5 d5'
+        ' 5. exd5 Na5 $1 {and not 5... Nxd5} (5... Nd4 6. c3)) 4. b4 $1 Bxb4 5. c3 Ba5 6. d4 exd4 7. O-O Nge7 8. cxd4 d5 9. exd5 Nxd5 10. Qb3 Be6 11. Qxb7 1-0')
+
+# The contrast of each text with what is behind it, and of each control's edge or icon, that is too low (WCAG 2.2, 1.4.3 and 1.4.11).
+FAINT = """
+    const light = (part) => part <= 0.03928 ? part / 12.92 : ((part + 0.055) / 1.055) ** 2.4;
+    const colour = (text) => text.match(/[\\d.]+/g).map(Number);
+    const bright = ([r, g, b]) => 0.2126 * light(r / 255) + 0.7152 * light(g / 255) + 0.0722 * light(b / 255);
+    const over = ([r, g, b, a = 1], under) => [r, g, b].map((it, i) => it * a + under[i] * (1 - a));
+    const ground = (it) => {
+      const layers = [];
+      for (; it; it = it.parentElement) {
+        const c = colour(getComputedStyle(it).backgroundColor);
+        layers.push(c);
+        if (c.length < 4 || c[3] === 1) break;
+      }
+      return layers.reverse().reduce((under, c) => over(c, under), [255, 255, 255]);
+    };
+    const contrast = (a, b) => { const [x, y] = [bright(a), bright(b)]; return (Math.max(x, y) + 0.05) / (Math.min(x, y) + 0.05); };
+    const named = (it, found) => `${it.outerHTML.slice(0, 90)} ${found.toFixed(2)}`;
+    const all = [...document.querySelectorAll('body *')].filter((it) => it.checkVisibility() && !it.closest('[aria-disabled=true], option, .away'));
+    const low = [];
+    for (const it of all) {
+      const style = getComputedStyle(it);
+      const hasText = [...it.childNodes].some((node) => node.nodeType === 3 && node.data.trim()) || (it.matches('input, textarea') && it.value);
+      if (hasText && !it.closest('svg')) {
+        const large = parseFloat(style.fontSize) >= 24 || (parseFloat(style.fontSize) >= 18.66 && style.fontWeight >= 700);
+        const found = contrast(over(colour(style.color), ground(it)), ground(it));
+        if (found < (large ? 3 : 4.5)) low.push(named(it, found));
+      }
+      if (it.matches('.icon')) {
+        const found = contrast(colour(style.stroke), ground(it));
+        if (found < 3) low.push(named(it, found));
+      }
+      if (it.matches('input, select, textarea') && style.opacity !== '0') {
+        const found = contrast(colour(style.borderTopColor), ground(it.parentElement));
+        if (found < 3) low.push(named(it, found));
+      }
+    }
+    return low;
+"""
+
+# The focus's ring beside what it stands on, and the marks of the board on both kinds of squares.
+MARKS = """
+    const light = (part) => part <= 0.03928 ? part / 12.92 : ((part + 0.055) / 1.055) ** 2.4;
+    const bright = ([r, g, b]) => 0.2126 * light(r / 255) + 0.7152 * light(g / 255) + 0.0722 * light(b / 255);
+    const contrast = (a, b) => { const [x, y] = [bright(a), bright(b)]; return (Math.max(x, y) + 0.05) / (Math.min(x, y) + 0.05); };
+    const probe = document.createElement('i');
+    document.body.append(probe);
+    const colour = (text) => { probe.style.color = text; return getComputedStyle(probe).color.match(/[\\d.]+/g).map(Number); };
+    const of = (name) => colour(getComputedStyle(document.documentElement).getPropertyValue(name));
+    const over = ([r, g, b, a = 1], under) => [r, g, b].map((it, i) => it * a + under[i] * (1 - a));
+    const found = { 'focus on the page': contrast(of('--focus'), of('--page')), 'focus on a card': contrast(of('--focus'), of('--card')) };
+    const target = getComputedStyle(document.querySelector('.square.target'), '::after');
+    const dot = [...colour(target.backgroundColor).slice(0, 3), Number(target.opacity)];
+    const tint = (name) => {
+      const square = document.querySelector('[data-square=h6]');
+      square.classList.add(name);
+      const text = getComputedStyle(square).boxShadow.match(/rgba?\\([^)]*\\)/)[0];
+      square.classList.remove(name);
+      return colour(text);
+    };
+    for (const kind of ['--light', '--dark']) {
+      const square = of(kind);
+      found[`a target on ${kind}`] = contrast(over(dot, square), square);
+      const [black, white] = [contrast([13, 17, 16], square), contrast([255, 255, 255], [13, 17, 16])];
+      // (the ring is black with white within: one of them stands out of any square)
+      found[`the ring on ${kind}`] = Math.max(black, white);
+      found[`coordinates on ${kind}`] = contrast([16, 22, 15], square) / 1.5;
+      for (const name of ['last', 'chosen']) found[`coordinates on ${name} ${kind}`] = contrast([16, 22, 15], over(tint(name), square)) / (name === 'last' ? 1.5 : 1);
+    }
+    probe.remove();
+    return found;
+"""
+
+
+class Looking:
+    def setUp(self):
+        self.page.open()
+
+    def is_firefox(self):
+        return isinstance(self.browser, firefox.Firefox)
+
+    def resize(self, width, height):
+        if self.is_firefox():
+            self.browser.set_size(width, height)
+            # (the window's edges and bars take some)
+            had = self.page.script("return [innerWidth, innerHeight]")
+            self.browser.set_size(2 * width - had[0], 2 * height - had[1])
+        else:
+            self.browser.execute_cdp_cmd("Emulation.setDeviceMetricsOverride", {"width": width, "height": height, "deviceScaleFactor": 1, "mobile": False})
+
+    def theme(self, name):
+        self.page.script("const it = document.getElementById('theme'); it.value = arguments[0]; it.dispatchEvent(new Event('change'))", name)
+
+    def read(self, text=GAME):
+        self.page.paste(text)
+        self.page.until(lambda: self.page.moves, "the game is read")
+        self.page.script("document.getElementById('end').click()")
+        self.page.until(lambda: self.page.script("return document.getElementById('end').getAttribute('aria-disabled')") == "true", "the end is shown")
+
+    def press(self, *keys):
+        if self.is_firefox():
+            self.browser.perform(*keys)
+            return
+        from selenium.webdriver import ActionChains
+        chain = ActionChains(self.browser)
+        for key in keys:
+            chain.key_down(key)
+        for key in reversed(keys):
+            chain.key_up(key)
+        chain.perform()
+
+    def test_the_board_is_first_and_the_moves_are_in_sight_in_each_size(self):
+        page = self.page
+        seen = """
+            const rect = (it) => { const r = it.getBoundingClientRect(); return [r.left, r.top, r.right, r.bottom].map(Math.round); };
+            return { window: [innerWidth, innerHeight], width: document.documentElement.scrollWidth, board: rect(document.getElementById('board')),
+              current: rect(document.querySelector('[aria-current=step]')), tools: rect(document.querySelector('.tools')), moves: rect(document.getElementById('moves')) };
+        """
+        self.read()
+        for name, (width, height) in SIZES.items():
+            self.resize(width, height)
+            for is_analysing in (False, True):
+                page.script("document.body.classList.toggle('analysing', arguments[0])", is_analysing)
+                # (the list of moves follows its size)
+                page.until(lambda: self.holds(page.script(seen)), f"{name}: {page.script(seen)}")
+                found = page.script(seen)
+                width, height = found["window"]
+                left, top, right, bottom = found["board"]
+                self.assertLessEqual(found["width"], width, name)
+                self.assertTrue(abs((right - left) - (bottom - top)) <= 1 and bottom <= height, (name, found))
+                # as large as the window lets it: the height but for the players and the top, or the width, in a narrow one
+                room = height - 170 if width >= height else min(width - 24, height - 400)
+                self.assertGreaterEqual(right - left, min(room, width - 300 if width >= height else width), (name, found))
+
+    def holds(self, found):
+        """The current move lies within the list, and both it and the tools within the window."""
+        (_, top, _, bottom), (_, low, _, high) = found["current"], found["moves"]
+        return low - 1 <= top and bottom <= high + 1 and bottom <= found["window"][1] and found["tools"][3] <= found["window"][1]
+
+    def test_contrasts(self):
+        page = self.page
+        for theme in ("light", "dark"):
+            page.open()
+            self.theme(theme)
+            self.read()
+            page.type("san", "e9")
+            page.until(lambda: page.text("told"), "it is refused")
+            page.choose("heat", "counts w")
+            page.click("analyse")
+            page.until(lambda: page.script("return document.querySelectorAll('#lines li').length"), "a line is there")
+            self.assertEqual("\n".join(page.script(FAINT)), "", theme)
+            for box in ("menu", "gamesbox", "pastebox", "fenbox", "tagbox", "settings"):
+                page.script("document.querySelector('dialog[open]')?.close(); document.querySelector(`[data-opens=${arguments[0]}]`).click()", box)
+                self.assertEqual("\n".join(page.script(FAINT)), "", (theme, box))
+            page.closes()
+            page.set_fen("4k3/8/8/8/8/8/8/4K2R w K - 0 1")
+            page.square("h1").click()
+            for name, contrast in page.script(MARKS).items():
+                self.assertGreaterEqual(contrast, 3, (theme, name))
+
+    def test_no_man_covers_a_coordinate(self):
+        page = self.page
+        covered = """
+            return [...document.querySelectorAll('.at')].flatMap((at) => {
+              const square = at.parentElement;
+              const text = document.createRange();
+              text.selectNodeContents(at);
+              const a = text.getBoundingClientRect();
+              const size = square.getBoundingClientRect();
+              // (each corner of the text, in the units of the men's pictures)
+              const points = [[a.left, a.top + a.height * .15], [a.right, a.top + a.height * .15], [a.left, a.bottom - a.height * .15], [a.right, a.bottom - a.height * .15]];
+              return ['p', 'r', 'n', 'b', 'q', 'k'].filter((letter) => [...document.getElementById(letter).children].some((shape) => {
+                if (shape.classList.contains('mark')) return false;
+                const picture = document.createElementNS('http://www.w3.org/2000/svg', 'svg');
+                picture.setAttribute('viewBox', '0 0 40 40');
+                picture.setAttribute('class', 'man');
+                square.append(picture);
+                const it = shape.cloneNode();
+                picture.append(it);
+                const to = picture.getScreenCTM().inverse();
+                const is = points.some(([x, y]) => it.isPointInFill(new DOMPoint(x, y).matrixTransform(to)) || it.isPointInStroke(new DOMPoint(x, y).matrixTransform(to)));
+                picture.remove();
+                return is;
+              })).map((letter) => `${square.dataset.square} ${at.textContent} ${letter} ${Math.round(size.width)}`);
+            });
+        """
+        for name in ("phone", "desk"):
+            self.resize(*SIZES[name])
+            self.assertEqual(page.script(covered), [], name)
+
+    def test_the_last_move_and_a_check_are_marked(self):
+        page = self.page
+
+        def marked(kind):
+            return page.script("return [...document.querySelectorAll(`.square.${arguments[0]}`)].map((it) => it.dataset.square).sort()", kind)
+
+        page.play("e4", "f6", "Qh5")
+        self.assertEqual((marked("last"), marked("checked"), marked("checking")), (["d1", "h5"], ["e8"], ["h5"]))
+        page.script("document.getElementById('back').click()")
+        page.until(lambda: marked("last") == ["f6", "f7"], "the move before is marked")
+        self.assertEqual((marked("checked"), marked("checking")), ([], []))
+        page.set_fen("r3k2r/8/8/8/8/8/8/R3K2R w KQkq - 0 1")
+        self.assertEqual(marked("last"), [])
+        page.play("O-O")
+        self.assertEqual(marked("last"), ["e1", "g1"])
+
+    def test_the_players_and_the_result(self):
+        page = self.page
+        self.read()
+        self.assertEqual((page.text("player1"), page.text("player2")), ("Caruana, Fabiano28041", "Nakamura, Hikaru28020"))
+        page.script("document.getElementById('flip').click()")
+        self.assertEqual((page.text("player1"), page.text("player2")), ("Nakamura, Hikaru28020", "Caruana, Fabiano28041"))
+        page.script("document.getElementById('new').click()")
+        page.until_moves("")
+        self.assertEqual((page.text("player1"), page.text("player2")), ("Black", "White"))
+
+    def test_men_glide_where_motion_is_wanted(self):
+        page = self.page
+        page.script("""
+            window.glides = [];
+            window.reduced = false;
+            const animate = Element.prototype.animate;
+            Element.prototype.animate = function (...words) { glides.push(this.closest('[data-square]').dataset.square); return animate.apply(this, words); };
+            const match = window.matchMedia;
+            window.matchMedia = (text) => text.includes('reduced-motion') ? { matches: window.reduced } : match.call(window, text);
+        """)
+        page.play("e4", "e5")
+        self.assertEqual(page.script("return glides"), ["e4", "e5"])
+        page.script("document.getElementById('back').click()")
+        page.until(lambda: page.script("return glides") == ["e4", "e5", "e7"], "it glides back")
+        page.script("window.reduced = true")
+        page.play("c5")
+        page.script("window.reduced = false; const it = document.getElementById('motion'); it.value = 'still'; it.dispatchEvent(new Event('change'))")
+        page.play("Nf3")
+        self.assertEqual(page.script("return glides.length"), 3)
+
+    def test_moves_are_announced(self):
+        page = self.page
+        said = """
+            window.heard = [];
+            new MutationObserver(() => heard.push(document.getElementById('said').textContent)).observe(document.getElementById('said'), { childList: true, characterData: true, subtree: true });
+            return [document.getElementById('said').getAttribute('role'), document.getElementById('said').getAttribute('aria-live'), document.getElementById('told').getAttribute('role')];
+        """
+        self.assertEqual(page.script(said), ["status", "polite", "alert"])
+        page.play("e4", "f6", "Qh5")
+        page.script("document.getElementById('back').click()")
+        page.until(lambda: len(page.script("return heard")) >= 4, "four things are said")
+        page.script("document.getElementById('start').click()")
+        page.until(lambda: len(page.script("return heard")) >= 5, "five things are said")
+        self.assertEqual(page.script("return heard"), ["1. e4. Black to move.", "\u2026 f6. White to move.", "2. Qh5+. Black to move, in check from h5 (Article 3.9.1).", "\u2026 f6. White to move.", "The start. White to move."])
+
+    def test_the_focus_is_never_lost_and_lists_have_one_tab_stop(self):
+        page = self.page
+        self.read()
+        stops = "return [document.querySelectorAll('#board [tabindex=\"0\"]').length, [...document.querySelectorAll('#moves button')].filter((it) => it.tabIndex === 0).length]"
+        focused = "const it = document.activeElement; return it.id || it.dataset.square || it.dataset.path || it.tagName"
+        self.assertEqual(page.script(stops), [1, 1])
+        page.script("document.querySelector('[data-path=\"0.0.0\"]').focus()")
+        self.press("\ue007")
+        page.until(lambda: page.script("return document.querySelector('[aria-current]').dataset.path") == "0.0.0", "the move is gone to")
+        self.assertEqual(page.script(focused), "0.0.0")
+        self.press("\ue014")
+        page.until(lambda: page.script(focused) == "0.0.0.0", "the focus goes on with the moves")
+        self.press("\ue010")
+        page.until(lambda: page.script("return document.getElementById('end').getAttribute('aria-disabled')") == "true", "the end is shown")
+        self.press("\ue011")
+        page.until(lambda: page.script("return document.getElementById('start').getAttribute('aria-disabled')") == "true", "the start is shown")
+        self.assertEqual((page.script(focused), page.script(stops)), ("0", [1, 1]))
+        page.script("document.querySelector('[data-path=\"0.0.0\"]').focus()")
+        self.press("\ue007")
+        page.until(lambda: page.script("return document.querySelector('[aria-current]')?.dataset.path") == "0.0.0", "the move is gone to")
+        # what the focused move hangs on is taken out, and the focus is still in the list
+        page.script("window.jatshegi.settled().then(() => document.getElementById('delete').onclick())")
+        page.until(lambda: "Nf3" not in page.moves, "it is taken out")
+        self.assertEqual(page.script(focused), "0.0")
+        for name in ("undo", "redo", "back", "forward", "flip"):
+            page.script("document.getElementById(arguments[0]).focus()", name)
+            for _ in range(3):
+                self.press(" ")
+                self.assertEqual(page.script(focused), name)
+        page.script("document.getElementById('menubutton').focus()")
+        self.press("\ue007")
+        page.until(lambda: page.script(focused) == "new", "the menu is open")
+        self.press("\ue015")
+        self.assertEqual(page.script(focused), "menugames")
+        self.press("\ue00c")
+        page.until(lambda: page.script(focused) == "menubutton", "the menu is closed")
+        # (the board was turned three times)
+        page.script("document.getElementById('flip').click(); document.querySelector('[data-square=e2]').focus()")
+        self.press("\ue008", "\ue013")
+        self.assertEqual(page.script(focused), "e3")
+        page.script("document.querySelector('[data-square=e3]').focus(); document.getElementById('flip').click()")
+        self.assertEqual(page.script(focused), "e3")
+
+
+class InChromium(Looking, unittest.TestCase):
+    @classmethod
+    def setUpClass(cls):
+        cls.folder = tempfile.mkdtemp()
+        cls.browser = test_web.new_browser(cls.folder)
+        cls.page = test_web.Page(cls.browser)
+
+    @classmethod
+    def tearDownClass(cls):
+        cls.browser.quit()
+        shutil.rmtree(cls.folder, ignore_errors=True)
+
+    def tearDown(self):
+        self.browser.execute_cdp_cmd("Emulation.clearDeviceMetricsOverride", {})
+
+
+@unittest.skipUnless(shutil.which("firefox-esr"), "the package firefox-esr is missing")
+class InFirefox(Looking, unittest.TestCase):
+    @classmethod
+    def setUpClass(cls):
+        cls.folder = tempfile.mkdtemp()
+        cls.browser = firefox.Firefox(cls.folder)
+        cls.page = test_web.Page(cls.browser)
+
+    @classmethod
+    def tearDownClass(cls):
+        cls.browser.quit()
+        shutil.rmtree(cls.folder, ignore_errors=True)
+
+    def tearDown(self):
+        self.browser.set_size(1200, 950)
+
+
+if __name__ == "__main__":
+    unittest.main()
