@@ -25,23 +25,19 @@ TAGS = {"tagWhite": "White", "tagBlack": "Black", "tagEvent": "Event"}
 class Browsing:
     """A page of one browser; `new` makes the browser over a folder."""
 
+    @classmethod
+    def setUpClass(cls):
+        cls.folder = tempfile.mkdtemp()
+        cls.browser = cls.new(cls.folder)
+        cls.page = test_web.Page(cls.browser)
+
+    @classmethod
+    def tearDownClass(cls):
+        cls.browser.quit()
+        shutil.rmtree(cls.folder, ignore_errors=True)
+
     def setUp(self):
-        self.folder = tempfile.mkdtemp()
-        self.addCleanup(shutil.rmtree, self.folder, ignore_errors=True)
-        self.begin()
         self.page.open()
-
-    def begin(self):
-        self.browser = self.new(self.folder)
-        self.addCleanup(self.end, self.browser)
-        self.page = test_web.Page(self.browser)
-
-    def end(self, browser):
-        try:
-            browser.quit()
-        except OSError:
-            # (it was killed)
-            pass
 
     def seen(self):
         return self.browser.execute_async_script(SEEN)
@@ -57,9 +53,10 @@ class Browsing:
         self.browser.get("about:blank")
         self.page.open(keeps=True)
 
-    def press(self, *keys):
+    def press(self, *keys, blurs=True):
         """Presses keys together, where no field has the focus."""
-        self.page.script("document.activeElement?.blur()")
+        if blurs:
+            self.page.script("document.activeElement?.blur()")
         if isinstance(self.browser, firefox.Firefox):
             self.browser.perform(*keys)
             return
@@ -250,13 +247,16 @@ class Keeping(Browsing):
             self.press("\ue009", "\ue008", "z")
             self.assertEqual(self.seen()[:3], wanted)
 
-    def test_a_field_undoes_its_own_text(self):
+    def test_a_field_with_a_text_undoes_that_and_an_empty_one_the_move(self):
         page = self.page
-        page.play("e4")
+        page.play("e4", "e5")
         page.at("comment").send_keys("typed")
-        if not isinstance(self.browser, firefox.Firefox):
-            page.at("comment").send_keys("\ue009" + "z")
-        self.assertEqual(page.moves, "1. e4")
+        self.press("\ue009", "z", blurs=False)
+        self.assertEqual((self.seen()[1], page.moves), ("0.0", "1. e4 e5"))
+        page.at("comment").send_keys("\ue00c")
+        page.at("san").click()
+        self.press("\ue009", "z", blurs=False)
+        page.until_moves("1. e4")
 
     def test_a_game_that_no_link_holds_comes_back(self):
         rng = random.Random(1)
@@ -300,15 +300,36 @@ class Keeping(Browsing):
         self.until_text(first)
         self.assertTrue(self.seen()[4])
         page.script("document.querySelectorAll('#own li')[1].lastChild.click()")
-        page.until(lambda: names() == ["Mine"], "one is put away")
+        page.until(lambda: names() == ["Mine"] and page.script("return document.querySelector('#away button') !== null"), "one is put away")
         page.script("document.querySelector('#away button').click()")
         page.until(lambda: names() == ["Mine", "Anna \u2013 ?"], "it is brought back")
         page.script("document.querySelectorAll('#own .open')[1].click()")
         self.until_text(second)
         page.script("document.querySelectorAll('#own li')[1].lastChild.click()")
-        page.until(lambda: page.moves == "" and names()[0] == "Mine", "the one on the board is put away")
+        page.until(lambda: page.moves == "" and page.script("return document.querySelector('#away button') !== null"), "the one on the board is put away")
         page.script("document.querySelector('#away button').click()")
         page.until(lambda: "Anna \u2013 ?" in names(), "it is brought back")
+
+    def test_a_comment_typed_as_its_game_goes_comes_back_with_that(self):
+        """It is typed after another game was asked for, and before that is there."""
+        page = self.page
+        page.play("e4", "e5")
+        page.script("""
+            document.getElementById('new').click();
+            (async () => {
+              // (what was asked for is on its way to the board)
+              for (let i = 0; i < 30; i++) await null;
+              const it = document.getElementById('comment');
+              it.value = 'late';
+              it.dispatchEvent(new Event('input'));
+            })();
+        """)
+        page.until_moves("")
+        self.assertIsNone(self.seen()[3])
+        self.reload()
+        page.script("document.getElementById('undo').click()")
+        page.until_moves("1. e4 e5")
+        self.assertEqual((self.seen()[3], page.script("return document.getElementById('comment').value")), ("late", "late"))
 
     def test_two_windows_with_one_game_lose_nothing(self):
         page = self.page
@@ -375,6 +396,7 @@ class Keeping(Browsing):
         changed = self.text()
         self.reload()
         self.assertEqual(self.text(), changed)
+        page.until(lambda: page.text("howmany") == "3 games, and 1 that can\u2019t be read", "the games are listed again")
         written = self.saved_back(name)
         # (the line that readers pass over stands before the game, and stays)
         self.assertEqual(written.decode(), games[0] + "\n\n% a line that readers pass over\n" + changed.rstrip() + "".join(games[2:]))
@@ -399,8 +421,14 @@ class Keeping(Browsing):
         had = self.seen()
         self.until_kept()
         self.kill()
-        self.begin()
-        self.page.open(keeps=True)
+        try:
+            self.browser.quit()
+        except OSError:
+            # (it has gone)
+            pass
+        type(self).browser = self.new(self.folder)
+        type(self).page = page = test_web.Page(self.browser)
+        page.open(keeps=True)
         self.assertEqual(self.seen(), had)
         self.page.at("comment").send_keys("\ue00c")
         for _ in range(4):
@@ -409,7 +437,8 @@ class Keeping(Browsing):
 
 
 class InChromium(Keeping, unittest.TestCase):
-    def new(self, folder):
+    @staticmethod
+    def new(folder):
         return test_web.new_browser(folder, f"--user-data-dir={folder}/profile")
 
     def kill(self):
@@ -462,7 +491,8 @@ class InChromium(Keeping, unittest.TestCase):
 class InFirefox(Keeping, unittest.TestCase):
     RANDOM_DOINGS = 60
 
-    def new(self, folder):
+    @staticmethod
+    def new(folder):
         return firefox.Firefox(folder)
 
     def kill(self):

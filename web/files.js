@@ -4,7 +4,7 @@ import { begin, doing, exported, game, inTurn, isSettled, page, taken } from './
 import { isAsLoaded, isFresh, noteLoaded } from './mine.js';
 import { fromBytes, toBytes } from './module.js';
 import { shown } from './pgn.js';
-import { hasStore, readFile, writeFile } from './store.js';
+import { hasStore, newFileId, readFile, writeFile } from './store.js';
 import { FAULTS } from './words.js';
 
 const by = (id) => document.getElementById(id);
@@ -108,12 +108,10 @@ export const read = async (bytes, { before = game.acts, file = null } = {}) => {
   else page.told('There is no game in it.');
 };
 
-const newId = () => `f${Date.now().toString(36)}-${Math.random().toString(36).slice(2, 10)}`;
-
 /** Reads a file, which is kept in the browser, so that a game of it can be written back. */
 export const readWhole = async (given, before, handle = null) => {
   const bytes = new Uint8Array(await given.arrayBuffer());
-  const file = { id: newId(), name: given.name, handle };
+  const file = { id: newFileId(), name: given.name, handle };
   if (hasStore()) {
     try {
       await writeFile({ ...file, bytes: new Blob([bytes]) });
@@ -139,6 +137,16 @@ export const choose = async () => {
     return;
   }
   await readWhole(await handle.getFile(), before, handle);
+};
+
+const MOST_LISTED_AGAIN = 4 << 20;
+
+/** Lists the games of the file that the game on the board came from, as after a reload. */
+export const listAgain = async () => {
+  const kept = game.origin && hasStore() ? await readFile(game.origin.file) : null;
+  if (!kept || kept.bytes.size > MOST_LISTED_AGAIN) return;
+  const { id, name, handle } = kept;
+  await read(new Uint8Array(await kept.bytes.arrayBuffer()), { before: null, file: { id, name, handle } });
 };
 
 // ---- Writing.

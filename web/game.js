@@ -80,6 +80,8 @@ const travel = (by) => doing(async () => {
   const wanted = history.states[history.at + by];
   if (!wanted || !await restored(wanted)) return false;
   history.at += by;
+  game.draft = wanted.draft ?? null;
+  delete wanted.draft;
   page.noted();
   page.drawTags();
   page.draw();
@@ -109,12 +111,18 @@ const say = async (all) => {
   return { answers, bad: answers.find((it) => it.startsWith('refused')), state };
 };
 
+// A comment that was typed in the moment in which its node went stays with the state that had it, and comes back with that.
+const leaveDraft = () => {
+  if (game.draft && game.history.here) game.history.here.draft = game.draft;
+  game.draft = null;
+};
+
 // A comment that was typed while the board answered is one of the node that was shown then.
 const settle = async (all, { bad, state }) => {
   if (!game.draft || game.draft.path === state.path) return { bad, state };
   const late = game.draft;
   if (all.includes('promote')) game.draft = { ...late, path: state.path };
-  else if (all.some((it) => it === 'delete' || it === 'new' || it.startsWith('set '))) game.draft = null;
+  else if (all.some((it) => it === 'delete' || it === 'new' || it.startsWith('set '))) leaveDraft();
   else {
     const more = await say([to(late.path), commentLine(late), to(state.path)]);
     if (game.draft === late && !more.bad) game.draft = null;
@@ -197,6 +205,7 @@ export const taken = async (bytes, { path = '-', isBeside = false, origin = null
     page.told(found.status === 16 ? 'There is no game in it.' : `No game: ${faultText(found.status, found.used)}.`);
     return false;
   }
+  leaveDraft();
   if (isBeside) {
     game.history = new History();
     page.beside();
@@ -204,7 +213,7 @@ export const taken = async (bytes, { path = '-', isBeside = false, origin = null
   const { tags, movetext } = parts(found.text);
   game.tags = tags.filter(([name, value]) => !['Result', 'FEN', 'SetUp'].includes(name) && !(ROSTER.includes(name) && /^[?.]+$/.test(value)));
   game.result = marker(movetext);
-  Object.assign(game, { state: found.state, origin, draft: null });
+  Object.assign(game, { state: found.state, origin });
   page.told('');
   note();
   page.drawTags();

@@ -4,7 +4,7 @@ import { moveNow, points, positionChanged, positionDrawn, reply, toggleAnalysis 
 import { Board, man, named } from './board.js';
 import { dialogs, openDialog } from './dialogs.js';
 import { drawMoves, drawPlayers, drawStatus, drawTags, saidHere, showComment } from './draw.js';
-import { choose, download, read, readWhole, saveBack, showCollection } from './files.js';
+import { choose, download, listAgain, read, readWhole, saveBack, showCollection } from './files.js';
 import { begin, exported, game, isSettled, lines, page, redo, settled, stepped, doing, undo } from './game.js';
 import { keepLink, linkNow, linked, openLink } from './link.js';
 import { beside, keep, mine, start } from './mine.js';
@@ -203,8 +203,9 @@ const keys = (event) => {
   const typing = event.target.closest('input, textarea, select');
   const key = event.key.length === 1 ? event.key.toLowerCase() : event.key;
   if (event.ctrlKey || event.metaKey) {
-    // (a field undoes its own text)
-    if (typing || event.altKey) return;
+    // (a field with a text undoes that)
+    const isEmpty = ['san', 'comment'].includes(event.target.id) && event.target.value === '';
+    if ((event.target.closest('input, textarea') && !isEmpty) || event.altKey) return;
     if (key === 'z' && !event.shiftKey) undo();
     else if (key === 'y' || key === 'z') redo();
     else return;
@@ -282,6 +283,7 @@ const main = async () => {
   by('lacking').hidden = true;
   performance.mark('ready');
   document.documentElement.dataset.ready = 'yes';
+  await listAgain();
 };
 
 // For who looks on, from the console or a test.

@@ -1,7 +1,7 @@
 // The games that are kept in this browser: several at once, each with its name and the states that it has been in.
 import { game, beginAlone, doing, inTurn, isSettled, page, shownAgain, tag } from './game.js';
 import { History } from './history.js';
-import { allGames, changeGame, dropGame, hasStore, openStore, readGame, writeGame } from './store.js';
+import { allGames, changeGame, dropFiles, dropGame, hasStore, openStore, readGame, writeGame } from './store.js';
 
 /** `here` is the game on the board; `records` are those that are kept; `trouble` is why nothing is kept, `failed` why the last change isn’t. */
 export const mine = { here: null, records: [], trouble: '', failed: '' };
@@ -27,7 +27,7 @@ const remembered = () => {
 
 const newId = () => `${Date.now().toString(36)}-${Math.random().toString(36).slice(2, 10)}`;
 
-// A game that isn't in the store yet; `kept` has the path with which each of its states is there.
+// A game that isn't in the store yet; `kept` has the `mark` with which each of its states is there.
 const fresh = () => {
   const serial = Math.max(mine.here?.record.serial ?? 0, ...mine.records.map((it) => it.serial)) + 1;
   const record = { id: newId(), serial, name: '', players: '', version: 0, made: Date.now(), removed: 0, link: '' };
@@ -60,22 +60,26 @@ const players = ({ tags }) => {
   return white || black ? `${white || '?'} \u2013 ${black || '?'}` : '';
 };
 
+// What of a state that was written may change: its place, and a comment that was left with it.
+const mark = ({ path, draft }) => JSON.stringify([path, draft ?? null]);
+
 // What is to be written: the record, and the states that aren't in the store as they are. The place of the state that is there now is the record's.
 const snapshot = (it) => {
   const { history, kept } = it;
   const states = history.states.map((state, i) => ({ state, number: history.first + i }))
-    .filter(({ state, number }) => !kept.has(state) || (number !== history.number && kept.get(state) !== state.path));
-  it.record = { ...it.record, players: players(history.here), draft: it.draft, at: history.number, path: history.here.path, changed: Date.now() };
+    .filter(({ state, number }) => !kept.has(state) || (number !== history.number && kept.get(state) !== mark(state)));
+  const files = [...new Set(history.states.map(({ origin }) => origin?.file).filter(Boolean))];
+  it.record = { ...it.record, files, players: players(history.here), draft: it.draft, at: history.number, path: history.here.path, changed: Date.now() };
   return { states, record: { ...it.record, version: it.record.version + 1 }, first: history.first, last: history.last };
 };
 
 const written = async (it, { states, record, first, last }) => {
   const rows = states.map(({ state, number }) => ({ ...state, game: record.id, number }));
-  const paths = states.map(({ state }) => state.path);
+  const marks = states.map(({ state }) => mark(state));
   const isOurs = await writeGame(record, { was: record.version - 1, states: rows, first, last });
   if (isOurs) {
     it.record.version = record.version;
-    states.forEach(({ state }, i) => it.kept.set(state, paths[i]));
+    states.forEach(({ state }, i) => it.kept.set(state, marks[i]));
     mine.records = [...mine.records.filter(({ id }) => id !== record.id), record];
     return;
   }
@@ -145,9 +149,10 @@ const opened = async (id) => {
   }
   const first = states[0].number;
   const kept = new WeakMap();
-  const all = states.map(({ tags, result, origin, pgn, path }) => ({ tags, result, origin, pgn, path }));
-  all.forEach((state) => kept.set(state, state.path));
+  const all = states.map(({ game: _, number, ...state }) => state);
+  all.forEach((state) => kept.set(state, mark(state)));
   all[at].path = record.path;
+  delete all[at].draft;
   const history = new History(all, at, first);
   const draft = record.draft ?? null;
   return shownAgain(history, draft, () => put({ record, history, draft, kept, isDirty: false, saving: null }));
@@ -210,6 +215,7 @@ export const start = async (showing, wanted) => {
   try {
     await openStore();
     mine.records = await allGames();
+    await dropFiles(new Set(mine.records.flatMap((it) => it.files ?? [])));
   } catch (error) {
     mine.trouble = `Nothing is kept in this browser: ${error.message}`;
   }

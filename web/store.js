@@ -96,6 +96,23 @@ export const dropGame = async (id) => {
   await end;
 };
 
+const DAY = 24 * 60 * 60 * 1000;
+
+/** Names for files: each has in it when it was opened. */
+export const newFileId = () => `f${Date.now().toString(36)}-${Math.random().toString(36).slice(2, 10)}`;
+const ageOf = (id) => Date.now() - parseInt(id.slice(1), 36);
+
+/** Takes out the files that no game came from, once they are a day old: another window may be about to take a game from them. */
+export const dropFiles = async (wanted) => {
+  const transaction = db.transaction('files', 'readwrite');
+  const end = ended(transaction);
+  const files = transaction.objectStore('files');
+  files.getAllKeys().onsuccess = ({ target }) => {
+    for (const id of target.result) if (!wanted.has(id) && ageOf(id) > DAY) files.delete(id);
+  };
+  await end;
+};
+
 export const readFile = (id) => answer(db.transaction('files').objectStore('files').get(id));
 
 /** Keeps a file, and changes the records of games with it, all or nothing. */
