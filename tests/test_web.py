@@ -517,17 +517,18 @@ class InTheBrowser(unittest.TestCase):
     def test_a_file_of_many_games(self):
         from selenium.webdriver.common.by import By
         page = self.page
-        games = [b'[White "One"]\n[Black "Two"]\n\n1. e4 e5 1-0\n\n', b'[White "Bad"]\n\n1. e4 e4 *\n\n', b'[White "Three"]\n[Black "Four"]\n\n1. d4 d5 2. c4 0-1\n\n', b'[White "Five"]\n\n1. c4 *\n']
+        games = [b'[White "One"]\n[Black "Two"]\n\n1. e4 e5 1-0\n\n', b'[White "Bad"]\n\n1. e4 e4 *\n\n', b'[White "Three"]\n[Black "Four"]\n\n1. d4 d5 2. c4 0-1\n\n', b'[White "Five"]\n\n1. c4 *\n\n', b'[ECO "B20"]\n[Opening "Sicilian"]\n\n1. e4 c5 *\n']
         with tempfile.NamedTemporaryFile(suffix=".pgn") as file:
             file.write(b"".join(games))
             file.flush()
             page.at("file").send_keys(file.name)
-            page.until(lambda: page.text("howmany") == "3 games, and 1 that can’t be read", "the games are listed")
+            page.until(lambda: page.text("howmany") == "4 games, and 1 that can’t be read", "the games are listed")
         place = len(games[0]) + games[1].index(b"e4 *")
         self.assertIn(f"2. Can’t be read: a word that names no legal move, at byte {place}", page.text("games"))
         page.until_moves("1. e4 e5")
-        page.type("find", "four", then="")
-        page.until(lambda: page.script("return document.querySelectorAll('#games li').length") == 1, "one is found")
+        for words in ("sicilian", "four"):
+            page.type("find", words, then="")
+            page.until(lambda: page.script("return document.querySelectorAll('#games li').length") == 1 and ("B20" in page.text("games")) == (words == "sicilian"), "one is found")
         self.browser.find_element(By.CSS_SELECTOR, "#games button").click()
         page.until_moves("1. d4 d5 2. c4")
         self.assertEqual(self.saved(), chess("pgn", given=games[2]).stdout)

@@ -78,7 +78,7 @@ class Model:
     def __init__(self, jatshegi):
         self.jatshegi = jatshegi
         self.board, self.tags, self.result, self.draft = jatshegi.Board(), {}, "*", None
-        self.states, self.at = [], -1
+        self.states, self.at, self.is_kept = [], -1, False
         self.note()
 
     def exported(self):
@@ -94,6 +94,7 @@ class Model:
             return
         self.states[self.at + 1:] = [state]
         self.at += 1
+        self.is_kept = self.is_kept or self.at > 0
 
     def settle(self):
         if self.draft is not None:
@@ -142,17 +143,32 @@ GAMES = [
 class Keeping(Browsing):
     """The tests, for each browser."""
 
-    RANDOM_DOINGS = 150
+    RANDOM_DOINGS = 160
 
-    def doing(self, rng, model):
-        """One random thing on the page and beside it."""
+    def doing(self, rng, models, model):
+        """One random thing on the page and beside it: what was done, and the model of the game that is then on the board."""
         page, keys = self.page, {"ctrl": "\ue009", "shift": "\ue008"}
         what = rng.choice(["play"] * 6 + ["type"] * 2 + ["undo", "undo", "ctrl-z", "redo", "ctrl-y", "ctrl-shift-z", "reload", "reload"]
-                          + ["illegal", "enter", "escape", "back", "forward", "start", "end", "nag", "delete", "promote", "tag", "result", "new", "fen", "paste"])
+                          + ["another", "open", "open", "illegal", "enter", "escape", "back", "forward", "start", "end", "nag", "delete", "promote", "tag", "result", "new", "fen", "paste"])
         board = model.board
         if what == "type":
             model.draft = rng.choice(["good", "so-so", "sch\u00f6n (it) is; $5 %", "a } brace", "word " * 12 + "end"]) + f" {rng.randrange(1000)}"
             page.type("comment", model.draft, then="")
+            model.is_kept = True
+        elif what in ("another", "open"):
+            at = rng.randrange(len(models))
+            if what == "another":
+                page.script("document.getElementById('another').click()")
+            else:
+                page.script("document.querySelectorAll('#own .open')[arguments[0]].click()", at)
+            if (what == "open" and models[at] is model) or not model.settle():
+                return what, model
+            other = Model(test_web.library()) if what == "another" else models[at]
+            if not model.is_kept:
+                models.remove(model)
+            if what == "another":
+                models.append(other)
+            return what, other
         elif what == "escape":
             page.at("comment").send_keys("\ue00c")
             model.draft = None
@@ -195,12 +211,10 @@ class Keeping(Browsing):
             text = rng.choice(GAMES)
             page.paste(text)
             model.load(text)
-        elif what in ("back", "start", "delete", "promote") and board.line("path") == "-":
-            page.script("document.getElementById(arguments[0]).click()", what)
         else:
             page.script("document.getElementById(arguments[0]).click()", what)
             model.do("step 0" if what == "forward" else what)
-        return what
+        return what, model
 
     def retag(self, model, tags, result):
         """The names and the result are changed at once, and no comment that is being typed is set by it."""
@@ -210,9 +224,12 @@ class Keeping(Browsing):
 
     def test_random_doings_undone_and_reloaded_lose_nothing(self):
         rng, model, done = random.Random(65), Model(test_web.library()), []
+        models = [model]
         for _ in range(self.RANDOM_DOINGS):
-            done.append(self.doing(rng, model))
-            # (what is pasted comes when it has been read)
+            what, model = self.doing(rng, models, model)
+            done.append(what)
+            # (what is pasted comes when it has been read, and the list of games when they are kept)
+            self.page.until(lambda: self.page.script("return document.querySelectorAll('#own .open').length") == len(models), f"after {done[-8:]}: {len(models)} games")
             self.page.until(lambda: self.seen() == model.seen(), f"after {done[-8:]}: {model.seen()}, not {self.seen()}")
         while model.at > 0:
             model.draft = None
@@ -388,12 +405,19 @@ class Keeping(Browsing):
             page.until(lambda: page.text("howmany") == "3 games, and 1 that can\u2019t be read", "the games are listed")
             name = os.path.basename(file.name)
         page.until_moves("1. e4 e5")
+        # (it is kept, though nothing was done with it)
+        page.until(lambda: page.text("gamename") == "One \u2013 ?", "it has its name")
+        first = self.text()
+        self.reload()
+        self.assertEqual(self.text(), first)
+        page.until(lambda: page.text("howmany").startswith("3 games"), "the games are listed again")
         for number in (1, 2, 1):
             page.script("document.querySelectorAll('#games button')[arguments[0]].click()", number)
             page.until(lambda: ("c4" if number == 2 else "d4") in page.moves, "it is on the board")
         page.play("c4")
         page.script("document.getElementById('tagBlack').value = 'Black'; document.getElementById('tagBlack').dispatchEvent(new Event('change'))")
         changed = self.text()
+        self.assertEqual(page.script("return document.querySelectorAll('#own .open').length"), 2)
         self.reload()
         self.assertEqual(self.text(), changed)
         page.until(lambda: page.text("howmany") == "3 games, and 1 that can\u2019t be read", "the games are listed again")

@@ -15,11 +15,18 @@ let collection = { bytes: null, file: null, found: [], bad: 0, wrong: 0, isWhole
 
 // ---- The list.
 
+const isKnown = (value) => /[^?.*\s]/.test(value);
+
+// A game by its players, or where it names none by its opening.
 const label = (it) => {
   if (it.fault !== undefined) return `${it.number}. Can\u2019t be read: ${it.fault < 0 ? 'no memory' : FAULTS[it.fault]}, at byte ${it.place}`;
-  const tag = (name) => shown(it.tags.find(([is]) => is === name)?.[1] ?? '?');
-  return `${it.number}. ${tag('White')} \u2013 ${tag('Black')} ${tag('Result')} ${tag('Event')} ${tag('Date')}${it.finding ? ` \u2014 ${it.finding}` : ''}`;
+  const tag = (name) => shown(it.tags.find(([is]) => is === name)?.[1] ?? '');
+  const known = (...names) => names.map(tag).filter(isKnown).join(' ');
+  const players = known('White', 'Black') ? `${tag('White') || '?'} \u2013 ${tag('Black') || '?'}` : known('ECO', 'Opening', 'Variation');
+  return `${it.number}. ${[players || '? \u2013 ?', known('Result', 'Event', 'Date')].filter(Boolean).join(' ')}${it.finding ? ` \u2014 ${it.finding}` : ''}`;
 };
+
+const has = (it, words) => it.label.toLowerCase().includes(words) || (it.tags ?? []).some(([, value]) => shown(value).toLowerCase().includes(words));
 
 const originOf = (it) => (collection.file ? { file: collection.file.id, number: it.number } : null);
 
@@ -53,7 +60,7 @@ export const showCollection = () => {
   if (listing.of !== collection || listing.words !== words) by('games').replaceChildren();
   listing = { of: collection, words };
   const { found, bad, wrong } = collection;
-  const matches = found.filter((it) => it.label.toLowerCase().includes(words));
+  const matches = words ? found.filter((it) => has(it, words)) : found;
   by('games').append(...matches.slice(by('games').children.length, MOST_SHOWN).map(entry));
   by('howmany').textContent = `${found.length - bad} games${bad ? `, and ${bad} that can\u2019t be read` : ''}${wrong ? `; ${wrong} with a finding` : ''}${matches.length > MOST_SHOWN ? `; the first ${MOST_SHOWN} are shown` : ''}`;
 };

@@ -53,7 +53,7 @@ page.draw = () => {
 };
 page.drawTags = drawTags;
 page.noted = keep;
-page.beside = beside;
+page.beside = () => beside(false);
 
 // ---- What a person does.
 
@@ -87,8 +87,8 @@ const flip = () => {
 };
 const can = (id) => by(id).getAttribute('aria-disabled') !== 'true';
 // (asked in turn: keys come faster than what they ask for is drawn)
-const back = () => doing(() => can('back') && stepped('back'));
-const forward = () => doing(() => can('forward') && stepped('step 0'));
+const back = () => doing(() => (can('back') ? stepped('back') : isSettled()));
+const forward = () => doing(() => (can('forward') ? stepped('step 0') : isSettled()));
 const toStart = () => lines('start');
 const toEnd = () => lines('end');
 

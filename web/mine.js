@@ -31,14 +31,17 @@ const newId = () => `${Date.now().toString(36)}-${Math.random().toString(36).sli
 const fresh = () => {
   const serial = Math.max(mine.here?.record.serial ?? 0, ...mine.records.map((it) => it.serial)) + 1;
   const record = { id: newId(), serial, name: '', players: '', version: 0, made: Date.now(), removed: 0, link: '' };
-  return { record, history: game.history, draft: null, kept: new WeakMap(), isDirty: false, saving: null };
+  return { record, history: game.history, draft: null, kept: new WeakMap(), isDirty: false, saving: null, isEmpty: true };
 };
 
 /** What a game is called: by the name that was given to it, else by its players, else by its number. */
 export const nameOf = ({ name, players, serial }) => name || players || `Game ${serial}`;
 
 /** Whether nothing has been done with the game on the board. */
-export const isFresh = () => mine.here.record.version === 0 && mine.here.history.last === 0 && !game.draft && !mine.here.record.name;
+export const isFresh = () => {
+  const { isEmpty, record, history } = mine.here;
+  return isEmpty && record.version === 0 && history.last === 0 && !game.draft && !record.name;
+};
 
 /** Whether the game on the board is as it came from a file. */
 export const isAsLoaded = () => game.origin !== null && mine.here.record.loaded === mine.here.history.number && mine.here.history.last === mine.here.history.number && !game.draft;
@@ -136,8 +139,8 @@ const put = (it) => {
   showKept();
 };
 
-/** The game that is on the board is one beside those that are kept. */
-export const beside = () => put(fresh());
+/** The game that is on the board is one beside those that are kept: an empty one, or one that was read. */
+export const beside = (isEmpty = true) => put({ ...fresh(), isEmpty });
 
 const opened = async (id) => {
   await mine.here?.saving;
