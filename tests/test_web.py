@@ -532,6 +532,11 @@ class InTheBrowser(unittest.TestCase):
         self.browser.find_element(By.CSS_SELECTOR, "#games button").click()
         page.until_moves("1. d4 d5 2. c4")
         self.assertEqual(self.saved(), chess("pgn", given=games[2]).stdout)
+        # what is no game takes neither the board nor the list
+        for garbage, said in (("zzz", "names no legal move"), (" ", "There is no game in it.")):
+            page.paste(garbage)
+            page.until_told(said)
+            self.assertEqual((page.moves, page.text("howmany"), page.at("collection").is_displayed()), ("1. d4 d5 2. c4", "4 games, and 1 that can’t be read", True))
 
     def test_a_file_of_games_with_findings(self):
         page = self.page

@@ -11,7 +11,7 @@ const by = (id) => document.getElementById(id);
 const MOST_SHOWN = 500;
 
 // The games that were read last: the bytes, what was found in them, and the file, where they are of one: `{id, name, handle}`.
-let collection = { bytes: null, file: null, found: [], bad: 0, wrong: 0, isWhole: false };
+let collection = { bytes: null, file: null, found: [], bad: 0, wrong: 0, first: null, isLoaded: null };
 
 // ---- The list.
 
@@ -78,7 +78,8 @@ export const read = async (bytes, { before = game.acts, file = null } = {}) => {
     await begin(`set ${fromBytes(bytes).trim()}`);
     return;
   }
-  const mine = { bytes, file, found: [], bad: 0, wrong: 0, first: null, isLoaded: null, isWhole: false };
+  const old = collection;
+  const mine = { bytes, file, found: [], bad: 0, wrong: 0, first: null, isLoaded: null };
   collection = mine;
   by('collection').hidden = true;
   // (`before` is null where none is to come on the board)
@@ -89,7 +90,8 @@ export const read = async (bytes, { before = game.acts, file = null } = {}) => {
     return isTaken;
   });
   const show = () => {
-    by('collection').hidden = mine.found.length < 2 && !mine.bad && mine.isLoaded !== false;
+    const { found, bad, isLoaded } = collection;
+    by('collection').hidden = found.length < 2 && !bad && isLoaded !== false;
     showCollection();
   };
   const add = (found) => {
@@ -106,7 +108,8 @@ export const read = async (bytes, { before = game.acts, file = null } = {}) => {
   add((await ask('games', { bytes }, add)).found);
   await mine.first;
   if (collection !== mine) return;
-  mine.isWhole = true;
+  // (a text without a game leaves the list that was there)
+  if (!file && !mine.first && old.first) collection = old;
   show();
   if (before === null) return;
   if (mine.first) {
