@@ -146,7 +146,8 @@ class Page:
         assert said == "", said
 
     def open(self, fragment="", keeps=False):
-        """Opens the page, in a browser that knows nothing of it but where it `keeps` what was there."""
+        """Opens the page, in a browser that knows nothing of it but where it `keeps` what was there. What is being kept is waited for."""
+        self.until(lambda: self.script("return document.documentElement.dataset.kept") != "no", "all is kept")
         self.browser.get("about:blank")
         if not keeps:
             self.forget()

@@ -49,10 +49,10 @@ page.draw = () => {
   positionDrawn(game.isMoved);
   game.isMoved = false;
   keepLink(view.turned);
-  keep();
+  keep(false);
 };
 page.drawTags = drawTags;
-page.noted = keep;
+page.noted = () => keep();
 page.beside = () => beside(false);
 
 // ---- What a person does.

@@ -102,6 +102,7 @@ const save = async (it) => {
       await written(it, snapshot(it));
       mine.failed = '';
     }
+    it.isMade = false;
   } catch (error) {
     it.isDirty = true;
     mine.failed = `The last change could not be kept in the browser: ${error.message}`;
@@ -112,8 +113,8 @@ const save = async (it) => {
   }
 };
 
-/** Keeps the game on the board as it is now. */
-export const keep = () => {
+/** Keeps the game on the board as it is now; `isMade` is whether a person did something with it, so that the page isn't left before it is kept. */
+export const keep = (isMade = true) => {
   const it = mine.here;
   if (!it || mine.trouble) return;
   if (isFresh()) {
@@ -122,13 +123,14 @@ export const keep = () => {
   }
   it.draft = game.draft;
   it.isDirty = true;
+  it.isMade ||= isMade;
   it.saving ??= save(it);
 };
 
 export const keepLinkOf = (link) => {
   if (!mine.here || mine.here.record.link === link) return;
   Object.assign(mine.here.record, { link, linkAt: mine.here.history.number });
-  keep();
+  keep(false);
 };
 
 // ---- From one game to another.
@@ -224,7 +226,7 @@ export const start = async (showing, wanted) => {
   }
   beside();
   addEventListener('beforeunload', (event) => {
-    if (unkept) event.preventDefault();
+    if (unkept && mine.here.isMade) event.preventDefault();
   });
   if (!hasStore()) return 'none';
   const live = mine.records.filter((it) => !it.removed);
