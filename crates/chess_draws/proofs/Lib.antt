@@ -5,6 +5,7 @@ pub mod SetLemmas
 pub mod DeadLemmas
 pub mod TargetLemmas
 pub mod SameLemmas
+pub mod IdentityLemmas
 pub mod PlyLemmas
 pub mod LineLemmas
 pub mod Weights

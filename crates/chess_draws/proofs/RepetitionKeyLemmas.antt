@@ -73,7 +73,7 @@ men_agree : (a b : Option Man) → is_of White a ≡ is_of White b → is_of Bla
 men_agree a b white black straight diagonal short =
     sym (man_told a) ∙ (λ i. man_by (white i) (black i) (straight i) (diagonal i) (short i)) ∙ man_told b
 
-bool_is : (x y : Bool) → same_bool x y ≡ true → x ≡ y
+pub bool_is : (x y : Bool) → same_bool x y ≡ true → x ≡ y
 bool_is true true h = refl
 bool_is true false h = sym h
 bool_is false true h = h

@@ -7,6 +7,7 @@
 
 mod dead;
 mod fault;
+mod laws;
 mod line;
 mod look_back;
 mod men;
@@ -18,4 +19,5 @@ mod target;
 
 pub use chess_types::{Claims, Status};
 pub use fault::LineFault;
+pub use laws::identity_laws;
 pub use line::Line;

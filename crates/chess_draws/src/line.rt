@@ -10,6 +10,7 @@ ghost use Rattle.chess_types.specs.board.Lines.{AreLegal, Line as LineOf, last, 
 ghost use Rattle.chess_types.specs.board.Repetition.{is_same, repetitions};
 ghost use Rattle.chess_types.specs.board.Outcome.{status, claims, claims_with, winner};
 ghost use Rattle.chess_attack.specs.KeptCounts.{changed_of};
+ghost use Rattle.chess_fen.specs.Writing.{identity};
 ghost use Rattle.chess_san.specs.Naming.{san_reading};
 ghost use Rattle.chess_san.specs.Writing.{mark_text, san};
 ghost use Rattle.chess_draws.specs.declared.fault.LineFault.TheVariants.{Memory};
@@ -25,6 +26,7 @@ use crate::status::{claims_at, is_drawn_at, status_at};
 use crate::step::{step, step_back};
 use crate::target::begin;
 use arrayvec::{ArrayString, ArrayVec};
+use chess_fen::write_fields;
 use chess_key::KeyTable;
 use chess_moves::{has_legal, in_check, is_legal, moves, moves_into};
 use chess_play::Live;
@@ -329,6 +331,14 @@ impl<'k, A: Allocator> Line<'k, A> {
             unreachable!();
         };
         Position::new(setup)
+    }
+
+    /// The text by which the Laws tell positions apart (FIDE Laws 9.2.3): the first four fields of the last position's FEN, with the en passant target only where
+    /// a legal move captures on it. Two positions are the same exactly where they have the same text (`identity_laws`).
+    pub fn identity(&self) -> ArrayString<128>
+        ensures { result.bytes ≡ identity (last self.now.line) }
+    {
+        write_fields(self.live.position(), self.here.target)
     }
 
     /// The legal moves of the last position, in order (FIDE Laws 3.1 to 3.10).

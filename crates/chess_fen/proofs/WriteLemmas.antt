@@ -50,9 +50,13 @@ module _ (cells : List (Option Man)) (len : length cells ≡ 64) where
       rw (here, is, slash, eight, first, ← rank_text-cells rank (omega arith))
       (simp append_assoc so_far)
 
--- the fields one after another
-pub six_fields : (t0 t1 t2 t3 t4 t5 t6 t7 t8 t9 t10 t11 a b c d e f : List ℕ) → t0 ≡ [] → t1 ≡ t0 ++ a → t2 ≡ t1 ++ 32 ∷ [] → t3 ≡ t2 ++ b → t4 ≡ t3 ++ 32 ∷ [] → t5 ≡ t4 ++ c → t6 ≡ t5 ++ 32 ∷ []
-    → t7 ≡ t6 ++ d → t8 ≡ t7 ++ 32 ∷ [] → t9 ≡ t8 ++ e → t10 ≡ t9 ++ 32 ∷ [] → t11 ≡ t10 ++ f
-    → t11 ≡ join_with_byte 32 (a ∷ b ∷ c ∷ d ∷ e ∷ f ∷ [])
-six_fields t0 t1 t2 t3 t4 t5 t6 t7 t8 t9 t10 t11 a b c d e f e0 e1 e2 e3 e4 e5 e6 e7 e8 e9 e10 e11 =
-    rw (e11, e10, e9, e8, e7, e6, e5, e4, e3, e2, e1, e0) (simp append_assoc)
+-- two fields after the first four
+pub two_more : (t0 t1 t2 t3 t4 a b c d e f : List ℕ) → t0 ≡ join_with_byte 32 (a ∷ b ∷ c ∷ d ∷ []) → t1 ≡ t0 ++ 32 ∷ [] → t2 ≡ t1 ++ e → t3 ≡ t2 ++ 32 ∷ [] → t4 ≡ t3 ++ f
+    → t4 ≡ join_with_byte 32 (a ∷ b ∷ c ∷ d ∷ e ∷ f ∷ [])
+two_more t0 t1 t2 t3 t4 a b c d e f e0 e1 e2 e3 e4 =
+    let first : List ℕ = a ++ 32 ∷ (b ++ 32 ∷ (c ++ 32 ∷ d)) in
+    let rest : List ℕ = 32 ∷ (e ++ 32 ∷ f) in
+    e4 ∙ ap (λ (t : List ℕ). t ++ f) (e3 ∙ ap (λ (t : List ℕ). t ++ 32 ∷ []) (e2 ∙ ap (λ (t : List ℕ). t ++ e) (e1 ∙ ap (λ (t : List ℕ). t ++ 32 ∷ []) e0)))
+    ∙ append_assoc ((first ++ 32 ∷ []) ++ e) (32 ∷ []) f ∙ append_assoc (first ++ 32 ∷ []) e (32 ∷ f) ∙ append_assoc first (32 ∷ []) (e ++ 32 ∷ f)
+    ∙ append_assoc a (32 ∷ (b ++ 32 ∷ (c ++ 32 ∷ d))) rest
+    ∙ ap (λ (t : List ℕ). a ++ 32 ∷ t) (append_assoc b (32 ∷ (c ++ 32 ∷ d)) rest ∙ ap (λ (t : List ℕ). b ++ 32 ∷ t) (append_assoc c (32 ∷ d) rest))

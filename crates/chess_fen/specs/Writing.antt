@@ -3,6 +3,8 @@
 --   side_text        the side to move (PGN 16.1.3.2)
 --   rights_text      the castling rights held (PGN 16.1.3.3)
 --   target_text      the en passant target (PGN 16.1.3.4)
+--   four_fields      the first four of them, with that target
+--   identity         the text by which the Laws tell positions apart (FIDE Laws 9.2.3)
 --   written          the whole text, with the halfmove clock and the fullmove number (PGN 16.1.3.5 and 16.1.3.6)
 use Rattle.std.specs.Prelude.{ℕ, ◌+◌, ◌*◌, ◌==◌, Bool, if◌then◌else◌, List, [], ◌∷◌, ◌++◌, map, Option, Some, None, codes, decimal}
 use Rattle.std.specs.List.{range_with_len, join_with_byte}
@@ -13,6 +15,7 @@ use Rattle.chess_types.specs.declared.board.man.Man.{Man}
 use Rattle.chess_types.specs.declared.board.position.Rights.{Rights}
 use Rattle.chess_types.specs.board.Board.{Men}
 use Rattle.chess_types.specs.board.Position.{PositionParts, man_on}
+use Rattle.chess_types.specs.board.Repetition.{counting_target}
 use Rattle.chess_types.specs.board.Texts.{man_letter, square_text}
 
 -- the digit of so many empty squares, up to eight; nothing for none
@@ -61,6 +64,14 @@ rights_text rights =
 unfoldable pub target_text : Option ℕ → List ℕ
 target_text None = codes "-"
 target_text (Some square) = square_text square
+
+-- the men, the side to move, the castling rights, and that target in place of the position's own
+unfoldable pub four_fields : PositionParts → Option ℕ → List ℕ
+four_fields p target = join_with_byte (byte " ") (placement_text (man_on p) ∷ side_text p.side ∷ rights_text p.rights ∷ target_text target ∷ [])
+
+-- the same with the target where a pawn can be captured there, else with none
+abbrev pub identity : PositionParts → List ℕ
+identity p = four_fields p (counting_target p)
 
 -- the FEN of a position
 unfoldable pub written : PositionParts → List ℕ

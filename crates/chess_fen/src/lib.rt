@@ -17,4 +17,4 @@ mod writer;
 
 pub use fault::FenFault;
 pub use reader::read;
-pub use writer::write;
+pub use writer::{write, write_fields};

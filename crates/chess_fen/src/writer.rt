@@ -3,11 +3,12 @@ ghost use Rattle.arrayvec.specs.ArrayString.{array_string_len};
 ghost use Rattle.chess_types.specs.declared.board.man.Man.{Man};
 ghost use Rattle.chess_types.specs.board.Board.{man_at};
 ghost use Rattle.chess_types.specs.board.Cells.{board_of};
+ghost use Rattle.chess_types.specs.board.Position.{man_on};
 ghost use Rattle.chess_fen.specs.Reading.{fen_reading};
-ghost use Rattle.chess_fen.specs.Writing.{run_text, cells_text, placement_text, side_text, rights_text, target_text, written};
+ghost use Rattle.chess_fen.specs.Writing.{run_text, cells_text, four_fields, placement_text, side_text, rights_text, target_text, written};
 
 use arrayvec::ArrayString;
-use chess_types::{Colour, Man, Position, Rights, Square};
+use chess_types::{Colour, Man, Position, Rights, Setup, Square};
 use itoa::Buffer;
 
 // An ASCII character. The bound shows the compiler that it takes one byte.
@@ -133,6 +134,23 @@ fn target_text(target: Option<Square>) -> ArrayString<2>
     }
 }
 
+/// The first four fields of the FEN of a position, with that en passant target in place of its own, separated by one space.
+#[tactic(auto, unfolding(crate::specs::Writing::four_fields))]
+pub fn write_fields(setup: &Setup, target: Option<Square>) -> ArrayString<128>
+    ensures bytes { result.bytes ≡ four_fields setup.now target }
+    ensures len { array_string_len result ≤ 81 }
+    ensures on_board { (s : ℕ) → 64 ≤ s → man_on setup.now s ≡ None }
+{
+    let mut text = placement_text(setup.placement.cells());
+    text.push_str(" ");
+    text.push_str(side_text(setup.side));
+    text.push_str(" ");
+    text.push_str(&rights_text(setup.rights));
+    text.push_str(" ");
+    text.push_str(&target_text(target));
+    text
+}
+
 /// The FEN of a position (PGN 16.1.3), 128 bytes at most: six fields separated by one space. The rights that are held stand in
 /// the order `KQkq`, and a target is written whenever the position has one. `read` reads the position back from it where both
 /// counters are at most 99,999.
@@ -142,13 +160,7 @@ pub fn write(position: &Position) -> ArrayString<128>
     ensures read_back { position.now.clock ≤ 99999 → position.now.number ≤ 99999 → fen_reading result.bytes ≡ Ok position.now }
 {
     let setup = position.setup();
-    let mut text = placement_text(setup.placement.cells());
-    text.push_str(" ");
-    text.push_str(side_text(setup.side));
-    text.push_str(" ");
-    text.push_str(&rights_text(setup.rights));
-    text.push_str(" ");
-    text.push_str(&target_text(setup.target));
+    let mut text = write_fields(setup, setup.target);
     text.push_str(" ");
     text.push_str(Buffer::new().format(setup.clock));
     text.push_str(" ");
