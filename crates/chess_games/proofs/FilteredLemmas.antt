@@ -1,6 +1,6 @@
 -- Games read and written one after another.
 use Rattle.std.proofs.Common.{◌≡◌, ◌≢◌, inl, inr, ℕ, ◌+◌, ◌≤◌, Bool, true, false, if◌then◌else◌, List, [], ◌∷◌, ◌++◌, length, refl, sym, ap, subst, ◌∙◌, arith, append_assoc, append-nil, Option, Result, Ok, Err, Some, None}
-use Rattle.std.specs.Prelude.{IfErr, IfOk, IfSome}
+use Rattle.std.specs.Prelude.{IfErr, IfOk, IfSome, IsErrAnd}
 use Rattle.byte_streams.specs.Calls.{Carries}
 use Rattle.byte_streams.proofs.CallLemmas.{Carries-none, Carries-append}
 use Rattle.chess_items.specs.Coming.{AtHand}
@@ -12,8 +12,12 @@ use Rattle.chess_pgn.specs.Written.{game_text}
 use Rattle.chess_pgn.specs.declared.game.Game.{Game as Code}
 use Rattle.chess_pgn.specs.steps.GameCode.{game_of}
 use Rattle.chess_pgn.specs.declared.games.GamesFault.{GamesFault}
-use Rattle.chess_pgn.specs.declared.games.GamesFault.TheVariants.{Pgn}
-use Rattle.chess_games.specs.Filtered.{Entry, Good, Bad, Goes, good_text, bad_count, IsFresh, IsGoneOver, IsFiltered}
+use Rattle.chess_pgn.specs.declared.games.GamesFault.TheVariants.{Pgn, Read}
+use Rattle.chess_items.proofs.BreakLemmas.{came_none}
+use Rattle.chess_programs.specs.declared.collection.Failure.{Failure}
+use Rattle.chess_programs.specs.declared.collection.Failure.TheVariants as by
+use Rattle.chess_games.specs.Filtered.{Entry, Good, Bad, Goes, good_text, bad_count, IsFilteredInPart, IsFresh, IsGoneOver, IsFiltered, IsLeftOff, IsUnwritten, NoNext, Stops, most_games}
+use Rattle.chess_games.specs.steps.Leaving.{IsFor, NotPassed}
 use Rattle.chess_games.specs.Parts.{Part, is_in}
 
 good_text-append : (part : Part) (before : ℕ) (entries : List Entry) (entry : Entry) → good_text part before (entries ++ entry ∷ []) ≡ good_text part before entries ++ good_text part (before + length entries) (entry ∷ [])
@@ -75,24 +79,41 @@ module _ {R : Type 0} (gives : R → List ℕ → R → Type 0) (failed : R → 
   fails_there m f fault (inl starves) k = absurd (k starves.0)
   fails_there m f fault (inr fails) k = fails
 
+  -- a fault after which reading doesn't go on
+  pub stops_there : (m f : AtHand R) (fault : GamesFault) (failure : Failure) → IsFor failure fault → HasFault gives failed ended m f fault → NoNext gives failed ended m f failure
+  stops_there m f Read by.Read is has = inl has
+  stops_there m f (Pgn fault) by.Memory is (inl starves) = inl starves.1
+  stops_there m f (Pgn fault) by.Memory is (inr fails) = inr (f, [], fails, came_none gives failed f f refl refl refl refl)
+  stops_there m f (Pgn fault) by.Read is has = absurd is
+  stops_there m f fault by.Write is has = absurd is
+  stops_there m f Read by.Memory is has = absurd is
+
+  -- a bad game that isn't passed over
+  pub stops_past : (m f n : AtHand R) (fault : PgnFault) (failure : Failure) → HasFault gives failed ended m f (Pgn fault) → fault.kind ≢ lacks.Memory → NotPassed gives failed f n failure → NoNext gives failed ended m n failure
+  stops_past m f n fault by.Read h k p = inr (f, fails_there m f fault h k, p)
+  stops_past m f n fault by.Write h k p = absurd p
+  stops_past m f n fault by.Memory h k p = inr (f, p.0, fails_there m f fault h k, p.1)
+
 -- what is read and written so far
-pub record SoFar {R W : Type 0} (gives : R → List ℕ → R → Type 0) (failed : R → Bool) (ended : R → Type 0) (takes : W → List ℕ → W → Type 0) (part : Part) (source now : AtHand R) (old new : W) (bad before : ℕ) : Type 0 where
+pub record SoFar {R W : Type 0} (gives : R → List ℕ → R → Type 0) (failed : R → Bool) (ended : R → Type 0) (takes : W → List ℕ → W → Type 0) (write_failed : W → Bool) (part : Part) (source now : AtHand R) (old new : W) (bad before : ℕ) : Type 0 where
   pub entries : List Entry
   pub goes : Goes gives failed ended source entries now
   pub writes : Carries takes old (good_text part 0 entries) new
+  pub well : write_failed new ≡ write_failed old
   pub counted : bad ≡ bad_count part 0 entries
   pub place : before ≡ length entries
   pub few : bad ≤ before
 
-module _ {R W : Type 0} (gives : R → List ℕ → R → Type 0) (failed : R → Bool) (ended : R → Type 0) (takes : W → List ℕ → W → Type 0) (part : Part) where
-  pub none_yet : (s : AtHand R) (w : W) → SoFar gives failed ended takes part s s w w 0 0
-  none_yet s w = record { entries = []; goes = refl; writes = Carries-none takes w; counted = refl; place = refl; few = omega arith }
+module _ {R W : Type 0} (gives : R → List ℕ → R → Type 0) (failed : R → Bool) (ended : R → Type 0) (takes : W → List ℕ → W → Type 0) (write_failed : W → Bool) (part : Part) where
+  pub none_yet : (s : AtHand R) (w : W) → SoFar gives failed ended takes write_failed part s s w w 0 0
+  none_yet s w = record { entries = []; goes = refl; writes = Carries-none takes w; well = refl; counted = refl; place = refl; few = omega arith }
 
-  pub one_good : (s m n : AtHand R) (old mid new : W) (bad before : ℕ) (game : Game) → SoFar gives failed ended takes part s m old mid bad before → HasGame gives failed m n game
-      → Carries takes mid (if is_in part before then game_text game else []) new → SoFar gives failed ended takes part s n old new bad (before + 1)
-  one_good s m n old mid new bad before game f h written = record {
+  pub one_good : (s m n : AtHand R) (old mid new : W) (bad before : ℕ) (game : Game) → SoFar gives failed ended takes write_failed part s m old mid bad before → HasGame gives failed m n game
+      → Carries takes mid (if is_in part before then game_text game else []) new → write_failed new ≡ write_failed mid → SoFar gives failed ended takes write_failed part s n old new bad (before + 1)
+  one_good s m n old mid new bad before game f h written well = record {
     entries = f.entries ++ Good game ∷ [];
     goes = goes_good gives failed ended s m n f.entries game f.goes h;
+    well = well ∙ f.well;
     writes =
         (let there = subst (λ (k : ℕ). Carries takes mid (if is_in part k then game_text game else []) new) f.place written in
         let last = subst (λ (t : List ℕ). Carries takes mid t new) (sym (append-nil (if is_in part (length f.entries) then game_text game else []))) there in
@@ -103,11 +124,12 @@ module _ {R W : Type 0} (gives : R → List ℕ → R → Type 0) (failed : R �
     few = omega (arith, f.few);
   }
 
-  pub one_bad : (s m f n : AtHand R) (old mid : W) (bad more before : ℕ) (fault : PgnFault) → SoFar gives failed ended takes part s m old mid bad before → HasFault gives failed ended m f (Pgn fault) → fault.kind ≢ lacks.Memory
-      → GivesUp gives failed m n → more ≡ (if is_in part before then 1 else 0) → more ≤ 1 → SoFar gives failed ended takes part s n old mid (bad + more) (before + 1)
+  pub one_bad : (s m f n : AtHand R) (old mid : W) (bad more before : ℕ) (fault : PgnFault) → SoFar gives failed ended takes write_failed part s m old mid bad before → HasFault gives failed ended m f (Pgn fault) → fault.kind ≢ lacks.Memory
+      → GivesUp gives failed m n → more ≡ (if is_in part before then 1 else 0) → more ≤ 1 → SoFar gives failed ended takes write_failed part s n old mid (bad + more) (before + 1)
   one_bad s m f n old mid bad more before fault g h k p counts one = record {
     entries = g.entries ++ Bad fault ∷ [];
     goes = goes_bad gives failed ended s m f n g.entries fault g.goes k (fails_there gives failed ended m f fault h k) p;
+    well = g.well;
     writes = subst (λ (t : List ℕ). Carries takes old t mid) (sym (good_text-more part g.entries (Bad fault) ∙ append-nil (good_text part 0 g.entries))) g.writes;
     counted =
         (let there : more ≡ (if is_in part (length g.entries) then 1 else 0) = subst (λ (k : ℕ). more ≡ (if is_in part k then 1 else 0)) g.place counts in
@@ -116,8 +138,38 @@ module _ {R W : Type 0} (gives : R → List ℕ → R → Type 0) (failed : R �
     few = omega (arith, g.few, one);
   }
 
-  pub all_read : (s m n : AtHand R) (old new : W) (bad before : ℕ) → SoFar gives failed ended takes part s m old new bad before → HasNone gives failed m n → ended n.source → IsGoneOver gives failed ended takes part s old new bad
-  all_read s m n old new bad before f h told = record { entries = f.entries; there = m; goes = f.goes; left = n; none = h; all = told; writes = f.writes; counted = f.counted }
+  pub all_read : (s m n : AtHand R) (old new : W) (bad before : ℕ) → SoFar gives failed ended takes write_failed part s m old new bad before → HasNone gives failed m n → ended n.source → IsGoneOver gives failed ended takes write_failed part s old new bad
+  all_read s m n old new bad before f h told = record { entries = f.entries; there = m; goes = f.goes; left = n; none = h; all = told; writes = f.writes; well_written = f.well; counted = f.counted }
+
+  module _ (s m : AtHand R) (old mid : W) (bad before : ℕ) (f : SoFar gives failed ended takes write_failed part s m old mid bad before) where
+    left_off_by : (new : W) (failure : Failure) → Stops gives failed ended takes write_failed part before m mid new failure → IsLeftOff gives failed ended takes write_failed part s old new failure
+    left_off_by new failure stops = record {
+      entries = f.entries;
+      there = m;
+      goes = f.goes;
+      mid = mid;
+      writes = f.writes;
+      well_written = f.well;
+      stops = subst (λ (n : ℕ). Stops gives failed ended takes write_failed part n m mid new failure) f.place stops;
+    }
+
+    -- there is no way to the next game
+    pub off_at_next : (left : AtHand R) (failure : Failure) → NoNext gives failed ended m left failure → IsLeftOff gives failed ended takes write_failed part s old mid failure
+    off_at_next left failure none = left_off_by mid failure (inl (left, none, refl))
+
+    -- it isn't written whole
+    pub off_at_game : (left : AtHand R) (new : W) (game : Game) (failure : Failure) → HasGame gives failed m left game → (asked : Bool) → asked ≡ is_in part before → asked ≡ true → IsUnwritten takes write_failed (game_text game) mid new failure
+        → IsLeftOff gives failed ended takes write_failed part s old new failure
+    off_at_game left new game failure has asked is so unwritten = left_off_by new failure (inr (inl (left, game, has, sym is ∙ so, unwritten)))
+
+    -- there were too many
+    pub off_at_most : before ≡ most_games → IsLeftOff gives failed ended takes write_failed part s old mid by.Read
+    off_at_most most = left_off_by mid by.Read (inr (inr (most, refl, refl)))
+
+-- what holds of a failure holds of it as it is handed on
+pub handed_on : {A E : Type 0} (P : E → Type 0) (told : Result A E) (failure : E) → IsErrAnd told (λ f. f ≡ failure) → P failure → IfErr told P
+handed_on P (Ok x) failure same h = absurd same
+handed_on P (Err f) failure same h = subst P (sym same) h
 
 -- nothing is written of a game that isn't asked for
 pub written_if : {W : Type 0} (takes : W → List ℕ → W → Type 0) (old new : W) (text : List ℕ) → Carries takes old text new → Carries takes old (if true then text else []) new
@@ -134,6 +186,9 @@ read_one gives failed old new result game is h = (subst (λ r. IfOk r (λ found.
 pub read_fault : {R X : Type 0} (gives : R → List ℕ → R → Type 0) (failed : R → Bool) (ended : R → Type 0) (old new : AtHand R) (result : Result X GamesFault) (fault : GamesFault) → result ≡ Err fault
     → IfErr result (λ found. HasFault gives failed ended old new found) → HasFault gives failed ended old new fault
 read_fault gives failed ended old new result fault is h = subst (λ r. IfErr r (λ found. HasFault gives failed ended old new found)) is h
+
+pub err_holds : {X E : Type 0} (P : E → Type 0) (result : Result X E) (e : E) → result ≡ Err e → IfErr result P → P e
+err_holds P result e is h = subst (λ r. IfErr r P) is h
 
 pub if_ok : {A E : Type 0} (P : Type 0) (result : Result A E) (x : A) → result ≡ Ok x → IfOk result (λ y. P) → P
 if_ok P result x is h = subst (λ r. IfOk r (λ y. P)) is h
@@ -154,7 +209,12 @@ pub still_on : (fault : Option GamesFault) → fault ≡ None → GoesOn fault
 still_on fault e = subst (λ (f : Option GamesFault). GoesOn f) (sym e) tt
 
 -- from the beginning of a source
-pub from_fresh : {R W E : Type 0} (gives : R → List ℕ → R → Type 0) (failed : R → Bool) (ended : R → Type 0) (takes : W → List ℕ → W → Type 0) (part : Part) (source : R) (text : AtHand R) (old new : W) (result : Result ℕ E) → IsFresh source text
-    → IfOk result (λ bad. IsGoneOver gives failed ended takes part text old new bad) → IfOk result (λ bad. IsFiltered gives failed ended takes part source old new bad)
-from_fresh gives failed ended takes part source text old new (Ok bad) fresh all = record { text = text; fresh = fresh; all = all }
-from_fresh gives failed ended takes part source text old new (Err e) fresh all = all
+pub from_fresh : {R W E : Type 0} (gives : R → List ℕ → R → Type 0) (failed : R → Bool) (ended : R → Type 0) (takes : W → List ℕ → W → Type 0) (write_failed : W → Bool) (part : Part) (source : R) (text : AtHand R) (old new : W) (result : Result ℕ E) → IsFresh source text
+    → IfOk result (λ bad. IsGoneOver gives failed ended takes write_failed part text old new bad) → IfOk result (λ bad. IsFiltered gives failed ended takes write_failed part source old new bad)
+from_fresh gives failed ended takes write_failed part source text old new (Ok bad) fresh all = record { text = text; fresh = fresh; all = all }
+from_fresh gives failed ended takes write_failed part source text old new (Err e) fresh all = all
+
+pub short_fresh : {R W X : Type 0} (gives : R → List ℕ → R → Type 0) (failed : R → Bool) (ended : R → Type 0) (takes : W → List ℕ → W → Type 0) (write_failed : W → Bool) (part : Part) (source : R) (text : AtHand R) (old new : W) (result : Result X Failure) → IsFresh source text
+    → IfErr result (λ failure. IsLeftOff gives failed ended takes write_failed part text old new failure) → IfErr result (λ failure. IsFilteredInPart gives failed ended takes write_failed part source old new failure)
+short_fresh gives failed ended takes write_failed part source text old new (Ok x) fresh off = off
+short_fresh gives failed ended takes write_failed part source text old new (Err e) fresh off = record { text = text; fresh = fresh; off = off }

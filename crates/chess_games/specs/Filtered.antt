@@ -4,16 +4,26 @@
 --   good_text   the export forms of the good games of a part, in order, after so many games
 --   bad_count   how many games of a part can't be read
 --   IsFresh     nothing of a source is read
---   IsGoneOver  it is read so to its end, which the source has come to; the good games of the part are written, and nothing else; this many of the part can't be read
+--   IsGoneOver  it is read so to its end, which the source has come to; the good games of the part are written, and nothing else; this many of the part can't be
+--               read; no call failed
 --   IsFiltered  so it is from its beginning
-use Rattle.std.specs.Prelude.{◌≡◌, ◌≢◌, ℕ, ◌+◌, Bool, false, if◌then◌else◌, List, [], ◌∷◌, ◌++◌}
+--   IsUnwritten  a text isn't written whole: a write failed or took no byte, and was the last, after a prefix; or there was no memory, and nothing of it is
+--   NoNext      there is no way to the next game: a read failed, or there may be no more, or there was no memory, for the game or, where it can't be
+--               read, to give it up
+--   Stops       after so many games there is no way to the next; or it is a good one of the part that isn't written whole; or there were 2^57
+--   IsLeftOff   games are read so up to there, and the good games of the part are written, and then it stops; nothing else is written
+--   IsFilteredInPart  so it is from the source's beginning
+use Rattle.std.specs.Prelude.{◌≡◌, ◌≢◌, ◌⊎◌, ℕ, ◌+◌, Bool, true, false, if◌then◌else◌, List, [], ◌∷◌, ◌++◌, length, ⊤}
 use Rattle.byte_streams.specs.Calls.{Carries}
-use Rattle.chess_items.specs.Coming.{AtHand}
+use Rattle.chess_items.specs.Coming.{AtHand, BreaksWhere, Came}
 use Rattle.chess_items.specs.declared.fault.FaultKind.TheVariants as lacks
 use Rattle.chess_items.specs.declared.fault.PgnFault.{PgnFault}
+use Rattle.chess_loop.specs.RunEnds.{Broken}
 use Rattle.chess_pgn.specs.Games.{Game}
-use Rattle.chess_pgn.specs.Sources.{Fails, GivesUp, HasGame, HasNone}
+use Rattle.chess_pgn.specs.Sources.{Fails, GivesUp, HasGame, HasNone, ReadFails, Starves}
 use Rattle.chess_pgn.specs.Written.{game_text}
+use Rattle.chess_programs.specs.declared.collection.Failure.{Failure}
+use Rattle.chess_programs.specs.declared.collection.Failure.TheVariants as by
 use Rattle.chess_games.specs.Parts.{Part, is_in}
 
 pub data Entry : Type 0 where
@@ -45,7 +55,7 @@ pub record IsFresh {R : Type 0} (source : R) (text : AtHand R) : Type 0 where
   pub reads : text.reads ≡ 1099511627776
   pub used : text.used ≡ 0
 
-pub record IsGoneOver {R W : Type 0} (gives : R → List ℕ → R → Type 0) (failed : R → Bool) (ended : R → Type 0) (takes : W → List ℕ → W → Type 0) (part : Part) (text : AtHand R) (old new : W) (bad : ℕ) : Type 0 where
+pub record IsGoneOver {R W : Type 0} (gives : R → List ℕ → R → Type 0) (failed : R → Bool) (ended : R → Type 0) (takes : W → List ℕ → W → Type 0) (write_failed : W → Bool) (part : Part) (text : AtHand R) (old new : W) (bad : ℕ) : Type 0 where
   pub entries : List Entry
   pub there : AtHand R
   pub goes : Goes gives failed ended text entries there
@@ -53,9 +63,48 @@ pub record IsGoneOver {R W : Type 0} (gives : R → List ℕ → R → Type 0) (
   pub none : HasNone gives failed there left
   pub all : ended left.source
   pub writes : Carries takes old (good_text part 0 entries) new
+  pub well_written : write_failed new ≡ write_failed old
   pub counted : bad ≡ bad_count part 0 entries
 
-pub record IsFiltered {R W : Type 0} (gives : R → List ℕ → R → Type 0) (failed : R → Bool) (ended : R → Type 0) (takes : W → List ℕ → W → Type 0) (part : Part) (source : R) (old new : W) (bad : ℕ) : Type 0 where
+pub record IsFiltered {R W : Type 0} (gives : R → List ℕ → R → Type 0) (failed : R → Bool) (ended : R → Type 0) (takes : W → List ℕ → W → Type 0) (write_failed : W → Bool) (part : Part) (source : R) (old new : W) (bad : ℕ) : Type 0 where
   pub text : AtHand R
   pub fresh : IsFresh source text
-  pub all : IsGoneOver gives failed ended takes part text old new bad
+  pub all : IsGoneOver gives failed ended takes write_failed part text old new bad
+
+-- 2^57
+abbrev pub most_games : ℕ
+most_games = 144115188075855872
+
+abbrev pub IsUnwritten : {W : Type 0} → (W → List ℕ → W → Type 0) → (W → Bool) → List ℕ → W → W → Failure → Type 0
+IsUnwritten takes failed text old new by.Read = ⊥
+IsUnwritten takes failed text old new by.Write = Broken takes failed old text new
+IsUnwritten takes failed text old new by.Memory = new ≡ old
+
+module _ {R : Type 0} (gives : R → List ℕ → R → Type 0) (failed : R → Bool) (ended : R → Type 0) where
+  abbrev pub NoNext : AtHand R → AtHand R → Failure → Type 0
+  NoNext there left by.Read =
+      ReadFails gives failed there left ⊎ ((mid : AtHand R) × Fails gives failed ended there mid × BreaksWhere (λ _. ⊤) gives failed mid left)
+  NoNext there left by.Write = ⊥
+  NoNext there left by.Memory =
+      Starves gives failed ended there left ⊎ ((mid : AtHand R) × (bytes : List ℕ) × Fails gives failed ended there mid × Came gives failed mid bytes left)
+
+  module _ {W : Type 0} (takes : W → List ℕ → W → Type 0) (write_failed : W → Bool) (part : Part) where
+    abbrev pub Stops : ℕ → AtHand R → W → W → Failure → Type 0
+    Stops count there mid new failure =
+        ((left : AtHand R) × NoNext there left failure × (new ≡ mid))
+        ⊎ ((left : AtHand R) × (game : Game) × HasGame gives failed there left game × (is_in part count ≡ true) × IsUnwritten takes write_failed (game_text game) mid new failure)
+        ⊎ ((count ≡ most_games) × (failure ≡ by.Read) × (new ≡ mid))
+
+    pub record IsLeftOff (text : AtHand R) (old new : W) (failure : Failure) : Type 0 where
+      pub entries : List Entry
+      pub there : AtHand R
+      pub goes : Goes gives failed ended text entries there
+      pub mid : W
+      pub writes : Carries takes old (good_text part 0 entries) mid
+      pub well_written : write_failed mid ≡ write_failed old
+      pub stops : Stops (length entries) there mid new failure
+
+    pub record IsFilteredInPart (source : R) (old new : W) (failure : Failure) : Type 0 where
+      pub text : AtHand R
+      pub fresh : IsFresh source text
+      pub off : IsLeftOff text old new failure

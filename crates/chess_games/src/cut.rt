@@ -1,10 +1,13 @@
 //! A collection cut into pieces of whole games, so that many processes read them.
 
-ghost use Rattle.std.specs.Prelude.{◌≡◌, ℕ, ◌<◌, true, List, [], ◌∷◌, ◌++◌, length, vec_len, IfOk, OnOk};
+ghost use Rattle.std.specs.Prelude.{◌≡◌, ℕ, ◌<◌, true, List, [], ◌∷◌, ◌++◌, length, vec_len, IfErr, IfOk, OnOk};
 ghost use Rattle.byte_streams.specs.Calls.{Carries};
 ghost use Rattle.chess_items.specs.Items.{is_name_byte};
 ghost use Rattle.chess_items.specs.Sections.{OpensTag};
-ghost use Rattle.chess_games.specs.Pieces.{IsCut, IsMarked};
+ghost use Rattle.chess_loop.specs.RunEnds.{Broken};
+ghost use Rattle.chess_programs.specs.declared.collection.Failure.TheVariants as by;
+ghost use Rattle.chess_games.specs.declared.cut.CutFault.TheVariants as faults;
+ghost use Rattle.chess_games.specs.Pieces.{IsCut, IsCutInPart, IsMarked, IsStopped};
 
 use crate::put::put;
 use byte_streams::{Sink, Source};
@@ -27,6 +30,8 @@ pub enum CutFault {
 }
 
 impl From<Failure> for CutFault {
+    ghost from_gives = { λ failure fault. fault ≡ faults.Failure failure };
+
     fn from(failure: Failure) -> CutFault {
         CutFault::Failure(failure)
     }
@@ -242,7 +247,10 @@ impl Borders {
 
 // Writes all of the bytes, and a zero byte after them.
 fn put_border<W: Sink>(writer: &mut W, bytes: &[u8]) -> Result<(), Failure>
-    ensures { OnOk result (Carries W.takes writer.old (bytes.now ++ 0 ∷ []) writer.new) }
+    ensures all { OnOk result (Carries W.takes writer.old (bytes.now ++ 0 ∷ []) writer.new) }
+    ensures well { OnOk result (W.failed writer.new ≡ W.failed writer.old) }
+    ensures fault { IfErr result (λ failure. failure ≡ by.Write) }
+    ensures broken { IfErr result (λ _. Broken W.takes W.failed writer.old (bytes.now ++ 0 ∷ []) writer.new) }
 {
     put(writer, bytes)?;
     put(writer, b"\0")?;
@@ -256,7 +264,9 @@ fn put_piece<W: Sink>(
     least: u64,
     writer: &mut W,
 ) -> Result<(), CutFault>
-    ensures { OnOk result ((marked : List ℕ) × Carries W.takes writer.old marked writer.new × IsMarked piece.now marked) }
+    ensures all { OnOk result ((marked : List ℕ) × Carries W.takes writer.old marked writer.new × IsMarked piece.now marked) }
+    ensures well { OnOk result (W.failed writer.new ≡ W.failed writer.old) }
+    ensures stopped { IfErr result (λ fault. IsStopped W.takes W.failed piece.now writer.old writer.new fault) }
 {
     if piece.contains(&0) {
         return Err(CutFault::Zero);
@@ -293,14 +303,15 @@ pub fn cut<A: Allocator, R: Source + Drop, W: Sink>(
     reader: R,
     writer: &mut W,
 ) -> Result<(), CutFault>
-    ensures { OnOk result (IsCut R.gives R.ended W.takes reader writer.old writer.new) }
+    ensures good { OnOk result (IsCut R.gives R.failed R.ended W.takes W.failed reader writer.old writer.new) }
+    ensures short { IfErr result (λ fault. IsCutInPart R.gives R.failed W.takes W.failed reader writer.old writer.new fault) }
 {
     let mut reader = reader;
     let Ok(mut buffer) = zeros(alloc) else {
         return Err(CutFault::Failure(Failure::Memory));
     };
     let mut borders = Borders::new();
-    for _ in 0..READS {
+    for reads in 0..READS {
         match reader.read(buffer.as_mut_slice()) {
             Ok(0) => return Ok(()),
             Ok(count) => put_piece(&mut borders, &buffer[..count], least, writer)?,

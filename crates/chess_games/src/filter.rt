@@ -1,17 +1,19 @@
-ghost use Rattle.std.specs.Prelude.{◌≡◌, ◌≤◌, if◌then◌else◌, [], false, None, Some, IfOk, OnOk};
+ghost use Rattle.std.specs.Prelude.{◌≡◌, ◌≤◌, if◌then◌else◌, [], true, false, None, Some, IfErr, IfOk, OnOk};
 ghost use Rattle.byte_streams.specs.Calls.{Carries};
 ghost use Rattle.chess_items.specs.Coming.{AtHand};
 ghost use Rattle.chess_pgn.specs.Sources.{GivesUp, GoesOn, IsSound, Leaves};
 ghost use Rattle.chess_pgn.specs.declared.games.GamesFault.{GamesFault};
+ghost use Rattle.chess_pgn.specs.declared.games.GamesFault.TheVariants.{Pgn};
 ghost use Rattle.chess_pgn.specs.Written.{game_text};
 ghost use Rattle.chess_pgn.specs.steps.GameCode.{game_of};
-ghost use Rattle.chess_games.specs.Filtered.{IsFiltered, IsGoneOver};
+ghost use Rattle.chess_games.specs.Filtered.{IsFiltered, IsFilteredInPart, IsGoneOver, IsLeftOff, IsUnwritten};
+ghost use Rattle.chess_games.specs.steps.Leaving.{IsFor, NotPassed};
 
 use crate::part::Part;
 use crate::put::put;
 use byte_streams::{Sink, Source};
-use chess_pgn::{Game, Games, PgnFault, Texts, write_game_with};
-use chess_programs::{Failure, GAMES, Progress, fault_of};
+use chess_pgn::{FaultKind, Game, Games, GamesFault, PgnFault, Texts, write_game_with};
+use chess_programs::{Failure, GAMES, Progress};
 use std::alloc::Allocator;
 
 /// What is asked of a run over games.
@@ -31,7 +33,10 @@ fn write_if<'a, A: Allocator, W: Sink>(
     texts: &Texts<'a, A>,
     writer: &mut W,
 ) -> Result<(), Failure>
-    ensures { OnOk result (Carries W.takes writer.old (if is_asked then game_text (game_of game.now) else []) writer.new) }
+    ensures all { OnOk result (Carries W.takes writer.old (if is_asked then game_text (game_of game.now) else []) writer.new) }
+    ensures well { OnOk result (W.failed writer.new ≡ W.failed writer.old) }
+    ensures asked { IfErr result (λ _. is_asked ≡ true) }
+    ensures unwritten { IfErr result (λ failure. IsUnwritten W.takes W.failed (game_text (game_of game.now)) writer.old writer.new failure) }
 {
     if !is_asked {
         return Ok(());
@@ -69,6 +74,21 @@ fn report_if(rt: &HostRuntime, is_asked: bool, before: u64, fault: PgnFault) -> 
     1
 }
 
+// The fault of a game that can be passed over; else why reading ends with it.
+fn passable(fault: GamesFault) -> Result<PgnFault, Failure>
+    ensures fault { IfOk result (λ found. fault ≡ Pgn found) }
+    ensures goes_on { OnOk result (GoesOn (Some fault)) }
+    ensures failure { IfErr result (λ failure. IsFor failure fault) }
+{
+    match fault {
+        GamesFault::Read => Err(Failure::Read),
+        GamesFault::Pgn(fault) => match fault.kind {
+            FaultKind::Memory => Err(Failure::Memory),
+            _ => Ok(fault),
+        },
+    }
+}
+
 // Passes over the rest of a bad game.
 fn pass<'a, A: Allocator, R: Source>(games: &mut Games<'a, R, A>) -> Result<(), Failure>
     requires sound { IsSound R.ended games.old }
@@ -76,13 +96,12 @@ fn pass<'a, A: Allocator, R: Source>(games: &mut Games<'a, R, A>) -> Result<(), 
     ensures good { OnOk result (games.new.fault ≡ None) }
     ensures goes_on { OnOk result (GoesOn games.old.fault) }
     ensures gives_up { (fault : GamesFault) (before : AtHand R) → games.old.fault ≡ Some fault → Leaves R.gives R.failed before games.old.text games.old.halt → OnOk result (GivesUp R.gives R.failed before games.new.text) }
+    ensures broken { GoesOn games.old.fault → IfErr result (λ failure. NotPassed R.gives R.failed games.old.text games.new.text failure) }
 {
     match games.pass_over() {
         Ok(_count) => Ok(()),
-        Err(fault) => {
-            let _fault = fault_of(fault)?;
-            Err(Failure::Read)
-        }
+        Err(GamesFault::Read) => Err(Failure::Read),
+        Err(GamesFault::Pgn(_)) => Err(Failure::Memory),
     }
 }
 
@@ -97,7 +116,8 @@ fn write_good<'a, A: Allocator, R: Source, W: Sink>(
 ) -> Result<u64, Failure>
     requires sound { IsSound R.ended games.old }
     requires none { games.old.fault ≡ None }
-    ensures { IfOk result (λ bad. IsGoneOver R.gives R.failed R.ended W.takes wanted.now.part games.old.text writer.old writer.new bad) }
+    ensures good { IfOk result (λ bad. IsGoneOver R.gives R.failed R.ended W.takes W.failed wanted.now.part games.old.text writer.old writer.new bad) }
+    ensures off { IfErr result (λ failure. IsLeftOff R.gives R.failed R.ended W.takes W.failed wanted.now.part games.old.text writer.old writer.new failure) }
 {
     let mut bad = 0u64;
     let mut passed = 0u64;
@@ -117,7 +137,7 @@ fn write_good<'a, A: Allocator, R: Source, W: Sink>(
                 write_if(alloc, is_asked, &game, &texts, writer)?;
             }
             Err(fault) => {
-                let fault = fault_of(fault)?;
+                let fault = passable(fault)?;
                 bad += report_if(rt, is_asked, before, fault);
                 pass(games)?;
                 passed = passed.saturating_add(games.used().saturating_sub(from));
@@ -143,7 +163,8 @@ pub fn filter<A: Allocator, R: Source + Drop, W: Sink>(
 ) -> Result<u64, Failure>
     requires reader { R.failed reader ≡ false }
     requires writer { W.failed writer.old ≡ false }
-    ensures { IfOk result (λ bad. IsFiltered R.gives R.failed R.ended W.takes wanted.part reader writer.old writer.new bad) }
+    ensures good { IfOk result (λ bad. IsFiltered R.gives R.failed R.ended W.takes W.failed wanted.part reader writer.old writer.new bad) }
+    ensures short { IfErr result (λ failure. IsFilteredInPart R.gives R.failed R.ended W.takes W.failed wanted.part reader writer.old writer.new failure) }
 {
     let mut games = Games::new(&alloc, reader);
     write_good(rt, &alloc, &wanted, &mut games, writer, progress)

@@ -1,8 +1,4 @@
-ghost use Rattle.std.specs.Prelude.{◌≡◌, IfOk};
-ghost use Rattle.chess_pgn.specs.declared.games.GamesFault.TheVariants.{Pgn};
-
 use byte_streams::Failed;
-use chess_pgn::{FaultKind, GamesFault, PgnFault};
 use std::alloc::AllocError;
 use thiserror::Error;
 
@@ -42,15 +38,4 @@ pub struct Place {
     pub number: u64,
     /// How many bytes come before it.
     pub offset: u64,
-}
-
-/// The fault of a game, from which reading may go on; else why it can't.
-pub fn fault_of(fault: GamesFault) -> Result<PgnFault, Failure>
-    ensures { IfOk result (λ found. fault ≡ Pgn found) }
-{
-    match fault {
-        GamesFault::Read => Err(Failure::Read),
-        GamesFault::Pgn(fault) if fault.kind == FaultKind::Memory => Err(Failure::Memory),
-        GamesFault::Pgn(fault) => Ok(fault),
-    }
 }

@@ -6,7 +6,7 @@ mod collection;
 mod progress;
 mod words;
 
-pub use collection::{Failure, GAMES, Place, fault_of};
+pub use collection::{Failure, GAMES, Place};
 pub use progress::Progress;
 pub use words::{Refused, flag, option, progress_flag, read_words, why_refused};
 
