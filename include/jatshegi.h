@@ -39,7 +39,9 @@
 #include <stddef.h>
 #include <stdint.h>
 
+/* The version of this header, as a text and as a number: 65,536 times the first part, 256 times the second, and the third. */
 #define JATSHEGI_VERSION "0.2.0"
+#define JATSHEGI_VERSION_NUMBER 0x000200
 
 #ifdef __cplusplus
 extern "C" {
@@ -59,10 +61,13 @@ enum jatshegi_status {
     JATSHEGI_ARGUMENT = 9,    /* a number is out of its range */
     JATSHEGI_NO_ROOM = 10,    /* the answer is longer than the room for it; its length is known */
     JATSHEGI_NONE = 11,       /* there is no legal move, so none is best; or no search was begun, or nothing searched */
-    JATSHEGI_NO_SUCH = 12,    /* there is no such child */
+    JATSHEGI_NO_SUCH = 12,    /* there is no such child, or no such tag */
     JATSHEGI_BAD_COMMENT = 13, /* the comment has a right brace */
     JATSHEGI_NO_GAME = 16,    /* only whitespace follows */
     JATSHEGI_ABANDONED = 17,  /* the search was abandoned: the positions that it may ask for were not enough, or its flag was found set */
+    JATSHEGI_TAG_NAME = 18,   /* the name of a tag is empty, or has a byte that is no letter, digit or underscore */
+    JATSHEGI_TAG_OWN = 19,    /* Result, FEN and SetUp are no tags: the game itself has what they say */
+    JATSHEGI_TAG_VALUE = 20,  /* the value of a tag has a line feed */
     /* A text is no FEN, or fields are no position: the first fault that applies. */
     JATSHEGI_FEN_FIELDS = 21,       /* neither four nor six fields */
     JATSHEGI_FEN_PLACEMENT = 22,    /* the men are not eight ranks of eight squares */
@@ -84,6 +89,50 @@ enum jatshegi_status {
     JATSHEGI_PGN_FEN = 47,       /* the tag FEN spells no position */
     JATSHEGI_PGN_TOO_LARGE = 49  /* more than 1,048,576 bytes, or 20,000 plies in a line */
 };
+
+/* What a status says, for people: a text that stays. */
+static inline const char *jatshegi_status_text(uint32_t status) {
+    switch (status) {
+    case JATSHEGI_OK: return "it is done";
+    case JATSHEGI_EMPTY: return "there is no board";
+    case JATSHEGI_NO_MEMORY: return "there is no memory";
+    case JATSHEGI_ILLEGAL: return "the move isn't legal";
+    case JATSHEGI_AMBIGUOUS: return "the text names more than one legal move";
+    case JATSHEGI_FORM: return "the text has no form of a move";
+    case JATSHEGI_TOO_LONG: return "a line has at most 20,000 plies";
+    case JATSHEGI_FULL: return "a game holds at most 1,000,000 moves";
+    case JATSHEGI_AT_ROOT: return "the cursor is at the root";
+    case JATSHEGI_ARGUMENT: return "a number is out of its range";
+    case JATSHEGI_NO_ROOM: return "the answer is longer than the room for it";
+    case JATSHEGI_NONE: return "there is no legal move, or no search";
+    case JATSHEGI_NO_SUCH: return "there is no such child, or no such tag";
+    case JATSHEGI_BAD_COMMENT: return "a comment has no right brace";
+    case JATSHEGI_NO_GAME: return "only whitespace follows";
+    case JATSHEGI_ABANDONED: return "the search was abandoned";
+    case JATSHEGI_TAG_NAME: return "a tag's name has letters, digits and underscores, at least one";
+    case JATSHEGI_TAG_OWN: return "the game itself has its result and its start";
+    case JATSHEGI_TAG_VALUE: return "a tag's value is on one line";
+    case JATSHEGI_FEN_FIELDS: return "a FEN has four or six fields";
+    case JATSHEGI_FEN_PLACEMENT: return "the men are not eight ranks of eight squares";
+    case JATSHEGI_FEN_KINGS: return "each side has one king";
+    case JATSHEGI_FEN_PAWN_RANK: return "a pawn is on the first or the last rank";
+    case JATSHEGI_FEN_TOO_MANY_MEN: return "a side has at most 16 men";
+    case JATSHEGI_FEN_SIDE: return "the side to move is w or b";
+    case JATSHEGI_FEN_CASTLING: return "the castling rights are none of this position";
+    case JATSHEGI_FEN_TARGET: return "the en passant target is none of this position";
+    case JATSHEGI_FEN_COUNTER: return "a counter is no number up to 99,999";
+    case JATSHEGI_FEN_IN_CHECK: return "the side not to move is in check";
+    case JATSHEGI_PGN_TOKEN: return "bytes that are no token of PGN";
+    case JATSHEGI_PGN_TAG: return "a tag that is none";
+    case JATSHEGI_PGN_MOVE: return "a word that names no legal move, or more than one";
+    case JATSHEGI_PGN_VARIATION: return "a variation that doesn't fit";
+    case JATSHEGI_PGN_DEEP: return "more than 128 variations within one another";
+    case JATSHEGI_PGN_TRUNCATED: return "the text ends within the game";
+    case JATSHEGI_PGN_FEN: return "the tag FEN spells no position";
+    case JATSHEGI_PGN_TOO_LARGE: return "more than 1,048,576 bytes, or 20,000 plies in a line";
+    default: return "no status of this version";
+    }
+}
 
 /* How a game stands (FIDE Laws 5.1.1, 5.2.1, 5.2.2, 9.6). */
 enum jatshegi_outcome {
@@ -202,11 +251,20 @@ enum {
     JATSHEGI_MOST_REPLIES = 260
 };
 
+/* The version of the library that runs, as JATSHEGI_VERSION_NUMBER is that of the header. */
+uint32_t jatshegi_version(void);
+
 /* Fills the table. */
 void jatshegi_keys_fill(struct jatshegi_keys *keys);
 
 /* A board as a game begins; one that was there is freed. OK, NO_MEMORY. */
 uint32_t jatshegi_board_new(const struct jatshegi_keys *keys, struct jatshegi_board *board);
+
+/*
+ * Puts a copy of the board into another: the same game with its tags and its result, the cursor at the same node, no search, and a session of the engine at its
+ * start. What was in the other is freed; the two are not the same one. But for OK the other is as it was. OK, EMPTY, NO_MEMORY.
+ */
+uint32_t jatshegi_board_copy(struct jatshegi_board *board, struct jatshegi_board *other);
 
 /* Frees the board, if there is one: then there is none. */
 void jatshegi_board_free(struct jatshegi_board *board);
@@ -224,8 +282,8 @@ uint32_t jatshegi_board_set(struct jatshegi_board *board, const char *fen, size_
 uint32_t jatshegi_board_set_position(struct jatshegi_board *board, const struct jatshegi_position *position);
 
 /*
- * Begins with the whole game at the start of a text (PGN), its variations, comments and annotations, from the position in which it begins; and says how
- * many bytes of the text the game takes. The cursor is at the root. But for OK the board is as it was; at PGN_... `used` is the place of the fault. OK, EMPTY,
+ * Begins with the whole game at the start of a text (PGN), its tags and its result, its variations, comments and annotations, from the position in which it
+ * begins; and says how many bytes of the text the game takes. The cursor is at the root. But for OK the board is as it was; at PGN_... `used` is the place of the fault. OK, EMPTY,
  * NO_MEMORY, NO_GAME, PGN_...
  */
 uint32_t jatshegi_board_load(struct jatshegi_board *board, const char *text, size_t length, size_t *used);
@@ -233,11 +291,23 @@ uint32_t jatshegi_board_load(struct jatshegi_board *board, const char *text, siz
 /* The FEN of the position, and its length, at most JATSHEGI_MOST_FEN (PGN 16.1). OK, EMPTY, NO_ROOM. */
 uint32_t jatshegi_board_fen(struct jatshegi_board *board, char *text, size_t room, size_t *length);
 
+/*
+ * The text by which the Laws tell positions apart, and its length, at most JATSHEGI_MOST_FEN: the first four fields of the FEN, with the en passant target only
+ * where a legal move captures on it. Two positions are the same (FIDE Laws 9.2.3) exactly where they have the same text, so that it is a key for an opening
+ * tree or a table of positions. It is an EPD without operations (PGN 16.2). OK, EMPTY, NO_ROOM.
+ */
+uint32_t jatshegi_board_epd(struct jatshegi_board *board, char *text, size_t room, size_t *length);
+
 /* The position by its fields. OK, EMPTY. */
 uint32_t jatshegi_board_position(struct jatshegi_board *board, struct jatshegi_position *position);
 
 /* The legal moves in order, and how many they are, at most JATSHEGI_MOST_MOVES (FIDE Laws 3.1 to 3.10). OK, EMPTY, NO_ROOM. */
 uint32_t jatshegi_board_moves(struct jatshegi_board *board, struct jatshegi_move *moves, size_t room, size_t *count);
+
+/*
+ * The moves from the root to the cursor, in the order in which they were made, and how many they are, at most 20,000: none at the root. OK, EMPTY, NO_ROOM.
+ */
+uint32_t jatshegi_board_line(struct jatshegi_board *board, struct jatshegi_move *moves, size_t room, size_t *count);
 
 /*
  * Makes a move, and says whether it added a node: `false` where a child of the node at the cursor has the move. OK, EMPTY, NO_MEMORY, ILLEGAL, TOO_LONG,
@@ -378,6 +448,38 @@ uint32_t jatshegi_engine_ended(struct jatshegi_board *board, bool *ended);
 
 /* How many milliseconds after the last moment the clock ends the search, 0 where it is to end now. OK, EMPTY; NONE where no clock ends it, or none runs. */
 uint32_t jatshegi_engine_time_left(struct jatshegi_board *board, uint64_t *milliseconds);
+
+/*
+ * The whole game in export form (PGN 3.2), with its tags and its result, and its length; it takes memory for the text. OK, EMPTY, NO_MEMORY, NO_ROOM.
+ *
+ * Tags and result belong to the game beside its moves: jatshegi_board_new begins with none known (tags `?`, result `*`), jatshegi_board_load takes those of the
+ * text, and nothing else but the calls below changes them, so a game keeps its players when another position is set. The line `pgn` of
+ * jatshegi_board_answer answers as the program does, which knows neither.
+ */
+uint32_t jatshegi_board_pgn(struct jatshegi_board *board, char *text, size_t room, size_t *length);
+
+/*
+ * The value of the tag with that name, as it is to be read, without the quotation marks and backslashes of a file, and its length (PGN 8.1). Event, Site,
+ * Date, Round, White and Black are always there. Result, FEN and SetUp are no tags: the game itself has its result and its start. OK, EMPTY, NO_SUCH, NO_ROOM.
+ */
+uint32_t jatshegi_board_tag(struct jatshegi_board *board, const char *name, size_t length, char *value, size_t room, size_t *count);
+
+/*
+ * The name of the tag at that place, from 0, and its length: first the six that each game has, then the others in ASCII order; NO_SUCH where there are no more.
+ * OK, EMPTY, NO_SUCH, NO_ROOM.
+ */
+uint32_t jatshegi_board_tags(struct jatshegi_board *board, size_t place, char *name, size_t room, size_t *count);
+
+/*
+ * Gives the tag of that name the value, whether or not the game has it yet: letters, digits and underscores, and any text on one line. Or takes the tag out, if
+ * there is one; each of the six then says that nothing is known, `?`, or `????.??.??`. OK, EMPTY, NO_MEMORY; TAG_NAME, TAG_OWN, TAG_VALUE of the first.
+ */
+uint32_t jatshegi_board_set_tag(struct jatshegi_board *board, const char *name, size_t length, const char *value, size_t count);
+uint32_t jatshegi_board_clear_tag(struct jatshegi_board *board, const char *name, size_t length);
+
+/* How the game ended, as its text says: an enum jatshegi_marker; and set so. OK, EMPTY; ARGUMENT of the second. */
+uint32_t jatshegi_board_result(struct jatshegi_board *board, uint32_t *marker);
+uint32_t jatshegi_board_set_result(struct jatshegi_board *board, uint32_t marker);
 
 /* Steps to a child, by its place among its siblings, from 0. OK, EMPTY, NO_SUCH. */
 uint32_t jatshegi_board_step(struct jatshegi_board *board, uint32_t place);

@@ -97,6 +97,12 @@ class Library(unittest.TestCase):
         program = self.build(["cc", "-std=c11"], "every.c")
         self.assert_ends_well("valgrind", "--error-exitcode=9", "--leak-check=full", "--errors-for-leak-kinds=all", program)
 
+    def test_boards_on_several_threads(self):
+        program = self.build(["cc", "-std=c11", "-pthread"], "threads.c")
+        self.assert_ends_well(program, "2000")
+        self.wants("valgrind")
+        self.assert_ends_well("valgrind", "--tool=helgrind", "--error-exitcode=9", program, "20")
+
     def test_each_allocation_refused(self):
         program = self.build(["cc", "-std=gnu11", "-Wl,--wrap=malloc,--wrap=realloc,--wrap=free"], "refused.c")
         self.assertIn("allocations refused", self.assert_ends_well(program))
@@ -113,7 +119,9 @@ class Library(unittest.TestCase):
     def test_only_the_functions_of_the_header_are_visible(self):
         self.wants("nm")
         with open(f"{HEADER}/jatshegi.h", encoding="utf-8") as file:
-            declared = {word.split("(")[0].lstrip("*") for word in file.read().split() if word.startswith("jatshegi_") and "(" in word}
+            # (a function of the header itself is none of the library)
+            lines = [line for line in file if not line.startswith("static inline")]
+        declared = {word.split("(")[0].lstrip("*") for word in " ".join(lines).split() if word.startswith("jatshegi_") and "(" in word}
         for words, library in ((["nm", "-g", "--defined-only"], "libjatshegi.a"), (["nm", "-D", "--defined-only"], "libjatshegi.so")):
             names = {line.split()[-1] for line in called(*words, f"{runs.TOP}/out/{library}").stdout.splitlines() if " T " in line or " D " in line or " B " in line}
             with self.subTest(library=library):

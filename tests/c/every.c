@@ -54,11 +54,13 @@ static int writes(struct jatshegi_board *board, struct jatshegi_move m, const ch
     return jatshegi_board_write(board, m, text, sizeof text, &length) == JATSHEGI_OK && length == strlen(wanted) && memcmp(text, wanted, length) == 0;
 }
 
-#define SEVEN_TAGS "[Event \"?\"]\n[Site \"?\"]\n[Date \"????.??.??\"]\n[Round \"?\"]\n[White \"?\"]\n[Black \"?\"]\n[Result \"*\"]\n\n"
+#define SEVEN_TAGS_OF(result, others) \
+    "[Event \"?\"]\n[Site \"?\"]\n[Date \"????.??.??\"]\n[Round \"?\"]\n[White \"?\"]\n[Black \"?\"]\n[Result \"" result "\"]\n" others "\n"
+#define SEVEN_TAGS SEVEN_TAGS_OF("*", "")
 static const char START[] = "rnbqkbnr/pppppppp/8/8/8/8/PPPPPPPP/RNBQKBNR w KQkq - 0 1";
 
 static void without_a_board(void) {
-    struct jatshegi_board none = JATSHEGI_NO_BOARD;
+    struct jatshegi_board none = JATSHEGI_NO_BOARD, other = JATSHEGI_NO_BOARD;
     struct jatshegi_stop stop = JATSHEGI_NO_STOP, stop_too = JATSHEGI_NO_STOP;
     uint64_t visited = 7;
     struct jatshegi_move moves[JATSHEGI_MOST_MOVES], m = move_of(12, 28, 0);
@@ -74,8 +76,9 @@ static void without_a_board(void) {
     CHECK(set(&none, START) == JATSHEGI_EMPTY);
     CHECK(jatshegi_board_set_position(&none, &position) == JATSHEGI_EMPTY);
     CHECK(jatshegi_board_position(&none, &position) == JATSHEGI_EMPTY && position.men[0] == 7 && position.side == 7 && position.number == 0x07070707);
-    CHECK(jatshegi_board_fen(&none, text, sizeof text, &count) == JATSHEGI_EMPTY);
+    CHECK(jatshegi_board_fen(&none, text, sizeof text, &count) == JATSHEGI_EMPTY && jatshegi_board_epd(&none, text, sizeof text, &count) == JATSHEGI_EMPTY);
     CHECK(jatshegi_board_moves(&none, moves, JATSHEGI_MOST_MOVES, &count) == JATSHEGI_EMPTY);
+    CHECK(jatshegi_board_line(&none, moves, JATSHEGI_MOST_MOVES, &count) == JATSHEGI_EMPTY);
     added = true;
     CHECK(make(&none, m) == JATSHEGI_EMPTY && added);
     CHECK(play(&none, "e4") == JATSHEGI_EMPTY && added);
@@ -105,6 +108,11 @@ static void without_a_board(void) {
     CHECK(jatshegi_stop_set(&stop, true) == JATSHEGI_EMPTY && jatshegi_stop_share(&stop, &stop_too) == JATSHEGI_EMPTY);
     jatshegi_stop_free(&stop);
     CHECK(jatshegi_board_load(&none, "*", 1, &count) == JATSHEGI_EMPTY && count == 7);
+    CHECK(jatshegi_board_pgn(&none, text, sizeof text, &count) == JATSHEGI_EMPTY && jatshegi_board_tags(&none, 0, text, sizeof text, &count) == JATSHEGI_EMPTY);
+    CHECK(jatshegi_board_tag(&none, "Event", 5, text, sizeof text, &count) == JATSHEGI_EMPTY && jatshegi_board_set_tag(&none, "A", 1, "b", 1) == JATSHEGI_EMPTY);
+    CHECK(jatshegi_board_clear_tag(&none, "A", 1) == JATSHEGI_EMPTY && jatshegi_board_result(&none, &number) == JATSHEGI_EMPTY);
+    CHECK(jatshegi_board_set_result(&none, JATSHEGI_DRAW) == JATSHEGI_EMPTY && jatshegi_board_copy(&none, &other) == JATSHEGI_EMPTY);
+    CHECK(jatshegi_board_back(&other) == JATSHEGI_EMPTY);
     CHECK(jatshegi_board_step(&none, 0) == JATSHEGI_EMPTY);
     CHECK(jatshegi_board_depth(&none, &number) == JATSHEGI_EMPTY && jatshegi_board_children(&none, &number) == JATSHEGI_EMPTY && jatshegi_board_move(&none, &m) == JATSHEGI_EMPTY);
     CHECK(jatshegi_board_comment_of(&none, text, sizeof text, &count) == JATSHEGI_EMPTY && jatshegi_board_annotations_of(&none, white, sizeof white, &count) == JATSHEGI_EMPTY);
@@ -619,9 +627,161 @@ static void engines(struct jatshegi_board *b) {
     CHECK(replies(b, "quit", "") && shows(b, false, false, false, true, 99) && replies(b, "isready", "") && fen_is(b, START));
 }
 
+/* Whether the tag of that name has the value. */
+static int tag_is(struct jatshegi_board *b, const char *name, const char *wanted) {
+    char text[64];
+    size_t count = 0;
+    return jatshegi_board_tag(b, name, strlen(name), text, sizeof text, &count) == JATSHEGI_OK && count == strlen(wanted) && memcmp(text, wanted, count) == 0;
+}
+
+/* Whether the game has no tag of that name. */
+static int is_untagged(struct jatshegi_board *b, const char *name) {
+    char text[64];
+    size_t count = 7;
+    return jatshegi_board_tag(b, name, strlen(name), text, sizeof text, &count) == JATSHEGI_NO_SUCH && count == 7;
+}
+
+/* Whether the names of the tags are these, each with a space after it. */
+static int names_are(struct jatshegi_board *b, const char *wanted) {
+    char text[512];
+    size_t length = 0, count = 0;
+    for (size_t place = 0; jatshegi_board_tags(b, place, text + length, sizeof text - 1 - length, &count) == JATSHEGI_OK; place++) {
+        length += count;
+        text[length++] = ' ';
+    }
+    return length == strlen(wanted) && memcmp(text, wanted, length) == 0;
+}
+
+static uint32_t set_tag(struct jatshegi_board *b, const char *name, const char *value) {
+    return jatshegi_board_set_tag(b, name, strlen(name), value, strlen(value));
+}
+
+/* Whether the whole game is that text. */
+static int game_is(struct jatshegi_board *b, const char *wanted) {
+    char text[1024];
+    size_t count = 0;
+    return jatshegi_board_pgn(b, text, sizeof text, &count) == JATSHEGI_OK && count == strlen(wanted) && memcmp(text, wanted, count) == 0;
+}
+
+static void tags(struct jatshegi_board *b) {
+    static const char game[] =
+        "[Event \"A \\\"match\\\"\"]\n[Site \"?\"]\n[Date \"1851.06.21\"]\n[Round \"?\"]\n[White \"Anderssen\"]\n[Black \"Kieseritzky\"]\n[Result \"1-0\"]\n"
+        "[ECO \"C33\"]\n[FEN \"4k3/8/8/8/8/8/4P3/4K3 w - - 0 1\"]\n[SetUp \"1\"]\n[WhiteElo \"2600\"]\n\n1. e4 (1. e3) 1... Kd7 {so} 1-0\n\n";
+    static const char six[] = "Event Site Date Round White Black ";
+    static const char fen[] = "4k3/8/8/8/8/8/4P3/4K3 w - - 0 1";
+    char text[512];
+    size_t count = 7, used = 0;
+    uint32_t marker = 7;
+    CHECK(jatshegi_board_new(&keys, b) == JATSHEGI_OK && game_is(b, SEVEN_TAGS "*\n\n"));
+    CHECK(names_are(b, six) && tag_is(b, "Date", "????.??.??") && tag_is(b, "White", "?") && is_untagged(b, "ECO") && is_untagged(b, "Result") && is_untagged(b, ""));
+    CHECK(jatshegi_board_result(b, &marker) == JATSHEGI_OK && marker == JATSHEGI_UNFINISHED);
+    CHECK(jatshegi_board_tags(b, 6, text, sizeof text, &count) == JATSHEGI_NO_SUCH && jatshegi_board_tags(b, SIZE_MAX, text, sizeof text, &count) == JATSHEGI_NO_SUCH && count == 7);
+
+    CHECK(jatshegi_board_load(b, game, sizeof game - 1, &used) == JATSHEGI_OK && used <= sizeof game - 1);
+    CHECK(game_is(b, game) && fen_is(b, fen));
+    CHECK(names_are(b, "Event Site Date Round White Black ECO WhiteElo ") && tag_is(b, "Event", "A \"match\"") && tag_is(b, "ECO", "C33") && is_untagged(b, "FEN"));
+    CHECK(jatshegi_board_result(b, &marker) == JATSHEGI_OK && marker == JATSHEGI_WHITE_WINS);
+    CHECK(jatshegi_board_tag(b, "ECO", 3, text, 2, &count) == JATSHEGI_NO_ROOM && count == 3);
+    CHECK(jatshegi_board_tags(b, 7, text, 7, &count) == JATSHEGI_NO_ROOM && count == 8 && jatshegi_board_pgn(b, text, 9, &count) == JATSHEGI_NO_ROOM && count == sizeof game - 1);
+    /* The program knows no tags. */
+    CHECK(answers(b, "pgn", SEVEN_TAGS_OF("*", "[FEN \"4k3/8/8/8/8/8/4P3/4K3 w - - 0 1\"]\n[SetUp \"1\"]\n") "1. e4 (1. e3) 1... Kd7 {so} *\n\n"));
+
+    CHECK(set_tag(b, "White", "Adolf") == JATSHEGI_OK && set_tag(b, "Annotator", "a\\b") == JATSHEGI_OK && set_tag(b, "ECO", "") == JATSHEGI_OK);
+    CHECK(names_are(b, "Event Site Date Round White Black Annotator ECO WhiteElo ") && tag_is(b, "White", "Adolf") && tag_is(b, "Annotator", "a\\b") && tag_is(b, "ECO", ""));
+    CHECK(set_tag(b, "", "x") == JATSHEGI_TAG_NAME && set_tag(b, "a b", "\n") == JATSHEGI_TAG_NAME && set_tag(b, "Result", "\n") == JATSHEGI_TAG_OWN);
+    CHECK(set_tag(b, "FEN", fen) == JATSHEGI_TAG_OWN && set_tag(b, "SetUp", "1") == JATSHEGI_TAG_OWN && set_tag(b, "White", "a\nb") == JATSHEGI_TAG_VALUE);
+    CHECK(tag_is(b, "White", "Adolf") && tag_is(b, "Black", "Kieseritzky"));
+    CHECK(jatshegi_board_clear_tag(b, "White", 5) == JATSHEGI_OK && jatshegi_board_clear_tag(b, "ECO", 3) == JATSHEGI_OK && jatshegi_board_clear_tag(b, "None", 4) == JATSHEGI_OK);
+    CHECK(names_are(b, "Event Site Date Round White Black Annotator WhiteElo ") && tag_is(b, "White", "?") && is_untagged(b, "ECO"));
+    CHECK(jatshegi_board_set_result(b, 4) == JATSHEGI_ARGUMENT && jatshegi_board_result(b, &marker) == JATSHEGI_OK && marker == JATSHEGI_WHITE_WINS);
+    for (uint32_t it = 0; it < 4; it++) CHECK(jatshegi_board_set_result(b, it) == JATSHEGI_OK && jatshegi_board_result(b, &marker) == JATSHEGI_OK && marker == it);
+
+    /* What isn't taken changes nothing, moves and positions change the tree alone, and a new board knows nothing. */
+    CHECK(jatshegi_board_load(b, "[White \"x\"]\n\ne4 e4", 18, &used) == JATSHEGI_PGN_MOVE && tag_is(b, "Date", "1851.06.21") && tag_is(b, "White", "?"));
+    CHECK(play(b, "Kd2") == JATSHEGI_OK && set(b, START) == JATSHEGI_OK && tag_is(b, "Date", "1851.06.21") && tag_is(b, "Annotator", "a\\b"));
+    CHECK(jatshegi_board_result(b, &marker) == JATSHEGI_OK && marker == JATSHEGI_DRAW && answers(b, "new", "ok\n") && tag_is(b, "Date", "1851.06.21"));
+    CHECK(jatshegi_board_load(b, "e4 *", 4, &used) == JATSHEGI_OK && used == 4 && names_are(b, six) && game_is(b, SEVEN_TAGS "1. e4 *\n\n"));
+    CHECK(set_tag(b, "Zoo", "1") == JATSHEGI_OK && set_tag(b, "Zoo", "2") == JATSHEGI_OK && names_are(b, "Event Site Date Round White Black Zoo ") && tag_is(b, "Zoo", "2"));
+    CHECK(jatshegi_board_new(&keys, b) == JATSHEGI_OK && names_are(b, six));
+    CHECK(jatshegi_board_clear_tag(b, "Event", 5) == JATSHEGI_OK && jatshegi_board_set_result(b, JATSHEGI_DRAW) == JATSHEGI_OK && names_are(b, six));
+    CHECK(jatshegi_board_new(&keys, b) == JATSHEGI_OK && game_is(b, SEVEN_TAGS "*\n\n"));
+}
+
+/* The text by which positions are told apart: a target counts where it can be captured on. */
+static void identities(struct jatshegi_board *b) {
+    static const struct {
+        const char *fen, *epd;
+    } rows[] = {
+        {START, "rnbqkbnr/pppppppp/8/8/8/8/PPPPPPPP/RNBQKBNR w KQkq -"},
+        {"rnbqkbnr/pppppppp/8/8/4P3/8/PPPP1PPP/RNBQKBNR b KQkq e3 0 1", "rnbqkbnr/pppppppp/8/8/4P3/8/PPPP1PPP/RNBQKBNR b KQkq -"},
+        {"8/8/8/K1pP3r/8/8/8/4k3 w - c6 0 2", "8/8/8/K1pP3r/8/8/8/4k3 w - -"},
+        {"8/8/8/2pP3r/8/8/8/K3k3 w - c6 77 99", "8/8/8/2pP3r/8/8/8/K3k3 w - c6"},
+    };
+    char text[JATSHEGI_MOST_FEN];
+    size_t length = 0;
+    for (size_t i = 0; i < sizeof rows / sizeof rows[0]; i++) {
+        CHECK(set(b, rows[i].fen) == JATSHEGI_OK && jatshegi_board_epd(b, text, sizeof text, &length) == JATSHEGI_OK);
+        CHECK(length == strlen(rows[i].epd) && memcmp(text, rows[i].epd, length) == 0);
+        CHECK(jatshegi_board_epd(b, text, length - 1, &length) == JATSHEGI_NO_ROOM && length == strlen(rows[i].epd));
+    }
+}
+
+/* The moves that led to the cursor. */
+static void ways(struct jatshegi_board *b) {
+    static const char *const played[] = {"e4", "d5", "exd5", "c5", "dxc6"};
+    struct jatshegi_move moves[6];
+    size_t count = 7;
+    moves[5] = move_of(7, 7, 3);
+    CHECK(set(b, START) == JATSHEGI_OK && jatshegi_board_line(b, moves, 0, &count) == JATSHEGI_OK && count == 0);
+    for (size_t i = 0; i < 5; i++) CHECK(play(b, played[i]) == JATSHEGI_OK);
+    CHECK(jatshegi_board_line(b, moves, 4, &count) == JATSHEGI_NO_ROOM && count == 5 && jatshegi_board_line(b, moves, 6, &count) == JATSHEGI_OK && count == 5);
+    CHECK(moves[0].from == 12 && moves[0].to == 28 && moves[1].from == 51 && moves[4].from == 35 && moves[4].to == 42 && moves[4].promotion == 0 && moves[5].from == 7);
+    CHECK(jatshegi_board_back(b) == JATSHEGI_OK && jatshegi_board_line(b, moves, 6, &count) == JATSHEGI_OK && count == 4 && moves[3].to == 34);
+}
+
+/* A copy has the whole game at the same node, and is another board. */
+static void copies(struct jatshegi_board *b) {
+    static const char game[] = "[White \"a\"]\n[ECO \"C20\"]\n\n1. e4 {one} e5 (1... c5 $1 2. Nf3) 2. Nc3 1-0";
+    struct jatshegi_board copy = JATSHEGI_NO_BOARD;
+    char text[512], other[512], reply[JATSHEGI_MOST_REPLIES];
+    size_t length = 0, count = 0, used = 0;
+    bool searching = false;
+    struct jatshegi_move m;
+    int32_t value;
+    CHECK(jatshegi_board_load(b, game, sizeof game - 1, &used) == JATSHEGI_OK && answers(b, "goto 0.1", "ok\n"));
+    CHECK(jatshegi_engine_line(b, "go infinite", 11, reply, sizeof reply, &count) == JATSHEGI_OK && jatshegi_search_start(b, 1) == JATSHEGI_OK);
+    CHECK(jatshegi_board_copy(b, &copy) == JATSHEGI_OK && answers(&copy, "path", "0.1\n") && tag_is(&copy, "ECO", "C20") && tag_is(&copy, "White", "a"));
+    CHECK(jatshegi_board_pgn(b, text, sizeof text, &length) == JATSHEGI_OK && jatshegi_board_pgn(&copy, other, sizeof other, &count) == JATSHEGI_OK);
+    CHECK(length == count && memcmp(text, other, count) == 0);
+    CHECK(jatshegi_engine_searching(&copy, &searching) == JATSHEGI_OK && !searching && jatshegi_search_best(&copy, &m, &value) == JATSHEGI_NONE);
+    CHECK(play(&copy, "d4") == JATSHEGI_OK && set_tag(&copy, "White", "b") == JATSHEGI_OK && jatshegi_board_set_result(&copy, JATSHEGI_DRAW) == JATSHEGI_OK);
+    CHECK(game_is(b, "[Event \"?\"]\n[Site \"?\"]\n[Date \"????.??.??\"]\n[Round \"?\"]\n[White \"a\"]\n[Black \"?\"]\n[Result \"1-0\"]\n[ECO \"C20\"]\n\n"
+                     "1. e4 {one} 1... e5 (1... c5 $1 2. Nf3) 2. Nc3 1-0\n\n"));
+    CHECK(jatshegi_engine_searching(b, &searching) == JATSHEGI_OK && searching && jatshegi_board_copy(&copy, b) == JATSHEGI_OK && tag_is(b, "White", "b"));
+    CHECK(jatshegi_engine_searching(b, &searching) == JATSHEGI_OK && !searching && answers(b, "path", "0.1.1\n"));
+    jatshegi_board_free(&copy);
+    CHECK(play(b, "d5") == JATSHEGI_OK);
+}
+
+/* Each status has a text of its own. */
+static void texts(void) {
+    static const char none[] = "no status of this version";
+    const char *known[64];
+    size_t many = 0;
+    for (uint32_t status = 0; status < 64; status++) {
+        const char *text = jatshegi_status_text(status);
+        if (strcmp(text, none) == 0) continue;
+        for (size_t i = 0; i < many; i++) CHECK(strcmp(known[i], text) != 0);
+        known[many++] = text;
+    }
+    CHECK(many == 37 && strcmp(jatshegi_status_text(UINT32_MAX), none) == 0 && strcmp(jatshegi_status_text(14), none) == 0);
+    CHECK(jatshegi_version() == JATSHEGI_VERSION_NUMBER);
+}
+
 int main(void) {
     struct jatshegi_board board = JATSHEGI_NO_BOARD, other = JATSHEGI_NO_BOARD;
     jatshegi_keys_fill(&keys);
+    texts();
     without_a_board();
     CHECK(jatshegi_board_new(&keys, &board) == JATSHEGI_OK && jatshegi_board_new(&keys, &other) == JATSHEGI_OK);
     CHECK(fen_is(&board, START) && play(&other, "d4") == JATSHEGI_OK && fen_is(&board, START));
@@ -637,6 +797,10 @@ int main(void) {
     lines(&board);
     games();
     loads(&board);
+    tags(&board);
+    copies(&board);
+    ways(&board);
+    identities(&board);
     reports();
     searches(&board);
     stops(&board);

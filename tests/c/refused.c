@@ -61,10 +61,10 @@ static struct outputs out, untouched;
 
 static char before[1 << 16], after[1 << 16];
 
-/* The whole game, and the way to the cursor, as the board writes them. */
+/* The whole game with its tags, and the way to the cursor, as the board writes them. */
 static size_t game(struct jatshegi_board *board, char *text) {
     size_t count = 0, more = 0;
-    if (jatshegi_board_answer(board, "pgn", 3, text, 60000, &count) != JATSHEGI_OK) exit(3);
+    if (jatshegi_board_pgn(board, text, 60000, &count) != JATSHEGI_OK) exit(3);
     if (jatshegi_board_answer(board, "path", 4, text + count, 5000, &more) != JATSHEGI_OK) exit(3);
     return count + more;
 }
@@ -88,7 +88,16 @@ static const struct {
     {"} {not a comment\n  [A \"b\"]\n\n*\n", 19},
     {"1. e4 {[A \"b\"]\n[A \"b\"]\n} e4\n[A \"b\"] *", 28},
 };
-enum { PASSES = sizeof passes / sizeof passes[0], FIRST_PASS = 19, STEPS = FIRST_PASS + PASSES };
+enum { PASSES = sizeof passes / sizeof passes[0], FIRST_TAG = 19, COPIED = 24, FIRST_PASS = 25, STEPS = FIRST_PASS + PASSES };
+
+/* A copy of the board, freed at once; the other board is as it was where it is refused. */
+static uint32_t copied(struct jatshegi_board *board) {
+    struct jatshegi_board other = JATSHEGI_NO_BOARD;
+    uint32_t status = jatshegi_board_copy(board, &other);
+    if ((status == JATSHEGI_OK) != (jatshegi_board_start(&other) == JATSHEGI_OK)) exit(3);
+    jatshegi_board_free(&other);
+    return status;
+}
 
 /* The steps of the run; each answers with a status. */
 static uint32_t step(struct jatshegi_board *board, int number) {
@@ -112,6 +121,12 @@ static uint32_t step(struct jatshegi_board *board, int number) {
         return jatshegi_board_set_position(board, &position);
     }
     if (number == 15) return jatshegi_board_set(board, fen, strlen(fen));
+    if (number == FIRST_TAG) return jatshegi_board_new(keys, board);
+    if (number == FIRST_TAG + 1) return jatshegi_board_set_tag(board, "White", 5, comment, strlen(comment));
+    if (number == FIRST_TAG + 2) return jatshegi_board_set_tag(board, "Annotator", 9, comment, strlen(comment));
+    if (number == FIRST_TAG + 3) return jatshegi_board_clear_tag(board, "White", 5);
+    if (number == FIRST_TAG + 4) return jatshegi_board_pgn(board, out.text, sizeof out.text, &out.count);
+    if (number == COPIED) return copied(board);
     text = passes[number - FIRST_PASS].text;
     return jatshegi_game_pass(text, strlen(text), &out.passed);
 }
@@ -119,14 +134,14 @@ static uint32_t step(struct jatshegi_board *board, int number) {
 /* What a step has written where it was not refused: of a bad game the place of its fault alone, else each output of its own. */
 static int is_right(int number, uint32_t status) {
     struct outputs wanted = untouched;
-    if (number >= 16 && number < FIRST_PASS) {
+    if (number >= 16 && number < FIRST_TAG) {
         wanted.used = 6;
         return status == JATSHEGI_PGN_MOVE && memcmp(&out, &wanted, sizeof out) == 0;
     }
     if (status != JATSHEGI_OK) return 0;
     if (out.added != (number >= 1 && number <= 6)) return 0;
     if (number >= 11 && number <= 13 && out.used != sizeof GOOD - 1) return 0;
-    if ((number == 9 || number == 11 || number == 12) && (out.count > sizeof out.text || memcmp(out.text, untouched.text, out.count) == 0)) return 0;
+    if ((number == 9 || number == 11 || number == 12 || number == FIRST_TAG + 4) && (out.count > sizeof out.text || memcmp(out.text, untouched.text, out.count) == 0)) return 0;
     if (number == 12 && (out.report.plies != 4 || out.report.status != JATSHEGI_PLAY)) return 0;
     return number < FIRST_PASS || out.passed == passes[number - FIRST_PASS].passed;
 }

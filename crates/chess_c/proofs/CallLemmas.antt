@@ -12,12 +12,14 @@ use Rattle.chess_cli.specs.Requests.{request}
 use Rattle.chess_slots.specs.Answers.{IsReplied}
 use Rattle.chess_slots.specs.Codes.{ok}
 use Rattle.chess_slots.specs.Handed.{IsAnsweredBy}
+use Rattle.chess_slots.specs.Headings.{HeadingParts}
+use Rattle.chess_slots.specs.Loads.{LoadsFrom}
 use Rattle.chess_slots.specs.Within.{IsRepliedWithin}
 use Rattle.chess_c.specs.Asked.{SaysAdded}
-use Rattle.chess_c.specs.Calls.{Acts, IsAnswered, IsReplying, IsReplyingWithin}
+use Rattle.chess_c.specs.Calls.{Acts, ActsOnHeading, AsksHeading, IsAnswered, IsReplying, IsReplyingWithin}
 use Rattle.chess_c.specs.Codes.{ended_code, refusal_code}
-use Rattle.chess_c.specs.Held.{Held, Searching, with_board, with_engine, with_search}
-use Rattle.chess_c.specs.Loads.{Loads, LoadsFrom}
+use Rattle.chess_c.specs.Held.{Held, Searching, with_board, with_engine, with_heading, with_search}
+use Rattle.chess_c.specs.Loads.{Loads}
 use Rattle.chess_c.specs.Searches.{IsBegun, IsBegunFrom, IsSliced, IsSlicedWithin, SlicedFrom, SlicedWithinFrom}
 
 pub acts_some : (ends : TreeParts → Result (Unit {0}) Refusal → TreeParts → Type 0) → (old new : Option Held) → (held : Held) → (after : TreeParts)
@@ -40,55 +42,76 @@ says_added is_new old held ended code said said' is ec e =
     subst (λ (o : Option Held). SaysAdded is_new o code said said') (sym is) (e ∙ ap (λ (b : Bool). if b then is_new held.board else said) (sym done))
 
 -- the others are as they were
-same_but_board : (held after : Held) → after.search ≡ held.search → after.engine ≡ held.engine → after ≡ with_board after.board held
-same_but_board held after ks ke =
-    ap (λ (s : Option Searching). record { board = after.board; search = s; engine = after.engine }) ks ∙ ap (λ (e : State). record { board = after.board; search = held.search; engine = e }) ke
+same_but_board : (held after : Held) → after.heading ≡ held.heading → after.search ≡ held.search → after.engine ≡ held.engine → after ≡ with_board after.board held
+same_but_board held after kh ks ke =
+    ap (λ (h : HeadingParts). record { board = after.board; heading = h; search = after.search; engine = after.engine }) kh
+    ∙ ap (λ (s : Option Searching). record { board = after.board; heading = held.heading; search = s; engine = after.engine }) ks
+    ∙ ap (λ (e : State). record { board = after.board; heading = held.heading; search = held.search; engine = e }) ke
 
-same_but_search : (held after : Held) → after.board ≡ held.board → after.engine ≡ held.engine → after ≡ with_search after.search held
-same_but_search held after kb ke =
-    ap (λ (b : TreeParts). record { board = b; search = after.search; engine = after.engine }) kb ∙ ap (λ (e : State). record { board = held.board; search = after.search; engine = e }) ke
+same_but_search : (held after : Held) → after.board ≡ held.board → after.heading ≡ held.heading → after.engine ≡ held.engine → after ≡ with_search after.search held
+same_but_search held after kb kh ke =
+    ap (λ (b : TreeParts). record { board = b; heading = after.heading; search = after.search; engine = after.engine }) kb
+    ∙ ap (λ (h : HeadingParts). record { board = held.board; heading = h; search = after.search; engine = after.engine }) kh
+    ∙ ap (λ (e : State). record { board = held.board; heading = held.heading; search = after.search; engine = e }) ke
 
-same_but_engine : (held after : Held) → after.board ≡ held.board → after.search ≡ held.search → after ≡ with_engine after.engine held
-same_but_engine held after kb ks =
-    ap (λ (b : TreeParts). record { board = b; search = after.search; engine = after.engine }) kb ∙ ap (λ (s : Option Searching). record { board = held.board; search = s; engine = after.engine }) ks
+same_but_engine : (held after : Held) → after.board ≡ held.board → after.heading ≡ held.heading → after.search ≡ held.search → after ≡ with_engine after.engine held
+same_but_engine held after kb kh ks =
+    ap (λ (b : TreeParts). record { board = b; heading = after.heading; search = after.search; engine = after.engine }) kb
+    ∙ ap (λ (h : HeadingParts). record { board = held.board; heading = h; search = after.search; engine = after.engine }) kh
+    ∙ ap (λ (s : Option Searching). record { board = held.board; heading = held.heading; search = s; engine = after.engine }) ks
 
 pub answered_some : (line : List ℕ) → (old new : Option Held) → (held after : Held) → (text : List ℕ) → (code count count' : ℕ) → (room room' : List ℕ)
-    → old ≡ Some held → new ≡ Some after → after.search ≡ held.search → after.engine ≡ held.engine → Tells held.board (request line) text after.board → IsAnsweredBy text code count count' room room'
+    → old ≡ Some held → new ≡ Some after → after.heading ≡ held.heading → after.search ≡ held.search → after.engine ≡ held.engine → Tells held.board (request line) text after.board → IsAnsweredBy text code count count' room room'
     → IsAnswered old line code count count' room room' new
-answered_some line old new held after text code count count' room room' is en ks ke tells told =
-    subst (λ (o : Option Held). IsAnswered o line code count count' room room' new) (sym is) (text, after.board, tells, told, en ∙ ap (λ (h : Held). Some h) (same_but_board held after ks ke))
+answered_some line old new held after text code count count' room room' is en kh ks ke tells told =
+    subst (λ (o : Option Held). IsAnswered o line code count count' room room' new) (sym is) (text, after.board, tells, told, en ∙ ap (λ (h : Held). Some h) (same_but_board held after kh ks ke))
 
 pub replying_some : (event : Event) → (old new : Option Held) → (held after : Held) → (code count count' : ℕ) → (room room' : List ℕ)
-    → old ≡ Some held → new ≡ Some after → after.board ≡ held.board → after.search ≡ held.search → IsReplied event held.engine after.engine code count' room room'
+    → old ≡ Some held → new ≡ Some after → after.board ≡ held.board → after.heading ≡ held.heading → after.search ≡ held.search → IsReplied event held.engine after.engine code count' room room'
     → IsReplying event old code count count' room room' new
-replying_some event old new held after code count count' room room' is en kb ks replied =
-    subst (λ (o : Option Held). IsReplying event o code count count' room room' new) (sym is) (after.engine, replied, en ∙ ap (λ (h : Held). Some h) (same_but_engine held after kb ks))
+replying_some event old new held after code count count' room room' is en kb kh ks replied =
+    subst (λ (o : Option Held). IsReplying event o code count count' room room' new) (sym is) (after.engine, replied, en ∙ ap (λ (h : Held). Some h) (same_but_engine held after kb kh ks))
 
 pub replying_within_some : (says : ℕ → Option Bool) → (old new : Option Held) → (held after : Held) → (nodes nodes' : ℕ) → (made made' : Bool) → (code count count' : ℕ)
-    → (room room' : List ℕ) → old ≡ Some held → new ≡ Some after → after.board ≡ held.board → after.search ≡ held.search
+    → (room room' : List ℕ) → old ≡ Some held → new ≡ Some after → after.board ≡ held.board → after.heading ≡ held.heading → after.search ≡ held.search
     → IsRepliedWithin says held.engine after.engine nodes' made' code count' room room' → IsReplyingWithin says old nodes nodes' made made' code count count' room room' new
-replying_within_some says old new held after nodes nodes' made made' code count count' room room' is en kb ks replied =
+replying_within_some says old new held after nodes nodes' made made' code count count' room room' is en kb kh ks replied =
     subst (λ (o : Option Held). IsReplyingWithin says o nodes nodes' made made' code count count' room room' new) (sym is)
-    (after.engine, replied, en ∙ ap (λ (h : Held). Some h) (same_but_engine held after kb ks))
+    (after.engine, replied, en ∙ ap (λ (h : Held). Some h) (same_but_engine held after kb kh ks))
 
-pub begun_some : (depth : ℕ) → (old new : Option Held) → (held after : Held) → (code : ℕ) → old ≡ Some held → new ≡ Some after → after.board ≡ held.board → after.engine ≡ held.engine
+pub begun_some : (depth : ℕ) → (old new : Option Held) → (held after : Held) → (code : ℕ) → old ≡ Some held → new ≡ Some after → after.board ≡ held.board → after.heading ≡ held.heading → after.engine ≡ held.engine
     → IsBegunFrom depth held.board code held.search after.search → IsBegun depth old code new
-begun_some depth old new held after code is en kb ke begun =
-    subst (λ (o : Option Held). IsBegun depth o code new) (sym is) (after.search, begun, en ∙ ap (λ (h : Held). Some h) (same_but_search held after kb ke))
+begun_some depth old new held after code is en kb kh ke begun =
+    subst (λ (o : Option Held). IsBegun depth o code new) (sym is) (after.search, begun, en ∙ ap (λ (h : Held). Some h) (same_but_search held after kb kh ke))
 
-pub sliced_some : (old new : Option Held) → (held after : Held) → (code said said' : ℕ) → old ≡ Some held → new ≡ Some after → after.board ≡ held.board → after.engine ≡ held.engine
+pub sliced_some : (old new : Option Held) → (held after : Held) → (code said said' : ℕ) → old ≡ Some held → new ≡ Some after → after.board ≡ held.board → after.heading ≡ held.heading → after.engine ≡ held.engine
     → SlicedFrom held.search code said said' after.search → IsSliced old code said said' new
-sliced_some old new held after code said said' is en kb ke sliced =
-    subst (λ (o : Option Held). IsSliced o code said said' new) (sym is) (after.search, sliced, en ∙ ap (λ (h : Held). Some h) (same_but_search held after kb ke))
+sliced_some old new held after code said said' is en kb kh ke sliced =
+    subst (λ (o : Option Held). IsSliced o code said said' new) (sym is) (after.search, sliced, en ∙ ap (λ (h : Held). Some h) (same_but_search held after kb kh ke))
 
 pub sliced_within_some : (says : ℕ → Option Bool) → (old new : Option Held) → (held after : Held) → (code said said' nodes nodes' : ℕ) → old ≡ Some held → new ≡ Some after
-    → after.board ≡ held.board → after.engine ≡ held.engine → SlicedWithinFrom says held.search code said said' nodes nodes' after.search
+    → after.board ≡ held.board → after.heading ≡ held.heading → after.engine ≡ held.engine → SlicedWithinFrom says held.search code said said' nodes nodes' after.search
     → IsSlicedWithin says old code said said' nodes nodes' new
-sliced_within_some says old new held after code said said' nodes nodes' is en kb ke sliced =
+sliced_within_some says old new held after code said said' nodes nodes' is en kb kh ke sliced =
     subst (λ (o : Option Held). IsSlicedWithin says o code said said' nodes nodes' new) (sym is)
-    (after.search, sliced, en ∙ ap (λ (h : Held). Some h) (same_but_search held after kb ke))
+    (after.search, sliced, en ∙ ap (λ (h : Held). Some h) (same_but_search held after kb kh ke))
 
 pub loaded_some : (text : List ℕ) → (old new : Option Held) → (held after : Held) → (code used used' : ℕ) → old ≡ Some held → new ≡ Some after → after.search ≡ held.search → after.engine ≡ held.engine
-    → LoadsFrom text held.board code used used' after.board → Loads text old code used used' new
+    → LoadsFrom text held.board held.heading code used used' after.board after.heading → Loads text old code used used' new
 loaded_some text old new held after code used used' is en ks ke loads =
-    subst (λ (o : Option Held). Loads text o code used used' new) (sym is) (after.board, loads, en ∙ ap (λ (h : Held). Some h) (same_but_board held after ks ke))
+    subst (λ (o : Option Held). Loads text o code used used' new) (sym is) (
+      after.board,
+      after.heading,
+      loads,
+      en ∙ ap (λ (h : Held). Some h) (
+          ap (λ (s : Option Searching). record { board = after.board; heading = after.heading; search = s; engine = after.engine }) ks
+          ∙ ap (λ (e : State). record { board = after.board; heading = after.heading; search = held.search; engine = e }) ke),
+    )
+
+pub acts_on_heading : (ends : HeadingParts → ℕ → HeadingParts → Type 0) → (old new : Option Held) → (held : Held) → (after : HeadingParts) → (code : ℕ)
+    → old ≡ Some held → new ≡ Some (with_heading after held) → ends held.heading code after → ActsOnHeading ends old code new
+acts_on_heading ends old new held after code is en end = subst (λ (o : Option Held). ActsOnHeading ends o code new) (sym is) (after, end, en)
+
+pub asks_heading : (kept : Type 0) → (says : TreeParts → HeadingParts → ℕ → Type 0) → (old new : Option Held) → (held : Held) → (code : ℕ) → old ≡ Some held → new ≡ Some held
+    → says held.board held.heading code → AsksHeading kept says old code new
+asks_heading kept says old new held code is en said = subst (λ (o : Option Held). AsksHeading kept says o code new) (sym is) (said, en)

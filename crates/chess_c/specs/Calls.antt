@@ -1,12 +1,14 @@
 -- What a call on a slot answers, and what it leaves there.
 --   Asks   of a call that leaves all as it was: an empty slot is answered so, and this is kept; else this holds of the board and the status
 --   Acts   of a call that may change the board: an empty slot is answered so; else the call on the board may end so, from the one board to the other
+--   AsksHeading, ActsOnHeading   the same two of a call on the tags and the end of a game
+--   IsCopied     of a copy into another slot: it is there, or there is no memory and the other slot is as it was
 --   IsAnswered   of a line: the board may answer it with a text, and go from the one board to the other; the text is handed out, or there was no memory
 --   IsReplying   of an event: the engine replies to it (`IsReplied`)
 --   IsSearching, IsInfinite, IsWaiting, IsEnded   what is shown of the engine: whether it searches, without an end of its own, and waits for `stop`; whether `quit` came
 --   IsTimed      after how many milliseconds the clock ends the search; the status of none where it ends none
 --   IsReplyingWithin   of a slice that may be abandoned (`IsRepliedWithin`)
-use Rattle.std.specs.Prelude.{◌≡◌, ℕ, Bool, List, Option, Some, None, is_some, Result}
+use Rattle.std.specs.Prelude.{◌≡◌, ◌⊎◌, ℕ, Bool, List, Option, Some, None, is_some, Result}
 use Rattle.chess_tree.specs.GameTree.{TreeParts}
 use Rattle.chess_uci.specs.declared.event.Event.{Event}
 use Rattle.chess_uci.specs.Machine.{State, is_infinite, is_waiting, time_left}
@@ -14,11 +16,12 @@ use Rattle.chess_cli.specs.declared.board_command.refusal.Refusal.{Refusal}
 use Rattle.chess_cli.specs.Answers.{Tells}
 use Rattle.chess_cli.specs.Requests.{request}
 use Rattle.chess_slots.specs.Answers.{IsReplied}
-use Rattle.chess_slots.specs.Codes.{empty_slot, none_best, ok}
+use Rattle.chess_slots.specs.Codes.{empty_slot, no_memory, none_best, ok}
 use Rattle.chess_slots.specs.Handed.{IsAnsweredBy}
+use Rattle.chess_slots.specs.Headings.{HeadingParts}
 use Rattle.chess_slots.specs.Within.{IsRepliedWithin}
 use Rattle.chess_c.specs.Codes.{ended_code}
-use Rattle.chess_c.specs.Held.{Held, with_board, with_engine}
+use Rattle.chess_c.specs.Held.{Held, copy_of, with_board, with_engine, with_heading}
 
 -- a call that looks: an empty slot, or an answer and all as before
 abbrev pub Asks : (kept : Type 0) → (TreeParts → ℕ → Type 0) → Option Held → ℕ → Option Held → Type 0
@@ -29,6 +32,21 @@ Asks kept says (Some held) code new = says held.board code × (new ≡ Some held
 abbrev pub Acts : (TreeParts → Result (Unit {0}) Refusal → TreeParts → Type 0) → Option Held → ℕ → Option Held → Type 0
 Acts ends None code new = (code ≡ empty_slot) × (new ≡ None)
 Acts ends (Some held) code new = (ended : Result (Unit {0}) Refusal) × (after : TreeParts) × ends held.board ended after × (code ≡ ended_code ended) × (new ≡ Some (with_board after held))
+
+-- a call that looks at the heading, or at board and heading
+abbrev pub AsksHeading : (kept : Type 0) → (TreeParts → HeadingParts → ℕ → Type 0) → Option Held → ℕ → Option Held → Type 0
+AsksHeading kept says None code new = (code ≡ empty_slot) × (new ≡ None) × kept
+AsksHeading kept says (Some held) code new = says held.board held.heading code × (new ≡ Some held)
+
+-- a call that may change the heading, and nothing else
+abbrev pub ActsOnHeading : (HeadingParts → ℕ → HeadingParts → Type 0) → Option Held → ℕ → Option Held → Type 0
+ActsOnHeading ends None code new = (code ≡ empty_slot) × (new ≡ None)
+ActsOnHeading ends (Some held) code new = (after : HeadingParts) × ends held.heading code after × (new ≡ Some (with_heading after held))
+
+-- a copy is in the other slot, or there is no memory
+abbrev pub IsCopied : Option Held → ℕ → (other other' : Option Held) → Type 0
+IsCopied None code other other' = (code ≡ empty_slot) × (other' ≡ other)
+IsCopied (Some held) code other other' = ((code ≡ ok) × (other' ≡ Some (copy_of held))) ⊎ ((code ≡ no_memory) × (other' ≡ other))
 
 -- a line is answered, and the answer handed out
 abbrev pub IsAnswered : Option Held → List ℕ → (code count count' : ℕ) → (room room' : List ℕ) → Option Held → Type 0

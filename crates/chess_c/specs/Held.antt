@@ -1,8 +1,9 @@
 -- What a slot holds.
 --   Searching      a search: the line whose last position it is of, its depth, and how many of the legal moves were searched
---   Held           a board with its tree, a search, if one was begun, and the state of an engine
+--   Held           a board with its tree and what its game's text says beside it, a search, if one was begun, and the state of an engine
 --   beginning      as it is made
---   with_board, with_search, with_engine   the same with another part
+--   copy_of        as a copy of it is made
+--   with_board, with_heading, with_search, with_engine   the same with another part
 --   roots          the moves that a search is about: all legal ones
 --   coded_held     what is held as a tuple, by which a proof tells one from another
 use Rattle.std.specs.Prelude.{ℕ, List, Option, None, refl}
@@ -17,6 +18,7 @@ use Rattle.chess_uci.specs.Machine.{State}
 use Rattle.chess_uci.specs.Machine as machine
 use Rattle.chess_uci.specs.steps.StateCode.{coded_session}
 use Rattle.chess_cli.specs.Answers as answers
+use Rattle.chess_slots.specs.Headings.{HeadingParts, coded_heading, nothing_known}
 
 -- a search as far as it has come
 pub record Searching : Type 0 where
@@ -27,24 +29,33 @@ pub record Searching : Type 0 where
 -- what a slot holds
 pub record Held : Type 0 where
   pub board : TreeParts
+  pub heading : HeadingParts
   pub search : Option Searching
   pub engine : State
 
--- a board as a game begins, no search, and an engine at its start
+-- a board as a game begins, of which nothing is known, no search, and an engine at its start
 abbrev pub beginning : Held
-beginning = record { board = answers.beginning; search = None; engine = machine.beginning }
+beginning = record { board = answers.beginning; heading = nothing_known; search = None; engine = machine.beginning }
+
+-- the same game at the same node, no search, and an engine at its start
+abbrev pub copy_of : Held → Held
+copy_of held = record { board = held.board; heading = held.heading; search = None; engine = machine.beginning }
 
 -- another board
 abbrev pub with_board : TreeParts → Held → Held
-with_board board held = record { board = board; search = held.search; engine = held.engine }
+with_board board held = record { board = board; heading = held.heading; search = held.search; engine = held.engine }
+
+-- other tags, or another end
+abbrev pub with_heading : HeadingParts → Held → Held
+with_heading heading held = record { board = held.board; heading = heading; search = held.search; engine = held.engine }
 
 -- another search, or none
 abbrev pub with_search : Option Searching → Held → Held
-with_search search held = record { board = held.board; search = search; engine = held.engine }
+with_search search held = record { board = held.board; heading = held.heading; search = search; engine = held.engine }
 
 -- another state of the engine
 abbrev pub with_engine : State → Held → Held
-with_engine engine held = record { board = held.board; search = held.search; engine = engine }
+with_engine engine held = record { board = held.board; heading = held.heading; search = held.search; engine = engine }
 
 -- all legal moves of the last position (FIDE Laws 3.1 to 3.10)
 abbrev pub roots : Line → List MoveParts
@@ -58,5 +69,5 @@ coded_searching =
 -- what is held as a tuple
 abbrev pub coded_held : Coded Held
 coded_held =
-    code_by (TreeParts × (Option Searching × State)) (coded× coded_tree (coded× (coded_option coded_searching) coded_session))
-    (λ h. (h.board, (h.search, h.engine))) (λ p. record { board = p.0; search = p.1.0; engine = p.1.1 }) (λ _. refl)
+    code_by ((TreeParts × HeadingParts) × (Option Searching × State)) (coded× (coded× coded_tree coded_heading) (coded× (coded_option coded_searching) coded_session))
+    (λ h. ((h.board, h.heading), (h.search, h.engine))) (λ p. record { board = p.0.0; heading = p.0.1; search = p.1.0; engine = p.1.1 }) (λ _. refl)

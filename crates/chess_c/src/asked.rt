@@ -9,7 +9,7 @@ ghost use Rattle.chess_types.specs.board.Position.{man_on};
 ghost use Rattle.chess_types.specs.board.Repetition.{repetitions};
 ghost use Rattle.chess_types.specs.board.Squares.{squares};
 ghost use Rattle.chess_eval.specs.Evaluation.{evaluation};
-ghost use Rattle.chess_fen.specs.Writing.{written};
+ghost use Rattle.chess_fen.specs.Writing.{identity, written};
 ghost use Rattle.chess_san.specs.Naming.{san_reading};
 ghost use Rattle.chess_tree.specs.GameTree.{line_to};
 ghost use Rattle.chess_c.specs.Asked.{IsAttackedBy, IsBestAt, IsBestWithin, IsClaimed, IsRead, IsWritten, attackers_of, claims_in, flag};
@@ -23,7 +23,7 @@ ghost use Rattle.chess_c.specs.Positions.{position_shown};
 
 use crate::codes::{claims_code, colour_in, refusal_code};
 use crate::flag::within;
-use crate::moves::{CMove, hand_moves};
+use crate::moves::{CMove, hand_line, hand_moves};
 use crate::positions::CPosition;
 use crate::slot::{Slot, put, take};
 use crate::squares::{put_counts, put_set, word_of};
@@ -230,6 +230,24 @@ pub extern "C" fn jatshegi_board_moves(
     code
 }
 
+/// The moves from the root to the cursor, in the order in which they were made, and how many they are, at most 20,000.
+#[unsafe(no_mangle)]
+pub extern "C" fn jatshegi_board_line(
+    alloc: Global,
+    slot: &mut Slot,
+    moves: &mut [CMove],
+    count: &mut usize,
+) -> u32
+    ensures { Asks ((moves.new ≡ moves.old) × (count.new ≡ count.old)) (λ board code. IsHanded (map shown (line_to board).moves) code count.new moves.old moves.new) slot.old.held result slot.new.held }
+{
+    let Some(session) = take(slot, alloc) else {
+        return EMPTY;
+    };
+    let code = hand_line(session.board.line(), moves, count);
+    put(slot, session, alloc);
+    code
+}
+
 /// The FEN of the position, at most 128 bytes (PGN 16.1).
 #[unsafe(no_mangle)]
 pub extern "C" fn jatshegi_board_fen(
@@ -244,6 +262,29 @@ pub extern "C" fn jatshegi_board_fen(
         return EMPTY;
     };
     let code = hand(session.board.fen_text().as_str().as_bytes(), text, count);
+    put(slot, session, alloc);
+    code
+}
+
+/// The text by which the Laws tell positions apart, at most 128 bytes: the first four fields of the FEN, with the en passant target only where a legal move
+/// captures on it (FIDE Laws 9.2.3; `identity_laws` of `chess_draws`).
+#[unsafe(no_mangle)]
+pub extern "C" fn jatshegi_board_epd(
+    alloc: Global,
+    slot: &mut Slot,
+    text: &mut [u8],
+    count: &mut usize,
+) -> u32
+    ensures { Asks ((text.new ≡ text.old) × (count.new ≡ count.old)) (λ board code. IsHanded (identity (last (line_to board))) code count.new text.old text.new) slot.old.held result slot.new.held }
+{
+    let Some(session) = take(slot, alloc) else {
+        return EMPTY;
+    };
+    let code = hand(
+        session.board.identity_text().as_str().as_bytes(),
+        text,
+        count,
+    );
     put(slot, session, alloc);
     code
 }

@@ -24,3 +24,5 @@ mod slot;
 mod squares;
 mod stop;
 mod stops;
+mod tags;
+mod version;

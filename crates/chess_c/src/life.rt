@@ -1,7 +1,7 @@
 ghost use Rattle.std.specs.Prelude.{◌≡◌, ◌⊎◌, Some, None, true};
 ghost use Rattle.chess_fen.specs.Reading.{fen_reading};
 ghost use Rattle.chess_cli.specs.Answers.{HasEffect, set_effect};
-ghost use Rattle.chess_c.specs.Calls.{Acts};
+ghost use Rattle.chess_c.specs.Calls.{Acts, IsCopied};
 ghost use Rattle.chess_c.specs.Held.{beginning};
 ghost use Rattle.chess_c.specs.Loads.{Loads};
 ghost use Rattle.chess_c.specs.Positions.{position_in};
@@ -27,6 +27,28 @@ pub extern "C" fn jatshegi_board_new(alloc: Global, keys: &'static Keys, slot: &
         return MEMORY;
     };
     put(slot, kept, alloc);
+    OK
+}
+
+/// Puts a copy of the board into the other slot: the same game with its tags, at the same node, no search, and an engine at its start; what was there is freed.
+/// Where there is no memory the other slot is as it was.
+#[unsafe(no_mangle)]
+pub extern "C" fn jatshegi_board_copy(alloc: Global, slot: &mut Slot, other: &mut Slot) -> u32
+    ensures copied { IsCopied slot.old.held result other.old.held other.new.held }
+    ensures same { slot.new.held ≡ slot.old.held }
+{
+    let Some(session) = take(slot, alloc) else {
+        return EMPTY;
+    };
+    let copied = session.copy();
+    put(slot, session, alloc);
+    let Ok(copy) = copied else {
+        return MEMORY;
+    };
+    let Ok(kept) = Box::new(alloc, copy) else {
+        return MEMORY;
+    };
+    put(other, kept, alloc);
     OK
 }
 

@@ -2,8 +2,10 @@ ghost use Rattle.std.specs.Prelude.{◌≡◌, ◌≤◌, ◌++◌, drop, length
 ghost use Rattle.chess_slots.specs.Handed.{IsHanded};
 ghost use Rattle.chess_c.specs.Moves.{IsParsed, IsSpelled, move_in, promotion_code, promotion_in, shown};
 
+use chess_draws::Line;
 use chess_slots::{ARGUMENT, FORM, OK, ROOM, hand};
 use chess_types::{Kind, Move, Square};
+use std::alloc::Global;
 
 /// A move, as C sees it.
 #[repr(C)]
@@ -89,6 +91,38 @@ pub fn hand_moves(moves: &[Move], room: &mut [CMove], count: &mut usize) -> u32
         return ROOM;
     }
     put_moves(moves, room);
+    OK
+}
+
+// Puts the moves of a line first in a room that is large enough.
+fn put_line(line: &Line<'static, &'static Global>, room: &mut [CMove])
+    requires still { line.now.looked ≡ 0 }
+    requires room { length line.now.line.moves ≤ length room.old }
+    ensures { room.new ≡ map shown line.now.line.moves ++ drop (length line.now.line.moves) room.old }
+{
+    for ply in 0..line.plies() {
+        let Some(m) = line.played(ply) else {
+            unreachable!();
+        };
+        room[ply as usize] = CMove::of(m);
+    }
+}
+
+/// The same of the moves of a line.
+pub fn hand_line(
+    line: &Line<'static, &'static Global>,
+    room: &mut [CMove],
+    count: &mut usize,
+) -> u32
+    requires { line.now.looked ≡ 0 }
+    ensures { IsHanded (map shown line.now.line.moves) result count.new room.old room.new }
+{
+    let plies = line.plies() as usize;
+    *count = plies;
+    if plies > room.len() {
+        return ROOM;
+    }
+    put_line(line, room);
     OK
 }
 

@@ -3,14 +3,15 @@ ghost use Rattle.std.specs.Prelude.{◌≡◌, ◌≤◌, ℕ, List, IfOk, is_so
 ghost use Rattle.chess_cli.specs.Answers.{Tells};
 ghost use Rattle.chess_cli.specs.Requests.{request};
 ghost use Rattle.chess_tree.specs.GameTree.{line_to};
+ghost use Rattle.chess_pgn.specs.Written.{game_text};
 ghost use Rattle.chess_slots.specs.Answers.{IsReplied};
 ghost use Rattle.chess_slots.specs.Handed.{IsAnsweredBy};
 ghost use Rattle.chess_slots.specs.Within.{IsRepliedWithin, says_within};
 ghost use Rattle.chess_c.specs.Asked.{IsBest, IsBestWithin};
 ghost use Rattle.chess_c.specs.Calls.{IsLeft};
 ghost use Rattle.chess_uci.specs.Machine.{is_infinite, is_waiting, time_left};
-ghost use Rattle.chess_c.specs.Held.{beginning};
-ghost use Rattle.chess_c.specs.Loads.{LoadsFrom};
+ghost use Rattle.chess_c.specs.Held.{beginning, copy_of};
+ghost use Rattle.chess_slots.specs.Loads.{LoadsFrom};
 ghost use Rattle.chess_c.specs.Searches.{IsBegunFrom, SlicedFrom, SlicedWithinFrom, best_of};
 
 use crate::moves::CMove;
@@ -20,8 +21,8 @@ use chess_key::KeyTable;
 use chess_loop::OutputBuffer;
 use chess_search::Nodes;
 use chess_slots::{
-    ABANDONED, ARGUMENT, MEMORY, NO_GAME, NONE, OK, Within, answer, cursor_line, refused, reply,
-    reply_within,
+    ABANDONED, ARGUMENT, Heading, MEMORY, NONE, OK, Within, answer, cursor_line, load, reply,
+    reply_within, whole_game,
 };
 use chess_tree::TreeFault;
 use chess_types::Move;
@@ -33,6 +34,7 @@ use std::marker::Model;
 #[derive(Drop)]
 pub struct Session {
     pub board: Board<'static, Global>,
+    pub heading: Heading<'static, Global>,
     pub search: Option<Search>,
     engine: Uci<'static, Global>,
     page: OutputBuffer<Global>,
@@ -47,7 +49,7 @@ impl Model for Session {
 
     ghost coded = { coded_held };
 
-    ghost view = { λ s. record { board = s.board; search = s.search; engine = s.engine } };
+    ghost view = { λ s. record { board = s.board; heading = s.heading; search = s.search; engine = s.engine } };
 
     ghost invariant = { λ s. s.page ≡ [] };
 }
@@ -75,6 +77,7 @@ impl Session {
         let board = Board::new(alloc, table)?;
         Ok(Session {
             board,
+            heading: Heading::new(alloc),
             search: None,
             engine: Uci::new(alloc, table),
             page,
@@ -82,20 +85,47 @@ impl Session {
         })
     }
 
+    /// Another one with the same game, at the same node, no search, and an engine at its start; `Memory` where there is none.
+    pub fn copy(&self) -> Result<Session, TreeFault>
+        ensures { IfOk result (λ s. s ≡ copy_of self.now) }
+    {
+        let alloc = self.heading.alloc();
+        let page = OutputBuffer::new(*alloc)?;
+        let board = self.board.copy()?;
+        let heading = self.heading.clone()?;
+        Ok(Session {
+            board,
+            heading,
+            search: None,
+            engine: Uci::new(alloc, self.table),
+            page,
+            table: self.table,
+        })
+    }
+
     /// Answers a line, and hands out the text: 0, or `ROOM` where it is longer than the room for it, or `MEMORY` where there is none to gather it in.
     /// The line has been answered all the same.
     pub fn answer(&mut self, alloc: Global, line: &[u8], room: &mut [u8], count: &mut usize) -> u32
         ensures board { (text : List ℕ) × Tells self.old.board (request line.now) text self.new.board × IsAnsweredBy text result count.old count.new room.old room.new }
+        ensures heading { self.new.heading ≡ self.old.heading }
         ensures search { self.new.search ≡ self.old.search }
         ensures engine { self.new.engine ≡ self.old.engine }
     {
         answer(&mut self.board, &mut self.page, alloc, line, room, count)
     }
 
+    /// Hands out the whole game in export form, with its tags and its end (PGN 3.2).
+    pub fn whole_game(&self, room: &mut [u8], count: &mut usize) -> u32
+        ensures { IsAnsweredBy (game_text (record { tags = self.now.heading.tags; outcome = self.now.heading.outcome; tree = self.now.board.tree })) result count.old count.new room.old room.new }
+    {
+        whole_game(&self.heading, self.board.tree(), room, count)
+    }
+
     /// What the event is replied, each reply on a line of its own.
     pub fn event(&mut self, event: Event, room: &mut [u8], count: &mut usize) -> u32
         ensures engine { IsReplied event.entry self.old.engine self.new.engine result count.new room.old room.new }
         ensures board { self.new.board ≡ self.old.board }
+        ensures heading { self.new.heading ≡ self.old.heading }
         ensures search { self.new.search ≡ self.old.search }
     {
         reply(&mut self.engine, &mut self.page, event, room, count)
@@ -112,6 +142,7 @@ impl Session {
     ) -> u32
         ensures engine { IsRepliedWithin (says_within watch.entry.nodes (is_some watch.entry.flag)) self.old.engine self.new.engine visited.new searched.new result count.new room.old room.new }
         ensures board { self.new.board ≡ self.old.board }
+        ensures heading { self.new.heading ≡ self.old.heading }
         ensures search { self.new.search ≡ self.old.search }
     {
         reply_within(
@@ -166,26 +197,20 @@ impl Session {
         }
     }
 
-    /// Begins with the tree of the game at the start of a text, and says how many bytes of the text the game takes; else what `refused` answers of the text.
+    /// Begins with the game at the start of a text, and says how many bytes of the text it takes; else what `load` of chess_slots answers of the text.
     pub fn load(&mut self, text: &[u8], used: &mut usize) -> u32
-        ensures board { LoadsFrom text.now self.old.board result used.old used.new self.new.board }
+        ensures board { LoadsFrom text.now self.old.board self.old.heading result used.old used.new self.new.board self.new.heading }
         ensures search { self.new.search ≡ self.old.search }
         ensures engine { self.new.engine ≡ self.old.engine }
     {
-        match self.board.load(text) {
-            Ok(Some(taken)) => {
-                *used = taken;
-                OK
-            }
-            Ok(None) => NO_GAME,
-            Err(fault) => refused(fault, text, used),
-        }
+        load(&mut self.board, &mut self.heading, text, used)
     }
 
     /// Begins a search of the position at the cursor; one that was there is ended.
     pub fn begin(&mut self, alloc: Global, depth: u8) -> u32
         ensures search { IsBegunFrom depth self.old.board result self.old.search self.new.search }
         ensures board { self.new.board ≡ self.old.board }
+        ensures heading { self.new.heading ≡ self.old.heading }
         ensures engine { self.new.engine ≡ self.old.engine }
     {
         if depth < 1 || depth > 16 {
@@ -205,6 +230,7 @@ impl Session {
     pub fn slice(&mut self, left: &mut usize) -> u32
         ensures search { SlicedFrom self.old.search result left.old left.new self.new.search }
         ensures board { self.new.board ≡ self.old.board }
+        ensures heading { self.new.heading ≡ self.old.heading }
         ensures engine { self.new.engine ≡ self.old.engine }
     {
         let Some(search) = &mut self.search else {
@@ -224,6 +250,7 @@ impl Session {
     ) -> u32
         ensures search { SlicedWithinFrom (says_within watch.entry.nodes (is_some watch.entry.flag)) self.old.search result left.old left.new visited.old visited.new self.new.search }
         ensures board { self.new.board ≡ self.old.board }
+        ensures heading { self.new.heading ≡ self.old.heading }
         ensures engine { self.new.engine ≡ self.old.engine }
     {
         let Some(search) = &mut self.search else {

@@ -5,4 +5,4 @@ mod joining;
 mod tags;
 
 pub use joining::{JoinFault, join};
-pub use tags::{TagFault, clear_tag, set_tag};
+pub use tags::{TagFault, check_tag, clear_tag, set_tag, unknown_value};

@@ -78,8 +78,12 @@ fn is_on_line(text: &[u8]) -> bool
     text.iter().all(|b| *b != b'\n')
 }
 
-// The first thing wrong with a tag.
-fn check(name: &[u8], value: &[u8]) -> Result<(), TagFault>
+/// The first thing wrong with a tag of that name and value, as `set_tag` finds it.
+///
+/// # Errors
+///
+/// Those of `set_tag` but `Memory`.
+pub fn check_tag(name: &[u8], value: &[u8]) -> Result<(), TagFault>
     ensures { result ≡ tag_answer name.now value.now }
 {
     if !is_named(name) {
@@ -148,7 +152,7 @@ pub fn set_tag<'a, A: Allocator>(
     ensures ok { OnOk result (IsSet name.now (Some value.now) (tags_of tags.old) (tags_of tags.new)) }
     ensures err { OnErr result (tags_of tags.new ≡ tags_of tags.old) }
 {
-    check(name, value)?;
+    check_tag(name, value)?;
     let Ok(value) = owned(alloc, value) else {
         return Err(TagFault::Memory);
     };
@@ -158,9 +162,9 @@ pub fn set_tag<'a, A: Allocator>(
     }
 }
 
-// The value of a tag that each game has, where nothing is known (PGN 8.1.1).
+/// The value of a tag that each game has besides Result, where nothing is known (PGN 8.1.1); `None` of any other name.
 #[tactic(auto, unfolding(chess_pgn::specs::Games::tag_value))]
-fn unknown_value(name: &[u8]) -> Option<&'static [u8]>
+pub fn unknown_value(name: &[u8]) -> Option<&'static [u8]>
     ensures { option_map (λ value. value.now) result ≡ tag_value name.now unknown }
 {
     if is(name, b"Event") {

@@ -108,6 +108,7 @@ pub record Starves {R : Type 0} (gives : R → List ℕ → R → Type 0) (faile
   pub needed : ReadsNeeded (unread old) came.pieces
   pub still : old.has_ended ≡ true → (bytes ≡ []) × ended new.source
 
+-- the items before the last, which is open, are used whatever follows
 pub record EndsWithin (begun left : List ℕ) : Type 0 where
   pub items : List Item
   pub used : (more : List ℕ) → Spells GameStart (begun ++ more) items (left ++ more)

@@ -26,4 +26,4 @@ pub use games::{Games, GamesFault, read_game};
 pub use laws::game_laws;
 pub use tags::Tags;
 pub use texts::Texts;
-pub use writer::{write_game, write_game_with, write_tree};
+pub use writer::{write_as, write_game, write_game_with, write_tree};

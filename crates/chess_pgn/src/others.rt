@@ -22,6 +22,17 @@ impl<'a, A: Allocator> Model for OtherTags<'a, A> {
     ghost view = { λ tags. shown tags.values.entries };
 }
 
+impl<'a, A: Allocator> Clone for OtherTags<'a, A> {
+    ghost is_clone = { λ tags copy. copy ≡ tags };
+
+    /// The same tags in the same allocator's memory; an error where there is none.
+    fn clone(&self) -> Result<OtherTags<'a, A>, AllocError> {
+        Ok(OtherTags {
+            values: self.values.clone()?,
+        })
+    }
+}
+
 impl<'a, A: Allocator> OtherTags<'a, A> {
     ghost use Rattle.chess_pgn.specs.steps.OtherCode.{shown};
 

@@ -25,6 +25,25 @@ fn value<'a, A: Allocator>(alloc: &'a A, text: &[u8]) -> Result<Vec<u8, &'a A>, 
     Ok(value)
 }
 
+impl<'a, A: Allocator> Clone for Tags<'a, A> {
+    ghost use Rattle.chess_pgn.specs.steps.GameCode.{tags_of};
+
+    ghost is_clone = { λ tags copy. tags_of copy ≡ tags_of tags };
+
+    /// The same tags in the same allocator's memory; an error where there is none.
+    fn clone(&self) -> Result<Tags<'a, A>, AllocError> {
+        Ok(Tags {
+            event: self.event.clone()?,
+            site: self.site.clone()?,
+            date: self.date.clone()?,
+            round: self.round.clone()?,
+            white: self.white.clone()?,
+            black: self.black.clone()?,
+            others: self.others.clone()?,
+        })
+    }
+}
+
 impl<'a, A: Allocator> Tags<'a, A> {
     ghost use Rattle.chess_pgn.specs.steps.GameCode.{tags_of};
 

@@ -226,6 +226,23 @@ pub fn write_game<'a, A: Allocator>(
     write_game_with(alloc, game, &Texts::unwanted(alloc))
 }
 
+/// The export form of a game by its parts: its tags, how it ended, and its moves.
+///
+/// # Errors
+///
+/// `Memory` at place 0, where there is none.
+pub fn write_as<'a, A: Allocator>(
+    alloc: &'a A,
+    tags: &Tags<'a, A>,
+    outcome: Outcome,
+    tree: &Tree<'a, A>,
+) -> Result<Vec<u8, &'a A>, PgnFault>
+    ensures ok { IfOk result (λ text. text.items ≡ game_text (record { tags = tags_of tags.now; outcome = outcome; tree = tree.now.tree })) }
+    ensures memory { IfErr result (λ fault. fault ≡ record { place = 0; kind = Memory }) }
+{
+    write_parts(alloc, tags, outcome, tree, &Texts::unwanted(alloc))
+}
+
 /// The export form of a game of which the moves are known and nothing else: tags `?`, and `*` for how it ended.
 ///
 /// # Errors
@@ -239,6 +256,5 @@ pub fn write_tree<'a, A: Allocator>(
     ensures memory { IfErr result (λ fault. fault ≡ record { place = 0; kind = Memory }) }
 {
     let tags = Tags::unknown(alloc)?;
-    let texts = Texts::unwanted(alloc);
-    write_parts(alloc, &tags, Outcome::Unfinished, tree, &texts)
+    write_as(alloc, &tags, Outcome::Unfinished, tree)
 }

@@ -1,5 +1,6 @@
 pub mod AlongLemmas
 pub mod GameLemmas
+pub mod HeadingLemmas
 pub mod ReportLemmas
 pub mod SlotValues
 pub mod TextLemmas

@@ -1,5 +1,5 @@
 -- What the statuses of calls are, as numbers, and how small values are seen.
---   ok, empty_slot, no_memory, not_legal, argument, no_room, none_best, no_game, was_abandoned   statuses of their own
+--   ok, empty_slot, no_memory, not_legal, argument, no_room, none_best, no_such, no_game, was_abandoned, bad_name, own_tag, bad_value   statuses of their own
 --   fault_code      the status of a text at whose start no game is
 --   outcome_code    how a game stands
 use Rattle.std.specs.Prelude.{ℕ, ◌+◌}
@@ -37,6 +37,10 @@ no_room = 10
 abbrev pub none_best : ℕ
 none_best = 11
 
+-- there is nothing of that name, or at that place
+abbrev pub no_such : ℕ
+no_such = 12
+
 -- only whitespace follows
 abbrev pub no_game : ℕ
 no_game = 16
@@ -44,6 +48,18 @@ no_game = 16
 -- the search was abandoned
 abbrev pub was_abandoned : ℕ
 was_abandoned = 17
+
+-- no tag has that name
+abbrev pub bad_name : ℕ
+bad_name = 18
+
+-- the tag says what the game itself has
+abbrev pub own_tag : ℕ
+own_tag = 19
+
+-- the value goes on in another line
+abbrev pub bad_value : ℕ
+bad_value = 20
 
 -- 40 and the number of the fault; want of memory is no fault of the text
 abbrev pub fault_code : FaultKind → ℕ

@@ -2,8 +2,10 @@ pub mod Answers
 pub mod Codes
 pub mod Games
 pub mod Handed
+pub mod Headings
 pub mod Loads
 pub mod Reports
 pub mod Slots
 pub mod Texts
 pub mod Within
+pub mod steps

@@ -31,11 +31,23 @@ pub const ROOM: u32 = 10;
 /// There is no legal move, so none is best.
 pub const NONE: u32 = 11;
 
+/// There is nothing of that name, or at that place.
+pub const NO_SUCH: u32 = 12;
+
 /// No game follows.
 pub const NO_GAME: u32 = 16;
 
 /// The search was abandoned.
 pub const ABANDONED: u32 = 17;
+
+/// No tag has that name.
+pub const BAD_NAME: u32 = 18;
+
+/// The tag says what the game itself has.
+pub const OWN_TAG: u32 = 19;
+
+/// The value goes on in another line.
+pub const BAD_VALUE: u32 = 20;
 
 /// The status of a text at whose start no game is: 40 and the number of the fault, or that there is no memory.
 pub fn fault_code(kind: FaultKind) -> u32

@@ -1,9 +1,9 @@
 //! What the libraries for C and for a page share: what is kept in a slot, and how answers are handed out.
 //!
 //! `Loose` is a `Box` as a raw pointer, which a slot can keep; each library has a slot of its own, since a type that crosses to C has no parameters. The others
-//! are calls over a text, a board or an engine, which hand out what they answer: `game`, `passed` and `report` of a text (`refused` where no game is there),
-//! `load` of one into a board, `answer` of a line of the board, `reply` of an event of an engine. Each returns a status, of which 0 is success
-//! (`specs/Codes.antt`).
+//! are calls over a text, a board or an engine, which hand out what they answer: `game`, `passed` and `report` of a text, `load` of one into a board and its
+//! heading, `answer` of a line of the board, `reply` of an event of an engine; and over a `Heading`, a game's tags and its end: `tag`, `tag_name`, `set_tag`,
+//! `clear_tag`, `set_outcome`, `whole_game`. Each returns a status, of which 0 is success (`specs/Codes.antt`).
 #![tactic(auto)]
 
 mod along;
@@ -11,6 +11,8 @@ mod answers;
 mod codes;
 mod games;
 mod gathered;
+mod heading;
+mod headings;
 mod loads;
 mod loose;
 mod lost;
@@ -21,13 +23,14 @@ mod within;
 pub use along::cursor_line;
 pub use answers::{answer, reply, reply_within};
 pub use codes::{
-    ABANDONED, ARGUMENT, AT_ROOT, EMPTY, FORM, ILLEGAL, MEMORY, NO_GAME, NONE, OK, ROOM,
-    fault_code, outcome_code,
+    ABANDONED, ARGUMENT, AT_ROOT, EMPTY, FORM, ILLEGAL, MEMORY, NONE, OK, ROOM, outcome_code,
 };
-pub use games::{game, passed, refused, report};
+pub use games::{game, passed, report};
+pub use heading::Heading;
+pub use headings::{clear_tag, set_outcome, set_tag, tag, tag_name, whole_game};
 pub use loads::load;
 pub use loose::Loose;
 pub use lost::Lost;
-pub use reports::{GameReport, NEVER};
+pub use reports::{GameReport, NEVER, marker_code};
 pub use texts::hand;
 pub use within::Within;

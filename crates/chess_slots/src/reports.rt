@@ -45,7 +45,8 @@ pub struct GameReport {
     pub agrees: bool,
 }
 
-fn marker_code(marker: Outcome) -> u32
+/// How a game ended, as a number: 0 for `*`, 1 for `1-0`, 2 for `0-1`, 3 for `1/2-1/2` (PGN 8.2.6).
+pub fn marker_code(marker: Outcome) -> u32
     ensures { result ≡ marker_code marker }
 {
     match marker {

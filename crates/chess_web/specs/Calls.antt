@@ -2,7 +2,8 @@
 --   IsAnswered    of a line: the board may answer it with a text, and go from the one tree to the other; the text is handed out, or there was no memory
 --   IsNamed       of a text: the move that it names, handed out in long algebraic notation, or that it names none
 --   IsNamedOf     the same at the cursor of the board of the session in a slot, which stays as it was
---   IsLoadedOf    of a text: the board of the session in a slot has the tree of the game at its start (`LoadsFrom`), and the engine stays as it was
+--   IsLoadedOf    of a text: the session in a slot has the game at its start (`LoadsFrom`), and the engine stays as it was
+--   AsksHeading, ActsOnHeading   of a call on the tags and the end of a game: it leaves all as it was, or may change them alone
 --   IsReplying    of an event: the engine of the session in a slot replies to it (`IsReplied`), and the board stays as it was
 --   IsSearching   whether a search runs
 --   IsGameOf      the game at the start of a text is answered (`IsGame`); IsPassedOf, how many bytes to pass over (`IsPassed`); IsReportOf, its report
@@ -23,15 +24,16 @@ use Rattle.chess_slots.specs.Answers.{IsReplied}
 use Rattle.chess_slots.specs.Codes.{empty_slot, not_legal, ok}
 use Rattle.chess_slots.specs.Games.{IsGame, IsPassed}
 use Rattle.chess_slots.specs.Handed.{IsHanded, IsAnsweredBy}
+use Rattle.chess_slots.specs.Headings.{HeadingParts}
 use Rattle.chess_slots.specs.Loads.{LoadsFrom}
 use Rattle.chess_slots.specs.Reports.{IsReport}
-use Rattle.chess_web.specs.Held.{Held}
+use Rattle.chess_web.specs.Held.{Held, with_board, with_engine, with_heading}
 
 abbrev pub IsAnswered : Option Held → List ℕ → (code count count' : ℕ) → (room room' : List ℕ) → Option Held → Type 0
 IsAnswered None line code count count' room room' new = (code ≡ empty_slot) × (new ≡ None) × (count' ≡ count) × (room' ≡ room)
 IsAnswered (Some held) line code count count' room room' new =
     (text : List ℕ) × (after : TreeParts) × Tells held.board (request line) text after × IsAnsweredBy text code count count' room room'
-    × (new ≡ Some (record { board = after; engine = held.engine }))
+    × (new ≡ Some (with_board after held))
 
 abbrev pub IsNamed : Result MoveParts SanFault → (code count count' : ℕ) → (room room' : List ℕ) → Type 0
 IsNamed (Ok m) code count count' room room' = IsHanded (move_text m) code count' room room'
@@ -45,12 +47,23 @@ IsNamedOf (Some held) text code count count' room room' new =
 abbrev pub IsLoadedOf : Option Held → List ℕ → (code used used' : ℕ) → Option Held → Type 0
 IsLoadedOf None text code used used' new = (code ≡ empty_slot) × (new ≡ None) × (used' ≡ used)
 IsLoadedOf (Some held) text code used used' new =
-    (after : TreeParts) × LoadsFrom text held.board code used used' after × (new ≡ Some (record { board = after; engine = held.engine }))
+    (board : TreeParts) × (heading : HeadingParts) × LoadsFrom text held.board held.heading code used used' board heading
+    × (new ≡ Some (with_heading heading (with_board board held)))
+
+-- a call that looks at board and heading
+abbrev pub AsksHeading : (kept : Type 0) → (TreeParts → HeadingParts → ℕ → Type 0) → Option Held → ℕ → Option Held → Type 0
+AsksHeading kept says None code new = (code ≡ empty_slot) × (new ≡ None) × kept
+AsksHeading kept says (Some held) code new = says held.board held.heading code × (new ≡ Some held)
+
+-- a call that may change the heading, and nothing else
+abbrev pub ActsOnHeading : (HeadingParts → ℕ → HeadingParts → Type 0) → Option Held → ℕ → Option Held → Type 0
+ActsOnHeading ends None code new = (code ≡ empty_slot) × (new ≡ None)
+ActsOnHeading ends (Some held) code new = (after : HeadingParts) × ends held.heading code after × (new ≡ Some (with_heading after held))
 
 abbrev pub IsReplying : Event → Option Held → (code count count' : ℕ) → (room room' : List ℕ) → Option Held → Type 0
 IsReplying event None code count count' room room' new = (code ≡ empty_slot) × (new ≡ None) × (count' ≡ count) × (room' ≡ room)
 IsReplying event (Some held) code count count' room room' new =
-    (after : State) × IsReplied event held.engine after code count' room room' × (new ≡ Some (record { board = held.board; engine = after }))
+    (after : State) × IsReplied event held.engine after code count' room room' × (new ≡ Some (with_engine after held))
 
 abbrev pub IsSearching : Option Held → ℕ → (searching searching' : Bool) → Option Held → Type 0
 IsSearching None code searching searching' new = (code ≡ empty_slot) × (new ≡ None) × (searching' ≡ searching)

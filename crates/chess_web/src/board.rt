@@ -22,8 +22,8 @@ pub extern "C" fn jatshegi_board_answer(
     code
 }
 
-/// Begins with the tree of the game at the start of a text (PGN), its variations, comments and annotations, the cursor at its root, and says how many bytes of
-/// the text the game takes: 0. Where no game is there, it is answered as by `jatshegi_game`, and the board is as it was.
+/// Begins with the game at the start of a text (PGN), its tags and its end, its variations, comments and annotations, the cursor at its root, and says how many
+/// bytes of the text it takes: 0. Where no game is there, it is answered as by `jatshegi_game`, and the board is as it was.
 #[unsafe(no_mangle)]
 pub extern "C" fn jatshegi_board_load(slot: &mut Slot, text: &[u8], used: &mut usize) -> u32
     ensures { IsLoadedOf slot.old.held text.now result used.old used.new slot.new.held }

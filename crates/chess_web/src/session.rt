@@ -1,10 +1,11 @@
-//! What the page's memory keeps between calls: a board, an engine, and the page on which answers are written.
+//! What the page's memory keeps between calls: a board and what its game's text says beside it, an engine, and the page on which answers are written.
 ghost use Rattle.std.specs.Prelude.{◌≡◌, ℕ, List, is_some, IfSome};
 ghost use Rattle.chess_types.specs.board.Lines.{last};
 ghost use Rattle.chess_san.specs.Naming.{san_reading};
 ghost use Rattle.chess_tree.specs.GameTree.{line_to};
 ghost use Rattle.chess_cli.specs.Answers.{Tells};
 ghost use Rattle.chess_cli.specs.Requests.{request};
+ghost use Rattle.chess_pgn.specs.Written.{game_text};
 ghost use Rattle.chess_slots.specs.Answers.{IsReplied};
 ghost use Rattle.chess_slots.specs.Handed.{IsAnsweredBy};
 ghost use Rattle.chess_slots.specs.Loads.{LoadsFrom};
@@ -14,7 +15,7 @@ ghost use Rattle.chess_web.specs.Held.{beginning};
 use chess_cli::Board;
 use chess_key::KeyTable;
 use chess_loop::OutputBuffer;
-use chess_slots::{ILLEGAL, answer, hand, reply};
+use chess_slots::{Heading, ILLEGAL, answer, hand, load, reply, whole_game};
 use chess_uci::{Event, Session as Uci};
 use lent_heap::LentHeap;
 use std::marker::Model;
@@ -22,7 +23,8 @@ use std::marker::Model;
 /// A board and an engine whose allocator and keys stay for good. The page is empty between calls.
 #[derive(Drop)]
 pub struct Session {
-    board: Board<'static, LentHeap>,
+    pub board: Board<'static, LentHeap>,
+    pub heading: Heading<'static, LentHeap>,
     engine: Uci<'static, LentHeap>,
     page: OutputBuffer<&'static LentHeap>,
     pub heap: &'static LentHeap,
@@ -36,7 +38,7 @@ impl Model for Session {
 
     ghost coded = { coded_held };
 
-    ghost view = { λ s. record { board = s.board; engine = s.engine } };
+    ghost view = { λ s. record { board = s.board; heading = s.heading; engine = s.engine } };
 
     ghost invariant = { λ s. s.page ≡ [] };
 }
@@ -55,6 +57,7 @@ impl Session {
         let engine = Uci::new(heap, table);
         Some(Session {
             board,
+            heading: Heading::new(heap),
             engine,
             page,
             heap,
@@ -65,6 +68,7 @@ impl Session {
     /// gather it in. The line has been answered all the same.
     pub fn answer(&mut self, line: &[u8], room: &mut [u8], count: &mut usize) -> u32
         ensures board { (text : List ℕ) × Tells self.old.board (request line.now) text self.new.board × IsAnsweredBy text result count.old count.new room.old room.new }
+        ensures heading { self.new.heading ≡ self.old.heading }
         ensures engine { self.new.engine ≡ self.old.engine }
     {
         answer(
@@ -88,18 +92,26 @@ impl Session {
         }
     }
 
-    /// Begins with the tree of the game at the start of a text, and says how many bytes of the text the game takes; else why no game is there.
+    /// Begins with the game at the start of a text, and says how many bytes of the text it takes; else why no game is there.
     pub fn load(&mut self, text: &[u8], used: &mut usize) -> u32
-        ensures board { LoadsFrom text.now self.old.board result used.old used.new self.new.board }
+        ensures board { LoadsFrom text.now self.old.board self.old.heading result used.old used.new self.new.board self.new.heading }
         ensures engine { self.new.engine ≡ self.old.engine }
     {
-        chess_slots::load(&mut self.board, text, used)
+        load(&mut self.board, &mut self.heading, text, used)
+    }
+
+    /// Hands out the whole game in export form, with its tags and its end (PGN 3.2).
+    pub fn whole_game(&self, room: &mut [u8], count: &mut usize) -> u32
+        ensures { IsAnsweredBy (game_text (record { tags = self.now.heading.tags; outcome = self.now.heading.outcome; tree = self.now.board.tree })) result count.old count.new room.old room.new }
+    {
+        whole_game(&self.heading, self.board.tree(), room, count)
     }
 
     /// What the event is replied, each reply on a line of its own.
     pub fn event(&mut self, event: Event, room: &mut [u8], count: &mut usize) -> u32
         ensures engine { IsReplied event.entry self.old.engine self.new.engine result count.new room.old room.new }
         ensures board { self.new.board ≡ self.old.board }
+        ensures heading { self.new.heading ≡ self.old.heading }
     {
         reply(&mut self.engine, &mut self.page, event, room, count)
     }

@@ -1,4 +1,4 @@
-ghost use Rattle.std.specs.Prelude.{◌≡◌, ◌⊎◌, ℕ, List, ◌+◌, ◌<◌, ◌≤◌, ◌++◌, ◌∷◌, [], IfErr, IfOk, IfSome, None, Ok, decimal, is_some, length, map, nat_lt, false, true};
+ghost use Rattle.std.specs.Prelude.{◌≡◌, ℕ, List, ◌+◌, ◌<◌, ◌≤◌, ◌++◌, ◌∷◌, [], IfErr, IfOk, IfSome, OnErr, OnOk, decimal, is_some, length, map, nat_lt, false, true};
 ghost use Rattle.std.specs.FinSet.{contains};
 ghost use Rattle.std.specs.Fmt.{signed_decimal};
 ghost use Rattle.chess_types.specs.board.Texts.{move_text};
@@ -9,14 +9,12 @@ ghost use Rattle.chess_types.specs.board.Repetition.{repetitions};
 ghost use Rattle.chess_types.specs.board.Outcome.{status, status_text, claims, claims_with};
 ghost use Rattle.chess_types.specs.board.Position.{start, man_on};
 ghost use Rattle.chess_eval.specs.Evaluation.{evaluation};
-ghost use Rattle.chess_items.specs.declared.fault.FaultKind.TheVariants.{Memory};
-ghost use Rattle.chess_pgn.specs.Games.{Game};
-ghost use Rattle.chess_pgn.specs.Reading.{HasNoGame, BeginsWithGame, IsWhite};
 ghost use Rattle.chess_tree.specs.Forest.{count as count_children};
 ghost use Rattle.chess_tree.specs.Edits.{parent};
 ghost use Rattle.chess_tree.specs.GameTree.{TreeParts, annotated_here, at_path, deleted, line_to, main_line, nodes_here, promoted_here};
 ghost use Rattle.chess_tree.specs.Plays.{is_new};
 ghost use Rattle.chess_tree.specs.Undo.{undone};
+ghost use Rattle.chess_tree.specs.declared.fault.TreeFault.TheVariants.{Memory as NoMemory};
 ghost use Rattle.chess_cli.specs.Loads.{from_root};
 ghost use Rattle.chess_cli.specs.Outcomes.{claims_text};
 ghost use Rattle.chess_cli.specs.Numbers.{depth_in, path_in};
@@ -28,7 +26,7 @@ ghost use Rattle.chess_fen.specs.Reading.{fen_reading};
 ghost use Rattle.chess_san.specs.Naming.{san_reading};
 ghost use Rattle.chess_san.specs.Writing.{san};
 ghost use Rattle.chess_search.specs.Best.{best};
-ghost use Rattle.chess_fen.specs.Writing.{written};
+ghost use Rattle.chess_fen.specs.Writing.{identity, written};
 
 use super::answer::{Pending, put_done, put_refused};
 use super::command::{Command, read_command};
@@ -41,10 +39,11 @@ use super::texts::{counts_text, eval_text};
 use arrayvec::{ArrayString, ArrayVec};
 use byte_streams::{Failed, Sink};
 use chess_attack::checkers;
+use chess_draws::Line;
 use chess_key::KeyTable;
 use chess_loop::{LineHandler, OutputBuffer, Unread, filled};
 use chess_moves::is_legal;
-use chess_pgn::{FaultKind, PgnFault, read_game, write_tree};
+use chess_pgn::write_tree;
 use chess_play::Live;
 use chess_san::SanFault;
 use chess_tree::{Analysis, Tree, TreeFault};
@@ -103,11 +102,39 @@ impl<'k, A: Allocator> Board<'k, A> {
         })
     }
 
+    /// Another board with the same tree and the cursor at the same node; `Memory` where there is none.
+    pub fn copy(&self) -> Result<Board<'k, A>, TreeFault>
+        ensures same { IfOk result (λ board. board ≡ self.now) }
+        ensures memory { IfErr result (λ fault. fault ≡ NoMemory) }
+    {
+        let tree = self.analysis.tree();
+        let path = tree.path()?;
+        let places = filled(self.alloc, 0, PLACES)?;
+        let mut analysis = Analysis::of(tree.clone()?, self.table)?;
+        let Ok(()) = analysis.goto(path.as_slice()) else {
+            unreachable!();
+        };
+        Ok(Board {
+            analysis,
+            places,
+            alloc: self.alloc,
+            table: self.table,
+        })
+    }
+
     /// The tree and its cursor.
     pub fn tree(&self) -> &Tree<'k, A>
         ensures { result.now ≡ self.now }
     {
         self.analysis.tree()
+    }
+
+    /// The line of moves from the root to the cursor, to look at.
+    pub fn line(&self) -> &Line<'k, &'k A>
+        ensures line { result.now.line ≡ line_to self.now }
+        ensures still { result.now.looked ≡ 0 }
+    {
+        self.analysis.line()
     }
 
     /// The position at the cursor with the numbers kept for it. The move that led to it, made or taken back, changed at most 216 counts.
@@ -159,6 +186,14 @@ impl<'k, A: Allocator> Board<'k, A> {
         ensures { result.bytes ≡ written (last (line_to self.now)) }
     {
         chess_fen::write(&self.analysis.position())
+    }
+
+    /// The text by which the Laws tell the position at the cursor apart (FIDE Laws 9.2.3): the first four fields of its FEN, with the en passant target only where
+    /// a legal move captures on it.
+    pub fn identity_text(&self) -> ArrayString<128>
+        ensures { result.bytes ≡ identity (last (line_to self.now)) }
+    {
+        self.analysis.line().identity()
     }
 
     /// The squares of the men that check the side to move (FIDE Laws 3.9.1).
@@ -301,32 +336,13 @@ impl<'k, A: Allocator> Board<'k, A> {
         self.begin(chess_fen::read(fen)?)
     }
 
-    /// Begins with the tree of the game at the start of a text (PGN), the cursor at its root, and says how many bytes of the text the game takes; `None`
-    /// where there are only white space and hidden lines. Then, and after a fault, the board is as it was.
-    ///
-    /// # Errors
-    ///
-    /// The first fault of the text, with its place in bytes from the text's beginning; `8 Memory` has place 0.
-    pub fn load(&mut self, text: &[u8]) -> Result<Option<usize>, PgnFault>
-        ensures game { IfOk result (λ found. IfSome found (λ used. (game : Game) × BeginsWithGame text.now game used × (self.new ≡ from_root game.tree))) }
-        ensures none { result ≡ Ok None → IsWhite text.now × (self.new ≡ self.old) }
-        ensures fault { IfErr result (λ fault. (fault.kind ≡ Memory) ⊎ HasNoGame text.now) }
-        ensures white { IsWhite text.now → IfErr result (λ fault. fault.kind ≡ Memory) }
-        ensures err { IfErr result (λ _. self.new ≡ self.old) }
+    /// Begins with that tree, the cursor at its root; the one that was there is freed. Where there is no memory the board is as it was.
+    pub fn begin_with(&mut self, tree: Tree<'k, A>) -> Result<(), TreeFault>
+        ensures ok { OnOk result (self.new ≡ from_root tree.entry.tree) }
+        ensures err { OnErr result (self.new ≡ self.old) }
     {
-        let (game, used) = match read_game(self.alloc, text) {
-            Ok(Some(found)) => found,
-            Ok(None) => return Ok(None),
-            Err(fault) => return Err(fault),
-        };
-        let Ok(analysis) = Analysis::of(game.tree, self.table) else {
-            return Err(PgnFault {
-                place: 0,
-                kind: FaultKind::Memory,
-            });
-        };
-        self.analysis = analysis;
-        Ok(Some(used))
+        self.analysis = Analysis::of(tree, self.table)?;
+        Ok(())
     }
 
     // The attack counts of the colour.

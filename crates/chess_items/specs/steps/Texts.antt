@@ -39,6 +39,7 @@ pub record LastCame {X : Type 0} (comes : X → List ℕ → X → Type 0) (read
 abbrev pub LastWhere : {X : Type 0} → (X → List ℕ → X → Type 0) → (X → List ℕ) → (X → ℕ) → (List ℕ → Type 0) → X → List ℕ → X → Type 0
 LastWhere comes at_hand reads holds old came new = (reads new ≡ reads old) ⊎ ((l : LastCame comes reads old came new) × holds (at_hand old ++ joined l.earlier))
 
+-- the last read was made with few bytes at hand, which did not decide, and before the end was seen
 pub record LastNeeded {X : Type 0} (comes : X → List ℕ → X → Type 0) (at_hand : X → List ℕ) (all : X → Type 0) (reads : X → ℕ) (most : ℕ) (place : Place) (old : X) (more : List ℕ) (new : X) : Type 0 where
   pub came : LastCame comes reads old more new
   pub few : length (at_hand old ++ joined came.earlier) ≤ most

@@ -35,6 +35,7 @@ module _ {X : Type 0} (comes : X → List ℕ → X → Type 0) (at_hand : X →
   abbrev pub ReadsNeeded : X → List ℕ → X → Type 0
   ReadsNeeded old came new = LastWhere comes at_hand reads_left HasNoGameYet old came new
 
+  -- reads beyond the first needed ones, where no game can begin whatever follows
   pub record Beyond (old new : X) (pieces : List (List ℕ)) : Type 0 where
     pub first : List (List ℕ)
     pub mid : X

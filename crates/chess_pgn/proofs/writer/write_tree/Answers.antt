@@ -7,4 +7,4 @@ use Rattle.chess_pgn.proofs.writer.write_tree.Goals as goal
 
 pub returns-clause-ok : goal.returns-clause-ok
 returns-clause-ok g c =
-    subst (λ (t : Tags). IfOk c.write_parts.result (λ text. text.items ≡ game_text (record { tags = t; outcome = Unfinished; tree = c.args.tree.now.tree }))) c.in_ok-tags.ensures c.write_parts.ensures.ok
+    subst (λ (t : Tags). IfOk c.write_as.result (λ text. text.items ≡ game_text (record { tags = t; outcome = Unfinished; tree = c.args.tree.now.tree }))) c.in_ok-tags.ensures c.write_as.ensures.ok

@@ -1,19 +1,19 @@
-use Rattle.std.proofs.Common.{◌≡◌, ℕ, List, IfSome, subst, inl, refl}
+use Rattle.std.proofs.Common.{◌≡◌, ℕ, List, refl, inl, rules}
 use Rattle.chess_pgn.specs.Games.{Game}
 use Rattle.chess_pgn.specs.Reading.{BeginsWithGame}
+use Rattle.chess_pgn.specs.steps.GameCode.{game_of}
 use Rattle.chess_tree.specs.GameTree.{TreeParts}
 use Rattle.chess_cli.specs.Loads.{from_root}
-use Rattle.chess_slots.specs.Loads.{LoadsFrom}
+use Rattle.chess_slots.specs.Headings.{HeadingParts}
+use Rattle.chess_slots.specs.Loads.{LoadsFrom, heading_of}
+use Rattle.chess_slots.proofs.GameLemmas.{some_found}
 use Rattle.chess_slots.proofs.loads.load.Goals as goal
 
-found : (text : List ℕ) → (board board' : TreeParts) → (used taken : ℕ) → (game : Game) × BeginsWithGame text game taken × (board' ≡ from_root game.tree)
-    → LoadsFrom text board 0 used taken board'
-found text board board' used taken it =
-    let (game, begins, new) = it in
-    inl (refl, game, begins, new)
+found : (text : List ℕ) → (game : Game) → (board board' : TreeParts) → (heading heading' : HeadingParts) → (used taken : ℕ) → BeginsWithGame text game taken
+    → board' ≡ from_root game.tree → heading' ≡ heading_of game → LoadsFrom text board heading 0 used taken board' heading'
+found text game board board' heading heading' used taken begins new known = inl (refl, game, begins, new, known)
 
-pub returns-in-Ok-Some : goal.returns-in-Ok-Some
-returns-in-Ok-Some g c =
-    found c.args.text.now c.args.board.now c.load.new.self c.args.used.now c.in-Ok-Some.taken
-    (subst (λ field. IfSome field (λ taken. (game : Game) × BeginsWithGame c.args.text.now game taken × (c.load.new.self ≡ from_root game.tree)))
-    c.in-Ok-Some.field-0-is c.in-Ok-Some.ensures.game)
+pub returns-in-Ok : goal.returns-in-Ok
+returns-in-Ok g c =
+    found c.args.text.now (game_of c.in-Ok-Some.game) _ _ _ _ _ _
+    (some_found _ c.in-Ok-Some.field-0 (c.in-Ok-Some.game, c.in-Ok-Some.taken) c.in-Ok-Some.ensures.game c.in-Ok-Some.field-0-is) (search rules) (search rules)
