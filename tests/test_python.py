@@ -460,7 +460,11 @@ class Model:
             # Whether `push` added it, and no line has been answered with `ok` since.
             self.is_made = False
 
+    SIX = {"Event": "?", "Site": "?", "Date": "????.??.??", "Round": "?", "White": "?", "Black": "?"}
+
     def __init__(self, game=None):
+        self.tags = {**Model.SIX, **({name: value for name, value in game.headers.items() if name not in ("Result", "FEN", "SetUp")} if game else {})}
+        self.marker = game.result if game else "*"
         self.root = self.cursor = Model.Node()
         todo = [(game.root, self.root)] if game else []
         while todo:
@@ -505,6 +509,10 @@ class Model:
 
     def movetext(self):
         """The game as a text, which a reader may read; words without numbers."""
+        def tag(name, value):
+            escaped = value.replace("\\", "\\\\").replace('"', '\\"')
+            return f'[{name} "{escaped}"]\n'
+
         def said(node):
             return [*([node.san] if node.san else []), *(f"${nag}" for nag in node.nags), *([f"{{{node.comment}}}"] if node.comment else [])]
 
@@ -516,11 +524,11 @@ class Model:
                     yield from ("(", *said(other), *after(other), ")")
                 node = first
 
-        return " ".join([*said(self.root), *after(self.root), "*"])
+        return "".join(tag(*it) for it in self.tags.items()) + " ".join([*said(self.root), *after(self.root), self.marker])
 
 
 class NothingIsLost(unittest.TestCase):
-    """No node, comment or annotation goes but by `delete`, or by the `pop` of the `push` that made it."""
+    """No node, comment, annotation or tag goes but by `delete`, by the `pop` of the `push` that made it, or by `del board.headers[..]`."""
 
     def text(self, board):
         return board.pgn().split("\n\n")[1].replace("\n", " ").strip()
@@ -719,20 +727,43 @@ class NothingIsLost(unittest.TestCase):
         # What only asks forgets nothing.
         self.assertNotIn(board.line(chance.choice(["fen", "path", "status", "moves", "eval", ""])), ("ok", "refused 6 Command"))
 
+    def tagged(self, chance, board, model):
+        """A tag that is set or taken out, the end of the game set, or what is refused."""
+        name = chance.choice(["White", "Date", "ECO", "Annotator", "a_1", "Z"])
+        what = chance.random()
+        if what < 0.5:
+            board.headers[name] = model.tags[name] = chance.choice(["", "?", "Réti", 'a "b" \\', "[x]", "% {y} ;", "word " * 40])
+        elif what < 0.7 and name not in model.tags:
+            self.assertRaises(KeyError, board.headers.__delitem__, name)
+        elif what < 0.7:
+            del board.headers[name], model.tags[name]
+            model.tags.update({it: value for it, value in Model.SIX.items() if it not in model.tags})
+        elif what < 0.72:
+            board.headers.clear()
+            model.tags = dict(Model.SIX)
+        elif what < 0.8:
+            board.marker = model.marker = chance.choice(["*", "1-0", "0-1", "1/2-1/2"])
+        else:
+            for bad, value in (("", "x"), ("a b", "x"), ("é", "x"), ("Result", "1-0"), ("FEN", "x"), ("SetUp", "1"), (name, "two\nlines")):
+                self.assertRaises(ValueError, board.headers.__setitem__, bad, value)
+            self.assertRaises(ValueError, setattr, board, "marker", chance.choice(["", "1-1", "draw", None]))
+            self.assertRaises(KeyError, board.headers.__getitem__, chance.choice(["", "Result", "FEN", "None", 7]))
+
     def test_random_edits_pushes_and_pops_beside_a_plain_model(self):
         chance = random.Random(2026)
-        texts = ["*", "1. e4 {a} (1. e4 {b} e5) 1... c5 *", "{root} 1. d4 $1 (1. c4 e5 (1... c5 $5 {x}) 2. g3) 1... d5 2. c4 (2. Nf3) 2... e6 *"]
+        texts = ["*", '[White "a"][ECO "B20"] 1. e4 {a} (1. e4 {b} e5) 1... c5 1-0', "{root} 1. d4 $1 (1. c4 e5 (1... c5 $5 {x}) 2. g3) 1... d5 2. c4 (2. Nf3) 2... e6 *"]
         for number in range(5000):
             if number % 500 == 0:
                 game = jatshegi.pgn.read_game(texts[number // 500 % 3])
                 board, model = jatshegi.Board.from_game(game), Model(game)
             self.left = model.cursor.san
-            (self.moved if chance.random() < 0.7 else self.told)(chance, board, model)
+            chance.choices((self.moved, self.told, self.tagged), (6, 3, 1))[0](chance, board, model)
             if len(model.way()) > 60:
                 board.line("start")
                 model.forget()
                 model.cursor = model.root
             self.assertEqual((board.line("path"), board.ply), (model.path(), len(model.way())), number)
+            self.assertEqual((dict(board.headers), board.marker), (model.tags, model.marker), number)
             if number % 20 == 0:
                 self.assertEqual(board.pgn(), str(jatshegi.pgn.read_game(model.movetext())), number)
             if number % 100 == 99:
@@ -762,8 +793,9 @@ class NothingIsLost(unittest.TestCase):
         for _ in range(2):
             board.line("comment " + "x" * 1_000_000)
             board.push_san("e4" if board.turn else "e5")
-        for call in (board.copy, lambda: copy.copy(board), lambda: copy.deepcopy(board), lambda: pickle.dumps(board)):
-            self.assertRaises(jatshegi.LimitError, call)
+        self.assertRaises(jatshegi.LimitError, pickle.dumps, board)
+        for other in (board.copy(), copy.copy(board), copy.deepcopy(board)):
+            self.assertEqual((other.ply, other.pgn() == board.pgn()), (2, True))
         self.assertEqual(board.ply, 2)
         for call in (copy.copy, copy.deepcopy, pickle.dumps):
             with self.assertRaisesRegex(TypeError, "has no copy"):
@@ -775,6 +807,7 @@ class NothingIsLost(unittest.TestCase):
             names = ("turn", "ep_square", "halfmove_clock", "fullmove_number", "ply", "legal_moves", "status")
             yield from ((lambda name=name: getattr(board, name)) for name in names)
             yield from (board.fen, board.reset, board.piece_map, board.is_check, board.checkers, board.outcome, board.claims, board.repetitions, board.evaluate)
+            yield from (lambda: dict(board.headers), lambda: board.headers["White"], lambda: board.headers.update(White="a"), lambda: board.marker)
             yield from (board.pgn, board.pop, board.back, board.copy, board.__str__, board.__repr__, board._repr_svg_, lambda: pickle.dumps(board))
             yield from ((lambda call=call: call(move)) for call in (board.is_legal, board.push, board.san, board.claims))
             yield from ((lambda call=call: call(1)) for call in (board.best, board.best_within, board.search, board.has_kingside_castling_rights, board.attack_counts))

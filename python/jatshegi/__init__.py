@@ -11,7 +11,7 @@ A `Board` answers what the Laws of Chess say of its position and of the moves th
 (`include/jatshegi.h`), whose functions a prover has checked against the Laws; this package is a thin layer over it, which is tested.
 """
 from . import pgn
-from ._board import Best, Board, Outcome, Status
+from ._board import Best, Board
 from ._engine import Engine
 from ._errors import (
     AmbiguousMoveError,
@@ -43,6 +43,12 @@ from ._moves import (
     square_rank,
 )
 
+from ._pieces import Piece
+from ._squares import *
+from ._squares import __all__ as _names
+from ._status import Outcome, Status
+from ._tags import Tags
+
 __version__ = "0.2.0"
 
 __all__ = [
@@ -70,7 +76,9 @@ __all__ = [
     "LimitError",
     "Move",
     "Outcome",
+    "Piece",
     "Status",
+    "Tags",
     "parse_square",
     "pgn",
     "square",
@@ -78,3 +86,4 @@ __all__ = [
     "square_name",
     "square_rank",
 ]
+__all__ += _names

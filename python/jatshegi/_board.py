@@ -2,15 +2,19 @@
 from __future__ import annotations
 
 import codecs
+import copy
 import ctypes
-import enum
 import threading
 from ctypes import byref, c_bool, c_char, c_int32, c_size_t, c_uint8, c_uint32, c_uint64
 from typing import TYPE_CHECKING, Any, Callable, Dict, Iterator, List, NamedTuple, Optional, Tuple, Type, TypeVar
 
 from . import _library as c
 from ._errors import AmbiguousMoveError, EmptyBoardError, Error, IllegalMoveError, InvalidFenError, InvalidMoveError, LimitError
+from ._habits import Habits
 from ._moves import BLACK, SQUARE_NAMES, STARTING_FEN, WHITE, Move
+from ._pieces import MEN, Piece
+from ._status import Outcome, Status
+from ._tags import Tags
 
 if TYPE_CHECKING:
     from .pgn import Game
@@ -28,36 +32,8 @@ _FAULTS = [
     "the side not to move is in check",
 ]
 
-_GLYPHS = dict(zip("KQRBNPkqrbnp", "♔♕♖♗♘♙♚♛♜♝♞♟"))
-
-
-class Status(enum.IntEnum):
-    """How a game stands: the first of these that holds (FIDE Laws 5.1.1, 5.2.1, 5.2.2, 9.6)."""
-
-    CHECKMATE = 0
-    STALEMATE = 1
-    DEAD_POSITION = 2
-    FIVEFOLD_REPETITION = 3
-    SEVENTYFIVE_MOVES = 4
-    PLAY = 5
-    # Claimed draws, which `outcome(claim_draw=True)` alone answers (FIDE Laws 9.2, 9.3).
-    THREEFOLD_REPETITION = 6
-    FIFTY_MOVES = 7
-
-
-class Outcome(NamedTuple):
-    """How a game ended, and who won: WHITE, BLACK, or None for a draw."""
-
-    termination: Status
-    winner: Optional[bool]
-
-    def result(self) -> str:
-        """'1-0', '0-1' or '1/2-1/2'.
-
-        >>> Outcome(Status.STALEMATE, None).result()
-        '1/2-1/2'
-        """
-        return "1/2-1/2" if self.winner is None else "1-0" if self.winner else "0-1"
+# How a game ended, as its text says, by the number of the library.
+_MARKERS = ("*", "1-0", "0-1", "1/2-1/2")
 
 
 class Best(NamedTuple):
@@ -81,7 +57,8 @@ class _Flag:
         return self
 
     def set(self) -> None:
-        c.lib.jatshegi_stop_set(self.mine, True)
+        if c.lib.jatshegi_stop_set(self.mine, True):
+            raise EmptyBoardError("there is no flag")
 
     def __exit__(self, *_: object) -> None:
         c.lib.jatshegi_stop_free(self.theirs)
@@ -111,11 +88,16 @@ class _Worker(threading.Thread):
     def end(self, flag: _Flag) -> None:
         """Sets the flag, and waits for the end, also where an exception comes meanwhile, as by Ctrl-C: that is raised then, else what the work raised."""
         came: Optional[BaseException] = None
-        self._cancelled = True
+        is_set, self._cancelled = False, True
         while self._begun and not self.ended.is_set():
             try:
-                flag.set()
+                if not is_set:
+                    flag.set()
+                    is_set = True
                 self.ended.wait()
+            except Error as it:
+                # Nothing ends the work but its own end.
+                came, is_set = it, True
             except BaseException as it:
                 came = it
         raised = came or self._raised
@@ -155,6 +137,9 @@ def _numbers(move: Move) -> c.CMove:
     return _NUMBERS[move] if isinstance(move, Move) else _NUMBERS.__missing__(move)
 
 
+# The men by the bytes of their letters.
+_MEN = {ord(letter): man for letter, man in MEN.items()}
+
 # Room for texts, and for the squares of a board.
 _FenRoom, _SanRoom, _AnswerRoom, _Squares = c_char * c.MOST_FEN, c_char * c.MOST_SAN, c_char * c.MOST_ANSWER, c_uint8 * 64
 
@@ -175,7 +160,7 @@ _ANY_NUMBER = (1 << 64) - 1
 _Board = TypeVar("_Board", bound="Board")
 
 
-class Board:
+class Board(Habits):
     """A board: a position, and the moves that led to it from the one in which the game began.
 
     >>> board = Board("8/8/8/K1pP3r/8/8/8/4k3 w - c6 0 2")
@@ -214,9 +199,9 @@ class Board:
 
     @classmethod
     def from_game(cls: Type[_Board], game: Game) -> _Board:
-        """A board with all of a game of `jatshegi.pgn`, its variations, comments and annotations, at the position in which it begins. A move that is made
-        goes along with the game where it has that move, and is a new variation where it hasn't; `pgn()` has them all. The tags and the marker stay with
-        the game. Raises `InvalidGameError` for a game that is none.
+        """A board with all of a game of `jatshegi.pgn`, its tags and its marker, its variations, comments and annotations, at the position in which it begins. A
+        move that is made goes along with the game where it has that move, and is a new variation where it hasn't; `pgn()` has them all. Raises
+        `InvalidGameError` for a game that is none.
 
         >>> board = Board.from_game(jatshegi.pgn.read_game("1. e4 e5 (1... c5 {Sicilian}) 2. Nf3 *"))
         >>> for san in ("e4", "c5", "Nf3"):
@@ -249,8 +234,7 @@ class Board:
             raise self._fail(status, "a game")
 
     def copy(self: _Board) -> _Board:
-        """Another board with the same game, at the same node, as `copy.copy`, `copy.deepcopy` and `pickle` make it. Raises `LimitError` where the game's text is
-        longer than 1,048,576 bytes.
+        """Another board with the same game, at the same node, as `copy.copy` and `copy.deepcopy` make it. It has no search.
 
         >>> board = Board()
         >>> board.push_san("e4")
@@ -259,25 +243,35 @@ class Board:
         >>> board.pop() == other.pop()
         True
         """
-        restore, words, state = self._parts()
-        other: _Board = restore(*words)
-        other.__dict__.update(state)
+        other = type(self).__new__(type(self))
+        with self._lock:
+            status = c.lib.jatshegi_board_copy(self._at, other._at)
+            if status:
+                raise self._fail(status, "copy")
+            other.encoding, other._searches, other._made = self.encoding, 0, list(self._made)
+            other.__dict__.update(self._state())
         return other
 
-    # What makes the board anew: a function, its words, and what else a class of the caller's own keeps.
-    def _parts(self) -> Tuple[Callable[..., Any], Tuple[Any, ...], Dict[str, Any]]:
-        with self._lock:
-            words = type(self), self.encoding, self._bytes(b"pgn"), self._bytes(b"path"), tuple(self._made)
-            return _restored, words, {name: it for name, it in self.__dict__.items() if name not in _FIELDS}
+    # What a class of the caller's own keeps besides.
+    def _state(self) -> Dict[str, Any]:
+        return {name: it for name, it in self.__dict__.items() if name not in _FIELDS}
 
     def __copy__(self: _Board) -> _Board:
         return self.copy()
 
+    def __deepcopy__(self: _Board, memo: Dict[int, Any]) -> _Board:
+        other = memo[id(self)] = self.copy()
+        other.__dict__.update(copy.deepcopy(self._state(), memo))
+        return other
+
+    # For pickle: a function that makes the board anew, its words, and what else a class of the caller's own keeps.
     def __reduce__(self) -> Tuple[Callable[..., Any], Tuple[Any, ...], Dict[str, Any]]:
-        restore, words, state = parts = self._parts()
+        with self._lock:
+            words = type(self), self.encoding, self._game(), self._bytes(b"path"), tuple(self._made)
+            state = self._state()
         # A board that can't be made anew isn't written.
-        restore(*words)
-        return parts
+        _restored(*words)
+        return _restored, words, state
 
     def __del__(self) -> None:
         if c is not None and hasattr(self, "_at"):
@@ -339,12 +333,28 @@ class Board:
                 raise self._fail(status, fen)
 
     def fen(self) -> str:
-        """The position's FEN, with all six fields (PGN 16.1)."""
+        """The position's FEN, with all six fields (PGN 16.1). The en passant target is written wherever a pawn has just passed over it."""
+        return self._short(c.lib.jatshegi_board_fen, "fen")
+
+    def epd(self) -> str:
+        """The first four fields of the FEN, with the en passant target only where a legal move captures on it: the same text exactly where the Laws call positions
+        the same (FIDE Laws 9.2.3), so a key for a dictionary of positions.
+
+        >>> board = Board()
+        >>> board.push_san("e4")
+        Move.from_uci('e2e4')
+        >>> board.epd()
+        'rnbqkbnr/pppppppp/8/8/4P3/8/PPPP1PPP/RNBQKBNR b KQkq -'
+        """
+        return self._short(c.lib.jatshegi_board_epd, "epd")
+
+    # A text of a position that a function of the library hands out.
+    def _short(self, function: Callable[..., int], what: str) -> str:
         text, count = _FenRoom(), c_size_t()
         with self._lock:
-            status = c.lib.jatshegi_board_fen(self._at, text, c.MOST_FEN, byref(count))
+            status = function(self._at, text, c.MOST_FEN, byref(count))
         if status:
-            raise self._fail(status, "fen")
+            raise self._fail(status, what)
         return text.raw[: count.value].decode()
 
     @property
@@ -359,13 +369,24 @@ class Board:
         return position
 
     @property
+    def move_stack(self) -> List[Move]:
+        """The moves that led to the position, from the game's start, in the order in which they were made."""
+        return self._moves(c.lib.jatshegi_board_line, "move_stack")
+
+    def peek(self) -> Move:
+        """The move that led to the position. Raises `IndexError` where no move has been made."""
+        move = c.CMove()
+        self._call(_move, "peek", byref(move))
+        return _SHOWN[bytes(move)]
+
+    @property
     def ply(self) -> int:
         """How many moves led to the position."""
         return self._number(c.lib.jatshegi_board_depth, "ply")
 
-    def piece_map(self) -> Dict[int, str]:
-        """The men by their squares, as FEN writes them: 'K' for White's king, 'p' for a pawn of Black's."""
-        return {square: chr(letter) for square, letter in enumerate(bytes(self._fields().men)) if letter}
+    def piece_map(self) -> Dict[int, Piece]:
+        """The men by their squares. A man equals his letter, as FEN writes it: 'K' for White's king, 'p' for a pawn of Black's."""
+        return {square: _MEN[letter] for square, letter in enumerate(bytes(self._fields().men)) if letter}
 
     @property
     def ep_square(self) -> Optional[int]:
@@ -400,14 +421,18 @@ class Board:
     @property
     def legal_moves(self) -> List[Move]:
         """The legal moves (FIDE Laws 3.1 to 3.10), by the square that they begin on, then by the one that they end on."""
+        return self._moves(c.lib.jatshegi_board_moves, "legal_moves")
+
+    # The moves that a function of the library hands out.
+    def _moves(self, function: Callable[..., int], what: str) -> List[Move]:
         moves, count = (c.CMove * 64)(), c_size_t()
         with self._lock:
-            status = c.lib.jatshegi_board_moves(self._at, moves, 64, byref(count))
+            status = function(self._at, moves, 64, byref(count))
             if status == c.NO_ROOM:
                 moves = (c.CMove * count.value)()
-                status = c.lib.jatshegi_board_moves(self._at, moves, len(moves), byref(count))
+                status = function(self._at, moves, len(moves), byref(count))
         if status:
-            raise self._fail(status, "legal_moves")
+            raise self._fail(status, what)
         shown = bytes(moves)
         return [_SHOWN[shown[i : i + 3]] for i in range(0, 3 * count.value, 3)]
 
@@ -523,8 +548,8 @@ class Board:
         return Status(self._number(c.lib.jatshegi_board_outcome, "status"))
 
     def outcome(self, *, claim_draw: bool = False) -> Optional[Outcome]:
-        """How the game ended, or None where it goes on. With `claim_draw` it ends where the side to move may claim a draw, by the
-        position for the third time or 50 moves (FIDE Laws 9.2.2, 9.3.2).
+        """How the game ended, or None where it goes on. With `claim_draw` it ends where the side to move may claim a draw, by the position for the third time or 50
+        moves, on the board or after a legal move (FIDE Laws 9.2, 9.3).
 
         >>> Board("7k/8/6Q1/8/8/8/8/K7 b - -").outcome()
         Outcome(termination=<Status.STALEMATE: 1>, winner=None)
@@ -535,10 +560,10 @@ class Board:
                 return Outcome(status, not self.turn)
             if status != Status.PLAY:
                 return Outcome(status, None)
-            if claim_draw:
-                threefold, fifty = self.claims()
-                if threefold or fifty:
-                    return Outcome(Status.THREEFOLD_REPETITION if threefold else Status.FIFTY_MOVES, None)
+            if claim_draw and self.can_claim_fifty_moves():
+                return Outcome(Status.FIFTY_MOVES, None)
+            if claim_draw and self.can_claim_threefold_repetition():
+                return Outcome(Status.THREEFOLD_REPETITION, None)
             return None
 
     def claims(self, move: Optional[Move] = None) -> Tuple[bool, bool]:
@@ -673,8 +698,44 @@ class Board:
     # ---- the game
 
     def pgn(self) -> str:
-        """The game in export form, variations, comments and annotations included (PGN 3.2), with tags '?' and the marker '*'."""
-        return self._shown(self._bytes(b"pgn"))
+        """The game in export form, its tags and its marker, variations, comments and annotations included (PGN 3.2)."""
+        return self._shown(self._game())
+
+    @property
+    def headers(self) -> Tags:
+        """The tags of the game, which can be set and taken out; a game has those of the text that it was read from, else nothing is known. Another position
+        (`set_fen`, `reset`) leaves them.
+
+        >>> board = Board.from_game(jatshegi.pgn.read_game('[White "Réti"] 1. Nf3 d5 1-0'))
+        >>> board.headers["Black"] = "Rubinstein"
+        >>> board.headers["White"], board.pgn().splitlines()[5]
+        ('Réti', '[Black "Rubinstein"]')
+        """
+        return Tags(self)
+
+    @property
+    def marker(self) -> str:
+        """How the game ended, as its text says: '1-0', '0-1', '1/2-1/2', or '*' (PGN 8.2.6); `outcome` is what the Laws say. Raises `ValueError` where it is set
+        to another text.
+
+        >>> board = Board()
+        >>> board.marker = "1/2-1/2"
+        >>> print(board.pgn().splitlines()[-2])
+        1/2-1/2
+        """
+        return _MARKERS[self._number(c.lib.jatshegi_board_result, "marker")]
+
+    @marker.setter
+    def marker(self, marker: str) -> None:
+        if marker not in _MARKERS:
+            raise ValueError(f"a game's end is one of {', '.join(_MARKERS)}: {marker!r}")
+        self._call(c.lib.jatshegi_board_set_result, marker, _MARKERS.index(marker))
+
+    # The bytes of the game in export form.
+    def _game(self) -> bytes:
+        game = self._handed(c.lib.jatshegi_board_pgn, "pgn")
+        assert game is not None
+        return game
 
     def line(self, line: str) -> str:
         """What the program's `board` answers to a line, as 'comment a quiet move', without the line feed at its end. 'refused N NAME' where
@@ -700,15 +761,28 @@ class Board:
 
     # The bytes that the board answers to a line. Only 'path' and 'pgn', which change nothing, are asked twice.
     def _bytes(self, line: bytes) -> bytes:
-        answer, count = _AnswerRoom(), c_size_t()
+        answer = self._handed(c.lib.jatshegi_board_answer, line, line, len(line))
+        assert answer is not None
+        return answer
+
+    # The bytes that a function of the library hands out; None where there are none of that name or at that place.
+    def _handed(self, function: Callable[..., int], what: object, *words: object) -> Optional[bytes]:
+        text, count = _AnswerRoom(), c_size_t()
         with self._lock:
-            status = c.lib.jatshegi_board_answer(self._at, line, len(line), answer, len(answer), byref(count))
+            status = function(self._at, *words, text, len(text), byref(count))
             if status == c.NO_ROOM:
-                answer = (c_char * count.value)()
-                status = c.lib.jatshegi_board_answer(self._at, line, len(line), answer, len(answer), byref(count))
+                text = (c_char * count.value)()
+                status = function(self._at, *words, text, len(text), byref(count))
+        if status == c.NO_SUCH:
+            return None
         if status:
-            raise self._fail(status, line)
-        return answer.raw[: count.value]
+            raise self._fail(status, what)
+        return text.raw[: count.value]
+
+    # What a function of the library answers.
+    def _status(self, function: Callable[..., int], *words: object) -> int:
+        with self._lock:
+            return function(self._at, *words)
 
     # ---- pictures
 
@@ -741,7 +815,7 @@ class Board:
             colour = "#e89090" if square in checks else "#f0d9b5" if light else "#b58863"
             parts.append(f'<rect x="{x}" y="{y}" width="45" height="45" fill="{colour}"><title>{SQUARE_NAMES[square]}</title></rect>')
             if square in men:
-                parts.append(f'<text x="{x + 22.5}" y="{y + 34}" font-size="36" text-anchor="middle">{_GLYPHS[men[square]]}</text>')
+                parts.append(f'<text x="{x + 22.5}" y="{y + 34}" font-size="36" text-anchor="middle">{men[square].unicode_symbol()}</text>')
         return "".join([*parts, "</svg>"])
 
 
@@ -762,7 +836,7 @@ def _restored(of: Type[_Board], encoding: str, text: bytes, path: bytes, made: T
         raise LimitError(f"the board can't be copied: {fault}") from None
     if path != b"-\n":
         board._bytes(b"goto " + path.rstrip(b"\n"))
-    if (board._bytes(b"pgn"), board._bytes(b"path")) != (text, path):
+    if (board._game(), board._bytes(b"path")) != (text, path):
         raise Error("the board can't be copied: its game reads as another one")
     board._made = list(made)
     return board

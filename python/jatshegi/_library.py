@@ -6,7 +6,7 @@ import os
 from ctypes import POINTER, c_bool, c_char, c_char_p, c_int32, c_size_t, c_uint8, c_uint32, c_uint64, c_void_p
 
 OK, EMPTY, NO_MEMORY, ILLEGAL, AMBIGUOUS, FORM, TOO_LONG, FULL, AT_ROOT, ARGUMENT, NO_ROOM, NONE, NO_SUCH, BAD_COMMENT = range(14)
-NO_GAME, ABANDONED = 16, 17
+NO_GAME, ABANDONED, TAG_NAME, TAG_OWN, TAG_VALUE = range(16, 21)
 
 # The status of a FEN's fault is its number and this; so is that of a game's.
 FEN, PGN = 20, 40
@@ -72,11 +72,14 @@ lib = ctypes.CDLL(_found())
 _slot, _number, _stop = POINTER(Slot), POINTER(c_uint32), POINTER(Stop)
 for _name, _types in {
     "new": [c_void_p, _slot],
+    "copy": [_slot, _slot],
     "set": [_slot, c_char_p, c_size_t],
     "load": [_slot, c_char_p, c_size_t, POINTER(c_size_t)],
     "fen": [_slot, POINTER(c_char), c_size_t, POINTER(c_size_t)],
+    "epd": [_slot, POINTER(c_char), c_size_t, POINTER(c_size_t)],
     "position": [_slot, POINTER(CPosition)],
     "moves": [_slot, POINTER(CMove), c_size_t, POINTER(c_size_t)],
+    "line": [_slot, POINTER(CMove), c_size_t, POINTER(c_size_t)],
     "play": [_slot, CMove, POINTER(c_bool)],
     "play_text": [_slot, c_char_p, c_size_t, POINTER(c_bool)],
     "back": [_slot],
@@ -106,6 +109,13 @@ for _name, _types in {
     "comment": [_slot, c_char_p, c_size_t],
     "annotate": [_slot, c_uint8],
     "answer": [_slot, c_char_p, c_size_t, POINTER(c_char), c_size_t, POINTER(c_size_t)],
+    "pgn": [_slot, POINTER(c_char), c_size_t, POINTER(c_size_t)],
+    "tag": [_slot, c_char_p, c_size_t, POINTER(c_char), c_size_t, POINTER(c_size_t)],
+    "tags": [_slot, c_size_t, POINTER(c_char), c_size_t, POINTER(c_size_t)],
+    "set_tag": [_slot, c_char_p, c_size_t, c_char_p, c_size_t],
+    "clear_tag": [_slot, c_char_p, c_size_t],
+    "result": [_slot, _number],
+    "set_result": [_slot, c_uint32],
 }.items():
     _function = getattr(lib, f"jatshegi_board_{_name}")
     _function.argtypes, _function.restype = _types, c_uint32

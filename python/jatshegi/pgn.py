@@ -21,13 +21,15 @@ from __future__ import annotations
 import ctypes
 import os
 import re
+import weakref
 from ctypes import byref, c_size_t, c_uint64
-from typing import Any, Callable, Dict, Iterator, List, Mapping, NamedTuple, NoReturn, Optional, Tuple, Union
+from typing import IO, Any, Callable, Dict, Iterator, List, Mapping, NamedTuple, NoReturn, Optional, Tuple, Union
 
 from . import _library as c
-from ._board import Board, Status, _known
+from ._board import Board, _known
 from ._errors import InvalidGameError
-from ._moves import BLACK, WHITE
+from ._moves import BLACK, WHITE, Move
+from ._status import Status
 
 _FAULTS = [
     "these bytes are no token",
@@ -93,10 +95,12 @@ class Headers(Mapping[str, str]):
 class Node:
     """A move of a game, or its root: what was played, what is said of it, and what follows, the main continuation first. It doesn't change."""
 
-    __slots__ = ("_children", "_comment", "_nags", "_parent", "_san")
+    __slots__ = ("_children", "_comment", "_nags", "_parent", "_san", "_start")
 
-    def __init__(self, san: Optional[str] = None, parent: Optional[Node] = None) -> None:
+    def __init__(self, san: Optional[str] = None, parent: Optional[Node] = None, start: Optional[str] = None) -> None:
         self._san = san
+        # Of a root, the FEN of the position in which the game begins, unless it is the usual one.
+        self._start = start
         self._parent = parent
         self._comment = ""
         self._nags: List[int] = []
@@ -154,6 +158,65 @@ line('goto ..'), line('comment ..') and line('nag ..') change it
     def children(self, value: object) -> NoReturn:
         _refused("the moves that follow aren't set", _BY_BOARD)
 
+    @property
+    def variations(self) -> Tuple[Node, ...]:
+        """The same as `children`."""
+        return self.children
+
+    def next(self) -> Optional[Node]:
+        """The first child, or None."""
+        return self._children[0] if self._children else None
+
+    def is_end(self) -> bool:
+        """Whether nothing follows."""
+        return not self._children
+
+    def end(self) -> Node:
+        """The last node along the first children."""
+        node = self
+        while node._children:
+            node = node._children[0]
+        return node
+
+    def board(self) -> Board:
+        """A board at the node's position, with the moves that led there.
+
+        >>> jatshegi.pgn.read_game("1. e4 e5 *").end().board().ply
+        2
+        """
+        *_, root = self._way()
+        board = Board(root._start)
+        for san in self.path():
+            board.push_san(san)
+        return board
+
+    @property
+    def move(self) -> Optional[Move]:
+        """The move that leads to the node; None at the root. It is made out anew each time: `mainline_moves` is quick for many.
+
+        >>> jatshegi.pgn.read_game("1. e4 e5 *").end().move
+        Move.from_uci('e7e5')
+        """
+        return None if self._parent is None or self._san is None else self._parent.board().parse_san(self._san)
+
+    def mainline_moves(self) -> Iterator[Move]:
+        """The moves that follow along the first children.
+
+        >>> [move.uci() for move in jatshegi.pgn.read_game("1. e4 e5 2. Nf3 *").root.mainline_moves()]
+        ['e2e4', 'e7e5', 'g1f3']
+        """
+        board = self.board()
+        for node in self.mainline():
+            assert node._san is not None
+            yield board.push_san(node._san)
+
+    # The node, and those before it up to the root.
+    def _way(self) -> Iterator[Node]:
+        node: Optional[Node] = self
+        while node is not None:
+            yield node
+            node = node._parent
+
     def mainline(self) -> Iterator[Node]:
         """The nodes that follow along the first children.
 
@@ -173,12 +236,7 @@ line('goto ..'), line('comment ..') and line('nag ..') change it
         >>> game.root.children[0].children[1].children[0].path()
         ['e4', 'c5', 'Nf3']
         """
-        moves = []
-        node: Optional[Node] = self
-        while node is not None and node._san is not None:
-            moves.append(node._san)
-            node = node._parent
-        return moves[::-1]
+        return [node._san for node in self._way() if node._san is not None][::-1]
 
     def __repr__(self) -> str:
         return f"<Node {self.san or 'root'}, {len(self._children)} children>"
@@ -254,6 +312,20 @@ class Game:
             return
         raise InvalidGameError(0, 6, "there is no game")
 
+    @classmethod
+    def from_board(cls, board: Board) -> Game:
+        """The whole game of a board as it is now: its tags and its marker, variations, comments and annotations.
+
+        >>> board = Board()
+        >>> move, board.headers["White"] = board.push_san("e4"), "Réti"
+        >>> game = jatshegi.pgn.Game.from_board(board)
+        >>> game.headers["White"], [node.san for node in game.mainline()]
+        ('Réti', ['e4'])
+        """
+        game = cls.__new__(cls)
+        game._begin(board._game(), board.encoding)
+        return game
+
     # From bytes in export form.
     def _begin(self, data: bytes, encoding: Optional[str]) -> None:
         self._data = data
@@ -263,7 +335,7 @@ class Game:
             tags[tag[1]] = _ESCAPED.sub(r"\1", tag[2])
             at = tag.end()
         self._headers = Headers(tags)
-        self._root, self._result = _tree(self._text, at)
+        self._root, self._result = _tree(self._text, at, tags.get("FEN"))
 
     @property
     def headers(self) -> Mapping[str, str]:
@@ -306,6 +378,23 @@ class Game:
         """The moves of the main line."""
         return self._root.mainline()
 
+    def mainline_moves(self) -> Iterator[Move]:
+        """The moves of the main line, as moves."""
+        return self._root.mainline_moves()
+
+    @property
+    def variations(self) -> Tuple[Node, ...]:
+        """The nodes of the first moves, the main one first."""
+        return self._root.children
+
+    def next(self) -> Optional[Node]:
+        """The node of the main line's first move, or None."""
+        return self._root.next()
+
+    def end(self) -> Node:
+        """The last node of the main line."""
+        return self._root.end()
+
     def board(self, node: Optional[Node] = None) -> Board:
         """A board at the position of a node, or where the game begins.
 
@@ -314,10 +403,7 @@ class Game:
         >>> game.board(last).outcome().result()
         '0-1'
         """
-        board = Board(self.start)
-        for san in node.path() if node else []:
-            board.push_san(san)
-        return board
+        return (node or self._root).board()
 
     def report(self) -> Report:
         """What the Laws say of the main line.
@@ -366,9 +452,9 @@ class Game:
         return f"<Game {self.headers.get('White', '?')} - {self.headers.get('Black', '?')}, {self.result}>"
 
 
-def _tree(text: str, at: int) -> Tuple[Node, str]:
+def _tree(text: str, at: int, start: Optional[str]) -> Tuple[Node, str]:
     """The tree of the movetext from there on, and the marker at its end."""
-    node, result = Node(), "*"
+    node, result = Node(start=start), "*"
     root = node
     left: List[Node] = []
     for comment, bracket, nag, number, marker, san in _WORD.findall(text, at):
@@ -411,36 +497,73 @@ def _export_at(address: int, length: int, room: int) -> Tuple[int, bytes, int]:
         room = count.value
 
 
+class _Texts:
+    """The export forms of the games of some bytes, one after another."""
+
+    def __init__(self, data: bytes) -> None:
+        self._buffer = (ctypes.c_char * len(data)).from_buffer_copy(data)
+        self._at = 0
+
+    def next(self) -> Optional[bytes]:
+        """The next game's; None where there are no more. Raises `InvalidGameError` for a game that can't be read; the call after it goes on after that game."""
+        left, address = len(self._buffer) - self._at, ctypes.addressof(self._buffer) + self._at
+        if not left:
+            return None
+        status, game, used = _export_at(address, left, 4096)
+        if status == c.NO_GAME:
+            self._at += left
+            return None
+        if status == c.OK:
+            self._at += used
+            return game
+        fault = _fault(status, self._at + used)
+        if isinstance(fault, InvalidGameError):
+            passed = c_uint64()
+            if c.lib.jatshegi_game_pass(address, left, byref(passed)):
+                raise MemoryError("no memory for a game")
+            self._at += max(passed.value, 1)
+        raise fault
+
+
 def _exports(data: bytes, bad: Optional[Callable[[InvalidGameError], object]]) -> Iterator[bytes]:
     """The export forms of the games of the bytes, in order."""
-    buffer = (ctypes.c_char * len(data)).from_buffer_copy(data)
-    address, at = ctypes.addressof(buffer), 0
-    while at < len(data):
-        status, game, used = _export_at(address + at, len(data) - at, 4096)
-        if status == c.NO_GAME:
-            return
-        if status == c.OK:
-            yield game
-            at += used
+    texts = _Texts(data)
+    while True:
+        try:
+            game = texts.next()
+        except InvalidGameError as fault:
+            if bad is None:
+                raise
+            bad(fault)
             continue
-        fault = _fault(status, at + used)
-        if bad is None or not isinstance(fault, InvalidGameError):
-            raise fault
-        bad(fault)
-        passed = c_uint64()
-        if c.lib.jatshegi_game_pass(address + at, len(data) - at, byref(passed)):
-            raise MemoryError("no memory for a game")
-        at += max(passed.value, 1)
+        if game is None:
+            return
+        yield game
 
 
 def _bytes_of(source: Union[str, bytes]) -> bytes:
     return source.encode("utf-8", "surrogateescape") if isinstance(source, str) else source
 
 
-def read_game(text: Union[str, bytes], *, encoding: Optional[str] = None) -> Optional[Game]:
-    """The first game of a text; None where there is only whitespace. Bytes are read in the encoding that is named, where one is, else in UTF-8, or in
-    ISO 8859-1 where the game is none; a byte that it doesn't have is a lone surrogate, as `errors="surrogateescape"` reads and writes it. A text that is none of bytes
-    is UTF-8.
+# What is left of the files that `read_game` reads, and their encodings.
+_FILES: "weakref.WeakKeyDictionary[Any, Tuple[_Texts, Optional[str]]]" = weakref.WeakKeyDictionary()
+
+
+def _rest_of(file: Any, encoding: Optional[str]) -> Tuple[_Texts, Optional[str]]:
+    """What is left of an open file, which is read to its end at first, and the encoding of its games."""
+    if file not in _FILES:
+        data = file.read()
+        if not isinstance(data, (str, bytes)):
+            raise TypeError(f"a file of games has text or bytes: {data!r}")
+        _FILES[file] = _Texts(_bytes_of(data)), "utf-8" if isinstance(data, str) else encoding
+    return _FILES[file]
+
+
+def read_game(source: Union[str, bytes, IO[Any]], *, encoding: Optional[str] = None) -> Optional[Game]:
+    """The first game of a text, or the next one of an open file; None where there is only whitespace. Bytes are read in the encoding that is named, where one is,
+    else in UTF-8, or in ISO 8859-1 where the game is none; a byte that it doesn't have is a lone surrogate, as `errors="surrogateescape"` reads and writes it. A text
+    that is none of bytes is UTF-8. A file is read to its end at the first call; the calls after it go on after the game of the last one, also where that could not be
+    read.
 
     >>> jatshegi.pgn.read_game(" ") is None
     True
@@ -448,17 +571,40 @@ def read_game(text: Union[str, bytes], *, encoding: Optional[str] = None) -> Opt
     Traceback (most recent call last):
     ...
     jatshegi._errors.InvalidGameError: no game: at byte 3, this names no legal move, or more than one
+    >>> import io
+    >>> with io.StringIO("1. e4 * 1. d4 *") as file:
+    ...     while game := jatshegi.pgn.read_game(file):
+    ...         print(game.next().san)
+    e4
+    d4
     """
-    encoding = "utf-8" if isinstance(text, str) else None if encoding is None else _known(encoding)
-    for game in _exports(_bytes_of(text), None):
-        return _game(game, encoding)
-    return None
+    encoding = None if encoding is None else _known(encoding)
+    if isinstance(source, str):
+        texts, encoding = _Texts(_bytes_of(source)), "utf-8"
+    elif isinstance(source, bytes):
+        texts = _Texts(source)
+    elif hasattr(source, "read"):
+        texts, encoding = _rest_of(source, encoding)
+    else:
+        raise TypeError(f"games are read from a text, bytes or an open file: {source!r}")
+    game = texts.next()
+    return None if game is None else _game(game, encoding)
+
+
+def read_headers(source: Union[str, bytes, IO[Any]], *, encoding: Optional[str] = None) -> Optional[Mapping[str, str]]:
+    """The tags of the game that `read_game` reads; None where it reads none.
+
+    >>> jatshegi.pgn.read_headers('[White "Morphy"] 1. e4 *')["White"]
+    'Morphy'
+    """
+    game = read_game(source, encoding=encoding)
+    return None if game is None else game.headers
 
 
 def games(
-    source: Union[str, bytes, "os.PathLike[str]"], bad: Optional[Callable[[InvalidGameError], object]] = None, *, encoding: Optional[str] = None
+    source: Union[str, bytes, "os.PathLike[str]", IO[Any]], bad: Optional[Callable[[InvalidGameError], object]] = None, *, encoding: Optional[str] = None
 ) -> Iterator[Game]:
-    """The games of a file, by its path, or of bytes, one after another, each read in the encoding that is named, or as `read_game` does.
+    """The games of a file, open or by its path, or of bytes, one after another, each read in the encoding that is named, or as `read_game` does.
 
     A game that can't be read raises `InvalidGameError`. With `bad`, that is called with it instead, and reading goes on at the next section of tags.
 
@@ -472,6 +618,10 @@ def games(
     encoding = None if encoding is None else _known(encoding)
     if isinstance(source, bytes):
         data = source
+    elif hasattr(source, "read"):
+        data = source.read()
+        if isinstance(data, str):
+            data, encoding = _bytes_of(data), "utf-8"
     else:
         with open(source, "rb") as file:
             data = file.read()

@@ -1,0 +1,195 @@
+"""What users of python-chess ask a board by, in its names: each is an answer of the library, or is read off one."""
+from __future__ import annotations
+
+from typing import TYPE_CHECKING, Any, Dict, Iterable, List, NamedTuple, Optional, Tuple
+
+from ._moves import KING, SQUARE_NAMES, Move, _checked
+from ._pieces import Piece
+from ._status import Outcome, Status
+
+if TYPE_CHECKING:
+    from typing_extensions import Self
+
+
+class Habits:
+    """Short questions over those of the board."""
+
+    if TYPE_CHECKING:
+        # What a board has.
+        turn: Any
+        status: Any
+        legal_moves: Any
+        halfmove_clock: Any
+        fullmove_number: Any
+
+        def piece_map(self) -> Dict[int, Piece]: ...
+        def san(self, move: Move) -> str: ...
+        def push(self, move: Move) -> None: ...
+        def copy(self) -> Self: ...
+        def claims(self, move: Optional[Move] = None) -> Tuple[bool, bool]: ...
+        def repetitions(self) -> int: ...
+        def attackers(self, colour: bool, square: int) -> List[int]: ...
+        def outcome(self, *, claim_draw: bool = False) -> Optional[Outcome]: ...
+
+    # ---- men
+
+    def piece_at(self, square: int) -> Optional[Piece]:
+        """The man on the square, or None. Raises `ValueError` for a number that is no square's.
+
+        >>> Board().piece_at(jatshegi.E1), Board().piece_at(jatshegi.E4)
+        (Piece.from_symbol('K'), None)
+        """
+        return self.piece_map().get(_checked(square))
+
+    def piece_type_at(self, square: int) -> Optional[int]:
+        """The kind of the man on the square, PAWN to KING, or None."""
+        man = self.piece_at(square)
+        return None if man is None else man.piece_type
+
+    def color_at(self, square: int) -> Optional[bool]:
+        """The colour of the man on the square, or None."""
+        man = self.piece_at(square)
+        return None if man is None else man.color
+
+    def pieces(self, piece_type: int, color: bool) -> List[int]:
+        """The squares of the men of that kind and colour.
+
+        >>> [jatshegi.square_name(square) for square in Board().pieces(jatshegi.KNIGHT, jatshegi.BLACK)]
+        ['b8', 'g8']
+        """
+        wanted = Piece(piece_type, color)
+        return [square for square, man in self.piece_map().items() if man == wanted]
+
+    def king(self, color: bool) -> int:
+        """The square of that side's king."""
+        return self.pieces(KING, color)[0]
+
+    def is_attacked_by(self, color: bool, square: int) -> bool:
+        """Whether a man of that colour attacks the square (FIDE Laws 3.1.2)."""
+        return bool(self.attackers(color, square))
+
+    # ---- how the game stands
+
+    def is_checkmate(self) -> bool:
+        """Whether the side to move is mated (FIDE Laws 5.1.1).
+
+        >>> Board("7k/6Q1/6K1/8/8/8/8/8 b - -").is_checkmate()
+        True
+        """
+        return bool(self.status == Status.CHECKMATE)
+
+    def is_stalemate(self) -> bool:
+        """Whether the side to move is stalemated (FIDE Laws 5.2.1)."""
+        return bool(self.status == Status.STALEMATE)
+
+    def is_insufficient_material(self) -> bool:
+        """Whether the game is drawn since neither side has men to mate with (FIDE Laws 5.2.2)."""
+        return bool(self.status == Status.DEAD_POSITION)
+
+    def is_fivefold_repetition(self) -> bool:
+        """Whether the game is drawn by the same position for the fifth time (FIDE Laws 9.6.1)."""
+        return bool(self.status == Status.FIVEFOLD_REPETITION)
+
+    def is_seventyfive_moves(self) -> bool:
+        """Whether the game is drawn by 75 moves of each side without a capture or a pawn's move (FIDE Laws 9.6.2)."""
+        return bool(self.status == Status.SEVENTYFIVE_MOVES)
+
+    def is_repetition(self, count: int = 3) -> bool:
+        """Whether the position has come up that often in the game, this time included."""
+        return self.repetitions() >= count
+
+    def is_game_over(self, *, claim_draw: bool = False) -> bool:
+        """Whether `outcome` says how the game ended."""
+        return self.outcome(claim_draw=claim_draw) is not None
+
+    def result(self, *, claim_draw: bool = False) -> str:
+        """'1-0', '0-1' or '1/2-1/2' by `outcome`, or '*' where the game goes on; `marker` is what the game's text says.
+
+        >>> Board("7k/6Q1/6K1/8/8/8/8/8 b - -").result()
+        '1-0'
+        """
+        found = self.outcome(claim_draw=claim_draw)
+        return "*" if found is None else found.result()
+
+    # Whether a draw may be claimed, by the position or with a legal move (FIDE Laws 9.2, 9.3).
+    def _can_claim(self, which: int) -> bool:
+        return self.claims()[which] or any(self.claims(move)[which] for move in self.legal_moves)
+
+    def can_claim_threefold_repetition(self) -> bool:
+        """Whether the side to move may claim a draw by the same position for the third time, on the board or after a legal move (FIDE Laws 9.2)."""
+        return self._can_claim(0)
+
+    def can_claim_fifty_moves(self) -> bool:
+        """Whether it may claim one by 50 moves, on the board or after a legal move (FIDE Laws 9.3)."""
+        return self._can_claim(1)
+
+    def can_claim_draw(self) -> bool:
+        """Whether it may claim one by either.
+
+        >>> Board("7k/8/8/8/8/8/R7/K7 w - - 99 80").can_claim_draw()
+        True
+        """
+        return self.can_claim_threefold_repetition() or self.can_claim_fifty_moves()
+
+    # ---- what a move is, by its text in standard algebraic notation
+
+    def is_capture(self, move: Move) -> bool:
+        """Whether the legal move captures, also en passant. Raises `IllegalMoveError`.
+
+        >>> Board("8/8/8/2pP3r/8/8/8/K3k3 w - c6 0 2").is_capture(Move.from_uci("d5c6"))
+        True
+        """
+        return "x" in self.san(move)
+
+    def is_en_passant(self, move: Move) -> bool:
+        """Whether the legal move captures en passant (FIDE Laws 3.7.3.1). Raises `IllegalMoveError`."""
+        return self.is_capture(move) and self.piece_at(move.to_square) is None
+
+    def is_castling(self, move: Move) -> bool:
+        """Whether the legal move is castling (FIDE Laws 3.8.2). Raises `IllegalMoveError`."""
+        return self.san(move).startswith("O")
+
+    def is_kingside_castling(self, move: Move) -> bool:
+        """Whether it is castling with the rook of file h."""
+        return self.san(move)[:5] in ("O-O", "O-O+", "O-O#")
+
+    def is_queenside_castling(self, move: Move) -> bool:
+        """Whether it is castling with the rook of file a."""
+        return self.san(move).startswith("O-O-O")
+
+    def gives_check(self, move: Move) -> bool:
+        """Whether the legal move gives check, or mates. Raises `IllegalMoveError`."""
+        return self.san(move)[-1] in "+#"
+
+    def is_zeroing(self, move: Move) -> bool:
+        """Whether the legal move is a pawn's or captures, so that the halfmove clock is 0 after it. Raises `IllegalMoveError`."""
+        san = self.san(move)
+        return "x" in san or san[0] in "abcdefgh"
+
+    def lan(self, move: Move) -> str:
+        """The move's text in long algebraic notation: 'e2-e4', 'Nb1xc3+', 'e7-e8=Q', 'O-O'. Raises `IllegalMoveError`."""
+        san = self.san(move)
+        if san[0] == "O":
+            return san
+        man, promoted, mark = "" if san[0] in "abcdefgh" else san[0], "=" + san.split("=")[1][0] if "=" in san else "", san[-1] if san[-1] in "+#" else ""
+        return man + SQUARE_NAMES[move.from_square] + ("x" if "x" in san else "-") + SQUARE_NAMES[move.to_square] + promoted + mark
+
+    def variation_san(self, variation: Iterable[Move]) -> str:
+        """The moves in turn from the position on, in standard algebraic notation with their numbers. Raises `IllegalMoveError`; the board stays as it is.
+
+        >>> Board().variation_san([Move.from_uci(text) for text in ("e2e4", "e7e5", "g1f3")])
+        '1. e4 e5 2. Nf3'
+        """
+        board, words = self.copy(), []
+        for move in variation:
+            if board.turn:
+                words.append(f"{board.fullmove_number}.")
+            elif not words:
+                words.append(f"{board.fullmove_number}...")
+            words.append(board.san(move))
+            board.push(move)
+        return " ".join(words)
+
+    def is_valid(self) -> bool:
+        """True: no board has another position, since `InvalidFenError` says of a text that it is none."""
+        return bool(self.piece_map())
