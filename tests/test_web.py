@@ -10,6 +10,7 @@ import importlib
 import os
 import queue
 import random
+import re
 import shutil
 import subprocess
 import sys
@@ -23,6 +24,7 @@ import runs
 WEB = f"{runs.TOP}/web"
 CHESS = f"{runs.TOP}/release/x86_64-linux/bin/chess"
 PACKAGES = ["chromium", "chromium-driver", "python3-selenium"]
+MARKERS = ["*", "1-0", "0-1", "1/2-1/2"]
 # So long a wait is for what never comes; what comes is seen at once.
 PATIENCE = int(os.environ.get("PATIENCE", 120))
 
@@ -918,14 +920,48 @@ class TheModule(unittest.TestCase):
         """, texts)
         self.assertEqual(found, [[status, True, True] for status in (16, 43, 46, 44, 47)])
 
+    def some_tag(self, rng, board):
+        """A tag that is set, taken out or refused, on the library's board, too: what the worker is asked, and the status."""
+        name = rng.choice(["White", "White", "Date", "ECO", "x_1", "", "a b", "sch\xf6n", "Result", "FEN", "SetUp"])
+        value = rng.choice(["", 'the "great"', "back\\slash", '\\"', "ends \\", "caf\xe9 \xff", "] [x", "two\nlines", f"{rng.randrange(99)}"])
+        status = 0
+        if value == "":
+            if name in board.headers:
+                del board.headers[name]
+        elif not re.fullmatch("[A-Za-z0-9_]+", name, re.ASCII):
+            status = 18
+        elif name in ("Result", "FEN", "SetUp"):
+            status = 19
+        elif "\n" in value:
+            status = 20
+        else:
+            board.headers[name] = value
+        return {"name": name, "value": value}, status
+
+    def some_result(self, rng, board):
+        number = rng.randrange(6)
+        if number < len(MARKERS):
+            board.marker = MARKERS[number]
+        return {"value": number}, 0 if number < len(MARKERS) else 9
+
+    def some_begin(self, rng, board):
+        """Another game, with no tags and no result; or a refusal, and all stays."""
+        line = rng.choice(["new", "set r3k2r/8/8/8/8/8/8/R3K2R w KQkq - 3 7", "set 4k3/8/8/3pP3/8/8/8/4K3 w - d6 0 2", "set 8/8/8/8/8/8/8/8 w - - 0 1", "set rubbish"])
+        answer = board.line(line)
+        if answer == "ok":
+            for name in list(board.headers):
+                del board.headers[name]
+            board.marker = "*"
+        return {"lines": [line]}, [answer]
+
     def test_the_page_s_worker_loses_nothing(self):
-        """Random lines, games loaded, games written and lists of games: the board and the games of the library, which are answered beside it."""
+        """Random lines, tags, results, games begun, loaded and written, and lists of games: the board and the games of the library, which are answered beside it."""
         rng, jatshegi = random.Random(99), library()
         board, jobs, wanted = jatshegi.Board(encoding="iso-8859-1"), [], []
         games = self.random_games(rng, 40)
         kinds = ["back", "start", "end", "promote", "delete", "step 0", "step 1", "step 7", "goto 0.0", "goto 0.1.0", "nag 5", "nag 300", "comment", "comment a  word", "comment sch\xf6n", "comment }", "play zz", "rubbish", "new"]
         for _ in range(600):
-            job = rng.choice(["lines", "lines", "lines", "lines", "load", "export", "games"])
+            job = rng.choice(["lines", "lines", "lines", "lines", "tag", "tag", "result", "begin", "load", "export", "games"])
             if job == "lines":
                 lines, answers = [], []
                 for _ in range(rng.randint(0, 4)):
@@ -937,6 +973,11 @@ class TheModule(unittest.TestCase):
                         break
                 jobs.append({"job": job, "lines": lines})
                 wanted.append([answers, board.line("path"), board.pgn().rstrip()])
+                continue
+            if job in ("tag", "result", "begin"):
+                more, said = getattr(self, f"some_{job}")(rng, board)
+                jobs.append({"job": job, **more})
+                wanted.append([said, board.line("path"), board.pgn().rstrip(), board.headers["White"], board.headers["Date"], MARKERS.index(board.marker)])
                 continue
             text = rng.choice([*games, *games, " ", "1. e5 *", "1. e4 (", board.pgn()])
             try:
@@ -964,7 +1005,10 @@ class TheModule(unittest.TestCase):
               for (const { text, ...job } of jobs) {
                 const { result, error } = await ask(text === undefined ? job : { ...job, bytes: bytes(text) });
                 if (error) found.push(error);
-                else if (job.job === 'lines') found.push([result.answers, result.state.path, result.state.pgn.trimEnd()]);
+                else if (['tag', 'result', 'begin'].includes(job.job)) {
+                  const { path, pgn, tags, result: marker } = result.state;
+                  found.push([result.status ?? result.answers, path, pgn.trimEnd(), tags.White, tags.Date, marker]);
+                } else if (job.job === 'lines') found.push([result.answers, result.state.path, result.state.pgn.trimEnd()]);
                 else if (job.job === 'games') found.push([result.number, result.found.filter((it) => it.fault).length]);
                 else if (job.job === 'load' && result.state) found.push([result.status, result.state.path, result.state.pgn.trimEnd()]);
                 else found.push(job.job === 'export' ? [result.status, result.text.trimEnd()] : [result.status]);
@@ -1005,6 +1049,41 @@ class TheModule(unittest.TestCase):
             self.assertEqual(ready, "readyok\n")
         self.assertEqual(found[-1][2][:3], ["ok\n"] * 3)
         self.assertEqual(found[-1][3], 0)
+
+    def test_a_tag_for_which_there_is_no_memory_changes_nothing(self):
+        """Tags are set until one is refused, in memory of several sizes; taken out, they can be set again."""
+        found = self.browser.execute_async_script("""
+            const done = arguments[0];
+            import('./module.js').then(async (it) => {
+              const found = [];
+              for (const heap of [200000, 262144, 524288]) {
+                const session = await it.open('jatshegi.wasm', { heap, room: 1 << 20 });
+                session.line('play e4');
+                const named = () => [...Array(count + 2).keys()].map((i) => session.tag(`T${i}`));
+                let count = 0;
+                let status = 0;
+                let before = [];
+                while (count < 2000) {
+                  before = named().slice(0, -1);
+                  status = session.setTag(`T${count}`, `${count}`.repeat(300));
+                  if (status !== 0) break;
+                  count++;
+                }
+                const after = named().slice(0, -1);
+                const results = [session.setResult(3), session.result(), session.setResult(4), session.result()];
+                const cleared = [...Array(count).keys()].map((i) => session.clearTag(`T${i}`));
+                const again = session.setTag('T0', 'again');
+                found.push([count, status, after.every((value, i) => value === before[i] && value === (i < count ? `${i}`.repeat(300) : '')), results, cleared.every((it) => it === 0), again, session.pgn()]);
+              }
+              done(found);
+            }).catch((error) => done('error: ' + error));
+        """)
+        self.assertIsInstance(found, list, found)
+        unknown = "".join(f'[{name} "{value}"]\n' for name, value in [("Event", "?"), ("Site", "?"), ("Date", "????.??.??"), ("Round", "?"), ("White", "?"), ("Black", "?"), ("Result", "1/2-1/2")])
+        for count, status, is_kept, results, is_cleared, again, pgn in found:
+            self.assertTrue(0 < count < 2000)
+            self.assertEqual((status, is_kept, results, is_cleared, again), (2, True, [0, 3, 9, 3], True, 0))
+            self.assertEqual(pgn, f'{unknown}[T0 "again"]\n\n1. e4 1/2-1/2\n\n')
 
     def test_the_reports_of_games(self):
         texts = ["1. f3 e5 2. g4 Qh4# 1-0", "1. f3 e5 2. g4 Qh4# 0-1", "Nf3 Nf6 Ng1 Ng8 " * 5 + "e4 *", '[FEN "7k/8/6Q1/8/8/8/8/K7 b - - 0 1"] 1-0', "1. e5 *", " "]

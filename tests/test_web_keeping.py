@@ -72,6 +72,10 @@ class Browsing:
         self.page.until(lambda: self.text() == wanted, f"the game is {wanted!r}")
 
 
+def escaped(value):
+    return value.replace("\\", "\\\\").replace('"', '\\"')
+
+
 class Model:
     """Beside the page: the board of the library, the tags and the result, and the states so far as texts."""
 
@@ -82,13 +86,14 @@ class Model:
         self.note()
 
     def exported(self):
-        head, movetext = self.board.pgn().split("\n\n", 1)
+        # (the line answers with the moves alone: no tags are known there, and no result)
+        head, movetext = self.board.line("pgn").split("\n\n", 1)
         start = "".join(f"{line}\n" for line in head.split("\n") if line.startswith(("[FEN ", "[SetUp ")))
         moves = movetext.rstrip()[:-1] + self.result
-        return str(self.jatshegi.pgn.read_game(("".join(f'[{name} "{value}"]\n' for name, value in self.tags.items()) + f"{start}\n{moves}\n").encode()))
+        return str(self.jatshegi.pgn.read_game(("".join(f'[{name} "{escaped(value)}"]\n' for name, value in self.tags.items()) + f"{start}\n{moves}\n").encode()))
 
     def note(self):
-        state = [self.exported(), self.board.line("path"), self.board.fen(), self.board.pgn(), dict(self.tags), self.result]
+        state = [self.exported(), self.board.line("path"), self.board.fen(), self.board.line("pgn"), dict(self.tags), self.result]
         if self.at >= 0 and self.states[self.at][0] == state[0]:
             self.states[self.at] = state
             return
@@ -117,7 +122,7 @@ class Model:
             return
         game = self.jatshegi.pgn.read_game(text.encode())
         self.board = self.jatshegi.Board.from_game(game)
-        self.tags = {name: value for name, value in game.headers.items() if name not in ("Result", "FEN", "SetUp") and value.strip("?.")}
+        self.tags = {name: value for name, value in game.headers.items() if name not in ("Result", "FEN", "SetUp")}
         self.result = game.result
         self.note()
 
@@ -137,6 +142,7 @@ GAMES = [
     '[White "One"]\n[Black "Two"]\n\n{r} 1. e4 {a} (1. e4 {b} e5) (1. d4 $1 d5 (1... f5 {y})) 1... c5 2. Nf3 1/2-1/2',
     '[Event "Ends"]\n[FEN "7k/P7/8/8/8/8/8/K7 w - - 4 60"]\n\n60. a8=Q+ {so it goes} Kh7 (60... Kg7 $14 $5) 1-0',
     "1. f3 e5 2. g4 Qh4# 0-1",
+    '[White "\u00c5 \\"b\\" \\\\ c"]\n[Date "2024.??.??"]\n[WhiteElo "?"]\n[Custom ""]\n\n1. c4 {x} *',
 ]
 
 
@@ -192,10 +198,10 @@ class Keeping(Browsing):
             model.do("nag 5")
         elif what == "tag":
             field, name = rng.choice(list(TAGS.items()))
-            value = rng.choice(["", "Caf\u00e9, A.", 'the "great"', "back\\slash"])
+            value = rng.choice(["", "Caf\u00e9, A.", 'the "great"', "back\\slash", '\\"', "ends \\", '"', "] [x", "\u738b\u7693 \U0001f3c6 \u2654", f"{{n}} ({rng.randrange(9)})"])
             page.script("const it = document.getElementById(arguments[0]); it.value = arguments[1]; it.dispatchEvent(new Event('change'))", field, value)
             tags = {key: it for key, it in model.tags.items() if key != name}
-            self.retag(model, {**tags, **({name: value.replace("\\", "\\\\").replace('"', '\\"')} if value else {})}, None)
+            self.retag(model, {**tags, **({name: value} if value else {})}, None)
         elif what == "result":
             result = rng.choice(["*", "1-0", "0-1", "1/2-1/2"])
             page.choose("tagResult", result)
@@ -263,6 +269,75 @@ class Keeping(Browsing):
         for wanted in texts[1:]:
             self.press("\ue009", "\ue008", "z")
             self.assertEqual(self.seen()[:3], wanted)
+
+    def test_a_game_that_an_earlier_page_kept_is_opened(self):
+        """It kept the tags and the result beside what the board wrote of the moves."""
+        page, model = self.page, Model(test_web.library())
+        for line, tags, result in [
+            ("play e4", None, None), ("comment sch\u00f6n", {"White": 'The "great" \\', "Custom": "\u2654"}, "1-0"),
+            ("set 4k3/8/8/8/8/8/8/R3K3 w Q - 5 20", {}, "*"), ("play Ra8", {"Black": "B"}, "1/2-1/2"),
+        ]:
+            model.do(line, tags, result)
+        model.at = 2
+
+        def kept(text):
+            return text.encode().decode("latin-1")
+
+        states = [{"game": "older", "number": number, "tags": [[name, kept(value)] for name, value in tags.items()], "result": result, "origin": None, "pgn": kept(pgn), "path": path}
+                  for number, (_, path, _, pgn, tags, result) in enumerate(model.states, 3)]
+        record = {"id": "older", "serial": 1, "name": "", "players": "", "version": 4, "made": 1, "removed": 0, "link": "", "files": [], "draft": None, "at": 5, "path": "0", "changed": 2}
+        self.until_kept()
+        self.in_store("""
+            const [record, states] = given;
+            games.put(record);
+            for (const it of states) kept.put(it);
+            sessionStorage.setItem('game', record.id);
+        """, record, states)
+        self.reload()
+        self.assertEqual((self.seen(), page.text("told")), (model.seen(), ""))
+        for by in [-1, -1, 1, 1, 1, 1, -1]:
+            page.script("document.getElementById(arguments[0]).click()", "undo" if by < 0 else "redo")
+            model.travel(by)
+            self.assertEqual((self.seen(), page.text("told")), (model.seen(), ""))
+        self.reload()
+        self.assertEqual(self.seen(), model.seen())
+        # (each state is kept as its text)
+        found = self.in_store("kept.getAll().onsuccess = ({ target }) => { found = target.result.map(({ game, number, pgn, ...more }) => [game, number, pgn, Object.keys(more).sort()]); };")
+        self.assertEqual(found, [["older", number, state[0].encode().decode("latin-1"), ["origin", "path"]] for number, state in enumerate(model.states, 3)])
+
+    def in_store(self, does, *words):
+        """Does something with the games and the states that the browser keeps."""
+        return self.browser.execute_async_script("""
+            const [given, done] = arguments;
+            const request = indexedDB.open('jatshegi', 1);
+            request.onsuccess = () => {
+              const db = request.result;
+              const transaction = db.transaction(['games', 'states'], 'readwrite');
+              const [games, kept] = [transaction.objectStore('games'), transaction.objectStore('states')];
+              let found = null;
+              transaction.oncomplete = () => {
+                db.close();
+                done(found);
+              };
+              DOES
+            };
+        """.replace("DOES", does), list(words))
+
+    def test_a_name_that_is_refused_leaves_the_game(self):
+        page = self.page
+        page.play("e4")
+        page.script("const it = document.getElementById('tagWhite'); it.value = 'Anna'; it.dispatchEvent(new Event('change'))")
+        page.until(lambda: page.text("player1") == "Anna", "it has its name")
+        had = self.seen()
+        page.shows("tagWhite")
+        # (a field of that type has what it is given, line feeds and all)
+        page.script("const it = document.getElementById('tagWhite'); it.type = 'hidden'; it.value = 'two\\nlines'; it.dispatchEvent(new Event('change'))")
+        page.until_told("White stays as it was: It has more than one line.")
+        self.assertEqual((self.seen(), page.text("tagtold"), page.text("player1")), (had, "White stays as it was: It has more than one line.", "Anna"))
+        page.script("const it = document.getElementById('tagWhite'); it.value = 'Berta'; it.dispatchEvent(new Event('change'))")
+        page.until(lambda: page.text("player1") == "Berta", "another is set")
+        self.assertEqual((page.text("told"), page.text("tagtold")), ("", ""))
+        page.closes()
 
     def test_a_field_with_a_text_undoes_that_and_an_empty_one_the_move(self):
         page = self.page
@@ -351,6 +426,8 @@ class Keeping(Browsing):
     def test_two_windows_with_one_game_lose_nothing(self):
         page = self.page
         page.play("e4")
+        # (its link is kept a little later: this window is the first to do so, and the other to go on)
+        page.until(lambda: "#g=" in page.script("return location.hash"), "the address holds the game")
         self.until_kept()
         page.script("""
             const it = document.createElement('iframe');

@@ -136,7 +136,8 @@ const search = async (depth, done) => {
 
 const heard = (said) => {
   const info = /^info depth (\d+) score (cp|mate) (-?\d+) pv (\S+)/.exec(said);
-  if (info && !engine.stopping) {
+  // (what it still says of the position before is of none that is shown)
+  if (info && !engine.stopping && engine.fen === game.state.fen) {
     const value = (engine.side === 'w' ? 1 : -1) * Number(info[3]);
     engine.named = { depth: Number(info[1]), isMate: info[2] === 'mate', value, move: info[4] };
     drawLine(engine.named);

@@ -1,7 +1,7 @@
 // What the page shows of the game: the status with its articles, the moves, the comment, and the names.
 import { game, page, retag, tag } from './game.js';
 import { parts, rows, shown, typed } from './pgn.js';
-import { CLAIMS, CLAIMS_WITH, MARKS, ROSTER, STATUS } from './words.js';
+import { CLAIMS, CLAIMS_WITH, MARKS, RESULTS, ROSTER, STATUS } from './words.js';
 
 const by = (id) => document.getElementById(id);
 
@@ -41,7 +41,7 @@ const POINTS = { '1-0': ['1', '0'], '0-1': ['0', '1'], '1/2-1/2': ['\u00bd', '\u
 const drawPlayer = (place, side) => {
   const name = side === 'w' ? 'White' : 'Black';
   const title = tag(`${name}Title`);
-  const points = POINTS[game.result]?.[side === 'w' ? 0 : 1] ?? '';
+  const points = POINTS[RESULTS[game.state.result]]?.[side === 'w' ? 0 : 1] ?? '';
   place.classList.toggle('turn', game.state.fen.split(' ')[1] === side && game.state.status === 'play');
   place.setAttribute('role', 'group');
   place.setAttribute('aria-label', name);
@@ -59,7 +59,7 @@ let listed = { pgn: null, rows: [] };
 
 const rowsNow = () => {
   const { pgn } = game.state;
-  if (listed.pgn !== pgn) listed = { pgn, rows: pgn.startsWith('refused') ? [] : rows(parts(`${pgn}\n`).movetext) };
+  if (listed.pgn !== pgn) listed = { pgn, rows: pgn.startsWith('refused') ? [] : rows(parts(pgn).movetext) };
   return listed.rows;
 };
 
@@ -178,8 +178,6 @@ export const drawMoves = () => {
 
 // ---- The names and the result.
 
-const retagged = (name, value) => retag(({ tags }) => ({ tags: [...tags.filter(([it]) => it !== name), ...(value ? [[name, value]] : [])] }));
-
 export const drawTags = () => {
   const box = by('tags');
   box.replaceChildren();
@@ -191,11 +189,11 @@ export const drawTags = () => {
   for (const name of ROSTER) {
     const input = document.createElement('input');
     input.value = tag(name);
-    input.onchange = () => retagged(name, typed(input.value.replace(/[\r\n]+/g, ' ')));
+    input.onchange = () => retag('tag', name, typed(input.value));
     field(name, input);
   }
   const select = document.createElement('select');
-  for (const it of ['*', '1-0', '0-1', '1/2-1/2']) select.add(new Option(it, it, false, it === game.result));
-  select.onchange = () => retag(() => ({ result: select.value }));
+  RESULTS.forEach((it, i) => select.add(new Option(it, it, false, i === game.state.result)));
+  select.onchange = () => retag('result', 'Result', select.selectedIndex);
   field('Result', select);
 };

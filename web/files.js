@@ -212,7 +212,7 @@ export const saveBack = async () => {
   // (asked for at once, while the browser still knows of the click)
   if (file.handle && await file.handle.requestPermission({ mode: 'readwrite' }) !== 'granted') throw new Error(`${file.name} may not be written.`);
   const was = kept ? new Uint8Array(await kept.bytes.arrayBuffer()) : collection.bytes;
-  const now = await withGame(was, origin.number, await exported());
+  const now = await withGame(was, origin.number, exported());
   const said = await delivered(file, was, now);
   if (kept) await writeFile({ ...kept, bytes: new Blob([now]) });
   page.told(said);

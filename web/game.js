@@ -1,15 +1,15 @@
-// The game on the board: what the board says of it, the tags and the result, which the board doesn't keep, the comment that is being typed, and the states before.
+// The game on the board: what the board says of it, the comment that is being typed, and the states before.
 import { ask } from './ask.js';
 import { History } from './history.js';
 import { toBytes } from './module.js';
-import { marker, parts, shown, tagLine, typed } from './pgn.js';
-import { REFUSED, ROSTER, faultText, refusal } from './words.js';
+import { shown, typed } from './pgn.js';
+import { faultText, refusal } from './words.js';
 
 /**
  * `acts` is how much a person has done: what is read from a file meanwhile doesn't take its place. `draft` is the comment that is being typed, with the path of its
  * node: it is kept until it is set or given up. `isMoved` is whether what is drawn comes of a move that was made, or of a game that was begun.
  */
-export const game = { state: null, tags: [], result: '*', origin: null, history: new History(), draft: null, acts: 0, isMoved: false };
+export const game = { state: null, origin: null, history: new History(), draft: null, acts: 0, isMoved: false };
 
 /** What the page does when the game is another, when it has been noted, when one begins beside it, and when something is to be said. */
 export const page = { draw() {}, drawTags() {}, noted() {}, beside() {}, told() {} };
@@ -32,43 +32,34 @@ export const doing = (work) => {
   });
 };
 
-/** The text of the game as the module is to read it: its tags, and the moves as the board writes them. */
-const composed = () => {
-  if (game.state.pgn.startsWith('refused')) throw new Error(refusal(game.state.pgn));
-  const { tags, movetext } = parts(`${game.state.pgn}\n`);
-  const start = tags.filter(([name]) => name === 'FEN' || name === 'SetUp');
-  const moves = movetext.replace(/(^|\s)\*$/, `$1${game.result}`);
-  return [...game.tags, ...start].map(tagLine).join('') + `\n${moves}\n`;
-};
-
 /** The game in export form, as the module writes it. */
-export const exported = async () => {
-  const { status, text, used } = await ask('export', { bytes: toBytes(composed()) });
-  if (status !== 0) throw new Error(`The game can\u2019t be written: ${status === 10 ? REFUSED.TooLongToShow : faultText(status, used)}`);
-  return text;
+export const exported = () => {
+  const { pgn } = game.state;
+  if (pgn.startsWith('refused')) throw new Error(`The game can\u2019t be written: ${refusal(pgn)}`);
+  return pgn;
 };
 
 // ---- The states.
 
 // Notes how the game now is. What can't be written can't be noted.
 const note = () => {
-  const { state, tags, result, origin } = game;
+  const { state, origin } = game;
   if (state.pgn.startsWith('refused')) {
     page.told(`Since the last move or so nothing can be undone or kept: ${refusal(state.pgn)}`);
     return;
   }
-  game.history.note({ tags, result, origin, pgn: state.pgn, path: state.path });
+  game.history.note({ origin, pgn: state.pgn, path: state.path });
   page.noted();
 };
 
 /** Has the module restore a state. Where it can't, all is as before. */
-const restored = async ({ tags, result, origin, pgn, path }) => {
+const restored = async ({ origin, pgn, path }) => {
   const found = await ask('restore', { bytes: toBytes(pgn), path });
   if (found.status !== 0) {
     page.told(`That can\u2019t be restored: ${faultText(found.status, found.used)}.`);
     return false;
   }
-  Object.assign(game, { tags, result, origin: origin ?? null, state: found.state });
+  Object.assign(game, { origin: origin ?? null, state: found.state });
   const isExact = found.state.pgn === pgn && found.state.path === path;
   page.told(isExact ? '' : 'The module gives this state otherwise than it was.');
   return true;
@@ -105,9 +96,9 @@ export const shownAgain = async (history, draft, put) => {
 const to = (path) => (path === '-' ? 'start' : `goto ${path}`);
 const commentLine = ({ text }) => `comment ${typed(text)}`;
 
-// Has the board answer lines, up to one that is refused.
-const say = async (all) => {
-  const { answers, state } = await ask('lines', { lines: all.map((it) => it.replace(/[\r\n]+/g, ' ')) });
+// Has the board answer lines, up to one that is refused; or begin a game by one.
+const say = async (all, job = 'lines') => {
+  const { answers, state } = await ask(job, { lines: all.map((it) => it.replace(/[\r\n]+/g, ' ')) });
   return { answers, bad: answers.find((it) => it.startsWith('refused')), state };
 };
 
@@ -144,14 +135,14 @@ const setDraft = async () => {
   return bad;
 };
 
-/** Has the board answer lines, with other tags and another result where they are given, and draws what it then is. Only in turn. */
-const answered = async (all, more = {}) => {
+/** Has the board answer lines, or begin a game by one, and draws what it then is. Only in turn. */
+const answered = async (all, job = 'lines') => {
   let bad = await setDraft();
   if (!bad) {
-    const found = await settle(all, await say(all));
+    const found = await settle(all, await say(all, job));
     game.state = found.state;
     bad = found.bad;
-    if (!bad) Object.assign(game, more);
+    if (!bad && job === 'begin') game.origin = null;
     game.isMoved = !bad && all.some((it) => /^(play|new|set)\b/.test(it));
   }
   page.told(bad ? refusal(bad) : '');
@@ -168,29 +159,35 @@ export const stepped = (line) => answered([line]);
 
 /** Begins another game by `new` or `set FEN`, in the place of the one that is there. */
 export const begin = (line) => doing(async () => {
-  if (!await answered([line], { tags: [], result: '*', origin: null })) return false;
+  if (!await answered([line], 'begin')) return false;
   page.drawTags();
   return true;
 });
 
 /** The board as it begins, with no state before. Only in turn, and with no comment that is being typed. */
 export const beginAlone = async () => {
-  const { bad, state } = await say(['new']);
+  const { bad, state } = await say(['new'], 'begin');
   if (bad) {
     page.told(refusal(bad));
     return false;
   }
-  Object.assign(game, { state, tags: [], result: '*', origin: null, history: new History(), draft: null });
-  game.history.note({ tags: [], result: '*', pgn: state.pgn, path: state.path });
+  Object.assign(game, { state, origin: null, history: new History(), draft: null });
+  game.history.note({ pgn: state.pgn, path: state.path });
   return true;
 };
 
 /** Sets a comment that is being typed, before something else is done with the game. Only in turn. */
 export const isSettled = async () => !game.draft || answered([]);
 
-/** Changes the tags or the result. */
-export const retag = (change) => doing(async () => {
-  Object.assign(game, change(game));
+/**
+ * Has the board give a tag a value, a byte string, or take it out where that is empty (the job `tag`); or say how the game ended, by its number (the job `result`).
+ * Refused, all is as it was.
+ */
+export const retag = (job, name, value) => doing(async () => {
+  const { status, state } = await ask(job, { name, value });
+  if (status !== 0) throw new Error(`${name} stays as it was: ${faultText(status)}`);
+  game.state = state;
+  page.told('');
   note();
   page.draw();
 });
@@ -210,9 +207,6 @@ export const taken = async (bytes, { path = '-', isBeside = false, origin = null
     game.history = new History();
     page.beside();
   }
-  const { tags, movetext } = parts(found.text);
-  game.tags = tags.filter(([name, value]) => !['Result', 'FEN', 'SetUp'].includes(name) && !(ROSTER.includes(name) && /^[?.]+$/.test(value)));
-  game.result = marker(movetext);
   Object.assign(game, { state: found.state, origin });
   page.told('');
   note();
@@ -221,5 +215,5 @@ export const taken = async (bytes, { path = '-', isBeside = false, origin = null
   return true;
 };
 
-/** What a tag says, empty where it isn't there. */
-export const tag = (name, tags = game.tags) => shown(tags.find(([it]) => it === name)?.[1] ?? '');
+/** What a tag says, for showing; empty where nothing is known. */
+export const tag = (name) => shown(game.state.tags[name].replace(/^(\?|\?{4}\.\?\?\.\?\?)$/, ''));

@@ -1,10 +1,7 @@
-// The states that a game has been in, for undo and redo. A state is what the module wrote of the board, its text and the path of its cursor, with the tags and
-// the result, which the board doesn't keep: `{tags, result, pgn, path}`. It is restored by the module alone.
+// The states that a game has been in, for undo and redo. A state is the text that the module wrote of the whole game and the path of its cursor, `{pgn, path}`. It
+// is restored by the module alone.
 const MOST_STATES = 1000;
 const MOST_TEXT = 32 << 20;
-
-/** Whether two states differ in their place at most. */
-export const isSame = (a, b) => a.pgn === b.pgn && a.result === b.result && JSON.stringify(a.tags) === JSON.stringify(b.tags);
 
 export class History {
   /** `first` is the number of the first state that is still there. */
@@ -37,7 +34,7 @@ export class History {
 
   /** Notes how the game is: after a change a new state, which takes the place of those that were undone, else the place alone. Returns whether it is a new one. */
   note(state) {
-    if (this.here && isSame(this.here, state)) {
+    if (this.here?.pgn === state.pgn) {
       this.here.path = state.path;
       return false;
     }

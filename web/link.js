@@ -8,7 +8,7 @@ let waiting;
 
 const through = async (bytes, stream) => new Uint8Array(await new Response(new Blob([bytes]).stream().pipeThrough(stream)).arrayBuffer());
 
-const heldNow = async () => btoa(fromBytes(await through(toBytes(await exported()), new CompressionStream('deflate-raw'))))
+const heldNow = async () => btoa(fromBytes(await through(toBytes(exported()), new CompressionStream('deflate-raw'))))
   .replaceAll('+', '-').replaceAll('/', '_').replace(/=+$/, '');
 
 const whole = (held, isTurned) => `#g=${held}&p=${game.state.path}${isTurned ? '&f=1' : ''}`;

@@ -37,7 +37,7 @@ const drawBoard = () => {
 
 page.told = (text) => {
   by('told').textContent = text;
-  by('fentold').textContent = by('fenbox').open ? text : '';
+  for (const box of ['fen', 'tag']) by(`${box}told`).textContent = by(`${box}box`).open ? text : '';
 };
 page.draw = () => {
   drawBoard();
@@ -177,14 +177,14 @@ const games = () => {
     by('pastebox').close();
     read(new TextEncoder().encode(by('pgn').value));
   };
-  by('copy').onclick = out(async () => copy(shown(await exported()), 'The game'));
+  by('copy').onclick = out(async () => copy(shown(exported()), 'The game'));
   by('copyfen').onclick = () => copy(game.state.fen, 'The FEN');
   by('link').onclick = out(async () => {
     const link = await linkNow(view.turned);
     document.documentElement.dataset.given = link;
     await copy(location.href.replace(/#.*/, '') + link, 'The link');
   });
-  by('save').onclick = out(async () => download(toBytes(await exported()), 'game.pgn'));
+  by('save').onclick = out(async () => download(toBytes(exported()), 'game.pgn'));
   by('saveback').onclick = out(saveBack);
   by('find').oninput = showCollection;
 };
@@ -273,7 +273,7 @@ const main = async () => {
   }
   const { state } = first;
   game.state = state;
-  game.history.note({ tags: [], result: '*', origin: null, pgn: state.pgn, path: state.path });
+  game.history.note({ origin: null, pgn: state.pgn, path: state.path });
   drawTags();
   await beginning();
   addEventListener('hashchange', () => {
@@ -287,6 +287,6 @@ const main = async () => {
 };
 
 // For who looks on, from the console or a test.
-globalThis.jatshegi = { game, exported: async () => shown(await exported()), settled };
+globalThis.jatshegi = { game, exported: async () => shown(exported()), settled };
 
 main().catch((error) => lacks(`The board could not be begun: ${error.message}. Chrome and Edge from 97 on, Firefox from 114 on and Safari from 15.4 on have what it needs.`));

@@ -1,6 +1,9 @@
 // The games that are kept in this browser: several at once, each with its name and the states that it has been in.
+import { ask } from './ask.js';
 import { game, beginAlone, doing, inTurn, isSettled, page, shownAgain, tag } from './game.js';
 import { History } from './history.js';
+import { toBytes } from './module.js';
+import { olderText } from './pgn.js';
 import { allGames, changeGame, dropFiles, dropGame, hasStore, openStore, readGame, writeGame } from './store.js';
 
 /** `here` is the game on the board; `records` are those that are kept; `trouble` is why nothing is kept, `failed` why the last change isn’t. */
@@ -58,8 +61,8 @@ const showKept = () => {
   show();
 };
 
-const players = ({ tags }) => {
-  const [white, black] = [tag('White', tags), tag('Black', tags)];
+const players = () => {
+  const [white, black] = [tag('White'), tag('Black')];
   return white || black ? `${white || '?'} \u2013 ${black || '?'}` : '';
 };
 
@@ -72,7 +75,7 @@ const snapshot = (it) => {
   const states = history.states.map((state, i) => ({ state, number: history.first + i }))
     .filter(({ state, number }) => !kept.has(state) || (number !== history.number && kept.get(state) !== mark(state)));
   const files = [...new Set(history.states.map(({ origin }) => origin?.file).filter(Boolean))];
-  it.record = { ...it.record, files, players: players(history.here), draft: it.draft, at: history.number, path: history.here.path, changed: Date.now() };
+  it.record = { ...it.record, files, players: it.players, draft: it.draft, at: history.number, path: history.here.path, changed: Date.now() };
   return { states, record: { ...it.record, version: it.record.version + 1 }, first: history.first, last: history.last };
 };
 
@@ -121,7 +124,7 @@ export const keep = (isMade = true) => {
     show();
     return;
   }
-  it.draft = game.draft;
+  Object.assign(it, { draft: game.draft, players: players() });
   it.isDirty = true;
   it.isMade ||= isMade;
   it.saving ??= save(it);
@@ -144,6 +147,14 @@ const put = (it) => {
 /** The game that is on the board is one beside those that are kept: an empty one, or one that was read. */
 export const beside = (isEmpty = true) => put({ ...fresh(), isEmpty });
 
+// A state as it is kept now: of one that an earlier page kept, with its tags and its result beside it, the module writes the whole text.
+const asNow = async ({ game: _, number, tags, result, ...state }) => {
+  if (!tags) return state;
+  const text = olderText({ ...state, tags, result });
+  const found = await ask('export', { bytes: toBytes(text) });
+  return { ...state, pgn: found.status === 0 ? found.text : text };
+};
+
 const opened = async (id) => {
   await mine.here?.saving;
   const { record, states } = await readGame(id);
@@ -154,8 +165,8 @@ const opened = async (id) => {
   }
   const first = states[0].number;
   const kept = new WeakMap();
-  const all = states.map(({ game: _, number, ...state }) => state);
-  all.forEach((state) => kept.set(state, mark(state)));
+  const all = await Promise.all(states.map(asNow));
+  states.forEach(({ tags }, i) => tags || kept.set(all[i], mark(all[i])));
   all[at].path = record.path;
   delete all[at].draft;
   const history = new History(all, at, first);

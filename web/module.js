@@ -92,11 +92,47 @@ class Session {
     return [status, status === OK ? this.taken() : ''];
   }
 
-  /** The board's answer to a line, with its line feed. */
-  line(text) {
-    const [status, answer] = this.call('jatshegi_board_answer', ...this.put(toBytes(text)));
+  // As `call`: the answer, or a refusal as the board writes one.
+  asked(...all) {
+    const [status, answer] = this.call(...all);
     if (status === OK) return answer;
     return status === ROOM ? 'refused 0 TooLongToShow\n' : 'refused 5 Memory\n';
+  }
+
+  /** The board's answer to a line, with its line feed. */
+  line(text) {
+    return this.asked('jatshegi_board_answer', ...this.put(toBytes(text)));
+  }
+
+  /** The whole game on the board in export form, with its tags and its result; or a refusal. */
+  pgn() {
+    return this.asked('jatshegi_board_pgn');
+  }
+
+  /** What a tag of the game says, a byte string; empty where there is no such tag. */
+  tag(name) {
+    const [status, value] = this.call('jatshegi_board_tag', ...this.put(toBytes(name)));
+    return status === ROOM ? '(too long to be shown)' : value;
+  }
+
+  /** Gives a tag a value, or takes it out; both are byte strings. The status; but for OK the game is as it was. */
+  setTag(name, value) {
+    const [at, length] = this.put(toBytes(name + value));
+    return this.exports.jatshegi_board_set_tag(this.at(SLOT), at, BigInt(name.length), at + BigInt(name.length), length - BigInt(name.length));
+  }
+
+  clearTag(name) {
+    return this.exports.jatshegi_board_clear_tag(this.at(SLOT), ...this.put(toBytes(name)));
+  }
+
+  /** How the game ended, by its number: 0 for `*`, 1 for `1-0`, 2 for `0-1`, 3 for `1/2-1/2`. */
+  result() {
+    this.exports.jatshegi_board_result(this.at(SLOT), this.at(FLAG));
+    return this.view().getUint32(this.base + FLAG, true);
+  }
+
+  setResult(marker) {
+    return this.exports.jatshegi_board_set_result(this.at(SLOT), marker);
   }
 
   /** The legal move that a text names, in long algebraic notation; empty where it names none. */
@@ -120,8 +156,8 @@ class Session {
   }
 
   /**
-   * The game at that place of the text becomes the board's tree, with its variations, comments and annotations, the cursor at its root: `{status, used}`, as `game`
-   * answers it; but for OK the board is as it was.
+   * The game at that place of the text becomes the board's, with its tags and its result, its variations, comments and annotations, the cursor at its root:
+   * `{status, used}`, as `game` answers it; but for OK the board is as it was.
    */
   load(from) {
     const status = this.exports.jatshegi_board_load(this.at(SLOT), ...this.rest(from), this.at(USED));

@@ -1,5 +1,9 @@
 // The answers of the module in words, each with its article of the FIDE Laws of Chess.
 export const ROSTER = ['Event', 'Site', 'Date', 'Round', 'White', 'Black'];
+/** The tags that the page shows. */
+export const SHOWN = [...ROSTER, 'WhiteElo', 'BlackElo', 'WhiteTitle', 'BlackTitle'];
+/** How a game ended, by its number in the module. */
+export const RESULTS = ['*', '1-0', '0-1', '1/2-1/2'];
 
 export const MARKS = {
   1: '!', 2: '?', 3: '!!', 4: '??', 5: '!?', 6: '?!', 10: '=', 13: '\u221e', 14: '\u2a72', 15: '\u2a71', 16: '\u00b1', 17: '\u2213', 18: '+\u2212', 19: '\u2212+',
@@ -32,9 +36,12 @@ export const FAULTS = [
 
 /** A refusal of the board, `refused NUMBER NAME`, as a sentence. */
 export const refusal = (answer) => {
-  const name = answer.split(' ')[2];
+  const name = answer.trim().split(' ')[2];
   return REFUSED[name] ?? answer;
 };
 
-/** Why a text isn't read: the status of the call, and the place of its fault. */
-export const faultText = (status, place) => (status === 2 ? 'There is no memory for it.' : `${FAULTS[status - 40] ?? 'a fault'}, at byte ${place}`);
+// Statuses of calls that aren't faults of a text.
+const STATUSES = { 2: 'There is no memory for it.', 9: 'There is no such result.', 10: REFUSED.TooLongToShow, 18: 'No tag has that name.', 19: 'The game itself says that.', 20: 'It has more than one line.' };
+
+/** Why something isn't done: the status of the call, and of a text the place of its fault. */
+export const faultText = (status, place) => STATUSES[status] ?? `${FAULTS[status - 40] ?? 'a fault'}, at byte ${place}`;

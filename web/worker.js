@@ -1,6 +1,7 @@
 // Keeps the board in a worker: answers lines, and reads the games of a text.
-import { open, OK, NONE } from './module.js';
+import { open, toBytes, OK, NONE } from './module.js';
 import { parts, rows } from './pgn.js';
+import { SHOWN } from './words.js';
 
 let session;
 
@@ -12,7 +13,7 @@ const namedBy = (pgn) => {
   if (written.pgn !== pgn) written = { pgn, moves: wordsOf(pgn) };
   return written.moves;
 };
-const wordsOf = (pgn) => new Map((pgn.startsWith('refused') ? [] : rows(parts(`${pgn}\n`).movetext)).filter((it) => it.kind === 'move').map((it) => [it.path.join('.'), it.san]));
+const wordsOf = (pgn) => new Map((pgn.startsWith('refused') ? [] : rows(parts(pgn).movetext)).filter((it) => it.kind === 'move').map((it) => [it.path.join('.'), it.san]));
 
 // The move that led to the cursor, in long algebraic notation; empty at the root.
 const lastMove = ({ path, pgn }) => {
@@ -26,7 +27,10 @@ const lastMove = ({ path, pgn }) => {
 // All that the page draws of the position at the cursor. `told` is what the board answers.
 const state = () => {
   const told = {};
-  for (const asked of ['path', 'fen', 'moves', 'status', 'claims', 'checks', 'count', 'eval', 'counts w', 'counts b', 'pgn']) told[asked] = line(asked).replace(/\n$/, '');
+  for (const asked of ['path', 'fen', 'moves', 'status', 'claims', 'checks', 'count', 'eval', 'counts w', 'counts b']) told[asked] = line(asked).replace(/\n$/, '');
+  told.pgn = session.pgn();
+  told.tags = Object.fromEntries(SHOWN.map((name) => [name, session.tag(name)]));
+  told.result = session.result();
   told.last = lastMove(told);
   // What may be claimed with a move that is then made.
   told.with = told.moves === 'none' ? [] : told.moves.split(' ').map((m) => [m, line(`claim ${m}`).trim()]).filter(([, claims]) => claims !== 'none').slice(0, 5);
@@ -74,7 +78,7 @@ const finding = (report) => {
 let beside;
 const words = (fen, moves) => moves.map((m) => {
   if (beside.line(`set ${fen}`) !== 'ok\n' || beside.line(`play ${m}`) !== 'ok\n') return m;
-  return namedBy(beside.line('pgn').trim()).get('0') ?? m;
+  return namedBy(beside.pgn()).get('0') ?? m;
 });
 
 const jobs = {
@@ -96,6 +100,26 @@ const jobs = {
     return { answers, state: state() };
   },
 
+  // A game begins by a line, `new` or `set FEN`, with no tags and no result: a board beside has one, and the module puts it on the board, or leaves that as it is.
+  begin({ lines: [text] }) {
+    let answer = beside.line(text).trim();
+    if (answer === 'ok') {
+      session.hold(toBytes(beside.pgn()));
+      if (session.load(0).status !== OK) answer = 'refused 5 Memory';
+    }
+    return { answers: [answer], state: state() };
+  },
+
+  // A tag gets a value, or where that is empty is taken out.
+  tag({ name, value }) {
+    return { status: value === '' ? session.clearTag(name) : session.setTag(name, value), state: state() };
+  },
+
+  // How the game ended, by its number.
+  result({ value }) {
+    return { status: session.setResult(value), state: state() };
+  },
+
   // The moves of a position as they are written (SAN).
   words({ fen, moves }) {
     return words(fen, moves);
@@ -105,7 +129,7 @@ const jobs = {
   position() {
     const path = line('path').trim();
     const steps = path === '-' ? [] : path.split('.');
-    const named = namedBy(line('pgn'));
+    const named = namedBy(session.pgn());
     line('start');
     const fen = line('fen').trim();
     const moves = steps.map((step, i) => {
@@ -121,23 +145,19 @@ const jobs = {
     return readOne(bytes);
   },
 
-  // The text's first game becomes the board's tree, at the node with that path, or at its root.
-  load({ bytes, path }) {
+  // The text's first game comes on the board, if it isn't too long to be shown, the cursor at the node with that path.
+  load({ bytes, path = '-' }) {
     const game = readOne(bytes);
-    if (game.status !== OK) return game;
-    const loaded = session.load(0);
-    if (loaded.status !== OK) return loaded;
-    if (path && path !== '-') line(`goto ${path}`);
-    return { ...game, state: state() };
+    return game.status === OK ? jobs.restore({ bytes, path }) : game;
   },
 
-  // The board's tree becomes that of a text which the board wrote, the cursor at that path.
+  // The game of a text which the board wrote comes on the board, the cursor at that path.
   restore({ bytes, path }) {
     session.hold(bytes);
     const loaded = session.load(0);
     if (loaded.status !== OK) return loaded;
     if (path !== '-') line(`goto ${path}`);
-    return { status: OK, used: loaded.used, state: state() };
+    return { ...loaded, state: state() };
   },
 
   // Where the game with that number among those of the text begins and ends; null where there is none.
