@@ -129,6 +129,16 @@ class Pages(unittest.TestCase):
                         self.assertTrue(any(clause in named[it] for it in functions))
         self.assertGreater(count, 80)
 
+    def test_what_a_wrong_body_or_a_part_replaces_occurs_once(self):
+        for path in glob.glob("crates/*/must-fail/*.edit", root_dir=runs.TOP):
+            text = text_of(path)
+            source, old = re.search(r"^file: (.*)$", text, re.M)[1], re.search(r"^old: (.*?)\n(?=new: )", text, re.M | re.S)[1]
+            with self.subTest(path=path):
+                self.assertEqual(text_of(f"{path.split('/must-fail/')[0]}/{source}").count(old), 1)
+        for source, old in re.findall(r"^file: (.*)\nold: (.*)\n", text_of("crates/chess_examples/parts.txt"), re.M):
+            with self.subTest(source=source, old=old):
+                self.assertEqual(text_of(f"crates/{source}").count(re.sub("[⟦⟧]", "", old).replace("\\n", "\n")), 1)
+
     def test_each_definition_is_explained(self):
         """Each definition of specs/ has a comment before it or a row at the head of its file, and each row names what the file has."""
         for path in self.files:

@@ -64,6 +64,9 @@ class TheRelease(unittest.TestCase):
         self.assertEqual(sources, read(f"{runs.TOP}/release/all.sources"))
 
     def test_the_version_is_that_of_the_repository(self):
+        first, second, third = map(int, runs.VERSION.split("."))
+        header = read(f"{runs.TOP}/include/jatshegi.h").decode()
+        self.assertIn(f'#define JATSHEGI_VERSION "{runs.VERSION}"\n#define JATSHEGI_VERSION_NUMBER 0x{65536 * first + 256 * second + third:06x}\n', header)
         self.assertEqual(read(f"{runs.TOP}/VERSION").decode().strip(), manifest()[0]["version"])
 
     def test_each_file_is_as_the_manifest_says_and_there_is_no_other(self):
