@@ -3,6 +3,7 @@
 Needs Debian's chromium, chromium-driver, python3-selenium and firefox-esr; where they are missing and can't be installed, these tests are skipped. With the word
 `pictures` (python3 -m tests.test_web pictures, from tests/: python3 test_web.py pictures) the screenshots of docs/ are made anew.
 """
+import fcntl
 import functools
 import hashlib
 import http.server
@@ -56,9 +57,16 @@ def has_browser():
 
 
 def install():
-    """Installs what is missing, where this is Debian and the user may."""
-    if has_browser() or os.geteuid() != 0 or not shutil.which("apt-get"):
+    """Installs what is missing, where this is Debian and the user may. Several files of tests ask for it at once: the others wait for the first."""
+    if os.geteuid() != 0 or not shutil.which("apt-get"):
         return
+    with open(f"{tempfile.gettempdir()}/jatshegi-packages.lock", "w", encoding="utf-8") as lock:
+        fcntl.flock(lock, fcntl.LOCK_EX)
+        if not has_browser():
+            install_packages()
+
+
+def install_packages():
     quiet = {"stdin": subprocess.DEVNULL, "stdout": subprocess.DEVNULL, "stderr": subprocess.DEVNULL, "env": {**os.environ, "DEBIAN_FRONTEND": "noninteractive"}}
     subprocess.run(["apt-get", "update", "-qq"], **quiet)
     subprocess.run(["apt-get", "install", "-y", "-qq", "-o", "DPkg::Lock::Timeout=300", *PACKAGES, "firefox-esr"], **quiet)
