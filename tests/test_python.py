@@ -747,6 +747,8 @@ class NothingIsLost(unittest.TestCase):
             for bad, value in (("", "x"), ("a b", "x"), ("é", "x"), ("Result", "1-0"), ("FEN", "x"), ("SetUp", "1"), (name, "two\nlines")):
                 self.assertRaises(ValueError, board.headers.__setitem__, bad, value)
             self.assertRaises(ValueError, setattr, board, "marker", chance.choice(["", "1-1", "draw", None]))
+            for bad in ((7, "x"), (name, 7), (None, None), (b"White", "x"), (name, b"x")):
+                self.assertRaises(TypeError, board.headers.__setitem__, *bad)
             self.assertRaises(KeyError, board.headers.__getitem__, chance.choice(["", "Result", "FEN", "None", 7]))
 
     def test_random_edits_pushes_and_pops_beside_a_plain_model(self):

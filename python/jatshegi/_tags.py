@@ -46,6 +46,8 @@ class Tags(MutableMapping[str, str]):
         return self._board._shown(value)
 
     def __setitem__(self, name: str, value: str) -> None:
+        if not isinstance(name, str) or not isinstance(value, str):
+            raise TypeError(f"a tag's name and its value are texts: {name!r}, {value!r}")
         text, data = name.encode("utf-8", "surrogatepass"), value.encode(self._board.encoding, "surrogateescape")
         self._change(name, c.lib.jatshegi_board_set_tag, text, len(text), data, len(data))
 

@@ -116,7 +116,7 @@ pub sliders_are :
 sliders_are man_on axis c all mine of_all of_mine = λ s.
     contains-intersection nat_cmp_total all mine s ∙ (λ i. of_all s i && of_mine s i) ∙ slider_is (man_on s) axis c
 
--- where the set of those men has none on a half, none stands there
+-- where the set of those men has none on a half, none is there
 pub free_half :
     (man_on : Men) (axis : Axis) (way : Way) (at : ℕ) (c : Colour) (half men : FinSet nat_cmp) →
     ((s : ℕ) → contains half s ≡ (ltb s 64 && on_half axis way at s)) → Gathers men (λ there. is_slider there axis c) man_on →
