@@ -121,7 +121,7 @@ fn is_seen_around(placement: &Placement, at: Square, colour: Colour) -> bool
 }
 
 /// Whether a man of the colour attacks the square, whatever is on it (FIDE Laws 3.1.2). By sets of squares; no count is kept for it.
-pub(crate) fn is_attacked(placement: &Placement, colour: Colour, square: Square) -> bool
+pub fn is_attacked(placement: &Placement, colour: Colour, square: Square) -> bool
     ensures { result ≡ is_attacked (man_at placement.now) colour square }
 {
     holds_any(leapers(placement, colour, square)) || is_seen_around(placement, square, colour)

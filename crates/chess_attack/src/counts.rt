@@ -75,14 +75,6 @@ impl Counts {
         self.count(colour, square) >= 1
     }
 
-    /// Counts the ticks from 0 again. The counts stay.
-    pub fn begin(&mut self)
-        ensures value { self.new ≡ record self.old { ticks = 0 } }
-        ensures agrees { (board : Board) → AreCounts self.old board → AreCounts self.new board }
-    {
-        self.tally.begin();
-    }
-
     /// How many changes of one were made to the counts since the beginning, up to `u32::MAX`.
     pub fn ticks(&self) -> u32
         ensures { result ≡ self.now.ticks }
@@ -92,7 +84,23 @@ impl Counts {
 }
 
 impl Follower for Counts {
+    ghost use Rattle.chess_types.specs.board.Board.{Board};
+    ghost use Rattle.chess_attack.specs.KeptCounts.{Ticks};
+    ghost use Rattle.chess_attack.specs.steps.TickLaws.{ticks_none, ticks_on, ticks_within, ticks_seen};
+    ghost use Rattle.std.specs.Prelude.{[]};
+    ghost use Rattle.std.proofs.Common.{refl, arith};
+
     ghost agrees = { λ counts board. AreCounts counts board };
+
+    ghost works = { Ticks };
+
+    ghost begins = { λ old new. new ≡ record old { ticks = 0 } };
+
+    ghost ticks = { λ counts. counts.ticks };
+
+    ghost words = { λ _. [] };
+
+    ghost suffices = { λ before after n. changed_of (man_at before) (man_at after) ≤ n };
 
     /// Counts the man's attacks, and closes those that went through the square. At most 54 ticks and, while they have not
     /// reached `u32::MAX`, at least as many as the counts change by.
@@ -131,4 +139,26 @@ impl Follower for Counts {
     {
         replace_in(&mut self.tally, before, at, man);
     }
+
+    fn begin(&mut self)
+        ensures value { self.new ≡ record self.old { ticks = 0 } }
+        ensures agrees { (board : Board) → AreCounts self.old board → AreCounts self.new board }
+    {
+        self.tally.begin();
+    }
+
+    #[inline(always)]
+    fn sees(&self, _placement: &Placement, colour: Colour, square: Square) -> bool {
+        self.is_attacked(colour, square)
+    }
+
+    ghost none = { ticks_none };
+
+    ghost on = { ticks_on };
+
+    ghost within = { ticks_within };
+
+    ghost seen = { λ a b c x y m low f g. (refl, (ticks_seen a b c x y m low f g).0, (ticks_seen a b c x y m low f g).1) };
+
+    ghost more = { λ x y m n le s. Prim.omega (arith, le, s) };
 }

@@ -1,8 +1,10 @@
-ghost use Rattle.std.specs.Prelude.{◌≡◌, filter};
+ghost use Rattle.std.specs.Prelude.{◌≡◌, ◌==◌, filter};
 ghost use Rattle.std.specs.FinSet.{contains};
 ghost use Rattle.chess_types.specs.steps.KeptSets.{Gathers};
 ghost use Rattle.chess_types.specs.board.Squares.{squares};
 ghost use Rattle.chess_types.specs.board.Board.{man_at};
+ghost use Rattle.chess_types.specs.board.Men.{men_of};
+ghost use Rattle.chess_types.specs.board.Mating.{cannot_mate};
 ghost use Rattle.chess_types.specs.board.Dead.{holds_bishop, holds_minor, others, is_lone_minor, is_one_coloured, is_dead};
 
 use chess_types::{Colour, Kind, Man, Placement, Setup, SquareSet};
@@ -64,4 +66,20 @@ pub(crate) fn is_dead(setup: &Setup) -> bool
     ensures { result ≡ is_dead setup.now }
 {
     is_lone_minor(&setup.placement) || is_one_coloured(&setup.placement)
+}
+
+// Whether the king is the side's last man.
+fn has_only_king(men: &Placement, side: Colour) -> bool
+    ensures { result ≡ (men_of men.now side == 1) }
+{
+    men.men(side) == 1
+}
+
+/// Whether the side can't mate any more, as far as this is decided: it has only its king, or the position is dead. Then no series of legal moves ends with
+/// that side mating (`mating_laws` of `chess_laws`), so a win on time is none (FIDE Laws 6.9). `false` doesn't say that it can.
+#[tactic(auto, unfolding(chess_types::specs::board::Mating::cannot_mate))]
+pub fn cannot_mate(setup: &Setup, side: Colour) -> bool
+    ensures { result ≡ cannot_mate setup.now side }
+{
+    has_only_king(&setup.placement, side) || is_dead(setup)
 }

@@ -18,6 +18,7 @@ mod step;
 mod target;
 
 pub use chess_types::{Claims, Status};
+pub use dead::cannot_mate;
 pub use fault::LineFault;
 pub use laws::identity_laws;
-pub use line::Line;
+pub use line::{Line, LineWith};

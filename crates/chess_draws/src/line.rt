@@ -26,10 +26,11 @@ use crate::status::{claims_at, is_drawn_at, status_at};
 use crate::step::{step, step_back};
 use crate::target::begin;
 use arrayvec::{ArrayString, ArrayVec};
+use chess_attack::Follower;
 use chess_fen::write_fields;
 use chess_key::KeyTable;
 use chess_moves::{has_legal, in_check, is_legal, moves, moves_into};
-use chess_play::Live;
+use chess_play::{Followers, Live, LiveWith};
 use chess_san::SanFault;
 use chess_types::{Claims, Colour, Move, Position, Status};
 use std::alloc::Allocator;
@@ -40,19 +41,19 @@ const LIMIT: u32 = 20_000;
 
 /// A position and the legal moves made from it, one after the other. The last of them may be only looked at, at most 16.
 #[derive(Drop)]
-pub struct Line<'k, A: Allocator> {
+pub struct LineWith<F: Follower, A: Allocator> {
     root: Position,
     plies: Vec<Ply, A>,
     // The plies after them that are only looked at.
     looked: ArrayVec<Ply, 16>,
     // What is kept of the last position.
     here: RepetitionKey,
-    live: Live<'k>,
+    live: LiveWith<F>,
     // How many plies the last count compared.
     compared: u32,
 }
 
-impl<'k, A: Allocator> Model for Line<'k, A> {
+impl<F: Follower, A: Allocator> Model for LineWith<F, A> {
     ghost use Rattle.std.specs.Prelude.{map, ◌++◌, length, vec_capacity};
     ghost use Rattle.chess_draws.specs.LineParts.{LineParts, coded_parts};
     ghost use Rattle.chess_draws.specs.steps.Plies.{move_of};
@@ -68,7 +69,29 @@ impl<'k, A: Allocator> Model for Line<'k, A> {
     ghost invariant = { λ l. IsHeld l.root l.plies.items l.looked.items l.live l.here };
 }
 
-impl<'k, A: Allocator> Line<'k, A> {
+/// A line whose positions have attack counts, evaluation and key.
+pub type Line<'k, A> = LineWith<Followers<'k>, A>;
+
+impl<F: Follower, A: Allocator> LineWith<F, A> {
+    /// Takes the last move away; `None` at the start of the line.
+    pub fn pop(&mut self) -> Option<Move>
+        requires none { self.old.looked ≡ 0 }
+        ensures line { MatchOption result ((self.old.line.moves ≡ []) × (self.new.line ≡ self.old.line)) (λ m. self.old.line ≡ extended self.new.line m) }
+        ensures looked { self.new.looked ≡ 0 }
+        ensures words { self.new.words ≡ self.old.words }
+        ensures room { self.new.room ≡ self.old.room }
+        ensures compared { self.new.compared ≡ self.old.compared }
+        ensures at_most { IfSome result (λ _. self.new.ticks ≤ 216) }
+        ensures at_least { IfSome result (λ _. F.suffices (last self.old.line).placement (last self.new.line).placement self.new.ticks) }
+    {
+        let ply = self.plies.pop()?;
+        let m = ply.past.played();
+        step_back(&mut self.live, &mut self.here, ply);
+        Some(m)
+    }
+}
+
+impl<'k, A: Allocator> LineWith<Followers<'k>, A> {
     /// The line without a move. Takes no memory. Both counters of the position are at most 99,999.
     pub fn start(alloc: A, position: Position, table: &'k KeyTable) -> Line<'k, A>
         requires clock { position.clock ≤ 99999 }
@@ -85,7 +108,7 @@ impl<'k, A: Allocator> Line<'k, A> {
         };
         let (live, target) = begin(position, table);
         let here = RepetitionKey::of(&live, target);
-        Line {
+        LineWith {
             root,
             plies: Vec::new(alloc),
             looked: ArrayVec::new(),
@@ -207,23 +230,6 @@ impl<'k, A: Allocator> Line<'k, A> {
     {
         let ply = step(&mut self.live, &mut self.here, m);
         self.plies.push_reserved(ply);
-    }
-
-    /// Takes the last move away; `None` at the start of the line.
-    pub fn pop(&mut self) -> Option<Move>
-        requires none { self.old.looked ≡ 0 }
-        ensures line { MatchOption result ((self.old.line.moves ≡ []) × (self.new.line ≡ self.old.line)) (λ m. self.old.line ≡ extended self.new.line m) }
-        ensures looked { self.new.looked ≡ 0 }
-        ensures words { self.new.words ≡ self.old.words }
-        ensures room { self.new.room ≡ self.old.room }
-        ensures compared { self.new.compared ≡ self.old.compared }
-        ensures at_most { IfSome result (λ _. self.new.ticks ≤ 216) }
-        ensures at_least { IfSome result (λ _. changed_of (man_on (last self.old.line)) (man_on (last self.new.line)) ≤ self.new.ticks) }
-    {
-        let ply = self.plies.pop()?;
-        let m = ply.past.played();
-        step_back(&mut self.live, &mut self.here, ply);
-        Some(m)
     }
 
     /// Makes a legal move that is only looked at, on a line with fewer than 16 such moves. Takes no memory, and no line is too long

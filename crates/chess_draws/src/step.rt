@@ -10,7 +10,8 @@ ghost use Rattle.chess_draws.specs.steps.Plies.{IsPly};
 use crate::ply::Ply;
 use crate::repetition_key::RepetitionKey;
 use crate::target::advance;
-use chess_play::Live;
+use chess_attack::Follower;
+use chess_play::{Live, LiveWith};
 use chess_types::Move;
 
 /// Makes the legal move. The answer is what is kept of it.
@@ -39,13 +40,13 @@ pub(crate) fn step(live: &mut Live, here: &mut RepetitionKey, m: Move) -> Ply
 }
 
 /// Takes back the last move, of which that is kept.
-pub(crate) fn step_back(live: &mut Live, here: &mut RepetitionKey, ply: Ply)
+pub(crate) fn step_back<F: Follower>(live: &mut LiveWith<F>, here: &mut RepetitionKey, ply: Ply)
     requires fits { Fits live.old.position ply.past }
     ensures position { (p : PositionParts) → IsBefore live.old.position ply.past p → live.new.position ≡ p }
     ensures here { (p : PositionParts) → IsPly p ply → IsKeyOf here.new p }
     ensures words { live.new.words ≡ live.old.words }
     ensures at_most { live.new.ticks ≤ 216 }
-    ensures at_least { changed_of (man_on live.old.position) (man_on live.new.position) ≤ live.new.ticks }
+    ensures at_least { F.suffices live.old.position.placement live.new.position.placement live.new.ticks }
 {
     live.take_back(ply.past);
     *here = RepetitionKey {

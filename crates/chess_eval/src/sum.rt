@@ -7,7 +7,7 @@ ghost use Rattle.chess_eval.specs.Mirror.{IsMirror, mirrored};
 ghost use Rattle.chess_eval.specs.steps.Changes.{AreInRange, plus, with_man, without_man};
 
 use crate::worths::{end, middle, weight};
-use chess_attack::Follower;
+use chess_attack::{Follower, is_attacked};
 use chess_types::{Colour, Man, Placement, Square};
 use std::marker::Model;
 
@@ -223,8 +223,21 @@ impl Sum {
 
 impl Follower for Sum {
     ghost use Rattle.chess_eval.specs.Evaluation.{AreSumsOf};
+    ghost use Rattle.std.specs.Prelude.{⊤, []};
+    ghost use Rattle.std.proofs.Common.{refl, arith};
 
     ghost agrees = { AreSumsOf };
+
+    // No ticks are counted.
+    ghost works = { λ _ _ _ _ _. ⊤ };
+
+    ghost begins = { λ old new. new ≡ old };
+
+    ghost ticks = { λ _. 0 };
+
+    ghost words = { λ _. [] };
+
+    ghost suffices = { λ _ _ _. ⊤ };
 
     fn put(&mut self, before: &Placement, at: Square, man: Man) {
         self.add(man, at);
@@ -242,4 +255,20 @@ impl Follower for Sum {
             self.add(man, at);
         }
     }
+
+    fn begin(&mut self) {}
+
+    fn sees(&self, placement: &Placement, colour: Colour, square: Square) -> bool {
+        is_attacked(placement, colour, square)
+    }
+
+    ghost none = { λ _ _. tt };
+
+    ghost on = { λ _ _ _ _ _ _ _ _ _ _. tt };
+
+    ghost within = { λ _ _ _ _ _ _ _ _. tt };
+
+    ghost seen = { λ _ _ _ _ _ _ _ _ _. (refl, Prim.omega arith, tt) };
+
+    ghost more = { λ _ _ _ _ _ _. tt };
 }

@@ -7,8 +7,8 @@ ghost use Rattle.chess_types.specs.board.Men.{men_of};
 ghost use Rattle.chess_key.specs.Keys.{word_on as word_on_of, key_of};
 
 use crate::table::KeyTable;
-use chess_attack::Follower;
-use chess_types::{Man, Placement, Square};
+use chess_attack::{Follower, is_attacked};
+use chess_types::{Colour, Man, Placement, Square};
 use std::alloc::AllocError;
 use std::marker::Model;
 
@@ -103,8 +103,21 @@ impl<'k> Clone for Key<'k> {
 
 impl<'k> Follower for Key<'k> {
     ghost use Rattle.chess_key.specs.Keys.{IsKeyOf};
+    ghost use Rattle.std.proofs.Common.{refl, ap, arith, ◌∙◌};
+    ghost use Rattle.chess_key.specs.Keys.{KeptKey};
 
     ghost agrees = { IsKeyOf };
+
+    // The words stay; no ticks are counted.
+    ghost works = { λ old new _ _ _. new.words ≡ old.words };
+
+    ghost begins = { λ old new. new ≡ old };
+
+    ghost ticks = { λ _. 0 };
+
+    ghost words = { λ key. key.words };
+
+    ghost suffices = { λ _ _ _. ⊤ };
 
     fn put(&mut self, before: &Placement, at: Square, man: Man)
         requires empty { map.get before.now at ≡ None }
@@ -134,6 +147,22 @@ impl<'k> Follower for Key<'k> {
     {
         self.number = after_replace(self.table, self.number, before, at, man);
     }
+
+    fn begin(&mut self) {}
+
+    fn sees(&self, placement: &Placement, colour: Colour, square: Square) -> bool {
+        is_attacked(placement, colour, square)
+    }
+
+    ghost none = { λ _ _. refl };
+
+    ghost on = { λ _ _ _ _ _ _ _ _ f g. g ∙ f };
+
+    ghost within = { λ _ _ _ _ _ _ _ f. f };
+
+    ghost seen = { λ _ _ _ _ _ _ _ f g. (g ∙ ap (λ (key : KeptKey). key.words) f, Prim.omega arith, tt) };
+
+    ghost more = { λ _ _ _ _ _ _. tt };
 }
 
 impl<'k> PartialEq for Key<'k> {

@@ -20,6 +20,7 @@ use Rattle.chess_attack.specs.Pins.{permits, is_pinned}
 use Rattle.chess_attack.proofs.Lifted.{OnlyKing, only_king}
 use Rattle.chess_attack.proofs.Flips.{leap_back}
 use Rattle.chess_moves.specs.steps.PawnCounts.{AreFree, pair, pairs, plain_moves}
+use Rattle.chess_moves.specs.steps.Kinds.{Begun}
 use Rattle.chess_moves.specs.steps.Targets.{promotes}
 use Rattle.chess_moves.specs.declared.guard.CheckInfo.{CheckInfo}
 use Rattle.chess_moves.specs.steps.Guarded.{IsGuard}
@@ -36,10 +37,10 @@ add_up :
 add_up {n} {w} {f} {o} {k} {a} {l} {r} {x} {y} e1 e2 e3 e4 e5 e6 e7 = omega (arith, e1, e2, e3, e4, e5, e6, e7)
 
 module _ (p : PositionParts) where
-  abbrev weight : ℕ → ℕ
+  abbrev pub weight : ℕ → ℕ
   weight s = length (filter (is_legal p) (moves_from s))
 
-  kept_total : (keep : ℕ → Bool) (a n : ℕ) → length (pieces (is_legal p) moves_from (filter keep (range_with_len a n))) ≡ total (λ s. cond (keep s) (weight s) 0) a n
+  pub kept_total : (keep : ℕ → Bool) (a n : ℕ) → length (pieces (is_legal p) moves_from (filter keep (range_with_len a n))) ≡ total (λ s. cond (keep s) (weight s) 0) a n
   unfolding total
   kept_total keep a zero = refl
   kept_total keep a (suc n) =
@@ -53,7 +54,7 @@ module _ (p : PositionParts) where
         | inr out ↦ rw out (omega (arith, rest))
       ]
 
-  all_total : length (legal_moves p) ≡ total weight 0 64
+  pub all_total : length (legal_moves p) ≡ total weight 0 64
   unfolding legal_moves squares
   all_total = ap length (all_pieces (is_legal p)) ∙ pieces_total (is_legal p) moves_from weight 0 64 (λ x low high. refl)
 
@@ -144,11 +145,6 @@ module _ (p : PositionParts) (setup : IsSetup p) (pawns pinned loose : FinSet na
             sym (leap_back p.side Pawn a t) ∙ ap (λ c. leaps c Pawn t a) (sym theirs) ∙ ap (λ l. l && leaps other Pawn t a) (sym (lt-ltb a 64 ha)) ∙ sym (of_back a) ∙ not-true _ (parts a h).1 in
             target_apart p setup a b ha hb t some off;
       }
-
--- what the count begins with
-pub record Begun (p : PositionParts) (count : ℕ) (rest : List ℕ) : Type 0 where
-  pub own : list_all (λ s. is_of p.side (man_on p s)) rest ≡ true
-  pub left : count + length (filter (is_legal p) (flat_map moves_from rest)) ≡ length (legal_moves p)
 
 pub begun :
     (p q : PositionParts) (setup : IsSetup p) (info : CheckInfo) (guard : IsGuard info p) (own free others : FinSet nat_cmp) (count : ℕ) (rest : List ℕ) →

@@ -2,3 +2,4 @@
 pub mod Targets
 pub mod Guarded
 pub mod PawnCounts
+pub mod Kinds

@@ -4,20 +4,20 @@ ghost use Rattle.chess_types.specs.board.Pseudo.{is_pseudo};
 ghost use Rattle.chess_types.specs.board.Attack.{in_check as in_check_of};
 ghost use Rattle.chess_types.specs.board.Position.{man_on};
 
-use chess_attack::in_check_by;
-use chess_play::Live;
+use chess_attack::{Follower, king_square};
+use chess_play::LiveWith;
 use chess_types::{Colour, Move};
 
-/// Whether the king of the colour is in check, by the kept counts (FIDE Laws 3.9.1).
-pub(crate) fn is_checked(live: &Live, colour: Colour) -> bool
+/// Whether the king of the colour is in check (FIDE Laws 3.9.1).
+pub(crate) fn is_checked<F: Follower>(live: &LiveWith<F>, colour: Colour) -> bool
     ensures { result ≡ in_check_of (man_on live.now.position) colour }
 {
-    in_check_by(live.counts(), &live.position().placement, colour)
+    let king = king_square(&live.position().placement, colour);
+    live.is_attacked(colour.opponent(), king)
 }
 
-/// Whether the king of the side to move is in check: the other side attacks its square (FIDE Laws 3.9.1). By the kept counts;
-/// nothing is counted anew.
-pub fn in_check(live: &Live) -> bool
+/// Whether the king of the side to move is in check: the other side attacks its square (FIDE Laws 3.9.1).
+pub fn in_check<F: Follower>(live: &LiveWith<F>) -> bool
     ensures { result ≡ in_check_of (man_on live.now.position) live.now.position.side }
 {
     is_checked(live, live.position().side)
@@ -25,7 +25,7 @@ pub fn in_check(live: &Live) -> bool
 
 /// Whether a pseudo-legal move gives check: after it the king of the side to move then is in check (FIDE Laws 3.9.1). The move is made, the
 /// king looked at, and the move taken back; both counters are at most 1,000,000. All is as before but for the ticks.
-pub fn gives_check(live: &mut Live, m: Move) -> bool
+pub fn gives_check<F: Follower>(live: &mut LiveWith<F>, m: Move) -> bool
     requires pseudo { IsTrue (is_pseudo live.old.position m) }
     requires clock { live.old.position.clock ≤ 1000000 }
     requires number { live.old.position.number ≤ 1000000 }

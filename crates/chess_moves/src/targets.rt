@@ -7,12 +7,13 @@ ghost use Rattle.chess_types.specs.board.Position.{man_on, king_home};
 ghost use Rattle.chess_types.specs.board.Pseudo.{moves_as_it_attacks, is_ahead, is_capturable, steps_one, steps_two};
 ghost use Rattle.chess_play.specs.Castling.{may_castle};
 ghost use Rattle.chess_moves.specs.steps.Guarded.{IsGuard, StandsGuarded, is_safe_step};
+ghost use Rattle.chess_moves.specs.steps.Kinds.{is_piece};
 ghost use Rattle.chess_moves.specs.steps.Targets.{is_plain_target, is_legal_target, move_to, promotes};
 
 use crate::guard::{CheckInfo, guarded};
 use crate::legal::{is_safe_tried, king_is_safe};
-use chess_attack::{attacks, leap_squares, leaps};
-use chess_play::{Live, last_rank, pawn_rank};
+use chess_attack::{Follower, attacks, leap_squares, leaps};
+use chess_play::{LiveWith, last_rank, pawn_rank};
 use chess_types::{Colour, Kind, Man, Move, Placement, Setup, Square, SquareSet, Wing};
 
 /// Whether no man stands there.
@@ -112,7 +113,7 @@ pub(crate) fn promotes(side: Colour, kind: Kind, to: Square) -> bool
 
 /// The squares to which a pawn's legal moves go. Only en passant, which takes two men from one line, is made and taken back.
 #[inline(always)]
-fn pawn_targets(live: &mut Live, guard: &CheckInfo, from: Square) -> SquareSet
+fn pawn_targets<F: Follower>(live: &mut LiveWith<F>, guard: &CheckInfo, from: Square) -> SquareSet
     requires { StandsGuarded live.old.position guard.now Pawn from }
     ensures is_legal_target { (to : ℕ) → to < 64 → contains result to ≡ is_legal_target live.old.position Pawn from to }
     ensures position { live.new.position ≡ live.old.position }
@@ -143,7 +144,7 @@ fn pawn_targets(live: &mut Live, guard: &CheckInfo, from: Square) -> SquareSet
 
 /// Those of the squares on which the king isn't attacked.
 #[inline(always)]
-fn safe_steps(live: &Live, guard: &CheckInfo, steps: SquareSet) -> SquareSet
+fn safe_steps<F: Follower>(live: &LiveWith<F>, guard: &CheckInfo, steps: SquareSet) -> SquareSet
     requires { IsGuard guard.now live.now.position }
     ensures { (to : ℕ) → to < 64 → contains result to ≡ (contains steps to && is_safe_step live.now.position guard.now.king to) }
 {
@@ -157,7 +158,7 @@ fn safe_steps(live: &Live, guard: &CheckInfo, steps: SquareSet) -> SquareSet
 
 /// Whether the king, standing there, may castle to that wing (FIDE Laws 3.8.2).
 #[inline(always)]
-fn may_castle_from(live: &Live, from: Square, wing: Wing) -> bool
+fn may_castle_from<F: Follower>(live: &LiveWith<F>, from: Square, wing: Wing) -> bool
     ensures { result ≡ ((from == king_home live.now.position.side) && may_castle live.now.position wing) }
 {
     is_home(live.position().side, from) && live.may_castle(wing)
@@ -173,7 +174,7 @@ fn is_home(side: Colour, at: Square) -> bool
 
 /// The squares to which the king's legal moves go.
 #[inline(always)]
-fn king_targets(live: &Live, guard: &CheckInfo, from: Square) -> SquareSet
+fn king_targets<F: Follower>(live: &LiveWith<F>, guard: &CheckInfo, from: Square) -> SquareSet
     requires { StandsGuarded live.now.position guard.now King from }
     ensures { (to : ℕ) → to < 64 → contains result to ≡ is_legal_target live.now.position King from to }
 {
@@ -188,9 +189,31 @@ fn king_targets(live: &Live, guard: &CheckInfo, from: Square) -> SquareSet
     targets
 }
 
+/// The squares to which the legal moves of a knight, a bishop, a rook or a queen of the side to move go.
+#[inline(always)]
+pub(crate) fn piece_targets<F: Follower>(
+    live: &LiveWith<F>,
+    guard: &CheckInfo,
+    kind: Kind,
+    from: Square,
+) -> SquareSet
+    requires stands { StandsGuarded live.now.position guard.now kind from }
+    requires piece { is_piece kind ≡ true }
+    ensures { (to : ℕ) → to < 64 → contains result to ≡ is_legal_target live.now.position kind from to }
+{
+    let plain = plain_targets(live.position(), kind, from);
+    let allowed = guarded(live, guard, from);
+    plain.intersection(allowed)
+}
+
 /// The squares to which the legal moves of a man of the side to move go; a pawn's to its last rank name what it becomes.
 #[inline(always)]
-pub(crate) fn targets(live: &mut Live, guard: &CheckInfo, kind: Kind, from: Square) -> SquareSet
+pub(crate) fn targets<F: Follower>(
+    live: &mut LiveWith<F>,
+    guard: &CheckInfo,
+    kind: Kind,
+    from: Square,
+) -> SquareSet
     requires { StandsGuarded live.old.position guard.now kind from }
     ensures is_legal_target { (to : ℕ) → to < 64 → contains result to ≡ is_legal_target live.old.position kind from to }
     ensures position { live.new.position ≡ live.old.position }
@@ -201,8 +224,6 @@ pub(crate) fn targets(live: &mut Live, guard: &CheckInfo, kind: Kind, from: Squa
     } else if kind.is_king() {
         king_targets(live, guard, from)
     } else {
-        let plain = plain_targets(live.position(), kind, from);
-        let allowed = guarded(live, guard, from);
-        plain.intersection(allowed)
+        piece_targets(live, guard, kind, from)
     }
 }

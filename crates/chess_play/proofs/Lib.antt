@@ -13,3 +13,4 @@ pub mod BackSteps
 pub mod MoveLemmas
 pub mod UndoLemmas
 pub mod FollowLemmas
+pub mod HomeLemmas

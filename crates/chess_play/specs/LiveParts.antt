@@ -4,9 +4,9 @@
 --   TakesBack   what taking a move back does to them
 use Rattle.std.specs.Prelude.{◌≡◌, ℕ, ◌≤◌, List, refl}
 use Rattle.std.specs.Coded.{Coded, code_by, coded×, coded_ℕ, coded_list}
-use Rattle.chess_types.specs.board.Position.{PositionParts, man_on}
+use Rattle.chess_types.specs.board.Board.{Board}
+use Rattle.chess_types.specs.board.Position.{PositionParts}
 use Rattle.chess_types.specs.steps.StateCode.{coded_state}
-use Rattle.chess_attack.specs.KeptCounts.{changed_of}
 use Rattle.chess_play.specs.Records.{RecordParts, IsBefore}
 
 -- a position, the keys' words, and the ticks of the last change
@@ -16,12 +16,12 @@ pub record LiveParts : Type 0 where
   pub ticks : ℕ
 
 -- The move of the record is taken back: any position before it is the one now, by the same words; the ticks are at most 216,
--- and at least as many as the attack counts of the two positions differ by.
-pub record TakesBack (old : LiveParts) (past : RecordParts) (new : LiveParts) : Type 0 where
+-- and suffice for what is kept.
+pub record TakesBack (suffices : Board → Board → ℕ → Type 0) (old : LiveParts) (past : RecordParts) (new : LiveParts) : Type 0 where
   pub position : (p : PositionParts) → IsBefore old.position past p → new.position ≡ p
   pub words : new.words ≡ old.words
   pub at_most : new.ticks ≤ 216
-  pub at_least : changed_of (man_on old.position) (man_on new.position) ≤ new.ticks
+  pub at_least : suffices old.position.placement new.position.placement new.ticks
 
 -- the parts as a tuple, by which a proof tells them apart
 abbrev pub coded_live : Coded LiveParts

@@ -2,3 +2,5 @@
 pub mod Followed
 pub mod Boards
 pub mod Undo
+pub mod WorkLaws
+pub mod Homes

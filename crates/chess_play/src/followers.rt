@@ -1,12 +1,12 @@
 ghost use Rattle.std.specs.Prelude.{◌≡◌, ◌<◌, None, IsSome};
 ghost use Rattle.std.specs.FinMap as map;
 ghost use Rattle.chess_types.specs.board.Men.{men_of};
-ghost use Rattle.chess_play.specs.steps.Followed.{AreKept, Follows};
+ghost use Rattle.chess_play.specs.steps.Followed.{AreKept, Works};
 
 use chess_attack::{Counts, Follower};
 use chess_eval::Sum;
 use chess_key::{Key, KeyTable};
-use chess_types::{Man, Placement, Square};
+use chess_types::{Colour, Man, Placement, Square};
 use std::marker::Model;
 
 /// What is kept beside a placement: its attack counts, its evaluation and its key.
@@ -42,26 +42,33 @@ impl<'k> Followers<'k> {
             key: Key::of(table, placement),
         }
     }
-
-    /// Counts the ticks from 0 again.
-    pub fn begin(&mut self)
-        ensures agrees { (board : Board) → AreKept self.old board → AreKept self.new board }
-        ensures words { self.new.key.words ≡ self.old.key.words }
-        ensures ticks { self.new.counts.ticks ≡ 0 }
-    {
-        self.counts.begin();
-    }
 }
 
 impl<'k> Follower for Followers<'k> {
+    ghost use Rattle.chess_play.specs.steps.WorkLaws.{works_none, works_on, works_within, works_seen};
+    ghost use Rattle.std.specs.Prelude.{◌≤◌};
+    ghost use Rattle.std.proofs.Common.{arith};
+    ghost use Rattle.chess_types.specs.board.Board.{man_at};
+    ghost use Rattle.chess_attack.specs.KeptCounts.{changed_of};
+
     ghost agrees = { AreKept };
+
+    ghost works = { Works };
+
+    ghost begins = { λ old new. (new.key.words ≡ old.key.words) × (new.counts.ticks ≡ 0) };
+
+    ghost ticks = { λ kept. kept.counts.ticks };
+
+    ghost words = { λ kept. kept.key.words };
+
+    ghost suffices = { λ before after n. changed_of (man_at before) (man_at after) ≤ n };
 
     fn put(&mut self, before: &Placement, at: Square, man: Man)
         requires empty { map.get before.now at ≡ None }
         requires room { men_of before.now man.colour < 16 }
         requires agrees { AreKept self.old before.now }
         ensures agrees { AreKept self.new (map.insert before.now at man) }
-        ensures follows { Follows self.old self.new before.now (map.insert before.now at man) 54 }
+        ensures works { Works self.old self.new before.now (map.insert before.now at man) 54 }
     {
         self.counts.put(before, at, man);
         self.sum.put(before, at, man);
@@ -72,7 +79,7 @@ impl<'k> Follower for Followers<'k> {
         requires occupied { IsSome (map.get before.now at) }
         requires agrees { AreKept self.old before.now }
         ensures agrees { AreKept self.new (map.remove before.now at) }
-        ensures follows { Follows self.old self.new before.now (map.remove before.now at) 54 }
+        ensures works { Works self.old self.new before.now (map.remove before.now at) 54 }
     {
         self.counts.clear(before, at);
         self.sum.clear(before, at);
@@ -84,10 +91,29 @@ impl<'k> Follower for Followers<'k> {
         requires room { men_of (map.remove before.now at) man.colour < 16 }
         requires agrees { AreKept self.old before.now }
         ensures agrees { AreKept self.new (map.insert before.now at man) }
-        ensures follows { Follows self.old self.new before.now (map.insert before.now at man) 54 }
+        ensures works { Works self.old self.new before.now (map.insert before.now at man) 54 }
     {
         self.counts.replace(before, at, man);
         self.sum.replace(before, at, man);
         self.key.replace(before, at, man);
     }
+
+    fn begin(&mut self) {
+        self.counts.begin();
+    }
+
+    #[inline(always)]
+    fn sees(&self, placement: &Placement, colour: Colour, square: Square) -> bool {
+        self.counts.sees(placement, colour, square)
+    }
+
+    ghost none = { works_none };
+
+    ghost on = { works_on };
+
+    ghost within = { works_within };
+
+    ghost seen = { works_seen };
+
+    ghost more = { λ x y m n le s. Prim.omega (arith, le, s) };
 }

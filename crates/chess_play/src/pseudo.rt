@@ -4,10 +4,9 @@ ghost use Rattle.chess_types.specs.board.Position.{man_on};
 ghost use Rattle.chess_play.specs.Castling.{is_way_free, may_castle};
 ghost use Rattle.chess_types.specs.board.Pseudo.{castles, moves_as_it_attacks, is_ahead, is_pseudo, is_target, last_rank, midway, moves_as, pawn_promotion_fits, pawn_rank, pawn_takes, steps_one, steps_two};
 ghost use Rattle.chess_types.specs.declared.board.man.Kind.TheVariants.{Pawn};
-ghost use Rattle.chess_attack.specs.KeptCounts.{AreCounts};
 
 use crate::men::{is_capturable, may_enter, names_promotion, same_colour};
-use chess_attack::{Counts, attacks_square, leaps};
+use chess_attack::{Follower, attacks_square, leaps};
 use chess_types::{Colour, Kind, Man, Move, Setup, Square, Wing};
 
 /// Whether the square is the en passant target.
@@ -126,26 +125,26 @@ fn is_way_free(setup: &Setup, side: Colour, wing: Wing) -> bool
 
 /// Whether the king may castle to that wing (FIDE Laws 3.8.2).
 #[inline(always)]
-pub(crate) fn may_castle(setup: &Setup, counts: &Counts, wing: Wing) -> bool
-    requires { AreCounts counts.now setup.now.placement }
+pub(crate) fn may_castle<F: Follower>(setup: &Setup, kept: &F, wing: Wing) -> bool
+    requires { F.agrees kept.now setup.now.placement }
     ensures { result ≡ may_castle setup.now wing }
 {
     let side = setup.side;
     let other = side.opponent();
     setup.rights.holds(side, wing)
         && is_way_free(setup, side, wing)
-        && !counts.is_attacked(other, side.king_home())
-        && !counts.is_attacked(other, wing.crossed(side))
-        && !counts.is_attacked(other, wing.reached(side))
+        && !kept.sees(&setup.placement, other, side.king_home())
+        && !kept.sees(&setup.placement, other, wing.crossed(side))
+        && !kept.sees(&setup.placement, other, wing.reached(side))
 }
 
 /// Whether the king castles to that wing (FIDE Laws 3.8.2).
 #[tactic(auto, using(crate::proofs::CastlingSquares::castles_is))]
-fn castles(setup: &Setup, counts: &Counts, wing: Wing, m: Move) -> bool
-    requires { AreCounts counts.now setup.now.placement }
+fn castles<F: Follower>(setup: &Setup, kept: &F, wing: Wing, m: Move) -> bool
+    requires { F.agrees kept.now setup.now.placement }
     ensures { result ≡ castles setup.now wing m }
 {
-    wing.castles_to(setup.side, m) && may_castle(setup, counts, wing)
+    wing.castles_to(setup.side, m) && may_castle(setup, kept, wing)
 }
 
 /// Whether the man of the side goes to a square that it attacks and may enter (FIDE Laws 3.2 to 3.6, 3.8.1).
@@ -162,8 +161,8 @@ fn moves_as_it_attacks(setup: &Setup, kind: Kind, m: Move) -> bool
 
 /// Whether a man of the side to move goes so, by its kind.
 #[tactic(auto, unfolding(chess_types::specs::board::Pseudo::moves_as))]
-fn moves_as(setup: &Setup, counts: &Counts, kind: Kind, m: Move) -> bool
-    requires { AreCounts counts.now setup.now.placement }
+fn moves_as<F: Follower>(setup: &Setup, kept: &F, kind: Kind, m: Move) -> bool
+    requires { F.agrees kept.now setup.now.placement }
     ensures { result ≡ moves_as setup.now kind m }
 {
     match kind {
@@ -174,8 +173,8 @@ fn moves_as(setup: &Setup, counts: &Counts, kind: Kind, m: Move) -> bool
         Kind::King => {
             m.promo.is_none()
                 && (moves_as_it_attacks(setup, kind, m)
-                    || castles(setup, counts, Wing::KingSide, m)
-                    || castles(setup, counts, Wing::QueenSide, m))
+                    || castles(setup, kept, Wing::KingSide, m)
+                    || castles(setup, kept, Wing::QueenSide, m))
         }
         Kind::Knight | Kind::Bishop | Kind::Rook | Kind::Queen => {
             m.promo.is_none() && moves_as_it_attacks(setup, kind, m)
@@ -183,14 +182,14 @@ fn moves_as(setup: &Setup, counts: &Counts, kind: Kind, m: Move) -> bool
     }
 }
 
-/// Whether the move is pseudo-legal: legal but perhaps for the mover's own king (FIDE Laws 3.1 to 3.8). The counts are those of
-/// the position; nothing is counted anew, and the board is walked along one line at most.
-pub(crate) fn is_pseudo(setup: &Setup, counts: &Counts, m: Move) -> bool
-    requires { AreCounts counts.now setup.now.placement }
+/// Whether the move is pseudo-legal: legal but perhaps for the mover's own king (FIDE Laws 3.1 to 3.8). What is kept is that of
+/// the position; nothing is counted anew, and but for castling the board is walked along one line at most.
+pub(crate) fn is_pseudo<F: Follower>(setup: &Setup, kept: &F, m: Move) -> bool
+    requires { F.agrees kept.now setup.now.placement }
     ensures { result ≡ is_pseudo setup.now m }
 {
     match setup.placement.get(m.from) {
         None => false,
-        Some(man) => { same_colour(man.colour, setup.side) && moves_as(setup, counts, man.kind, m) }
+        Some(man) => { same_colour(man.colour, setup.side) && moves_as(setup, kept, man.kind, m) }
     }
 }

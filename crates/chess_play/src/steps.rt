@@ -2,11 +2,10 @@ ghost use Rattle.std.specs.Prelude.{◌≡◌, ◌+◌, ◌<◌, None, IfSome, I
 ghost use Rattle.std.specs.FinMap as map;
 ghost use Rattle.chess_types.specs.board.Men.{men_of};
 ghost use Rattle.chess_types.specs.board.After.{captured_at};
-ghost use Rattle.chess_play.specs.steps.Followed.{AreKept, Follows};
+ghost use Rattle.chess_play.specs.steps.Followed.{Follows};
 ghost use Rattle.chess_play.specs.steps.Boards.{CanCastle, CanMake, CanShift, CanTakeBack, back, carried_back, carried_on, moved, restored, rook_ticks, rook_way, rook_way_back, shifted, ticks_of};
 
 use crate::after::{captured_at, castled, moved_man};
-use crate::followers::Followers;
 use chess_attack::Follower;
 use chess_types::{Kind, Man, Move, Placement, Square};
 
@@ -32,35 +31,35 @@ impl Way {
 }
 
 /// Puts a man on an empty square, and the followers follow.
-fn put(placement: &mut Placement, kept: &mut Followers, at: Square, man: Man)
+fn put<F: Follower>(placement: &mut Placement, kept: &mut F, at: Square, man: Man)
     requires empty { map.get placement.old at ≡ None }
     requires room { men_of placement.old man.colour < 16 }
-    requires agrees { AreKept kept.old placement.old }
+    requires agrees { F.agrees kept.old placement.old }
     ensures placement { placement.new ≡ map.insert placement.old at man }
-    ensures follows { Follows kept.old kept.new placement.old placement.new 54 }
+    ensures follows { Follows F F.agrees F.works kept.old kept.new placement.old placement.new 54 }
 {
     kept.put(placement, at, man);
     placement.put(at, man);
 }
 
 /// Takes the man from an occupied square, and the followers follow.
-fn clear(placement: &mut Placement, kept: &mut Followers, at: Square)
+fn clear<F: Follower>(placement: &mut Placement, kept: &mut F, at: Square)
     requires occupied { IsSome (map.get placement.old at) }
-    requires agrees { AreKept kept.old placement.old }
+    requires agrees { F.agrees kept.old placement.old }
     ensures placement { placement.new ≡ map.remove placement.old at }
-    ensures follows { Follows kept.old kept.new placement.old placement.new 54 }
+    ensures follows { Follows F F.agrees F.works kept.old kept.new placement.old placement.new 54 }
 {
     kept.clear(placement, at);
     placement.clear(at);
 }
 
 /// Puts a man in the place of the one on an occupied square, and the followers follow.
-fn replace(placement: &mut Placement, kept: &mut Followers, at: Square, man: Man)
+fn replace<F: Follower>(placement: &mut Placement, kept: &mut F, at: Square, man: Man)
     requires occupied { IsSome (map.get placement.old at) }
     requires room { men_of (map.remove placement.old at) man.colour < 16 }
-    requires agrees { AreKept kept.old placement.old }
+    requires agrees { F.agrees kept.old placement.old }
     ensures placement { placement.new ≡ map.insert placement.old at man }
-    ensures follows { Follows kept.old kept.new placement.old placement.new 54 }
+    ensures follows { Follows F F.agrees F.works kept.old kept.new placement.old placement.new 54 }
 {
     kept.replace(placement, at, man);
     placement.clear(at);
@@ -68,13 +67,14 @@ fn replace(placement: &mut Placement, kept: &mut Followers, at: Square, man: Man
 }
 
 /// Clears one square and puts the man on the other.
-fn shift(placement: &mut Placement, kept: &mut Followers, way: Way)
+#[inline(always)]
+fn shift<F: Follower>(placement: &mut Placement, kept: &mut F, way: Way)
     requires here { IsSome (map.get placement.old way.from) }
     requires free { map.get (map.remove placement.old way.from) way.to ≡ None }
     requires room { men_of (map.remove placement.old way.from) way.man.colour < 16 }
-    requires agrees { AreKept kept.old placement.old }
+    requires agrees { F.agrees kept.old placement.old }
     ensures placement { placement.new ≡ moved way.from way.to way.man placement.old }
-    ensures follows { Follows kept.old kept.new placement.old placement.new 108 }
+    ensures follows { Follows F F.agrees F.works kept.old kept.new placement.old placement.new 108 }
 {
     clear(placement, kept, way.from);
     put(placement, kept, way.to, way.man);
@@ -82,12 +82,12 @@ fn shift(placement: &mut Placement, kept: &mut Followers, way: Way)
 
 /// The man goes, and the man on the captured square is gone. Where that is the square to which he goes, he takes the place of
 /// the captured man.
-fn capture(placement: &mut Placement, kept: &mut Followers, at: Square, way: Way)
+fn capture<F: Follower>(placement: &mut Placement, kept: &mut F, at: Square, way: Way)
     requires occupied { IsSome (map.get placement.old at) }
     requires goes { CanShift (map.remove placement.old at) way.from way.to way.man }
-    requires agrees { AreKept kept.old placement.old }
+    requires agrees { F.agrees kept.old placement.old }
     ensures placement { placement.new ≡ moved way.from way.to way.man (map.remove placement.old at) }
-    ensures follows { Follows kept.old kept.new placement.old placement.new 162 }
+    ensures follows { Follows F F.agrees F.works kept.old kept.new placement.old placement.new 162 }
 {
     if at == way.to {
         clear(placement, kept, way.from);
@@ -99,12 +99,12 @@ fn capture(placement: &mut Placement, kept: &mut Followers, at: Square, way: Way
 }
 
 /// The man goes, and answers the man that he captures, if he does.
-fn go(placement: &mut Placement, kept: &mut Followers, at: Square, way: Way) -> Option<Man>
+fn go<F: Follower>(placement: &mut Placement, kept: &mut F, at: Square, way: Way) -> Option<Man>
     requires goes { CanShift (map.remove placement.old at) way.from way.to way.man }
-    requires agrees { AreKept kept.old placement.old }
+    requires agrees { F.agrees kept.old placement.old }
     ensures taken { result ≡ map.get placement.old at }
     ensures placement { placement.new ≡ moved way.from way.to way.man (map.remove placement.old at) }
-    ensures follows { Follows kept.old kept.new placement.old placement.new (108 + ticks_of result) }
+    ensures follows { Follows F F.agrees F.works kept.old kept.new placement.old placement.new (108 + ticks_of result) }
 {
     let taken = placement.get(at);
     match taken {
@@ -115,13 +115,13 @@ fn go(placement: &mut Placement, kept: &mut Followers, at: Square, way: Way) -> 
 }
 
 /// The man goes back, and the captured man stands again.
-fn release(placement: &mut Placement, kept: &mut Followers, at: Square, way: Way, other: Man)
+fn release<F: Follower>(placement: &mut Placement, kept: &mut F, at: Square, way: Way, other: Man)
     requires goes { CanShift placement.old way.from way.to way.man }
     requires free { map.get (moved way.from way.to way.man placement.old) at ≡ None }
     requires room { men_of (moved way.from way.to way.man placement.old) other.colour < 16 }
-    requires agrees { AreKept kept.old placement.old }
+    requires agrees { F.agrees kept.old placement.old }
     ensures placement { placement.new ≡ map.insert (moved way.from way.to way.man placement.old) at other }
-    ensures follows { Follows kept.old kept.new placement.old placement.new 162 }
+    ensures follows { Follows F F.agrees F.works kept.old kept.new placement.old placement.new 162 }
 {
     if at == way.from {
         replace(placement, kept, way.from, other);
@@ -133,9 +133,9 @@ fn release(placement: &mut Placement, kept: &mut Followers, at: Square, way: Way
 }
 
 /// The man goes back, and the man that he captured stands again, if he did.
-fn go_back(
+fn go_back<F: Follower>(
     placement: &mut Placement,
-    kept: &mut Followers,
+    kept: &mut F,
     at: Square,
     way: Way,
     taken: Option<Man>,
@@ -143,9 +143,9 @@ fn go_back(
     requires goes { CanShift placement.old way.from way.to way.man }
     requires free { map.get (moved way.from way.to way.man placement.old) at ≡ None }
     requires room { IfSome taken (λ other. men_of (moved way.from way.to way.man placement.old) other.colour < 16) }
-    requires agrees { AreKept kept.old placement.old }
+    requires agrees { F.agrees kept.old placement.old }
     ensures placement { placement.new ≡ restored at taken (moved way.from way.to way.man placement.old) }
-    ensures follows { Follows kept.old kept.new placement.old placement.new (108 + ticks_of taken) }
+    ensures follows { Follows F F.agrees F.works kept.old kept.new placement.old placement.new (108 + ticks_of taken) }
 {
     match taken {
         None => shift(placement, kept, way),
@@ -177,12 +177,12 @@ fn rook_way_back(man: Man, m: Move) -> Option<Way>
 }
 
 /// The rook goes, if one does.
-#[tactic(auto, using(crate::proofs::FollowLemmas::follows_none))]
-fn shift_rook(placement: &mut Placement, kept: &mut Followers, rook: Option<Way>)
+#[tactic(auto)]
+fn shift_rook<F: Follower>(placement: &mut Placement, kept: &mut F, rook: Option<Way>)
     requires rook { CanCastle rook placement.old }
-    requires agrees { AreKept kept.old placement.old }
+    requires agrees { F.agrees kept.old placement.old }
     ensures placement { placement.new ≡ shifted rook placement.old }
-    ensures follows { Follows kept.old kept.new placement.old placement.new (rook_ticks rook) }
+    ensures follows { Follows F F.agrees F.works kept.old kept.new placement.old placement.new (rook_ticks rook) }
 {
     if let Some(way) = rook {
         shift(placement, kept, way);
@@ -191,18 +191,18 @@ fn shift_rook(placement: &mut Placement, kept: &mut Followers, rook: Option<Way>
 
 /// Makes the man's move on the board, by at most four changes of one square, and answers the man that it captures. The target is
 /// that before the move.
-pub fn carry_on(
+pub fn carry_on<F: Follower>(
     placement: &mut Placement,
-    kept: &mut Followers,
+    kept: &mut F,
     target: Option<Square>,
     man: Man,
     m: Move,
 ) -> Option<Man>
     requires can { CanMake target man m placement.old }
-    requires agrees { AreKept kept.old placement.old }
+    requires agrees { F.agrees kept.old placement.old }
     ensures taken { result ≡ map.get placement.old (captured_at target man m) }
     ensures placement { placement.new ≡ carried_on target man m placement.old }
-    ensures follows { Follows kept.old kept.new placement.old placement.new 216 }
+    ensures follows { Follows F F.agrees F.works kept.old kept.new placement.old placement.new 216 }
 {
     let at = captured_at(target, man, m);
     let way = Way {
@@ -217,18 +217,18 @@ pub fn carry_on(
 
 /// Takes the man's move back on the board, and puts the man that it captured on his square again. The target is that
 /// before the move.
-pub fn carry_back(
+pub fn carry_back<F: Follower>(
     placement: &mut Placement,
-    kept: &mut Followers,
+    kept: &mut F,
     target: Option<Square>,
     man: Man,
     m: Move,
     taken: Option<Man>,
 )
     requires can { CanTakeBack target man m taken placement.old }
-    requires agrees { AreKept kept.old placement.old }
+    requires agrees { F.agrees kept.old placement.old }
     ensures placement { placement.new ≡ carried_back target man m taken placement.old }
-    ensures follows { Follows kept.old kept.new placement.old placement.new 216 }
+    ensures follows { Follows F F.agrees F.works kept.old kept.new placement.old placement.new 216 }
 {
     shift_rook(placement, kept, rook_way_back(man, m));
     let at = captured_at(target, man, m);

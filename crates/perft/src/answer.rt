@@ -6,8 +6,8 @@ ghost use Rattle.perft.specs.Answers.{answer, answer_to, count_text, depth_in, f
 use crate::leaves::{LastPly, leaves};
 use arrayvec::ArrayString;
 use byte_streams::{split_word, trim};
-use chess_key::KeyTable;
-use chess_play::Live;
+use chess_attack::Nothing;
+use chess_play::LiveWith;
 use itoa::Buffer;
 
 /// The bytes that separate words.
@@ -52,19 +52,19 @@ fn fault(number: u8, name: &str) -> Answer
 }
 
 /// How many leaves the position of the FEN has at the depth, or the fault of the FEN. The moves of the last ply are counted, or
-/// made.
-fn count(table: &KeyTable, depth: u32, fen: &[u8], last: LastPly) -> Answer
+/// made; nothing is kept beside the position.
+fn count(depth: u32, fen: &[u8], last: LastPly) -> Answer
     requires depth { depth ≤ 16 }
     ensures { result.bytes ≡ count_text depth (fen_reading fen.now) }
 {
     match chess_fen::read(fen) {
-        Ok(position) => number(leaves(&mut Live::new(position, table), depth, last)),
+        Ok(position) => number(leaves(&mut LiveWith::with(position, Nothing), depth, last)),
         Err(found) => fault(found.number(), found.name()),
     }
 }
 
 /// The answer to a line `DEPTH FEN`: the number of leaves, or the first fault, of the depth or of the FEN.
-fn answer_depth(table: &KeyTable, line: &[u8], last: LastPly) -> Answer
+fn answer_depth(line: &[u8], last: LastPly) -> Answer
     ensures { result.bytes ≡ answer_to (words gaps line.now) (trimmed gaps (after_first_word gaps line.now)) }
 {
     let mut text = Answer::new();
@@ -73,7 +73,7 @@ fn answer_depth(table: &KeyTable, line: &[u8], last: LastPly) -> Answer
         return text;
     };
     match read_depth(word) {
-        Some(depth) => count(table, depth, trim(rest, GAPS), last),
+        Some(depth) => count(depth, trim(rest, GAPS), last),
         None => {
             text.push_str("fault Depth");
             text
@@ -90,15 +90,15 @@ fn is_full(word: &[u8]) -> bool
 
 /// The answer to a line `DEPTH FEN`, or `full DEPTH FEN`, which has every leaf made. Empty for a line without words.
 #[tactic(auto, unfolding(crate::specs::Answers::answer))]
-pub fn answer(table: &KeyTable, line: &[u8]) -> Answer
+pub fn answer(line: &[u8]) -> Answer
     ensures { result.bytes ≡ answer line.now }
 {
     let Some((word, rest)) = split_word(line, GAPS) else {
         return Answer::new();
     };
     if is_full(word) {
-        answer_depth(table, rest, LastPly::Made)
+        answer_depth(rest, LastPly::Made)
     } else {
-        answer_depth(table, line, LastPly::Counted)
+        answer_depth(line, LastPly::Counted)
     }
 }

@@ -4,7 +4,6 @@ ghost use Rattle.perft.specs.Lines.{CountEnds, kept, line_text};
 use crate::answer::answer;
 use arrayvec::ArrayString;
 use byte_streams::{Failed, Sink, Source};
-use chess_key::KeyTable;
 use chess_loop::{LineHandler, OutputBuffer, RunEnd, Unread, run};
 use std::alloc::Allocator;
 
@@ -17,11 +16,9 @@ const READS: u64 = 1 << 40;
 /// What is written for a line.
 type Text = ArrayString<65>;
 
-/// Answers each line by the leaves that it asks for. The keys take no part in the counts.
+/// Answers each line by the leaves that it asks for.
 #[derive(Drop)]
-pub struct Counter {
-    table: KeyTable,
-}
+pub struct Counter;
 
 // What is written for a line that is too long.
 fn long_line() -> Text
@@ -33,14 +30,14 @@ fn long_line() -> Text
 }
 
 // What is written for a line.
-fn whole_line(table: &KeyTable, line: &[u8]) -> Text
+fn whole_line(line: &[u8]) -> Text
     ensures { result.bytes ≡ line_text (kept line.now) }
 {
     if line.len() > LINE_LIMIT {
         return long_line();
     }
     let mut text = Text::new();
-    let said = answer(table, line);
+    let said = answer(line);
     if said.is_empty() {
         return text;
     }
@@ -67,7 +64,7 @@ impl LineHandler for Counter {
         page: &mut OutputBuffer<A>,
         writer: &mut W,
     ) -> Result<(), Failed> {
-        page.send(whole_line(&self.table, line).as_str().as_bytes(), writer)
+        page.send(whole_line(line).as_str().as_bytes(), writer)
     }
 
     // A line that is not kept has more bytes than a line may have, whatever the reason.
@@ -92,8 +89,6 @@ pub fn count_leaves<A: Allocator, R: Source, W: Sink>(
     requires writer { W.failed writer.old ≡ false }
     ensures { CountEnds R.gives R.failed W.takes W.failed R.ended result reader.old reader.new writer.old writer.new }
 {
-    let mut counter = Counter {
-        table: KeyTable::new([0; 768]),
-    };
+    let mut counter = Counter;
     run(alloc, &mut counter, reader, writer, READS)
 }

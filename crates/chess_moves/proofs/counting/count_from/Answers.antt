@@ -7,7 +7,7 @@ use Rattle.chess_moves.proofs.SetCounts.{plain_count, pawn_count}
 use Rattle.chess_moves.proofs.counting.count_from.Goals as goal
 
 pub returns-then-is_pawn-clause-count : goal.returns-then-is_pawn-clause-count
-returns-then-is_pawn-clause-count c =
+returns-then-is_pawn-clause-count g c =
     let p : PositionParts = c.args.live.now.position in
     let setup = c.position.ensures.setup in
     let same = c.behind-live.view_is ∙ c.position.ensures.value in
@@ -18,7 +18,7 @@ returns-then-is_pawn-clause-count c =
     (c.pawn_moves_to.ensures.value ∙ ap (λ (q : PositionParts). pawn_moves_to q.side (contains c.targets-squares.result)) same)
 
 pub returns-else-is_pawn-clause-count : goal.returns-else-is_pawn-clause-count
-returns-else-is_pawn-clause-count c =
+returns-else-is_pawn-clause-count g c =
     let p : PositionParts = c.args.live.now.position in
     let setup = c.position.ensures.setup in
     let king : OnlyKing (man_on p) p.side c.args.guard.now.king =

@@ -7,7 +7,7 @@ use Rattle.chess_moves.proofs.CountSplit.{free_none, free_some}
 use Rattle.chess_moves.proofs.counting.free_pawns.Goals as goal
 
 pub returns-in-Some : goal.returns-in-Some
-returns-in-Some c =
+returns-in-Some g c =
     let p : PositionParts = c.args.live.now.position in
     let same = c.setup.view_is ∙ c.position-setup.ensures.value in
     let of_pawns : Gathers c.of_kind-pawns.result (λ there. is_man there p.side Pawn) (man_on p) =
@@ -17,7 +17,7 @@ returns-in-Some c =
     (ap (λ (q : PositionParts). q.target) (sym same) ∙ c.in-Some.is) (c.opponent.ensures ∙ ap (λ (q : PositionParts). opponent q.side) same) c.leap_squares.ensures c.difference.ensures
 
 pub returns-in-None : goal.returns-in-None
-returns-in-None c =
+returns-in-None g c =
     let p : PositionParts = c.args.live.now.position in
     let same = c.setup.view_is ∙ c.position-setup.ensures.value in
     let of_pawns : Gathers c.of_kind-pawns.result (λ there. is_man there p.side Pawn) (man_on p) =

@@ -1,11 +1,10 @@
-use Rattle.std.proofs.Common.{◌≡◌, ℕ, ◌<◌, true, false, ◌&&◌, sym, ap, subst, refl, ◌∙◌, arith}
+use Rattle.std.proofs.Common.{◌≡◌, ℕ, ◌<◌, true, false, ◌&&◌, sym, ap, subst, ◌∙◌, arith}
 use Rattle.std.proofs.lemmas.Bool.{lt-ltb}
 use Rattle.std.specs.FinSet.{contains, contains-empty}
 use Rattle.std.specs.Ordering.{nat_cmp}
 use Rattle.chess_types.specs.board.Position.{PositionParts, man_on}
 use Rattle.chess_types.specs.board.Men.{is_king_of, opponent}
-use Rattle.chess_types.specs.board.Attack.{checks_from, count, is_attacked}
-use Rattle.chess_attack.specs.KeptCounts.{count_in}
+use Rattle.chess_types.specs.board.Attack.{checks_from, is_attacked}
 use Rattle.chess_attack.specs.Pins.{is_pinned}
 use Rattle.chess_attack.specs.steps.PinHalves.{round, shaded_on}
 use Rattle.chess_attack.proofs.Lifted.{OnlyKing, only_king}
@@ -13,18 +12,16 @@ use Rattle.chess_attack.proofs.StopSets.{no_shade}
 use Rattle.chess_moves.proofs.GuardLemmas.{permits_is, permits_all}
 use Rattle.chess_moves.proofs.guard.check_info.Goals as goal
 
-pub returns-then-count-eq0 : goal.returns-then-count-eq0
-returns-then-count-eq0 c =
+pub returns-then-not-is_attacked : goal.returns-then-not-is_attacked
+returns-then-not-is_attacked g c =
     let p : PositionParts = c.args.live.now.position in
     let k : ℕ = c.king_square-king.result in
     let same = c.setup.view_is ∙ c.position-setup.ensures.value in
     let here : is_king_of p.side (man_on p k) ≡ true = subst (λ (q : PositionParts). is_king_of q.side (man_on q k) ≡ true) same c.king_square-king.ensures in
     let king : OnlyKing (man_on p) p.side k = only_king p.placement p.side k (c.position-setup.ensures.setup.kings p.side) (omega arith) here in
     let side : c.opponent.result ≡ opponent p.side = c.opponent.ensures ∙ ap (λ (q : PositionParts). opponent q.side) same in
-    let none : count (man_on p) (opponent p.side) k ≡ 0 =
-    sym (c.counts.ensures.agrees.each (opponent p.side) k (omega arith)) ∙ ap (λ x. count_in c.counts.result.now x k) (sym side)
-    ∙ sym c.count.ensures ∙ c.if-count-eq0.true in
-    let quiet : is_attacked (man_on p) (opponent p.side) k ≡ false = rw none refl in
+    let quiet : is_attacked (man_on p) (opponent p.side) k ≡ false =
+    ap (λ x. is_attacked (man_on p) x k) (sym side) ∙ sym c.is_attacked.ensures ∙ c.if-not-is_attacked.true in
     record {
       on_board = omega arith;
       king = here;
@@ -34,7 +31,7 @@ returns-then-count-eq0 c =
     }
 
 pub returns : goal.returns
-returns c =
+returns g c =
     let p : PositionParts = c.args.live.now.position in
     let k : ℕ = c.king_square-king.result in
     let same = c.setup.view_is ∙ c.position-setup.ensures.value in

@@ -8,7 +8,7 @@ use Rattle.chess_attack.proofs.PinLines.{unpinned}
 use Rattle.chess_moves.proofs.guard.guarded.Goals as goal
 
 pub returns-then-not-contains : goal.returns-then-not-contains
-returns-then-not-contains c = λ to ht.
+returns-then-not-contains g c = λ to ht.
     let p : PositionParts = c.args.live.now.position in
     let k = c.args.guard.now.king in
     let free : is_pinned (man_on p) p.side c.args.from ≡ false =
@@ -17,7 +17,7 @@ returns-then-not-contains c = λ to ht.
     ∙ sym (rw (unpinned (man_on p) p.side c.args.from k to c.requires.mine c.requires.other free) (and-true (permits (man_on p) p.side k to)))
 
 pub returns : goal.returns
-returns c = λ to ht.
+returns g c = λ to ht.
     let p : PositionParts = c.args.live.now.position in
     let k = c.args.guard.now.king in
     let line : contains c.pin_line-line.result to ≡ keeps_line (man_on p) p.side c.args.from k to =

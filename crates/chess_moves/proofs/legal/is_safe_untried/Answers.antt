@@ -3,9 +3,8 @@ use Rattle.std.proofs.Math.Bool.{and-false}
 use Rattle.std.proofs.lemmas.Bool.{cases_Bool, true≢false}
 use Rattle.chess_types.specs.board.MoveParts.{MoveParts}
 use Rattle.chess_types.specs.board.Men.{is_king, is_king_of, is_of, opponent, same_colour}
-use Rattle.chess_types.specs.board.Attack.{count, is_attacked}
+use Rattle.chess_types.specs.board.Attack.{is_attacked}
 use Rattle.chess_types.specs.board.Position.{PositionParts, man_on}
-use Rattle.chess_attack.specs.KeptCounts.{count_in}
 use Rattle.chess_attack.proofs.Lifted.{OnlyKing, only_king}
 use Rattle.chess_attack.proofs.PinLines.{unpinned}
 use Rattle.chess_types.proofs.SameLemmas.{same_self}
@@ -17,7 +16,7 @@ use Rattle.chess_moves.proofs.PinLaws.{safe_move}
 use Rattle.chess_moves.proofs.legal.is_safe_untried.Goals as goal
 
 pub returns-then-not-are_in_line : goal.returns-then-not-are_in_line
-returns-then-not-are_in_line c =
+returns-then-not-are_in_line g c =
     let p : PositionParts = c.args.live.now.position in
     let m : MoveParts = c.args.m in
     let k = c.king_square-king.result in
@@ -25,10 +24,8 @@ returns-then-not-are_in_line c =
     let here : is_king_of p.side (man_on p k) ≡ true = subst (λ (q : PositionParts). is_king_of q.side (man_on q k) ≡ true) same c.king_square-king.ensures in
     let king : OnlyKing (man_on p) p.side k = only_king p.placement p.side k (c.requires.setup.kings p.side) (omega arith) here in
     let side : c.opponent.result ≡ opponent p.side = c.opponent.ensures ∙ ap (λ (q : PositionParts). opponent q.side) same in
-    let none : count (man_on p) (opponent p.side) k ≡ 0 =
-    sym (c.counts.ensures.agrees.each (opponent p.side) k (omega arith)) ∙ ap (λ x. count_in c.counts.result.now x k) (sym side)
-    ∙ sym c.count.ensures ∙ c.if-count-eq0.true in
-    let quiet : is_attacked (man_on p) (opponent p.side) k ≡ false = rw none refl in
+    let quiet : is_attacked (man_on p) (opponent p.side) k ≡ false =
+    ap (λ x. is_attacked (man_on p) x k) (sym side) ∙ sym c.is_attacked.ensures ∙ c.if-not-is_attacked.true in
     let aside : in_line k m.from ≡ false =
     ap (λ (n : MoveParts). in_line k n.from) (sym c.m.view_is) ∙ sym c.are_in_line.ensures ∙ c.if-not-are_in_line.true in
     let f : Facts p c.args.man m = facts p m c.requires.setup (omega arith) (omega arith) c.args.man c.requires.here c.requires.pseudo in

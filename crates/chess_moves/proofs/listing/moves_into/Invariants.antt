@@ -7,9 +7,9 @@ use Rattle.chess_moves.proofs.listing.moves_into.Given as goal
 
 -- a man of the side to move stands on each square still to come
 abbrev pub invariant-loop-from : goal.invariant-loop-from
-invariant-loop-from l = record {
-  can : (goal.iterator-loop-from).can_next l.from-iterator;
-  finite : (goal.iterator-loop-from).is_finite l.from-iterator;
+invariant-loop-from g l = record {
+  can : (goal.iterator-loop-from g).can_next l.from-iterator;
+  finite : (goal.iterator-loop-from g).is_finite l.from-iterator;
   here : IsOnOwn l.live l.fn.live l.from-iterator;
   listed : Listed l.fn.live.position [] l.list.items all_moves (flat_map moves_from l.from-iterator);
 }

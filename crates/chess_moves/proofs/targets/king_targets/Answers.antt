@@ -12,7 +12,7 @@ use Rattle.chess_moves.proofs.LegalTargets.{king_set, king_lands}
 use Rattle.chess_moves.proofs.targets.king_targets.Goals as goal
 
 pub returns : goal.returns
-returns c = λ to ht.
+returns g c = λ to ht.
     let p : PositionParts = c.args.live.now.position in
     let same = c.setup.view_is ∙ c.position-setup.ensures.value in
     let setup = c.position-setup.ensures.setup in

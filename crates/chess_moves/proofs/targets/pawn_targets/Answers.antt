@@ -13,7 +13,7 @@ use Rattle.chess_moves.proofs.LegalTargets.{inserted_if, pawn_lands, passing_lan
 use Rattle.chess_moves.proofs.targets.pawn_targets.Goals as goal
 
 pub returns-in_default-clause-is_legal_target : goal.returns-in_default-clause-is_legal_target
-returns-in_default-clause-is_legal_target c = λ to ht.
+returns-in_default-clause-is_legal_target g c = λ to ht.
     let p : PositionParts = c.args.live.now.position in
     let same = c.setup.view_is ∙ c.position-setup.ensures.value in
     let setup = c.position-setup.ensures.setup in
@@ -26,7 +26,7 @@ returns-in_default-clause-is_legal_target c = λ to ht.
     ∙ sym (pawn_lands p setup c.args.from to (omega arith) ht c.args.guard.now.king c.requires.here king (no_target p setup c.args.from to (omega arith) ht none))
 
 pub returns-then-not-leaps-clause-is_legal_target : goal.returns-then-not-leaps-clause-is_legal_target
-returns-then-not-leaps-clause-is_legal_target c = λ to ht.
+returns-then-not-leaps-clause-is_legal_target g c = λ to ht.
     let p : PositionParts = c.args.live.now.position in
     let same = c.setup.view_is ∙ c.position-setup.ensures.value in
     let setup = c.position-setup.ensures.setup in
@@ -42,7 +42,7 @@ returns-then-not-leaps-clause-is_legal_target c = λ to ht.
     (target_apart p setup c.args.from to (omega arith) ht c.in-Some.to some off))
 
 pub is_safe_tried-safe-requires-clause-pseudo : goal.is_safe_tried-safe-requires-clause-pseudo
-is_safe_tried-safe-requires-clause-pseudo c =
+is_safe_tried-safe-requires-clause-pseudo g c =
     let p : PositionParts = c.args.live.now.position in
     let same = c.setup.view_is ∙ c.position-setup.ensures.value in
     let some : p.target ≡ Some c.in-Some.to = ap (λ (q : PositionParts). q.target) (sym same) ∙ c.in-Some.is in
@@ -52,7 +52,7 @@ is_safe_tried-safe-requires-clause-pseudo c =
     passing_pseudo p c.position-setup.ensures.setup c.args.from c.in-Some.to (omega arith) (omega arith) c.requires.here pass
 
 pub returns-clause-is_legal_target : goal.returns-clause-is_legal_target
-returns-clause-is_legal_target c = λ to ht.
+returns-clause-is_legal_target g c = λ to ht.
     let p : PositionParts = c.args.live.now.position in
     let same = c.setup.view_is ∙ c.position-setup.ensures.value in
     let setup = c.position-setup.ensures.setup in

@@ -1,18 +1,18 @@
-use Rattle.std.proofs.Common.{◌+◌, drop, sym, ap, subst, ◌∙◌, refl, arith}
+use Rattle.std.proofs.Common.{ℕ, ◌+◌, ◌-◌, ◌^◌, min, drop, sym, ap, subst, ◌∙◌, arith}
 use Rattle.std.proofs.Math.ListN.{drop_of_length-le}
 use Rattle.chess_types.specs.board.Position.{PositionParts}
 use Rattle.chess_types.specs.board.After.{after}
-use Rattle.chess_types.specs.board.Legal.{legal_moves}
 use Rattle.chess_play.specs.Records.{IsBefore}
-use Rattle.perft.proofs.LeafLemmas.{counted_begin, counted_next, counted_end, next_move, next_pseudo, no_ply, one_ply, clock_room, number_room}
+use Rattle.perft.specs.Leaves.{leaves_of}
+use Rattle.perft.proofs.LeafLemmas.{counted_begin, counted_next, counted_end, next_move, next_pseudo, no_ply, clock_room, number_room}
 use Rattle.perft.proofs.leaves.+leaves.Goals as goal
 
 pub returns-then-depth-eq0-clause-value : goal.returns-then-depth-eq0-clause-value
 returns-then-depth-eq0-clause-value t c = no_ply c.args.live.now.position c.args.depth c.if-depth-eq0.true
 
-pub returns-then-eq-clause-value : goal.returns-then-eq-clause-value
-returns-then-eq-clause-value t c =
-    one_ply c.args.live.now.position c.args.depth c.count_legal.result (legal_moves c.args.live.now.position) (omega arith) c.count_legal.ensures.count refl (omega arith)
+pub returns-then-depth-eq1-clause-value : goal.returns-then-depth-eq1-clause-value
+returns-then-depth-eq1-clause-value t c =
+    c.last_ply.ensures.value ∙ ap (λ (n : ℕ). min (leaves_of n c.args.live.now.position) (2 ^ 64 - 1)) (sym c.if-depth-eq1.true)
 
 pub loop-m-init : goal.loop-m-init
 loop-m-init t c = record {
