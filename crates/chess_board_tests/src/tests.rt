@@ -1,9 +1,11 @@
 mod asked;
 mod attacking;
 mod boards;
+mod books;
 mod counts;
 mod drafts;
 mod evaluation;
+mod followers;
 mod following;
 mod ground;
 mod keys;

@@ -47,7 +47,7 @@ unfolding squares
 met test s inside e = list_any_from test 0 64 s (omega arith) (omega arith) e
 
 -- where the king of a colour stands
-king_of : (board : Board) (c : Colour) → kings_of board c ≡ 1 → (k : ℕ) × OnlyKing (man_at board) c k
+pub king_of : (board : Board) (c : Colour) → kings_of board c ≡ 1 → (k : ℕ) × OnlyKing (man_at board) c k
 king_of board c one =
     let test : ℕ → Bool = λ s. is_king_of c (man_at board s) in
     elim (cases_Bool (list_any test squares)) [
@@ -58,7 +58,7 @@ king_of board c one =
     ]
 
 -- some man attacks an attacked square
-attacker : (men : Men) (c : Colour) (s : ℕ) → is_attacked men c s ≡ true → (a : ℕ) × (a < 64) × (attacks_for (men a) c men a s ≡ true)
+pub attacker : (men : Men) (c : Colour) (s : ℕ) → is_attacked men c s ≡ true → (a : ℕ) × (a < 64) × (attacks_for (men a) c men a s ≡ true)
 attacker men c s h =
     let test : ℕ → Bool = λ a. attacks_for (men a) c men a s in
     elim (cases_Bool (list_any test squares)) [
@@ -80,7 +80,7 @@ one_or_other Black White h = refl
 one_or_other Black Black h = never (sym h)
 
 -- a man who is a king of the colour
-king_is : (c : Colour) (there : Option Man) → is_king_of c there ≡ true → there ≡ Some (record { colour = c; kind = King })
+pub king_is : (c : Colour) (there : Option Man) → is_king_of c there ≡ true → there ≡ Some (record { colour = c; kind = King })
 king_is c None h = never h
 king_is c (Some man) h =
     let a = and_parts _ _ h in
@@ -115,7 +115,7 @@ stands c (Some man) =
     ]
 
 -- a king attacks the squares beside it alone
-king_reach : (d : Colour) (f : Men) (a b : ℕ) → attacks_as (record { colour = d; kind = King }) f a b ≡ beside a b
+pub king_reach : (d : Colour) (f : Men) (a b : ℕ) → attacks_as (record { colour = d; kind = King }) f a b ≡ beside a b
 unfolding attacks_as leaps slides_to slides
 king_reach d f a b = grind (arith, nat_tests)
 
@@ -144,7 +144,7 @@ knight_reach man f a b kind h =
     grind (arith, nat_tests, g)
 
 -- of at most one square that passes a test, two are the same
-alone : (test : ℕ → Bool) → count_by test squares ≤ 1 → (a b : ℕ) → a < 64 → b < 64 → test a ≡ true → test b ≡ true → a ≡ b
+pub alone : (test : ℕ → Bool) → count_by test squares ≤ 1 → (a b : ℕ) → a < 64 → b < 64 → test a ≡ true → test b ≡ true → a ≡ b
 unfolding squares
 alone test few a b ha hb at_a at_b =
     elim (cases_eq a b) [
@@ -162,7 +162,7 @@ alone test few a b ha hb at_a at_b =
     ]
 
 -- who attacks for a colour
-attacking : (there : Option Man) (c : Colour) (f : Men) (a s : ℕ) → attacks_for there c f a s ≡ true →
+pub attacking : (there : Option Man) (c : Colour) (f : Men) (a s : ℕ) → attacks_for there c f a s ≡ true →
     (man : Man) × (there ≡ Some man) × (man.colour ≡ c) × (attacks_as man f a s ≡ true)
 attacking None c f a s h = never h
 attacking (Some man) c f a s h = let x = and_parts _ _ h in (man, refl, same_is man.colour c x.0, x.1)
@@ -240,6 +240,19 @@ kings_apart c there h g =
     let x = and_parts _ _ (sym (ap (is_king_of (opponent c)) e) ∙ g) in
     true≢false (sym x.0 ∙ other_colour c)
 
+-- The other side's king isn't beside the king of the side to move: it would be in check itself.
+pub kings_far : (p : PositionParts) (k j : ℕ) → IsWellFormed p → OnlyKing (man_on p) p.side k → OnlyKing (man_on p) (opponent p.side) j → beside j k ≡ false
+kings_far p k j well own theirs =
+    let c : Colour = p.side in
+    let men : Men = man_on p in
+    let quiet : in_check men (opponent c) ≡ false = well.quiet in
+    false_from_ne_true _ (λ h.
+    let mine : men k ≡ Some (record { colour = c; kind = King }) = king_is c (men k) own.here in
+    let attacks : attacks_for (men k) (opponent (opponent c)) men k j ≡ true =
+    ap (λ o. attacks_for o (opponent (opponent c)) men k j) mine
+    ∙ and_from _ _ (ap (same_colour c) (twice c) ∙ same_self c) (king_reach c men k j ∙ beside_back k j ∙ h) in
+    true≢false (sym (check_from men (opponent c) j k theirs own.on_board attacks) ∙ quiet))
+
 flight : (p : PositionParts) → IsWellFormed p → is_dead p ≡ true → in_check (man_on p) p.side ≡ true → (k : ℕ) × (j : ℕ) × (e : ℕ) × Flight p k j e
 flight p well dead checked =
     let c : Colour = p.side in
@@ -247,14 +260,7 @@ flight p well dead checked =
     let (k, own) : (k : ℕ) × OnlyKing men c k = king_of p.placement c (well.setup.kings c) in
     let (j, theirs) : (j : ℕ) × OnlyKing men (opponent c) j = king_of p.placement (opponent c) (well.setup.kings (opponent c)) in
     let apart : k ≢ j = λ same. kings_apart c (men k) own.here (ap (λ s. is_king_of (opponent c) (men s)) same ∙ theirs.here) in
-    -- the other side's king isn't beside it: it would be in check itself
-    let quiet : in_check men (opponent c) ≡ false = well.quiet in
-    let far : beside j k ≡ false = false_from_ne_true _ (λ h.
-    let mine : men k ≡ Some (record { colour = c; kind = King }) = king_is c (men k) own.here in
-    let attacks : attacks_for (men k) (opponent (opponent c)) men k j ≡ true =
-    ap (λ o. attacks_for o (opponent (opponent c)) men k j) mine
-    ∙ and_from _ _ (ap (same_colour c) (twice c) ∙ same_self c) (king_reach c men k j ∙ beside_back k j ∙ h) in
-    true≢false (sym (check_from men (opponent c) j k theirs own.on_board attacks) ∙ quiet)) in
+    let far : beside j k ≡ false = kings_far p k j well own theirs in
     let (e, escaped) : (e : ℕ) × (escapes k j e ≡ true) = escape k j own.on_board theirs.on_board apart far in
     let a = and_parts _ _ escaped in
     let b = and_parts _ _ a.0 in

@@ -3,6 +3,7 @@ pub mod SquareColours
 pub mod DeadLemmas
 pub mod EscapeLemmas
 pub mod ArmyLemmas
+pub mod MatingLemmas
 pub mod CountLemmas
 pub mod OutcomeLemmas
 pub mod TextLemmas

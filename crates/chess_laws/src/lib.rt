@@ -6,6 +6,7 @@
 
 mod dead;
 mod flip;
+mod mating;
 mod mirror;
 mod moves;
 mod outcomes;
@@ -14,6 +15,7 @@ mod texts;
 
 pub use dead::dead_laws;
 pub use flip::flip_laws;
+pub use mating::mating_laws;
 pub use mirror::mirror_laws;
 pub use moves::move_laws;
 pub use outcomes::outcome_laws;

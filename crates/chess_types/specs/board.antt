@@ -15,6 +15,7 @@ pub mod Legal
 pub mod Lines
 pub mod Repetition
 pub mod Dead
+pub mod Mating
 pub mod Faults
 pub mod Equality
 pub mod Diagram
