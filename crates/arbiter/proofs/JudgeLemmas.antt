@@ -11,7 +11,7 @@ use Rattle.chess_items.specs.declared.fault.PgnFault.{PgnFault}
 use Rattle.chess_loop.specs.RunEnds.{Broken}
 use Rattle.chess_loop.specs.steps.Sending.{Sent, SentOr}
 use Rattle.chess_loop.proofs.SendingLemmas.{sent_whole}
-use Rattle.chess_pgn.specs.Sources.{Fails, Games, GivesUp, GoesOn, HasFault, HasNone, IsPlaced, Leaves, ReadFails}
+use Rattle.chess_pgn.specs.Sources.{Fails, Games, GivesUp, GoesOn, HasFault, HasNone, IsPlaced, Leaves, ReadFails, used_after, used_of}
 use Rattle.chess_pgn.specs.declared.games.GamesFault.TheVariants.{Pgn}
 use Rattle.chess_pgn.specs.declared.games.GamesFault.{GamesFault}
 use Rattle.chess_programs.specs.declared.collection.Failure.{Failure}
@@ -52,6 +52,10 @@ found_game P result game is h = subst (λ r. IfOk r (λ found. IfSome found P)) 
 
 pub ok_holds : {A E : Type 0} (P : Type 0) (result : Result A E) (x : A) → result ≡ Ok x → IfOk result (λ y. P) → P
 ok_holds P result x is h = subst (λ r. IfOk r (λ y. P)) is h
+
+-- where no fault came, all used bytes count
+pub used_still : {R : Type 0} (games : Games R) → games.fault ≡ None → used_of games ≡ games.text.used
+used_still games none = ap (λ (f : Option GamesFault). used_after f games.text.used) none
 
 pub err_holds : {X E : Type 0} (P : E → Type 0) (result : Result X E) (e : E) → result ≡ Err e → IfErr result P → P e
 err_holds P result e is h = subst (λ r. IfErr r P) is h

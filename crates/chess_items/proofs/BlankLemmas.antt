@@ -1,29 +1,31 @@
 -- White items and hidden lines, one after another.
-use Rattle.std.proofs.Common.{◌≡◌, ◌≢◌, ℕ, ◌+◌, ◌-◌, ◌≤◌, ◌<◌, ◌&&◌, eqb, eqb-true, Bool, true, false, List, [], ◌∷◌, ◌++◌, length, refl, sym, ap, subst, ◌∙◌, arith, append_assoc, append-nil, length-append, length-drop, drop, take, Ok, MatchBool, MatchOption, Result}
+use Rattle.std.proofs.Common.{◌≡◌, ◌≢◌, ◌⊎◌, inl, inr, ℕ, ◌+◌, ◌-◌, ◌≤◌, ◌<◌, ◌&&◌, eqb, eqb-true, Bool, true, false, List, [], ◌∷◌, ◌++◌, length, refl, sym, ap, subst, ◌∙◌, arith, append_assoc, append-nil, length-append, length-drop, drop, take, Ok, MatchBool, MatchOption, Result}
 use Rattle.std.specs.List.{list_all, prefix_len}
 use Rattle.std.proofs.lemmas.List.{take-append-drop}
 use Rattle.byte_streams.specs.Calls.{Calls, joined}
 use Rattle.byte_streams.proofs.CallLemmas.{Calls-append, Calls-more, joined-append, joined-more}
 use Rattle.chess_items.specs.Items as items
-use Rattle.chess_items.specs.Items.{Each, EndsRun, Item, IsItem, Spells, in_line, is_white, place_after, place_behind, starts_line}
-use Rattle.chess_items.specs.steps.Deciding.{Decides}
+use Rattle.chess_items.specs.Items.{Each, EndsRun, Item, IsItem, Spells, in_line, is_blank, is_digit, is_glyph, is_name_byte, is_white, is_word_byte, place_after, place_behind, starts_line}
+use Rattle.chess_items.specs.steps.Deciding.{Decides, is_open, outside_open, sign_open, tag_open}
 use Rattle.chess_items.specs.steps.ItemAt.{item_at}
-use Rattle.chess_items.specs.steps.Skipping.{BeginsHidden, HidesLine, SkippedWhite, TakesWhite}
+use Rattle.chess_items.specs.steps.Skipping.{BeginsHidden, HidesLine, MaySkip, SkippedWhite, TakesWhite}
 use Rattle.chess_items.specs.steps.Taking.{AfterStop, Steps}
-use Rattle.chess_items.specs.steps.Texts.{BreaksAt, BreaksOff, Keeps, Oversized, Refills, size}
+use Rattle.chess_items.specs.steps.Texts.{BreaksAt, BreaksWhile, Keeps, LastSince, Needs, Oversized, RefillBreaks, Refills, size}
 use Rattle.chess_items.specs.declared.at_hand.Fault.{Fault}
 use Rattle.chess_items.specs.declared.at_hand.Fault.TheVariants.{Memory, Read}
 use Rattle.chess_items.specs.declared.fault.PgnFault.{PgnFault}
 use Rattle.chess_items.specs.declared.place.Place.{Place}
+use Rattle.chess_items.specs.declared.place.Place.TheVariants.{GameStart, LineStart, TagLineStart}
 use Rattle.chess_items.specs.declared.taker.Taken.{Taken}
 use Rattle.chess_items.specs.declared.taking.Step.TheVariants as step
 use Rattle.chess_items.specs.declared.taking.Stop.{Stop}
 use Rattle.chess_items.specs.declared.taking.Stop.TheVariants as stop
-use Rattle.chess_items.proofs.BreakLemmas.{breaks_later}
+use Rattle.chess_items.proofs.AskedLemmas.{breaks_since, since_on, since_still}
 use Rattle.chess_items.proofs.ClosedLemmas.{each-append}
 use Rattle.chess_items.proofs.FoundLemmas.{the, item_taken, some_is}
 use Rattle.chess_items.proofs.ItemLemmas.{item_goes}
 use Rattle.chess_items.proofs.LocalLemmas.{item_shorter}
+use Rattle.chess_items.proofs.OpenLemmas.{open_undecided}
 use Rattle.chess_items.proofs.ReadLemmas.{empty_is}
 use Rattle.chess_items.proofs.RunLemmas.{prefix_each, prefix_stops}
 use Rattle.chess_items.proofs.SpellLemmas.{spells_on}
@@ -42,6 +44,42 @@ white_more (i ∷ is) item e h = (let two = both (is_white i) (list_all is_white
 pub behind_more : (place : Place) (is : List Item) (item : Item) → place_behind place (is ++ item ∷ []) ≡ place_after (place_behind place is) item
 behind_more place [] item = refl
 behind_more place (i ∷ is) item = behind_more (place_after place i) is item
+
+pub white_join : (is ks : List Item) → list_all is_white is ≡ true → list_all is_white ks ≡ true → list_all is_white (is ++ ks) ≡ true
+white_join [] ks e h = h
+white_join (i ∷ is) ks e h = by (is_white i) e (λ k. white_join is ks k h)
+  where
+    by : (v : Bool) → v && list_all is_white is ≡ true → (list_all is_white is ≡ true → list_all is_white (is ++ ks) ≡ true) → v && list_all is_white (is ++ ks) ≡ true
+    by true e f = f e
+    by false e f = absurd cc
+
+pub place_on : (place : Place) (is ks : List Item) → place_behind place (is ++ ks) ≡ place_behind (place_behind place is) ks
+place_on place [] ks = refl
+place_on place (i ∷ is) ks = place_on (place_after place i) is ks
+
+-- ---- bytes that don't decide an item
+
+each_all : (p : ℕ → Bool) (xs : List ℕ) → Each p xs → list_all p xs ≡ true
+each_all p [] h = refl
+each_all p (x ∷ xs) h = rw (h.0, each_all p xs h.1) refl
+
+-- a hidden line so far
+line_open : (here : Place) (xs : List ℕ) → starts_line here ≡ true → list_all in_line xs ≡ true → is_open here (37 ∷ xs) ≡ true
+unfolding is_open outside_open tag_open sign_open is_word_byte is_name_byte is_digit is_blank is_glyph
+line_open GameStart xs s e = e
+line_open LineStart xs s e = e
+line_open TagLineStart xs s e = e
+line_open _ xs s e = absurd cc
+
+line_undecided : (here : Place) (hand begun : List ℕ) → BeginsHidden here hand true → Each in_line (hand ++ begun) → Decides here (hand ++ begun) → ⊥
+line_undecided here hand begun b each =
+    let e : hand ++ begun ≡ 37 ∷ (b.1 ++ begun) = ap (λ (x : List ℕ). x ++ begun) b.2 in
+    let all : Each in_line (37 ∷ (b.1 ++ begun)) = subst (λ (x : List ℕ). Each in_line x) e each in
+    subst (λ (x : List ℕ). Decides here x → ⊥) (sym e) (open_undecided here (37 ∷ (b.1 ++ begun)) (line_open here (b.1 ++ begun) b.0 (each_all in_line (b.1 ++ begun) all.1)))
+
+-- no item is passed over yet
+pub nothing_yet : (here : Place) (begun : List ℕ) → (Decides here begun → ⊥) → MaySkip here begun
+nothing_yet here begun undecided = record { items = []; rest = begun; white = refl; spelled = λ more. refl; undecided = undecided }
 
 -- an item of white space that isn't within three bytes is a hidden line
 long_white : (place : Place) (input : List ℕ) (item : Item) (rest : List ℕ) → Oversized 3 place input → item_at place input ≡ the item rest → (starts_line place ≡ true → (more : List ℕ) → input ≡ 37 ∷ more → ⊥) → is_white item ≡ false
@@ -69,12 +107,13 @@ module _ {X : Type 0} (comes : X → List ℕ → X → Type 0) (at_hand : X →
     pub line : List ℕ
     pub used : at_hand old ++ joined pieces ≡ line ++ at_hand now
     pub each : Each in_line line
+    pub asked : LastSince comes at_hand all reads (Each in_line) old (joined pieces) now
     pub smaller : size at_hand reads now + length line ≤ size at_hand reads old
     pub still : all old → (joined pieces ≡ []) × all now
     pub sound_still : sound now
 
   pub hiding_start : (old : X) → sound old → Hiding old old
-  hiding_start old so = record { pieces = []; came = refl; line = []; used = append-nil (at_hand old); each = tt; smaller = omega arith; still = λ e. (refl, e); sound_still = so }
+  hiding_start old so = record { pieces = []; came = refl; line = []; used = append-nil (at_hand old); each = tt; asked = inl refl; smaller = omega arith; still = λ e. (refl, e); sound_still = so }
 
   module _ (old now : X) (h : Hiding old now) where
     -- the bytes at hand that are of the line are used
@@ -111,6 +150,7 @@ module _ {X : Type 0} (comes : X → List ℕ → X → Type 0) (at_hand : X →
         used =
             ap (λ (x : List ℕ). at_hand old ++ x) (joined-more comes h.pieces [] ∙ append-nil (joined h.pieces)) ∙ h.used ∙ ap (λ (x : List ℕ). h.line ++ x) (parts ∙ ap (λ (x : List ℕ). text ++ x) (sym left_now)) ∙ sym (append_assoc h.line text (at_hand new));
         each = each-append in_line h.line text h.each (subst (λ (m : ℕ). Each in_line (take m hand)) (sym run) (prefix_each in_line hand));
+        asked = since_still comes at_hand all reads (Each in_line) old now h.pieces h.came (λ a. (h.still a).1) ([] ∷ []) new (new, k.came, refl) k.no_read h.asked;
         smaller =
             (let l = length-append h.line text in
             let p = ap length parts ∙ length-append text rest in
@@ -137,10 +177,49 @@ module _ {X : Type 0} (comes : X → List ℕ → X → Type 0) (at_hand : X →
     each = h.each;
     stops = stops;
     ended = λ e. absurd (let n = ap length e in omega (arith, n, some));
+    asked = h.asked;
     smaller = (let l = some_line (at_hand old) (joined h.pieces) h.line (at_hand new) r begins h.used stops in omega (arith, l, h.smaller));
     still = h.still;
     sound_still = h.sound_still;
   }
+
+  -- all bytes so far are of the line, and then one read is made
+  module _ (old now : X) (h : Hiding old now) (none : at_hand now ≡ []) where
+    all_line : Each in_line (at_hand old ++ joined h.pieces)
+    all_line = subst (λ (x : List ℕ). Each in_line x) (sym (h.used ∙ ap (λ (x : List ℕ). h.line ++ x) none ∙ append-nil h.line)) h.each
+
+    one_read : (ps : List (List ℕ)) (new : X) → Calls comes now ps new → reads new + 1 ≡ reads now → (all now → ⊥) → LastSince comes at_hand all reads (Each in_line) old (joined (h.pieces ++ ps)) new
+    one_read ps new came once not_yet =
+        inr (
+          (λ a. not_yet (h.still a).1),
+          record { earlier = h.pieces; before = now; first = h.came; last = ps; brought = came; once = once; parts = joined-append h.pieces ps },
+          all_line,
+        )
+
+    at_most_one : (ps : List (List ℕ)) (new : X) → Calls comes now ps new → (reads new ≡ reads now) ⊎ ((reads new + 1 ≡ reads now) × (all now → ⊥)) → LastSince comes at_hand all reads (Each in_line) old (joined (h.pieces ++ ps)) new
+    at_most_one ps new came (inl same) = since_still comes at_hand all reads (Each in_line) old now h.pieces h.came (λ a. (h.still a).1) ps new came same h.asked
+    at_most_one ps new came (inr o) = one_read ps new came o.0 o.1
+
+    with_not_yet : (new : X) → (all now → ⊥) → (reads new ≡ reads now) ⊎ (reads new + 1 ≡ reads now) → (reads new ≡ reads now) ⊎ ((reads new + 1 ≡ reads now) × (all now → ⊥))
+    with_not_yet new not_yet (inl same) = inl same
+    with_not_yet new not_yet (inr once) = inr (once, not_yet)
+
+    pub hiding_broken : (breaks : X → X → Type 0) (new : X) (fault : Fault) → RefillBreaks comes breaks all reads now new fault → BreaksWhile comes at_hand breaks all reads (Each in_line) old new fault
+    hiding_broken breaks new Memory b = record {
+      pieces = h.pieces ++ b.1;
+      came = Calls-append comes old now new h.pieces b.1 h.came b.2;
+      not_yet = λ a. b.0 (h.still a).1;
+      asked = at_most_one b.1 new b.2 (with_not_yet new b.0 b.3);
+    }
+    hiding_broken breaks new Read b = record {
+      pieces = h.pieces ++ [] ∷ [];
+      mid = b.1;
+      came = Calls-more comes old now b.1 h.pieces [] h.came b.2;
+      not_yet = λ a. b.0 (h.still a).1;
+      not_all = b.4;
+      breaks_off = b.3;
+      asked = subst (λ (x : List ℕ). Each in_line (at_hand old ++ x)) (sym (joined-more comes h.pieces [] ∙ append-nil (joined h.pieces))) all_line;
+    }
 
   -- all bytes at hand were of it, and more come, or none do
   module _ (old now new : X) (h : Hiding old now) (none : at_hand now ≡ []) (r : Refills comes at_hand all sound reads now new (Ok true)) where
@@ -153,6 +232,7 @@ module _ {X : Type 0} (comes : X → List ℕ → X → Type 0) (at_hand : X →
           ap (λ (x : List ℕ). at_hand old ++ x) (joined-more comes h.pieces r.more) ∙ sym (append_assoc (at_hand old) (joined h.pieces) r.more) ∙ ap (λ (x : List ℕ). x ++ r.more) (h.used ∙ ap (λ (x : List ℕ). h.line ++ x) none ∙ append-nil h.line)
           ∙ ap (λ (x : List ℕ). h.line ++ x) (sym r.after.0);
       each = h.each;
+      asked = one_read old now h none (r.more ∷ []) new (new, r.came, refl) r.after.4 r.after.3;
       smaller = (let f = h.smaller in omega (arith, f, r.after.2));
       still = λ a. absurd (r.after.3 (h.still a).1);
       sound_still = r.after.1;
@@ -174,13 +254,11 @@ module _ {X : Type 0} (comes : X → List ℕ → X → Type 0) (at_hand : X →
         each = h.each;
         stops = stops;
         ended = λ e. f.after.2;
+        asked = at_most_one old now h none (f.more ∷ []) new (new, f.came, refl) f.after.5;
         smaller = (let l = some_line (at_hand old) (joined (h.pieces ++ f.more ∷ [])) h.line (at_hand new) r begins same stops in let k = h.smaller in omega (arith, l, k, f.after.4));
         still = λ a. (joined-more comes h.pieces f.more ∙ ap (λ (x : List ℕ). x ++ f.more) (h.still a).0 ∙ f.after.1, f.after.2);
         sound_still = f.after.3;
       }
-
-  pub hiding_broken : (breaks : X → X → Type 0) (old now new : X) (fault : Fault) → Hiding old now → BreaksOff comes breaks all now new fault → BreaksOff comes breaks all old new fault
-  hiding_broken breaks old now new fault h b = breaks_later comes breaks all old now new h.pieces h.came (λ e. (h.still e).1) fault b
 
   -- ---- white items, one after another
 
@@ -191,23 +269,71 @@ module _ {X : Type 0} (comes : X → List ℕ → X → Type 0) (at_hand : X →
     pub white : list_all is_white items ≡ true
     pub spelled : (more : List ℕ) → (all now → more ≡ []) → Spells place (at_hand old ++ (joined pieces ++ more)) items (at_hand now ++ more)
     pub stands : here ≡ place_behind place items
+    pub asked : LastSince comes at_hand all reads (MaySkip place) old (joined pieces) now
     pub still : all old → (joined pieces ≡ []) × all now
     pub sound_still : sound now
 
   pub skipping_start : (place : Place) (old : X) → sound old → Skipping place old place old
-  skipping_start place old so = record { pieces = []; came = refl; items = []; white = refl; spelled = λ more so. refl; stands = refl; still = λ e. (refl, e); sound_still = so }
+  skipping_start place old so = record { pieces = []; came = refl; items = []; white = refl; spelled = λ more so. refl; stands = refl; asked = inl refl; still = λ e. (refl, e); sound_still = so }
 
-  pub skipping_broken : (breaks : X → X → Type 0) (place : Place) (old : X) (here : Place) (now new : X) (fault : Fault) → Skipping place old here now → BreaksOff comes breaks all now new fault → BreaksOff comes breaks all old new fault
-  skipping_broken breaks place old here now new fault s b = breaks_later comes breaks all old now new s.pieces s.came (λ e. (s.still e).1) fault b
+  needs_skip : (most : ℕ) (here : Place) (now : X) (more : List ℕ) (new : X) → Needs comes at_hand all reads most here now more new → LastSince comes at_hand all reads (MaySkip here) now more new
+  needs_skip most here now more new (inl same) = inl same
+  needs_skip most here now more new (inr n) = inr (n.not_yet, n.came, nothing_yet here (at_hand now ++ joined n.came.earlier) n.undecided)
 
-  pub skipping_stopped : (breaks : X → X → Type 0) (place : Place) (old : X) (here : Place) (now new : X) (fault : Fault) → Skipping place old here now → BreaksAt comes at_hand breaks all sound reads 3 here now new fault → BreaksOff comes breaks all old new fault
-  skipping_stopped breaks place old here now new fault s b = skipping_broken breaks place old here now new fault s (off fault b)
-    where
-      off : (fault : Fault) → BreaksAt comes at_hand breaks all sound reads 3 here now new fault → BreaksOff comes breaks all now new fault
-      off Memory b = (b.not_yet, b.pieces, b.came)
-      off Read b = (b.not_yet, b.pieces, b.mid, b.came, b.breaks_off, b.not_all)
+  line_skip : (here : Place) (now : X) (more : List ℕ) (new : X) → BeginsHidden here (at_hand now) true → LastSince comes at_hand all reads (Each in_line) now more new → LastSince comes at_hand all reads (MaySkip here) now more new
+  line_skip here now more new b (inl same) = inl same
+  line_skip here now more new b (inr l) = inr (l.0, l.1, nothing_yet here (at_hand now ++ joined l.1.earlier) (line_undecided here (at_hand now) (joined l.1.earlier) b l.2))
 
-  module _ (place : Place) (old : X) (here : Place) (now : X) (s : Skipping place old here now) (ps : List (List ℕ)) (new : X) (came : Calls comes now ps new) (still : all now → (joined ps ≡ []) × all new) (so : sound new) where
+  pub line_broken : (breaks : X → X → Type 0) (here : Place) (now new : X) (fault : Fault) → BeginsHidden here (at_hand now) true → BreaksWhile comes at_hand breaks all reads (Each in_line) now new fault → BreaksWhile comes at_hand breaks all reads (MaySkip here) now new fault
+  line_broken breaks here now new Memory b k = record { pieces = k.pieces; came = k.came; not_yet = k.not_yet; asked = line_skip here now (joined k.pieces) new b k.asked }
+  line_broken breaks here now new Read b k = record {
+    pieces = k.pieces;
+    mid = k.mid;
+    came = k.came;
+    not_yet = k.not_yet;
+    not_all = k.not_all;
+    breaks_off = k.breaks_off;
+    asked = nothing_yet here (at_hand now ++ joined k.pieces) (line_undecided here (at_hand now) (joined k.pieces) b k.asked);
+  }
+
+  -- what comes after white items may be passed over with them
+  module _ (place : Place) (old : X) (here : Place) (now : X) (s : Skipping place old here now) where
+    goes_on : (begun : List ℕ) → (all now → ⊥) → MaySkip here (at_hand now ++ begun) → MaySkip place (at_hand old ++ (joined s.pieces ++ begun))
+    goes_on begun not_yet q = record {
+      items = s.items ++ q.items;
+      rest = q.rest;
+      white = white_join s.items q.items s.white q.white;
+      spelled = λ more.
+          spells_on place ((at_hand old ++ (joined s.pieces ++ begun)) ++ more) s.items q.items (at_hand now ++ (begun ++ more)) (q.rest ++ more)
+          (subst (λ (x : List ℕ). Spells place x s.items (at_hand now ++ (begun ++ more)))
+          (ap (λ (x : List ℕ). at_hand old ++ x) (sym (append_assoc (joined s.pieces) begun more)) ∙ sym (append_assoc (at_hand old) (joined s.pieces ++ begun) more)) (s.spelled (begun ++ more) (λ e. absurd (not_yet e))))
+          (subst (λ (p : Place). Spells p (at_hand now ++ (begun ++ more)) q.items (q.rest ++ more)) s.stands
+          (subst (λ (x : List ℕ). Spells here x q.items (q.rest ++ more)) (append_assoc (at_hand now) begun more) (q.spelled more)));
+      undecided = λ d. q.undecided (subst (λ (p : Place). Decides p q.rest) (place_on place s.items q.items ∙ ap (λ (p : Place). place_behind p q.items) (sym s.stands)) d);
+    }
+
+    pub skipping_broken : (breaks : X → X → Type 0) (new : X) (fault : Fault) → BreaksWhile comes at_hand breaks all reads (MaySkip here) now new fault → BreaksWhile comes at_hand breaks all reads (MaySkip place) old new fault
+    skipping_broken breaks new fault b = breaks_since comes at_hand all reads (MaySkip place) old now s.pieces s.came (λ e. (s.still e).1) breaks (MaySkip here) new fault b goes_on s.asked
+
+    pub skipping_stopped : (breaks : X → X → Type 0) (new : X) (fault : Fault) → BreaksAt comes at_hand breaks all sound reads 3 here now new fault → BreaksWhile comes at_hand breaks all reads (MaySkip place) old new fault
+    skipping_stopped breaks new fault b = skipping_broken breaks new fault (off fault b)
+      where
+        off : (fault : Fault) → BreaksAt comes at_hand breaks all sound reads 3 here now new fault → BreaksWhile comes at_hand breaks all reads (MaySkip here) now new fault
+        off Memory b = record { pieces = b.pieces; came = b.came; not_yet = b.not_yet; asked = needs_skip 3 here now (joined b.pieces) new b.asked }
+        off Read b = record {
+          pieces = b.pieces;
+          mid = b.mid;
+          came = b.came;
+          not_yet = b.not_yet;
+          not_all = b.not_all;
+          breaks_off = b.breaks_off;
+          asked = nothing_yet here (at_hand now ++ joined b.pieces) (λ d. b.undecided (subst (λ (x : List ℕ). Decides here x) (sym b.longer) d));
+        }
+
+  module _ (place : Place) (old : X) (here : Place) (now : X) (s : Skipping place old here now) (ps : List (List ℕ)) (new : X) (came : Calls comes now ps new) (still : all now → (joined ps ≡ []) × all new) (so : sound new) (asked : LastSince comes at_hand all reads (MaySkip here) now (joined ps) new) where
+    asked_now : LastSince comes at_hand all reads (MaySkip place) old (joined (s.pieces ++ ps)) new
+    asked_now = since_on comes at_hand all reads (MaySkip place) old now s.pieces s.came (λ e. (s.still e).1) ps new came (MaySkip here) asked (goes_on place old here now s) s.asked
+
     no_more : (more : List ℕ) → (all new → more ≡ []) → all now → joined ps ++ more ≡ []
     no_more more none e = (let k = still e in ap (λ (x : List ℕ). x ++ more) k.0 ∙ none k.1)
 
@@ -233,6 +359,7 @@ module _ {X : Type 0} (comes : X → List ℕ → X → Type 0) (at_hand : X →
           spells_on place (at_hand old ++ (joined (s.pieces ++ ps) ++ more)) s.items (item ∷ []) mid (at_hand new ++ more) (before more none)
           (subst (λ (p : Place). Spells p mid (item ∷ []) (at_hand new ++ more)) s.stands last);
       stands = e ∙ ap (λ (p : Place). place_after p item) s.stands ∙ sym (behind_more place s.items item);
+      asked = asked_now;
       still = all_still;
       sound_still = so;
     }
@@ -248,13 +375,14 @@ module _ {X : Type 0} (comes : X → List ℕ → X → Type 0) (at_hand : X →
           let e : at_hand now ++ (joined ps ++ more) ≡ at_hand new ++ more = sym (append_assoc (at_hand now) (joined ps) more) ∙ ap (λ (x : List ℕ). x ++ more) (sym longer) in
           subst (λ (x : List ℕ). Spells place (at_hand old ++ (joined (s.pieces ++ ps) ++ more)) s.items x) e (before more none);
       stands = s.stands;
+      asked = asked_now;
       still = all_still;
       sound_still = so;
     }
 
   pub skipping_on : {T : Type 0} (place : Place) (old : X) (here next : Place) (now new : X) (used : ℕ) (white : Bool) (t u : T) → Skipping place old here now → Steps comes at_hand all sound reads takes 0 3 here now new t u (Ok (step.On next used white)) → Skipping place old next new
   skipping_on place old here next now new used white t u s k =
-      let one = k.after.1 in skipping_item place old here now s k.pieces new k.came one.at_end one.sound_still k.after.0 k.after.2 one.found next k.after.3
+      let one = k.after.1 in skipping_item place old here now s k.pieces new k.came one.at_end one.sound_still (needs_skip 3 here now (joined k.pieces) new one.asked) k.after.0 k.after.2 one.found next k.after.3
 
   pub skipping_falls : {T : Type 0} (here next : Place) (now new : X) (used : ℕ) (white : Bool) (t u : T) → Steps comes at_hand all sound reads takes 0 3 here now new t u (Ok (step.On next used white)) → size at_hand reads new + 1 ≤ size at_hand reads now
   skipping_falls here next now new used white t u k = (let one = k.after.1 in one.smaller)
@@ -264,7 +392,7 @@ module _ {X : Type 0} (comes : X → List ℕ → X → Type 0) (at_hand : X →
 
   -- a hidden line more
   pub skipping_line : (place : Place) (old : X) (here : Place) (now new : X) (next : Place) → Skipping place old here now → BeginsHidden here (at_hand now) true → HidesLine comes at_hand all sound reads now new → next ≡ place_after here items.Hidden → Skipping place old next new
-  skipping_line place old here now new next s b h e = skipping_item place old here now s h.pieces new h.came h.still h.sound_still items.Hidden refl found next e
+  skipping_line place old here now new next s b h e = skipping_item place old here now s h.pieces new h.came h.still h.sound_still (line_skip here now (joined h.pieces) new b h.asked) items.Hidden refl found next e
     where
       tail : (x : ℕ) (xs ys : List ℕ) (a : ℕ) (zs : List ℕ) → x ∷ xs ≡ a ∷ zs → a ≡ x
       tail x xs ys a zs e = cc
@@ -295,7 +423,7 @@ module _ {X : Type 0} (comes : X → List ℕ → X → Type 0) (at_hand : X →
 
   module _ {T : Type 0} (place : Place) (old : X) (here : Place) (now new : X) (why : Stop) (t u : T) (k : Steps comes at_hand all sound reads takes 0 3 here now new t u (Ok (step.Stops why))) where
     pub skipping_stops : Skipping place old here now → Skipping place old here new
-    skipping_stops s = (let r = k.after.0 in skipping_rests place old here now s k.pieces new k.came r.at_end r.sound_still r.longer)
+    skipping_stops s = (let r = k.after.0 in skipping_rests place old here now s k.pieces new k.came r.at_end r.sound_still (needs_skip 3 here now (joined k.pieces) new k.after.2) r.longer)
 
     pub sound_there : sound new
     sound_there = (let r = k.after.0 in r.sound_still)
@@ -344,7 +472,7 @@ module _ {X : Type 0} (comes : X → List ℕ → X → Type 0) (at_hand : X →
     ended_there stop.NoItem a e = absurd (a.0.some e)
     ended_there stop.TooLarge a e = (let big = (a.over [] (λ h. refl)).0 in let n = ap (λ (x : List ℕ). length (x ++ [])) e in absurd (omega (arith, big, n)))
 
-    pub skipped : Skipping place old here now → BeginsHidden here (at_hand new) false → SkippedWhite comes at_hand all sound place old new
+    pub skipped : Skipping place old here now → BeginsHidden here (at_hand new) false → SkippedWhite comes at_hand all sound reads place old new
     skipped before b =
         let s = skipping_stops before in
         record {
@@ -355,6 +483,7 @@ module _ {X : Type 0} (comes : X → List ℕ → X → Type 0) (at_hand : X →
           spelled = s.spelled;
           last = λ more none item rest found. not_white why k.after.1 b more none item rest (ap (λ (p : Place). item_at p (at_hand new ++ more)) s.stands ∙ found);
           ended = ended_there why k.after.1;
+          asked = s.asked;
           still = s.still;
           sound_still = s.sound_still;
         }

@@ -1,5 +1,5 @@
 -- The last of the reads that brought some bytes.
-use Rattle.std.proofs.Common.{◌≡◌, ◌⊎◌, ◌≤◌, ℕ, ◌+◌, inl, inr, Bool, true, List, [], ◌∷◌, ◌++◌, length, refl, sym, ap, subst, ◌∙◌, arith, append_assoc, append-nil, length-append}
+use Rattle.std.proofs.Common.{◌≡◌, ◌⊎◌, ◌≤◌, ℕ, ◌+◌, inl, inr, Bool, List, [], ◌∷◌, ◌++◌, length, refl, sym, ap, subst, ◌∙◌, arith, length-append}
 use Rattle.byte_streams.specs.Calls.{joined}
 use Rattle.byte_streams.proofs.CallLemmas.{Calls-append, joined-append}
 use Rattle.chess_items.specs.Coming.{AtHand, Came, LastReadWhere, unread}
@@ -20,10 +20,6 @@ one_piece (p ∷ q ∷ pieces) e = absurd (omega (arith, e))
 pub last_of : (pieces : List (List ℕ)) → Sized pieces → (pieces ≡ []) ⊎ ((before : List (List ℕ)) × (piece : List ℕ) × (pieces ≡ before ++ piece ∷ []) × (length piece ≤ 65536))
 last_of [] s = inl refl
 last_of (p ∷ ps) s = inr (elim (last_of ps s.1) [ inl e ↦ ([], p, ap (λ (x : List (List ℕ)). p ∷ x) e, s.0) | inr l ↦ (p ∷ l.0, l.1, ap (λ (x : List (List ℕ)). p ∷ x) l.2, l.3) ])
-
-front_nil : (xs ys : List ℕ) → xs ++ ys ≡ [] → xs ≡ []
-front_nil [] ys e = refl
-front_nil (x ∷ xs) ys e = absurd cc
 
 -- reads, and then others
 module _ {R : Type 0} (gives : R → List ℕ → R → Type 0) (failed : R → Bool) (old new : AtHand R) where
@@ -63,21 +59,3 @@ module _ {R : Type 0} (P : List ℕ → Type 0) (gives : R → List ℕ → R �
   came_where pieces came (inl same) = none_came (joined pieces) came same
   came_where pieces came (inr l) =
       came_one l.0.before (joined l.0.earlier) (joined l.0.last) (joined pieces) (all_came gives failed old l.0.before l.0.earlier l.0.first) (all_came gives failed l.0.before new l.0.last l.0.brought) l.0.once l.0.parts l.1
-
-  -- what came after other bytes, where it holds of these and whatever came since
-  pub came_beyond : (mid : AtHand R) (a b bytes : List ℕ) → CameWhere P gives failed old a mid → Came gives failed mid b new → bytes ≡ a ++ b → (mid.has_ended ≡ true → b ≡ [])
-      → ((more : List ℕ) → (mid.has_ended ≡ true → more ≡ []) → P (unread old ++ (a ++ more))) → CameWhere P gives failed old bytes new
-  came_beyond mid a b bytes first second parts none holds = record { came = joins gives failed old new mid a b bytes first.came second parts; asked = by (last_of second.pieces second.sized) }
-    where
-      by : (second.pieces ≡ []) ⊎ ((before : List (List ℕ)) × (piece : List ℕ) × (second.pieces ≡ before ++ piece ∷ []) × (length piece ≤ 65536)) → LastReadWhere P (unread old) (first.came.pieces ++ second.pieces)
-      by (inl e) = subst (λ (x : List (List ℕ)). LastReadWhere P (unread old) x) (sym (ap (λ (x : List (List ℕ)). first.came.pieces ++ x) e ∙ append-nil first.came.pieces)) first.asked
-      by (inr l) = inr (
-        first.came.pieces ++ l.0,
-        l.1,
-        ap (λ (x : List (List ℕ)). first.came.pieces ++ x) l.2 ∙ sym (append_assoc first.came.pieces l.0 (l.1 ∷ [])),
-        l.3,
-        subst (λ (x : List ℕ). P (unread old ++ x)) (ap (λ (x : List ℕ). x ++ joined l.0) (sym first.came.whole) ∙ sym (joined-append first.came.pieces l.0)) (holds (joined l.0) still),
-      )
-        where
-          still : mid.has_ended ≡ true → joined l.0 ≡ []
-          still e = front_nil (joined l.0) (joined (l.1 ∷ [])) (sym (joined-append l.0 (l.1 ∷ [])) ∙ ap joined (sym l.2) ∙ second.whole ∙ none e)

@@ -5,9 +5,9 @@ use Rattle.byte_streams.specs.Calls.{joined}
 use Rattle.byte_streams.proofs.CallLemmas.{Calls-append, joined-append}
 use Rattle.chess_items.specs.Items.{Item, Spells, is_white, place_after, place_behind}
 use Rattle.chess_items.specs.steps.Passing.{WasWhite, Passed, PassBreaks}
-use Rattle.chess_items.specs.steps.Skipping.{Skips}
+use Rattle.chess_items.specs.steps.Skipping.{MaySkip, Skips}
 use Rattle.chess_items.specs.steps.Taking.{TakesOne, behind, all_white, AfterRun, Ran, RunBreaks}
-use Rattle.chess_items.specs.steps.Texts.{BreaksOff}
+use Rattle.chess_items.specs.steps.Texts.{BreaksWhile}
 use Rattle.chess_items.specs.declared.at_hand.Fault.{Fault}
 use Rattle.chess_items.specs.declared.at_hand.Fault.TheVariants.{Memory, Read}
 use Rattle.chess_items.specs.declared.place.Place.{Place}
@@ -15,7 +15,7 @@ use Rattle.chess_items.specs.declared.place.Place.TheVariants.{GameStart}
 use Rattle.chess_items.specs.declared.taking.Stop.{Stop}
 use Rattle.chess_items.specs.declared.taking.Stop.TheVariants as stop
 use Rattle.chess_items.specs.declared.taking.Stopped.{Stopped}
-use Rattle.chess_items.proofs.SkimLemmas.{white_join}
+use Rattle.chess_items.proofs.BlankLemmas.{white_join}
 use Rattle.chess_items.proofs.SpellLemmas.{spells_on}
 use Rattle.chess_items.proofs.TakingLemmas.{bare, spells_bare}
 
@@ -49,7 +49,7 @@ module _ {X T : Type 0} (comes : X → List ℕ → X → Type 0) (at_hand : X �
         }
 
     -- what is after the limit is white as well
-    pub passed_white : (new : X) → s.why ≡ stop.TooLarge → s.white ≡ true → Skips comes at_hand all sound s.place mid new (Ok true) → WasWhite comes at_hand all sound reads takes old new
+    pub passed_white : (new : X) → s.why ≡ stop.TooLarge → s.white ≡ true → Skips comes at_hand all sound reads s.place mid new (Ok true) → WasWhite comes at_hand all sound reads takes old new
     passed_white new why white skips =
         let k = skips.0 in
         let nothing : at_hand new ≡ [] = skips.1 in
@@ -76,10 +76,10 @@ module _ {X T : Type 0} (comes : X → List ℕ → X → Type 0) (at_hand : X �
         }
 
     -- something else comes after the limit
-    pub passed_other : (new : X) → s.why ≡ stop.TooLarge → s.white ≡ true → Skips comes at_hand all sound s.place mid new (Ok false) → Passed comes at_hand all sound reads takes limit old new t u s
+    pub passed_other : (new : X) → s.why ≡ stop.TooLarge → s.white ≡ true → Skips comes at_hand all sound reads s.place mid new (Ok false) → Passed comes at_hand all sound reads takes limit old new t u s
     passed_other new why white k = record { mid = mid; ran = r; after = inr (record { over = why; white = white; skipped = k.0; other = k.1 }); more = λ e. absurd (let h : stop.TooLarge ≡ stop.End = sym why ∙ e in cc) }
 
-    pub passed_broken : (breaks : X → X → Type 0) (new : X) (fault : Fault) → s.why ≡ stop.TooLarge → s.white ≡ true → BreaksOff comes breaks all mid new fault → PassBreaks comes at_hand all sound reads takes limit breaks old new t fault
+    pub passed_broken : (breaks : X → X → Type 0) (new : X) (fault : Fault) → s.why ≡ stop.TooLarge → s.white ≡ true → BreaksWhile comes at_hand breaks all reads (MaySkip s.place) mid new fault → PassBreaks comes at_hand all sound reads takes limit breaks old new t fault
     passed_broken breaks new Memory over white b = inr (record { mid = mid; last = u; stopped = s; ran = r; over = over; white = white; broke = b })
     passed_broken breaks new Read over white b = inr (record { mid = mid; last = u; stopped = s; ran = r; over = over; white = white; broke = b })
 

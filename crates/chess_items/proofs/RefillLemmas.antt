@@ -1,12 +1,12 @@
 -- All bytes at hand are used, and one read brings more.
-use Rattle.std.proofs.Common.{◌≡◌, ℕ, ◌+◌, Bool, true, false, List, [], ◌∷◌, ◌++◌, length, refl, sym, ap, subst, ◌∙◌, arith, Result, Ok, Err}
+use Rattle.std.proofs.Common.{◌≡◌, ◌⊎◌, ◌≤◌, inl, inr, ℕ, ◌+◌, Bool, true, false, List, [], ◌∷◌, ◌++◌, length, refl, sym, ap, subst, ◌∙◌, arith, Result, Ok, Err}
 use Rattle.std.specs.Prelude.{IfErr}
 use Rattle.std.proofs.lemmas.Bool.{false≢true}
 use Rattle.byte_streams.specs.Calls.{Calls, joined}
 use Rattle.chess_items.specs.Coming.{AtHand, Came, unread}
 use Rattle.chess_items.specs.steps.AtHands.{AfterReading, HasRefilled, Refilled}
 use Rattle.chess_items.specs.steps.Seeking.{HasProlonged, Prolonged, ReadBreaks}
-use Rattle.chess_items.specs.steps.Texts.{BreaksOff, Refills}
+use Rattle.chess_items.specs.steps.Texts.{RefillBreaks, Refills}
 use Rattle.chess_items.specs.steps.Texts as texts
 use Rattle.chess_items.specs.declared.at_hand.Fault.{Fault}
 use Rattle.chess_items.specs.declared.at_hand.Fault.TheVariants.{Memory, Read}
@@ -47,11 +47,17 @@ module _ {R : Type 0} (gives : R → List ℕ → R → Type 0) (ended : R → T
   not_ended : mid.has_ended ≡ false → mid.has_ended ≡ true → ⊥
   not_ended goes e = false≢true (sym goes ∙ e)
 
-  off : (fault : Fault) → ReadBreaks gives failed mid new fault → BreaksOff (brings gives failed) (breaking gives failed) (has_all gives failed) old new fault
-  off Memory b = ((λ e. not_ended b.0 (has_ended ∙ e)), [] ∷ b.1 ∷ [], (mid, first, (new, b.2, refl)))
-  off Read b = ((λ e. not_ended b.0 (has_ended ∙ e)), [] ∷ [], mid, (mid, first, refl), b.1, not_ended b.0)
+  -- at most one read was made
+  once_or_none : (pieces : List (List ℕ)) → length pieces ≤ 1 → new.reads + length pieces ≡ old.reads → (new.reads ≡ old.reads) ⊎ (new.reads + 1 ≡ old.reads)
+  once_or_none [] few n = inl (omega (arith, n))
+  once_or_none (p ∷ []) few n = inr (omega (arith, n))
+  once_or_none (p ∷ q ∷ ps) few n = absurd (omega (arith, few))
 
-  pub broken : (result : Result Bool Fault) → IfErr result (λ fault. ReadBreaks gives failed mid new fault) → IfErr result (λ fault. BreaksOff (brings gives failed) (breaking gives failed) (has_all gives failed) old new fault)
+  off : (fault : Fault) → ReadBreaks gives failed mid new fault → RefillBreaks (brings gives failed) (breaking gives failed) (has_all gives failed) (reads_left gives failed) old new fault
+  off Memory b = ((λ e. not_ended b.0 (has_ended ∙ e)), [] ∷ b.1 ∷ [], (mid, first, (new, b.2, refl)), once_or_none b.2.pieces b.3 (b.2.counted ∙ reads))
+  off Read b = ((λ e. not_ended b.0 (has_ended ∙ e)), mid, first, b.1, not_ended b.0)
+
+  pub broken : (result : Result Bool Fault) → IfErr result (λ fault. ReadBreaks gives failed mid new fault) → IfErr result (λ fault. RefillBreaks (brings gives failed) (breaking gives failed) (has_all gives failed) (reads_left gives failed) old new fault)
   broken (Ok has_more) b = tt
   broken (Err fault) b = off fault b
 
@@ -59,8 +65,20 @@ module _ {R : Type 0} (gives : R → List ℕ → R → Type 0) (ended : R → T
   some_pieces : (pieces : List (List ℕ)) → length pieces ≡ 1 → pieces ≡ [] → ⊥
   some_pieces pieces some e = (let n = ap length e in omega (arith, n, some))
 
+  last_one : (pieces : List (List ℕ)) → length pieces ≤ 1 → new.reads + length pieces ≡ old.reads → (old.has_ended ≡ true → pieces ≡ []) → (new.reads ≡ old.reads) ⊎ ((new.reads + 1 ≡ old.reads) × (old.has_ended ≡ true → ⊥))
+  last_one [] few n e = inl (omega (arith, n))
+  last_one (p ∷ []) few n e = inr (omega (arith, n), λ h. (let z = e h in cc))
+  last_one (p ∷ q ∷ ps) few n e = absurd (omega (arith, few))
+
   refills_after : (has_more : Bool) (r : HasRefilled gives ended failed old new has_more) → texts.AfterRefill (brings gives failed) unread (has_all gives failed) (ends_truly gives failed ended) (reads_left gives failed) old (joined r.pieces) new has_more
-  refills_after false r = (r.after.0, r.after.1, r.after.3, (λ e. r.after.4), (let n = ap length r.after.0 in omega (arith, n, r.counted)))
+  refills_after false r = (
+    r.after.0,
+    r.after.1,
+    r.after.3,
+    (λ e. r.after.4),
+    (let n = ap length r.after.0 in omega (arith, n, r.counted)),
+    last_one r.pieces r.after.2 r.counted (λ e. (r.at_end e).0),
+  )
   refills_after true r = (
     r.after.0,
     (λ e. absurd (false≢true (sym r.after.2 ∙ e))),

@@ -132,6 +132,7 @@ module _ {X T : Type 0} (comes : X → List ℕ → X → Type 0) (at_hand : X �
           spelled = r.spelled;
           taken = r.taken;
           undecided = r.undecided;
+          not_yet = r.not_yet;
         })
 
     asked_on : Needs comes at_hand all reads (limit - at) place now (joined ps) new → Asked comes at_hand all sound reads takes limit old (joined (w.pieces ++ ps)) new t w.items
@@ -161,6 +162,7 @@ module _ {X T : Type 0} (comes : X → List ℕ → X → Type 0) (at_hand : X �
           spelled = λ more. rw (joined-append w.pieces s.earlier, append_assoc (joined w.pieces) (joined s.earlier) more, append_assoc (at_hand now) (joined s.earlier) more) (w.took.spelled (joined s.earlier ++ more) (λ e. absurd (n.not_yet e)));
           taken = w.taken;
           undecided = subst (λ (p : Place). Decides p (at_hand now ++ joined s.earlier) → ⊥) w.took.stands n.undecided;
+          not_yet = λ e. n.not_yet (w.took.at_end e).1;
         })
 
     -- with one item more
@@ -177,6 +179,7 @@ module _ {X T : Type 0} (comes : X → List ℕ → X → Type 0) (at_hand : X �
       spelled = r.spelled;
       taken = r.taken;
       undecided = r.undecided;
+      not_yet = r.not_yet;
     })
 
     module _ (item : Item) (used : ℕ) (one : UsesItem comes at_hand all sound reads takes (limit - at) place now ps new item used) where

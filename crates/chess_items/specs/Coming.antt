@@ -5,6 +5,7 @@
 --   Came    reads of at most 65,536 bytes each gave these bytes, and none of them failed; none is made after the end was seen
 --   Breaks  the next read failed, or there may be no more: of a new source, 2^40 were made; what was at hand still is, and as many bytes are used
 --   LastReadWhere  no read was made, or the last, of at most 65,536 bytes, was made where this holds of the bytes that were at hand and those before it
+--   CameWhere    bytes came, by such reads
 --   BreaksWhere  bytes came, and then a read broke off before the source's end; of the bytes that were at hand and those that came, this holds
 use Rattle.std.specs.Prelude.{◌≡◌, ◌⊎◌, ◌<◌, ◌≤◌, ℕ, ◌+◌, ⊤, Bool, true, false, List, [], ◌∷◌, ◌++◌, length}
 use Rattle.std.specs.List.{AllByRecursion}
@@ -40,6 +41,11 @@ pub record Came {R : Type 0} (gives : R → List ℕ → R → Type 0) (failed :
 -- of some pieces, one for each read
 abbrev pub LastReadWhere : (List ℕ → Type 0) → List ℕ → List (List ℕ) → Type 0
 LastReadWhere holds hand pieces = (pieces ≡ []) ⊎ ((before : List (List ℕ)) × (piece : List ℕ) × (pieces ≡ before ++ piece ∷ []) × (length piece ≤ 65536) × holds (hand ++ joined before))
+
+pub record CameWhere {R : Type 0} (holds : List ℕ → Type 0) (gives : R → List ℕ → R → Type 0) (failed : R → Bool) (old new : AtHand R) : Type 0 where
+  pub bytes : List ℕ
+  pub came : Came gives failed old bytes new
+  pub needed : LastReadWhere holds (unread old) came.pieces
 
 abbrev pub Breaks : {R : Type 0} → (R → List ℕ → R → Type 0) → (R → Bool) → AtHand R → AtHand R → Type 0
 Breaks gives failed old new =

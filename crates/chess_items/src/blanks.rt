@@ -1,8 +1,9 @@
 //! White space, marks and hidden lines, read on without being kept.
 
 ghost use Rattle.std.specs.Prelude.{◌≡◌, ℕ, List, ◌∷◌, IfErr};
-ghost use Rattle.chess_items.specs.steps.Skipping.{BeginsHidden, Hides, Skips};
-ghost use Rattle.chess_items.specs.steps.Texts.{BreaksOff};
+ghost use Rattle.chess_items.specs.Items.{Each, in_line};
+ghost use Rattle.chess_items.specs.steps.Skipping.{BeginsHidden, Hides, MaySkip, Skips};
+ghost use Rattle.chess_items.specs.steps.Texts.{BreaksWhile};
 
 use crate::at_hand::Fault;
 use crate::class::Class;
@@ -53,7 +54,7 @@ fn skip_line<X: Text>(text: &mut X) -> Result<(), Fault>
     requires sound { X.sound text.old }
     requires begins { (rest : List ℕ) × (X.at_hand text.old ≡ 37 ∷ rest) }
     ensures hides { Hides X.comes X.at_hand X.all X.sound X.reads text.old text.new result }
-    ensures broken { IfErr result (λ fault. BreaksOff X.comes X.breaks X.all text.old text.new fault) }
+    ensures broken { IfErr result (λ fault. BreaksWhile X.comes X.at_hand X.breaks X.all X.reads (Each in_line) text.old text.new fault) }
 {
     loop {
         let line = Class::Line.run_len(text.unread());
@@ -73,8 +74,8 @@ fn skip_line<X: Text>(text: &mut X) -> Result<(), Fault>
 /// Uses white space, marks and hidden lines from that place on, and keeps nothing of them. Whether the text ends after them.
 pub fn skip_white<X: Text>(text: &mut X, place: Place) -> Result<bool, Fault>
     requires { X.sound text.old }
-    ensures skips { Skips X.comes X.at_hand X.all X.sound place text.old text.new result }
-    ensures broken { IfErr result (λ fault. BreaksOff X.comes X.breaks X.all text.old text.new fault) }
+    ensures skips { Skips X.comes X.at_hand X.all X.sound X.reads place text.old text.new result }
+    ensures broken { IfErr result (λ fault. BreaksWhile X.comes X.at_hand X.breaks X.all X.reads (MaySkip place) text.old text.new fault) }
 {
     let mut place = place;
     loop {

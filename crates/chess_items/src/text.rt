@@ -2,7 +2,7 @@
 
 ghost use Rattle.std.specs.Prelude.{◌≡◌, ℕ, ◌≤◌, List, length, take, IfErr};
 ghost use Rattle.chess_items.specs.steps.Deciding.{Decides};
-ghost use Rattle.chess_items.specs.steps.Texts.{BreaksAt, BreaksOff, MadeReady, Keeps, Refills};
+ghost use Rattle.chess_items.specs.steps.Texts.{BreaksAt, MadeReady, Keeps, RefillBreaks, Refills};
 
 use crate::at_hand::{AtHand, Fault};
 use crate::place::Place;
@@ -53,7 +53,7 @@ pub trait Text {
     fn refill(&mut self) -> Result<bool, Fault>
         requires { sound self.old }
         ensures refills { Refills comes at_hand all sound reads self.old self.new result }
-        ensures broken { IfErr result (λ fault. BreaksOff comes breaks all self.old self.new fault) };
+        ensures broken { IfErr result (λ fault. RefillBreaks comes breaks all reads self.old self.new fault) };
 }
 
 /// A whole text.

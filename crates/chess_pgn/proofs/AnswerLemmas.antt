@@ -1,23 +1,19 @@
 -- What is answered of a text that begins with a game, and where a fault is.
-use Rattle.std.proofs.Common.{◌≡◌, ◌⊎◌, ℕ, Bool, true, false, List, [], ◌++◌, refl, sym, subst, ap, ◌∙◌, append_assoc, append-nil}
+use Rattle.std.proofs.Common.{◌≡◌, ◌⊎◌, ℕ, Bool, true, false, List, [], ◌++◌, refl, sym, subst, ap, ◌∙◌, append-nil}
 use Rattle.std.specs.Prelude.{Err, Ok, Option, Some, None}
 use mathlib.Core.Logic.{inl, inr}
 use Rattle.byte_streams.specs.Calls.{joined}
-use Rattle.byte_streams.proofs.CallLemmas.{joined-append}
-use Rattle.chess_items.specs.Coming.{AtHand, Came, LastReadWhere, unread}
-use Rattle.chess_items.specs.Decided.{IsDecided}
-use Rattle.chess_items.specs.Items.{Spells, place_behind}
-use Rattle.chess_items.specs.steps.Texts.{LastWhere}
+use Rattle.chess_items.specs.Coming.{AtHand, LastReadWhere, unread}
+use Rattle.chess_items.specs.steps.Texts.{LastSince, LastWhere}
 use Rattle.chess_items.specs.declared.fault.FaultKind.TheVariants.{Memory}
 use Rattle.chess_items.specs.declared.fault.PgnFault.{PgnFault}
-use Rattle.chess_items.specs.declared.place.Place.TheVariants.{GameStart}
 use Rattle.chess_items.proofs.BreakLemmas.{all_came, breaking, brings, ends_truly, has_all, reads_left}
-use Rattle.chess_items.proofs.LastLemmas.{CameWhere, came_beyond, came_where}
+use Rattle.chess_items.proofs.LastLemmas.{CameWhere, came_where}
 use Rattle.chess_pgn.specs.Games as games
 use Rattle.chess_pgn.specs.Reading.{HasNoGame, HasNoGameYet, IsAnswered, BeginsWithGame, IsWhite}
 use Rattle.chess_items.specs.declared.skimming.Halt.{Halt}
-use Rattle.chess_pgn.specs.Sources.{Fails, GoesOn, HasFault, IsFlood, IsOpen, Leaves}
-use Rattle.chess_pgn.specs.steps.GameAt.{FoundGame, HaltsAt, HasStarved, IsFault, LeavesIn, NotCome, ReadsOn}
+use Rattle.chess_pgn.specs.Sources.{EndsOpen, EndsWithin, GoesOn, HasFault, Leaves}
+use Rattle.chess_pgn.specs.steps.GameAt.{FoundGame, HaltsAt, HasStarved, IsFault, IsUnread, LeavesIn, NotCome}
 use Rattle.chess_pgn.specs.steps.GameCode.{game_of}
 use Rattle.chess_pgn.specs.steps.Next.{HasKind}
 use Rattle.chess_pgn.specs.declared.game.Game.{Game}
@@ -76,52 +72,42 @@ not_true false h = refl
 
 module _ {R : Type 0} (gives : R → List ℕ → R → Type 0) (failed : R → Bool) (ended : R → Type 0) (old new : AtHand R) where
   -- what came by needed reads, and then there was no memory
-  starved_where : (k : HasStarved (brings gives failed) unread (has_all gives failed) (ends_truly gives failed ended) (reads_left gives failed) old new) → CameWhere HasNoGameYet gives failed old (joined k.pieces) new
-  starved_where k = by k.needed
-    where
-      by : ReadsOn (brings gives failed) unread (has_all gives failed) (reads_left gives failed) old k.pieces new → CameWhere HasNoGameYet gives failed old (joined k.pieces) new
-      by (inl w) = came_where HasNoGameYet gives failed old new k.pieces (all_came gives failed old new k.pieces k.came) w
-      by (inr b) =
-          came_beyond HasNoGameYet gives failed old new b.mid (joined b.first) (joined b.others) (joined k.pieces)
-          (came_where HasNoGameYet gives failed old b.mid b.first (all_came gives failed old b.mid b.first b.came) b.needed) (all_came gives failed b.mid new b.others b.later)
-          (ap joined b.parts ∙ joined-append b.first b.others) b.still b.none
+  since_where : (P : List ℕ → Type 0) (bytes : List ℕ) → LastSince (brings gives failed) unread (has_all gives failed) (reads_left gives failed) P old bytes new → LastWhere (brings gives failed) unread (reads_left gives failed) P old bytes new
+  since_where P bytes (inl same) = inl same
+  since_where P bytes (inr l) = inr (l.1, l.2)
+
+  needed_of : (hand : List ℕ) (pieces : List (List ℕ)) → LastReadWhere IsUnread hand pieces → LastReadWhere HasNoGameYet hand pieces
+  needed_of hand pieces (inl e) = inl e
+  needed_of hand pieces (inr l) = inr (l.0, l.1, l.2, l.3, l.4.0)
+
+  open_of : (hand : List ℕ) (pieces : List (List ℕ)) → LastReadWhere IsUnread hand pieces → LastReadWhere EndsOpen hand pieces
+  open_of hand pieces (inl e) = inl e
+  open_of hand pieces (inr l) = inr (l.0, l.1, l.2, l.3, l.4.1)
+
+  starved_where : (k : HasStarved (brings gives failed) unread (has_all gives failed) (ends_truly gives failed ended) (reads_left gives failed) old new) → CameWhere IsUnread gives failed old (joined k.pieces) new
+  starved_where k = came_where IsUnread gives failed old new k.pieces (all_came gives failed old new k.pieces k.came) (since_where IsUnread (joined k.pieces) k.needed)
 
   -- wherever the fault is placed
   pub source_fault : (fault placed : GamesFault) → IsFault (brings gives failed) unread (has_all gives failed) (ends_truly gives failed ended) (reads_left gives failed) (breaking gives failed) old new fault → HasKind fault placed → HasFault gives failed ended old new placed
   source_fault (Pgn fault) (Pgn placed) (inl k) e =
       let c = starved_where k.1 in
-      inl (e ∙ k.0, record { bytes = joined k.1.pieces; came = c.came; needed = c.asked; still = λ h. let s = k.1.still h in (s.0, s.2 s.1) })
+      inl (e ∙ k.0, record { bytes = joined k.1.pieces; came = c.came; needed = needed_of (unread old) c.came.pieces c.asked; ends = open_of (unread old) c.came.pieces c.asked; still = λ h. let s = k.1.still h in (s.0, s.2 s.1) })
   source_fault (Pgn fault) (Pgn placed) (inr h) e =
-      inr (fails_by h.needed)
-    where
-      fails : (c : Came gives failed old (joined h.pieces) new) → IsFlood h.items (unread old ++ joined h.pieces) ⊎ LastReadWhere (IsOpen h.items) (unread old) c.pieces → Fails gives failed ended old new
-      fails c needed = record { bytes = joined h.pieces; came = c; items = h.items; used = h.used; needed = needed; ended_so = h.sound_still; none = h.none; dark = h.dark; still = h.still }
-
-      fails_by : IsFlood h.items (unread old ++ joined h.pieces) ⊎ LastWhere (brings gives failed) unread (reads_left gives failed) (IsOpen h.items) old (joined h.pieces) new → Fails gives failed ended old new
-      fails_by (inl flood) = fails (all_came gives failed old new h.pieces h.came) (inl flood)
-      fails_by (inr w) = (let c = came_where (IsOpen h.items) gives failed old new h.pieces (all_came gives failed old new h.pieces h.came) w in fails c.came (inr c.asked))
+      let c = came_where EndsOpen gives failed old new h.pieces (all_came gives failed old new h.pieces h.came) (since_where EndsOpen (joined h.pieces) h.needed) in
+      inr (record { bytes = joined h.pieces; came = c.came; items = h.items; begins = h.begins; used = h.used; needed = c.asked; ended_so = h.sound_still; none = h.none; dark = h.dark; still = h.still })
   source_fault (Pgn fault) Read h e = absurd e
   source_fault Read (Pgn placed) h e = absurd e
   source_fault Read Read h e = record {
     breaks = record { bytes = joined h.pieces; before = h.mid; came = all_came gives failed old h.mid h.pieces h.came; breaks = h.breaks_off; not_ended = not_true h.mid.has_ended h.not_all; none = h.none };
-    within = elim h.within [
-      | inl long ↦ inl long
-      | inr w ↦ inr (record {
-        items = w.items;
-        used = λ more.
-            subst (λ (z : List ℕ). Spells GameStart z w.items (unread new ++ more)) (sym (append_assoc (unread old) (joined h.pieces) more))
-            (subst (λ (z : List ℕ). Spells GameStart (unread old ++ (joined h.pieces ++ more)) w.items (z ++ more)) (sym h.breaks_off.1) (w.used more));
-        undecided = λ d. w.undecided (subst (IsDecided (place_behind GameStart w.items)) h.breaks_off.1 d);
-      })
-    ];
+    within = subst (λ (z : List ℕ). EndsWithin (unread old ++ joined h.pieces) z) (sym h.breaks_off.1) h.within;
   }
 
   -- how far its items were used
-  left_there : (halt : Option Halt) → LeavesIn (brings gives failed) unread (has_all gives failed) old new halt → Leaves gives failed old new halt
+  left_there : (halt : Option Halt) → LeavesIn (brings gives failed) unread (has_all gives failed) (reads_left gives failed) old new halt → Leaves gives failed old new halt
   left_there (Some halt) l = l
   left_there None f = f
 
-  pub source_leaves : (A : Type 0) (halt : Option Halt) (fault placed : GamesFault) → HaltsAt {A = A} (brings gives failed) unread (has_all gives failed) old new halt (Err fault) → HasKind fault placed → GoesOn (Some placed) → Leaves gives failed old new halt
+  pub source_leaves : (A : Type 0) (halt : Option Halt) (fault placed : GamesFault) → HaltsAt {A = A} (brings gives failed) unread (has_all gives failed) (reads_left gives failed) old new halt (Err fault) → HasKind fault placed → GoesOn (Some placed) → Leaves gives failed old new halt
   source_leaves A halt (Pgn fault) (Pgn placed) (inl m) k on = absurd (on (k ∙ m))
   source_leaves A halt (Pgn fault) (Pgn placed) (inr l) k on = left_there halt l
   source_leaves A halt (Pgn fault) Read h k on = absurd k

@@ -66,7 +66,7 @@ white_stands (items.Blank b) e = (refl, refl, refl, refl)
 white_stands items.Hidden e = (refl, refl, refl, refl)
 white_stands _ e = absurd cc
 
-are_between : (is : List Item) → list_all is_white is ≡ true → AreBetween is
+pub are_between : (is : List Item) → list_all is_white is ≡ true → AreBetween is
 are_between [] e = tt
 are_between (i ∷ is) e = (let two = both_true (is_white i) (list_all is_white is) e in ((white_stands i two.0).0, are_between is two.1))
 

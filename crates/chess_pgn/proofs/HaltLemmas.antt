@@ -1,14 +1,16 @@
 -- How far the items of a bad game were used: no tag begins among them after movetext, and the reader knows whether that has begun.
-use Rattle.std.proofs.Common.{◌≡◌, ◌⊎◌, ℕ, ◌≤◌, Bool, true, false, ◌&&◌, ◌||◌, not, List, [], ◌∷◌, ◌++◌, Option, Some, Ok, refl, sym, ap, subst, ◌∙◌, arith}
+use Rattle.std.proofs.Common.{◌≡◌, ◌⊎◌, ℕ, ◌≤◌, Bool, true, false, ◌&&◌, ◌||◌, not, List, [], ◌∷◌, ◌++◌, Option, Some, Ok, refl, sym, ap, subst, ◌∙◌, arith, append_assoc}
 use Rattle.std.specs.Prelude.{IfSome, Result}
 use Rattle.std.specs.List.{list_all}
 use mathlib.Core.Logic.{inl, inr}
 use Rattle.byte_streams.specs.Calls.{Calls, joined}
-use Rattle.chess_items.specs.Abandoned.{HaltsIn, UsesAllIn, has_begun, is_bracket, is_one, moves_begin}
+use Rattle.chess_items.specs.Abandoned.{HaltsIn, MayUse, UsesAllIn, has_begun, is_bracket, is_one, moves_begin}
 use Rattle.chess_items.specs.Items as items
 use Rattle.chess_items.specs.Items.{Item, Spells, is_white, place_behind}
 use Rattle.chess_items.specs.steps.Passing.{NotWhite, Passed, Passes}
-use Rattle.chess_items.specs.steps.Taking.{AfterRun, Brackets, Ran, RanOver, Takes, Took}
+use Rattle.chess_items.specs.steps.Taking.{AfterRun, Asked, Brackets, Ran, RanOver, Takes, Took}
+use Rattle.chess_items.specs.steps.Deciding.{Decides}
+use Rattle.chess_items.specs.steps.Texts.{LastSince}
 use Rattle.chess_items.specs.declared.fault.FaultKind.{FaultKind}
 use Rattle.chess_items.specs.declared.fault.FaultKind.TheVariants.{Memory}
 use Rattle.chess_items.specs.declared.fault.PgnFault.{PgnFault}
@@ -20,6 +22,7 @@ use Rattle.chess_items.specs.declared.taker.Taken.TheVariants.{Ends as AtEnd, Go
 use Rattle.chess_items.specs.declared.taking.Stop.{Stop}
 use Rattle.chess_items.specs.declared.taking.Stop.TheVariants as stop
 use Rattle.chess_items.specs.declared.taking.Stopped.{Stopped}
+use Rattle.chess_items.proofs.DecideLemmas.{is_decided}
 use Rattle.chess_items.proofs.SkimLemmas.{skimmed_white}
 use Rattle.chess_items.proofs.TakingLemmas.{bare, few_after, spells_bare}
 use Rattle.chess_pgn.specs.Reading.{HasBegun, is_heading, is_movetext}
@@ -127,12 +130,32 @@ module _ {X A : Type 0} (comes : X → List ℕ → X → Type 0) (at_hand : X �
   abbrev takes : Reader A → ℕ → Item → Result Taken PgnFault → Reader A → Type 0
   takes s at item result v = TakesItem s item result v
 
+  -- the last read was made where the bytes before it don't decide the next item
+  asked_use : (came : List ℕ) (new : X) (is : List (ℕ × Item)) → Asked comes at_hand all sound reads takes 1048576 old came new t is → LastSince comes at_hand all reads MayUse old came new
+  asked_use came new is (inl same) = inl same
+  asked_use came new is (inr r) =
+      let begun = joined r.split.earlier in
+      inr (
+        r.not_yet,
+        r.split,
+        record {
+          items = bare r.items;
+          rest = r.rest;
+          spelled = λ more.
+              subst (λ (z : List ℕ). Spells GameStart z (bare r.items) (r.rest ++ more)) (sym (append_assoc (at_hand old) begun more))
+              (spells_bare 0 GameStart (at_hand old ++ (begun ++ more)) r.items (r.rest ++ more) (r.spelled more));
+          one = (one_game (bare r.items) r.last (progress_all [] r.items t r.last (progress_new t new_reader) r.taken)).0;
+          few = inr r.few;
+          undecided = λ d. r.undecided (subst (λ (p : Place). Decides p r.rest) (sym (behind_bare GameStart r.items)) (is_decided (place_behind GameStart (bare r.items)) r.rest d));
+        },
+      )
+
   module _ (pieces : List (List ℕ)) (new : X) (came : Calls comes old pieces new) (at : ℕ) (place : Place) (white : Bool) where
     abbrev halt : Halt
     halt = record { place = place; at = at; begun = u.moving; white = white }
 
-    halts_after : (is : List (ℕ × Item)) (r : Reader A) → Took comes at_hand all sound reads takes 1048576 old pieces new is at place white → Takes takes t is r → u.moving ≡ r.moving → HaltsIn comes at_hand all old new halt
-    halts_after is r took taken same =
+    halts_after : (is : List (ℕ × Item)) (r : Reader A) → Asked comes at_hand all sound reads takes 1048576 old (joined pieces) new t is → Took comes at_hand all sound reads takes 1048576 old pieces new is at place white → Takes takes t is r → u.moving ≡ r.moving → HaltsIn comes at_hand all reads old new halt
+    halts_after is r asked took taken same =
         let one = one_game (bare is) r (progress_all [] is t r (progress_new t new_reader) taken) in
         record {
           pieces = pieces;
@@ -145,6 +168,7 @@ module _ {X A : Type 0} (comes : X → List ℕ → X → Type 0) (at_hand : X �
           stands = took.stands ∙ behind_bare GameStart is;
           counted = (let c = took.counted in omega (arith, c));
           few = took.few;
+          asked = asked_use (joined pieces) new is asked;
           still = took.at_end;
         }
 
@@ -152,25 +176,25 @@ module _ {X A : Type 0} (comes : X → List ℕ → X → Type 0) (at_hand : X �
     moving_over mid (inl e) = ap (λ (r : Reader A). r.moving) e
     moving_over mid (inr b) = offered_still mid u b
 
-    halts_run : (why : Stop) (fault : PgnFault) → (fault.kind ≡ Memory → ⊥) → AfterRun comes at_hand all sound reads takes 1048576 old pieces new t u at place white why → Unanswered why u fault → HaltsIn comes at_hand all old new halt
+    halts_run : (why : Stop) (fault : PgnFault) → (fault.kind ≡ Memory → ⊥) → AfterRun comes at_hand all sound reads takes 1048576 old pieces new t u at place white why → Unanswered why u fault → HaltsIn comes at_hand all reads old new halt
     halts_run stop.Full fault kind r a = absurd (kind a)
     halts_run stop.Left fault kind r a = absurd (kind a)
-    halts_run (stop.Refused why) fault kind r a = halts_after r.items r.mid r.took r.taken r.answered.1
-    halts_run stop.End fault kind r a = halts_after r.items u r.took r.taken refl
-    halts_run stop.NoItem fault kind r a = halts_after r.items u r.took r.taken refl
-    halts_run stop.TooLarge fault kind r a = halts_after r.items r.mid r.took r.taken (moving_over r.mid r.exceeds.same)
+    halts_run (stop.Refused why) fault kind r a = halts_after r.items r.mid r.asked r.took r.taken r.answered.1
+    halts_run stop.End fault kind r a = halts_after r.items u r.asked r.took r.taken refl
+    halts_run stop.NoItem fault kind r a = halts_after r.items u r.asked r.took r.taken refl
+    halts_run stop.TooLarge fault kind r a = halts_after r.items r.mid r.asked r.took r.taken (moving_over r.mid r.exceeds.same)
 
   module _ (s : Stopped) (mid new : X) (r : Ran comes at_hand all sound reads takes 1048576 old mid t u (Ok s)) (w : NotWhite comes at_hand all sound reads takes s mid new) where
     over : RanOver comes at_hand all sound reads takes 1048576 old r.pieces mid t u s.at s.place s.white
     over = subst (λ (y : Stop). AfterRun comes at_hand all sound reads takes 1048576 old r.pieces mid t u s.at s.place s.white y) w.over r.after
 
-    flooded : UsesAllIn comes at_hand all old new
+    flooded : UsesAllIn comes at_hand all reads old new
     flooded =
-        let halts = halts_after r.pieces mid r.came s.at s.place s.white over.items over.mid over.took over.taken (moving_over r.pieces mid r.came s.at s.place s.white over.mid over.exceeds.same) in
+        let halts = halts_after r.pieces mid r.came s.at s.place s.white over.items over.mid over.asked over.took over.taken (moving_over r.pieces mid r.came s.at s.place s.white over.mid over.exceeds.same) in
         skimmed_white comes at_hand all sound reads old mid s.place s.at (record { begun = u.moving }) s.white halts w.white over.exceeds.over new w.skipped
 
   pub leaves_come : (new : X) (found : Option Stopped) (s : Stopped) (fault : PgnFault) → Passes comes at_hand all sound reads takes 1048576 old new t u (Ok found) → found ≡ Some s → Unanswered s.why u fault
-      → (fault.kind ≡ Memory) ⊎ LeavesIn comes at_hand all old new (halt_at (is_flood s.why s.white) (record { place = s.place; at = s.at; begun = u.moving; white = s.white }))
+      → (fault.kind ≡ Memory) ⊎ LeavesIn comes at_hand all reads old new (halt_at (is_flood s.why s.white) (record { place = s.place; at = s.at; begun = u.moving; white = s.white }))
   leaves_come new found s fault h e a = by (is_memory fault.kind)
     where
       here : Halt
@@ -186,13 +210,13 @@ module _ {X A : Type 0} (comes : X → List ℕ → X → Type 0) (at_hand : X �
       p : Passed comes at_hand all sound reads takes 1048576 old new t u s
       p = subst (λ (o : Option Stopped). Passes comes at_hand all sound reads takes 1048576 old new t u (Ok o)) e h
 
-      by : (fault.kind ≡ Memory) ⊎ (fault.kind ≡ Memory → ⊥) → (fault.kind ≡ Memory) ⊎ LeavesIn comes at_hand all old new (halt_at (is_flood s.why s.white) here)
+      by : (fault.kind ≡ Memory) ⊎ (fault.kind ≡ Memory → ⊥) → (fault.kind ≡ Memory) ⊎ LeavesIn comes at_hand all reads old new (halt_at (is_flood s.why s.white) here)
       by (inl k) = inl k
       by (inr k) = inr (elim p.after [
         | inl same ↦
-            subst (λ (b : Bool). LeavesIn comes at_hand all old new (halt_at b here)) (sym (dry s.why s.white same.1))
-            (subst (λ (x : X). HaltsIn comes at_hand all old x here) (sym same.0) (halts_run p.ran.pieces p.mid p.ran.came s.at s.place s.white s.why fault k p.ran.after a))
-        | inr w ↦ subst (λ (b : Bool). LeavesIn comes at_hand all old new (halt_at b here)) (sym (flood w.over w.white)) (flooded s p.mid new p.ran w)
+            subst (λ (b : Bool). LeavesIn comes at_hand all reads old new (halt_at b here)) (sym (dry s.why s.white same.1))
+            (subst (λ (x : X). HaltsIn comes at_hand all reads old x here) (sym same.0) (halts_run p.ran.pieces p.mid p.ran.came s.at s.place s.white s.why fault k p.ran.after a))
+        | inr w ↦ subst (λ (b : Bool). LeavesIn comes at_hand all reads old new (halt_at b here)) (sym (flood w.over w.white)) (flooded s p.mid new p.ran w)
       ])
 
   pub few_come : (new : X) (found : Option Stopped) (s : Stopped) → Passes comes at_hand all sound reads takes 1048576 old new t u (Ok found) → found ≡ Some s → IfSome (halt_at (is_flood s.why s.white) (record { place = s.place; at = s.at; begun = u.moving; white = s.white })) (λ halt. halt.at ≤ 1048576)

@@ -31,6 +31,7 @@ pub mod NoGameLemmas
 pub mod UndecidedLemmas
 pub mod AnswerLemmas
 pub mod DarkLemmas
+pub mod MayBeginLemmas
 pub mod StopLemmas
 pub mod HaltLemmas
 pub mod RespaceLemmas

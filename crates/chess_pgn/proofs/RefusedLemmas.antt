@@ -67,7 +67,7 @@ parted p (a ∷ xs) x more (i ∷ prefix) tail e h s =
     same : {is : List Item} → prefix ≡ is → i ∷ prefix ≡ a ∷ is
     same {is} k = ap (λ (z : Item). z ∷ prefix) (sym (first_is a i (xs ++ x ∷ more) (prefix ++ tail) e)) ∙ ap (λ (z : List Item). a ∷ z) k
 
-elements_both : (xs bs : List Item) → elements (xs ++ bs) ≡ elements xs ++ elements bs
+pub elements_both : (xs bs : List Item) → elements (xs ++ bs) ≡ elements xs ++ elements bs
 elements_both [] bs = refl
 elements_both (a ∷ xs) bs = ap (λ (z : List Element). element a ++ z) (elements_both xs bs) ∙ sym (append_assoc (element a) (elements xs) (elements bs))
 

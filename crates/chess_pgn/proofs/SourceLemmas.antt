@@ -5,7 +5,7 @@ use mathlib.Core.Logic.{inl, inr}
 use Rattle.std.specs.Prelude.{Result, Ok, Err, Option, Some, None, IfErr, IfOk, IfSome}
 use Rattle.byte_streams.specs.Calls.{Calls, joined}
 use Rattle.chess_items.specs.Items.{Item, Spells, is_white, place_after}
-use Rattle.chess_items.specs.Abandoned.{GivesUpFrom, Halts}
+use Rattle.chess_items.specs.Abandoned.{GivesUpFrom, GivesUpInPart as UsesInPart, Halts}
 use Rattle.chess_items.specs.Coming.{AtHand, unread}
 use Rattle.chess_items.specs.Sections.{PassesOver}
 use Rattle.chess_items.specs.declared.at_hand.Fault.{Fault}
@@ -16,14 +16,15 @@ use Rattle.chess_items.specs.declared.place.Place.{Place}
 use Rattle.chess_items.specs.declared.place.Place.TheVariants.{GameStart}
 use Rattle.chess_items.proofs.FoundLemmas.{some_is}
 use Rattle.chess_items.proofs.BreakLemmas.{all_came, brings, has_all, reads_left}
-use Rattle.chess_items.proofs.GiveUpLemmas.{gives_up_all}
+use Rattle.chess_items.proofs.GiveUpLemmas.{gives_up_all, sought_part}
 use Rattle.chess_items.proofs.LastLemmas.{came_where}
 use Rattle.chess_items.proofs.LocalLemmas.{text_shorter}
 use Rattle.chess_pgn.specs.Games as games
 use Rattle.chess_pgn.specs.Reading.{BeginsWithGame, HasNoGameYet, IsWhite}
-use Rattle.chess_pgn.specs.Sources.{Games, GivesUp, GoesOn, HasFault, HasGame, HasNone, IsPlaced, IsSound, Leaves, NextGame, NotGivenUp, ReadsNext, seeks}
+use Rattle.chess_pgn.specs.Sources.{Games, GivesUp, GivesUpInPart, GoesOn, HasFault, HasGame, HasNone, IsPlaced, IsSound, Leaves, NextGame, NotGivenUp, ReadsNext, seeks}
 use Rattle.chess_pgn.specs.steps.GameAt.{FoundGame, HasCome, NoneCame}
 use Rattle.chess_pgn.specs.steps.GameCode.{game_of}
+use Rattle.chess_pgn.specs.steps.Next.{HasKind}
 use Rattle.chess_pgn.specs.declared.game.Game.{Game}
 use Rattle.chess_pgn.specs.declared.games.GamesFault.{GamesFault}
 use Rattle.chess_pgn.specs.declared.games.GamesFault.TheVariants.{Pgn, Read}
@@ -193,9 +194,24 @@ module _ {R E : Type 0} (gives : R → List ℕ → R → Type 0) (failed : R �
   gives_up before (Some fault) None passes up why is leaves = if_ok (λ count. PassesOver gives failed old new count) (GivesUp gives failed before new) (λ count p. (new.used - before.used, gives_up_all gives failed before old new leaves count p)) result (passes refl)
   gives_up before (Some fault) (Some h) passes up why is leaves = if_ok (λ count. GivesUpFrom gives failed before new (h.at + count)) (GivesUp gives failed before new) (λ count p. (h.at + count, p)) result (up h before refl leaves)
 
+-- a bad game that can't be given up
+module _ {R : Type 0} (gives : R → List ℕ → R → Type 0) (failed : R → Bool) (old new : AtHand R) (off : Fault) where
+  pub in_part : (before : AtHand R) (fault : Option GamesFault) (halt : Option Halt) → (seeks fault halt ≡ None → SeekBreaks gives failed old new off)
+      → ((h : Halt) (before : AtHand R) → seeks fault halt ≡ Some h → Halts gives failed before old h → UsesInPart gives failed before new off) → (why : GamesFault) → fault ≡ Some why → Leaves gives failed before old halt → UsesInPart gives failed before new off
+  in_part before None halt stops part why is leaves = absurd (let e = is in cc)
+  in_part before (Some fault) None stops part why is leaves = sought_part gives failed before old leaves new off (stops refl)
+  in_part before (Some fault) (Some h) stops part why is leaves = part h before refl leaves
+
+-- wherever the fault is placed
+pub part_placed : {R : Type 0} (gives : R → List ℕ → R → Type 0) (failed : R → Bool) (before new : AtHand R) (fault placed : GamesFault) → HasKind fault placed → GivesUpInPart gives failed before new fault → GivesUpInPart gives failed before new placed
+part_placed gives failed before new (Pgn fault) (Pgn placed) e h = (e ∙ h.0, h.1)
+part_placed gives failed before new (Pgn fault) Read e h = absurd e
+part_placed gives failed before new Read (Pgn placed) e h = absurd e
+part_placed gives failed before new Read Read e h = h
+
 -- a search that broke off
 pub seek_off : {R : Type 0} (gives : R → List ℕ → R → Type 0) (failed : R → Bool) (old new : AtHand R) (fault : Fault) → SeekBreaks gives failed old new fault → GiveUpBreaks gives failed old new fault
-seek_off gives failed old new off.Memory b = b
+seek_off gives failed old new off.Memory b = (b.bytes, b.came)
 seek_off gives failed old new off.Read b = record { bytes = b.bytes; before = b.before; came = b.came; breaks = b.breaks; not_ended = b.not_ended; none = tt }
 
 pub seek_broken : {R : Type 0} (gives : R → List ℕ → R → Type 0) (failed : R → Bool) (old new : AtHand R) (result : Result ℕ Fault) → IfErr result (λ fault. SeekBreaks gives failed old new fault) → IfErr result (λ fault. GiveUpBreaks gives failed old new fault)

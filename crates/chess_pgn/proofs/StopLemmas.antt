@@ -1,5 +1,6 @@
 -- Why the reading of a game stops with a fault: no game is there, whatever follows.
-use Rattle.std.proofs.Common.{◌≡◌, ◌⊎◌, ◌<◌, ℕ, ◌+◌, ◌-◌, Bool, false, List, [], ◌∷◌, ◌++◌, length, Option, Some, None, Ok, Err, refl, sym, ap, subst, ◌∙◌, arith, append_assoc, append-nil, length-append}
+use Rattle.std.proofs.Common.{◌≡◌, ◌⊎◌, ◌<◌, ◌≤◌, ℕ, ◌+◌, ◌-◌, Bool, true, false, List, [], ◌∷◌, ◌++◌, length, Option, Some, None, Ok, Err, refl, sym, ap, subst, ◌∙◌, arith, append_assoc, append-nil, length-append}
+use Rattle.std.specs.List.{list_all}
 use Rattle.std.specs.Prelude.{Result}
 use mathlib.Core.Logic.{inl, inr}
 use Rattle.byte_streams.specs.Calls.{Calls, joined}
@@ -8,9 +9,10 @@ use Rattle.chess_items.specs.Items as items
 use Rattle.chess_items.specs.Items.{Item, Spells, is_white, place_behind}
 use Rattle.chess_items.specs.steps.ItemAt.{item_at}
 use Rattle.chess_items.specs.steps.Deciding.{Decides}
-use Rattle.chess_items.specs.steps.Passing.{NotWhite, PassBreaks, Passed, Passes, WhiteBroke}
+use Rattle.chess_items.specs.steps.Passing.{NotWhite, PassBreaks, Passed, Passes}
+use Rattle.chess_items.specs.steps.Skipping.{MaySkip}
 use Rattle.chess_items.specs.steps.Taking.{AfterRun, Asked, Ran, RanAground, RanOut, RanOver, RanUpTo, RunBroke, Takes, Took}
-use Rattle.chess_items.specs.steps.Texts.{LastWhere, Oversized}
+use Rattle.chess_items.specs.steps.Texts.{BrokeWhile, LastSince, Oversized, ShortWhile}
 use Rattle.chess_items.specs.declared.at_hand.Fault.TheVariants.{Read, Memory as Short}
 use Rattle.chess_items.specs.declared.fault.PgnFault.{PgnFault}
 use Rattle.chess_items.specs.declared.fault.FaultKind.{FaultKind}
@@ -21,20 +23,22 @@ use Rattle.chess_items.specs.declared.taker.Taken.{Taken}
 use Rattle.chess_items.specs.declared.taking.Stop.{Stop}
 use Rattle.chess_items.specs.declared.taking.Stop.TheVariants as stop
 use Rattle.chess_items.specs.declared.taking.Stopped.{Stopped}
-use Rattle.chess_items.proofs.DecidedLemmas.{is_decided, not_decided}
+use Rattle.chess_items.proofs.AskedLemmas.{since_on}
+use Rattle.chess_items.proofs.BlankLemmas.{place_on, white_join}
+use Rattle.chess_items.proofs.DecideLemmas.{is_decided}
 use Rattle.chess_items.proofs.FoundLemmas.{the}
-use Rattle.chess_items.proofs.SkimLemmas.{white_join}
 use Rattle.chess_items.proofs.SpellLemmas.{spells_on}
 use Rattle.chess_items.proofs.TakingLemmas.{bare, ended_after, spells_bare}
 use Rattle.chess_pgn.specs.Games.{Game}
-use Rattle.chess_pgn.specs.Reading.{HasNoGameYet, BeginsWithGame, IsWhite}
-use Rattle.chess_pgn.specs.Sources.{IsOpen}
-use Rattle.chess_pgn.specs.steps.GameAt.{Beyond, EndsWithin, HasBroken, HasStarved, NotCome, ReadsNeeded}
+use Rattle.chess_pgn.specs.Reading.{HasNoGameYet, BeginsWithGame, IsWhite, MayBegin}
+use Rattle.chess_pgn.specs.Sources.{EndsOpen, EndsWithin}
+use Rattle.chess_pgn.specs.steps.GameAt.{HasBroken, HasStarved, IsUnread, NotCome}
 use Rattle.chess_pgn.specs.steps.ReaderCode.{IsNew, MayNotEnd, TakesItem, Unanswered}
 use Rattle.chess_pgn.specs.declared.reader.Reader.{Reader}
 use Rattle.chess_pgn.proofs.ChainLemmas.{Progress, progress_all, progress_new}
 use Rattle.chess_pgn.proofs.DarkLemmas.{dark_aground, dark_beyond, dark_refused, dark_taken}
-use Rattle.chess_pgn.proofs.FrontLemmas.{asked_needed, behind_bare, whites_bare}
+use Rattle.chess_pgn.proofs.FrontLemmas.{behind_bare, whites_bare}
+use Rattle.chess_pgn.proofs.MayBeginLemmas.{may_begin, white_begins}
 use Rattle.chess_pgn.proofs.NoGameLemmas.{none_aground, none_out, none_over, none_refused}
 use Rattle.chess_pgn.proofs.UndecidedLemmas.{undecided_none}
 
@@ -58,38 +62,58 @@ module _ {X A : Type 0} (comes : X → List ℕ → X → Type 0) (at_hand : X �
   -- the items that are used where the reading stops with a fault
   record IsStopped (pieces : List (List ℕ)) (new : X) (at : ℕ) (place : Place) (white : Bool) : Type 0 where
     pub items : List (ℕ × Item)
+    pub begins : MayBegin (bare items)
     pub took : Took comes at_hand all sound reads takes limit old pieces new items at place white
     pub asked : Asked comes at_hand all sound reads takes limit old (joined pieces) new t items
+
+  begins_so : (is : List (ℕ × Item)) (r : Reader A) → Takes takes t is r → MayBegin (bare is)
+  begins_so is r k = may_begin (bare is) r (progress_all [] is t r (progress_new t new_reader) k)
 
   stopped_at : (pieces : List (List ℕ)) (new : X) (at : ℕ) (place : Place) (white : Bool) (why : Stop) (fault : PgnFault) → (fault.kind ≡ Memory → ⊥) → AfterRun comes at_hand all sound reads takes limit old pieces new t u at place white why → Unanswered why u fault
       → IsStopped pieces new at place white
   stopped_at pieces new at place white stop.Full fault kind r a = absurd (kind a)
   stopped_at pieces new at place white stop.Left fault kind r a = absurd (kind a)
-  stopped_at pieces new at place white _ fault kind r a = record { items = r.items; took = r.took; asked = r.asked }
+  stopped_at pieces new at place white (stop.Refused why) fault kind r a = record { items = r.items; begins = begins_so r.items r.mid r.taken; took = r.took; asked = r.asked }
+  stopped_at pieces new at place white stop.End fault kind r a = record { items = r.items; begins = begins_so r.items u r.taken; took = r.took; asked = r.asked }
+  stopped_at pieces new at place white stop.NoItem fault kind r a = record { items = r.items; begins = begins_so r.items u r.taken; took = r.took; asked = r.asked }
+  stopped_at pieces new at place white stop.TooLarge fault kind r a = record { items = r.items; begins = begins_so r.items r.mid r.taken; took = r.took; asked = r.asked }
 
-  -- whatever it stops with
-  run_needed : (pieces : List (List ℕ)) (new : X) (at : ℕ) (place : Place) (white : Bool) (why : Stop) → AfterRun comes at_hand all sound reads takes limit old pieces new t u at place white why → ReadsNeeded comes at_hand all reads old (joined pieces) new
-  run_needed pieces new at place white stop.Full r = asked_needed comes at_hand all sound reads old t new_reader (joined pieces) new r.items r.asked
-  run_needed pieces new at place white _ r = asked_needed comes at_hand all sound reads old t new_reader (joined pieces) new r.items r.asked
+  -- some bytes end within an item after these
+  pub open_at : (is : List (ℕ × Item)) (r : Reader A) → Takes takes t is r → (begun rest : List ℕ) → ((more : List ℕ) → Spells GameStart (begun ++ more) (bare is) (rest ++ more)) → length begun ≤ limit → (Decides (place_behind GameStart (bare is)) rest → ⊥) → EndsOpen begun
+  open_at is r taken begun rest spelled few undecided = record {
+    items = bare is;
+    begins = begins_so is r taken;
+    rest = rest;
+    spelled = spelled;
+    few = inl few;
+    undecided = λ d. undecided (is_decided (place_behind GameStart (bare is)) rest d);
+  }
 
-  bare_both : (is ks : List (ℕ × Item)) → bare (is ++ ks) ≡ bare is ++ bare ks
-  bare_both [] ks = refl
-  bare_both (x ∷ is) ks = ap (λ (z : List Item). x.1 ∷ z) (bare_both is ks)
-
-  -- the bytes before the last read don't decide the items and what comes after them
-  asked_open : (came : List ℕ) (new : X) (is : List (ℕ × Item)) → Asked comes at_hand all sound reads takes limit old came new t is → LastWhere comes at_hand reads (IsOpen (bare is)) old came new
-  asked_open came new is (inl same) = inl same
-  asked_open came new is (inr r) =
+  -- so do those before the last read, and they have no one game
+  pub asked_both : (came : List ℕ) (new : X) (is : List (ℕ × Item)) → Asked comes at_hand all sound reads takes limit old came new t is → LastSince comes at_hand all reads IsUnread old came new
+  asked_both came new is (inl same) = inl same
+  asked_both came new is (inr r) =
       let begun = joined r.split.earlier in
+      let spelled : (more : List ℕ) → Spells GameStart ((at_hand old ++ begun) ++ more) (bare r.items) (r.rest ++ more) =
+      λ more. subst (λ (z : List ℕ). Spells GameStart z (bare r.items) (r.rest ++ more)) (sym (append_assoc (at_hand old) begun more)) (spells_bare 0 GameStart (at_hand old ++ (begun ++ more)) r.items (r.rest ++ more) (r.spelled more)) in
+      let undecided = subst (λ (p : Place). Decides p r.rest → ⊥) (behind_bare GameStart r.items) r.undecided in
       inr (
+        r.not_yet,
         r.split,
         (
-          r.few,
-          not_decided (at_hand old ++ begun) (bare r.items) r.rest
-              (λ more. subst (λ (z : List ℕ). Spells GameStart z (bare r.items) (r.rest ++ more)) (sym (append_assoc (at_hand old) begun more)) (spells_bare 0 GameStart (at_hand old ++ (begun ++ more)) r.items (r.rest ++ more) (r.spelled more)))
-              (subst (λ (p : Place). Decides p r.rest → ⊥) (behind_bare GameStart r.items) r.undecided) (bare is) (bare r.others) (ap bare r.front ∙ bare_both r.items r.others),
+          (λ g n x. undecided_none (bare r.items) r.last (progress_all [] r.items t r.last (progress_new t new_reader) r.taken) (at_hand old ++ begun) r.rest spelled undecided g n x),
+          open_at r.items r.last r.taken (at_hand old ++ begun) r.rest spelled r.few undecided,
         ),
       )
+
+  since_open : (came : List ℕ) (new : X) → LastSince comes at_hand all reads IsUnread old came new → LastSince comes at_hand all reads EndsOpen old came new
+  since_open came new (inl same) = inl same
+  since_open came new (inr l) = inr (l.0, l.1, l.2.1)
+
+  -- whatever it stops with
+  run_both : (pieces : List (List ℕ)) (new : X) (at : ℕ) (place : Place) (white : Bool) (why : Stop) → AfterRun comes at_hand all sound reads takes limit old pieces new t u at place white why → LastSince comes at_hand all reads IsUnread old (joined pieces) new
+  run_both pieces new at place white stop.Full r = asked_both (joined pieces) new r.items r.asked
+  run_both pieces new at place white _ r = asked_both (joined pieces) new r.items r.asked
 
   module _ (pieces : List (List ℕ)) (new : X) (at : ℕ) (place : Place) (white : Bool) (more : List ℕ) (none : all new → more ≡ []) where
     abbrev whole : List ℕ
@@ -166,6 +190,44 @@ module _ {X A : Type 0} (comes : X → List ℕ → X → Type 0) (at_hand : X �
           dark_beyond (bare r.items) ks whole rest last (spelled r.items r.took) (subst (λ (p : Place). Spells p rest ks last) (there r.items r.took) s) w
           (λ item next e. other item next (subst (λ (p : Place). item_at (place_behind p ks) last ≡ the item next) (sym (there r.items r.took)) e)) some
 
+  -- white space beyond the limit
+  module _ (pieces : List (List ℕ)) (mid : X) (at : ℕ) (place : Place) (white : Bool) (over : RanOver comes at_hand all sound reads takes limit old pieces mid t u at place white) (is_white_all : white ≡ true) where
+    abbrev pub white_items : list_all is_white (bare over.items) ≡ true
+    white_items = sym (whites_bare over.items) ∙ sym over.took.whites ∙ is_white_all
+
+    module _ (begun : List ℕ) (not_yet : all mid → ⊥) (q : MaySkip place (at_hand mid ++ begun)) where
+      abbrev pub open_white : EndsOpen (at_hand old ++ (joined pieces ++ begun))
+      open_white = record {
+        items = bare over.items ++ q.items;
+        begins = white_begins (bare over.items ++ q.items) (white_join (bare over.items) q.items white_items q.white);
+        rest = q.rest;
+        spelled = λ more.
+            spells_on GameStart ((at_hand old ++ (joined pieces ++ begun)) ++ more) (bare over.items) q.items (at_hand mid ++ (begun ++ more)) (q.rest ++ more)
+            (subst (λ (z : List ℕ). Spells GameStart z (bare over.items) (at_hand mid ++ (begun ++ more)))
+            (ap (λ (z : List ℕ). at_hand old ++ z) (sym (append_assoc (joined pieces) begun more)) ∙ sym (append_assoc (at_hand old) (joined pieces ++ begun) more))
+            (spells_bare 0 GameStart (at_hand old ++ (joined pieces ++ (begun ++ more))) over.items (at_hand mid ++ (begun ++ more)) (over.took.spelled (begun ++ more) (λ e. absurd (not_yet e)))))
+            (subst (λ (p : Place). Spells p (at_hand mid ++ (begun ++ more)) q.items (q.rest ++ more)) (over.took.stands ∙ behind_bare GameStart over.items)
+            (subst (λ (z : List ℕ). Spells place z q.items (q.rest ++ more)) (append_assoc (at_hand mid) begun more) (q.spelled more)));
+        few = inr (white_join (bare over.items) q.items white_items q.white);
+        undecided = λ d.
+            q.undecided (subst (λ (p : Place). Decides p q.rest) (place_on GameStart (bare over.items) q.items ∙ ap (λ (p : Place). place_behind p q.items) (sym (over.took.stands ∙ behind_bare GameStart over.items)))
+            (is_decided (place_behind GameStart (bare over.items ++ q.items)) q.rest d));
+      }
+
+      pub none_white : HasNoGameYet (at_hand old ++ (joined pieces ++ begun))
+      none_white g n x = run_over pieces mid at place white begun (λ e. absurd (not_yet e)) g n (subst (λ (z : List ℕ). BeginsWithGame z g n) (append-nil (at_hand old ++ (joined pieces ++ begun))) (x [])) over
+
+      pub both_white : IsUnread (at_hand old ++ (joined pieces ++ begun))
+      both_white = (none_white, open_white)
+
+    pub white_long : (begun : List ℕ) → limit < length (at_hand old ++ (joined pieces ++ begun))
+    white_long begun =
+        let n = (over.exceeds.over [] (λ e. refl)).0 in
+        let m = length-append (at_hand mid) [] in
+        let c = length-append (at_hand old) (joined pieces ++ begun) in
+        let d = length-append (joined pieces) begun in
+        omega (arith, n, m, c, d, over.took.counted)
+
   module _ (s : Stopped) (fault : PgnFault) (kind : fault.kind ≡ Memory → ⊥) (a : Unanswered s.why u fault) (mid : X) (r : Ran comes at_hand all sound reads takes limit old mid t u (Ok s)) where
     still_there : all old → (joined r.pieces ≡ []) × all mid
     still_there = ended_after comes at_hand all sound reads takes limit old t mid u r.pieces s.at s.place s.white s.why r.after
@@ -179,8 +241,9 @@ module _ {X A : Type 0} (comes : X → List ℕ → X → Type 0) (at_hand : X �
       pieces = r.pieces;
       came = r.came;
       items = bare here.items;
+      begins = here.begins;
       used = λ more none. spells_bare 0 GameStart (at_hand old ++ (joined r.pieces ++ more)) here.items (at_hand mid ++ more) (here.took.spelled more none);
-      needed = inr (asked_open (joined r.pieces) mid here.items here.asked);
+      needed = since_open (joined r.pieces) mid (asked_both (joined r.pieces) mid here.items here.asked);
       sound_still = well;
       none = λ more none g n x. run_none r.pieces mid s.at s.place s.white more none g n x s.why fault kind r.after a;
       dark = λ more none w. run_dark r.pieces mid s.at s.place s.white more none w s.why fault kind r.after a end over;
@@ -200,19 +263,15 @@ module _ {X A : Type 0} (comes : X → List ℕ → X → Type 0) (at_hand : X �
           pieces = pieces;
           came = Calls-append comes old mid new r.pieces k.pieces r.came k.came;
           items = bare over.items ++ k.items;
+          begins = white_begins (bare over.items ++ k.items) (white_join (bare over.items) k.items (sym (whites_bare over.items) ∙ sym over.took.whites ∙ w.white) k.white);
           used = λ more none.
               subst (λ (z : List ℕ). Spells GameStart z (bare over.items ++ k.items) (at_hand new ++ more)) (sym (regroup more))
               (spells_on GameStart _ (bare over.items) k.items (at_hand mid ++ (joined k.pieces ++ more)) (at_hand new ++ more)
               (spells_bare 0 GameStart _ over.items _ (over.took.spelled (joined k.pieces ++ more) (none_before more none)))
               (subst (λ (p : Place). Spells p (at_hand mid ++ (joined k.pieces ++ more)) k.items (at_hand new ++ more)) (over.took.stands ∙ behind_bare GameStart over.items) (k.spelled more none)));
-          needed = inl (
-            white_join (bare over.items) k.items (sym (whites_bare over.items) ∙ sym over.took.whites ∙ w.white) k.white,
-            (let n = (over.exceeds.over [] (λ e. refl)).0 in
-                let m = length-append (at_hand mid) [] in
-                let c = length-append (at_hand old) (joined pieces) in
-                let d = ap length (joined-append r.pieces k.pieces) ∙ length-append (joined r.pieces) (joined k.pieces) in
-                omega (arith, n, m, c, d, over.took.counted)),
-          );
+          needed =
+              since_on comes at_hand all reads EndsOpen old mid r.pieces r.came (λ e. (still_there e).1) k.pieces new k.came (MaySkip s.place) k.asked (open_white r.pieces mid s.at s.place s.white over w.white)
+              (since_open (joined r.pieces) mid (asked_both (joined r.pieces) mid over.items over.asked));
           sound_still = well;
           none = λ more none g n x.
               run_none r.pieces mid s.at s.place s.white (joined k.pieces ++ more) (none_before more none) g n (subst (λ (z : List ℕ). BeginsWithGame z g n) (regroup more) x) s.why fault kind r.after a;
@@ -225,22 +284,6 @@ module _ {X A : Type 0} (comes : X → List ℕ → X → Type 0) (at_hand : X �
         over : RanOver comes at_hand all sound reads takes limit old r.pieces mid t u s.at s.place s.white
         over = subst (λ (y : Stop). AfterRun comes at_hand all sound reads takes limit old r.pieces mid t u s.at s.place s.white y) w.over r.after
 
-  -- beyond the limit no game is there in any case
-  beyond : (s : Stopped) (mid : X) (r : Ran comes at_hand all sound reads takes limit old mid t u (Ok s)) → s.why ≡ stop.TooLarge → (others : List (List ℕ)) (new : X) → Calls comes mid others new → (all mid → joined others ≡ []) → Beyond comes at_hand all reads old new (r.pieces ++ others)
-  beyond s mid r over others new later still = record {
-    first = r.pieces;
-    mid = mid;
-    came = r.came;
-    others = others;
-    later = later;
-    parts = refl;
-    still = still;
-    needed = run_needed r.pieces mid s.at s.place s.white s.why r.after;
-    none = λ more none g n x.
-        run_over r.pieces mid s.at s.place s.white more none g n (subst (λ (z : List ℕ). BeginsWithGame z g n) (append-nil (at_hand old ++ (joined r.pieces ++ more))) (x []))
-        (subst (λ (y : Stop). AfterRun comes at_hand all sound reads takes limit old r.pieces mid t u s.at s.place s.white y) over r.after);
-  }
-
   module _ (s : Stopped) (new : X) (p : Passed comes at_hand all sound reads takes limit old new t u s) (well : sound new) where
     still_mid : all old → (joined p.ran.pieces ≡ []) × all p.mid
     still_mid = ended_after comes at_hand all sound reads takes limit old t p.mid u p.ran.pieces s.at s.place s.white s.why p.ran.after
@@ -251,13 +294,16 @@ module _ {X A : Type 0} (comes : X → List ℕ → X → Type 0) (at_hand : X �
       | inl same ↦ record {
         pieces = p.ran.pieces;
         came = subst (λ (x : X). Calls comes old p.ran.pieces x) (sym same.0) p.ran.came;
-        needed = inl (subst (λ (x : X). ReadsNeeded comes at_hand all reads old (joined p.ran.pieces) x) (sym same.0) (run_needed p.ran.pieces p.mid s.at s.place s.white s.why p.ran.after));
+        needed = subst (λ (x : X). LastSince comes at_hand all reads IsUnread old (joined p.ran.pieces) x) (sym same.0) (run_both p.ran.pieces p.mid s.at s.place s.white s.why p.ran.after);
         still = λ h. ((still_mid h).0, subst all (sym same.0) (still_mid h).1, well);
       }
       | inr w ↦ record {
         pieces = p.ran.pieces ++ w.skipped.pieces;
         came = Calls-append comes old p.mid new p.ran.pieces w.skipped.pieces p.ran.came w.skipped.came;
-        needed = inr (beyond s p.mid p.ran w.over w.skipped.pieces new w.skipped.came (λ e. (w.skipped.still e).0));
+        needed =
+            since_on comes at_hand all reads IsUnread old p.mid p.ran.pieces p.ran.came (λ e. (still_mid e).1) w.skipped.pieces new w.skipped.came (MaySkip s.place) w.skipped.asked
+            (both_white p.ran.pieces p.mid s.at s.place s.white (subst (λ (y : Stop). AfterRun comes at_hand all sound reads takes limit old p.ran.pieces p.mid t u s.at s.place s.white y) w.over p.ran.after) w.white)
+            (run_both p.ran.pieces p.mid s.at s.place s.white s.why p.ran.after);
         still = λ h. let b = still_mid h in (joined-append p.ran.pieces w.skipped.pieces ∙ ap (λ (z : List ℕ). z ++ joined w.skipped.pieces) b.0 ∙ (w.skipped.still b.1).0, (w.skipped.still b.1).1, well);
       }
     ]
@@ -293,51 +339,59 @@ module _ {X A : Type 0} (comes : X → List ℕ → X → Type 0) (at_hand : X �
       (λ more. subst (λ (z : List ℕ). Spells GameStart z (bare r.items) (at_hand r.mid ++ more)) (front_is r.pieces more) (spells_bare 0 GameStart (at_hand old ++ (joined r.pieces ++ more)) r.items (at_hand r.mid ++ more) (r.took.spelled more (ended more))))
       (subst (λ (p : Place). Decides p (at_hand r.mid) → ⊥) (r.took.stands ∙ behind_bare GameStart r.items) r.undecided) g n x
 
-  run_within : (r : RunBroke comes at_hand all sound reads takes_item 1048576 breaks old new t) → EndsWithin comes at_hand all sound reads old r.pieces r.mid
+  run_within : (r : RunBroke comes at_hand all sound reads takes_item 1048576 breaks old new t) → EndsWithin (at_hand old ++ joined r.pieces) (at_hand r.mid)
+  unfolding open_at
   run_within r = record {
-    items = bare r.items;
-    used = λ more. spells_bare 0 GameStart (at_hand old ++ (joined r.pieces ++ more)) r.items (at_hand r.mid ++ more) (r.took.spelled more (λ e. absurd (r.not_all e)));
-    undecided = λ d. r.undecided (subst (λ (p : Place). Decides p (at_hand r.mid)) (sym (r.took.stands ∙ behind_bare GameStart r.items)) (is_decided (place_behind GameStart (bare r.items)) (at_hand r.mid) d));
+    ends = open_at comes at_hand all sound reads old t t new_reader r.items r.last r.taken (at_hand old ++ joined r.pieces) (at_hand r.mid)
+        (λ more. subst (λ (z : List ℕ). Spells GameStart z (bare r.items) (at_hand r.mid ++ more)) (front_is r.pieces more)
+        (spells_bare 0 GameStart (at_hand old ++ (joined r.pieces ++ more)) r.items (at_hand r.mid ++ more) (r.took.spelled more (λ e. absurd (r.not_all e)))))
+        (let a = length-append (at_hand old) (joined r.pieces) in omega (arith, a, r.within, r.took.counted))
+        (subst (λ (p : Place). Decides p (at_hand r.mid) → ⊥) (r.took.stands ∙ behind_bare GameStart r.items) r.undecided);
+    kept = inl refl;
   }
 
   -- after white space beyond the limit
-  white_long : (w : WhiteBroke comes at_hand all sound reads takes_item 1048576 breaks old new t) → 1048576 < length (at_hand old ++ joined (w.ran.pieces ++ w.broke.1))
-  white_long w =
-      let over = subst (λ (y : Stop). AfterRun comes at_hand all sound reads takes_item 1048576 old w.ran.pieces w.mid t w.last w.stopped.at w.stopped.place w.stopped.white y) w.over w.ran.after in
-      let n = (over.exceeds.over [] (λ e. refl)).0 in
-      let m = length-append (at_hand w.mid) [] in
-      let c = length-append (at_hand old) (joined (w.ran.pieces ++ w.broke.1)) in
-      let d = ap length (joined-append w.ran.pieces w.broke.1) ∙ length-append (joined w.ran.pieces) (joined w.broke.1) in
-      omega (arith, n, m, c, d, over.took.counted)
+  module _ (s : Stopped) (mid : X) (last : Reader A) (ran : Ran comes at_hand all sound reads takes_item 1048576 old mid t last (Ok s)) (why : s.why ≡ stop.TooLarge) (w : s.white ≡ true) where
+    over : RanOver comes at_hand all sound reads takes_item 1048576 old ran.pieces mid t last s.at s.place s.white
+    over = subst (λ (y : Stop). AfterRun comes at_hand all sound reads takes_item 1048576 old ran.pieces mid t last s.at s.place s.white y) why ran.after
 
-  white_none_yet : (w : WhiteBroke comes at_hand all sound reads takes_item 1048576 breaks old new t) → HasNoGameYet (at_hand old ++ joined (w.ran.pieces ++ w.broke.1))
-  white_none_yet w = λ g n x.
-      let more = joined w.broke.1 in
-      let whole : (at_hand old ++ joined (w.ran.pieces ++ w.broke.1)) ++ [] ≡ at_hand old ++ (joined w.ran.pieces ++ more) =
-      append-nil (at_hand old ++ joined (w.ran.pieces ++ w.broke.1)) ∙ ap (λ (z : List ℕ). at_hand old ++ z) (joined-append w.ran.pieces w.broke.1)
-      in
-      run_over comes at_hand all sound reads old t w.last new_reader w.ran.pieces w.mid w.stopped.at w.stopped.place w.stopped.white more (λ e. absurd (w.broke.0 e)) g n (subst (λ (z : List ℕ). BeginsWithGame z g n) whole (x []))
-      (subst (λ (y : Stop). AfterRun comes at_hand all sound reads takes_item 1048576 old w.ran.pieces w.mid t w.last w.stopped.at w.stopped.place w.stopped.white y) w.over w.ran.after)
+    ended_so : all old → all mid
+    ended_so e = (ended_after comes at_hand all sound reads takes_item 1048576 old t mid last ran.pieces s.at s.place s.white s.why ran.after e).1
+
+    white_broke : BrokeWhile comes at_hand breaks all (MaySkip s.place) mid new → HasBroken comes at_hand all sound reads breaks old new
+    white_broke b = record {
+      pieces = ran.pieces ++ b.pieces;
+      mid = b.mid;
+      came = Calls-append comes old mid b.mid ran.pieces b.pieces ran.came b.came;
+      breaks_off = b.breaks_off;
+      not_yet = λ e. b.not_yet (ended_so e);
+      not_all = b.not_all;
+      none = subst (λ (z : List ℕ). HasNoGameYet (at_hand old ++ z)) (sym (joined-append ran.pieces b.pieces)) (none_white comes at_hand all sound reads old t last new_reader ran.pieces mid s.at s.place s.white over w (joined b.pieces) b.not_yet b.asked);
+      within = subst (λ (z : List ℕ). EndsWithin (at_hand old ++ z) (at_hand b.mid)) (sym (joined-append ran.pieces b.pieces)) (record {
+        ends = open_white comes at_hand all sound reads old t last new_reader ran.pieces mid s.at s.place s.white over w (joined b.pieces) b.not_yet b.asked;
+        kept = inr (
+          white_join (bare over.items) b.asked.items (white_items comes at_hand all sound reads old t last new_reader ran.pieces mid s.at s.place s.white over w) b.asked.white,
+          white_long comes at_hand all sound reads old t last new_reader ran.pieces mid s.at s.place s.white over w (joined b.pieces),
+        );
+      });
+    }
+
+    white_short : ShortWhile comes at_hand all reads (MaySkip s.place) mid new → HasStarved comes at_hand all sound reads old new
+    white_short b = record {
+      pieces = ran.pieces ++ b.pieces;
+      came = Calls-append comes old mid new ran.pieces b.pieces ran.came b.came;
+      needed =
+          since_on comes at_hand all reads IsUnread old mid ran.pieces ran.came ended_so b.pieces new b.came (MaySkip s.place) b.asked
+          (both_white comes at_hand all sound reads old t last new_reader ran.pieces mid s.at s.place s.white over w)
+          (run_both comes at_hand all sound reads old t last new_reader ran.pieces mid s.at s.place s.white s.why ran.after);
+      still = λ e. absurd (b.not_yet (ended_so e));
+    }
 
   pub broken_come : PassBreaks comes at_hand all sound reads takes_item 1048576 breaks old new t Read → HasBroken comes at_hand all sound reads breaks old new
-  broken_come (inl r) = record { pieces = r.pieces; mid = r.mid; came = r.came; breaks_off = r.breaks_off; not_yet = r.not_yet; not_all = r.not_all; none = run_none_yet r; within = inr (run_within r) }
-  broken_come (inr w) = record {
-    pieces = w.ran.pieces ++ w.broke.1;
-    mid = w.broke.2;
-    came = Calls-append comes old w.mid w.broke.2 w.ran.pieces w.broke.1 w.ran.came w.broke.3;
-    breaks_off = w.broke.4;
-    not_yet = λ e. w.broke.0 (ended_after comes at_hand all sound reads takes_item 1048576 old t w.mid w.last w.ran.pieces w.stopped.at w.stopped.place w.stopped.white w.stopped.why w.ran.after e).1;
-    not_all = w.broke.5;
-    none = white_none_yet w;
-    within = inl (white_long w);
-  }
+  broken_come (inl r) = record { pieces = r.pieces; mid = r.mid; came = r.came; breaks_off = r.breaks_off; not_yet = r.not_yet; not_all = r.not_all; none = run_none_yet r; within = run_within r }
+  broken_come (inr w) = white_broke w.stopped w.mid w.last w.ran w.over w.white w.broke
 
   -- there was no memory to read on
   pub short_come : PassBreaks comes at_hand all sound reads takes_item 1048576 breaks old new t Short → HasStarved comes at_hand all sound reads old new
-  short_come (inl r) = record { pieces = r.pieces; came = r.came; needed = inl (asked_needed comes at_hand all sound reads old t new_reader (joined r.pieces) new r.items r.asked); still = λ e. absurd (r.not_yet e) }
-  short_come (inr w) = record {
-    pieces = w.ran.pieces ++ w.broke.1;
-    came = Calls-append comes old w.mid new w.ran.pieces w.broke.1 w.ran.came w.broke.2;
-    needed = inr (beyond comes at_hand all sound reads old t w.last new_reader w.stopped w.mid w.ran w.over w.broke.1 new w.broke.2 (λ e. absurd (w.broke.0 e)));
-    still = λ e. absurd (w.broke.0 (ended_after comes at_hand all sound reads takes_item 1048576 old t w.mid w.last w.ran.pieces w.stopped.at w.stopped.place w.stopped.white w.stopped.why w.ran.after e).1);
-  }
+  short_come (inl r) = record { pieces = r.pieces; came = r.came; needed = asked_both comes at_hand all sound reads old t t new_reader (joined r.pieces) new r.items r.asked; still = λ e. absurd (r.not_yet e) }
+  short_come (inr w) = white_short w.stopped w.mid w.last w.ran w.over w.white w.broke

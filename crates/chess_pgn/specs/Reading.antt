@@ -9,6 +9,8 @@
 --   Gives            some items are a head, a movetext and an end: the head's tags are the game's and give its start, and the movetext derives its comments and moves
 --   IsWithinLimits   a game isn't too large to be read
 --   BeginsWithGame   the items of a text's first bytes give a game
+--   HasMoves         movetext after a head has begun, and derives moves
+--   MayBegin         some items go on to a head, whatever start its tags give, or to a head and such movetext
 --   HasNoGame        no game is at the start of a text
 --   HasNoGameYet     no one game is at the start of every text that begins so
 --   IsWhite          a text has white space, marks and hidden lines alone
@@ -23,9 +25,10 @@ use Rattle.chess_items.specs.declared.fault.PgnFault.{PgnFault}
 use Rattle.chess_items.specs.declared.outcome.Outcome.{Outcome}
 use Rattle.chess_items.specs.declared.outcome.Outcome.TheVariants.{Unfinished}
 use Rattle.chess_items.specs.declared.place.Place.TheVariants.{GameStart}
+use Rattle.chess_types.specs.board.Position.{PositionParts}
 use Rattle.chess_draws.specs.Pushes.{most_plies}
 use Rattle.chess_tree.specs.Comments.{normalised}
-use Rattle.chess_tree.specs.Forest.{height}
+use Rattle.chess_tree.specs.Forest.{Forest, height}
 use Rattle.chess_pgn.specs.Games.{Game}
 use Rattle.chess_pgn.specs.Grammar.{Derives, elements, few_are_open, comments_joined}
 use Rattle.chess_pgn.specs.Tags.{AreTags, HasTags, start_in}
@@ -106,6 +109,27 @@ pub record BeginsWithGame (input : List ℕ) (game : Game) (used : ℕ) : Type 0
   pub some : list_all is_white items ≡ false
   pub gives : Gives items rest game
   pub within : IsWithinLimits game
+
+-- from the start that the head's tags give
+pub record HasMoves (head : List Item) (given : List (List ℕ × List ℕ)) (movetext : List Item) : Type 0 where
+  pub start : PositionParts
+  pub told : start_in given ≡ Some start
+  pub starts : Starts movetext
+  pub moving : list_all is_movetext movetext ≡ true
+  pub few : few_are_open 0 (elements movetext) ≡ true
+  pub comment : List ℕ
+  pub moves : Forest
+  pub derives : Derives (elements movetext) start (remarks [] head) comment moves
+
+-- with these items more
+pub record MayBegin (begun : List Item) : Type 0 where
+  pub more : List Item
+  pub head : List Item
+  pub movetext : List Item
+  pub given : List (List ℕ × List ℕ)
+  pub parts : begun ++ more ≡ head ++ movetext
+  pub are_tags : AreTags head given
+  pub moves : (movetext ≡ []) ⊎ HasMoves head given movetext
 
 abbrev pub HasNoGame : List ℕ → Type 0
 HasNoGame input = (game : Game) (used : ℕ) → BeginsWithGame input game used → ⊥

@@ -2,40 +2,43 @@
 --   Games      the bytes at hand, how many were used before them, the fault that came, and how far the items of its game were used
 --   GoesOn     reading may go on: no fault came, or one of a game's text, from which bytes may be passed over
 --   IsSound    where reading may go on, the source has ended where its end was seen
+--   used_of    how many bytes were used; after want of memory, those before it came
 --   IsPlaced   a fault of the text is after the bytes that were used before its game; a fault for want of memory has its place there
 --   ReadsNeeded  no read was made, or the last, of at most 65,536 bytes, was made where no one game was at the start of the bytes before it,
 --              whatever follows; so was each read before it, since fewer bytes say no more
---   IsFlood    white space, marks and hidden lines alone, more than a game may have
---   IsOpen     bytes are no more than a game may have, and don't decide both these items and what comes after them
+--   EndsOpen   bytes end within an item, and those before it may be the beginning of a game; they are no more than a game may have, or white items alone
+--              come before that one
 --   HasGame    a game is at the start of the bytes at hand and those that the source gave, whatever it gives next, and is used; no read was
 --              made that wasn't needed, and at most one piece and a byte are left; a source that has ended gives no more
 --   NextGame   so it does, and its bytes are counted
 --   HasNone    the source has ended, and those bytes are white space
---   Fails      no game is at the start of those bytes, which aren't white space, whatever the source gives next; their first items are used, and the
---              last read was made where the bytes before it didn't decide that they are, and what comes after them
---   Starves    bytes came, by needed reads, and then there was no memory
---   EndsWithin bytes end within an item, and all before it is used
+--   Fails      no game is at the start of those bytes, which aren't white space, whatever the source gives next; their first items are used, which
+--              may be the beginning of a game, and the last read was made where the bytes before it end so
+--   Starves    bytes came, by such reads, and then there was no memory
+--   EndsWithin bytes end so, and all before that item is used; where white space reaches past the most bytes of a game, some of it is
 --   ReadFails  bytes came, and then a read failed, or there may be no more; the source had not ended, and no one game is at their start, whatever
---              follows; they end within an item, unless they are more than a game may have
+--              follows; they end so
 --   HasFault   a read failed, there was no memory, or no game is there; but for the first, no read failed
 --   GivesUp    a bad game is given up, from its first byte to where the text alone says that the next begins
 --   seeks      how far the items of a bad game were used, where reading is to go on from there
 --   Leaves     where the reading of a bad game stopped: its items up to there are used, or all of them
 --   ReadsNext  what a call for the next game does: its answer, the bytes, and the fault that is kept
---   NotPassed  bytes can't be passed over: no section of tags begins among them and a read failed, or there was no memory
+--   NotPassed  bytes can't be passed over: a read failed, or there was no memory; each read was made where no section of tags begins among those before it
 --   NotGivenUp a game can't be passed over: bytes came and then a read failed, before the source's end, or there was no memory
+--   GivesUpInPart  so it is, from its first byte; each read was made where the bytes before it don't decide where the next game begins
 use Rattle.std.specs.Prelude.{◌≡◌, ◌≢◌, ◌⊎◌, ◌≤◌, ◌<◌, ℕ, ◌+◌, Bool, true, List, [], ◌++◌, length, Option, Some, None, IfErr, IfOk, IfSome, Result, Ok, Err, ⊤}
 use Rattle.std.specs.List.{list_all}
-use Rattle.chess_items.specs.Abandoned.{GivesUpFrom, Halts, UsesAll}
-use Rattle.chess_items.specs.Coming.{AtHand, BreaksWhere, Came, LastReadWhere, unread}
-use Rattle.chess_items.specs.Decided.{DecidesItems, IsDecided}
+use Rattle.chess_items.specs.Abandoned.{GivesUpFrom, GoesFurther, Halts, UsesAll}
+use Rattle.chess_items.specs.Coming.{AtHand, BreaksWhere, Came, CameWhere, LastReadWhere, unread}
+use Rattle.chess_items.specs.Decided.{IsDecided}
 use Rattle.chess_items.specs.Items.{Item, Spells, is_white, place_behind}
-use Rattle.chess_items.specs.Sections.{StopsAt}
+use Rattle.chess_items.specs.Sections.{HasNoSection, StopsAt}
+use Rattle.chess_items.specs.declared.fault.FaultKind.{FaultKind}
 use Rattle.chess_items.specs.declared.fault.FaultKind.TheVariants.{Memory}
 use Rattle.chess_items.specs.declared.place.Place.TheVariants.{GameStart}
 use Rattle.chess_pgn.specs.Games.{Game}
 use Rattle.chess_items.specs.declared.skimming.Halt.{Halt}
-use Rattle.chess_pgn.specs.Reading.{HasNoGame, HasNoGameYet, BeginsWithGame, IsWhite}
+use Rattle.chess_pgn.specs.Reading.{HasNoGame, HasNoGameYet, BeginsWithGame, IsWhite, MayBegin}
 use Rattle.chess_pgn.specs.declared.game.Game as code
 use Rattle.chess_pgn.specs.declared.games.GamesFault.{GamesFault}
 use Rattle.chess_pgn.specs.declared.games.GamesFault.TheVariants.{Pgn, Read}
@@ -59,11 +62,14 @@ pub record IsSound {R : Type 0} (ended : R → Type 0) (games : Games R) : Type 
 abbrev pub ReadsNeeded : List ℕ → List (List ℕ) → Type 0
 ReadsNeeded hand pieces = LastReadWhere HasNoGameYet hand pieces
 
-abbrev pub IsFlood : List Item → List ℕ → Type 0
-IsFlood items bytes = (list_all is_white items ≡ true) × (1048576 < length bytes)
-
-abbrev pub IsOpen : List Item → List ℕ → Type 0
-IsOpen items begun = (length begun ≤ 1048576) × (DecidesItems begun items → ⊥)
+-- whatever follows
+pub record EndsOpen (begun : List ℕ) : Type 0 where
+  pub items : List Item
+  pub begins : MayBegin items
+  pub rest : List ℕ
+  pub spelled : (more : List ℕ) → Spells GameStart (begun ++ more) items (rest ++ more)
+  pub few : (length begun ≤ 1048576) ⊎ (list_all is_white items ≡ true)
+  pub undecided : IsDecided (place_behind GameStart items) rest → ⊥
 
 pub record HasGame {R : Type 0} (gives : R → List ℕ → R → Type 0) (failed : R → Bool) (old new : AtHand R) (game : Game) : Type 0 where
   pub bytes : List ℕ
@@ -95,8 +101,9 @@ pub record Fails {R : Type 0} (gives : R → List ℕ → R → Type 0) (failed 
   pub bytes : List ℕ
   pub came : Came gives failed old bytes new
   pub items : List Item
+  pub begins : MayBegin items
   pub used : (more : List ℕ) → (new.has_ended ≡ true → more ≡ []) → Spells GameStart (unread old ++ (bytes ++ more)) items (unread new ++ more)
-  pub needed : IsFlood items (unread old ++ bytes) ⊎ LastReadWhere (IsOpen items) (unread old) came.pieces
+  pub needed : LastReadWhere EndsOpen (unread old) came.pieces
   pub ended_so : new.has_ended ≡ true → ended new.source
   pub none : (more : List ℕ) → (new.has_ended ≡ true → more ≡ []) → HasNoGame (unread old ++ (bytes ++ more))
   pub dark : (more : List ℕ) → (new.has_ended ≡ true → more ≡ []) → IsWhite (unread old ++ (bytes ++ more)) → ⊥
@@ -106,17 +113,17 @@ pub record Starves {R : Type 0} (gives : R → List ℕ → R → Type 0) (faile
   pub bytes : List ℕ
   pub came : Came gives failed old bytes new
   pub needed : ReadsNeeded (unread old) came.pieces
+  pub ends : LastReadWhere EndsOpen (unread old) came.pieces
   pub still : old.has_ended ≡ true → (bytes ≡ []) × ended new.source
 
--- the items before the last, which is open, are used whatever follows
+-- what is left are the bytes of that item, so far
 pub record EndsWithin (begun left : List ℕ) : Type 0 where
-  pub items : List Item
-  pub used : (more : List ℕ) → Spells GameStart (begun ++ more) items (left ++ more)
-  pub undecided : IsDecided (place_behind GameStart items) left → ⊥
+  pub ends : EndsOpen begun
+  pub kept : (left ≡ ends.rest) ⊎ ((list_all is_white ends.items ≡ true) × (1048576 < length begun))
 
 pub record ReadFails {R : Type 0} (gives : R → List ℕ → R → Type 0) (failed : R → Bool) (old new : AtHand R) : Type 0 where
   pub breaks : BreaksWhere HasNoGameYet gives failed old new
-  pub within : (1048576 < length (unread old ++ breaks.bytes)) ⊎ EndsWithin (unread old ++ breaks.bytes) (unread new)
+  pub within : EndsWithin (unread old ++ breaks.bytes) (unread new)
 
 abbrev pub HasFault : {R : Type 0} → (R → List ℕ → R → Type 0) → (R → Bool) → (R → Type 0) → AtHand R → AtHand R → GamesFault → Type 0
 HasFault gives failed ended old new Read = ReadFails gives failed old new
@@ -125,6 +132,21 @@ HasFault gives failed ended old new (Pgn fault) = ((fault.kind ≡ Memory) × St
 abbrev pub IsPlaced : ℕ → GamesFault → Type 0
 IsPlaced used (Pgn fault) = (used ≤ fault.place) × (fault.kind ≡ Memory → fault.place ≡ used)
 IsPlaced used Read = ⊤
+
+-- by the kind of the fault
+abbrev pub used_by : FaultKind → ℕ → ℕ → ℕ
+used_by Memory place used = place
+used_by _ place used = used
+
+-- by the fault, if one came
+abbrev pub used_after : Option GamesFault → ℕ → ℕ
+used_after None used = used
+used_after (Some Read) used = used
+used_after (Some (Pgn fault)) used = used_by fault.kind fault.place used
+
+-- where there was no memory, the place is that of the fault
+abbrev pub used_of : {R : Type 0} → Games R → ℕ
+used_of games = used_after games.fault games.text.used
 
 abbrev pub Leaves : {R : Type 0} → (R → List ℕ → R → Type 0) → (R → Bool) → AtHand R → AtHand R → Option Halt → Type 0
 Leaves gives failed old new (Some halt) = Halts gives failed old new halt
@@ -154,9 +176,13 @@ pub record ReadsNext {R A : Type 0} (gives : R → List ℕ → R → Type 0) (f
 
 abbrev pub NotPassed : {R : Type 0} → (R → List ℕ → R → Type 0) → (R → Bool) → AtHand R → AtHand R → GamesFault → Type 0
 NotPassed gives failed old new Read = StopsAt gives failed old new
-NotPassed gives failed old new (Pgn fault) = (fault.kind ≡ Memory) × (bytes : List ℕ) × Came gives failed old bytes new
+NotPassed gives failed old new (Pgn fault) = (fault.kind ≡ Memory) × CameWhere HasNoSection gives failed old new
 
 -- the same of a game that is given up: no more is said of the bytes that came
 abbrev pub NotGivenUp : {R : Type 0} → (R → List ℕ → R → Type 0) → (R → Bool) → AtHand R → AtHand R → GamesFault → Type 0
 NotGivenUp gives failed old new Read = BreaksWhere (λ _. ⊤) gives failed old new
 NotGivenUp gives failed old new (Pgn fault) = (fault.kind ≡ Memory) × (bytes : List ℕ) × Came gives failed old bytes new
+
+abbrev pub GivesUpInPart : {R : Type 0} → (R → List ℕ → R → Type 0) → (R → Bool) → AtHand R → AtHand R → GamesFault → Type 0
+GivesUpInPart gives failed old new Read = BreaksWhere GoesFurther gives failed old new
+GivesUpInPart gives failed old new (Pgn fault) = (fault.kind ≡ Memory) × CameWhere GoesFurther gives failed old new

@@ -1,7 +1,7 @@
 //! Games of a text or of a source, one after another.
 
 ghost use Rattle.std.specs.Prelude.{◌≡◌, ◌⊎◌, ◌<◌, ◌≤◌, ◌+◌, ◌^◌, ℕ, false, [], true, Some, None, Ok, Err, IfErr, IfOk, IfSome};
-ghost use Rattle.chess_items.specs.Abandoned.{GivesUpFrom, Halts};
+ghost use Rattle.chess_items.specs.Abandoned.{GivesUpFrom, GivesUpInPart as UsesInPart, Halts};
 ghost use Rattle.chess_items.specs.Coming as coming;
 ghost use Rattle.chess_items.specs.Coming.{Breaks, Came, unread};
 ghost use Rattle.chess_items.specs.Sections.{PassesOver};
@@ -10,7 +10,7 @@ ghost use Rattle.chess_items.specs.declared.fault.FaultKind.TheVariants.{Memory}
 ghost use Rattle.chess_pgn.specs.Games as games;
 ghost use Rattle.chess_pgn.specs.declared.games.GamesFault.TheVariants.{Pgn};
 ghost use Rattle.chess_pgn.specs.Reading.{HasNoGame, IsAnswered, BeginsWithGame, IsWhite};
-ghost use Rattle.chess_pgn.specs.Sources.{GivesUp, GoesOn, HasFault, HasNone, IsPlaced, IsSound, Leaves, NotGivenUp, NotPassed, ReadsNext, seeks};
+ghost use Rattle.chess_pgn.specs.Sources.{GivesUp, GivesUpInPart, GoesOn, HasFault, HasNone, IsPlaced, IsSound, Leaves, NotGivenUp, NotPassed, ReadsNext, seeks, used_of};
 ghost use Rattle.chess_pgn.specs.steps.GameAt.{HaltsAt, TakesGame, halt_at, is_flood};
 ghost use Rattle.chess_pgn.specs.steps.GameCode.{game_of};
 ghost use Rattle.chess_pgn.specs.steps.Next.{HasKind, staying};
@@ -129,7 +129,7 @@ fn take_game<'a, X: Text, A: Allocator>(
     requires within { IfSome halt.old (λ halt. halt.at ≤ 1048576) }
     ensures sound { IfOk result (λ _. X.sound text.new) }
     ensures game { TakesGame X.comes X.at_hand X.all X.sound X.reads X.breaks text.old text.new result }
-    ensures halts { HaltsAt X.comes X.at_hand X.all text.old text.new halt.new result }
+    ensures halts { HaltsAt X.comes X.at_hand X.all X.reads text.old text.new halt.new result }
     ensures within { IfSome halt.new (λ halt. halt.at ≤ 1048576) }
 {
     let mut reader = Reader::new(alloc, basis, texts.are_wanted());
@@ -266,8 +266,22 @@ impl<'a, R: Source, A: Allocator> Games<'a, R, A> {
     }
 
     /// How many bytes of the source were used: those of the games so far, those that were passed over, and after a fault those of its game
-    /// that were read before it.
+    /// that were read before it; after want of memory those before the call that reported it.
     pub fn used(&self) -> u64
+        ensures { result ≡ used_of self.now }
+    {
+        let used = self.text_used();
+        match self.fault {
+            None | Some(GamesFault::Read) => used,
+            Some(GamesFault::Pgn(PgnFault { place, kind })) => match kind {
+                FaultKind::Memory => place,
+                _ => used,
+            },
+        }
+    }
+
+    // How many bytes were used, whatever came.
+    fn text_used(&self) -> u64
         ensures { result ≡ self.now.text.used }
     {
         self.text.used()
@@ -301,7 +315,7 @@ impl<'a, R: Source, A: Allocator> Games<'a, R, A> {
         ensures sound { IfOk result (λ _. self.new.text.has_ended ≡ true → R.ended self.new.text.source) }
         ensures none { self.new.fault ≡ None }
         ensures game { TakesGame (λ s bytes t. Came R.gives R.failed s bytes t) unread (λ s. s.has_ended ≡ true) (λ s. s.has_ended ≡ true → R.ended s.source) (λ s. s.reads) (λ s t. Breaks R.gives R.failed s t) self.old.text self.new.text result }
-        ensures halts { HaltsAt (λ s bytes t. Came R.gives R.failed s bytes t) unread (λ s. s.has_ended ≡ true) self.old.text self.new.text self.new.halt result }
+        ensures halts { HaltsAt (λ s bytes t. Came R.gives R.failed s bytes t) unread (λ s. s.has_ended ≡ true) (λ s. s.reads) self.old.text self.new.text self.new.halt result }
     {
         take_game(
             self.alloc,
@@ -321,6 +335,7 @@ impl<'a, R: Source, A: Allocator> Games<'a, R, A> {
         ensures ended { IfOk result (λ _. self.new.text.has_ended ≡ true → R.ended self.new.text.source) }
         ensures stops { seeks self.old.fault self.old.halt ≡ None → IfErr result (λ fault. Stops R.gives R.failed self.old.text self.new.text fault) }
         ensures broken { IfErr result (λ fault. Broken R.gives R.failed self.old.text self.new.text fault) }
+        ensures in_part { (halt : Halt) (before : coming.AtHand R) → seeks self.old.fault self.old.halt ≡ Some halt → Halts R.gives R.failed before self.old.text halt → IfErr result (λ fault. UsesInPart R.gives R.failed before self.new.text fault) }
     {
         match self.halted() {
             None => self.text.pass_to_section(),
@@ -350,6 +365,7 @@ impl<'a, R: Source, A: Allocator> Games<'a, R, A> {
         ensures used { IfOk result (λ count. self.new.text.used ≡ self.old.text.used + count) }
         ensures fault { self.old.fault ≡ None → IfErr result (λ fault. NotPassed R.gives R.failed self.old.text self.new.text fault) }
         ensures broken { IfErr result (λ fault. NotGivenUp R.gives R.failed self.old.text self.new.text fault) }
+        ensures in_part { (fault : GamesFault) (before : coming.AtHand R) → self.old.fault ≡ Some fault → Leaves R.gives R.failed before self.old.text self.old.halt → IfErr result (λ fault. GivesUpInPart R.gives R.failed before self.new.text fault) }
     {
         match self.go_on() {
             Ok(count) => {
@@ -387,7 +403,7 @@ impl<'a, R: Source, A: Allocator> Games<'a, R, A> {
         if let Some(fault) = self.reported() {
             return Err(fault);
         }
-        let used = self.used();
+        let used = self.text_used();
         match self.take(texts) {
             Ok(Some((game, _))) => Ok(Some(game)),
             Ok(None) => Ok(None),
@@ -396,7 +412,8 @@ impl<'a, R: Source, A: Allocator> Games<'a, R, A> {
     }
 
     /// The next game; `None` where there are only white space and hidden lines. It is read before the next: the source is asked for more,
-    /// at most 65,536 bytes at a time, only where no one game is at the start of the bytes at hand, whatever follows them.
+    /// at most 65,536 bytes at a time, only where no one game is at the start of the bytes at hand, whatever follows them, and their items may
+    /// still be the beginning of one; so a read that fails never takes the place of a fault.
     ///
     /// # Errors
     ///
@@ -419,7 +436,8 @@ impl<'a, R: Source, A: Allocator> Games<'a, R, A> {
     /// After a fault the search begins after the items of the game that has it, whatever they mean: they end at the bracket of a tag after
     /// movetext, at what is no item, or at 1,048,576 bytes; where white space alone comes before what reaches past these, at its end. So
     /// the text alone decides where reading goes on, and not where it stopped; a bracket in a comment of that game begins no section, and a
-    /// left brace without a right one ends its items. Without a fault the search begins after the last game.
+    /// left brace without a right one ends its items. Without a fault the search begins after the last game. The source is asked for more only where
+    /// the bytes before it don't decide where reading goes on.
     ///
     /// # Errors
     ///
@@ -438,12 +456,13 @@ impl<'a, R: Source, A: Allocator> Games<'a, R, A> {
         ensures used { IfOk result (λ count. self.new.text.used ≡ self.old.text.used + count) }
         ensures fault { self.old.fault ≡ None → IfErr result (λ fault. NotPassed R.gives R.failed self.old.text self.new.text fault) }
         ensures broken { GoesOn self.old.fault → IfErr result (λ fault. NotGivenUp R.gives R.failed self.old.text self.new.text fault) }
+        ensures in_part { (fault : GamesFault) (before : coming.AtHand R) → self.old.fault ≡ Some fault → GoesOn (Some fault) → Leaves R.gives R.failed before self.old.text self.old.halt → IfErr result (λ fault. GivesUpInPart R.gives R.failed before self.new.text fault) }
         ensures place { GoesOn self.old.fault → IfErr result (λ fault. IsPlaced self.old.text.used fault) }
     {
         if let Some(fault) = self.staying() {
             return Err(fault);
         }
-        let used = self.used();
+        let used = self.text_used();
         match self.pass() {
             Ok(count) => Ok(count),
             Err(fault) => Err(self.keep(fault, used)),

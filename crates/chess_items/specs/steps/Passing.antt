@@ -6,9 +6,9 @@ use Rattle.std.specs.Prelude.{◌≡◌, ◌≢◌, ℕ, ◌⊎◌, true, false,
 use Rattle.std.specs.List.{list_all}
 use Rattle.byte_streams.specs.Calls.{Calls, joined}
 use Rattle.chess_items.specs.Items.{Item, Spells, is_white}
-use Rattle.chess_items.specs.steps.Skipping.{SkippedWhite}
+use Rattle.chess_items.specs.steps.Skipping.{MaySkip, SkippedWhite}
 use Rattle.chess_items.specs.steps.Taking.{TakesOne, Ran, RunBroke, RunShort}
-use Rattle.chess_items.specs.steps.Texts.{BreaksOff}
+use Rattle.chess_items.specs.steps.Texts.{BreaksWhile}
 use Rattle.chess_items.specs.declared.at_hand.Fault.{Fault}
 use Rattle.chess_items.specs.declared.at_hand.Fault.TheVariants as fault
 use Rattle.chess_items.specs.declared.place.Place.TheVariants.{GameStart}
@@ -32,7 +32,7 @@ module _ {X T : Type 0} (comes : X → List ℕ → X → Type 0) (at_hand : X �
   pub record NotWhite (stopped : Stopped) (mid new : X) : Type 0 where
     pub over : stopped.why ≡ stop.TooLarge
     pub white : stopped.white ≡ true
-    pub skipped : SkippedWhite comes at_hand all sound stopped.place mid new
+    pub skipped : SkippedWhite comes at_hand all sound reads stopped.place mid new
     pub other : at_hand new ≢ []
 
   -- a run of items ended, and white space alone was not taken for a game
@@ -55,7 +55,7 @@ module _ {X T : Type 0} (comes : X → List ℕ → X → Type 0) (at_hand : X �
     pub ran : Ran comes at_hand all sound reads takes limit old mid t last (Ok stopped)
     pub over : stopped.why ≡ stop.TooLarge
     pub white : stopped.white ≡ true
-    pub broke : BreaksOff comes breaks all mid new fault.Read
+    pub broke : BreaksWhile comes at_hand breaks all reads (MaySkip stopped.place) mid new fault.Read
 
   -- there was no memory for it
   pub record WhiteShort (limit : ℕ) (breaks : X → X → Type 0) (old new : X) (t : T) : Type 0 where
@@ -65,7 +65,7 @@ module _ {X T : Type 0} (comes : X → List ℕ → X → Type 0) (at_hand : X �
     pub ran : Ran comes at_hand all sound reads takes limit old mid t last (Ok stopped)
     pub over : stopped.why ≡ stop.TooLarge
     pub white : stopped.white ≡ true
-    pub broke : BreaksOff comes breaks all mid new fault.Memory
+    pub broke : BreaksWhile comes at_hand breaks all reads (MaySkip stopped.place) mid new fault.Memory
 
   abbrev pub PassBreaks : ℕ → (X → X → Type 0) → X → X → T → Fault → Type 0
   PassBreaks limit breaks old new t fault.Memory = RunShort comes at_hand all sound reads takes limit old new t ⊎ WhiteShort limit breaks old new t

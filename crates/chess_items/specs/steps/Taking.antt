@@ -5,7 +5,8 @@
 --   Brackets    the taker took the bracket of a tag
 --   Offered     what becomes of an item that is offered
 --   Settles     what is used after an offer
---   Asked       no read was made, or the last was made where at most so many bytes had come, which did not decide the item after those taken so far
+--   Asked       no read was made, or the last was made before all had come, where at most so many bytes had, which did not decide the item after those taken
+--               so far
 --   Steps       one item is taken, or none
 --   Ran         items are taken, and why no more are
 --   RunBreaks   items are taken, and then there was no memory, or a read broke off
@@ -153,6 +154,7 @@ module _ {X T : Type 0} (comes : X → List ℕ → X → Type 0) (at_hand : X �
     pub spelled : (more : List ℕ) → SpellsFrom 0 GameStart (at_hand old ++ (joined split.earlier ++ more)) items (rest ++ more)
     pub taken : Takes takes t items last
     pub undecided : Decides (behind GameStart items) rest → ⊥
+    pub not_yet : all old → ⊥
 
   abbrev pub Asked : ℕ → X → List ℕ → X → T → List (ℕ × Item) → Type 0
   Asked limit old came new t items = (reads new ≡ reads old) ⊎ LastRead limit old came new t items

@@ -3,11 +3,14 @@
 --   size        falls with each byte used, and doesn't grow with the bytes that come
 --   LastCame    bytes came, the last of them by one read
 --   LastWhere   no read was made, or the last was made where this holds of the bytes before it
+--   LastSince   the same, and the last was made before all had come
 --   Needs       no read was made, or the last was made where at most so many bytes were at hand, which did not decide the item
 --   MadeReady   bytes came until the first item is decided or all have come
 --   Keeps       the first bytes are used
 --   Refills     all bytes at hand are used, and more come by one read
 --   BreaksOff   why no more bytes come, though not all have: bytes came, and then there was no memory, or a read broke off
+--   RefillBreaks  the same of one read
+--   BreaksWhile the same of reads each of which was made where this holds of the bytes before it
 --   RanShort    bytes came, each read needed, and then there was no memory
 --   Broke       bytes came, and then a read broke off; those before it don't decide the item that they begin with
 --   BreaksAt    either
@@ -39,6 +42,9 @@ pub record LastCame {X : Type 0} (comes : X → List ℕ → X → Type 0) (read
 abbrev pub LastWhere : {X : Type 0} → (X → List ℕ → X → Type 0) → (X → List ℕ) → (X → ℕ) → (List ℕ → Type 0) → X → List ℕ → X → Type 0
 LastWhere comes at_hand reads holds old came new = (reads new ≡ reads old) ⊎ ((l : LastCame comes reads old came new) × holds (at_hand old ++ joined l.earlier))
 
+abbrev pub LastSince : {X : Type 0} → (X → List ℕ → X → Type 0) → (X → List ℕ) → (X → Type 0) → (X → ℕ) → (List ℕ → Type 0) → X → List ℕ → X → Type 0
+LastSince comes at_hand all reads holds old came new = (reads new ≡ reads old) ⊎ ((all old → ⊥) × (l : LastCame comes reads old came new) × holds (at_hand old ++ joined l.earlier))
+
 -- the last read was made with few bytes at hand, which did not decide, and before the end was seen
 pub record LastNeeded {X : Type 0} (comes : X → List ℕ → X → Type 0) (at_hand : X → List ℕ) (all : X → Type 0) (reads : X → ℕ) (most : ℕ) (place : Place) (old : X) (more : List ℕ) (new : X) : Type 0 where
   pub came : LastCame comes reads old more new
@@ -57,6 +63,32 @@ Oversized most place input = (most < length input) × MatchOption (item_at place
 abbrev pub BreaksOff : {X : Type 0} → (X → List ℕ → X → Type 0) → (X → X → Type 0) → (X → Type 0) → X → X → Fault → Type 0
 BreaksOff comes breaks all old new Memory = (all old → ⊥) × (pieces : List (List ℕ)) × Calls comes old pieces new
 BreaksOff {X} comes breaks all old new Read = (all old → ⊥) × (pieces : List (List ℕ)) × (mid : X) × Calls comes old pieces mid × breaks mid new × (all mid → ⊥)
+
+abbrev pub RefillBreaks : {X : Type 0} → (X → List ℕ → X → Type 0) → (X → X → Type 0) → (X → Type 0) → (X → ℕ) → X → X → Fault → Type 0
+RefillBreaks comes breaks all reads old new Memory = (all old → ⊥) × (pieces : List (List ℕ)) × Calls comes old pieces new × ((reads new ≡ reads old) ⊎ (reads new + 1 ≡ reads old))
+RefillBreaks {X} comes breaks all reads old new Read = (all old → ⊥) × (mid : X) × comes old [] mid × breaks mid new × (all mid → ⊥)
+
+-- there was no memory to read into, or for what was read
+pub record ShortWhile {X : Type 0} (comes : X → List ℕ → X → Type 0) (at_hand : X → List ℕ) (all : X → Type 0) (reads : X → ℕ) (holds : List ℕ → Type 0) (old new : X) : Type 0 where
+  pub pieces : List (List ℕ)
+  pub came : Calls comes old pieces new
+  pub not_yet : all old → ⊥
+  pub asked : LastSince comes at_hand all reads holds old (joined pieces) new
+
+-- a read broke off, which was made for the same reason
+pub record BrokeWhile {X : Type 0} (comes : X → List ℕ → X → Type 0) (at_hand : X → List ℕ) (breaks : X → X → Type 0) (all : X → Type 0) (holds : List ℕ → Type 0) (old new : X) : Type 0 where
+  pub pieces : List (List ℕ)
+  pub mid : X
+  pub came : Calls comes old pieces mid
+  pub not_yet : all old → ⊥
+  pub not_all : all mid → ⊥
+  pub breaks_off : breaks mid new
+  pub asked : holds (at_hand old ++ joined pieces)
+
+-- either
+abbrev pub BreaksWhile : {X : Type 0} → (X → List ℕ → X → Type 0) → (X → List ℕ) → (X → X → Type 0) → (X → Type 0) → (X → ℕ) → (List ℕ → Type 0) → X → X → Fault → Type 0
+BreaksWhile comes at_hand breaks all reads holds old new Memory = ShortWhile comes at_hand all reads holds old new
+BreaksWhile comes at_hand breaks all reads holds old new Read = BrokeWhile comes at_hand breaks all holds old new
 
 pub record Broke {X : Type 0} (comes : X → List ℕ → X → Type 0) (at_hand : X → List ℕ) (breaks : X → X → Type 0) (all sound : X → Type 0) (reads : X → ℕ) (most : ℕ) (place : Place) (old new : X) : Type 0 where
   pub pieces : List (List ℕ)
@@ -130,7 +162,7 @@ module _ {X : Type 0} (comes : X → List ℕ → X → Type 0) (at_hand : X →
   -- others are at hand, or none come
   abbrev pub AfterRefill : X → List ℕ → X → Bool → Type 0
   AfterRefill old more new true = (at_hand new ≡ more) × sound new × (size at_hand reads new + 1 ≤ size at_hand reads old) × (all old → ⊥) × (reads new + 1 ≡ reads old)
-  AfterRefill old more new false = (at_hand new ≡ []) × (more ≡ []) × all new × sound new × (size at_hand reads new ≤ size at_hand reads old)
+  AfterRefill old more new false = (at_hand new ≡ []) × (more ≡ []) × all new × sound new × (size at_hand reads new ≤ size at_hand reads old) × ((reads new ≡ reads old) ⊎ ((reads new + 1 ≡ reads old) × (all old → ⊥)))
 
   -- all bytes at hand are used, and others came by one read, or none do
   pub record Refill (old new : X) (has_more : Bool) : Type 0 where

@@ -301,11 +301,39 @@ fn assert_starved(rt: &impl Abort, heap: &LocalHeap) {
     assert!(rt; starved);
     let again = games.pass_over();
     assert!(rt; again == passed);
+    assert!(rt; games.used() == 0);
+}
+
+/// Want of memory for a game after a good one, when some of its bytes were read: as many bytes are used as before it.
+fn assert_starved_after(rt: &impl Abort, heap: &LocalHeap, text: &[u8]) {
+    let mut games = Games::new(heap, FromBytes::new(text, 65_536));
+    assert_steps(
+        rt,
+        &mut games,
+        &[Game(1), Fault(1, FaultKind::Memory.number())],
+    );
+    assert!(rt; games.used() == 1);
 }
 
 #[test]
 fn want_of_memory_stays(rt: HostRuntime) -> Result<(), Fail> {
     let heap = LocalHeap::new(rt.alloc(), 1024)?;
     assert_starved(&rt, &heap);
+    let alloc = rt.alloc();
+    let text = long_text(&alloc, b"*{", b'x', 400_000, b"")?;
+    let heap = LocalHeap::new(rt.alloc(), 400_000)?;
+    assert_starved_after(&rt, &heap, text.as_slice());
     Ok(())
+}
+
+/// Nothing is read once the bytes that came say that no game comes, so a read that fails doesn't stand for the fault.
+#[test]
+fn a_fault_before_a_failing_read(rt: HostRuntime) {
+    let alloc = rt.alloc();
+    let fault: &[Step] = &[Fault(3, 3), PassFails, NextFails];
+    let source = FromBytes::failing_after(b"e4 e4 ", 6, 1);
+    assert_steps(&rt, &mut Games::new(&alloc, source), fault);
+    let unread: &[Step] = &[NextFails, PassFails];
+    let source = FromBytes::failing_after(b"e4 e4", 5, 1);
+    assert_steps(&rt, &mut Games::new(&alloc, source), unread);
 }

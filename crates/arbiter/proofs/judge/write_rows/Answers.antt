@@ -3,7 +3,7 @@ use Rattle.chess_pgn.specs.Sources.{HasFault, NextGame}
 use Rattle.chess_pgn.specs.declared.games.GamesFault.TheVariants.{Pgn, Read}
 use Rattle.chess_pgn.specs.steps.GameCode.{game_of}
 use Rattle.arbiter.specs.Collections.{Bad, Found, IsThere, header_text}
-use Rattle.arbiter.proofs.JudgeLemmas.{bad_there, ends_all, ends_at, ends_at_header, ends_many, ends_there, ends_unread, err_holds, fault_more, found_game, game_more, goes_on_after, header_broken, header_sent, none_yet, ok_holds, some_fault, still_on}
+use Rattle.arbiter.proofs.JudgeLemmas.{bad_there, ends_all, ends_at, ends_at_header, ends_many, ends_there, ends_unread, err_holds, fault_more, found_game, game_more, goes_on_after, header_broken, header_sent, none_yet, ok_holds, some_fault, still_on, used_still}
 use Rattle.arbiter.proofs.judge.write_rows.Given.{Over}
 use Rattle.arbiter.proofs.judge.write_rows.Goals as goal
 use Rattle.arbiter.proofs.judge.write_rows.Goals.{Else-is_lack, in-Ok-Some+in_default, in-Err-Pgn+else-is_lack+in_default-fault+in_default-go_on}
@@ -12,7 +12,7 @@ use Rattle.arbiter.proofs.judge.write_rows.Goals.{Else-is_lack, in-Ok-Some+in_de
 bad : (g : Over) (c : Else-is_lack g) → IsThere g.R.Source.gives g.R.Source.failed g.R.Source.ended c.loop-before.games (Bad c.used-offset.result c.in-Err-Pgn.fault) c.next.new.self
 bad g c =
     bad_there g.R.Source.gives g.R.Source.failed g.R.Source.ended c.loop-before.games c.next.new.self c.used-offset.result c.in-Err-Pgn.fault c.next.result (c.in-Err-Pgn.is ∙ ap Err c.in-Err-Pgn.field-0-is)
-    (sym c.is_lack.ensures ∙ c.if-is_lack.false) c.used-offset.ensures (c.next.ensures.place c.loop-before.invariant.none) (c.next.ensures.fault c.loop-before.invariant.none) c.next.ensures.sticky (c.next.ensures.leaves c.loop-before.invariant.none)
+    (sym c.is_lack.ensures ∙ c.if-is_lack.false) (c.used-offset.ensures ∙ used_still c.loop-before.games c.loop-before.invariant.none) (c.next.ensures.place c.loop-before.invariant.none) (c.next.ensures.fault c.loop-before.invariant.none) c.next.ensures.sticky (c.next.ensures.leaves c.loop-before.invariant.none)
 
 pub returns-then-is_err : goal.returns-then-is_err
 returns-then-is_err g c =
@@ -43,7 +43,7 @@ returns-in-Err g c =
     let is = c.in-Ok-Some.is ∙ ap Ok c.in-Ok-Some.field-0-is in
     ends_at g.R.Source.gives g.R.Source.failed g.R.Source.ended g.W.Sink.takes g.W.Sink.failed c.args.maker.now.asked c.loop-before.before c.loop-before.bad c.args.games.now c.loop-before.games c.args.writer.now c.loop-before.writer
     c.loop-before.invariant.written (Found c.used-offset.result (game_of c.in-Ok-Some.game)) c.next.new.self
-    (c.used-offset.ensures, found_game (λ x. NextGame g.R.Source.gives g.R.Source.failed c.loop-before.games c.next.new.self (game_of x)) c.next.result c.in-Ok-Some.game is c.next.ensures.game, ok_holds _ c.next.result (Some c.in-Ok-Some.game) is c.next.ensures.good)
+    ((c.used-offset.ensures ∙ used_still c.loop-before.games c.loop-before.invariant.none), found_game (λ x. NextGame g.R.Source.gives g.R.Source.failed c.loop-before.games c.next.new.self (game_of x)) c.next.result c.in-Ok-Some.game is c.next.ensures.game, ok_holds _ c.next.result (Some c.in-Ok-Some.game) is c.next.ensures.good)
     c.game.new.writer c.in-Err.failure c.requires.writer c.in-Err.ensures
 
 pub returns-in-Err-Read : goal.returns-in-Err-Read
@@ -82,7 +82,7 @@ loop-before-preserved g c = elim c.match-next.branch [
         written =
             game_more g.R.Source.gives g.R.Source.failed g.R.Source.ended g.W.Sink.takes g.W.Sink.failed c.args.maker.now.asked c.loop-before.before c.loop-before.bad c.args.games.now c.loop-before.games c.args.writer.now c.loop-before.writer
             c.loop-before.invariant.written c.used-offset.result (game_of w.in-Ok-Some.game) c.next.new.self w.game.new.writer
-            (c.used-offset.ensures, found_game (λ x. NextGame g.R.Source.gives g.R.Source.failed c.loop-before.games c.next.new.self (game_of x)) c.next.result w.in-Ok-Some.game is c.next.ensures.game, good)
+            ((c.used-offset.ensures ∙ used_still c.loop-before.games c.loop-before.invariant.none), found_game (λ x. NextGame g.R.Source.gives g.R.Source.failed c.loop-before.games c.next.new.self (game_of x)) c.next.result w.in-Ok-Some.game is c.next.ensures.game, good)
             w.in_default.ensures;
       })
   | in-Err-Pgn+else-is_lack+in_default-fault+in_default-go_on w ↦
@@ -95,7 +95,7 @@ loop-before-preserved g c = elim c.match-next.branch [
         written =
             fault_more g.R.Source.gives g.R.Source.failed g.R.Source.ended g.W.Sink.takes g.W.Sink.failed c.args.maker.now.asked c.loop-before.before c.loop-before.bad c.args.games.now c.loop-before.games c.args.writer.now c.loop-before.writer
             c.loop-before.invariant.written c.used-offset.result w.in-Err-Pgn.fault c.next.new.self w.go_on.new.games w.fault.new.writer
-            (bad_there g.R.Source.gives g.R.Source.failed g.R.Source.ended c.loop-before.games c.next.new.self c.used-offset.result w.in-Err-Pgn.fault c.next.result is (sym w.is_lack.ensures ∙ w.if-is_lack.false) c.used-offset.ensures
+            (bad_there g.R.Source.gives g.R.Source.failed g.R.Source.ended c.loop-before.games c.next.new.self c.used-offset.result w.in-Err-Pgn.fault c.next.result is (sym w.is_lack.ensures ∙ w.if-is_lack.false) (c.used-offset.ensures ∙ used_still c.loop-before.games c.loop-before.invariant.none)
             (c.next.ensures.place c.loop-before.invariant.none) (c.next.ensures.fault c.loop-before.invariant.none) c.next.ensures.sticky (c.next.ensures.leaves c.loop-before.invariant.none))
             w.in_default-fault.ensures
             (goes_on_after g.R.Source.gives g.R.Source.failed g.R.Source.ended g.W.Sink.takes g.W.Sink.failed c.args.maker.now.asked c.next.new.self w.go_on.new.games (Pgn w.in-Err-Pgn.fault) stays

@@ -21,7 +21,9 @@ returns-then-left-gt0-clause-hides g c =
 pub returns-in-Err-clause-broken : goal.returns-in-Err-clause-broken
 returns-in-Err-clause-broken g c =
     let on = hiding_on g.X.Text.comes g.X.Text.at_hand g.X.Text.all g.X.Text.sound g.X.Text.reads c.args.text.now c.loop-line.text c.loop-line.invariant c.unread.result.now c.unread-in-loop-line.result.now c.unread.ensures c.unread-in-loop-line.ensures c.run_len-line.result c.run_len-line.ensures.run c.keep.new.self c.keep.ensures in
-    hiding_broken g.X.Text.comes g.X.Text.at_hand g.X.Text.all g.X.Text.sound g.X.Text.reads g.X.Text.breaks c.args.text.now c.keep.new.self c.refill.new.self c.in-Err.fault on c.in-Err.ensures.broken
+    let len = left_len g.X.Text.comes g.X.Text.at_hand g.X.Text.all g.X.Text.sound g.X.Text.reads c.args.text.now c.loop-line.text c.loop-line.invariant c.unread.result.now c.unread-in-loop-line.result.now c.unread.ensures c.unread-in-loop-line.ensures c.run_len-line.result c.run_len-line.ensures.run c.keep.new.self c.keep.ensures in
+    let none = empty_is (g.X.Text.at_hand c.keep.new.self) (omega (arith, len, c.if-left-gt0.false)) in
+    hiding_broken g.X.Text.comes g.X.Text.at_hand g.X.Text.all g.X.Text.sound g.X.Text.reads c.args.text.now c.keep.new.self on none g.X.Text.breaks c.refill.new.self c.in-Err.fault c.in-Err.ensures.broken
 
 pub loop-line-smaller : goal.loop-line-smaller
 loop-line-smaller g c =

@@ -13,7 +13,7 @@ pub returns-in-Err-skip_white-clause-broken : goal.returns-in-Err-skip_white-cla
 returns-in-Err-skip_white-clause-broken g c = passed_broken g.X.Text.comes g.X.Text.at_hand g.X.Text.all g.X.Text.sound g.X.Text.reads g.T.Taker.takes c.args.limit c.args.text.now c.args.taker.now c.run.new.text c.run.new.taker c.in-Ok.stopped c.in-Ok.ensures.ran g.X.Text.breaks c.skip_white.new.text c.in-Err-skip_white.fault c.in-TooLarge.is (search rules) c.in-Err-skip_white.ensures.broken
 
 pub returns-in-Ok-true-clause-passes : goal.returns-in-Ok-true-clause-passes
-returns-in-Ok-true-clause-passes g c = passed_white g.X.Text.comes g.X.Text.at_hand g.X.Text.all g.X.Text.sound g.X.Text.reads g.T.Taker.takes c.args.limit c.args.text.now c.args.taker.now c.run.new.text c.run.new.taker c.in-Ok.stopped c.in-Ok.ensures.ran c.skip_white.new.text c.in-TooLarge.is (search rules) (subst (λ (b : Bool). Skips {X = g.row.X.Denot} g.X.Text.comes g.X.Text.at_hand g.X.Text.all g.X.Text.sound c.in-Ok.stopped.place c.run.new.text c.skip_white.new.text (Ok b)) c.in-Ok-true.field-0-test c.in-Ok-true.ensures.skips)
+returns-in-Ok-true-clause-passes g c = passed_white g.X.Text.comes g.X.Text.at_hand g.X.Text.all g.X.Text.sound g.X.Text.reads g.T.Taker.takes c.args.limit c.args.text.now c.args.taker.now c.run.new.text c.run.new.taker c.in-Ok.stopped c.in-Ok.ensures.ran c.skip_white.new.text c.in-TooLarge.is (search rules) (subst (λ (b : Bool). Skips {X = g.row.X.Denot} g.X.Text.comes g.X.Text.at_hand g.X.Text.all g.X.Text.sound g.X.Text.reads c.in-Ok.stopped.place c.run.new.text c.skip_white.new.text (Ok b)) c.in-Ok-true.field-0-test c.in-Ok-true.ensures.skips)
 
 pub returns-in-Ok-false-clause-passes : goal.returns-in-Ok-false-clause-passes
-returns-in-Ok-false-clause-passes g c = passed_other g.X.Text.comes g.X.Text.at_hand g.X.Text.all g.X.Text.sound g.X.Text.reads g.T.Taker.takes c.args.limit c.args.text.now c.args.taker.now c.run.new.text c.run.new.taker c.in-Ok.stopped c.in-Ok.ensures.ran c.skip_white.new.text c.in-TooLarge.is (search rules) (subst (λ (b : Bool). Skips {X = g.row.X.Denot} g.X.Text.comes g.X.Text.at_hand g.X.Text.all g.X.Text.sound c.in-Ok.stopped.place c.run.new.text c.skip_white.new.text (Ok b)) c.in-Ok-false.field-0-test c.in-Ok-false.ensures.skips)
+returns-in-Ok-false-clause-passes g c = passed_other g.X.Text.comes g.X.Text.at_hand g.X.Text.all g.X.Text.sound g.X.Text.reads g.T.Taker.takes c.args.limit c.args.text.now c.args.taker.now c.run.new.text c.run.new.taker c.in-Ok.stopped c.in-Ok.ensures.ran c.skip_white.new.text c.in-TooLarge.is (search rules) (subst (λ (b : Bool). Skips {X = g.row.X.Denot} g.X.Text.comes g.X.Text.at_hand g.X.Text.all g.X.Text.sound g.X.Text.reads c.in-Ok.stopped.place c.run.new.text c.skip_white.new.text (Ok b)) c.in-Ok-false.field-0-test c.in-Ok-false.ensures.skips)

@@ -25,7 +25,7 @@ returns-in-Err g c =
     (source_fault g.R.Source.gives g.R.Source.failed g.R.Source.ended c.args.self.now.text c.take.new.self.text c.in-Err.fault c.keep.result c.in-Err.ensures.game c.keep.ensures.kind) in
     first_reads g.R.Source.gives g.R.Source.failed g.R.Source.ended c.args.self.now c.keep.new.self (Err c.keep.result) (search rules)
     (fault_sound g.R.Source.gives g.R.Source.failed g.R.Source.ended c.args.self.now.text c.keep.new.self c.keep.result c.keep.ensures.fault has) c.keep.ensures.fault tt tt tt (λ e. absurd cc) has
-    (subst (λ (n : ℕ). IsPlaced n c.keep.result) c.used-used.ensures c.keep.ensures.place)
+    (subst (λ (n : ℕ). IsPlaced n c.keep.result) c.text_used-used.ensures c.keep.ensures.place)
     (λ on.
     subst (λ (t : AtHand g.row.R.Denot). Leaves g.R.Source.gives g.R.Source.failed c.args.self.now.text t c.keep.new.self.halt) (sym c.keep.ensures.text)
     (subst (λ (h : Option Halt). Leaves g.R.Source.gives g.R.Source.failed c.args.self.now.text c.take.new.self.text h) (sym c.keep.ensures.halt)

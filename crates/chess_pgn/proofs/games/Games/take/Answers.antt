@@ -11,5 +11,5 @@ returns-clause-game g c =
 
 pub returns-clause-halts : goal.returns-clause-halts
 returns-clause-halts g c =
-    subst (λ (t : AtHand g.row.R.Denot). HaltsAt (λ (s : AtHand g.row.R.Denot) bytes u. Came g.R.Source.gives g.R.Source.failed s bytes u) unread (λ s. s.has_ended ≡ true) t c.take_game.new.text c.take_game.new.halt c.take_game.result)
+    subst (λ (t : AtHand g.row.R.Denot). HaltsAt (λ (s : AtHand g.row.R.Denot) bytes u. Came g.R.Source.gives g.R.Source.failed s bytes u) unread (λ s. s.has_ended ≡ true) (λ s. s.reads) t c.take_game.new.text c.take_game.new.halt c.take_game.result)
     (ap (λ (x : Games g.row.R.Denot). x.text) c.self.view_is) c.take_game.ensures.halts
