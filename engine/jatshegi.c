@@ -238,7 +238,7 @@ static bool take_next_line(void) {
 }
 
 /* One of the questions of the session: jatshegi_engine_ended, .. */
-static bool is(uint32_t (*question)(struct jatshegi_board *, bool *)) {
+static bool is(uint32_t (*question)(const struct jatshegi_board *, bool *)) {
     bool answer;
     check(question(&board, &answer));
     return answer;

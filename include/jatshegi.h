@@ -15,12 +15,14 @@
  * of moves from the root to it.
  *
  * What a caller owes:
- *   - A board begins as JATSHEGI_NO_BOARD, which is zeros, and after that only these functions write to it. A board that is in use is never copied.
+ *   - A board begins as JATSHEGI_NO_BOARD, which is zeros, and after that only these functions write to it. A board that is in use is never copied. Where a board
+ *     is `const` here, the call leaves it as it was; it uses it all the same, so the object itself is not const, and the next rule holds of such a call, too.
  *   - The keys are filled once, and stay where they are, unchanged, for as long as there is a board with them. Any number of boards share them.
  *   - One call at a time uses a board. It may go to another thread, where a lock, or a thread's start or end, orders the calls. Boards of different
  *     threads are independent: there is no other state.
- *   - Pointers are not null and are aligned as C aligns their types, also where a length is 0. What is written to overlaps nothing else that the
- *     call is given; a text that is read is not changed meanwhile. Lengths are at most PTRDIFF_MAX bytes.
+ *   - Pointers are aligned as C aligns their types, and not null, but that (NULL, 0) may be a text or a room: it is an empty one, so that a length can be asked for;
+ *     and that a null pointer is freed by doing nothing. What is written to overlaps nothing else that the call is given; a text that is read is not changed
+ *     meanwhile. Lengths are at most PTRDIFF_MAX bytes.
  *   - `malloc`, `realloc` and `free` are those of one allocator; no call comes from a signal handler.
  *
  * Then every input is answered, and nothing aborts. Each function is proved to answer what the Laws of Chess say, and to keep the board as it was wherever
@@ -150,6 +152,15 @@ enum jatshegi_claims {
     JATSHEGI_FIFTY = 2
 };
 
+/* What sort of move one is, added up (FIDE Laws 3.1, 3.7, 3.7.3.1, 3.8.2). */
+enum jatshegi_kinds {
+    JATSHEGI_CAPTURE = 1,           /* it captures a man, also en passant */
+    JATSHEGI_EN_PASSANT = 2,
+    JATSHEGI_CASTLES_KING_SIDE = 4, /* with the rook of file h */
+    JATSHEGI_CASTLES_QUEEN_SIDE = 8, /* with that of file a */
+    JATSHEGI_PAWN_MOVE = 16
+};
+
 /* A colour. */
 enum jatshegi_colour {
     JATSHEGI_WHITE = 0,
@@ -264,10 +275,16 @@ uint32_t jatshegi_board_new(const struct jatshegi_keys *keys, struct jatshegi_bo
  * Puts a copy of the board into another: the same game with its tags and its result, the cursor at the same node, no search, and a session of the engine at its
  * start. What was in the other is freed; the two are not the same one. But for OK the other is as it was. OK, EMPTY, NO_MEMORY.
  */
-uint32_t jatshegi_board_copy(struct jatshegi_board *board, struct jatshegi_board *other);
+uint32_t jatshegi_board_copy(const struct jatshegi_board *board, struct jatshegi_board *other);
 
-/* Frees the board, if there is one: then there is none. */
+/* Frees the board, if there is one: then there is none. At a null pointer it does nothing. */
 void jatshegi_board_free(struct jatshegi_board *board);
+
+/*
+ * Gives back what memory the board doesn't need between calls: the 65,536 bytes on which the answers to lines are written, which the first line asks for. The
+ * board, its search and its session of the engine stay as they are. OK, EMPTY.
+ */
+uint32_t jatshegi_board_trim(struct jatshegi_board *board);
 
 /* Begins a tree from the position of a FEN; the one that was there is freed. OK, EMPTY, NO_MEMORY, FEN_... */
 uint32_t jatshegi_board_set(struct jatshegi_board *board, const char *fen, size_t length);
@@ -289,25 +306,32 @@ uint32_t jatshegi_board_set_position(struct jatshegi_board *board, const struct 
 uint32_t jatshegi_board_load(struct jatshegi_board *board, const char *text, size_t length, size_t *used);
 
 /* The FEN of the position, and its length, at most JATSHEGI_MOST_FEN (PGN 16.1). OK, EMPTY, NO_ROOM. */
-uint32_t jatshegi_board_fen(struct jatshegi_board *board, char *text, size_t room, size_t *length);
+uint32_t jatshegi_board_fen(const struct jatshegi_board *board, char *text, size_t room, size_t *length);
 
 /*
  * The text by which the Laws tell positions apart, and its length, at most JATSHEGI_MOST_FEN: the first four fields of the FEN, with the en passant target only
  * where a legal move captures on it. Two positions are the same (FIDE Laws 9.2.3) exactly where they have the same text, so that it is a key for an opening
  * tree or a table of positions. It is an EPD without operations (PGN 16.2). OK, EMPTY, NO_ROOM.
  */
-uint32_t jatshegi_board_epd(struct jatshegi_board *board, char *text, size_t room, size_t *length);
+uint32_t jatshegi_board_epd(const struct jatshegi_board *board, char *text, size_t room, size_t *length);
+
+/*
+ * The position's key in Polyglot's opening books, by which many programs name positions (http://hgm.nubati.net/book_format.html): the exclusive or of published
+ * numbers, for each man on his square, each castling right and White's move, and for the file of an en passant target where a pawn of the side to move is beside
+ * the pawn that has passed over it, whether it may capture it or not. Positions with different keys differ; two with one key may differ, too. OK, EMPTY.
+ */
+uint32_t jatshegi_board_key(const struct jatshegi_board *board, uint64_t *key);
 
 /* The position by its fields. OK, EMPTY. */
-uint32_t jatshegi_board_position(struct jatshegi_board *board, struct jatshegi_position *position);
+uint32_t jatshegi_board_position(const struct jatshegi_board *board, struct jatshegi_position *position);
 
 /* The legal moves in order, and how many they are, at most JATSHEGI_MOST_MOVES (FIDE Laws 3.1 to 3.10). OK, EMPTY, NO_ROOM. */
-uint32_t jatshegi_board_moves(struct jatshegi_board *board, struct jatshegi_move *moves, size_t room, size_t *count);
+uint32_t jatshegi_board_moves(const struct jatshegi_board *board, struct jatshegi_move *moves, size_t room, size_t *count);
 
 /*
  * The moves from the root to the cursor, in the order in which they were made, and how many they are, at most 20,000: none at the root. OK, EMPTY, NO_ROOM.
  */
-uint32_t jatshegi_board_line(struct jatshegi_board *board, struct jatshegi_move *moves, size_t room, size_t *count);
+uint32_t jatshegi_board_line(const struct jatshegi_board *board, struct jatshegi_move *moves, size_t room, size_t *count);
 
 /*
  * Makes a move, and says whether it added a node: `false` where a child of the node at the cursor has the move. OK, EMPTY, NO_MEMORY, ILLEGAL, TOO_LONG,
@@ -333,10 +357,10 @@ uint32_t jatshegi_board_back(struct jatshegi_board *board);
 uint32_t jatshegi_board_undo(struct jatshegi_board *board, bool added);
 
 /* The legal move that a text names. OK, EMPTY, ILLEGAL, AMBIGUOUS, FORM. */
-uint32_t jatshegi_board_read(struct jatshegi_board *board, const char *text, size_t length, struct jatshegi_move *move);
+uint32_t jatshegi_board_read(const struct jatshegi_board *board, const char *text, size_t length, struct jatshegi_move *move);
 
 /* The text of a move in standard algebraic notation, and its length, at most JATSHEGI_MOST_SAN (PGN 8.2.3). OK, EMPTY, ILLEGAL, NO_ROOM. */
-uint32_t jatshegi_board_write(struct jatshegi_board *board, struct jatshegi_move move, char *text, size_t room, size_t *length);
+uint32_t jatshegi_board_write(const struct jatshegi_board *board, struct jatshegi_move move, char *text, size_t room, size_t *length);
 
 /*
  * The text of a move in the long algebraic notation of UCI, as e2e4 or e7e8q, and its length, at most JATSHEGI_MOST_UCI; and the move of such a text. No
@@ -346,35 +370,58 @@ uint32_t jatshegi_move_write(struct jatshegi_move move, char *text, size_t room,
 uint32_t jatshegi_move_read(const char *text, size_t length, struct jatshegi_move *move);
 
 /* How the game stands: an enum jatshegi_outcome. OK, EMPTY. */
-uint32_t jatshegi_board_outcome(struct jatshegi_board *board, uint32_t *outcome);
+uint32_t jatshegi_board_outcome(const struct jatshegi_board *board, uint32_t *outcome);
 
 /* The draws that may be claimed: enum jatshegi_claims, added up; with a move, in the position after it. OK, EMPTY; ILLEGAL. */
-uint32_t jatshegi_board_claims(struct jatshegi_board *board, uint32_t *claims);
-uint32_t jatshegi_board_claims_with(struct jatshegi_board *board, struct jatshegi_move move, uint32_t *claims);
+uint32_t jatshegi_board_claims(const struct jatshegi_board *board, uint32_t *claims);
+uint32_t jatshegi_board_claims_with(const struct jatshegi_board *board, struct jatshegi_move move, uint32_t *claims);
 
 /* How often the position has come up on the way to it, this time included (FIDE Laws 9.2.2). OK, EMPTY. */
-uint32_t jatshegi_board_repetitions(struct jatshegi_board *board, uint32_t *times);
+uint32_t jatshegi_board_repetitions(const struct jatshegi_board *board, uint32_t *times);
+
+/* What sort of move a legal one is: enum jatshegi_kinds, added up; 0 for a quiet move of a piece. OK, EMPTY, ILLEGAL. */
+uint32_t jatshegi_board_kinds(const struct jatshegi_board *board, struct jatshegi_move move, uint32_t *kinds);
+
+/*
+ * Whether a side, an enum jatshegi_colour, can't mate any more by any series of legal moves: it has only its king, or the position is dead, so that its
+ * opponent's overstepped time is a draw (FIDE Laws 5.2.2, 6.9). `false` doesn't say that it can. OK, EMPTY, ARGUMENT.
+ */
+uint32_t jatshegi_board_cannot_mate(const struct jatshegi_board *board, uint8_t side, bool *cannot);
 
 /* For each square, 1 where a man on it checks the side to move, else 0 (FIDE Laws 3.9.1). OK, EMPTY. */
-uint32_t jatshegi_board_checks(struct jatshegi_board *board, uint8_t checks[64]);
+uint32_t jatshegi_board_checks(const struct jatshegi_board *board, uint8_t checks[64]);
 
 /* For each square, how many men of White and of Black attack it (FIDE Laws 3.1.2). OK, EMPTY. */
-uint32_t jatshegi_board_counts(struct jatshegi_board *board, uint8_t white[64], uint8_t black[64]);
+uint32_t jatshegi_board_counts(const struct jatshegi_board *board, uint8_t white[64], uint8_t black[64]);
 
 /*
  * The men of a colour that attack a square, whatever is on it: the bit of each man's square is 1, the lowest for a1. A king and pinned men attack too, a man
  * that another is in the way of doesn't (FIDE Laws 3.1 to 3.8). OK, EMPTY, ARGUMENT.
  */
-uint32_t jatshegi_board_attackers(struct jatshegi_board *board, uint8_t colour, uint8_t square, uint64_t *attackers);
+uint32_t jatshegi_board_attackers(const struct jatshegi_board *board, uint8_t colour, uint8_t square, uint64_t *attackers);
+
+/*
+ * An opening book of Polyglot's is 16 bytes an entry, in ascending order of keys. These are the entries of a key: the first of them, counted from 0, and how many
+ * there are, one after another; 0 where there is none. It looks at few of the bytes, so a book may be a mapped file. In a text whose keys don't ascend some may
+ * be passed by.
+ */
+void jatshegi_book_find(const char *book, size_t length, uint64_t key, size_t *first, size_t *count);
+
+/*
+ * The legal move that an entry of a book stands for, how often to play it beside the others, and a number for a program's own use. OK, EMPTY, ILLEGAL (the
+ * entry's key isn't the position's, or it stands for no legal move), ARGUMENT (the book has no such entry).
+ */
+uint32_t jatshegi_board_book_move(const struct jatshegi_board *board, const char *book, size_t length, size_t entry, struct jatshegi_move *move, uint16_t *weight,
+                                  uint32_t *learn);
 
 /* The evaluation, in centipawns for White. OK, EMPTY. */
-uint32_t jatshegi_board_evaluation(struct jatshegi_board *board, int32_t *value);
+uint32_t jatshegi_board_evaluation(const struct jatshegi_board *board, int32_t *value);
 
 /*
  * The first legal move of greatest minimax value, 1 to 16 plies deep, with its value for the side to move: centipawns, or 30,000 less the plies to a
  * mate. OK, EMPTY, ARGUMENT, NONE.
  */
-uint32_t jatshegi_board_best(struct jatshegi_board *board, uint8_t depth, struct jatshegi_move *move, int32_t *value);
+uint32_t jatshegi_board_best(const struct jatshegi_board *board, uint8_t depth, struct jatshegi_move *move, int32_t *value);
 
 /*
  * The same search in slices, which the caller drives by its own clock, and may leave at any time. Begins a search of the position at the cursor, 1 to 16
@@ -390,7 +437,7 @@ uint32_t jatshegi_search_slice(struct jatshegi_board *board, size_t *left);
  * The best of the legal moves that were searched, with its value as jatshegi_board_best has it; once none is left, it is that function's answer. OK, EMPTY;
  * NONE where none was searched.
  */
-uint32_t jatshegi_search_best(struct jatshegi_board *board, struct jatshegi_move *move, int32_t *value);
+uint32_t jatshegi_search_best(const struct jatshegi_board *board, struct jatshegi_move *move, int32_t *value);
 
 /* Ends the search and frees what it had; without one, nothing. OK, EMPTY. */
 uint32_t jatshegi_search_end(struct jatshegi_board *board);
@@ -400,10 +447,10 @@ uint32_t jatshegi_search_end(struct jatshegi_board *board);
  * written is freed. OK, NO_MEMORY; EMPTY.
  */
 uint32_t jatshegi_stop_new(struct jatshegi_stop *stop);
-uint32_t jatshegi_stop_share(struct jatshegi_stop *stop, struct jatshegi_stop *other);
+uint32_t jatshegi_stop_share(const struct jatshegi_stop *stop, struct jatshegi_stop *other);
 uint32_t jatshegi_stop_set(struct jatshegi_stop *stop, bool set);
 
-/* Frees the handle, if there is one, and with its last handle the flag: then there is none. */
+/* Frees the handle, if there is one, and with its last handle the flag: then there is none. At a null pointer it does nothing. */
 void jatshegi_stop_free(struct jatshegi_stop *stop);
 
 /*
@@ -415,14 +462,14 @@ void jatshegi_stop_free(struct jatshegi_stop *stop);
  * jatshegi_board_best_within counts the position at the cursor, too, for which the flag isn't looked at, and takes memory for a line of its own. OK, EMPTY,
  * NO_MEMORY, ARGUMENT, NONE, ABANDONED; the other OK, EMPTY, NONE, ABANDONED.
  */
-uint32_t jatshegi_board_best_within(struct jatshegi_board *board, uint8_t depth, uint64_t nodes, struct jatshegi_stop *stop,
+uint32_t jatshegi_board_best_within(const struct jatshegi_board *board, uint8_t depth, uint64_t nodes, const struct jatshegi_stop *stop,
                                     struct jatshegi_move *move, int32_t *value, uint64_t *visited);
-uint32_t jatshegi_search_slice_within(struct jatshegi_board *board, uint64_t nodes, struct jatshegi_stop *stop, size_t *left, uint64_t *visited);
+uint32_t jatshegi_search_slice_within(struct jatshegi_board *board, uint64_t nodes, const struct jatshegi_stop *stop, size_t *left, uint64_t *visited);
 
 /*
  * A session of the universal chess interface (UCI), driven by events. Each board has one, which knows nothing of the board. The replies are handed out,
- * each on a line of its own, with their length, at most JATSHEGI_MOST_REPLIES; at NO_ROOM the event has happened all the same, and the replies are lost. OK,
- * EMPTY, NO_ROOM.
+ * each on a line of its own, with their length, at most JATSHEGI_MOST_REPLIES; at NO_ROOM the event has happened all the same, and the replies are lost. The first
+ * event of a board takes memory for the session, and without it doesn't happen. OK, EMPTY, NO_ROOM, NO_MEMORY of the first.
  *
  * A line is read, without its line feed; there is time to search one root move more; the clock reads so many milliseconds, from any moment on.
  */
@@ -432,22 +479,23 @@ uint32_t jatshegi_engine_moment(struct jatshegi_board *board, uint64_t moment, c
 
 /*
  * A slice that may be abandoned, as those of jatshegi_search_slice_within. `visited` is how many positions it has asked for. Where `searched` is true, it was
- * made, and all is as after jatshegi_engine_slice; where it is false, it was abandoned: nothing is replied, and the session is as before. OK, EMPTY, NO_ROOM.
+ * made, and all is as after jatshegi_engine_slice; where it is false, it was abandoned: nothing is replied, and the session is as before. OK, EMPTY, NO_ROOM,
+ * NO_MEMORY.
  */
-uint32_t jatshegi_engine_slice_within(struct jatshegi_board *board, uint64_t nodes, struct jatshegi_stop *stop, bool *searched, uint64_t *visited,
+uint32_t jatshegi_engine_slice_within(struct jatshegi_board *board, uint64_t nodes, const struct jatshegi_stop *stop, bool *searched, uint64_t *visited,
                                       char *replies, size_t room, size_t *count);
 
 /*
  * Whether the session searches, and so wants slices; whether that search is infinite, one that ends by `stop` alone; whether it has done all that it has to
  * do and waits for `stop`, so that a slice does nothing; whether `quit` came, after which nothing is replied. OK, EMPTY.
  */
-uint32_t jatshegi_engine_searching(struct jatshegi_board *board, bool *searching);
-uint32_t jatshegi_engine_infinite(struct jatshegi_board *board, bool *infinite);
-uint32_t jatshegi_engine_waiting(struct jatshegi_board *board, bool *waiting);
-uint32_t jatshegi_engine_ended(struct jatshegi_board *board, bool *ended);
+uint32_t jatshegi_engine_searching(const struct jatshegi_board *board, bool *searching);
+uint32_t jatshegi_engine_infinite(const struct jatshegi_board *board, bool *infinite);
+uint32_t jatshegi_engine_waiting(const struct jatshegi_board *board, bool *waiting);
+uint32_t jatshegi_engine_ended(const struct jatshegi_board *board, bool *ended);
 
 /* How many milliseconds after the last moment the clock ends the search, 0 where it is to end now. OK, EMPTY; NONE where no clock ends it, or none runs. */
-uint32_t jatshegi_engine_time_left(struct jatshegi_board *board, uint64_t *milliseconds);
+uint32_t jatshegi_engine_time_left(const struct jatshegi_board *board, uint64_t *milliseconds);
 
 /*
  * The whole game in export form (PGN 3.2), with its tags and its result, and its length; it takes memory for the text. OK, EMPTY, NO_MEMORY, NO_ROOM.
@@ -456,19 +504,19 @@ uint32_t jatshegi_engine_time_left(struct jatshegi_board *board, uint64_t *milli
  * text, and nothing else but the calls below changes them, so a game keeps its players when another position is set. The line `pgn` of
  * jatshegi_board_answer answers as the program does, which knows neither.
  */
-uint32_t jatshegi_board_pgn(struct jatshegi_board *board, char *text, size_t room, size_t *length);
+uint32_t jatshegi_board_pgn(const struct jatshegi_board *board, char *text, size_t room, size_t *length);
 
 /*
  * The value of the tag with that name, as it is to be read, without the quotation marks and backslashes of a file, and its length (PGN 8.1). Event, Site,
  * Date, Round, White and Black are always there. Result, FEN and SetUp are no tags: the game itself has its result and its start. OK, EMPTY, NO_SUCH, NO_ROOM.
  */
-uint32_t jatshegi_board_tag(struct jatshegi_board *board, const char *name, size_t length, char *value, size_t room, size_t *count);
+uint32_t jatshegi_board_tag(const struct jatshegi_board *board, const char *name, size_t length, char *value, size_t room, size_t *count);
 
 /*
  * The name of the tag at that place, from 0, and its length: first the six that each game has, then the others in ASCII order; NO_SUCH where there are no more.
  * OK, EMPTY, NO_SUCH, NO_ROOM.
  */
-uint32_t jatshegi_board_tags(struct jatshegi_board *board, size_t place, char *name, size_t room, size_t *count);
+uint32_t jatshegi_board_tags(const struct jatshegi_board *board, size_t place, char *name, size_t room, size_t *count);
 
 /*
  * Gives the tag of that name the value, whether or not the game has it yet: letters, digits and underscores, and any text on one line. Or takes the tag out, if
@@ -478,7 +526,7 @@ uint32_t jatshegi_board_set_tag(struct jatshegi_board *board, const char *name, 
 uint32_t jatshegi_board_clear_tag(struct jatshegi_board *board, const char *name, size_t length);
 
 /* How the game ended, as its text says: an enum jatshegi_marker; and set so. OK, EMPTY; ARGUMENT of the second. */
-uint32_t jatshegi_board_result(struct jatshegi_board *board, uint32_t *marker);
+uint32_t jatshegi_board_result(const struct jatshegi_board *board, uint32_t *marker);
 uint32_t jatshegi_board_set_result(struct jatshegi_board *board, uint32_t marker);
 
 /* Steps to a child, by its place among its siblings, from 0. OK, EMPTY, NO_SUCH. */
@@ -489,11 +537,11 @@ uint32_t jatshegi_board_step(struct jatshegi_board *board, uint32_t place);
  * the move that leads to it; its comment, empty where there is none (PGN 5); its annotation numbers (PGN 8.2.4). OK, EMPTY; AT_ROOT of the move; NO_ROOM of
  * the last two.
  */
-uint32_t jatshegi_board_depth(struct jatshegi_board *board, uint32_t *depth);
-uint32_t jatshegi_board_children(struct jatshegi_board *board, uint32_t *children);
-uint32_t jatshegi_board_move(struct jatshegi_board *board, struct jatshegi_move *move);
-uint32_t jatshegi_board_comment_of(struct jatshegi_board *board, char *text, size_t room, size_t *length);
-uint32_t jatshegi_board_annotations_of(struct jatshegi_board *board, uint8_t *numbers, size_t room, size_t *count);
+uint32_t jatshegi_board_depth(const struct jatshegi_board *board, uint32_t *depth);
+uint32_t jatshegi_board_children(const struct jatshegi_board *board, uint32_t *children);
+uint32_t jatshegi_board_move(const struct jatshegi_board *board, struct jatshegi_move *move);
+uint32_t jatshegi_board_comment_of(const struct jatshegi_board *board, char *text, size_t room, size_t *length);
+uint32_t jatshegi_board_annotations_of(const struct jatshegi_board *board, uint8_t *numbers, size_t room, size_t *count);
 
 /* Goes to the root, or along the first children as far as they lead. OK, EMPTY. */
 uint32_t jatshegi_board_start(struct jatshegi_board *board);
@@ -512,8 +560,9 @@ uint32_t jatshegi_board_annotate(struct jatshegi_board *board, uint8_t number);
 /*
  * Answers a line of the program's `board`, without its line feed, and hands out the answer and its length. OK, EMPTY, NO_ROOM, NO_MEMORY.
  *
- * The line has been answered also where the answer is longer than the room for it, or there is no memory to gather it in. With room for
- * JATSHEGI_MOST_ANSWER bytes that happens only to `path` and `pgn`, which change nothing and may be asked again with more room.
+ * The line has been answered also where the answer is longer than the room for it. With room for JATSHEGI_MOST_ANSWER bytes that happens only to `path` and
+ * `pgn`, which change nothing and may be asked again with more room. At NO_MEMORY it has not been answered, and all is as before; where there is memory for the
+ * answer and none for what the line does, the answer is `refused 5 Memory`. The first line takes 65,536 bytes, which the board keeps (jatshegi_board_trim).
  */
 uint32_t jatshegi_board_answer(struct jatshegi_board *board, const char *line, size_t length, char *answer, size_t room, size_t *count);
 
@@ -537,10 +586,20 @@ uint32_t jatshegi_game_report(const char *text, size_t length, struct jatshegi_r
  * tag after movetext, to what is no token, or to 1,048,576 bytes; and from there on all up to the first `[` that opens a tag and is first on its line, or to
  * the end. It is at least 1 byte where the text has any. OK, NO_MEMORY.
  */
-uint32_t jatshegi_game_pass(const char *text, size_t length, uint64_t *used);
+uint32_t jatshegi_game_pass(const char *text, size_t length, size_t *used);
 
 #ifdef __cplusplus
 }
 #endif
+
+/* A null pointer is freed by doing nothing. */
+static inline void jatshegi_board_free_any(struct jatshegi_board *board) {
+    if (board != NULL) jatshegi_board_free(board);
+}
+static inline void jatshegi_stop_free_any(struct jatshegi_stop *stop) {
+    if (stop != NULL) jatshegi_stop_free(stop);
+}
+#define jatshegi_board_free(board) jatshegi_board_free_any(board)
+#define jatshegi_stop_free(stop) jatshegi_stop_free_any(stop)
 
 #endif

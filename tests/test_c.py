@@ -53,6 +53,16 @@ class Library(unittest.TestCase):
                 self.assertEqual(ran.returncode, 0, ran.stderr)
                 self.assertIn(" 0 failed", self.assert_ends_well(program))
 
+    def test_the_habits_of_c(self):
+        for words in (["gcc", "-std=c11"], ["g++", "-std=c++17", "-x", "c++"]):
+            with self.subTest(compiler=words[0]):
+                archive = [f"-L{runs.TOP}/out", "-l:libjatshegi.a"] if "-x" in words else [f"{runs.TOP}/out/libjatshegi.a"]
+                program = f"{self.folder}/program"
+                ran = called(*words, *STRICT, f"{runs.TOP}/tests/c/habits.c", *archive, "-o", program)
+                self.assertEqual(ran.returncode, 0, ran.stderr)
+                # (what a thread keeps of freed memory would count as held)
+                self.assertIn(" 0 failed", self.assert_ends_well(program, env={"GLIBC_TUNABLES": "glibc.malloc.tcache_count=0"}))
+
     def test_every_function_of_the_shared_library(self):
         program = self.build(["cc", "-std=c11"], "every.c", ["out/libjatshegi.so"])
         for folder in ("out", "release/x86_64-linux/lib"):
@@ -119,8 +129,8 @@ class Library(unittest.TestCase):
     def test_only_the_functions_of_the_header_are_visible(self):
         self.wants("nm")
         with open(f"{HEADER}/jatshegi.h", encoding="utf-8") as file:
-            # (a function of the header itself is none of the library)
-            lines = [line for line in file if not line.startswith("static inline")]
+            # (a function of the header itself, and a macro, is none of the library)
+            lines = [line for line in file if not line.startswith(("static inline", "#define"))]
         declared = {word.split("(")[0].lstrip("*") for word in " ".join(lines).split() if word.startswith("jatshegi_") and "(" in word}
         for words, library in ((["nm", "-g", "--defined-only"], "libjatshegi.a"), (["nm", "-D", "--defined-only"], "libjatshegi.so")):
             names = {line.split()[-1] for line in called(*words, f"{runs.TOP}/out/{library}").stdout.splitlines() if " T " in line or " D " in line or " B " in line}

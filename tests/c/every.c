@@ -59,6 +59,13 @@ static int writes(struct jatshegi_board *board, struct jatshegi_move m, const ch
 #define SEVEN_TAGS SEVEN_TAGS_OF("*", "")
 static const char START[] = "rnbqkbnr/pppppppp/8/8/8/8/PPPPPPPP/RNBQKBNR w KQkq - 0 1";
 
+/* An opening book: an entry of a smaller key; of the start e2e4 with the weight 258, e2e5 and g1f3; and one of a greater key. */
+static const char BOOK[] = "\x01\x00\x00\x00\x00\x00\x00\x00\x00\x00\x00\x01\x00\x00\x00\x00"
+                           "\x46\x3b\x96\x18\x16\x91\xfc\x9c\x03\x1c\x01\x02\x01\x02\x03\x04"
+                           "\x46\x3b\x96\x18\x16\x91\xfc\x9c\x03\x24\x00\x01\x00\x00\x00\x00"
+                           "\x46\x3b\x96\x18\x16\x91\xfc\x9c\x01\x95\x00\x01\x00\x00\x00\x00"
+                           "\x80\x00\x00\x00\x00\x00\x00\x00\x03\x1c\x00\x01\x00\x00\x00\x00";
+
 static void without_a_board(void) {
     struct jatshegi_board none = JATSHEGI_NO_BOARD, other = JATSHEGI_NO_BOARD;
     struct jatshegi_stop stop = JATSHEGI_NO_STOP, stop_too = JATSHEGI_NO_STOP;
@@ -93,6 +100,15 @@ static void without_a_board(void) {
     CHECK(jatshegi_board_checks(&none, white) == JATSHEGI_EMPTY);
     CHECK(jatshegi_board_counts(&none, white, black) == JATSHEGI_EMPTY);
     CHECK(jatshegi_board_attackers(&none, JATSHEGI_WHITE, 0, &bits) == JATSHEGI_EMPTY && bits == 7);
+    CHECK(jatshegi_board_key(&none, &bits) == JATSHEGI_EMPTY && bits == 7);
+    number = 7;
+    CHECK(jatshegi_board_kinds(&none, m, &number) == JATSHEGI_EMPTY && number == 7);
+    added = true;
+    CHECK(jatshegi_board_cannot_mate(&none, JATSHEGI_WHITE, &added) == JATSHEGI_EMPTY && added);
+    {
+        uint16_t weight = 7;
+        CHECK(jatshegi_board_book_move(&none, BOOK, sizeof BOOK - 1, 0, &m, &weight, &number) == JATSHEGI_EMPTY && weight == 7 && number == 7);
+    }
     CHECK(jatshegi_board_evaluation(&none, &value) == JATSHEGI_EMPTY);
     CHECK(jatshegi_board_best(&none, 1, &m, &value) == JATSHEGI_EMPTY);
     CHECK(jatshegi_search_start(&none, 1) == JATSHEGI_EMPTY && jatshegi_search_slice(&none, &count) == JATSHEGI_EMPTY);
@@ -440,7 +456,7 @@ static void games(void) {
     static const char text[] = "[White \"a\"]\n\n1.e4 e5(1...c5)2.Nf3 *\n\n[White \"b\"]\n\n1.e5 *\n\n[White \"c\"]\n\n*";
     static const char wanted[] = "[Event \"?\"]\n[Site \"?\"]\n[Date \"????.??.??\"]\n[Round \"?\"]\n[White \"a\"]\n[Black \"?\"]\n[Result \"*\"]\n\n1. e4 e5 (1... c5) 2. Nf3 *\n\n";
     size_t count = 7, used = 7, at;
-    uint64_t passed = 7;
+    size_t passed = 7;
     char game[512];
     CHECK(jatshegi_game_read(text, strlen(text), game, sizeof game, &count, &used) == JATSHEGI_OK);
     CHECK(count == strlen(wanted) && memcmp(game, wanted, count) == 0 && used == strlen("[White \"a\"]\n\n1.e4 e5(1...c5)2.Nf3 *"));
@@ -451,7 +467,7 @@ static void games(void) {
     count = used = 7;
     CHECK(jatshegi_game_read(text + at, strlen(text) - at, game, sizeof game, &count, &used) == JATSHEGI_PGN_MOVE && count == 7);
     CHECK(used == (size_t)(strstr(text, "e5 *\n\n[White \"c") - text) - at);
-    CHECK(jatshegi_game_pass(text + at, strlen(text) - at, &passed) == JATSHEGI_OK && passed == (uint64_t)(strstr(text, "[White \"c") - text) - at);
+    CHECK(jatshegi_game_pass(text + at, strlen(text) - at, &passed) == JATSHEGI_OK && passed == (size_t)(strstr(text, "[White \"c") - text) - at);
     at += (size_t)passed;
     CHECK(jatshegi_game_read(text + at, strlen(text) - at, game, sizeof game, &count, &used) == JATSHEGI_OK && used == strlen(text) - at);
     count = used = 7;
@@ -726,6 +742,78 @@ static void identities(struct jatshegi_board *b) {
     }
 }
 
+/* Keys as Polyglot's authors published them, and what a book says: entries of a key before that of the start, three of the start, and one after. */
+static void books(struct jatshegi_board *b) {
+    static const struct {
+        const char *fen;
+        uint64_t key;
+    } rows[] = {
+        {START, 0x463b96181691fc9c},
+        {"rnbqkbnr/ppp1p1pp/8/3pPp2/8/8/PPPP1PPP/RNBQKBNR w KQkq f6 0 3", 0x22a48b5a8e47ff78},
+        {"rnbqkbnr/p1pppppp/8/8/PpP4P/8/1P1PPPP1/RNBQKBNR b KQkq c3 0 3", 0x3c8123ea7b067637},
+        {"rnbqkbnr/p1pppppp/8/8/P6P/R1p5/1P1PPPP1/1NBQKBNR b Kkq - 1 4", 0x5c3f9b829b279560},
+    };
+    struct jatshegi_move m = move_of(7, 7, 3);
+    uint64_t key = 0;
+    size_t first = 7, count = 7;
+    uint16_t weight = 7;
+    uint32_t learn = 7;
+    for (size_t i = 0; i < sizeof rows / sizeof rows[0]; i++) CHECK(set(b, rows[i].fen) == JATSHEGI_OK && jatshegi_board_key(b, &key) == JATSHEGI_OK && key == rows[i].key);
+    CHECK(set(b, START) == JATSHEGI_OK && jatshegi_board_key(b, &key) == JATSHEGI_OK);
+    jatshegi_book_find(BOOK, sizeof BOOK - 1, key, &first, &count);
+    CHECK(first == 1 && count == 3);
+    CHECK(jatshegi_board_book_move(b, BOOK, sizeof BOOK - 1, 0, &m, &weight, &learn) == JATSHEGI_ILLEGAL && m.from == 7 && weight == 7 && learn == 7);
+    CHECK(jatshegi_board_book_move(b, BOOK, sizeof BOOK - 1, 5, &m, &weight, &learn) == JATSHEGI_ARGUMENT && m.from == 7 && weight == 7 && learn == 7);
+    CHECK(jatshegi_board_book_move(b, BOOK, sizeof BOOK - 1, 2, &m, &weight, &learn) == JATSHEGI_ILLEGAL && m.from == 7);
+    CHECK(jatshegi_board_book_move(b, BOOK, sizeof BOOK - 1, 1, &m, &weight, &learn) == JATSHEGI_OK && m.from == 12 && m.to == 28 && m.promotion == 0);
+    CHECK(weight == 258 && learn == 16909060);
+    CHECK(jatshegi_board_book_move(b, BOOK, sizeof BOOK - 1, 3, &m, &weight, &learn) == JATSHEGI_OK && m.from == 6 && m.to == 21 && weight == 1 && learn == 0);
+    jatshegi_book_find(BOOK, sizeof BOOK - 1, 0, &first, &count);
+    CHECK(count == 0);
+    jatshegi_book_find(BOOK, 15, key, &first, &count);
+    CHECK(first == 0 && count == 0);
+}
+
+/* What sort of move one is, and who can't mate any more. */
+static void judged(struct jatshegi_board *b) {
+    static const struct {
+        const char *fen;
+        unsigned from, to, promotion, kinds;
+    } rows[] = {
+        {START, 12, 28, 0, JATSHEGI_PAWN_MOVE},
+        {START, 6, 21, 0, 0},
+        {"r3k2r/8/8/8/8/8/8/R3K2R w KQkq - 0 1", 4, 6, 0, JATSHEGI_CASTLES_KING_SIDE},
+        {"r3k2r/8/8/8/8/8/8/R3K2R w KQkq - 0 1", 4, 2, 0, JATSHEGI_CASTLES_QUEEN_SIDE},
+        {"r3k2r/8/8/8/8/8/8/R3K2R w KQkq - 0 1", 7, 63, 0, JATSHEGI_CAPTURE},
+        {"8/8/8/2pP3r/8/8/8/K3k3 w - c6 0 2", 35, 42, 0, JATSHEGI_CAPTURE | JATSHEGI_EN_PASSANT | JATSHEGI_PAWN_MOVE},
+        {"1n6/P6k/8/8/8/8/8/K7 w - - 0 1", 48, 57, JATSHEGI_QUEEN, JATSHEGI_CAPTURE | JATSHEGI_PAWN_MOVE},
+    };
+    static const struct {
+        const char *fen;
+        bool white, black;
+    } sides[] = {
+        {START, false, false},
+        {"4k3/8/8/8/8/8/4P3/4K3 b - - 0 1", false, true},
+        {"4k3/8/8/8/8/8/4p3/4K3 w - - 0 1", true, false},
+        {"4k3/8/8/8/8/8/4N3/4K3 w - - 0 1", true, true},
+        {"4k3/4r3/8/8/8/8/4N3/4K3 w - - 0 1", false, false},
+    };
+    uint32_t kinds = 7;
+    bool cannot = true;
+    for (size_t i = 0; i < sizeof rows / sizeof rows[0]; i++) {
+        CHECK(set(b, rows[i].fen) == JATSHEGI_OK && jatshegi_board_kinds(b, move_of(rows[i].from, rows[i].to, rows[i].promotion), &kinds) == JATSHEGI_OK);
+        CHECK(kinds == rows[i].kinds);
+    }
+    kinds = 7;
+    CHECK(set(b, START) == JATSHEGI_OK && jatshegi_board_kinds(b, move_of(12, 36, 0), &kinds) == JATSHEGI_ILLEGAL && kinds == 7);
+    CHECK(jatshegi_board_kinds(b, move_of(12, 28, 9), &kinds) == JATSHEGI_ILLEGAL && jatshegi_board_kinds(b, move_of(64, 28, 0), &kinds) == JATSHEGI_ILLEGAL && kinds == 7);
+    for (size_t i = 0; i < sizeof sides / sizeof sides[0]; i++) {
+        CHECK(set(b, sides[i].fen) == JATSHEGI_OK && jatshegi_board_cannot_mate(b, JATSHEGI_WHITE, &cannot) == JATSHEGI_OK && cannot == sides[i].white);
+        CHECK(jatshegi_board_cannot_mate(b, JATSHEGI_BLACK, &cannot) == JATSHEGI_OK && cannot == sides[i].black);
+    }
+    CHECK(jatshegi_board_cannot_mate(b, 2, &cannot) == JATSHEGI_ARGUMENT && !cannot);
+}
+
 /* The moves that led to the cursor. */
 static void ways(struct jatshegi_board *b) {
     static const char *const played[] = {"e4", "d5", "exd5", "c5", "dxc6"};
@@ -801,6 +889,8 @@ int main(void) {
     copies(&board);
     ways(&board);
     identities(&board);
+    books(&board);
+    judged(&board);
     reports();
     searches(&board);
     stops(&board);

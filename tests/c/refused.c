@@ -53,7 +53,7 @@ void __wrap_free(void *at) {
 struct outputs {
     char text[4096];
     size_t count, used;
-    uint64_t passed;
+    size_t passed;
     struct jatshegi_report report;
     bool added;
 };
@@ -77,7 +77,7 @@ static const struct jatshegi_keys *keys;
 /* Texts, with the bytes that are passed over to what follows their first game. */
 static const struct {
     const char *text;
-    uint64_t passed;
+    size_t passed;
 } passes[] = {
     {GOOD, sizeof GOOD - 1},
     {GOOD "\n\n[A \"b\"]\n\n*\n", sizeof GOOD - 1},

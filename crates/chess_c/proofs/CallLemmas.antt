@@ -7,17 +7,14 @@ use Rattle.chess_uci.specs.declared.event.Event.{Event}
 use Rattle.chess_uci.specs.Machine.{State}
 use Rattle.chess_cli.specs.declared.board_command.refusal.Refusal.{Refusal}
 use Rattle.chess_cli.specs.declared.board_command.refusal.Refusal.TheVariants.{Fen}
-use Rattle.chess_cli.specs.Answers.{Tells}
-use Rattle.chess_cli.specs.Requests.{request}
-use Rattle.chess_slots.specs.Answers.{IsReplied}
+use Rattle.chess_slots.specs.Answers.{IsTold}
 use Rattle.chess_slots.specs.Codes.{ok}
-use Rattle.chess_slots.specs.Handed.{IsAnsweredBy}
 use Rattle.chess_slots.specs.Headings.{HeadingParts}
 use Rattle.chess_slots.specs.Loads.{LoadsFrom}
-use Rattle.chess_slots.specs.Within.{IsRepliedWithin}
 use Rattle.chess_c.specs.Asked.{SaysAdded}
 use Rattle.chess_c.specs.Calls.{Acts, ActsOnHeading, AsksHeading, IsAnswered, IsReplying, IsReplyingWithin}
 use Rattle.chess_c.specs.Codes.{ended_code, refusal_code}
+use Rattle.chess_c.specs.Engines.{IsRepliedFrom, IsRepliedWithinFrom}
 use Rattle.chess_c.specs.Held.{Held, Searching, with_board, with_engine, with_heading, with_search}
 use Rattle.chess_c.specs.Loads.{Loads}
 use Rattle.chess_c.specs.Searches.{IsBegun, IsBegunFrom, IsSliced, IsSlicedWithin, SlicedFrom, SlicedWithinFrom}
@@ -60,21 +57,21 @@ same_but_engine held after kb kh ks =
     ∙ ap (λ (h : HeadingParts). record { board = held.board; heading = h; search = after.search; engine = after.engine }) kh
     ∙ ap (λ (s : Option Searching). record { board = held.board; heading = held.heading; search = s; engine = after.engine }) ks
 
-pub answered_some : (line : List ℕ) → (old new : Option Held) → (held after : Held) → (text : List ℕ) → (code count count' : ℕ) → (room room' : List ℕ)
-    → old ≡ Some held → new ≡ Some after → after.heading ≡ held.heading → after.search ≡ held.search → after.engine ≡ held.engine → Tells held.board (request line) text after.board → IsAnsweredBy text code count count' room room'
+pub answered_some : (line : List ℕ) → (old new : Option Held) → (held after : Held) → (code count count' : ℕ) → (room room' : List ℕ)
+    → old ≡ Some held → new ≡ Some after → after.heading ≡ held.heading → after.search ≡ held.search → after.engine ≡ held.engine → IsTold held.board line code count count' room room' after.board
     → IsAnswered old line code count count' room room' new
-answered_some line old new held after text code count count' room room' is en kh ks ke tells told =
-    subst (λ (o : Option Held). IsAnswered o line code count count' room room' new) (sym is) (text, after.board, tells, told, en ∙ ap (λ (h : Held). Some h) (same_but_board held after kh ks ke))
+answered_some line old new held after code count count' room room' is en kh ks ke told =
+    subst (λ (o : Option Held). IsAnswered o line code count count' room room' new) (sym is) (after.board, told, en ∙ ap (λ (h : Held). Some h) (same_but_board held after kh ks ke))
 
 pub replying_some : (event : Event) → (old new : Option Held) → (held after : Held) → (code count count' : ℕ) → (room room' : List ℕ)
-    → old ≡ Some held → new ≡ Some after → after.board ≡ held.board → after.heading ≡ held.heading → after.search ≡ held.search → IsReplied event held.engine after.engine code count' room room'
-    → IsReplying event old code count count' room room' new
+    → old ≡ Some held → new ≡ Some after → after.board ≡ held.board → after.heading ≡ held.heading → after.search ≡ held.search
+    → IsRepliedFrom event held.engine after.engine code count count' room room' → IsReplying event old code count count' room room' new
 replying_some event old new held after code count count' room room' is en kb kh ks replied =
     subst (λ (o : Option Held). IsReplying event o code count count' room room' new) (sym is) (after.engine, replied, en ∙ ap (λ (h : Held). Some h) (same_but_engine held after kb kh ks))
 
 pub replying_within_some : (says : ℕ → Option Bool) → (old new : Option Held) → (held after : Held) → (nodes nodes' : ℕ) → (made made' : Bool) → (code count count' : ℕ)
     → (room room' : List ℕ) → old ≡ Some held → new ≡ Some after → after.board ≡ held.board → after.heading ≡ held.heading → after.search ≡ held.search
-    → IsRepliedWithin says held.engine after.engine nodes' made' code count' room room' → IsReplyingWithin says old nodes nodes' made made' code count count' room room' new
+    → IsRepliedWithinFrom says held.engine after.engine nodes nodes' made made' code count count' room room' → IsReplyingWithin says old nodes nodes' made made' code count count' room room' new
 replying_within_some says old new held after nodes nodes' made made' code count count' room room' is en kb kh ks replied =
     subst (λ (o : Option Held). IsReplyingWithin says o nodes nodes' made made' code count count' room room' new) (sym is)
     (after.engine, replied, en ∙ ap (λ (h : Held). Some h) (same_but_engine held after kb kh ks))

@@ -3,24 +3,22 @@
 --   Acts   of a call that may change the board: an empty slot is answered so; else the call on the board may end so, from the one board to the other
 --   AsksHeading, ActsOnHeading   the same two of a call on the tags and the end of a game
 --   IsCopied     of a copy into another slot: it is there, or there is no memory and the other slot is as it was
---   IsAnswered   of a line: the board may answer it with a text, and go from the one board to the other; the text is handed out, or there was no memory
---   IsReplying   of an event: the engine replies to it (`IsReplied`)
+--   IsAnswered   of a line: the board may answer it with a text, and go from the one board to the other; the text is handed out, or there was no memory, and all is as
+--                before (`IsTold`)
+--   IsReplying   of an event: the engine replies to it (`IsRepliedFrom`)
 --   IsSearching, IsInfinite, IsWaiting, IsEnded   what is shown of the engine: whether it searches, without an end of its own, and waits for `stop`; whether `quit` came
 --   IsTimed      after how many milliseconds the clock ends the search; the status of none where it ends none
---   IsReplyingWithin   of a slice that may be abandoned (`IsRepliedWithin`)
+--   IsReplyingWithin   of a slice that may be abandoned (`IsRepliedWithinFrom`)
 use Rattle.std.specs.Prelude.{◌≡◌, ◌⊎◌, ℕ, Bool, List, Option, Some, None, is_some, Result}
 use Rattle.chess_tree.specs.GameTree.{TreeParts}
 use Rattle.chess_uci.specs.declared.event.Event.{Event}
 use Rattle.chess_uci.specs.Machine.{State, is_infinite, is_waiting, time_left}
 use Rattle.chess_cli.specs.declared.board_command.refusal.Refusal.{Refusal}
-use Rattle.chess_cli.specs.Answers.{Tells}
-use Rattle.chess_cli.specs.Requests.{request}
-use Rattle.chess_slots.specs.Answers.{IsReplied}
+use Rattle.chess_slots.specs.Answers.{IsTold}
 use Rattle.chess_slots.specs.Codes.{empty_slot, no_memory, none_best, ok}
-use Rattle.chess_slots.specs.Handed.{IsAnsweredBy}
 use Rattle.chess_slots.specs.Headings.{HeadingParts}
-use Rattle.chess_slots.specs.Within.{IsRepliedWithin}
 use Rattle.chess_c.specs.Codes.{ended_code}
+use Rattle.chess_c.specs.Engines.{IsRepliedFrom, IsRepliedWithinFrom}
 use Rattle.chess_c.specs.Held.{Held, copy_of, with_board, with_engine, with_heading}
 
 -- a call that looks: an empty slot, or an answer and all as before
@@ -52,20 +50,20 @@ IsCopied (Some held) code other other' = ((code ≡ ok) × (other' ≡ Some (cop
 abbrev pub IsAnswered : Option Held → List ℕ → (code count count' : ℕ) → (room room' : List ℕ) → Option Held → Type 0
 IsAnswered None line code count count' room room' new = (code ≡ empty_slot) × (new ≡ None) × (count' ≡ count) × (room' ≡ room)
 IsAnswered (Some held) line code count count' room room' new =
-    (text : List ℕ) × (after : TreeParts) × Tells held.board (request line) text after × IsAnsweredBy text code count count' room room' × (new ≡ Some (with_board after held))
+    (after : TreeParts) × IsTold held.board line code count count' room room' after × (new ≡ Some (with_board after held))
 
 -- an event is replied to
 abbrev pub IsReplying : Event → Option Held → (code count count' : ℕ) → (room room' : List ℕ) → Option Held → Type 0
 IsReplying event None code count count' room room' new = (code ≡ empty_slot) × (new ≡ None) × (count' ≡ count) × (room' ≡ room)
 IsReplying event (Some held) code count count' room room' new =
-    (after : State) × IsReplied event held.engine after code count' room room' × (new ≡ Some (with_engine after held))
+    (after : State) × IsRepliedFrom event held.engine after code count count' room room' × (new ≡ Some (with_engine after held))
 
 -- a slice is replied to, or abandoned as a watch says
 abbrev pub IsReplyingWithin : (says : ℕ → Option Bool) → Option Held → (nodes nodes' : ℕ) → (made made' : Bool) → (code count count' : ℕ) → (room room' : List ℕ) → Option Held → Type 0
 IsReplyingWithin says None nodes nodes' made made' code count count' room room' new =
     (code ≡ empty_slot) × (new ≡ None) × (nodes' ≡ nodes) × (made' ≡ made) × (count' ≡ count) × (room' ≡ room)
 IsReplyingWithin says (Some held) nodes nodes' made made' code count count' room room' new =
-    (after : State) × IsRepliedWithin says held.engine after nodes' made' code count' room room' × (new ≡ Some (with_engine after held))
+    (after : State) × IsRepliedWithinFrom says held.engine after nodes nodes' made made' code count count' room room' × (new ≡ Some (with_engine after held))
 
 -- whether the engine searches
 abbrev pub IsSearching : Option Held → ℕ → (searching searching' : Bool) → Option Held → Type 0

@@ -1,9 +1,12 @@
 pub mod Asked
 pub mod Calls
 pub mod Codes
+pub mod Engines
 pub mod Held
 pub mod Loads
 pub mod Moves
+pub mod Books
+pub mod Kinds
 pub mod Positions
 pub mod Searches
 pub mod Slots

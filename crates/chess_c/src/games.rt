@@ -40,7 +40,7 @@ pub extern "C" fn jatshegi_game_report(
 /// given up with a game that can't be read, which the text alone decides (`GivesUp` of `chess_items`). 2 where there is no memory, and the number is as it
 /// was.
 #[unsafe(no_mangle)]
-pub extern "C" fn jatshegi_game_pass(alloc: Global, text: &[u8], used: &mut u64) -> u32
+pub extern "C" fn jatshegi_game_pass(alloc: Global, text: &[u8], used: &mut usize) -> u32
     ensures { IsPassed text.now result used.old used.new }
 {
     passed(&alloc, text, used)

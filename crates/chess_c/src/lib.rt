@@ -6,12 +6,15 @@
 #![tactic(auto)]
 
 mod asked;
+mod books;
 mod codes;
 mod edits;
 mod engine;
 mod flag;
 mod games;
+mod kept_engine;
 mod keys;
+mod kinds;
 mod life;
 mod lines;
 mod moves;

@@ -1,4 +1,4 @@
-ghost use Rattle.std.specs.Prelude.{◌≡◌, ◌⊎◌, Some, None, true};
+ghost use Rattle.std.specs.Prelude.{◌≡◌, ◌⊎◌, Some, None, if◌then◌else◌, is_some, true};
 ghost use Rattle.chess_fen.specs.Reading.{fen_reading};
 ghost use Rattle.chess_cli.specs.Answers.{HasEffect, set_effect};
 ghost use Rattle.chess_c.specs.Calls.{Acts, IsCopied};
@@ -58,6 +58,21 @@ pub extern "C" fn jatshegi_board_free(alloc: Global, slot: &mut Slot)
     ensures { slot.new.held ≡ None }
 {
     drop(take(slot, alloc));
+}
+
+/// Gives back what memory the board doesn't need between calls: the page on which the answers to lines are written, which the next line asks for again. The
+/// board, its search and its engine stay as they are.
+#[unsafe(no_mangle)]
+pub extern "C" fn jatshegi_board_trim(alloc: Global, slot: &mut Slot) -> u32
+    ensures code { result ≡ (if is_some slot.old.held then 0 else 1) }
+    ensures same { slot.new.held ≡ slot.old.held }
+{
+    let Some(mut session) = take(slot, alloc) else {
+        return EMPTY;
+    };
+    session.trim();
+    put(slot, session, alloc);
+    OK
 }
 
 /// Begins a tree from the position of a FEN; the one that was there is freed.

@@ -1,19 +1,19 @@
-//! What stays where C keeps it: a board, a search, an engine, and the page on which answers are written.
-ghost use Rattle.std.specs.Prelude.{◌≡◌, ◌≤◌, ℕ, List, IfOk, is_some};
-ghost use Rattle.chess_cli.specs.Answers.{Tells};
-ghost use Rattle.chess_cli.specs.Requests.{request};
+//! What stays where C keeps it: a board, a search, an engine, and the page on which answers to lines are written.
+ghost use Rattle.std.specs.Prelude.{◌≡◌, ◌≤◌, [], IfOk, IfSome, is_some};
 ghost use Rattle.chess_tree.specs.GameTree.{line_to};
 ghost use Rattle.chess_pgn.specs.Written.{game_text};
-ghost use Rattle.chess_slots.specs.Answers.{IsReplied};
+ghost use Rattle.chess_slots.specs.Answers.{IsTold};
 ghost use Rattle.chess_slots.specs.Handed.{IsAnsweredBy};
-ghost use Rattle.chess_slots.specs.Within.{IsRepliedWithin, says_within};
+ghost use Rattle.chess_slots.specs.Within.{says_within};
 ghost use Rattle.chess_c.specs.Asked.{IsBest, IsBestWithin};
 ghost use Rattle.chess_c.specs.Calls.{IsLeft};
 ghost use Rattle.chess_uci.specs.Machine.{is_infinite, is_waiting, time_left};
+ghost use Rattle.chess_c.specs.Engines.{IsRepliedFrom, IsRepliedWithinFrom};
 ghost use Rattle.chess_c.specs.Held.{beginning, copy_of};
 ghost use Rattle.chess_slots.specs.Loads.{LoadsFrom};
 ghost use Rattle.chess_c.specs.Searches.{IsBegunFrom, SlicedFrom, SlicedWithinFrom, best_of};
 
+use crate::kept_engine::Engine;
 use crate::moves::CMove;
 use crate::search::{Search, best_of_all};
 use chess_cli::Board;
@@ -21,37 +21,37 @@ use chess_key::KeyTable;
 use chess_loop::OutputBuffer;
 use chess_search::Nodes;
 use chess_slots::{
-    ABANDONED, ARGUMENT, Heading, MEMORY, NONE, OK, Within, answer, cursor_line, load, reply,
-    reply_within, whole_game,
+    ABANDONED, ARGUMENT, Heading, MEMORY, NONE, OK, Within, answer, cursor_line, load, whole_game,
 };
 use chess_tree::TreeFault;
 use chess_types::Move;
-use chess_uci::{Event, Session as Uci};
+use chess_uci::Event;
 use std::alloc::Global;
 use std::marker::Model;
 
-/// A board, a search and an engine whose allocator and keys stay for good. The page is empty between calls.
+/// A board, a search and an engine whose allocator and keys stay for good. A search takes memory once it is begun, an engine once an event comes, and the page once a
+/// line is answered; it is empty between calls.
 #[derive(Drop)]
 pub struct Session {
     pub board: Board<'static, Global>,
     pub heading: Heading<'static, Global>,
-    pub search: Option<Search>,
-    engine: Uci<'static, Global>,
-    page: OutputBuffer<Global>,
+    pub search: Option<Box<Search, Global>>,
+    engine: Engine,
+    page: Option<OutputBuffer<Global>>,
     table: &'static KeyTable,
 }
 
 impl Model for Session {
-    ghost use Rattle.std.specs.Prelude.{◌≡◌, []};
+    ghost use Rattle.std.specs.Prelude.{◌≡◌, [], IfSome, option_map};
     ghost use Rattle.chess_c.specs.Held.{Held, coded_held};
 
     ghost Value = { Held };
 
     ghost coded = { coded_held };
 
-    ghost view = { λ s. record { board = s.board; heading = s.heading; search = s.search; engine = s.engine } };
+    ghost view = { λ s. record { board = s.board; heading = s.heading; search = option_map (λ kept. kept.value) s.search; engine = s.engine } };
 
-    ghost invariant = { λ s. s.page ≡ [] };
+    ghost invariant = { λ s. IfSome s.page (λ page. page ≡ []) };
 }
 
 // The best move and its value, if there is one.
@@ -73,14 +73,13 @@ impl Session {
     pub fn new(alloc: &'static Global, table: &'static KeyTable) -> Result<Session, TreeFault>
         ensures { IfOk result (λ s. s ≡ beginning) }
     {
-        let page = OutputBuffer::new(*alloc)?;
         let board = Board::new(alloc, table)?;
         Ok(Session {
             board,
             heading: Heading::new(alloc),
             search: None,
-            engine: Uci::new(alloc, table),
-            page,
+            engine: Engine::new(),
+            page: None,
             table,
         })
     }
@@ -89,29 +88,53 @@ impl Session {
     pub fn copy(&self) -> Result<Session, TreeFault>
         ensures { IfOk result (λ s. s ≡ copy_of self.now) }
     {
-        let alloc = self.heading.alloc();
-        let page = OutputBuffer::new(*alloc)?;
         let board = self.board.copy()?;
         let heading = self.heading.clone()?;
         Ok(Session {
             board,
             heading,
             search: None,
-            engine: Uci::new(alloc, self.table),
-            page,
+            engine: Engine::new(),
+            page: None,
             table: self.table,
         })
     }
 
-    /// Answers a line, and hands out the text: 0, or `ROOM` where it is longer than the room for it, or `MEMORY` where there is none to gather it in.
-    /// The line has been answered all the same.
+    // The page, taken out; where there is none yet, another one. `None` where there is no memory for that.
+    fn take_page(&mut self, alloc: Global) -> Option<OutputBuffer<Global>>
+        ensures empty { IfSome result (λ page. page ≡ []) }
+        ensures as_before { self.new ≡ self.old }
+    {
+        if let Some(page) = self.page.take() {
+            return Some(page);
+        }
+        match OutputBuffer::new(alloc) {
+            Ok(page) => Some(page),
+            Err(_) => None,
+        }
+    }
+
+    /// Gives the page back, if there is one; the next line asks for its memory again.
+    pub fn trim(&mut self)
+        ensures { self.new ≡ self.old }
+    {
+        self.page = None;
+    }
+
+    /// Answers a line, and hands out the text: 0, or `ROOM` where it is longer than the room for it; the line has been answered all the same. Or `MEMORY` where
+    /// there is none for the page or to gather the answer in: all is as before.
     pub fn answer(&mut self, alloc: Global, line: &[u8], room: &mut [u8], count: &mut usize) -> u32
-        ensures board { (text : List ℕ) × Tells self.old.board (request line.now) text self.new.board × IsAnsweredBy text result count.old count.new room.old room.new }
+        ensures board { IsTold self.old.board line.now result count.old count.new room.old room.new self.new.board }
         ensures heading { self.new.heading ≡ self.old.heading }
         ensures search { self.new.search ≡ self.old.search }
         ensures engine { self.new.engine ≡ self.old.engine }
     {
-        answer(&mut self.board, &mut self.page, alloc, line, room, count)
+        let Some(mut page) = self.take_page(alloc) else {
+            return MEMORY;
+        };
+        let code = answer(&mut self.board, &mut page, alloc, line, room, count);
+        self.page = Some(page);
+        code
     }
 
     /// Hands out the whole game in export form, with its tags and its end (PGN 3.2).
@@ -121,39 +144,34 @@ impl Session {
         whole_game(&self.heading, self.board.tree(), room, count)
     }
 
-    /// What the event is replied, each reply on a line of its own.
+    /// What the event is replied, each reply on a line of its own; `MEMORY` where it is the first one, and there is no memory for the engine.
     pub fn event(&mut self, event: Event, room: &mut [u8], count: &mut usize) -> u32
-        ensures engine { IsReplied event.entry self.old.engine self.new.engine result count.new room.old room.new }
+        ensures engine { IsRepliedFrom event.entry self.old.engine self.new.engine result count.old count.new room.old room.new }
         ensures board { self.new.board ≡ self.old.board }
         ensures heading { self.new.heading ≡ self.old.heading }
         ensures search { self.new.search ≡ self.old.search }
     {
-        reply(&mut self.engine, &mut self.page, event, room, count)
+        let alloc = self.heading.alloc();
+        self.engine.event(alloc, self.table, event, room, count)
     }
 
-    /// What a slice that may be abandoned is replied, each reply on a line of its own.
+    /// What a slice that may be abandoned is replied, each reply on a line of its own; `MEMORY` as at `event`.
     pub fn slice_of_engine(
         &mut self,
-        mut watch: Within<'_>,
+        watch: Within<'_>,
         visited: &mut u64,
         searched: &mut bool,
         room: &mut [u8],
         count: &mut usize,
     ) -> u32
-        ensures engine { IsRepliedWithin (says_within watch.entry.nodes (is_some watch.entry.flag)) self.old.engine self.new.engine visited.new searched.new result count.new room.old room.new }
+        ensures engine { IsRepliedWithinFrom (says_within watch.entry.nodes (is_some watch.entry.flag)) self.old.engine self.new.engine visited.old visited.new searched.old searched.new result count.old count.new room.old room.new }
         ensures board { self.new.board ≡ self.old.board }
         ensures heading { self.new.heading ≡ self.old.heading }
         ensures search { self.new.search ≡ self.old.search }
     {
-        reply_within(
-            &mut self.engine,
-            &mut self.page,
-            &mut watch,
-            visited,
-            searched,
-            room,
-            count,
-        )
+        let alloc = self.heading.alloc();
+        self.engine
+            .slice(alloc, self.table, watch, visited, searched, room, count)
     }
 
     /// Whether the engine searches.
@@ -188,13 +206,7 @@ impl Session {
     pub fn time_left(&self, left: &mut u64) -> u32
         ensures { IsLeft (time_left self.now.engine) result left.old left.new }
     {
-        match self.engine.time_left() {
-            Some(time) => {
-                *left = time;
-                OK
-            }
-            None => NONE,
-        }
+        self.engine.time_left(left)
     }
 
     /// Begins with the game at the start of a text, and says how many bytes of the text it takes; else what `load` of chess_slots answers of the text.
@@ -218,7 +230,10 @@ impl Session {
         }
         match Search::start(alloc, self.table, self.board.tree(), depth) {
             Ok(Some(search)) => {
-                self.search = Some(search);
+                let Ok(kept) = Box::new(alloc, search) else {
+                    return MEMORY;
+                };
+                self.search = Some(kept);
                 OK
             }
             Ok(None) => NONE,

@@ -11,7 +11,8 @@ use Rattle.std.proofs.lemmas.Str.Parse.{not_in_digits}
 use Rattle.chess_cli.specs.Gaps.{gapped}
 use Rattle.chess_cli.specs.Numbers.{number_in, numbers_in, path_in, path_text}
 use Rattle.chess_cli.proofs.NumberLemmas.{digits_own}
-use Rattle.chess_cli.proofs.PathLemmas.{parts_of, path_in-root, path_in-parts}
+use Rattle.chess_cli.specs.steps.Replies.{parts_of}
+use Rattle.chess_cli.proofs.PathLemmas.{path_in-root, path_in-parts}
 
 -- a number of at most six digits is read back
 number_in-decimal : (n : ℕ) → n < 1000000 → number_in (decimal n) ≡ Some n

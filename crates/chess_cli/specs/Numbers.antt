@@ -4,15 +4,11 @@
 --   depth_in    the depth that a word writes
 --   path_in     the path that a word writes
 --   path_text   the word that writes a path
---   ReadsPath   a word is read as a path
-use Rattle.std.specs.Prelude.{◌≡◌, ℕ, Bool, ◌<◌, ◌==◌, nat_le, ◌&&◌, if◌then◌else◌, ◌≤◌, List, [], ◌∷◌, length, map, take, Option, Some, None, option_map, option_and_then, codes, decimal}
+use Rattle.std.specs.Prelude.{ℕ, Bool, ◌==◌, nat_le, ◌&&◌, if◌then◌else◌, List, [], ◌∷◌, length, map, Option, Some, None, option_map, option_and_then, codes, decimal}
 use Rattle.std.specs.Char.{is_ascii_digit}
 use Rattle.std.specs.List.{list_all, slice_split}
 use Rattle.std.specs.Str.{bytes_eq, byte}
 use Rattle.std.specs.Str.Parse.{digits_value}
-use Rattle.chess_draws.specs.Pushes.{most_plies}
-use Rattle.chess_cli.specs.declared.board_command.numbers.PathWord.{PathWord}
-use Rattle.chess_cli.specs.declared.board_command.numbers.PathWord.TheVariants.{Read, TooLong, Malformed}
 use Rattle.chess_cli.specs.Gaps.{separated_by}
 
 -- one to six decimal digits; zeros may stand first
@@ -40,9 +36,3 @@ path_in word = if bytes_eq word (codes "-") then Some [] else numbers_in (slice_
 abbrev pub path_text : List ℕ → List ℕ
 path_text [] = codes "-"
 path_text (place ∷ path) = separated_by (codes ".") (map decimal (place ∷ path))
-
--- How a word is read as a path, to go before these places.
-abbrev pub ReadsPath : List ℕ → List ℕ → PathWord → Type 0
-ReadsPath word places (Read count) = (count ≤ most_plies) × (path_in word ≡ Some (take count places))
-ReadsPath word places TooLong = (longer : List ℕ) × (path_in word ≡ Some longer) × (most_plies < length longer)
-ReadsPath word places Malformed = path_in word ≡ None

@@ -2,6 +2,7 @@
 
 mod answer;
 mod command;
+mod goto;
 mod lists;
 mod machine;
 mod numbers;

@@ -1,10 +1,14 @@
 -- What was sent by way of a page: what a sink in memory has, and what stands on the page.
 use Rattle.std.proofs.Common.{◌≡◌, ℕ, List, [], ◌++◌, refl, sym, ap, ◌∙◌, subst, inl, inr}
-use Rattle.std.specs.Prelude.{Bool, false, T, Result, Ok, Err, MatchResult}
+use Rattle.std.specs.Prelude.{Bool, false, T, Result, Ok, Err, MatchResult, OnErr}
 use Rattle.byte_streams.specs.Calls.{joined}
 use Rattle.byte_streams.proofs.CallLemmas.{Calls-taken, Carries-none}
 use Rattle.chess_loop.specs.steps.Sending.{Sent, SentOr, Sends, Flows}
-use Rattle.chess_slots.specs.Handed.{IsHanded, IsAnsweredBy}
+use Rattle.chess_tree.specs.GameTree.{TreeParts}
+use Rattle.chess_cli.specs.Answers.{Tells}
+use Rattle.chess_cli.specs.Requests.{request}
+use Rattle.chess_slots.specs.Answers.{IsTold}
+use Rattle.chess_slots.specs.Handed.{IsHanded}
 use Rattle.chess_slots.specs.Texts.{Text}
 
 abbrev pub takes : Text → List ℕ → Text → Type 0
@@ -27,11 +31,11 @@ never_fails {X = X} {E = E} takes failed never r e is page page1 w w1 flows =
     let broken = subst (λ (x : Result X E). SentOr takes failed w page page1 w1 x) is (flows w page begun) in
     absurd (subst (λ (b : Bool). T b) (sym broken.fails ∙ never w1) tt)
 
--- what was told is handed out, or there was no memory; nothing was written before, and nothing stood on the page
+-- what was told is handed out, or there was no memory and all is as before; nothing was written before, and nothing stood on the page
 pub handed_told : {X E : Type 0} → (r : Result X E) → (w0 w1 : Text) → (text p0 p1 : List ℕ) → p0 ≡ [] → w0.taken ≡ [] → Sends takes failed p0 w0 text p1 w1 r
     → (code count count' : ℕ) → (old new : List ℕ) → MatchResult r (λ _. IsHanded (w1.taken ++ p1) code count' old new) (λ _. (code ≡ 2) × (count' ≡ count) × (new ≡ old))
-    → IsAnsweredBy text code count count' old new
-handed_told (Ok x) w0 w1 text p0 p1 e0 ew sends code count count' old new told =
+    → (line : List ℕ) → (board board' : TreeParts) → Tells board (request line) text board' → OnErr r (board' ≡ board) → IsTold board line code count count' old new board'
+handed_told (Ok x) w0 w1 text p0 p1 e0 ew sends code count count' old new told line board board' tells still =
     let begun : Sent takes failed w0 [] p0 w0 = record { prefix = []; calls = Carries-none takes w0; whole = e0; well = refl } in
-    inl (subst (λ (t : List ℕ). IsHanded t code count' old new) (gathered w0 w1 text p1 ew (sends w0 [] begun)) told)
-handed_told (Err e) w0 w1 text p0 p1 e0 ew sends code count count' old new told = inr told
+    inl (text, tells, subst (λ (t : List ℕ). IsHanded t code count' old new) (gathered w0 w1 text p1 ew (sends w0 [] begun)) told)
+handed_told (Err e) w0 w1 text p0 p1 e0 ew sends code count count' old new told line board board' tells still = inr (told.0, still, told.1, told.2)

@@ -1,16 +1,14 @@
-//! Answers that are written on a page, and handed out from it.
-ghost use Rattle.std.specs.Prelude.{◌≡◌, ◌≤◌, ◌+◌, ◌++◌, ℕ, List, [], length, MatchResult};
-ghost use Rattle.chess_cli.specs.Answers.{Tells};
-ghost use Rattle.chess_cli.specs.Requests.{request};
+//! Answers of a board, which are written on a page, and replies of an engine; and how they are handed out.
+ghost use Rattle.std.specs.Prelude.{◌≡◌, ◌≤◌, ◌+◌, ◌++◌, [], length, MatchResult};
 ghost use Rattle.chess_cli.specs.TimedSessions.{reply_lines};
-ghost use Rattle.chess_slots.specs.Answers.{IsReplied};
-ghost use Rattle.chess_slots.specs.Handed.{IsHanded, IsAnsweredBy};
+ghost use Rattle.chess_slots.specs.Answers.{IsReplied, IsTold};
+ghost use Rattle.chess_slots.specs.Handed.{IsHanded};
 ghost use Rattle.chess_slots.specs.Within.{IsRepliedWithin};
 
 use crate::codes::MEMORY;
 use crate::gathered::{Gathered, Nowhere};
 use crate::texts::{hand, hand_both};
-use arrayvec::ArrayVec;
+use arrayvec::{ArrayString, ArrayVec};
 use byte_streams::Failed;
 use chess_cli::Board;
 use chess_loop::OutputBuffer;
@@ -18,8 +16,8 @@ use chess_search::Watch;
 use chess_uci::{Event, Reply, Session as Uci};
 use std::alloc::Allocator;
 
-/// Answers a line of the board, and hands out the text: 0, or `ROOM` where it is longer than the room for it, or `MEMORY` where there is none to gather it
-/// in. The line has been answered all the same. The page is empty between calls.
+/// Answers a line of the board, and hands out the text: 0, or `ROOM` where it is longer than the room for it; the line has been answered all the same. Or
+/// `MEMORY` where there is none to gather the answer to `path` or `pgn` in: all is as before. The page is empty between calls.
 pub fn answer<A: Allocator, B: Allocator, C: Allocator>(
     board: &mut Board<'_, A>,
     page: &mut OutputBuffer<B>,
@@ -29,7 +27,7 @@ pub fn answer<A: Allocator, B: Allocator, C: Allocator>(
     count: &mut usize,
 ) -> u32
     requires { page.old ≡ [] }
-    ensures told { (text : List ℕ) × Tells board.old (request line.now) text board.new × IsAnsweredBy text result count.old count.new room.old room.new }
+    ensures told { IsTold board.old line.now result count.old count.new room.old room.new board.new }
     ensures page { page.new ≡ [] }
 {
     let mut gathered = Gathered::new(alloc);
@@ -39,61 +37,62 @@ pub fn answer<A: Allocator, B: Allocator, C: Allocator>(
     code
 }
 
-/// What an engine replies to an event, each reply on a line of its own, at most 260 bytes in all. The page is empty between calls.
-pub fn reply<A: Allocator, B: Allocator>(
+/// What an engine replies to an event, each reply on a line of its own, at most 260 bytes in all.
+pub fn reply<A: Allocator>(
     engine: &mut Uci<'_, A>,
-    page: &mut OutputBuffer<B>,
     event: Event<'_>,
     room: &mut [u8],
     count: &mut usize,
 ) -> u32
-    requires { page.old ≡ [] }
-    ensures engine { IsReplied event.entry engine.old engine.new result count.new room.old room.new }
-    ensures page { page.new ≡ [] }
+    ensures { IsReplied event.entry engine.old engine.new result count.new room.old room.new }
 {
     let replies = engine.event(event);
-    put_replies(page, &replies);
-    let code = hand(page.text(), room, count);
-    clear(page);
-    code
+    hand_replies(&replies, room, count)
 }
 
 /// What an engine replies to a slice that a watch may have abandoned, each reply on a line of its own; nothing where it was abandoned. `nodes` says how many
-/// positions were asked for, `made` whether it wasn't abandoned. The page is empty between calls.
-pub fn reply_within<A: Allocator, B: Allocator, W: Watch>(
+/// positions were asked for, `made` whether it wasn't abandoned.
+pub fn reply_within<A: Allocator, W: Watch>(
     engine: &mut Uci<'_, A>,
-    page: &mut OutputBuffer<B>,
     watch: &mut W,
     nodes: &mut u64,
     made: &mut bool,
     room: &mut [u8],
     count: &mut usize,
 ) -> u32
-    requires { page.old ≡ [] }
     ensures stays { W.says watch.new ≡ W.says watch.old }
     ensures engine { IsRepliedWithin (W.says watch.old) engine.old engine.new nodes.new made.new result count.new room.old room.new }
-    ensures page { page.new ≡ [] }
 {
     match engine.slice_within(watch, nodes) {
         Some(replies) => {
             *made = true;
-            put_replies(page, &replies);
+            hand_replies(&replies, room, count)
         }
-        None => *made = false,
+        None => {
+            *made = false;
+            hand(&[], room, count)
+        }
     }
-    let code = hand(page.text(), room, count);
-    clear(page);
-    code
+}
+
+// Hands out the replies, each on a line of its own.
+fn hand_replies(replies: &ArrayVec<Reply, 4>, room: &mut [u8], count: &mut usize) -> u32
+    ensures { IsHanded (reply_lines replies.now.items) result count.new room.old room.new }
+{
+    let text = lines_of(replies);
+    hand(text.as_str().as_bytes(), room, count)
 }
 
 // Each reply on a line of its own.
-fn put_replies<B: Allocator>(page: &mut OutputBuffer<B>, replies: &ArrayVec<Reply, 4>)
-    requires { length page.old + 260 ≤ 65536 }
-    ensures { page.new ≡ page.old ++ reply_lines replies.now.items }
+fn lines_of(replies: &ArrayVec<Reply, 4>) -> ArrayString<260>
+    ensures { result.bytes ≡ reply_lines replies.now.items }
 {
+    let mut text = ArrayString::new();
     for reply in replies.as_slice() {
-        page.put_line(reply.write().as_str());
+        text.push_str(reply.write().as_str());
+        text.push_str("\n");
     }
+    text
 }
 
 // The two parts of an answer, where it was told.

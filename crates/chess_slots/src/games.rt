@@ -64,23 +64,23 @@ pub fn game<A: Allocator>(
 /// How many bytes to pass over to what follows the game at the start of a text: those that it takes, or all where only whitespace follows, or those that are
 /// given up with a game that can't be read, which the text alone decides (`GivesUp` of `chess_items`). 2 where there is no memory, and the number is as it
 /// was.
-pub fn passed<A: Allocator>(alloc: &A, text: &[u8], used: &mut u64) -> u32
+pub fn passed<A: Allocator>(alloc: &A, text: &[u8], used: &mut usize) -> u32
     ensures { IsPassed text.now result used.old used.new }
 {
     match read_game(alloc, text) {
-        Ok(Some((found, taken))) => {
-            *used = taken as u64;
+        Ok(Some((found, end))) => {
+            *used = end;
             OK
         }
         Ok(None) => {
-            *used = text.len() as u64;
+            *used = text.len();
             OK
         }
         Err(fault) => {
             if !is_of_text(fault.kind) {
                 return MEMORY;
             }
-            *used = given_up(text) as u64;
+            *used = given_up(text);
             OK
         }
     }

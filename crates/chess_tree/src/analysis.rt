@@ -22,9 +22,6 @@ use chess_types::{Move, Position};
 use std::alloc::Allocator;
 use std::marker::Model;
 
-/// The plies for which a new line has room, so that a usual game's grows once or twice.
-const ROOM: u32 = 64;
-
 /// A game tree with a cursor, and the line of moves from the root to it, which every call keeps together. Contracts see the
 /// tree and the path to the cursor; the line is the one to the cursor (`line_to`).
 ///
@@ -95,10 +92,7 @@ impl<'a, 'k, A: Allocator> Analysis<'a, 'k, A> {
             unreachable!();
         };
         let tree = Tree::new(alloc, root)?;
-        let mut line = Line::start(alloc, start, table);
-        if line.reserve(ROOM).is_err() {
-            return Err(TreeFault::Memory);
-        }
+        let line = Line::start(alloc, start, table);
         Ok(Analysis { tree, line })
     }
 

@@ -4,23 +4,18 @@ use Rattle.std.specs.Prelude.{Option, Some}
 use Rattle.chess_tree.specs.GameTree.{TreeParts}
 use Rattle.chess_uci.specs.declared.event.Event.{Event}
 use Rattle.chess_uci.specs.Machine.{State}
-use Rattle.chess_cli.specs.Answers.{Tells}
-use Rattle.chess_cli.specs.Requests.{request}
-use Rattle.chess_slots.specs.Answers.{IsReplied}
-use Rattle.chess_slots.specs.Handed.{IsAnsweredBy}
+use Rattle.chess_slots.specs.Answers.{IsReplied, IsTold}
 use Rattle.chess_slots.specs.Headings.{HeadingParts}
 use Rattle.chess_slots.specs.Loads.{LoadsFrom}
 use Rattle.chess_web.specs.Calls.{ActsOnHeading, AsksHeading, IsAnswered, IsLoadedOf, IsReplying}
 use Rattle.chess_web.specs.Held.{Held, with_heading}
 
-pub answered_some : (line : List ℕ) → (old new : Option Held) → (held after : Held) → (text : List ℕ) → (code count count' : ℕ) → (room room' : List ℕ)
-    → old ≡ Some held → new ≡ Some after → after.heading ≡ held.heading → after.engine ≡ held.engine → Tells held.board (request line) text after.board
-    → IsAnsweredBy text code count count' room room' → IsAnswered old line code count count' room room' new
-answered_some line old new held after text code count count' room room' is en kh ke tells told =
+pub answered_some : (line : List ℕ) → (old new : Option Held) → (held after : Held) → (code count count' : ℕ) → (room room' : List ℕ)
+    → old ≡ Some held → new ≡ Some after → after.heading ≡ held.heading → after.engine ≡ held.engine → IsTold held.board line code count count' room room' after.board
+    → IsAnswered old line code count count' room room' new
+answered_some line old new held after code count count' room room' is en kh ke told =
     subst (λ (o : Option Held). IsAnswered o line code count count' room room' new) (sym is) (
-      text,
       after.board,
-      tells,
       told,
       en ∙ ap (λ (h : Held). Some h) (
           ap (λ (h : HeadingParts). record { board = after.board; heading = h; engine = after.engine }) kh

@@ -1,5 +1,6 @@
 -- What a call on a slot answers, and what it leaves there.
---   IsAnswered    of a line: the board may answer it with a text, and go from the one tree to the other; the text is handed out, or there was no memory
+--   IsAnswered    of a line: the board may answer it with a text, and go from the one tree to the other; the text is handed out, or there was no memory, and all is as
+--                 before (`IsTold`)
 --   IsNamed       of a text: the move that it names, handed out in long algebraic notation, or that it names none
 --   IsNamedOf     the same at the cursor of the board of the session in a slot, which stays as it was
 --   IsLoadedOf    of a text: the session in a slot has the game at its start (`LoadsFrom`), and the engine stays as it was
@@ -17,13 +18,11 @@ use Rattle.chess_san.specs.Naming.{san_reading}
 use Rattle.chess_tree.specs.GameTree.{TreeParts, line_to}
 use Rattle.chess_uci.specs.declared.event.Event.{Event}
 use Rattle.chess_uci.specs.Machine.{State}
-use Rattle.chess_cli.specs.Answers.{Tells}
-use Rattle.chess_cli.specs.Requests.{request}
 use Rattle.chess_slots.specs.declared.reports.GameReport.{GameReport}
-use Rattle.chess_slots.specs.Answers.{IsReplied}
+use Rattle.chess_slots.specs.Answers.{IsReplied, IsTold}
 use Rattle.chess_slots.specs.Codes.{empty_slot, not_legal, ok}
 use Rattle.chess_slots.specs.Games.{IsGame, IsPassed}
-use Rattle.chess_slots.specs.Handed.{IsHanded, IsAnsweredBy}
+use Rattle.chess_slots.specs.Handed.{IsHanded}
 use Rattle.chess_slots.specs.Headings.{HeadingParts}
 use Rattle.chess_slots.specs.Loads.{LoadsFrom}
 use Rattle.chess_slots.specs.Reports.{IsReport}
@@ -32,8 +31,7 @@ use Rattle.chess_web.specs.Held.{Held, with_board, with_engine, with_heading}
 abbrev pub IsAnswered : Option Held → List ℕ → (code count count' : ℕ) → (room room' : List ℕ) → Option Held → Type 0
 IsAnswered None line code count count' room room' new = (code ≡ empty_slot) × (new ≡ None) × (count' ≡ count) × (room' ≡ room)
 IsAnswered (Some held) line code count count' room room' new =
-    (text : List ℕ) × (after : TreeParts) × Tells held.board (request line) text after × IsAnsweredBy text code count count' room room'
-    × (new ≡ Some (with_board after held))
+    (after : TreeParts) × IsTold held.board line code count count' room room' after × (new ≡ Some (with_board after held))
 
 abbrev pub IsNamed : Result MoveParts SanFault → (code count count' : ℕ) → (room room' : List ℕ) → Type 0
 IsNamed (Ok m) code count count' room room' = IsHanded (move_text m) code count' room room'

@@ -48,7 +48,7 @@ pub extern "C" fn jatshegi_report(
 /// given up with a game that can't be read, which the text alone decides (`GivesUp` of `chess_items`). 2 where there is no memory, and the number is as it
 /// was.
 #[unsafe(no_mangle)]
-pub extern "C" fn jatshegi_pass(slot: &mut Slot, text: &[u8], used: &mut u64) -> u32
+pub extern "C" fn jatshegi_pass(slot: &mut Slot, text: &[u8], used: &mut usize) -> u32
     ensures { IsPassedOf slot.old.held text.now result used.old used.new slot.new.held }
 {
     let Some(session) = take(slot) else {

@@ -1,12 +1,10 @@
 //! What the page's memory keeps between calls: a board and what its game's text says beside it, an engine, and the page on which answers are written.
-ghost use Rattle.std.specs.Prelude.{◌≡◌, ℕ, List, is_some, IfSome};
+ghost use Rattle.std.specs.Prelude.{◌≡◌, is_some, IfSome};
 ghost use Rattle.chess_types.specs.board.Lines.{last};
 ghost use Rattle.chess_san.specs.Naming.{san_reading};
 ghost use Rattle.chess_tree.specs.GameTree.{line_to};
-ghost use Rattle.chess_cli.specs.Answers.{Tells};
-ghost use Rattle.chess_cli.specs.Requests.{request};
 ghost use Rattle.chess_pgn.specs.Written.{game_text};
-ghost use Rattle.chess_slots.specs.Answers.{IsReplied};
+ghost use Rattle.chess_slots.specs.Answers.{IsReplied, IsTold};
 ghost use Rattle.chess_slots.specs.Handed.{IsAnsweredBy};
 ghost use Rattle.chess_slots.specs.Loads.{LoadsFrom};
 ghost use Rattle.chess_web.specs.Calls.{IsNamed};
@@ -64,10 +62,10 @@ impl Session {
         })
     }
 
-    /// Answers a line of the board, and hands out the text: 0, or `ROOM` where it is longer than the room for it, or `MEMORY` where there is none to
-    /// gather it in. The line has been answered all the same.
+    /// Answers a line of the board, and hands out the text: 0, or `ROOM` where it is longer than the room for it; the line has been answered all the same. Or
+    /// `MEMORY` where there is none to gather the answer to `path` or `pgn` in: all is as before.
     pub fn answer(&mut self, line: &[u8], room: &mut [u8], count: &mut usize) -> u32
-        ensures board { (text : List ℕ) × Tells self.old.board (request line.now) text self.new.board × IsAnsweredBy text result count.old count.new room.old room.new }
+        ensures board { IsTold self.old.board line.now result count.old count.new room.old room.new self.new.board }
         ensures heading { self.new.heading ≡ self.old.heading }
         ensures engine { self.new.engine ≡ self.old.engine }
     {
@@ -113,7 +111,7 @@ impl Session {
         ensures board { self.new.board ≡ self.old.board }
         ensures heading { self.new.heading ≡ self.old.heading }
     {
-        reply(&mut self.engine, &mut self.page, event, room, count)
+        reply(&mut self.engine, event, room, count)
     }
 
     /// Whether a search runs.

@@ -30,8 +30,9 @@ ghost use Rattle.chess_fen.specs.Writing.{identity, written};
 
 use super::answer::{Pending, put_done, put_refused};
 use super::command::{Command, read_command};
+use super::goto::{find_node, follow};
 use super::lists::{put_moves, squares_text};
-use super::numbers::{PLACES, PathWord, depth_in, read_path};
+use super::numbers::depth_in;
 use super::outcomes::{best_text, claims_text};
 use super::path::write_path;
 use super::refusal::Refusal;
@@ -41,7 +42,7 @@ use byte_streams::{Failed, Sink};
 use chess_attack::checkers;
 use chess_draws::Line;
 use chess_key::KeyTable;
-use chess_loop::{LineHandler, OutputBuffer, Unread, filled};
+use chess_loop::{LineHandler, OutputBuffer, Unread};
 use chess_moves::is_legal;
 use chess_pgn::write_tree;
 use chess_play::Live;
@@ -56,8 +57,6 @@ use std::marker::Model;
 #[derive(Drop)]
 pub struct Board<'k, A: Allocator> {
     analysis: Analysis<'k, 'k, A>,
-    // The path of a `goto` is read into it.
-    places: Vec<u32, &'k A>,
     alloc: &'k A,
     table: &'k KeyTable,
 }
@@ -71,11 +70,6 @@ impl<'k, A: Allocator> Model for Board<'k, A> {
     ghost coded = { coded_tree };
 
     ghost view = { λ b. b.analysis };
-
-    ghost use Rattle.std.specs.Prelude.{◌≡◌, vec_len};
-    ghost use Rattle.chess_draws.specs.Pushes.{most_plies};
-
-    ghost invariant = { λ b. vec_len b.places ≡ most_plies };
 }
 
 // The position in which a game begins.
@@ -92,11 +86,9 @@ impl<'k, A: Allocator> Board<'k, A> {
     pub fn new(alloc: &'k A, table: &'k KeyTable) -> Result<Board<'k, A>, TreeFault>
         ensures { IfOk result (λ board. board ≡ beginning) }
     {
-        let places = filled(alloc, 0, PLACES)?;
         let analysis = Analysis::new(alloc, start_position(), table)?;
         Ok(Board {
             analysis,
-            places,
             alloc,
             table,
         })
@@ -109,14 +101,12 @@ impl<'k, A: Allocator> Board<'k, A> {
     {
         let tree = self.analysis.tree();
         let path = tree.path()?;
-        let places = filled(self.alloc, 0, PLACES)?;
         let mut analysis = Analysis::of(tree.clone()?, self.table)?;
         let Ok(()) = analysis.goto(path.as_slice()) else {
             unreachable!();
         };
         Ok(Board {
             analysis,
-            places,
             alloc: self.alloc,
             table: self.table,
         })
@@ -151,6 +141,14 @@ impl<'k, A: Allocator> Board<'k, A> {
         ensures as_before { self.new ≡ self.old }
     {
         self.analysis.moves()
+    }
+
+    /// Whether the move, any at all, is legal at the cursor (FIDE Laws 3.9.2, 3.10.1).
+    pub fn is_legal(&mut self, m: Move) -> bool
+        ensures value { result ≡ is_legal (last (line_to self.old)) m }
+        ensures as_before { self.new ≡ self.old }
+    {
+        self.analysis.is_legal(m)
     }
 
     /// Makes a move: steps to the first child that has it, else to a new one. Says whether it added a node, for `undo`.
@@ -252,6 +250,8 @@ impl<'k, A: Allocator> Board<'k, A> {
         requires { length page.old + 2600 ≤ 65536 }
         ensures reply { MayAnswer (IsOnPage result self.new page.old page.new) self.old (request line.now) self.new }
         ensures game { result ≡ Pending.Game → request line.now ≡ Pgn }
+        ensures path_looks { result ≡ Pending.Path → self.new ≡ self.old }
+        ensures game_looks { result ≡ Pending.Game → self.new ≡ self.old }
     {
         match read_command(line) {
             Command::Blank => {}
@@ -285,7 +285,7 @@ impl<'k, A: Allocator> Board<'k, A> {
         Pending::Nothing
     }
 
-    /// The same with the whole answer, a prefix of which may be written.
+    /// The same with the whole answer, a prefix of which may be written; where a write fails the board is as it was.
     pub fn put_whole_answer<B: Allocator, W: Sink>(
         &mut self,
         line: &[u8],
@@ -293,7 +293,8 @@ impl<'k, A: Allocator> Board<'k, A> {
         writer: &mut W,
     ) -> Result<(), Failed>
         requires { length page.old + 2600 ≤ 65536 }
-        ensures { (text : List ℕ) × Tells self.old (request line.now) text self.new × Sends W.takes W.failed page.old writer.old text page.new writer.new result }
+        ensures told { (text : List ℕ) × Tells self.old (request line.now) text self.new × Sends W.takes W.failed page.old writer.old text page.new writer.new result }
+        ensures as_before { OnErr result (self.new ≡ self.old) }
     {
         match self.put_answer(line, page) {
             Pending::Nothing => {}
@@ -440,18 +441,14 @@ impl<'k, A: Allocator> Board<'k, A> {
     fn goto(&mut self, word: &[u8]) -> Result<(), Refusal>
         ensures { HasEffect false (path_effect self.old (path_in word.now)) self.old result self.new }
     {
-        match read_path(word, self.places.as_mut_slice()) {
-            PathWord::Malformed => Err(Refusal::Argument),
-            PathWord::TooLong => {
-                // No node is more than 20,000 plies deep, as the clause `game` says.
-                let _tree = self.analysis.tree();
-                Err(Refusal::NoSuch)
-            }
-            PathWord::Read(count) => {
-                let path = &self.places.as_slice()[..count];
-                Ok(self.analysis.goto(path)?)
-            }
+        if word == b"-".as_slice() {
+            return self.start();
         }
+        if let Err(refusal) = find_node(self.analysis.tree(), word) {
+            return Err(refusal);
+        }
+        follow(&mut self.analysis, word);
+        Ok(())
     }
 
     /// Puts the node before its siblings.

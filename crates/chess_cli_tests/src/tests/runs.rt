@@ -205,7 +205,7 @@ fn refuses_a_line_without_memory(rt: HostRuntime) -> Result<(), Fail> {
 /// Without memory to begin with nothing is read or written.
 #[test]
 fn ends_without_memory(rt: HostRuntime) -> Result<(), Fail> {
-    let heap = LocalHeap::new(rt.alloc(), 200_000)?;
+    let heap = LocalHeap::new(rt.alloc(), 190_000)?;
     let mut reader = FromBytes::new(INPUT, 100);
     let mut room = [0; 200];
     let mut writer = ToBytes::new(&mut room, 200);

@@ -27,6 +27,14 @@ impl<'a, 'k, A: Allocator> Analysis<'a, 'k, A> {
         self.line.moves()
     }
 
+    /// Whether the move, any at all, is legal at the cursor (FIDE Laws 3.9.2, 3.10.1).
+    pub fn is_legal(&mut self, m: Move) -> bool
+        ensures value { result ≡ is_legal (last (line_to self.old)) m }
+        ensures as_before { self.new ≡ self.old }
+    {
+        self.line.is_legal(m)
+    }
+
     /// The legal move at the cursor that a text in standard algebraic notation names (PGN 8.2.3).
     ///
     /// # Errors

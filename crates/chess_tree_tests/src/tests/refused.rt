@@ -204,7 +204,7 @@ enum Trial {
 fn size_of(trial: Trial, number: usize) -> usize {
     match trial {
         Trial::Grow => number.saturating_mul(32).saturating_add(32),
-        Trial::Begin => number.saturating_mul(128).saturating_add(128),
+        Trial::Begin => number.saturating_mul(16).saturating_add(16),
         Trial::CallTree => 16_384,
         Trial::CallAnalysis => 65_536,
     }

@@ -6,7 +6,7 @@ use Rattle.chess_slots.proofs.games.passed.Goals as goal
 pub returns-in-Ok-Some : goal.returns-in-Ok-Some
 returns-in-Ok-Some g c =
     pass_game c.args.text.now (game_of c.in-Ok-Some.found) _ _
-    (some_found _ c.in-Ok-Some.field-0 (c.in-Ok-Some.found, c.in-Ok-Some.taken) c.in-Ok-Some.ensures.game c.in-Ok-Some.field-0-is)
+    (some_found _ c.in-Ok-Some.field-0 (c.in-Ok-Some.found, c.in-Ok-Some.end) c.in-Ok-Some.ensures.game c.in-Ok-Some.field-0-is)
 
 pub returns-else-not-is_of_text : goal.returns-else-not-is_of_text
 returns-else-not-is_of_text g c =

@@ -3,6 +3,4 @@ use Rattle.chess_web.proofs.CallLemmas.{answered_some}
 use Rattle.chess_web.proofs.board.jatshegi_board_answer.Goals as goal
 
 pub returns : goal.returns
-returns c =
-    let told = c.answer-code.ensures.board in
-    answered_some _ _ _ c.in-Some.session.value c.answer-code.new.self told.0 _ _ _ _ _ (search rules) (search rules) (search rules) (search rules) (search rules) (search rules)
+returns c = answered_some _ _ _ c.in-Some.session.value c.answer-code.new.self _ _ _ _ _ (search rules) (search rules) (search rules) (search rules) (search rules)

@@ -5,7 +5,7 @@ use Rattle.chess_cli.proofs.board_command.machine.BoardLineHandler.answer.Goals 
 
 pub returns : goal.returns
 returns g c =
-    let told = c.put_whole_answer.ensures in
+    let told = c.put_whole_answer.ensures.told in
     answers_one g.W.Sink.takes g.W.Sink.failed Answers c.args.self.now c.put_whole_answer.new.self c.args.line.now told.0 c.args.page.now c.put_whole_answer.new.page
     c.args.writer.now c.put_whole_answer.new.writer c.put_whole_answer.result
     (answers_whole c.args.self.now c.put_whole_answer.new.self c.args.line.now told.0 c.requires.short told.1) told.2
