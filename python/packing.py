@@ -1,13 +1,26 @@
-"""Packs the package with its library into a wheel for Linux on x86-64, by pip's interface for building (PEP 517). Nothing is compiled: the library is the
-one that tools/libraries put beside the package, else the released one of the clone."""
+"""Packs the package with its library by pip's interface for building (PEP 517 and 660): into a wheel for Linux on x86-64, into an archive of the sources that
+has the library in it, too, or for an editable install. Nothing is compiled: the library is the one that tools/libraries put beside the package, else the
+released one of the clone."""
 import base64
+import gzip
 import hashlib
+import io
 import os
 import re
+import tarfile
 import zipfile
 
-TAG = "py3-none-linux_x86_64"
+# The library needs nothing of glibc that is newer than 2.14; this is the oldest tag that pip still knows by this name.
+TAG = "py3-none-manylinux_2_17_x86_64"
 LIBRARIES = ["jatshegi/libjatshegi.so", "../release/x86_64-linux/lib/libjatshegi.so.1"]
+CLASSIFIERS = [
+    "Intended Audience :: Developers",
+    "Operating System :: POSIX :: Linux",
+    "Programming Language :: Python :: 3",
+    "Programming Language :: Python :: 3 :: Only",
+    "Topic :: Games/Entertainment :: Board Games",
+    "Typing :: Typed",
+]
 
 
 def read(path):
@@ -15,27 +28,69 @@ def read(path):
         return file.read()
 
 
-def build_wheel(wheel_directory, config_settings=None, metadata_directory=None):
-    """Writes the wheel into the folder, and returns its name."""
-    library = next((path for path in LIBRARIES if os.path.exists(path)), None)
-    if not library:
-        raise SystemExit(f"there is none of {', '.join(LIBRARIES)}: run tools/libraries of the repository first")
-    version = re.search(rb'__version__ = "(.*)"', read("jatshegi/__init__.py"))[1].decode()
-    about = f"jatshegi-{version}.dist-info"
-    files = [name for name in sorted(os.listdir("jatshegi")) if name.endswith((".py", ".typed"))]
-    entries = {f"jatshegi/{name}": read(f"jatshegi/{name}") for name in files} | {"jatshegi/libjatshegi.so": read(library)}
-    entries[f"{about}/METADATA"] = (
-        f"Metadata-Version: 2.1\nName: jatshegi\nVersion: {version}\nSummary: A chess board in which every answer is proved\n"
-        "License: MIT OR Apache-2.0\nRequires-Python: >=3.9\n"
-    ).encode()
-    entries[f"{about}/WHEEL"] = f"Wheel-Version: 1.0\nGenerator: jatshegi\nRoot-Is-Purelib: false\nTag: {TAG}\n".encode()
+def version():
+    return re.search(rb'__version__ = "(.*)"', read("jatshegi/__init__.py"))[1].decode()
+
+
+def library():
+    """The library's bytes."""
+    for path in LIBRARIES:
+        if os.path.exists(path):
+            return read(path)
+    raise SystemExit(f"there is none of {', '.join(LIBRARIES)}: run tools/libraries of the repository first")
+
+
+def sources():
+    """The package's own files by their paths."""
+    return {f"jatshegi/{name}": read(f"jatshegi/{name}") for name in sorted(os.listdir("jatshegi")) if name.endswith((".py", ".typed"))}
+
+
+def metadata():
+    lines = [
+        *("Metadata-Version: 2.1", "Name: jatshegi", f"Version: {version()}", "Summary: A chess board in which every answer is proved"),
+        *("License: MIT OR Apache-2.0", "Requires-Python: >=3.9", "Keywords: chess,pgn,fen,uci", *(f"Classifier: {it}" for it in CLASSIFIERS)),
+        "Description-Content-Type: text/markdown",
+    ]
+    about = read("README.md") if os.path.exists("README.md") else b""
+    return "\n".join(lines).encode() + b"\n\n" + about
+
+
+def write_wheel(folder, tag, entries):
+    """Writes a wheel of these files and what each wheel has, and returns its name."""
+    about = f"jatshegi-{version()}.dist-info"
+    entries[f"{about}/METADATA"] = metadata()
+    entries[f"{about}/WHEEL"] = f"Wheel-Version: 1.0\nGenerator: jatshegi\nRoot-Is-Purelib: false\nTag: {tag}\n".encode()
     lines = []
     for name, data in entries.items():
         digest = base64.urlsafe_b64encode(hashlib.sha256(data).digest()).rstrip(b"=").decode()
         lines.append(f"{name},sha256={digest},{len(data)}\n")
     entries[f"{about}/RECORD"] = ("".join(lines) + f"{about}/RECORD,,\n").encode()
-    wheel = f"jatshegi-{version}-{TAG}.whl"
-    with zipfile.ZipFile(os.path.join(wheel_directory, wheel), "w", zipfile.ZIP_DEFLATED) as packed:
+    wheel = f"jatshegi-{version()}-{tag}.whl"
+    with zipfile.ZipFile(os.path.join(folder, wheel), "w", zipfile.ZIP_DEFLATED) as packed:
         for name, data in entries.items():
             packed.writestr(zipfile.ZipInfo(name), data)
     return wheel
+
+
+def build_wheel(wheel_directory, config_settings=None, metadata_directory=None):
+    """Writes the wheel into the folder, and returns its name."""
+    return write_wheel(wheel_directory, TAG, sources() | {"jatshegi/libjatshegi.so": library()})
+
+
+def build_editable(wheel_directory, config_settings=None, metadata_directory=None):
+    """Writes a wheel that leads to this folder, where the package and its library are used as they are."""
+    library()
+    return write_wheel(wheel_directory, TAG, {"jatshegi.pth": f"{os.getcwd()}\n".encode()})
+
+
+def build_sdist(sdist_directory, config_settings=None):
+    """Writes an archive of the sources and the library, from which the wheel is built anywhere, and returns its name."""
+    name = f"jatshegi-{version()}"
+    entries = {"PKG-INFO": metadata(), **sources(), "jatshegi/libjatshegi.so": library()}
+    entries |= {path: read(path) for path in ("packing.py", "pyproject.toml", "README.md") if os.path.exists(path)}
+    with open(os.path.join(sdist_directory, f"{name}.tar.gz"), "wb") as file, gzip.GzipFile("", "wb", fileobj=file, mtime=0) as packed, tarfile.open(fileobj=packed, mode="w") as tar:
+        for path, data in sorted(entries.items()):
+            about = tarfile.TarInfo(f"{name}/{path}")
+            about.size, about.mode = len(data), 0o644
+            tar.addfile(about, io.BytesIO(data))
+    return f"{name}.tar.gz"

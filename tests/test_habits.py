@@ -4,14 +4,19 @@ import io
 import os
 import pickle
 import random
+import shutil
+import struct
 import subprocess
 import sys
 import tempfile
 import unittest
+import xml.dom.minidom
 
 import runs
 
 PACKAGE = f"{runs.TOP}/python"
+# (Debian puts games into a folder of their own)
+PATH = f"{os.environ.get('PATH', '')}:/usr/games"
 # Positions with castling, en passant, promotions and pins.
 FENS = [
     "r3k2r/p1ppqpb1/bn2pnp1/3PN3/1p2P3/2N2Q1p/PPPBBPPP/R3K2R w KQkq - 0 1",
@@ -153,6 +158,18 @@ class Questions(unittest.TestCase):
             self.assertEqual(start.fen(), board.fen())
         self.assertGreater(len(kinds), 15)
 
+    def test_who_cannot_mate(self):
+        chess = jatshegi
+        for fen, white, black in (
+            (chess.STARTING_FEN, False, False),
+            ("4k3/8/8/8/8/8/4P3/4K3 b - - 0 1", False, True),
+            ("4k3/8/8/8/8/8/4p3/4K3 w - - 0 1", True, False),
+            ("4k3/8/8/8/8/8/8/2B1K3 w - - 0 1", True, True),
+            ("4k3/4r3/8/8/8/8/4N3/4K3 w - - 0 1", False, False),
+        ):
+            board = chess.Board(fen)
+            self.assertEqual((board.has_insufficient_material(chess.WHITE), board.has_insufficient_material(chess.BLACK)), (white, black), fen)
+
     def test_positions_told_apart(self):
         chance, texts = random.Random(9), {}
         for number in range(40):
@@ -171,7 +188,7 @@ class Questions(unittest.TestCase):
     def test_men(self):
         board = jatshegi.Board()
         self.assertEqual((board.piece_type_at(jatshegi.B1), board.color_at(jatshegi.B8), board.piece_type_at(jatshegi.E4), board.color_at(jatshegi.E4)), (jatshegi.KNIGHT, False, None, None))
-        self.assertEqual((board.pieces(jatshegi.ROOK, True), board.king(False)), ([jatshegi.A1, jatshegi.H1], jatshegi.E8))
+        self.assertEqual((board.pieces(jatshegi.ROOK, True), board.king(False)), ({jatshegi.A1, jatshegi.H1}, jatshegi.E8))
         self.assertEqual((jatshegi.H8, jatshegi.A1, jatshegi.E4), (63, 0, jatshegi.parse_square("e4")))
         for symbol in "KQRBNPkqrbnp":
             man = jatshegi.Piece.from_symbol(symbol)
@@ -191,6 +208,241 @@ class Questions(unittest.TestCase):
         self.assertRaises(IndexError, board.peek)
         self.assertEqual((board.ply, board.move_stack, board.variation_san([])), (0, [], ""))
 
+    def test_men_put_on_and_taken_off(self):
+        chess, board = jatshegi, jatshegi.Board()
+        board.headers["White"] = "a"
+        self.assertEqual((board.remove_piece_at(chess.A1), board.fen()), ("R", "rnbqkbnr/pppppppp/8/8/8/8/PPPPPPPP/1NBQKBNR w Kkq - 0 1"))
+        board.push_san("e4")
+        self.assertEqual((board.remove_piece_at(chess.A1), board.ply), (None, 1))
+        board.set_piece_at(chess.E4, None)
+        self.assertEqual((board.fen(), board.ply, board.headers["White"]), ("rnbqkbnr/pppppppp/8/8/8/8/PPPP1PPP/1NBQKBNR b Kkq - 0 1", 0, "a"))
+        board.push_san("e5")
+        before = board.fen(), board.pgn()
+        for square, man in ((chess.E8, None), (chess.E4, "k"), (chess.A8, "P"), (chess.F6, "N"), (chess.E1, chess.Piece.from_symbol("Q"))):
+            self.assertRaises(chess.InvalidFenError, board.set_piece_at, square, man)
+            self.assertEqual((board.fen(), board.pgn()), before)
+        for square, man in ((64, "P"), (-1, None), (chess.E4, "x"), (chess.E4, "")):
+            self.assertRaises(ValueError, board.set_piece_at, square, man)
+        self.assertRaises(ValueError, board.remove_piece_at, 64)
+        self.assertEqual((board.fen(), board.pgn()), before)
+        chance = random.Random(3)
+        for number in range(200):
+            other = chess.Board(FENS[number % len(FENS)])
+            men = other.piece_map()
+            for _ in range(chance.randrange(3)):
+                men.pop(chance.choice([square for square, man in men.items() if man.upper() != "K"]))
+            try:
+                other.set_piece_map(men)
+                self.assertEqual((other.piece_map(), other.fen().split()[1], len(other.legal_moves) >= 0), (men, FENS[number % len(FENS)].split()[1], True))
+            except chess.InvalidFenError as fault:
+                self.assertEqual((fault.fault, other.fen()), (10, FENS[number % len(FENS)]))
+
+
+class Program(unittest.TestCase):
+    """python -m jatshegi."""
+
+    def ran(self, *words, given=b""):
+        environment = {**os.environ, "PYTHONPATH": PACKAGE}
+        return subprocess.run([sys.executable, "-m", "jatshegi", *words], input=given, stdout=subprocess.PIPE, stderr=subprocess.PIPE, env=environment, timeout=60)
+
+    def test_a_board(self):
+        lines = self.ran().stdout.decode().splitlines()
+        self.assertEqual((lines[0], lines[9], lines[10][:18], len(lines)), ("r n b q k b n r", jatshegi.STARTING_FEN, "White to move: Na3", 11))
+        self.assertEqual(self.ran("7k/6Q1/6K1/8/8/8/8/8 b - -").stdout.decode().splitlines()[-1], "1-0 checkmate")
+        self.assertEqual(self.ran(*"7k/6Q1/6K1/8/8/8/8/8 b - - 3 4".split()).stdout.decode().splitlines()[-2], "7k/6Q1/6K1/8/8/8/8/8 b - - 3 4")
+        refused = self.ran("8/8/8/8/8/8/8/8 w - - 0 1")
+        self.assertEqual((refused.returncode, refused.stdout, refused.stderr.startswith(b"jatshegi: no FEN: each side has one king")), (2, b"", True))
+
+    def test_games(self):
+        text = b'1.e4 e5 *\n\n[A "b"]\n\n1. e5 *\n\n[White "c"] 1. d4 {x} 1-0'
+        for words, given in ((("pgn", "-"), text), (("pgn", "FILE"), b"")):
+            with tempfile.NamedTemporaryFile() as file:
+                file.write(text)
+                file.flush()
+                ran = self.ran(*(file.name if word == "FILE" else word for word in words), given=given)
+            self.assertEqual((ran.returncode, ran.stdout.count(b"[Event "), ran.stdout.endswith(b"1. d4 {x} 1-0\n\n"), ran.stderr.count(b"no game: at byte 23")), (1, 2, True, 1))
+
+    def test_other_words(self):
+        for words in (("pgn",), ("pgn", "/nowhere"), ("a", "b"), ("pgn", "a", "b")):
+            ran = self.ran(*words)
+            self.assertEqual((ran.returncode, ran.stdout, bool(ran.stderr)), (2, b"", True))
+        self.assertIn(b"python -m jatshegi pgn FILE", self.ran("--help").stdout)
+
+
+class Sets(unittest.TestCase):
+    def test_sets_beside_pythons(self):
+        """Random operations on sets of squares, beside the same on Python's sets."""
+        chance = random.Random(64)
+        for _ in range(300):
+            pairs = [(jatshegi.SquareSet(), set()) for _ in range(2)]
+            for _ in range(40):
+                (ours, model), (other, second) = chance.sample(pairs, 2)
+                square, word = chance.randrange(64), chance.choice(("add", "discard", "|=", "&=", "^=", "-=", "copy", "invert", "pop"))
+                if word in ("add", "discard"):
+                    getattr(ours, word)(square)
+                    getattr(model, word)(square)
+                elif word == "pop":
+                    if model:
+                        model.discard(ours.pop())
+                elif word == "copy":
+                    pairs[0] = (ours.copy(), set(model))
+                elif word == "invert":
+                    pairs[0] = (~ours, set(range(64)) - model)
+                else:
+                    names = {"ours": ours, "other": other, "model": model, "second": second}
+                    exec(f"ours {word} other\nmodel {word} second", {}, names)
+                    pairs[0], pairs[1] = (names["ours"], names["model"]), (other, second)
+                for square_set, plain in pairs:
+                    self.assertEqual((list(square_set), len(square_set), int(square_set)), (sorted(plain), len(plain), sum(1 << it for it in plain)))
+                    self.assertEqual(square_set, plain)
+                    self.assertEqual(bool(square_set), bool(plain))
+            (ours, model), (other, second) = pairs
+            self.assertEqual((ours.issubset(other), ours.issuperset(other), ours.isdisjoint(other), ours <= other), (model <= second, model >= second, model.isdisjoint(second), model <= second))
+            self.assertEqual((ours.union(other, [3]), ours.intersection(other), ours.difference(other)), (model | second | {3}, model & second, model - second))
+            self.assertEqual(ours.mirror(), {it ^ 56 for it in model})
+            self.assertEqual([at for at, is_in in enumerate(ours.tolist()) if is_in], sorted(model))
+
+    def test_what_is_no_square(self):
+        squares = jatshegi.SquareSet([0, 63])
+        for wrong in (-1, 64):
+            self.assertNotIn(wrong, squares)
+            self.assertRaises(ValueError, squares.add, wrong)
+            self.assertRaises(ValueError, squares.discard, wrong)
+            self.assertRaises(ValueError, jatshegi.SquareSet, [wrong])
+        self.assertRaises(ValueError, jatshegi.SquareSet, -1)
+        self.assertRaises(ValueError, jatshegi.SquareSet, 1 << 64)
+        self.assertRaises(TypeError, hash, squares)
+        self.assertEqual((repr(squares), int(squares), jatshegi.SquareSet(5)), ("SquareSet(0x8000_0000_0000_0001)", 1 << 63 | 1, {0, 2}))
+        self.assertNotIn("e4", squares)
+
+
+class Pictures(unittest.TestCase):
+    def test_the_men_are_those_of_the_page(self):
+        with open(f"{runs.TOP}/web/index.html", encoding="utf-8") as file:
+            page = file.read()
+        shapes = importlib.import_module("jatshegi.svg")._SHAPES
+        self.assertEqual(sorted(shapes), sorted("pnbrqk"))
+        for letter, shape in shapes.items():
+            self.assertIn(f'<symbol id="{letter}" viewBox="0 0 40 40">{shape}</symbol>', page)
+
+    def test_what_is_drawn(self):
+        svg, chess = jatshegi.svg, jatshegi
+        parsed = lambda text: xml.dom.minidom.parseString(text)
+        count = lambda text, name: len(parsed(text).getElementsByTagName(name))
+        plain = svg.board()
+        self.assertEqual((count(plain, "rect"), count(plain, "text"), count(plain, "path"), "width=" in plain.split(">")[0]), (65, 32, 0, False))
+        self.assertEqual(count(svg.board(coordinates=False), "text"), 0)
+        self.assertEqual(parsed(svg.board(size=77)).documentElement.getAttribute("width"), "77")
+        start = svg.board(chess.Board())
+        self.assertEqual(count(start, "g"), 1 + 2 * 32)
+        full = svg.board(chess.Board(), lastmove=chess.Move.from_uci("e2e4"), check=chess.E8, arrows=[(0, 9), svg.Arrow(3, 3, "red"), svg.Arrow(5, 6, "#123456")], fill={20: "#fff"}, squares=[1, 2])
+        self.assertEqual((count(full, "line"), count(full, "polygon"), count(full, "radialGradient"), full.count("#123456")), (2, 2, 1, 2))
+        self.assertEqual((full.count("#cdd16a") + full.count("#aaa23b"), full.count("#882020"), full.count("l24 24")), (2, 1, 2))
+        # From the other side a1 is where h8 was.
+        at = lambda text, name: next((it.getAttribute("x"), it.getAttribute("y")) for it in parsed(text).getElementsByTagName("rect") if it.firstChild and it.firstChild.firstChild.data == name)
+        self.assertEqual(at(svg.board(orientation=chess.BLACK), "a1"), at(svg.board(), "h8"))
+        self.assertEqual(count(svg.piece(chess.Piece.from_symbol("q")), "circle"), 5)
+
+    def test_what_cannot_be_drawn(self):
+        svg = jatshegi.svg
+        for words in ({"size": 0}, {"size": -4}, {"check": 64}, {"squares": [64]}, {"arrows": [(0, 64)]}, {"fill": {-1: "red"}}, {"colors": {"square": "red"}}):
+            self.assertRaises(ValueError, svg.board, **words)
+        # What a caller names is a value, and no part of the picture's text.
+        hostile = svg.board(fill={0: '"/><script>x</script>'}, colors={"margin": "'\"<&"}, arrows=[svg.Arrow(0, 1, '"><b/>')])
+        self.assertEqual(len(xml.dom.minidom.parseString(hostile).getElementsByTagName("script")), 0)
+
+
+def entry(key, move, weight=1, learn=0):
+    """The bytes of an entry: a move is its squares and what a pawn becomes."""
+    origin, target, promotion = move
+    return struct.pack(">QHHI", key, promotion << 12 | origin << 6 | target, weight, learn)
+
+
+class Books(unittest.TestCase):
+    """Opening books of Polyglot's."""
+
+    def opened(self, data):
+        """A reader of a book of these bytes, which is closed as the test ends."""
+        with tempfile.NamedTemporaryFile(suffix=".bin") as file:
+            file.write(data)
+            file.flush()
+            reader = jatshegi.polyglot.open_reader(file.name)
+        self.addCleanup(reader.close)
+        return reader
+
+    def test_entries(self):
+        chess, board = jatshegi, jatshegi.Board()
+        key = board.polyglot_key()
+        self.assertEqual(key, chess.polyglot.zobrist_hash(board))
+        book = entry(1, (12, 28, 0)) + entry(key, (12, 28, 0), 3, 9) + entry(key, (12, 36, 0), 9) + entry(key, (6, 21, 0), 5) + entry(key, (11, 27, 0), 0) + entry(2**64 - 1, (12, 28, 0))
+        reader = self.opened(book)
+        self.assertEqual(len(reader), 6)
+        found = list(reader.find_all(board))
+        self.assertEqual([(it.key, it.move.uci(), it.weight, it.learn) for it in found], [(key, "e2e4", 3, 9), (key, "g1f3", 5, 0)])
+        self.assertEqual([it.move.uci() for it in reader.find_all(board, minimum_weight=0)], ["e2e4", "g1f3", "d2d4"])
+        self.assertEqual((reader.find(board).move.uci(), reader.get(board).weight), ("g1f3", 5))
+        drawn = [reader.weighted_choice(board, random=random.Random(seed)).move.uci() for seed in range(200)]
+        self.assertEqual(set(drawn), {"e2e4", "g1f3"})
+        self.assertTrue(100 < drawn.count("g1f3") < 150)
+        self.assertEqual({reader.choice(board).move.uci() for _ in range(100)}, {"e2e4", "g1f3"})
+        board.push_san("a4")
+        self.assertEqual((list(reader.find_all(board)), reader.get(board)), ([], None))
+        for call in (reader.find, reader.choice, reader.weighted_choice):
+            self.assertRaises(IndexError, call, board)
+        reader.close()
+        self.assertEqual((len(reader), list(reader.find_all(chess.Board()))), (0, []))
+        reader.close()
+
+    def test_castling_and_promotion(self):
+        board = jatshegi.Board("r3k2r/P7/8/8/8/8/8/R3K2R w KQkq - 0 1")
+        key = board.polyglot_key()
+        reader = self.opened(b"".join(entry(key, move) for move in ((4, 7, 0), (4, 0, 0), (4, 6, 0), (7, 63, 0), (48, 57, 4), (48, 56, 1))))
+        self.assertEqual([it.move.uci() for it in reader.find_all(board)], ["e1g1", "e1c1", "e1g1", "h1h8"])
+        board = jatshegi.Board("1r2k2r/P7/8/8/8/8/8/R3K2R w KQk - 0 1")
+        reader = self.opened(b"".join(entry(board.polyglot_key(), move) for move in ((48, 57, 4), (48, 56, 1), (48, 56, 0), (48, 56, 6))))
+        self.assertEqual([it.move.uci() for it in reader.find_all(board)], ["a7b8q", "a7a8n"])
+
+    def test_files_that_are_no_books(self):
+        self.assertRaises(OSError, jatshegi.polyglot.open_reader, "/nowhere/book.bin")
+        for data in (b"", b"x", b"x" * 15):
+            with self.opened(data) as reader:
+                self.assertEqual((len(reader), list(reader.find_all(jatshegi.Board()))), (0, []))
+        random.seed(63)
+        for _ in range(200):
+            with self.opened(random.randbytes(random.randrange(400))) as reader:
+                self.assertEqual(list(reader.find_all(jatshegi.Board())), [])
+
+    @unittest.skipUnless(shutil.which("polyglot", path=PATH), "Polyglot is not installed: no book of its own is read (apt-get install polyglot)")
+    def test_a_book_that_polyglot_made(self):
+        """Polyglot makes a book of random games: each of their positions is in it, with the moves that were played there and no others."""
+        chess, chance, played, texts = jatshegi, random.Random(781), [], []
+        for _ in range(60):
+            board = chess.Board()
+            for _ in range(80):
+                moves = board.legal_moves
+                if not moves or board.outcome():
+                    break
+                # (pawns and castling more often, for targets and rights)
+                special = [move for move in moves if board.is_castling(move) or board.piece_type_at(move.from_square) == chess.PAWN]
+                move = chance.choice(special if special and chance.random() < 0.5 else moves)
+                played.append((board.copy(), move))
+                board.push(move)
+            board.marker = "1/2-1/2"
+            texts.append(board.pgn())
+        with tempfile.TemporaryDirectory() as folder:
+            with open(f"{folder}/games.pgn", "w", encoding="utf-8") as file:
+                file.write("\n".join(texts))
+            words = ["polyglot", "make-book", "-pgn", "games.pgn", "-bin", "book.bin", "-min-game", "1", "-uniform"]
+            subprocess.run(words, cwd=folder, env={**os.environ, "PATH": PATH}, stdout=subprocess.DEVNULL, check=True, timeout=60)
+            moves = {}
+            for board, move in played:
+                moves.setdefault(board.polyglot_key(), (board, set()))[1].add(move)
+            with chess.polyglot.open_reader(f"{folder}/book.bin") as reader:
+                self.assertEqual(len(reader), sum(len(made) for _, made in moves.values()))
+                for board, made in moves.values():
+                    self.assertEqual({it.move for it in reader.find_all(board)}, made, board.fen())
+        self.assertGreater(len(moves), 2000)
+
 
 class Examples(unittest.TestCase):
     """The programs of python/examples, as a user runs them."""
@@ -201,13 +453,17 @@ class Examples(unittest.TestCase):
     )
 
     def run_example(self, name, *words, given=""):
+        code, shown, said = self.ran_with(name, *words, given=given)
+        self.assertEqual(code, 0, said)
+        return shown, said
+
+    def ran_with(self, name, *words, given=""):
         with tempfile.TemporaryDirectory() as folder:
             with open(f"{folder}/games.pgn", "w", encoding="utf-8") as file:
                 file.write(self.GAMES)
             words = [f"{folder}/games.pgn" if word == "FILE" else word for word in words]
             ran = subprocess.run([sys.executable, f"{PACKAGE}/examples/{name}", *words], env={**os.environ, "PYTHONPATH": PACKAGE}, input=given, capture_output=True, text=True)
-        self.assertEqual(ran.returncode, 0, ran.stderr)
-        return ran.stdout, ran.stderr
+        return ran.returncode, ran.stdout, ran.stderr
 
     def test_an_opening_tree(self):
         shown, said = self.run_example("opening_tree.py", "FILE", "4")
@@ -242,6 +498,17 @@ class Examples(unittest.TestCase):
         third = list(game.mainline())[2]
         self.assertEqual((third.nags, third.comment, len(third.parent.children)), ((4,), "so", 2))
         self.assertIn("better by", third.parent.children[1].comment)
+
+    def test_a_game_made_and_annotated(self):
+        given = "e4 c5 Nf3 ! the open Sicilian\ne4 e5\n\ne4\nd4 d5 c4 dxc4 Qa4+ ?! a } b\n"
+        *_, said = self.ran_with("repertoire.py", "Anna", "1", given=given)
+        self.assertIn("a comment has no right brace", said)
+        shown, _ = self.run_example("repertoire.py", "Anna", "1", given=given.replace("}", "{"))
+        game = jatshegi.pgn.read_game(shown)
+        self.assertEqual((game.headers["White"], sorted(node.san for node in game.variations), str(game)), ("Anna", ["d4", "e4"], shown))
+        queen, sicilian = game["d4"].end(), game["e4"]["c5"]["Nf3"]
+        self.assertEqual((queen.parent.san, queen.parent.nags, queen.parent.comment, queen.comment[:8]), ("Qa4+", (6,), "a { b", "depth 1:"))
+        self.assertEqual((sicilian.nags, sicilian.comment, len(sicilian.variations), len(game["e4"].variations)), ((1,), "the open Sicilian", 1, 2))
 
     def test_pictures(self):
         shown, _ = self.run_example("picture.py", "FILE")

@@ -311,6 +311,29 @@ class Packages(Used):
         self.assert_imports(f"{self.folder}/there")
 
 
+    def test_sources_and_editable(self):
+        """Pip builds the archive of the sources anywhere, and installs the clone's own package where it is."""
+        packed = called(sys.executable, "-c", f"import packing; print(packing.build_sdist({self.folder!r}))", cwd=f"{runs.TOP}/python")
+        self.assertEqual(packed.stdout.strip(), f"jatshegi-{runs.VERSION}.tar.gz", packed.stderr)
+        pip = [sys.executable, "-m", "pip", "install", "--quiet", "--no-deps", "--no-index", "--no-build-isolation"]
+        ran = called(*pip, "--target", f"{self.folder}/built", f"{self.folder}/{packed.stdout.strip()}", env={"HOME": self.folder})
+        if "No module named pip" in ran.stderr:
+            self.skipTest("pip is not installed")
+        self.assertEqual(ran.returncode, 0, ran.stderr)
+        self.assert_imports(f"{self.folder}/built")
+        wheel = called(sys.executable, "-c", f"import packing; print(packing.build_editable({self.folder!r}))", cwd=f"{runs.TOP}/python").stdout.strip()
+        with zipfile.ZipFile(f"{self.folder}/{wheel}") as read:
+            self.assertEqual(read.read("jatshegi.pth").decode(), f"{os.path.realpath(runs.TOP)}/python\n")
+
+    def test_the_tag_of_the_wheel(self):
+        """The library needs no newer glibc than the wheel's tag says."""
+        self.wants("objdump")
+        needed = re.findall(r"GLIBC_(\d+)\.(\d+)", called("objdump", "-T", f"{runs.TOP}/release/x86_64-linux/lib/libjatshegi.so.1").stdout)
+        major, minor = re.search(r"manylinux_(\d+)_(\d+)_x86_64", self.packages[0][2]).groups()
+        self.assertTrue(needed)
+        self.assertLessEqual(max((int(a), int(b)) for a, b in needed), (int(major), int(minor)))
+
+
 class GetIt(Used):
     """README's commands to get it, each as it is there, with stand-ins for what they want of the system, so that all goes into a folder."""
 

@@ -10,7 +10,7 @@
 A `Board` answers what the Laws of Chess say of its position and of the moves that led there. The board itself is a library for C
 (`include/jatshegi.h`), whose functions a prover has checked against the Laws; this package is a thin layer over it, which is tested.
 """
-from . import pgn
+from . import pgn, polyglot, svg
 from ._board import Best, Board
 from ._engine import Engine
 from ._errors import (
@@ -44,6 +44,7 @@ from ._moves import (
 )
 
 from ._pieces import Piece
+from ._sets import SquareSet
 from ._squares import *
 from ._squares import __all__ as _names
 from ._status import Outcome, Status
@@ -77,13 +78,16 @@ __all__ = [
     "Move",
     "Outcome",
     "Piece",
+    "SquareSet",
     "Status",
     "Tags",
     "parse_square",
     "pgn",
+    "polyglot",
     "square",
     "square_file",
     "square_name",
     "square_rank",
+    "svg",
 ]
 __all__ += _names

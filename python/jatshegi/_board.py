@@ -5,7 +5,7 @@ import codecs
 import copy
 import ctypes
 import threading
-from ctypes import byref, c_bool, c_char, c_int32, c_size_t, c_uint8, c_uint32, c_uint64
+from ctypes import byref, c_bool, c_char, c_int32, c_size_t, c_uint8, c_uint16, c_uint32, c_uint64
 from typing import TYPE_CHECKING, Any, Callable, Dict, Iterator, List, NamedTuple, Optional, Tuple, Type, TypeVar
 
 from . import _library as c
@@ -13,6 +13,7 @@ from ._errors import AmbiguousMoveError, EmptyBoardError, Error, IllegalMoveErro
 from ._habits import Habits
 from ._moves import BLACK, SQUARE_NAMES, STARTING_FEN, WHITE, Move
 from ._pieces import MEN, Piece
+from ._sets import SquareSet
 from ._status import Outcome, Status
 from ._tags import Tags
 
@@ -348,6 +349,16 @@ class Board(Habits):
         """
         return self._short(c.lib.jatshegi_board_epd, "epd")
 
+    def polyglot_key(self) -> int:
+        """The position's key in Polyglot's opening books, by which many programs name positions. `jatshegi.polyglot.zobrist_hash(board)` is the same.
+
+        >>> hex(Board().polyglot_key())
+        '0x463b96181691fc9c'
+        """
+        key = c_uint64()
+        self._call(c.lib.jatshegi_board_key, "polyglot_key", byref(key))
+        return key.value
+
     # A text of a position that a function of the library hands out.
     def _short(self, function: Callable[..., int], what: str) -> str:
         text, count = _FenRoom(), c_size_t()
@@ -361,6 +372,21 @@ class Board(Habits):
     def turn(self) -> bool:
         """The colour of the side to move: WHITE or BLACK."""
         return WHITE if self._fields().side == 0 else BLACK
+
+    # What an entry of a book says here: the move, its weight and a number; None where it stands for no legal move.
+    def _booked(self, book: "ctypes.Array[c_char]", size: int, entry: int) -> Optional[Tuple[Move, int, int]]:
+        move, weight, learn = c.CMove(), c_uint16(), c_uint32()
+        with self._lock:
+            status = c.lib.jatshegi_board_book_move(self._at, book, size, entry, byref(move), byref(weight), byref(learn))
+        if status == c.ILLEGAL:
+            return None
+        if status:
+            raise self._fail(status, "find_all")
+        return _SHOWN[bytes(move)], weight.value, learn.value
+
+    # What sort of move a legal one is.
+    def _kinds(self, move: Move) -> int:
+        return self._number(c.lib.jatshegi_board_kinds, move, _numbers(move))
 
     # The position's six fields.
     def _fields(self) -> c.CPosition:
@@ -439,7 +465,7 @@ class Board(Habits):
     def is_legal(self, move: Move) -> bool:
         """Whether the move is legal."""
         try:
-            self.san(move)
+            self._kinds(move)
         except IllegalMoveError:
             return False
         return True
@@ -536,11 +562,11 @@ class Board(Habits):
         """Whether the side to move is in check (FIDE Laws 3.9.1)."""
         return bool(self.checkers())
 
-    def checkers(self) -> List[int]:
+    def checkers(self) -> SquareSet:
         """The squares of the men that check the side to move."""
         found = _Squares()
         self._call(c.lib.jatshegi_board_checks, "checkers", found)
-        return [square for square, checks in enumerate(bytes(found)) if checks]
+        return SquareSet(square for square, checks in enumerate(bytes(found)) if checks)
 
     @property
     def status(self) -> Status:
@@ -566,6 +592,18 @@ class Board(Habits):
                 return Outcome(Status.THREEFOLD_REPETITION, None)
             return None
 
+    def has_insufficient_material(self, color: bool) -> bool:
+        """Whether that side can't mate any more by any series of legal moves: it has only its king, or the position is dead; so where its opponent's time is over,
+        the game is drawn (FIDE Laws 5.2.2, 6.9). False doesn't say that it can.
+
+        >>> board = Board("4k3/8/8/8/8/8/4P3/4K3 b - - 0 1")
+        >>> board.has_insufficient_material(jatshegi.BLACK), board.has_insufficient_material(jatshegi.WHITE)
+        (True, False)
+        """
+        cannot = c_bool()
+        self._call(c.lib.jatshegi_board_cannot_mate, "has_insufficient_material", 0 if color else 1, byref(cannot))
+        return cannot.value
+
     def claims(self, move: Optional[Move] = None) -> Tuple[bool, bool]:
         """Whether a draw may be claimed by the same position for the third time, and by 50 moves; with a move, in the position after
         it (FIDE Laws 9.2, 9.3). Raises `IllegalMoveError`."""
@@ -579,7 +617,7 @@ class Board(Habits):
         """How often the position has come up in the game, this time included (FIDE Laws 9.2.2)."""
         return self._number(c.lib.jatshegi_board_repetitions, "repetitions")
 
-    def attackers(self, colour: bool, square: int) -> List[int]:
+    def attackers(self, colour: bool, square: int) -> SquareSet:
         """The squares of the men of that colour that attack the square, whatever is on it: a king and pinned men too, but no man that another
         is in the way of (FIDE Laws 3.1 to 3.8). Raises `ValueError` for a number that is no square's.
 
@@ -590,7 +628,7 @@ class Board(Habits):
             raise ValueError(f"no square: {square}")
         found = c_uint64()
         self._call(c.lib.jatshegi_board_attackers, "attackers", 0 if colour else 1, square, byref(found))
-        return [at for at in range(64) if found.value >> at & 1]
+        return SquareSet(found.value)
 
     def attack_counts(self, colour: bool) -> List[int]:
         """For each square, a1 first, how many men of that colour attack it (FIDE Laws 3.1.2).
@@ -806,17 +844,11 @@ class Board(Habits):
         return f"Board({self.fen()!r})"
 
     def _repr_svg_(self) -> str:
-        """A picture, which a notebook shows."""
-        men, checks = self.piece_map(), set(self.checkers())
-        parts = ['<svg xmlns="http://www.w3.org/2000/svg" viewBox="0 0 360 360" width="360" height="360">']
-        for square in range(64):
-            x, y = 45 * (square & 7), 45 * (7 - (square >> 3))
-            light = (square ^ (square >> 3)) & 1
-            colour = "#e89090" if square in checks else "#f0d9b5" if light else "#b58863"
-            parts.append(f'<rect x="{x}" y="{y}" width="45" height="45" fill="{colour}"><title>{SQUARE_NAMES[square]}</title></rect>')
-            if square in men:
-                parts.append(f'<text x="{x + 22.5}" y="{y + 34}" font-size="36" text-anchor="middle">{men[square].unicode_symbol()}</text>')
-        return "".join([*parts, "</svg>"])
+        """A picture, which a notebook shows: the last move and a check are marked. `jatshegi.svg.board` has more to choose."""
+        from . import svg
+
+        last = self.peek() if self.ply else None
+        return svg.board(self, lastmove=last, check=self.king(self.turn) if self.is_check() else None, size=390)
 
 
 # What a board keeps beside what a class of the caller's own adds.

@@ -108,6 +108,8 @@ class Engine:
 
 def _answered(status: int) -> None:
     """A status other than OK is an error."""
+    if status == c.NO_MEMORY:
+        raise MemoryError("no memory")
     if status == c.EMPTY:
         raise EmptyBoardError("there is no session: its memory was given back, or it was never begun")
     if status:

@@ -1,10 +1,13 @@
 """What users of python-chess ask a board by, in its names: each is an answer of the library, or is read off one."""
 from __future__ import annotations
 
-from typing import TYPE_CHECKING, Any, Dict, Iterable, List, NamedTuple, Optional, Tuple
+import re
+from typing import TYPE_CHECKING, Any, Dict, Iterable, Mapping, NamedTuple, Optional, Tuple
 
+from . import _library as c
 from ._moves import KING, SQUARE_NAMES, Move, _checked
 from ._pieces import Piece
+from ._sets import SquareSet
 from ._status import Outcome, Status
 
 if TYPE_CHECKING:
@@ -24,11 +27,14 @@ class Habits:
 
         def piece_map(self) -> Dict[int, Piece]: ...
         def san(self, move: Move) -> str: ...
+        def _kinds(self, move: Move) -> int: ...
         def push(self, move: Move) -> None: ...
+        def fen(self) -> str: ...
+        def set_fen(self, fen: str) -> None: ...
         def copy(self) -> Self: ...
         def claims(self, move: Optional[Move] = None) -> Tuple[bool, bool]: ...
         def repetitions(self) -> int: ...
-        def attackers(self, colour: bool, square: int) -> List[int]: ...
+        def attackers(self, colour: bool, square: int) -> SquareSet: ...
         def outcome(self, *, claim_draw: bool = False) -> Optional[Outcome]: ...
 
     # ---- men
@@ -51,18 +57,44 @@ class Habits:
         man = self.piece_at(square)
         return None if man is None else man.color
 
-    def pieces(self, piece_type: int, color: bool) -> List[int]:
+    def pieces(self, piece_type: int, color: bool) -> SquareSet:
         """The squares of the men of that kind and colour.
 
         >>> [jatshegi.square_name(square) for square in Board().pieces(jatshegi.KNIGHT, jatshegi.BLACK)]
         ['b8', 'g8']
         """
         wanted = Piece(piece_type, color)
-        return [square for square, man in self.piece_map().items() if man == wanted]
+        return SquareSet(square for square, man in self.piece_map().items() if man == wanted)
 
     def king(self, color: bool) -> int:
         """The square of that side's king."""
-        return self.pieces(KING, color)[0]
+        return next(iter(self.pieces(KING, color)))
+
+    def set_piece_at(self, square: int, piece: Optional[Piece]) -> None:
+        """Begins a new game from the position with that man on the square, or none. The castling rights that its kings and rooks still have stay, and the side to
+        move. Raises `InvalidFenError` where that is no position, and the game is then as it was.
+
+        >>> board = Board("4k3/8/8/8/8/8/8/4K3 w - - 0 1")
+        >>> board.set_piece_at(jatshegi.A2, jatshegi.Piece.from_symbol("P"))
+        >>> board.fen()
+        '4k3/8/8/8/8/8/P7/4K3 w - - 0 1'
+        """
+        men: Dict[int, Optional[Piece]] = {**self.piece_map(), _checked(square): piece}
+        self.set_piece_map({at: man for at, man in men.items() if man is not None})
+
+    def remove_piece_at(self, square: int) -> Optional[Piece]:
+        """The man on the square, which is taken off, as by `set_piece_at`; None, and no new game, where there is none."""
+        man = self.piece_at(square)
+        if man is not None:
+            self.set_piece_at(square, None)
+        return man
+
+    def set_piece_map(self, pieces: Mapping[int, Piece]) -> None:
+        """Begins a new game from the position with those men alone, as `set_piece_at`."""
+        men = {_checked(square): Piece.from_symbol(piece) for square, piece in pieces.items()}
+        ranks = ("".join(men.get(8 * rank + file, "1") for file in range(8)) for rank in range(7, -1, -1))
+        placement = re.sub("1+", lambda empty: str(len(empty[0])), "/".join(ranks))
+        self.set_fen(" ".join([placement, *self.fen().split()[1:]]))
 
     def is_attacked_by(self, color: bool, square: int) -> bool:
         """Whether a man of that colour attacks the square (FIDE Laws 3.1.2)."""
@@ -131,7 +163,7 @@ class Habits:
         """
         return self.can_claim_threefold_repetition() or self.can_claim_fifty_moves()
 
-    # ---- what a move is, by its text in standard algebraic notation
+    # ---- what a move is
 
     def is_capture(self, move: Move) -> bool:
         """Whether the legal move captures, also en passant. Raises `IllegalMoveError`.
@@ -139,23 +171,23 @@ class Habits:
         >>> Board("8/8/8/2pP3r/8/8/8/K3k3 w - c6 0 2").is_capture(Move.from_uci("d5c6"))
         True
         """
-        return "x" in self.san(move)
+        return bool(self._kinds(move) & c.CAPTURE)
 
     def is_en_passant(self, move: Move) -> bool:
         """Whether the legal move captures en passant (FIDE Laws 3.7.3.1). Raises `IllegalMoveError`."""
-        return self.is_capture(move) and self.piece_at(move.to_square) is None
+        return bool(self._kinds(move) & c.EN_PASSANT)
 
     def is_castling(self, move: Move) -> bool:
         """Whether the legal move is castling (FIDE Laws 3.8.2). Raises `IllegalMoveError`."""
-        return self.san(move).startswith("O")
+        return bool(self._kinds(move) & (c.CASTLES_KING_SIDE | c.CASTLES_QUEEN_SIDE))
 
     def is_kingside_castling(self, move: Move) -> bool:
         """Whether it is castling with the rook of file h."""
-        return self.san(move)[:5] in ("O-O", "O-O+", "O-O#")
+        return bool(self._kinds(move) & c.CASTLES_KING_SIDE)
 
     def is_queenside_castling(self, move: Move) -> bool:
         """Whether it is castling with the rook of file a."""
-        return self.san(move).startswith("O-O-O")
+        return bool(self._kinds(move) & c.CASTLES_QUEEN_SIDE)
 
     def gives_check(self, move: Move) -> bool:
         """Whether the legal move gives check, or mates. Raises `IllegalMoveError`."""
@@ -163,8 +195,7 @@ class Habits:
 
     def is_zeroing(self, move: Move) -> bool:
         """Whether the legal move is a pawn's or captures, so that the halfmove clock is 0 after it. Raises `IllegalMoveError`."""
-        san = self.san(move)
-        return "x" in san or san[0] in "abcdefgh"
+        return bool(self._kinds(move) & (c.CAPTURE | c.PAWN_MOVE))
 
     def lan(self, move: Move) -> str:
         """The move's text in long algebraic notation: 'e2-e4', 'Nb1xc3+', 'e7-e8=Q', 'O-O'. Raises `IllegalMoveError`."""

@@ -3,13 +3,16 @@ from __future__ import annotations
 
 import ctypes
 import os
-from ctypes import POINTER, c_bool, c_char, c_char_p, c_int32, c_size_t, c_uint8, c_uint32, c_uint64, c_void_p
+from ctypes import POINTER, c_bool, c_char, c_char_p, c_int32, c_size_t, c_uint8, c_uint16, c_uint32, c_uint64, c_void_p
 
 OK, EMPTY, NO_MEMORY, ILLEGAL, AMBIGUOUS, FORM, TOO_LONG, FULL, AT_ROOT, ARGUMENT, NO_ROOM, NONE, NO_SUCH, BAD_COMMENT = range(14)
 NO_GAME, ABANDONED, TAG_NAME, TAG_OWN, TAG_VALUE = range(16, 21)
 
 # The status of a FEN's fault is its number and this; so is that of a game's.
 FEN, PGN = 20, 40
+
+# What sort of move one is.
+CAPTURE, EN_PASSANT, CASTLES_KING_SIDE, CASTLES_QUEEN_SIDE, PAWN_MOVE = 1, 2, 4, 8, 16
 
 # The number of no square.
 NO_SQUARE = 64
@@ -86,6 +89,10 @@ for _name, _types in {
     "undo": [_slot, c_bool],
     "read": [_slot, c_char_p, c_size_t, POINTER(CMove)],
     "write": [_slot, CMove, POINTER(c_char), c_size_t, POINTER(c_size_t)],
+    "key": [_slot, POINTER(c_uint64)],
+    "kinds": [_slot, CMove, _number],
+    "cannot_mate": [_slot, c_uint8, POINTER(c_bool)],
+    "book_move": [_slot, c_void_p, c_size_t, c_size_t, POINTER(CMove), POINTER(c_uint16), _number],
     "outcome": [_slot, _number],
     "claims": [_slot, _number],
     "claims_with": [_slot, CMove, _number],
@@ -144,7 +151,9 @@ lib.jatshegi_game_read.argtypes = [c_void_p, c_size_t, POINTER(c_char), c_size_t
 lib.jatshegi_game_read.restype = c_uint32
 lib.jatshegi_game_report.argtypes = [c_char_p, c_size_t, POINTER(CReport), POINTER(c_char), c_size_t, POINTER(c_size_t), POINTER(c_size_t)]
 lib.jatshegi_game_report.restype = c_uint32
-lib.jatshegi_game_pass.argtypes, lib.jatshegi_game_pass.restype = [c_void_p, c_size_t, POINTER(c_uint64)], c_uint32
+lib.jatshegi_game_pass.argtypes, lib.jatshegi_game_pass.restype = [c_void_p, c_size_t, POINTER(c_size_t)], c_uint32
+lib.jatshegi_book_find.argtypes = [c_void_p, c_size_t, c_uint64, POINTER(c_size_t), POINTER(c_size_t)]
+lib.jatshegi_book_find.restype = None
 lib.jatshegi_board_free.argtypes, lib.jatshegi_board_free.restype = [_slot], None
 lib.jatshegi_stop_free.argtypes, lib.jatshegi_stop_free.restype = [_stop], None
 lib.jatshegi_keys_fill.argtypes, lib.jatshegi_keys_fill.restype = [c_void_p], None

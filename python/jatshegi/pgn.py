@@ -11,7 +11,7 @@
     'rnbqkbnr/pppppppp/8/8/8/8/PPPPPPPP/RNBQKBNR w KQkq - 0 1'
 
 A game is read by the proved reader of the library, which hands it out in export form (PGN 3.2): each move legal, its text the standard one. This module
-takes that text apart, which is tested. A game that was read doesn't change: what would change it is an error.
+takes that text apart, which is tested. What is changed of a game is changed by the library, on a board that holds it; `Game()` is one without moves.
 
 Games are bytes. They are read in UTF-8, and a game whose bytes are none in ISO 8859-1, the encoding of the standard (PGN 3.1); `encoding` names another one.
 `bytes(game)` are the game's own bytes, whatever it is.
@@ -21,15 +21,36 @@ from __future__ import annotations
 import ctypes
 import os
 import re
+import threading
 import weakref
-from ctypes import byref, c_size_t, c_uint64
-from typing import IO, Any, Callable, Dict, Iterator, List, Mapping, NamedTuple, NoReturn, Optional, Tuple, Union
+from ctypes import byref, c_size_t, c_void_p
+from typing import IO, Any, Callable, Dict, Iterator, List, MutableMapping, NamedTuple, Optional, Tuple, TypeVar, Union
 
 from . import _library as c
 from ._board import Board, _known
+from ._edits import EDITING, Edits
 from ._errors import InvalidGameError
-from ._moves import BLACK, WHITE, Move
+from ._moves import BLACK, WHITE
+from ._nodes import Nags, Node
 from ._status import Status
+from ._visitors import SKIP, BaseVisitor, SkipType, StringExporter, walk
+
+__all__ = [
+    "SKIP",
+    "BaseVisitor",
+    "Game",
+    "Headers",
+    "Nags",
+    "Node",
+    "Report",
+    "SkipType",
+    "StringExporter",
+    "games",
+    "read_game",
+    "read_headers",
+]
+
+_T = TypeVar("_T")
 
 _FAULTS = [
     "these bytes are no token",
@@ -42,204 +63,71 @@ _FAULTS = [
     "",
     "the game is larger than 1,048,576 bytes or 20,000 plies",
 ]
+# The tags of a game's start.
+_STARTS = ("FEN", "SetUp")
 _MARKERS = ("*", "1-0", "0-1", "1/2-1/2")
 _TAG = re.compile(r'\[(\w+) "((?:[^"\\]|\\.)*)"\]\n')
 _ESCAPED = re.compile(r"\\(.)")
 _WORD = re.compile(r"\{([^}]*)\}|([()])|\$(\d+)|(\d+)\.+|(1-0|0-1|1/2-1/2|\*)|([^\s(){}]+)")
 
 
-def _refused(what: str, how: str) -> NoReturn:
-    raise AttributeError(f"a game that was read doesn't change, so {what}; {how}")
+class Headers(MutableMapping[str, str]):
+    """The tags of a game by their names, as the game has them at each moment. They can be set and taken out (PGN 8.1).
 
+    First come Event, Site, Date, Round, White, Black and Result, which each game has: taken out, each says '?' again, '????.??.??' or '*'. The others
+    follow in ASCII order. FEN and SetUp are the game's start, which `setup` sets. Raises `ValueError` for a name or a value that is none.
 
-_BY_BOARD = "Board.from_game(game) is a board with the game in it, whose line('goto ..'), line('comment ..') and line('nag ..') change it"
-
-
-class Headers(Mapping[str, str]):
-    """The tags of a game, by their names. They don't change.
-
-    >>> jatshegi.pgn.read_game('[White "Réti"] *').headers["White"] = "me"
-    Traceback (most recent call last):
-    ...
-    TypeError: a game that was read doesn't change, so its tags aren't set: read_game of a text with other tags is a game with them
+    >>> game = jatshegi.pgn.read_game('[White "Réti"] 1. Nf3 *')
+    >>> game.headers["Black"], game.headers["Result"] = "Rubinstein", "1-0"
+    >>> game.result, str(game).splitlines()[5]
+    ('1-0', '[Black "Rubinstein"]')
     """
 
-    __slots__ = ("_tags",)
+    __slots__ = ("_game",)
 
-    def __init__(self, tags: Mapping[str, str]) -> None:
-        self._tags = dict(tags)
+    def __init__(self, game: Game) -> None:
+        self._game = game
 
     def __getitem__(self, name: str) -> str:
-        return self._tags[name]
+        return self._game._tags_now()[name]
+
+    def __setitem__(self, name: str, value: str) -> None:
+        if not isinstance(name, str) or not isinstance(value, str):
+            raise TypeError(f"a tag's name and its value are texts: {name!r}, {value!r}")
+        if name == "Result":
+            self._game.result = value
+        elif name in _STARTS and self.get(name) != value:
+            raise ValueError(f"a game's start is set by `setup`: {name!r}")
+        elif name not in _STARTS:
+            self._game._edits_of().tag(name, value)
+
+    def __delitem__(self, name: str) -> None:
+        self[name]
+        if name == "Result":
+            self._game.result = "*"
+        elif name in _STARTS:
+            raise ValueError(f"a game's start is set by `setup`: {name!r}")
+        else:
+            self._game._edits_of().tag(name, None)
+
+    def clear(self) -> None:
+        """Takes out all but the start; the seven that each game has then say that nothing is known."""
+        for name in list(self):
+            if name not in _STARTS:
+                del self[name]
 
     def __iter__(self) -> Iterator[str]:
-        return iter(self._tags)
+        return iter(self._game._tags_now())
 
     def __len__(self) -> int:
-        return len(self._tags)
+        return len(self._game._tags_now())
 
     def __repr__(self) -> str:
-        return f"Headers({self._tags!r})"
+        return f"Headers({self._game._tags_now()!r})"
 
     def copy(self) -> Dict[str, str]:
         """A dictionary of them, which is the caller's own."""
-        return dict(self._tags)
-
-    def __setitem__(self, name: str, value: str) -> NoReturn:
-        raise TypeError("a game that was read doesn't change, so its tags aren't set: read_game of a text with other tags is a game with them")
-
-    def __delitem__(self, name: str) -> NoReturn:
-        raise TypeError("a game that was read doesn't change, so its tags stay: read_game of a text without a tag is a game without it")
-
-
-class Node:
-    """A move of a game, or its root: what was played, what is said of it, and what follows, the main continuation first. It doesn't change."""
-
-    __slots__ = ("_children", "_comment", "_nags", "_parent", "_san", "_start")
-
-    def __init__(self, san: Optional[str] = None, parent: Optional[Node] = None, start: Optional[str] = None) -> None:
-        self._san = san
-        # Of a root, the FEN of the position in which the game begins, unless it is the usual one.
-        self._start = start
-        self._parent = parent
-        self._comment = ""
-        self._nags: List[int] = []
-        self._children: List[Node] = []
-
-    @property
-    def san(self) -> Optional[str]:
-        """The move in standard algebraic notation; None at the root."""
-        return self._san
-
-    @san.setter
-    def san(self, value: object) -> NoReturn:
-        _refused("a node's move isn't set", _BY_BOARD)
-
-    @property
-    def parent(self) -> Optional[Node]:
-        """The node before; None at the root."""
-        return self._parent
-
-    @parent.setter
-    def parent(self, value: object) -> NoReturn:
-        _refused("a node's parent isn't set", _BY_BOARD)
-
-    @property
-    def comment(self) -> str:
-        """What is said of the move; empty where nothing is.
-
-        >>> jatshegi.pgn.read_game("1. e4 {best by test} *").root.children[0].comment = "so they say"
-        Traceback (most recent call last):
-        ...
-        AttributeError: a game that was read doesn't change, so a comment isn't set; Board.from_game(game) is a board with the game in it, whose \
-line('goto ..'), line('comment ..') and line('nag ..') change it
-        """
-        return self._comment
-
-    @comment.setter
-    def comment(self, value: object) -> NoReturn:
-        _refused("a comment isn't set", _BY_BOARD)
-
-    @property
-    def nags(self) -> Tuple[int, ...]:
-        """Annotation numbers (PGN 8.2.4)."""
-        return tuple(self._nags)
-
-    @nags.setter
-    def nags(self, value: object) -> NoReturn:
-        _refused("annotations aren't set", _BY_BOARD)
-
-    @property
-    def children(self) -> Tuple[Node, ...]:
-        """The nodes that follow, the main continuation first."""
-        return tuple(self._children)
-
-    @children.setter
-    def children(self, value: object) -> NoReturn:
-        _refused("the moves that follow aren't set", _BY_BOARD)
-
-    @property
-    def variations(self) -> Tuple[Node, ...]:
-        """The same as `children`."""
-        return self.children
-
-    def next(self) -> Optional[Node]:
-        """The first child, or None."""
-        return self._children[0] if self._children else None
-
-    def is_end(self) -> bool:
-        """Whether nothing follows."""
-        return not self._children
-
-    def end(self) -> Node:
-        """The last node along the first children."""
-        node = self
-        while node._children:
-            node = node._children[0]
-        return node
-
-    def board(self) -> Board:
-        """A board at the node's position, with the moves that led there.
-
-        >>> jatshegi.pgn.read_game("1. e4 e5 *").end().board().ply
-        2
-        """
-        *_, root = self._way()
-        board = Board(root._start)
-        for san in self.path():
-            board.push_san(san)
-        return board
-
-    @property
-    def move(self) -> Optional[Move]:
-        """The move that leads to the node; None at the root. It is made out anew each time: `mainline_moves` is quick for many.
-
-        >>> jatshegi.pgn.read_game("1. e4 e5 *").end().move
-        Move.from_uci('e7e5')
-        """
-        return None if self._parent is None or self._san is None else self._parent.board().parse_san(self._san)
-
-    def mainline_moves(self) -> Iterator[Move]:
-        """The moves that follow along the first children.
-
-        >>> [move.uci() for move in jatshegi.pgn.read_game("1. e4 e5 2. Nf3 *").root.mainline_moves()]
-        ['e2e4', 'e7e5', 'g1f3']
-        """
-        board = self.board()
-        for node in self.mainline():
-            assert node._san is not None
-            yield board.push_san(node._san)
-
-    # The node, and those before it up to the root.
-    def _way(self) -> Iterator[Node]:
-        node: Optional[Node] = self
-        while node is not None:
-            yield node
-            node = node._parent
-
-    def mainline(self) -> Iterator[Node]:
-        """The nodes that follow along the first children.
-
-        >>> game = jatshegi.pgn.read_game("1. e4 e5 (1... c5) 2. Nf3 *")
-        >>> " ".join(node.san for node in game.root.mainline())
-        'e4 e5 Nf3'
-        """
-        node = self
-        while node._children:
-            node = node._children[0]
-            yield node
-
-    def path(self) -> List[str]:
-        """The moves from the root to this node.
-
-        >>> game = jatshegi.pgn.read_game("1. e4 e5 (1... c5 2. Nf3) *")
-        >>> game.root.children[0].children[1].children[0].path()
-        ['e4', 'c5', 'Nf3']
-        """
-        return [node._san for node in self._way() if node._san is not None][::-1]
-
-    def __repr__(self) -> str:
-        return f"<Node {self.san or 'root'}, {len(self._children)} children>"
+        return dict(self._game._tags_now())
 
 
 class Report(NamedTuple):
@@ -300,14 +188,26 @@ def _game(data: bytes, encoding: Optional[str]) -> Game:
     return game
 
 
-class Game:
-    """A game: its tags, its moves as a tree, how it ended, and its text in export form. It doesn't change."""
+class Game(Node):
+    """A game: its tags, its moves as a tree whose root it is, how it ended, and its text in export form. What is changed of it is changed by the library, and
+    its text is what the library writes then; where that refuses something an error says what, and nothing has changed.
 
-    __slots__ = ("_data", "_encoding", "_headers", "_result", "_root", "_text")
+    >>> game = jatshegi.pgn.Game()
+    >>> game.headers["White"] = "Réti"
+    >>> node = game.add_line(["Nf3", "d5"])
+    >>> node.parent.add_variation("Nf6").comment = "as often"
+    >>> game.result = "1-0"
+    >>> print(str(game).splitlines()[-2])
+    1. Nf3 d5 (1... Nf6 {as often}) 1-0
+    """
 
-    def __init__(self, text: Union[str, bytes]) -> None:
-        """The first game of a text, as `read_game` has it. Raises `InvalidGameError`, also where none is there."""
-        for data in _exports(_bytes_of(text), None):
+    __slots__ = ("_data", "_edits", "_encoding", "_result", "_tags", "_text")
+
+    def __init__(self, text: Union[str, bytes] = "*") -> None:
+        """The first game of a text, as `read_game` has it; one without moves where no text is given. Raises `InvalidGameError`, also where no game is there."""
+        if not isinstance(text, (str, bytes)):
+            raise TypeError(f"a game is read from a text or bytes, and `headers` are set afterwards: {text!r}")
+        for data in _exports(_Texts(_bytes_of(text)), None):
             self._begin(data, "utf-8" if isinstance(text, str) else None)
             return
         raise InvalidGameError(0, 6, "there is no game")
@@ -328,41 +228,61 @@ class Game:
 
     # From bytes in export form.
     def _begin(self, data: bytes, encoding: Optional[str]) -> None:
-        self._data = data
+        super().__init__()
+        # Of a game that is edited the bytes, the text and the tags are made out when they are asked for.
+        self._data: Optional[bytes] = data
+        self._text: Optional[str]
         self._text, self._encoding = _decoded(data, encoding)
-        tags, at = {}, 0
-        for tag in iter(lambda: _TAG.match(self._text, at), None):
-            tags[tag[1]] = _ESCAPED.sub(r"\1", tag[2])
-            at = tag.end()
-        self._headers = Headers(tags)
-        self._root, self._result = _tree(self._text, at, tags.get("FEN"))
+        self._edits: Optional[Edits] = None
+        self._tags: Optional[Dict[str, str]]
+        self._tags, at = _tags_of(self._text)
+        self._result = _tree(self, self._text, at)
+
+    # What edits it, from the first edit on.
+    def _edits_of(self) -> Edits:
+        with EDITING:
+            if self._edits is None:
+                self._edits = Edits(self)
+            return self._edits
+
+    # An edit has made other bytes of it.
+    def _is_changed(self, *, tags: bool = False) -> None:
+        self._data = self._text = None
+        if tags:
+            self._tags = None
+
+    # The game of its own new bytes.
+    def _read_again(self, data: bytes) -> Game:
+        game = _game(data, self._encoding)
+        self._tags, self._result = None, game._result
+        return game
+
+    def _tags_now(self) -> Dict[str, str]:
+        tags = self._tags
+        if tags is None:
+            with EDITING:
+                tags, _ = _tags_of(str(self))
+                self._tags = tags
+        return tags
 
     @property
-    def headers(self) -> Mapping[str, str]:
-        """The tags by their names, which can't be set."""
-        return self._headers
-
-    @headers.setter
-    def headers(self, value: object) -> NoReturn:
-        _refused("its tags aren't set", "read_game of a text with other tags is a game with them")
+    def headers(self) -> Headers:
+        """The tags by their names, which can be set and taken out."""
+        return Headers(self)
 
     @property
-    def root(self) -> Node:
-        """The node of the position in which the game begins."""
-        return self._root
-
-    @root.setter
-    def root(self, value: object) -> NoReturn:
-        _refused("its moves aren't set", _BY_BOARD)
+    def root(self) -> Game:
+        """The node of the position in which the game begins: the game itself."""
+        return self
 
     @property
     def result(self) -> str:
-        """How the game ended, as its text says: '1-0', '0-1', '1/2-1/2' or '*'."""
+        """How the game ended, as its text says: '1-0', '0-1', '1/2-1/2' or '*'. Raises `ValueError` where it is set to another text."""
         return self._result
 
     @result.setter
-    def result(self, value: object) -> NoReturn:
-        _refused("its result isn't set", "read_game of a text with another one is a game with it")
+    def result(self, result: str) -> None:
+        self._edits_of().mark(result)
 
     @property
     def encoding(self) -> str:
@@ -372,28 +292,18 @@ class Game:
     @property
     def start(self) -> Optional[str]:
         """The FEN of the position in which the game begins; None for the usual one."""
-        return self.headers.get("FEN")
+        return self._tags_now().get("FEN")
 
-    def mainline(self) -> Iterator[Node]:
-        """The moves of the main line."""
-        return self._root.mainline()
+    def setup(self, board: Union[Board, str]) -> None:
+        """Has the game begin in the position of a board, or of a FEN. Raises `InvalidFenError`, and `ValueError` where the game has moves.
 
-    def mainline_moves(self) -> Iterator[Move]:
-        """The moves of the main line, as moves."""
-        return self._root.mainline_moves()
-
-    @property
-    def variations(self) -> Tuple[Node, ...]:
-        """The nodes of the first moves, the main one first."""
-        return self._root.children
-
-    def next(self) -> Optional[Node]:
-        """The node of the main line's first move, or None."""
-        return self._root.next()
-
-    def end(self) -> Node:
-        """The last node of the main line."""
-        return self._root.end()
+        >>> game = jatshegi.pgn.Game()
+        >>> game.setup("4k3/8/8/8/8/8/4P3/4K3 b - - 7 20")
+        >>> move = game.add_variation("Kd7")
+        >>> print(str(game).splitlines()[-2])
+        20... Kd7 *
+        """
+        self._edits_of().begin(board if isinstance(board, str) else board.fen())
 
     def board(self, node: Optional[Node] = None) -> Board:
         """A board at the position of a node, or where the game begins.
@@ -403,7 +313,28 @@ class Game:
         >>> game.board(last).outcome().result()
         '0-1'
         """
-        return (node or self._root).board()
+        return super().board() if node is None or node is self else node.board()
+
+    def accept(self, visitor: BaseVisitor[_T]) -> _T:
+        """Has the visitor see the whole game, and returns its result."""
+        visitor.visit_encoding(self._encoding)
+        if visitor.begin_game() is not SKIP:
+            for name, value in self.headers.items():
+                visitor.visit_header(name, value)
+            if visitor.end_headers() is not SKIP:
+                self._show(visitor)
+        visitor.end_game()
+        return visitor.result()
+
+    # Has the visitor see the moves.
+    def _show(self, visitor: BaseVisitor[_T]) -> None:
+        board = self.board()
+        visitor.visit_board(board)
+        if self._comment:
+            visitor.visit_comment(self._comment)
+        if self._children:
+            walk(self._children[0], board, visitor, is_main=True)
+        visitor.visit_result(self._result)
 
     def report(self) -> Report:
         """What the Laws say of the main line.
@@ -413,7 +344,8 @@ class Game:
         (<Status.CHECKMATE: 0>, True, False, True)
         """
         found, fen, count, used = c.CReport(), ctypes.create_string_buffer(c.MOST_FEN), c_size_t(), c_size_t()
-        status = c.lib.jatshegi_game_report(self._data, len(self._data), byref(found), fen, c.MOST_FEN, byref(count), byref(used))
+        data = bytes(self)
+        status = c.lib.jatshegi_game_report(data, len(data), byref(found), fen, c.MOST_FEN, byref(count), byref(used))
         if status:
             raise _fault(status, used.value)
         over = _ply(found.over)
@@ -434,7 +366,12 @@ class Game:
 
     def __str__(self) -> str:
         """The game in export form (PGN 3.2), as the program `chess pgn` writes it."""
-        return self._text
+        text = self._text
+        if text is None:
+            with EDITING:
+                text, _ = _decoded(bytes(self), self._encoding)
+                self._text = text
+        return text
 
     def __bytes__(self) -> bytes:
         """The same as the bytes that it is, byte for byte.
@@ -443,19 +380,32 @@ class Game:
         >>> game.headers["White"], game.encoding, b"R\\xe9ti" in bytes(game)
         ('Réti', 'iso-8859-1', True)
         """
-        return self._data
+        data = self._data
+        if data is None:
+            with EDITING:
+                assert self._edits is not None
+                data = self._data = self._edits.text()
+        return data
 
-    def __reduce__(self) -> Tuple[Callable[..., Any], Tuple[bytes, str]]:
-        return _game, (self._data, self._encoding)
+    def __reduce__(self) -> Tuple[Callable[..., Any], Tuple[Any, ...]]:
+        return _game, (bytes(self), self._encoding)
 
     def __repr__(self) -> str:
         return f"<Game {self.headers.get('White', '?')} - {self.headers.get('Black', '?')}, {self.result}>"
 
 
-def _tree(text: str, at: int, start: Optional[str]) -> Tuple[Node, str]:
-    """The tree of the movetext from there on, and the marker at its end."""
-    node, result = Node(start=start), "*"
-    root = node
+def _tags_of(text: str) -> Tuple[Dict[str, str], int]:
+    """The tags of a text in export form, and where they end."""
+    tags, at = {}, 0
+    for tag in iter(lambda: _TAG.match(text, at), None):
+        tags[tag[1]] = _ESCAPED.sub(r"\1", tag[2])
+        at = tag.end()
+    return tags, at
+
+
+def _tree(root: Node, text: str, at: int) -> str:
+    """Puts the tree of the movetext from there on below a root. The marker at its end."""
+    node, result = root, "*"
     left: List[Node] = []
     for comment, bracket, nag, number, marker, san in _WORD.findall(text, at):
         if san:
@@ -469,12 +419,12 @@ def _tree(text: str, at: int, start: Optional[str]) -> Tuple[Node, str]:
         elif bracket:
             node = left.pop()
         elif nag:
-            node._nags.append(int(nag))
+            node._nags += (int(nag),)
         elif marker:
             result = marker
         elif not number:
             node._comment = " ".join(comment.split("\n"))
-    return root, result
+    return result
 
 
 def _fault(status: int, place: int) -> Exception:
@@ -497,37 +447,87 @@ def _export_at(address: int, length: int, room: int) -> Tuple[int, bytes, int]:
         room = count.value
 
 
-class _Texts:
-    """The export forms of the games of some bytes, one after another."""
+# No answer about a game hangs on bytes that are further from its beginning, with three of a byte order mark; and how many are read at a time.
+_DECIDED, _PIECE = 1_048_576 + 3, 1 << 21
+_PARTS_OF_A_MARK = (b"\xef", b"\xef\xbb")
 
-    def __init__(self, data: bytes) -> None:
-        self._buffer = (ctypes.c_char * len(data)).from_buffer_copy(data)
-        self._at = 0
+
+class _Pieces:
+    """The bytes of an open file, piece by piece."""
+
+    def __init__(self, file_of: Callable[[], Any]) -> None:
+        self._file_of = file_of
+        #: Whether the file has text.
+        self.is_text = False
+
+    def __call__(self, count: int) -> bytes:
+        data = self._file_of().read(count)
+        if not isinstance(data, (str, bytes)):
+            raise TypeError(f"a file of games has text or bytes: {data!r}")
+        self.is_text = isinstance(data, str)
+        return _bytes_of(data)
+
+
+class _Texts:
+    """The export forms of games, one after another: of some bytes, or of what is read piece by piece. As much of that is kept as decides the next game."""
+
+    def __init__(self, data: bytes, read: Optional[Callable[[int], bytes]] = None) -> None:
+        self._data, self._read, self._lock = data, read, threading.Lock()
+        # Where the next game is looked for, and how many bytes came before those that are kept.
+        self._at = self._before = 0
+
+    # Reads more, at least as much as is kept, so that no byte is looked at often.
+    def _more(self) -> None:
+        assert self._read is not None
+        left = len(self._data) - self._at
+        piece = self._read(max(_PIECE, left))
+        if not piece:
+            self._read = None
+        self._data, self._before, self._at = self._data[self._at :] + piece, self._before + self._at, 0
+
+    # The address of the next game, and how many bytes are there.
+    def _place(self) -> Tuple[int, int]:
+        address = ctypes.cast(ctypes.c_char_p(self._data), c_void_p).value
+        assert address is not None
+        return address + self._at, len(self._data) - self._at
 
     def next(self) -> Optional[bytes]:
         """The next game's; None where there are no more. Raises `InvalidGameError` for a game that can't be read; the call after it goes on after that game."""
-        left, address = len(self._buffer) - self._at, ctypes.addressof(self._buffer) + self._at
-        if not left:
-            return None
-        status, game, used = _export_at(address, left, 4096)
-        if status == c.NO_GAME:
-            self._at += left
-            return None
-        if status == c.OK:
-            self._at += used
-            return game
-        fault = _fault(status, self._at + used)
-        if isinstance(fault, InvalidGameError):
-            passed = c_uint64()
+        with self._lock:
+            return self._next()
+
+    def _next(self) -> Optional[bytes]:
+        while True:
+            while self._read and (len(self._data) - self._at <= _DECIDED or self._data.endswith(_PARTS_OF_A_MARK)):
+                self._more()
+            status, game, used = _export_at(*self._place(), 4096)
+            if status == c.OK:
+                self._at += used
+                return game
+            if status != c.NO_GAME:
+                raise self._passing(status, used)
+            # Only whitespace is there.
+            if self._read is None:
+                self._at = len(self._data)
+                return None
+            self._more()
+
+    # What a status raises, once the bytes of a game that can't be read have been passed over.
+    def _passing(self, status: int, used: int) -> Exception:
+        fault = _fault(status, self._before + self._at + used)
+        while isinstance(fault, InvalidGameError):
+            passed, (address, left) = c_size_t(), self._place()
             if c.lib.jatshegi_game_pass(address, left, byref(passed)):
                 raise MemoryError("no memory for a game")
-            self._at += max(passed.value, 1)
-        raise fault
+            if self._read is None or passed.value < left:
+                self._at += max(passed.value, 1)
+                break
+            self._more()
+        return fault
 
 
-def _exports(data: bytes, bad: Optional[Callable[[InvalidGameError], object]]) -> Iterator[bytes]:
-    """The export forms of the games of the bytes, in order."""
-    texts = _Texts(data)
+def _exports(texts: _Texts, bad: Optional[Callable[[InvalidGameError], object]]) -> Iterator[bytes]:
+    """The export forms of the games, in order."""
     while True:
         try:
             game = texts.next()
@@ -545,25 +545,24 @@ def _bytes_of(source: Union[str, bytes]) -> bytes:
     return source.encode("utf-8", "surrogateescape") if isinstance(source, str) else source
 
 
-# What is left of the files that `read_game` reads, and their encodings.
-_FILES: "weakref.WeakKeyDictionary[Any, Tuple[_Texts, Optional[str]]]" = weakref.WeakKeyDictionary()
+# What is left of the files that `read_game` reads, and how they are read on.
+_FILES: "weakref.WeakKeyDictionary[Any, Tuple[_Texts, _Pieces]]" = weakref.WeakKeyDictionary()
 
 
-def _rest_of(file: Any, encoding: Optional[str]) -> Tuple[_Texts, Optional[str]]:
-    """What is left of an open file, which is read to its end at first, and the encoding of its games."""
+def _rest_of(file: Any) -> Tuple[_Texts, _Pieces]:
+    """What is left of an open file."""
     if file not in _FILES:
-        data = file.read()
-        if not isinstance(data, (str, bytes)):
-            raise TypeError(f"a file of games has text or bytes: {data!r}")
-        _FILES[file] = _Texts(_bytes_of(data)), "utf-8" if isinstance(data, str) else encoding
+        # (a file that nobody has any more is forgotten)
+        pieces = _Pieces(weakref.ref(file))
+        _FILES[file] = _Texts(b"", pieces), pieces
     return _FILES[file]
 
 
 def read_game(source: Union[str, bytes, IO[Any]], *, encoding: Optional[str] = None) -> Optional[Game]:
-    """The first game of a text, or the next one of an open file; None where there is only whitespace. Bytes are read in the encoding that is named, where one is,
-    else in UTF-8, or in ISO 8859-1 where the game is none; a byte that it doesn't have is a lone surrogate, as `errors="surrogateescape"` reads and writes it. A text
-    that is none of bytes is UTF-8. A file is read to its end at the first call; the calls after it go on after the game of the last one, also where that could not be
-    read.
+    """The first game of a text, or the next one of an open file; None where there is only whitespace. Bytes are read in the encoding that is named, where
+    one is, else in UTF-8, or in ISO 8859-1 where the game is none; a byte that it doesn't have is a lone surrogate, as `errors="surrogateescape"` reads and
+    writes it. A text that is none of bytes is UTF-8. A file is read by pieces of 2 MiB, and the next call goes on after the game of the last one, also where
+    that could not be read.
 
     >>> jatshegi.pgn.read_game(" ") is None
     True
@@ -579,32 +578,32 @@ def read_game(source: Union[str, bytes, IO[Any]], *, encoding: Optional[str] = N
     d4
     """
     encoding = None if encoding is None else _known(encoding)
-    if isinstance(source, str):
-        texts, encoding = _Texts(_bytes_of(source)), "utf-8"
-    elif isinstance(source, bytes):
-        texts = _Texts(source)
+    if isinstance(source, (str, bytes)):
+        text, is_text = _Texts(_bytes_of(source)).next(), isinstance(source, str)
     elif hasattr(source, "read"):
-        texts, encoding = _rest_of(source, encoding)
+        texts, pieces = _rest_of(source)
+        text = texts.next()
+        is_text = pieces.is_text
     else:
         raise TypeError(f"games are read from a text, bytes or an open file: {source!r}")
-    game = texts.next()
-    return None if game is None else _game(game, encoding)
+    return None if text is None else _game(text, "utf-8" if is_text else encoding)
 
 
-def read_headers(source: Union[str, bytes, IO[Any]], *, encoding: Optional[str] = None) -> Optional[Mapping[str, str]]:
+def read_headers(source: Union[str, bytes, IO[Any]], *, encoding: Optional[str] = None) -> Optional[Dict[str, str]]:
     """The tags of the game that `read_game` reads; None where it reads none.
 
     >>> jatshegi.pgn.read_headers('[White "Morphy"] 1. e4 *')["White"]
     'Morphy'
     """
     game = read_game(source, encoding=encoding)
-    return None if game is None else game.headers
+    return None if game is None else game.headers.copy()
 
 
 def games(
     source: Union[str, bytes, "os.PathLike[str]", IO[Any]], bad: Optional[Callable[[InvalidGameError], object]] = None, *, encoding: Optional[str] = None
 ) -> Iterator[Game]:
-    """The games of a file, open or by its path, or of bytes, one after another, each read in the encoding that is named, or as `read_game` does.
+    """The games of a file, open or by its path, or of bytes, one after another, each read in the encoding that is named, or as `read_game` does. A file is
+    read by pieces of 2 MiB, so one of any size takes little memory, and it is open meanwhile.
 
     A game that can't be read raises `InvalidGameError`. With `bad`, that is called with it instead, and reading goes on at the next section of tags.
 
@@ -617,13 +616,12 @@ def games(
     """
     encoding = None if encoding is None else _known(encoding)
     if isinstance(source, bytes):
-        data = source
+        for text in _exports(_Texts(source), bad):
+            yield _game(text, encoding)
     elif hasattr(source, "read"):
-        data = source.read()
-        if isinstance(data, str):
-            data, encoding = _bytes_of(data), "utf-8"
+        pieces = _Pieces(lambda: source)
+        for text in _exports(_Texts(b"", pieces), bad):
+            yield _game(text, "utf-8" if pieces.is_text else encoding)
     else:
         with open(source, "rb") as file:
-            data = file.read()
-    for text in _exports(data, bad):
-        yield _game(text, encoding)
+            yield from games(file, bad, encoding=encoding)

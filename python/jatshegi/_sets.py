@@ -1,0 +1,146 @@
+"""Sets of squares."""
+from __future__ import annotations
+
+from typing import Any, Iterable, Iterator, List, MutableSet, Union
+
+from ._moves import _checked
+
+ALL = 0xFFFFFFFFFFFFFFFF
+
+
+class SquareSet(MutableSet[int]):
+    """A set of squares, in ascending order; a set of numbers of 0 to 63, and a word of 64 bits in which the bit of each of its squares is 1, the lowest for a1.
+
+    >>> corners = SquareSet([jatshegi.A1, jatshegi.H1, jatshegi.A8, jatshegi.H8])
+    >>> corners, len(corners), jatshegi.A1 in corners, list(corners & SquareSet(0xFF))
+    (SquareSet(0x8100_0000_0000_0081), 4, True, [0, 7])
+    """
+
+    __slots__ = ("mask",)
+
+    def __init__(self, squares: Union[int, Iterable[int]] = 0) -> None:
+        """The set of these squares, or of the squares whose bits are 1. Raises `ValueError` for what is no square's, or no word's."""
+        self.mask: int = 0
+        if isinstance(squares, int):
+            if not 0 <= squares <= ALL:
+                raise ValueError(f"a set of squares is a word of 64 bits: {squares}")
+            self.mask = squares
+        elif isinstance(squares, SquareSet):
+            self.mask = squares.mask
+        else:
+            for square in squares:
+                self.add(square)
+
+    @classmethod
+    def from_square(cls, square: int) -> "SquareSet":
+        """The set of that square alone."""
+        return cls([square])
+
+    def __contains__(self, square: object) -> bool:
+        return isinstance(square, int) and 0 <= square < 64 and bool(self.mask >> square & 1)
+
+    def __iter__(self) -> Iterator[int]:
+        mask = self.mask
+        while mask:
+            lowest = mask & -mask
+            yield lowest.bit_length() - 1
+            mask ^= lowest
+
+    def __reversed__(self) -> Iterator[int]:
+        return reversed(list(self))
+
+    def __len__(self) -> int:
+        return bin(self.mask).count("1")
+
+    def __bool__(self) -> bool:
+        return bool(self.mask)
+
+    def __int__(self) -> int:
+        return self.mask
+
+    __index__ = __int__
+
+    def add(self, square: int) -> None:
+        """Adds the square. Raises `ValueError` for a number that is no square's."""
+        self.mask |= 1 << _checked(square)
+
+    def discard(self, square: int) -> None:
+        """Takes the square out, if it is there. Raises `ValueError` for a number that is no square's."""
+        self.mask &= ~(1 << _checked(square))
+
+    def clear(self) -> None:
+        """Takes all squares out."""
+        self.mask = 0
+
+    def copy(self) -> "SquareSet":
+        """Another set of the same squares."""
+        return SquareSet(self.mask)
+
+    def __invert__(self) -> "SquareSet":
+        return SquareSet(ALL ^ self.mask)
+
+    def mirror(self) -> "SquareSet":
+        """The squares as the other player sees them: the ranks turned round."""
+        return SquareSet(int.from_bytes(self.mask.to_bytes(8, "little"), "big"))
+
+    def union(self, *others: Iterable[int]) -> "SquareSet":
+        """The squares of any of them."""
+        return SquareSet([*self, *(square for other in others for square in other)])
+
+    def intersection(self, *others: Iterable[int]) -> "SquareSet":
+        """The squares of all of them."""
+        mask = self.mask
+        for other in others:
+            mask &= SquareSet(other).mask
+        return SquareSet(mask)
+
+    def difference(self, *others: Iterable[int]) -> "SquareSet":
+        """The squares of this one that are in no other."""
+        return SquareSet(self.mask & ~SquareSet().union(*others).mask)
+
+    def issubset(self, other: Iterable[int]) -> bool:
+        """Whether each square is one of the other's."""
+        return not self.mask & ~SquareSet(other).mask
+
+    def issuperset(self, other: Iterable[int]) -> bool:
+        """Whether each of the other's squares is one of these."""
+        return SquareSet(other).issubset(self)
+
+    def tolist(self) -> List[bool]:
+        """For each of the 64 squares, whether it is in the set."""
+        return [square in self for square in range(64)]
+
+    # (what the operators of a set make)
+    @classmethod
+    def _from_iterable(cls, squares: Iterable[Any]) -> "SquareSet":
+        return cls(squares)
+
+    def __eq__(self, other: object) -> bool:
+        return self.mask == other.mask if isinstance(other, SquareSet) else super().__eq__(other)
+
+    # (it can be changed)
+    __hash__ = None  # type: ignore[assignment]
+
+    def __repr__(self) -> str:
+        return f"SquareSet(0x{self.mask:_x})" if self.mask < 1 << 16 else f"SquareSet(0x{self.mask:016_x})"
+
+    def __str__(self) -> str:
+        """The board as White sees it, a 1 for each square of the set.
+
+        >>> print(SquareSet([jatshegi.A8, jatshegi.B8]))
+        1 1 . . . . . .
+        . . . . . . . .
+        . . . . . . . .
+        . . . . . . . .
+        . . . . . . . .
+        . . . . . . . .
+        . . . . . . . .
+        . . . . . . . .
+        """
+        return "\n".join(" ".join("1" if 8 * rank + file in self else "." for file in range(8)) for rank in range(7, -1, -1))
+
+    def _repr_svg_(self) -> str:
+        """A picture, which a notebook shows."""
+        from . import svg
+
+        return svg.board(squares=self, size=390)
