@@ -10,6 +10,8 @@ PAGES = ["README.md", "CONTRIBUTING.md", "CHANGELOG.md", "suite/README.md", *sor
 
 # Words that no source has: commands of the machine, letters of men and moves, a move that is not read, and a name that stands for others.
 ELSEWHERE = {"bash", "cc", "git", "parallel", "pgn-extract", "polyglot", "sed", "stockfish", "valgrind", "xboard", "Z0", "After-f", "NAME"}
+# Names of Rust's library and of shakmaty, on the page for Rust.
+ELSEWHERE |= {"no_std", "Sync", "to_string", "into_position", "San", "SanPlus", "Bitboard"}
 LETTERS = re.compile(r"[PNBRQK]+|[pnbrqk]+|[PNBRQKpnbrqk]{12}|([a-h][1-8]){2}")
 
 
@@ -81,8 +83,9 @@ class Pages(unittest.TestCase):
                 cls.words.update(re.findall(r"[\w-]+|\w+", text_of(path)))
                 cls.words.update(re.findall(r"\w+", text_of(path)))
         python = glob.glob("python/jatshegi/*.py", root_dir=runs.TOP)
+        rust = glob.glob("rust/src/*.rs", root_dir=runs.TOP)
         tools = [f"tools/{name}" for name in os.listdir(f"{runs.TOP}/tools")]
-        for path in ("chess", "build", "test", *tools, "suite/run_class.py", "suite/run_uci.py", "crates.txt", "include/jatshegi.h", *python):
+        for path in ("chess", "build", "test", *tools, "suite/run_class.py", "suite/run_uci.py", "crates.txt", "include/jatshegi.h", "rust/build.rs", *python, *rust):
             cls.words.update(re.findall(r"[\w-]+", text_of(path)))
 
     def test_each_link_leads_somewhere(self):
@@ -132,9 +135,15 @@ class Pages(unittest.TestCase):
     def test_what_a_wrong_body_or_a_part_replaces_occurs_once(self):
         for path in glob.glob("crates/*/must-fail/*.edit", root_dir=runs.TOP):
             text = text_of(path)
-            source, old = re.search(r"^file: (.*)$", text, re.M)[1], re.search(r"^old: (.*?)\n(?=new: )", text, re.M | re.S)[1]
+            source = text_of(f"{path.split('/must-fail/')[0]}/{re.search(r'^file: (.*)$', text, re.M)[1]}")
             with self.subTest(path=path):
-                self.assertEqual(text_of(f"{path.split('/must-fail/')[0]}/{source}").count(old), 1)
+                # (a text is one line; more lines wouldn't be read)
+                pairs = re.findall(r"^old: (.*)\nnew: ?(.*)$", text, re.M)
+                self.assertEqual(len(pairs), len(re.findall(r"^old:", text, re.M)))
+                for old, new in pairs:
+                    self.assertEqual(source.count(old), 1)
+                    self.assertNotEqual(old, new)
+                    source = source.replace(old, new)
         for source, old in re.findall(r"^file: (.*)\nold: (.*)\n", text_of("crates/chess_examples/parts.txt"), re.M):
             with self.subTest(source=source, old=old):
                 self.assertEqual(text_of(f"crates/{source}").count(re.sub("[⟦⟧]", "", old).replace("\\n", "\n")), 1)

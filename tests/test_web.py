@@ -83,9 +83,9 @@ def wants_browser():
         raise unittest.SkipTest(f"these packages are missing: {' '.join(PACKAGES)}")
 
 
-def serve(folder, handler=Handler):
+def serve(folder, handler=Handler, port=0):
     """Serves the folder to this machine, and returns the server, which `stop` ends."""
-    it = http.server.ThreadingHTTPServer(("127.0.0.1", 0), functools.partial(handler, directory=folder))
+    it = http.server.ThreadingHTTPServer(("127.0.0.1", port), functools.partial(handler, directory=folder))
     threading.Thread(target=it.serve_forever, daemon=True).start()
     return it
 
@@ -179,8 +179,10 @@ class Page:
         return self.browser.find_element(By.ID, name)
 
     def square(self, name):
-        from selenium.webdriver.common.by import By
-        return self.browser.find_element(By.CSS_SELECTOR, f"[data-square={name}]")
+        return self.found(f"[data-square={name}]")
+
+    def found(self, selector):
+        return self.browser.find_element("css selector", selector)
 
     def text(self, name):
         return self.script("return document.getElementById(arguments[0]).textContent", name).strip()
@@ -203,8 +205,14 @@ class Page:
         self.until(lambda: word in self.text("told"), f"'{word}' is said")
 
     def drag(self, a, b):
+        self.drag_elements(self.square(a), self.square(b))
+
+    def drag_elements(self, a, b):
+        if hasattr(self.browser, "drag"):
+            self.browser.drag(a, b)
+            return
         from selenium.webdriver import ActionChains
-        ActionChains(self.browser).drag_and_drop(self.square(a), self.square(b)).perform()
+        ActionChains(self.browser).drag_and_drop(a, b).perform()
 
     def shows(self, name):
         """Opens the box or the menu that a control is in, by what opens it."""
@@ -335,7 +343,7 @@ class InTheBrowser(unittest.TestCase):
         self.assertIn("exactly one king", page.text("fentold"))
         page.closes()
         page.paste("1. e4 e5 2. Ke3 *")
-        page.until_told("a word that names no legal move, at byte 12")
+        page.until_told("a word that names no legal move, at line 1, column 13, move 2 of White: “Ke3”")
         page.paste("   ")
         page.until_told("There is no game in it.")
         page.type("comment", "a } brace")
@@ -534,8 +542,7 @@ class InTheBrowser(unittest.TestCase):
             file.flush()
             page.at("file").send_keys(file.name)
             page.until(lambda: page.text("howmany") == "4 games, and 1 that can’t be read", "the games are listed")
-        place = len(games[0]) + games[1].index(b"e4 *")
-        self.assertIn(f"2. Can’t be read: a word that names no legal move, at byte {place}", page.text("games"))
+        self.assertIn("2. Can’t be read: a word that names no legal move, at line 8, column 7, move 1 of Black: “e4”", page.text("games"))
         page.until_moves("1. e4 e5")
         for words in ("sicilian", "four"):
             page.type("find", words, then="")
@@ -1207,9 +1214,13 @@ class TheFiles(unittest.TestCase):
         with open(f"{WEB}/jatshegi.sources", "rb") as file:
             self.assertEqual(hashlib.sha256(made).hexdigest(), hashlib.sha256(file.read()).hexdigest(), "make the module anew: tools/web")
 
+    def test_the_list_of_what_a_browser_keeps_is_that_of_the_files(self):
+        ran = subprocess.run([f"{runs.TOP}/tools/offline", "--check"], capture_output=True, text=True)
+        self.assertEqual((ran.returncode, ran.stderr), (0, ""))
+
     def test_the_page_is_small(self):
         size = sum(os.path.getsize(f"{WEB}/{name}") for name in os.listdir(WEB) if not name.startswith("jatshegi."))
-        self.assertLess(size, 160_000)
+        self.assertLess(size, 200_000)
 
 
 def pictures():

@@ -76,13 +76,26 @@ def escaped(value):
     return value.replace("\\", "\\\\").replace('"', '\\"')
 
 
+def as_typed(rng, board, move):
+    """A legal move's text as people type it."""
+    san, squares = board.san(move), str(move)
+    ways = [san, san, san + rng.choice("!?"), " ".join(san), f"{squares[:2]}-{squares[2:]}", squares.upper(), f"12. {san}"]
+    if san[0] in "NRQK":
+        ways.append(san.lower())
+    if san[0] == "O":
+        ways += [san.replace("O", "0"), san.lower(), squares[:2] + ("h" if squares[2] == "g" else "a") + squares[3]]
+    return rng.choice(ways)
+
+
 class Model:
     """Beside the page: the board of the library, the tags and the result, and the states so far as texts."""
 
-    def __init__(self, jatshegi):
+    def __init__(self, jatshegi, fen=None):
         self.jatshegi = jatshegi
         self.board, self.tags, self.result, self.draft = jatshegi.Board(), {}, "*", None
         self.states, self.at, self.is_kept = [], -1, False
+        if fen:
+            self.board.line(f"set {fen}")
         self.note()
 
     def exported(self):
@@ -155,24 +168,36 @@ class Keeping(Browsing):
         """One random thing on the page and beside it: what was done, and the model of the game that is then on the board."""
         page, keys = self.page, {"ctrl": "\ue009", "shift": "\ue008"}
         what = rng.choice(["play"] * 6 + ["type"] * 2 + ["undo", "undo", "ctrl-z", "redo", "ctrl-y", "ctrl-shift-z", "reload", "reload"]
-                          + ["another", "open", "open", "illegal", "enter", "escape", "back", "forward", "start", "end", "nag", "delete", "promote", "tag", "result", "new", "fen", "paste"])
+                          + ["another", "open", "open", "listed", "address", "no address", "illegal", "enter", "escape", "back", "forward", "start", "end", "nag", "delete", "promote", "tag", "result", "new", "fen", "paste"])
         board = model.board
         if what == "type":
             model.draft = rng.choice(["good", "so-so", "sch\u00f6n (it) is; $5 %", "a } brace", "word " * 12 + "end"]) + f" {rng.randrange(1000)}"
             page.type("comment", model.draft, then="")
             model.is_kept = True
-        elif what in ("another", "open"):
-            at = rng.randrange(len(models))
+        elif what == "no address":
+            page.script("location.hash = arguments[0]", f"fen=8/8/8/8/8/8/8/8_w_-_-_0_{rng.randrange(1, 9999)}")
+            page.until_told("The address names no position")
+        elif what in ("another", "listed", "address", "open"):
+            at, fen = rng.randrange(len(models)), None
             if what == "another":
                 page.script("document.getElementById('another').click()")
+            elif what == "listed":
+                fens = [f"r3k2r/8/8/8/8/8/8/R3K2R b KQkq - {rng.randrange(50)} 7", "4k3/8/8/3pP3/8/8/8/4K3 w - d6 0 2"]
+                fen = rng.choice(fens)
+                page.paste("\n".join(fens))
+                page.until(lambda: page.script("return [...document.querySelectorAll('#games button')].map((it) => it.title)") == fens, "the positions are listed")
+                page.script("document.querySelectorAll('#games button')[arguments[0]].click()", fens.index(fen))
+            elif what == "address":
+                fen = f"4k3/8/8/8/8/8/8/R3K3 w Q - {rng.randrange(50)} {rng.randrange(1, 9999)}"
+                page.script("location.hash = arguments[0]", f"fen={fen.replace(' ', '_')}")
             else:
                 page.script("document.querySelectorAll('#own .open')[arguments[0]].click()", at)
             if (what == "open" and models[at] is model) or not model.settle():
                 return what, model
-            other = Model(test_web.library()) if what == "another" else models[at]
+            other = models[at] if what == "open" else Model(test_web.library(), fen)
             if not model.is_kept:
                 models.remove(model)
-            if what == "another":
+            if what != "open":
                 models.append(other)
             return what, other
         elif what == "escape":
@@ -182,9 +207,9 @@ class Keeping(Browsing):
             page.at("comment").send_keys("\n")
             model.settle()
         elif what in ("play", "illegal"):
-            san = board.san(rng.choice(board.legal_moves)) if what == "play" and board.legal_moves else "Kh8"
-            page.type("san", san)
-            model.do(f"play {san}")
+            move = rng.choice(board.legal_moves) if what == "play" and board.legal_moves else None
+            page.type("san", as_typed(rng, board, move) if move else rng.choice(["Kh8", "k h8!", "e9-e8"]))
+            model.do(f"play {board.san(move) if move else 'Kh8'}")
         elif what in ("undo", "redo"):
             page.script("document.getElementById(arguments[0]).click()", what)
             model.travel(-1 if what == "undo" else 1)

@@ -202,6 +202,21 @@ class Looking:
             self.resize(*SIZES[name])
             self.assertEqual(page.script(covered), [], name)
 
+    def test_the_board_editor_is_in_the_window(self):
+        page = self.page
+        seen = """
+            const [box, board] = ['fenbox', 'editboard'].map((it) => document.getElementById(it).getBoundingClientRect());
+            return [box.left >= 0 && box.right <= innerWidth && box.top >= 0 && box.bottom <= innerHeight, board.left >= box.left && board.right <= box.right,
+              Math.abs(board.width - board.height) <= 1, board.width >= 180, document.getElementById('fenbox').scrollWidth <= document.getElementById('fenbox').clientWidth];
+        """
+        for name, (width, height) in SIZES.items():
+            self.resize(width, height)
+            page.shows("editempty")
+            page.until(lambda: page.script("return document.querySelectorAll('[data-edit]').length") == 64, "the editor is laid out")
+            self.assertEqual(page.script(seen), [True] * 5, name)
+            self.assertEqual(page.script("return document.querySelectorAll('#editboard [tabindex=\"0\"]').length"), 1)
+            page.closes()
+
     def test_the_last_move_and_a_check_are_marked(self):
         page = self.page
 

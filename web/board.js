@@ -1,5 +1,6 @@
 // The board on the page: draws what the module answers, and turns mouse, touch and keys into a pair of squares.
-const FILES = 'abcdefgh';
+import { FILES, placed } from './fen.js';
+
 const NAMES = { p: 'pawn', n: 'knight', b: 'bishop', r: 'rook', q: 'queen', k: 'king' };
 const SVG = 'http://www.w3.org/2000/svg';
 
@@ -15,19 +16,6 @@ export const man = (letter) => {
 
 export const named = (letter) => `${letter === letter.toUpperCase() ? 'white' : 'black'} ${NAMES[letter.toLowerCase()]}`;
 
-/** The letters of the men by square, from the first field of a FEN. */
-const placed = (fen) => {
-  const men = {};
-  fen.split(' ')[0].split('/').forEach((row, i) => {
-    let file = 0;
-    for (const c of row) {
-      if (c >= '1' && c <= '8') file += Number(c);
-      else men[FILES[file++] + (8 - i)] = c;
-    }
-  });
-  return men;
-};
-
 export class Board {
   constructor(place, { wants, asks }) {
     this.place = place;
@@ -37,7 +25,7 @@ export class Board {
     this.chosen = '';
     this.at = 'e2';
     this.squares = {};
-    this.shown = { men: {}, moves: [], heat: null, checks: [], last: '' };
+    this.shown = { men: {}, moves: [], castlings: [], heat: null, checks: [], last: '' };
     this.dropped = '';
     this.pointed = '';
     this.lay();
@@ -79,12 +67,12 @@ export class Board {
   }
 
   /**
-   * Shows a position: its FEN, legal moves and the last move in long algebraic notation, attack counts or null, squares of men that check. A square stays chosen in
-   * the same one. Men that went a step glide there, unless it is `still`.
+   * Shows a position: its FEN, legal moves and the last move in long algebraic notation, castlings with the squares of king and rook, attack counts or null, squares
+   * of men that check. A square stays chosen in the same one. Men that went a step glide there, unless it is `still`.
    */
-  show({ fen, moves, heat, checks, last, still }) {
+  show({ fen, moves, castlings, heat, checks, last, still }) {
     const was = this.shown.men;
-    this.shown = { men: placed(fen), moves, heat, checks, last };
+    this.shown = { men: placed(fen), moves, castlings, heat, checks, last };
     this.side = fen.split(' ')[1];
     const isOther = fen !== this.fen;
     if (isOther) this.chosen = '';
@@ -147,6 +135,11 @@ export class Board {
     return this.shown.moves.filter((it) => it.slice(0, 2) === this.chosen).map((it) => it.slice(2, 4));
   }
 
+  // The rooks that the chosen king castles with: it is castled by going onto one, too.
+  rooks() {
+    return this.shown.castlings.filter((it) => it.king === this.chosen).map((it) => it.rook);
+  }
+
   // The coordinates stand in corners that no man covers.
   names(name) {
     const [file, number] = name;
@@ -166,11 +159,13 @@ export class Board {
   draw() {
     const { men, checks, heat, last } = this.shown;
     const targets = this.chosen ? this.targets() : [];
+    const rooks = this.chosen ? this.rooks() : [];
     const king = this.side === 'w' ? 'K' : 'k';
     for (const [name, square] of Object.entries(this.squares)) {
       const letter = men[name];
       const dark = (FILES.indexOf(name[0]) + Number(name[1])) % 2 === 1;
-      const target = targets.includes(name);
+      const isRook = rooks.includes(name);
+      const target = targets.includes(name) || isRook;
       const isLast = last.slice(0, 2) === name || last.slice(2, 4) === name;
       const isChecked = checks.length > 0 && letter === king;
       const is = { dark, last: isLast, chosen: name === this.chosen, target, taken: target && letter, checking: checks.includes(name), checked: isChecked };
@@ -194,7 +189,7 @@ export class Board {
       }
       const said = [name, letter ? named(letter) : 'empty'];
       if (name === this.chosen) said.push('chosen');
-      if (target) said.push('may be moved to');
+      if (target) said.push(isRook ? 'may be castled with' : 'may be moved to');
       if (isLast) said.push('last move');
       if (isChecked) said.push('in check');
       if (checks.includes(name)) said.push('gives check');
@@ -211,7 +206,7 @@ export class Board {
   // A click or a key on a square: chooses it, or moves there.
   pick(name) {
     this.at = name;
-    if (this.chosen && this.targets().includes(name)) {
+    if (this.chosen && [...this.targets(), ...this.rooks()].includes(name)) {
       this.move(this.chosen, name);
       return;
     }
@@ -222,7 +217,8 @@ export class Board {
 
   // The moves from one square to another: one, or one for each promotion, or none.
   move(from, to) {
-    const found = this.shown.moves.filter((it) => it.slice(0, 4) === from + to);
+    const castled = this.shown.castlings.filter((it) => it.king === from && it.rook === to).map((it) => it.move);
+    const found = [...this.shown.moves.filter((it) => it.slice(0, 4) === from + to), ...castled];
     this.chosen = '';
     this.at = to;
     this.draw();

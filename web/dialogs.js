@@ -11,7 +11,10 @@ const beside = (box, button) => {
 
 export const openDialog = (id, button = null) => {
   const it = by(id);
-  if (!it.open) it.showModal();
+  if (!it.open) {
+    it.showModal();
+    it.dispatchEvent(new Event('opened'));
+  }
   if (id === 'menu' && button) beside(it, button);
 };
 

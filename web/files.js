@@ -1,17 +1,19 @@
-// Games that are read from a text or a file, their list, and a game written back into its file's place.
+// Games and positions that are read from a text or a file, their list, and a game written back into its file's place.
 import { ask } from './ask.js';
+import { areMostPositions, position } from './epd.js';
 import { begin, doing, exported, game, inTurn, isSettled, page, taken } from './game.js';
-import { isAsLoaded, isFresh, noteLoaded } from './mine.js';
+import { another, isAsLoaded, isFresh, noteLoaded } from './mine.js';
 import { fromBytes, toBytes } from './module.js';
 import { shown } from './pgn.js';
 import { hasStore, newFileId, readFile, writeFile } from './store.js';
-import { FAULTS } from './words.js';
+import { faultWords, refusal } from './words.js';
 
 const by = (id) => document.getElementById(id);
 const MOST_SHOWN = 500;
 
-// The games that were read last: the bytes, what was found in them, and the file, where they are of one: `{id, name, handle}`.
-let collection = { bytes: null, file: null, found: [], bad: 0, wrong: 0, first: null, isLoaded: null };
+// The games, or positions, that were read last: the bytes, what was found in them, and the file, where they are of one: `{id, name, handle}`.
+const collected = (more = {}) => ({ bytes: null, file: null, found: [], bad: 0, wrong: 0, first: null, isLoaded: null, arePositions: false, ...more });
+let collection = collected();
 
 // ---- The list.
 
@@ -19,12 +21,20 @@ const isKnown = (value) => /[^?.*\s]/.test(value);
 
 // A game by its players, or where it names none by its opening.
 const label = (it) => {
-  if (it.fault !== undefined) return `${it.number}. Can\u2019t be read: ${it.fault < 0 ? 'no memory' : FAULTS[it.fault]}, at byte ${it.place}`;
+  if (it.fault !== undefined) return `${it.number}. Can\u2019t be read: ${faultWords(it.fault, it.where)}`;
   const tag = (name) => shown(it.tags.find(([is]) => is === name)?.[1] ?? '');
   const known = (...names) => names.map(tag).filter(isKnown).join(' ');
   const players = known('White', 'Black') ? `${tag('White') || '?'} \u2013 ${tag('Black') || '?'}` : known('ECO', 'Opening', 'Variation');
   return `${it.number}. ${[players || '? \u2013 ?', known('Result', 'Event', 'Date')].filter(Boolean).join(' ')}${it.finding ? ` \u2014 ${it.finding}` : ''}`;
 };
+
+// A position by its line, what it is called, and what else is said of it.
+const positionLabel = ({ number, fen, said, refused, text }) => {
+  if (refused) return `Line ${number} can\u2019t be read: ${refusal(refused)} \u201c${shown(text)}\u201d`;
+  const others = said.filter(([name]) => name !== 'id').map((it) => shown(it.join(' ').trim()));
+  return `${number}. ${calledOf(said) || fen}${others.length ? ` \u2014 ${others.join('; ')}` : ''}`;
+};
+const calledOf = (said) => shown(said.find(([name]) => name === 'id')?.[1] ?? '');
 
 const has = (it, words) => it.label.toLowerCase().includes(words) || (it.tags ?? []).some(([, value]) => shown(value).toLowerCase().includes(words));
 
@@ -40,14 +50,15 @@ const openListed = (it) => doing(async () => {
 
 const entry = (it) => {
   const row = document.createElement('li');
-  if (it.fault !== undefined) {
+  if (it.isBad) {
     row.className = 'bad';
     row.textContent = it.label;
     return row;
   }
   const button = document.createElement('button');
   button.textContent = it.label;
-  button.onclick = () => openListed(it);
+  if (it.fen) button.title = it.fen;
+  button.onclick = () => (it.fen ? another(`set ${it.fen}`, calledOf(it.said)) : openListed(it));
   if (it.finding) row.className = 'finding';
   row.append(button);
   return row;
@@ -59,27 +70,54 @@ export const showCollection = () => {
   const words = by('find').value.toLowerCase();
   if (listing.of !== collection || listing.words !== words) by('games').replaceChildren();
   listing = { of: collection, words };
-  const { found, bad, wrong } = collection;
+  const { found, bad, wrong, arePositions } = collection;
+  const good = found.length - bad;
+  const counted = arePositions ? [`${good} position${good === 1 ? '' : 's'}`, bad === 1 ? ', and a line that can\u2019t be read' : `, and ${bad} lines that can\u2019t be read`] : [`${good} games`, `, and ${bad} that can\u2019t be read`];
   const matches = words ? found.filter((it) => has(it, words)) : found;
   by('games').append(...matches.slice(by('games').children.length, MOST_SHOWN).map(entry));
-  by('howmany').textContent = `${found.length - bad} games${bad ? `, and ${bad} that can\u2019t be read` : ''}${wrong ? `; ${wrong} with a finding` : ''}${matches.length > MOST_SHOWN ? `; the first ${MOST_SHOWN} are shown` : ''}`;
+  by('howmany').textContent = `${counted[0]}${bad ? counted[1] : ''}${wrong ? `; ${wrong} with a finding` : ''}${matches.length > MOST_SHOWN ? `; the first ${MOST_SHOWN} are shown` : ''}`;
 };
 
 // ---- Reading.
 
-const isFen = (text) => /^\s*[pnbrqkPNBRQK1-8]+(\/[pnbrqkPNBRQK1-8]+){7}\s+[wb]\s/.test(text) && text.trim().split('\n').length === 1;
+// What was found goes into the list.
+const listed = (into, found, labelled) => {
+  for (const it of found) {
+    const isBad = it.fault !== undefined || it.refused !== undefined;
+    into.found.push({ ...it, isBad, label: labelled(it) });
+    if (isBad) into.bad++;
+    if (it.finding) into.wrong++;
+  }
+};
+
+// Reads a text of positions: one comes on the board, in the place of the game that is there; of several there is a list, and the board stays.
+const readPositions = async (bytes) => {
+  const rows = fromBytes(bytes).split('\n').filter((it) => it.trim());
+  const [{ fen, said }] = rows.map(position);
+  if (rows.length === 1 && (!await begin(`set ${fen}`) || !said.length)) return;
+  const mine = collected({ bytes, arePositions: true });
+  collection = mine;
+  const add = (found) => {
+    if (collection !== mine) return;
+    listed(mine, found, positionLabel);
+    by('collection').hidden = false;
+    showCollection();
+  };
+  add((await ask('positions', { bytes }, add)).found);
+  if (collection === mine && rows.length > 1) page.told('The positions are in the list: choose one. The board is as it was.');
+};
 
 /**
  * Reads a text that was given when so much was done: a FEN, a game, or many. The first game comes on the board, in the place of the one that is there, or, of a file,
  * beside it; but where something was done since, the board stays, and it is in the list.
  */
 export const read = async (bytes, { before = game.acts, file = null } = {}) => {
-  if (bytes.length < 200 && isFen(fromBytes(bytes))) {
-    await begin(`set ${fromBytes(bytes).trim()}`);
+  if (areMostPositions(fromBytes(bytes.subarray(0, 65536)))) {
+    await readPositions(bytes);
     return;
   }
   const old = collection;
-  const mine = { bytes, file, found: [], bad: 0, wrong: 0, first: null, isLoaded: null };
+  const mine = collected({ bytes, file });
   collection = mine;
   by('collection').hidden = true;
   // (`before` is null where none is to come on the board)
@@ -96,11 +134,7 @@ export const read = async (bytes, { before = game.acts, file = null } = {}) => {
   };
   const add = (found) => {
     if (collection !== mine) return;
-    for (const it of found) {
-      mine.found.push({ ...it, label: label(it) });
-      if (it.fault !== undefined) mine.bad++;
-      if (it.finding) mine.wrong++;
-    }
+    listed(mine, found, label);
     const first = found.find((it) => it.fault === undefined);
     if (first) mine.first ??= take(first).then((is) => { mine.isLoaded = is; });
     show();
@@ -114,7 +148,7 @@ export const read = async (bytes, { before = game.acts, file = null } = {}) => {
   if (before === null) return;
   if (mine.first) {
     if (!mine.isLoaded && game.acts !== before) page.told('The games of the file are in the list; the board is as you left it.');
-  } else if (mine.found.length) page.told(`No game can be read: ${FAULTS[Math.max(0, mine.found[0].fault)]}, at byte ${mine.found[0].place}.`);
+  } else if (mine.found.length) page.told(`No game can be read: ${faultWords(mine.found[0].fault, mine.found[0].where)}.`);
   else page.told('There is no game in it.');
 };
 
@@ -141,7 +175,7 @@ export const choose = async () => {
   }
   let handle;
   try {
-    [handle] = await showOpenFilePicker({ types: [{ description: 'Chess games', accept: { 'text/plain': ['.pgn', '.fen', '.txt'] } }] });
+    [handle] = await showOpenFilePicker({ types: [{ description: 'Chess games', accept: { 'text/plain': ['.pgn', '.fen', '.epd', '.txt'] } }] });
   } catch {
     // (none was chosen)
     return;

@@ -56,7 +56,7 @@ const note = () => {
 const restored = async ({ origin, pgn, path }) => {
   const found = await ask('restore', { bytes: toBytes(pgn), path });
   if (found.status !== 0) {
-    page.told(`That can\u2019t be restored: ${faultText(found.status, found.used)}.`);
+    page.told(`That can\u2019t be restored: ${faultText(found.status)}.`);
     return false;
   }
   Object.assign(game, { origin: origin ?? null, state: found.state });
@@ -154,6 +154,15 @@ const answered = async (all, job = 'lines') => {
 /** Has the board answer lines, and draws what it then is. Returns whether all were answered. */
 export const lines = (...all) => doing(() => answered(all));
 
+/** Plays the move that a text as people type it means. Where it means none or several, that is said and nothing has changed. */
+export const playTyped = (text) => doing(async () => {
+  if (!await isSettled()) return false;
+  const { move, among, text: named } = await ask('meant', { text });
+  if (!among) return answered([`play ${move ?? typed(named)}`]);
+  page.told(`That may be ${among.join(' or ')}: say which.`);
+  return false;
+});
+
 /** As `lines`, for one line, in turn. */
 export const stepped = (line) => answered([line]);
 
@@ -164,9 +173,9 @@ export const begin = (line) => doing(async () => {
   return true;
 });
 
-/** The board as it begins, with no state before. Only in turn, and with no comment that is being typed. */
-export const beginAlone = async () => {
-  const { bad, state } = await say(['new'], 'begin');
+/** The board as it begins by `new` or `set FEN`, with no state before. Only in turn, and with no comment that is being typed. */
+export const beginAlone = async (line = 'new') => {
+  const { bad, state } = await say([line], 'begin');
   if (bad) {
     page.told(refusal(bad));
     return false;
@@ -199,7 +208,7 @@ export const retag = (job, name, value) => doing(async () => {
 export const taken = async (bytes, { path = '-', isBeside = false, origin = null } = {}) => {
   const found = await ask('load', { bytes, path });
   if (found.status !== 0) {
-    page.told(found.status === 16 ? 'There is no game in it.' : `No game: ${faultText(found.status, found.used)}.`);
+    page.told(found.status === 16 ? 'There is no game in it.' : `No game: ${faultText(found.status, found.where)}.`);
     return false;
   }
   leaveDraft();

@@ -1,7 +1,10 @@
-// A link that holds the game: its export form, deflated, after the sign #.
-import { exported, game, inTurn, isSettled, page, taken } from './game.js';
+// A link that holds the game: its export form, deflated, after the sign #. And an address that names a position, by ?fen= or #fen=.
+import { ask } from './ask.js';
+import { begin, exported, game, inTurn, isSettled, page, taken } from './game.js';
 import { fromBytes, toBytes } from './module.js';
-import { isFresh, keepLinkOf } from './mine.js';
+import { another, isFresh, isPosition, keepLinkOf } from './mine.js';
+import { typed } from './pgn.js';
+import { refusal } from './words.js';
 
 const LONGEST = 60000;
 let waiting;
@@ -16,13 +19,23 @@ const whole = (held, isTurned) => `#g=${held}&p=${game.state.path}${isTurned ? '
 /** The link of the game as it is, from the sign # on. */
 export const linkNow = async (isTurned) => whole(await heldNow(), isTurned);
 
+// The address without a position or a game.
+const bare = () => {
+  const words = new URLSearchParams(location.search);
+  if (!words.has('fen')) return location.pathname + location.search;
+  words.delete('fen');
+  words.delete('f');
+  return location.pathname + (words.size ? `?${words}` : '');
+};
+
 const putLink = async (isTurned) => {
   const { state } = game;
   const held = isFresh() ? '' : await heldNow();
   if (game.state !== state) return;
   const isHeld = held && held.length <= LONGEST;
+  const position = isPosition() ? `#fen=${state.fen.replaceAll(' ', '_')}${isTurned ? '&f=1' : ''}` : '';
   // (an address that can't hold the game holds none, and no older one)
-  history.replaceState(null, '', isHeld ? whole(held, isTurned) : location.pathname + location.search);
+  history.replaceState(null, '', bare() + (isHeld ? whole(held, isTurned) : position));
   keepLinkOf(isHeld ? held : '');
 };
 
@@ -35,20 +48,44 @@ export const keepLink = (isTurned) => {
   }, 150);
 };
 
-/** What the address holds: `{held, path, isTurned}`, or null. */
+/** Whether the page shows the board with its moves alone, in a frame of another page. */
+export const isEmbedded = () => new URLSearchParams(location.search).has('embed');
+
+/** What the address holds: a game, `{held, path, isTurned}` or `{pgn, path, isTurned}`, a position, `{fen, isTurned}`, or null. */
 export const linked = () => {
   const words = new URLSearchParams(location.hash.slice(1));
-  const held = words.get('g');
-  return held ? { held, path: words.get('p') ?? '-', isTurned: words.has('f') } : null;
+  const before = new URLSearchParams(location.search);
+  const isTurned = words.has('f') || before.has('f');
+  const [held, pgn] = [words.get('g'), words.get('pgn')];
+  if (held || pgn) return { held, pgn, path: words.get('p') ?? '-', isTurned };
+  const fen = words.get('fen') ?? before.get('fen');
+  return fen === null ? null : { fen: fen.replaceAll('_', ' ').trim(), isTurned };
 };
 
-/** Puts the game of the link on the board, beside one that is there. */
-export const openLink = ({ held, path }) => inTurn(async () => {
+/** Why the position that the address names is none; empty where it is one, or none is named. */
+export const faultOf = async (link) => {
+  if (link?.fen === undefined) return '';
+  const { answer } = await ask('tried', { text: `set ${typed(link.fen)}` });
+  return answer === 'ok' ? '' : `The address names no position: ${refusal(answer)}`;
+};
+
+const openPosition = async (link) => {
+  const fault = await faultOf(link);
+  if (fault) page.told(fault);
+  return !fault && (isEmbedded() ? begin(`set ${link.fen}`) : another(`set ${link.fen}`));
+};
+
+const textOf = ({ held, pgn }) => (held ? through(toBytes(atob(held.replaceAll('-', '+').replaceAll('_', '/'))), new DecompressionStream('deflate-raw')) : toBytes(typed(pgn)));
+
+const openGame = (link) => inTurn(async () => {
   try {
-    const bytes = await through(toBytes(atob(held.replaceAll('-', '+').replaceAll('_', '/'))), new DecompressionStream('deflate-raw'));
-    return await isSettled() && await taken(bytes, { path, isBeside: !isFresh() });
+    const bytes = await textOf(link);
+    return await isSettled() && await taken(bytes, { path: link.path, isBeside: !isEmbedded() && !isFresh() });
   } catch {
     page.told('The link doesn\u2019t hold a game.');
     return false;
   }
 });
+
+/** Puts the game or the position of the link on the board, beside a game that is there; in a frame, where nothing is kept, in its place. */
+export const openLink = (link) => (link.fen === undefined ? openGame(link) : openPosition(link));

@@ -4,9 +4,11 @@ import { moveNow, points, positionChanged, positionDrawn, reply, toggleAnalysis 
 import { Board, man, named } from './board.js';
 import { dialogs, openDialog } from './dialogs.js';
 import { drawMoves, drawPlayers, drawStatus, drawTags, saidHere, showComment } from './draw.js';
+import { editing } from './editor.js';
 import { choose, download, listAgain, read, readWhole, saveBack, showCollection } from './files.js';
-import { begin, exported, game, isSettled, lines, page, redo, settled, stepped, doing, undo } from './game.js';
-import { keepLink, linkNow, linked, openLink } from './link.js';
+import { begin, exported, game, isSettled, lines, page, playTyped, redo, settled, stepped, doing, undo } from './game.js';
+import { keepOffline } from './kept.js';
+import { faultOf, isEmbedded, keepLink, linkNow, linked, openLink } from './link.js';
 import { beside, keep, mine, start } from './mine.js';
 import { toBytes } from './module.js';
 import { drawOwn, ownCommands } from './own.js';
@@ -27,6 +29,7 @@ const drawBoard = () => {
   view.show({
     fen: state.fen,
     moves: state.moves === 'none' ? [] : state.moves.split(' '),
+    castlings: state.castlings,
     heat: heat ? { counts: attacks(state[heat]), colour: heat.at(-1) } : null,
     checks: state.checks === 'none' ? [] : state.checks.split(' '),
     last: state.last,
@@ -44,10 +47,11 @@ page.draw = () => {
   drawStatus();
   drawPlayers(view.turned);
   drawMoves();
-  if (document.activeElement !== by('fen')) by('fen').value = game.state.fen;
+  if (!by('fenbox').open) by('fen').value = game.state.fen;
   by('saveback').hidden = !game.origin;
   positionDrawn(game.isMoved);
   game.isMoved = false;
+  if (isEmbedded()) return;
   keepLink(view.turned);
   keep(false);
 };
@@ -83,7 +87,7 @@ const turnRound = (isTurned) => {
 };
 const flip = () => {
   turnRound(!view.turned);
-  keepLink(view.turned);
+  if (!isEmbedded()) keepLink(view.turned);
 };
 const can = (id) => by(id).getAttribute('aria-disabled') !== 'true';
 // (asked in turn: keys come faster than what they ask for is drawn)
@@ -99,7 +103,7 @@ const steps = () => {
   by('sanform').onsubmit = async (event) => {
     event.preventDefault();
     const text = by('san').value.trim();
-    if (text && await lines(`play ${typed(text)}`)) by('san').value = '';
+    if (text && await playTyped(text)) by('san').value = '';
   };
   by('moves').onclick = (event) => {
     const path = event.target.closest('[data-path]')?.dataset.path;
@@ -178,7 +182,7 @@ const games = () => {
     read(new TextEncoder().encode(by('pgn').value));
   };
   by('copy').onclick = out(async () => copy(shown(exported()), 'The game'));
-  by('copyfen').onclick = () => copy(game.state.fen, 'The FEN');
+  by('copyfen').onclick = () => copy(by('fen').value, 'The FEN');
   by('link').onclick = out(async () => {
     const link = await linkNow(view.turned);
     document.documentElement.dataset.given = link;
@@ -198,6 +202,8 @@ const engine = () => {
 // An arrow steps wherever nothing is typed and no box is open.
 const KEYS = { ArrowLeft: back, ArrowRight: forward, ArrowUp: toStart, ArrowDown: toEnd, Home: toStart, End: toEnd, f: flip, l: toggleAnalysis, '/': () => by('san').focus() };
 
+const FRAME_KEYS = ['ArrowLeft', 'ArrowRight', 'ArrowUp', 'ArrowDown', 'Home', 'End', 'f'];
+
 const keys = (event) => {
   if (event.defaultPrevented || event.target.closest('dialog')) return;
   const typing = event.target.closest('input, textarea, select');
@@ -214,6 +220,7 @@ const keys = (event) => {
   }
   // (with Alt an arrow steps from a field, too)
   const isStep = event.altKey && !event.shiftKey && (key === 'ArrowLeft' || key === 'ArrowRight');
+  if (isEmbedded() && !FRAME_KEYS.includes(key)) return;
   if (!KEYS[key] || !(isStep || !(typing || event.altKey || event.shiftKey))) return;
   event.preventDefault();
   KEYS[key]();
@@ -250,21 +257,34 @@ const lacks = (text) => {
   by('main').hidden = true;
 };
 
-// The board begins as the link says, or as this browser kept it. A kept game has gone on since its link where this window had it, and the link is older than it.
+// The board begins as the address says, or as this browser kept it. A kept game has gone on since its link where this window had it, and the link is older than it. An
+// address whose position is none says so, and all is as without it.
 const beginning = async () => {
-  const link = linked();
+  const asked = linked();
+  const fault = await faultOf(asked);
+  const link = fault ? null : asked;
   const isOf = (it, own) => it.link === link.held && (it.id === own || it.linkAt === it.at);
-  const found = await start(drawOwn, (records, own) => (link ? records.find((it) => isOf(it, own)) ?? null : undefined));
-  if (link?.isTurned) turnRound(true);
+  const found = await start(drawOwn, (records, own) => (link ? records.find((it) => link.held && isOf(it, own)) ?? null : undefined));
+  if (asked?.isTurned) turnRound(true);
   if (found === 'none' && !(link && await openLink(link))) page.draw();
   else if (found === 'opened' && link) await lines(link.path === '-' ? 'start' : `goto ${link.path}`);
+  if (fault) page.told(fault);
+};
+
+// In a frame of another page: what its address names, and nothing is kept.
+const framed = async () => {
+  const link = linked();
+  if (link?.isTurned) turnRound(true);
+  if (!(link && await openLink(link))) page.draw();
 };
 
 const main = async () => {
   startWorker();
   view = new Board(by('board'), { wants: move, asks: askPromotion });
   points.at = (m) => view.point(m);
-  for (const give of [settings, dialogs, steps, annotations, games, engine, drops, ownCommands]) give();
+  document.documentElement.classList.toggle('framed', isEmbedded());
+  for (const give of [settings, dialogs, steps, annotations, games, engine, ...(isEmbedded() ? [] : [drops, ownCommands])]) give();
+  editing(() => view.turned);
   addEventListener('keydown', keys);
   const first = await ask('start', { module: MODULE });
   if (first.status !== 0) {
@@ -275,7 +295,7 @@ const main = async () => {
   game.state = state;
   game.history.note({ origin: null, pgn: state.pgn, path: state.path });
   drawTags();
-  await beginning();
+  await (isEmbedded() ? framed() : beginning());
   addEventListener('hashchange', () => {
     const link = linked();
     if (link) openLink(link);
@@ -283,7 +303,9 @@ const main = async () => {
   by('lacking').hidden = true;
   performance.mark('ready');
   document.documentElement.dataset.ready = 'yes';
+  if (isEmbedded()) return;
   await listAgain();
+  await keepOffline();
 };
 
 // For who looks on, from the console or a test.

@@ -37,8 +37,8 @@ const fresh = () => {
   return { record, history: game.history, draft: null, kept: new WeakMap(), isDirty: false, saving: null, isEmpty: true };
 };
 
-/** What a game is called: by the name that was given to it, else by its players, else by its number. */
-export const nameOf = ({ name, players, serial }) => name || players || `Game ${serial}`;
+/** What a game is called: by the name that was given to it, else by its players, by that of the position that it began with, or by its number. */
+export const nameOf = ({ name, players, called, serial }) => name || players || called || `Game ${serial}`;
 
 /** Whether nothing has been done with the game on the board. */
 export const isFresh = () => {
@@ -147,6 +147,9 @@ const put = (it) => {
 /** The game that is on the board is one beside those that are kept: an empty one, or one that was read. */
 export const beside = (isEmpty = true) => put({ ...fresh(), isEmpty });
 
+/** Whether the game on the board is a position that was opened, with which nothing has been done. */
+export const isPosition = () => isFresh() && mine.here.isPosition === true;
+
 // A state as it is kept now: of one that an earlier page kept, with its tags and its result beside it, the module writes the whole text.
 const asNow = async ({ game: _, number, tags, result, ...state }) => {
   if (!tags) return state;
@@ -180,10 +183,14 @@ export const openGame = (id) => doing(async () => {
   return await isSettled() && opened(id);
 });
 
-/** Begins another game beside the one that is there. */
-export const another = () => doing(async () => {
-  if (!await isSettled() || !await beginAlone()) return false;
+/** Begins another game beside the one that is there, by `new` or `set FEN`; `called` is what its position is called. It is kept once something is done with it. */
+export const another = (line = 'new', called = '') => doing(async () => {
+  if (!await isSettled() || !await beginAlone(line)) return false;
   beside();
+  mine.here.isPosition = line !== 'new';
+  if (called) mine.here.record.called = called;
+  show();
+  page.told('');
   page.drawTags();
   page.draw();
   return true;

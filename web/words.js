@@ -43,5 +43,12 @@ export const refusal = (answer) => {
 // Statuses of calls that aren't faults of a text.
 const STATUSES = { 2: 'There is no memory for it.', 9: 'There is no such result.', 10: REFUSED.TooLongToShow, 18: 'No tag has that name.', 19: 'The game itself says that.', 20: 'It has more than one line.' };
 
-/** Why something isn't done: the status of the call, and of a text the place of its fault. */
-export const faultText = (status, place) => STATUSES[status] ?? `${FAULTS[status - 40] ?? 'a fault'}, at byte ${place}`;
+/** A fault of a text by its number, with where it is: line, column, the move that was to come there, and the text there. */
+export const faultWords = (fault, where) => {
+  if (!where) return FAULTS[fault] ?? FAULTS[8];
+  const move = where.move ? `, move ${where.move[0]} of ${where.move[1] === 'w' ? 'White' : 'Black'}` : '';
+  return `${FAULTS[fault] ?? 'a fault'}, at line ${where.line}, column ${where.column}${move}${where.text ? `: \u201c${where.text}\u201d` : ''}`;
+};
+
+/** Why something isn't done: the status of the call, and of a text where its fault is. */
+export const faultText = (status, where = null) => STATUSES[status] ?? faultWords(status - 40, where);

@@ -1,6 +1,9 @@
 // Keeps the board in a worker: answers lines, and reads the games of a text.
-import { open, toBytes, OK, NONE } from './module.js';
-import { parts, rows } from './pgn.js';
+import { position } from './epd.js';
+import { FILES, placed } from './fen.js';
+import { fromBytes, open, toBytes, OK, NONE } from './module.js';
+import { parts, rows, shown, typed } from './pgn.js';
+import { spellings, squares } from './spellings.js';
 import { SHOWN } from './words.js';
 
 let session;
@@ -24,6 +27,15 @@ const lastMove = ({ path, pgn }) => {
   return found;
 };
 
+// The castlings that the module names, `{king, rook, move}`: the rook is the next man on the side that the king goes to.
+const castlings = (fen) => ['O-O', 'O-O-O'].map((it) => session.read(it)).filter(Boolean).map((move) => {
+  const men = placed(fen);
+  const by = move[2] > move[0] ? 1 : -1;
+  let file = FILES.indexOf(move[0]) + by;
+  while (FILES[file] && !men[FILES[file] + move[1]]) file += by;
+  return { king: move.slice(0, 2), rook: FILES[file] + move[1], move };
+});
+
 // All that the page draws of the position at the cursor. `told` is what the board answers.
 const state = () => {
   const told = {};
@@ -32,6 +44,7 @@ const state = () => {
   told.tags = Object.fromEntries(SHOWN.map((name) => [name, session.tag(name)]));
   told.result = session.result();
   told.last = lastMove(told);
+  told.castlings = castlings(told.fen);
   // What may be claimed with a move that is then made.
   told.with = told.moves === 'none' ? [] : told.moves.split(' ').map((m) => [m, line(`claim ${m}`).trim()]).filter(([, claims]) => claims !== 'none').slice(0, 5);
   const named = words(told.fen, told.with.map(([m]) => m));
@@ -59,6 +72,61 @@ const begins = (bytes, at, { text, used }) => {
   return game.status === OK && game.text === text && from + game.used === at + used ? from : at;
 };
 
+// ---- Where a game can't be read.
+
+const MOST_QUOTED = 24;
+const MARK = 'THE PLACE OF THE FAULT';
+
+const feeds = (bytes, from, to) => {
+  let count = 0;
+  for (let i = from; i < to; i++) if (bytes[i] === 10) count++;
+  return count;
+};
+
+// How many variations are open at the end of a text.
+const openAt = (text) => {
+  let open = 0;
+  for (const [it] of text.matchAll(/\{[^}]*\}?|;[^\n]*|\[[^\]"]*"(?:\\.|[^"\\])*"\s*\]|[()]/g)) {
+    if (it === '(') open++;
+    else if (it === ')') open--;
+  }
+  return Math.max(0, open);
+};
+
+const OPENED = /\((\s|\d+\.*|\{[^}]*\}|;[^\n]*\n)*$/;
+
+// Which move is to come at that place of a game, as `[number, side]`: a comment is set there, the game ended, and a board beside goes to where the module has it.
+const moveAt = (bytes, at, place) => {
+  const before = fromBytes(bytes.subarray(at, place));
+  beside.hold(toBytes(`${before} {${MARK}} ${')'.repeat(openAt(before))} *`));
+  if (beside.load(0).status !== OK) return null;
+  const found = rows(parts(beside.pgn()).movetext).find((it) => it.comment?.includes(MARK));
+  if (!found) return null;
+  // (where a variation has just been opened, its first move comes in the place of the last one)
+  const path = OPENED.test(before) ? found.path.slice(0, -1) : found.path;
+  if (path.length && beside.line(`goto ${path.join('.')}`) !== 'ok\n') return null;
+  const fields = beside.line('fen').trim().split(' ');
+  return [fields[5], fields[1]];
+};
+
+// The faults of tags: a malformed one, and a FEN that spells no position.
+const TAG_FAULTS = [42, 47];
+
+// Where the fault of a game at that place of a text is, or null where it has none: its line and column from 1, the move that was to come there or null, and the text
+// there. The text's line at `at` has the number `first`.
+const faultAt = (bytes, at, { status, used }, first = 1) => {
+  if (status <= 40) return null;
+  const place = at + used;
+  const begin = place === 0 ? 0 : bytes.lastIndexOf(10, place - 1) + 1;
+  const word = /^([^\s(){};]+|\S?)/.exec(shown(fromBytes(bytes.subarray(place, place + 4 * MOST_QUOTED))))[0];
+  return {
+    line: first + feeds(bytes, at, place),
+    column: [...shown(fromBytes(bytes.subarray(begin, place)))].length + 1,
+    move: TAG_FAULTS.includes(status) ? null : moveAt(bytes, at, place),
+    text: word.length > MOST_QUOTED ? `${word.slice(0, MOST_QUOTED)}\u2026` : word,
+  };
+};
+
 const heading = (text) => {
   const { tags, movetext } = parts(text);
   return { tags, length: movetext.length };
@@ -81,6 +149,30 @@ const words = (fen, moves) => moves.map((m) => {
   return namedBy(beside.pgn()).get('0') ?? m;
 });
 
+// Which refusal of a move's text says most of it.
+const SAYS = ['Form', 'Illegal', 'Ambiguous'];
+
+// What a text as people type it means: first as it is, then in other spellings, each asked of the module. `{move}` is the one that they name; `{among}` are those, as
+// they are written, where they name several; else `{text}` is the spelling whose refusal says most.
+const meant = (text) => {
+  const own = session.read(typed(text));
+  if (own) return { move: own };
+  const why = (it) => SAYS.indexOf(line(`claim ${typed(it)}`).trim().split(' ')[2]);
+  let most = text;
+  if (why(text) === SAYS.length - 1) return { text };
+  const fen = line('fen').trim();
+  const pair = squares(text);
+  const found = new Set(castlings(fen).filter((it) => it.king === pair?.[0] && it.rook === pair[1]).map((it) => it.move));
+  for (const it of spellings(text)) {
+    const move = session.read(typed(it));
+    if (move) found.add(move);
+    else if (why(it) > why(most)) most = it;
+  }
+  if (found.size > 1) return { among: words(fen, [...found]) };
+  if (found.size === 0 || why(most) === SAYS.length - 1) return { text: most };
+  return { move: [...found][0] };
+};
+
 const jobs = {
   async start({ module }) {
     const bytes = new Uint8Array(await (await fetch(module)).arrayBuffer());
@@ -98,6 +190,11 @@ const jobs = {
       if (answers.at(-1).startsWith('refused')) break;
     }
     return { answers, state: state() };
+  },
+
+  // The move that a typed text means.
+  meant({ text }) {
+    return meant(text);
   },
 
   // A game begins by a line, `new` or `set FEN`, with no tags and no result: a board beside has one, and the module puts it on the board, or leaves that as it is.
@@ -148,7 +245,7 @@ const jobs = {
   // The text's first game comes on the board, if it isn't too long to be shown, the cursor at the node with that path.
   load({ bytes, path = '-' }) {
     const game = readOne(bytes);
-    return game.status === OK ? jobs.restore({ bytes, path }) : game;
+    return game.status === OK ? jobs.restore({ bytes, path }) : { ...game, where: faultAt(bytes, 0, game) };
   },
 
   // The game of a text which the board wrote comes on the board, the cursor at that path.
@@ -173,14 +270,41 @@ const jobs = {
     }
   },
 
+  // What a board beside answers to `new` or `set FEN`, and the FEN that it then has.
+  tried({ text }) {
+    const answer = beside.line(text).trim();
+    return { answer, fen: answer === 'ok' ? beside.line('fen').trim() : '' };
+  },
+
+  // The positions of a text, line after line, each with what is said of it, or why a line is none, some at a time.
+  async positions({ bytes, id }) {
+    let found = [];
+    let last = performance.now();
+    for (const [i, text] of fromBytes(bytes).split('\n').entries()) {
+      if (!text.trim()) continue;
+      const { fen, said } = position(text);
+      const { answer, fen: as } = jobs.tried({ text: `set ${fen}` });
+      found.push(answer === 'ok' ? { number: i + 1, fen: as, said } : { number: i + 1, refused: answer, text: text.trim().slice(0, 80) });
+      if (performance.now() - last > 100) {
+        postMessage({ id, part: found });
+        found = [];
+        await new Promise((done) => { setTimeout(done); });
+        last = performance.now();
+      }
+    }
+    return { found };
+  },
+
   // The games of a text, or the faults of those that can't be read, some at a time.
   async games({ bytes, id }) {
     session.hold(bytes);
     let at = 0;
     let number = 0;
+    let row = 1;
     let found = [];
     let last = performance.now();
     for (;;) {
+      const from = at;
       const game = session.game(at);
       if (game.status === NONE) break;
       number++;
@@ -188,11 +312,12 @@ const jobs = {
         found.push({ number, at, used: game.used, finding: finding(session.report(at)), ...heading(game.text) });
         at += game.used;
       } else {
-        found.push({ number, at, fault: game.status - 40, place: at + game.used });
+        found.push({ number, at, fault: game.status - 40, where: faultAt(bytes, at, game, row) });
         const passed = session.pass(at);
         if (passed === 0) break;
         at += passed;
       }
+      row += feeds(bytes, from, at);
       if (performance.now() - last > 100) {
         postMessage({ id, part: found });
         found = [];
