@@ -31,7 +31,7 @@ never_fails {X = X} {E = E} takes failed never r e is page page1 w w1 flows =
     let broken = subst (λ (x : Result X E). SentOr takes failed w page page1 w1 x) is (flows w page begun) in
     absurd (subst (λ (b : Bool). T b) (sym broken.fails ∙ never w1) tt)
 
--- what was told is handed out, or there was no memory and all is as before; nothing was written before, and nothing stood on the page
+-- the answer is handed out, or there was no memory and all is as before; nothing was written before, and the page was empty
 pub handed_told : {X E : Type 0} → (r : Result X E) → (w0 w1 : Text) → (text p0 p1 : List ℕ) → p0 ≡ [] → w0.taken ≡ [] → Sends takes failed p0 w0 text p1 w1 r
     → (code count count' : ℕ) → (old new : List ℕ) → MatchResult r (λ _. IsHanded (w1.taken ++ p1) code count' old new) (λ _. (code ≡ 2) × (count' ≡ count) × (new ≡ old))
     → (line : List ℕ) → (board board' : TreeParts) → Tells board (request line) text board' → OnErr r (board' ≡ board) → IsTold board line code count count' old new board'

@@ -35,7 +35,7 @@ loop-from-init g c =
 of_set : (g : Over) (c : In-Some g) → (contains c.args.men c.in-Some.from ≡ true) × (list_all (contains c.args.men) c.next.new.self ≡ true)
 of_set g c = and_parts _ _ (sym (ap (list_all (contains c.args.men)) c.in-Some.ensures.steps) ∙ c.loop-from.invariant.within)
 
--- so a man of the kind stands there
+-- so a man of the kind is there
 here : (g : Over) (c : In-Some g) → man_on c.args.live.now.position c.in-Some.from ≡ cell_of c.args.live.now.position.side c.args.kind
 here g c =
     let p : PositionParts = c.args.live.now.position in
