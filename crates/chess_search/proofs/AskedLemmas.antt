@@ -24,6 +24,14 @@ tree_suc : (claims : Bool) (depth : ℕ) (line : Line) → counts_drawn claims l
     tree_size claims (suc depth) line ≡ suc (trees_below claims depth line (legal_moves (last line)))
 tree_suc claims depth line playing = rw playing refl
 
+ones : (f : MoveParts → ℕ) (ms : List MoveParts) → ((m : MoveParts) → f m ≡ 1) → sum_by f ms ≡ length ms
+ones f [] each = refl
+ones f (m ∷ ms) each = omega (arith, sum_by-cons f m ms, each m, ones f ms each)
+
+-- one ply deep, where play goes on, the line and each of its moves
+pub tree_one : (claims : Bool) (line : Line) → counts_drawn claims line ≡ false → tree_size claims 1 line ≡ suc (length (legal_moves (last line)))
+tree_one claims line playing = tree_suc claims 0 line playing ∙ ap suc (ones (tree_below claims 0 line) (legal_moves (last line)) (λ m. refl))
+
 -- where play goes on, with the moves in any order
 pub tree_any_order : (claims : Bool) (depth : ℕ) (line : Line) (order : List MoveParts) → counts_drawn claims line ≡ false → 0 < depth →
     IsPermutation (legal_moves (last line)) order → tree_size claims depth line ≡ suc (trees_below claims (depth - 1) line order)

@@ -81,7 +81,7 @@ pub FitsWindow-refl : (alpha beta v : ℤ) → FitsWindow alpha beta v v
 FitsWindow-refl alpha beta v = record { upper = λ h. omega (arith, ints); lower = λ h. omega (arith, ints) }
 
 -- the same answer, by other names of the numbers
-same_window : (alpha beta v answer a b w x : ℤ) → a ≡ alpha → b ≡ beta → w ≡ v → x ≡ answer → FitsWindow a b w x → FitsWindow alpha beta v answer
+pub same_window : (alpha beta v answer a b w x : ℤ) → a ≡ alpha → b ≡ beta → w ≡ v → x ≡ answer → FitsWindow a b w x → FitsWindow alpha beta v answer
 same_window alpha beta v answer a b w x e f h i fits = record {
   upper = λ under. omega (arith, ints, e, f, h, i, fits.upper (omega (arith, ints, e, f, h, i)));
   lower = λ over. omega (arith, ints, e, f, h, i, fits.lower (omega (arith, ints, e, f, h, i)));
