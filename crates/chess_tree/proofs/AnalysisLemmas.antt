@@ -17,16 +17,16 @@ use Rattle.chess_tree.specs.declared.fault.PlayFault.TheVariants.{Illegal, TooLo
 use Rattle.chess_tree.specs.declared.fault.TreeFault.{TreeFault}
 use Rattle.chess_tree.specs.declared.fault.TreeFault.TheVariants.{BadComment}
 use Rattle.chess_tree.specs.Forest.{count, height, moves_held}
-use Rattle.chess_tree.specs.Edits.{annotated, commented, parent, promoted, without_node}
+use Rattle.chess_tree.specs.Edits.{annotated, unannotated, commented, parent, promoted, without_node}
 use Rattle.chess_tree.specs.Comments.{IsComment, has_brace, normalised}
-use Rattle.chess_tree.specs.GameTree.{GameTree, TreeParts, added, annotated_here, at_path, commented_here, commented_tree, deleted, find, has, here, line_to, nodes_here, promoted_here}
+use Rattle.chess_tree.specs.GameTree.{GameTree, TreeParts, added, annotated_here, unannotated_here, at_path, commented_here, commented_tree, deleted, find, has, here, line_to, nodes_here, promoted_here}
 use Rattle.chess_tree.specs.CursorLine.{GoesOn}
 use Rattle.chess_tree.specs.Plays.{Adds, IsAnswer, Plays, add_answer, is_new, led_to, legal_answer, play_answer, played}
 use Rattle.chess_tree.specs.WellFormed.{IsGameTree}
 use Rattle.chess_tree.specs.steps.Analysed.{IsAnalysed}
 use Rattle.chess_tree.proofs.EditLemmas as edits
 use Rattle.chess_tree.proofs.EditLemmas.{deeper, leads_on, leads_parent, path_le_height}
-use Rattle.chess_tree.proofs.TreeLemmas.{game_added, game_annotated, game_at, game_commented, game_deleted, game_promoted}
+use Rattle.chess_tree.proofs.TreeLemmas.{game_added, game_annotated, game_unannotated, game_at, game_commented, game_deleted, game_promoted}
 use Rattle.chess_tree.proofs.LineLemmas.{find_some, line_added, line_length, line_on}
 use Rattle.chess_tree.proofs.WalkLemmas.{has_leads, length_parent}
 use Rattle.chess_tree.proofs.StepLemmas.{line_separated}
@@ -304,6 +304,12 @@ module _ (t : TreeParts) (l : LineParts) (is : IsAnalysed t l) where
       kept_same new (subst IsGameTree (sym e) (game_promoted t is.game some)) same
       (omega (arith, ap (λ (x : TreeParts). height x.tree.below) e, edits.height_node promoted t.path t.tree.below edits.height_promoted))
   kept_promote (Err x) new Q ok same e some = subst (λ (x : TreeParts). IsAnalysed x l) (sym e) is
+
+  pub kept_no_nags : (r : Result (Unit {0}) TreeFault) (new : TreeParts) → OnOk r (new ≡ unannotated_here t) → line_to new ≡ line_to t → OnErr r (new ≡ t) → IsAnalysed new l
+  kept_no_nags (Ok x) new e same err =
+      kept_same new (subst IsGameTree (sym e) (game_unannotated t is.game)) same
+      (omega (arith, ap (λ (x : TreeParts). height x.tree.below) e, edits.height_node unannotated t.path t.tree.below edits.height_unannotated))
+  kept_no_nags (Err x) new ok same e = subst (λ (x : TreeParts). IsAnalysed x l) (sym e) is
 
   pub kept_nag : (nag : ℕ) (r : Result (Unit {0}) TreeFault) (new : TreeParts) → OnOk r (new ≡ annotated_here nag t) → line_to new ≡ line_to t → OnErr r (new ≡ t) → IsAnalysed new l
   kept_nag nag (Ok x) new e same err =

@@ -5,8 +5,8 @@ use Rattle.std.proofs.lemmas.Bool.{cases_lt}
 use Rattle.std.proofs.lemmas.Bool.Decides.{nat_tests}
 use Rattle.chess_types.specs.board.MoveParts.{MoveParts}
 use Rattle.chess_tree.specs.Forest.{below_at, count, height, moves_held}
-use Rattle.chess_tree.specs.Edits.{annotated, change_below, change_node, commented, parent, promoted, without_node}
-use Rattle.chess_tree.specs.GameTree.{adding, annotating, deleting, find, promoting}
+use Rattle.chess_tree.specs.Edits.{annotated, unannotated, change_below, change_node, commented, parent, promoted, without_node}
+use Rattle.chess_tree.specs.GameTree.{adding, annotating, unannotating, deleting, find, promoting}
 use Rattle.chess_tree.specs.WellFormed.{Leads}
 use Rattle.chess_tree.specs.steps.Rooted.{Held, Noted, Rooted, commented_at, commented_root, edited_root, no_notes, path_root, with_below}
 use Rattle.chess_tree.specs.steps.Entries.{Entry, leaf_entry, entry_at, with_children, with_parent}
@@ -16,11 +16,11 @@ use Rattle.chess_tree.specs.steps.Freed.{IsPool, IsPut}
 use Rattle.chess_tree.specs.steps.Notes.{IsNotedAt}
 use Rattle.chess_tree.specs.steps.Writes.{detached, lifted}
 use Rattle.chess_tree.specs.steps.Siblings.{HasChild, IsFind, IsOwner, Owner}
-use Rattle.chess_tree.proofs.EditLemmas.{deeper, height_annotated, height_commented, height_node, path_le_height}
+use Rattle.chess_tree.proofs.EditLemmas.{deeper, height_annotated, height_unannotated, height_commented, height_node, path_le_height}
 use Rattle.chess_tree.proofs.TimesLemmas.{tally_same, tally_is, times_deep}
 use Rattle.chess_tree.proofs.LinkLemmas.{linked_one}
 use Rattle.chess_tree.proofs.SeenLemmas.{once_at_most, seen_is}
-use Rattle.chess_tree.proofs.GroveLemmas.{annotated_is, commented_is, node_last, number_on, parent_last, plain_noted, plain_same, plain_under, plain_under_at, trail_length, trail_on, ways_back, ways_on, wide_plain}
+use Rattle.chess_tree.proofs.GroveLemmas.{annotated_is, unannotated_is, commented_is, node_last, number_on, parent_last, plain_noted, plain_same, plain_under, plain_under_at, trail_length, trail_on, ways_back, ways_on, wide_plain}
 use Rattle.chess_tree.proofs.LaidLemmas.{in_range, let_go_laid}
 use Rattle.chess_tree.proofs.ArenaEdits.{added_from, deleted_from, last_place, promoted_from}
 use Rattle.chess_tree.proofs.SiblingLemmas.{are_there, child_in, child_number, child_past, count_is, few_children, number_range, owner_at}
@@ -104,6 +104,16 @@ annotated_game old new nag [] game h ways once notes = absurd (omega (arith, h))
 annotated_game old new nag (k ∷ path) game h ways once notes = (
   plain_noted old new (λ n. record { nags = n.nags ++ nag ∷ []; comment = n.comment }) k path 0 game ways (λ j. omega (arith, once j)) notes.others notes.there
       ∙ (λ j. change_node (λ x f. annotated_is nag x f j) (k ∷ path) (plain old game)),
+  notes.others 0 (λ q. let deep : 0 < times 0 game = subst (λ (x : ℕ). 0 < times x game) (sym q) (times_deep k path 0 game ways) in omega (arith, deep, once 0, tally_same 0)),
+)
+
+unannotated_game : (old new : ℕ → Noted) (path : List ℕ) (game : Grove) → 0 < length path → Ways path game → ((j : ℕ) → tally j 0 + times j game ≤ 1)
+    → IsNotedAt old new (number_at path 0 game) (record { nags = []; comment = (old (number_at path 0 game)).comment })
+    → (plain new game ≡ change_node unannotated path (plain old game)) × (new 0 ≡ old 0)
+unannotated_game old new [] game h ways once notes = absurd (omega (arith, h))
+unannotated_game old new (k ∷ path) game h ways once notes = (
+  plain_noted old new (λ n. record { nags = []; comment = n.comment }) k path 0 game ways (λ j. omega (arith, once j)) notes.others notes.there
+      ∙ (λ j. change_node (λ x f. unannotated_is x f j) (k ∷ path) (plain old game)),
   notes.others 0 (λ q. let deep : 0 < times 0 game = subst (λ (x : ℕ). 0 < times x game) (sym q) (times_deep k path 0 game ways) in omega (arith, deep, once 0, tally_same 0)),
 )
 
@@ -452,6 +462,19 @@ module _ (nodes : List Entry) (noted : ℕ → Noted) (free here : ℕ) (trail :
         seen_is nodes later free here trail room now
             ∙ (λ j. record { root = record { move = no_move; nags = (on.1 j).nags; comment = (on.1 j).comment; below = on.0 j }; path = a.path })
             ∙ ap (edited_root (annotating nag)) (sym z_is),
+      )
+
+  pub unannotated_now : (later : ℕ → Noted) → 0 < length z.path → IsNotedAt noted later here (record { nags = []; comment = (noted here).comment })
+      → IsArena nodes later free here trail room × (seen nodes later here ≡ edited_root unannotating z)
+  unfolding stays
+  unannotated_now later h notes =
+      let there = subst (λ (x : ℕ). IsNotedAt noted later x (record { nags = []; comment = (noted x).comment })) a.here_is notes in
+      let on = unannotated_game noted later a.path a.game (omega (arith, ap length long, h)) a.ways once_used there in
+      let now = stays later room (omega (arith, a.deep, ap height on.0, height_node unannotated a.path (plain noted a.game) height_unannotated)) in (
+        now,
+        seen_is nodes later free here trail room now
+            ∙ (λ j. record { root = record { move = no_move; nags = (on.1 j).nags; comment = (on.1 j).comment; below = on.0 j }; path = a.path })
+            ∙ ap (edited_root unannotating) (sym z_is),
       )
 
   pub commented_now : (later : ℕ → Noted) (text : List ℕ) → IsNotedAt noted later here (record { nags = (noted here).nags; comment = text })

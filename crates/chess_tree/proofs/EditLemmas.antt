@@ -2,7 +2,7 @@
 use Rattle.std.proofs.Common.{◌≡◌, ℕ, zero, suc, max, ◌+◌, ◌-◌, ◌<◌, ◌≤◌, List, [], ◌∷◌, ◌++◌, length, refl, ap, ◌∙◌, arith}
 use Rattle.chess_types.specs.board.MoveParts.{MoveParts}
 use Rattle.chess_tree.specs.Forest.{Forest, Bare, Node, append, below_at, below_child, count, height, moves_held}
-use Rattle.chess_tree.specs.Edits.{annotated, change_below, change_node, commented, in_front, inside, parent, promoted, with_move, without_node}
+use Rattle.chess_tree.specs.Edits.{annotated, unannotated, change_below, change_node, commented, in_front, inside, parent, promoted, with_move, without_node}
 use Rattle.chess_tree.specs.WellFormed.{Leads}
 
 -- ---- heights
@@ -60,6 +60,11 @@ pub height_annotated : (nag k : ℕ) (f : Forest) → height (annotated nag k f)
 height_annotated nag k Bare = omega arith
 height_annotated nag zero (Node m nags comment below next) = omega arith
 height_annotated nag (suc k) (Node m nags comment below next) = omega (arith, height_annotated nag k next)
+
+pub height_unannotated : (k : ℕ) (f : Forest) → height (unannotated k f) ≤ height f
+height_unannotated k Bare = omega arith
+height_unannotated zero (Node m nags comment below next) = omega arith
+height_unannotated (suc k) (Node m nags comment below next) = omega (arith, height_unannotated k next)
 
 -- a node is as deep as its path is long
 pub path_le_height : (path : List ℕ) (f : Forest) → Leads path f → length path + height (below_at path f) ≤ height f
@@ -136,6 +141,11 @@ pub held_annotated : (nag k : ℕ) (f : Forest) → moves_held (annotated nag k 
 held_annotated nag k Bare = refl
 held_annotated nag zero (Node m nags comment below next) = refl
 held_annotated nag (suc k) (Node m nags comment below next) = omega (arith, held_annotated nag k next)
+
+pub held_unannotated : (k : ℕ) (f : Forest) → moves_held (unannotated k f) ≡ moves_held f
+held_unannotated k Bare = refl
+held_unannotated zero (Node m nags comment below next) = refl
+held_unannotated (suc k) (Node m nags comment below next) = omega (arith, held_unannotated k next)
 
 held_without_one : (k : ℕ) (f : Forest) → k < count f → moves_held (without_node k f) + (1 + moves_held (below_child k f)) ≡ moves_held f
 held_without_one k Bare h = absurd (omega arith)
@@ -222,3 +232,8 @@ pub count_annotated : (nag k : ℕ) (f : Forest) → count (annotated nag k f) �
 count_annotated nag k Bare = refl
 count_annotated nag zero (Node m nags comment below next) = refl
 count_annotated nag (suc k) (Node m nags comment below next) = ap (λ (x : ℕ). suc x) (count_annotated nag k next)
+
+pub count_unannotated : (k : ℕ) (f : Forest) → count (unannotated k f) ≡ count f
+count_unannotated k Bare = refl
+count_unannotated zero (Node m nags comment below next) = refl
+count_unannotated (suc k) (Node m nags comment below next) = ap (λ (x : ℕ). suc x) (count_unannotated k next)

@@ -1,7 +1,7 @@
 -- A grove as the forest that contracts see, and what a path leads to after an edit.
 use Rattle.std.proofs.Common.{◌≡◌, ◌≢◌, ℕ, zero, suc, ◌+◌, ◌<◌, ◌≤◌, refl, sym, ap, subst, ◌∙◌, List, [], ◌∷◌, ◌++◌, length, arith}
 use Rattle.chess_tree.specs.Forest.{Forest, Bare, Node, append, below_at, below_child, count}
-use Rattle.chess_tree.specs.Edits.{annotated, change_below, change_node, commented, in_front, inside, parent, promoted, without_node}
+use Rattle.chess_tree.specs.Edits.{annotated, unannotated, change_below, change_node, commented, in_front, inside, parent, promoted, without_node}
 use Rattle.chess_tree.specs.steps.Rooted.{Noted}
 use Rattle.chess_tree.specs.steps.Grove.{Grove, Empty, Tree, wide, join, node_number, grove_move, under, those_before, those_after, within, under_at, change_at, number_at, trail_at, times, tally, plain, Ways}
 use Rattle.chess_tree.proofs.TimesLemmas.{tally_same, times_below, times_deep, times_number}
@@ -150,6 +150,11 @@ pub annotated_is : (nag k : ℕ) (f : Forest) → renoted (λ n. record { nags =
 annotated_is nag k Bare = refl
 annotated_is nag zero (Node m nags comment below next) = refl
 annotated_is nag (suc k) (Node m nags comment below next) = ap (λ (f : Forest). Node m nags comment below f) (annotated_is nag k next)
+
+pub unannotated_is : (k : ℕ) (f : Forest) → renoted (λ n. record { nags = []; comment = n.comment }) k f ≡ unannotated k f
+unannotated_is k Bare = refl
+unannotated_is zero (Node m nags comment below next) = refl
+unannotated_is (suc k) (Node m nags comment below next) = ap (λ (f : Forest). Node m nags comment below f) (unannotated_is k next)
 
 pub commented_is : (text : List ℕ) (k : ℕ) (f : Forest) → renoted (λ n. record { nags = n.nags; comment = text }) k f ≡ commented text k f
 commented_is text k Bare = refl

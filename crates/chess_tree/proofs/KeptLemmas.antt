@@ -10,15 +10,15 @@ use Rattle.chess_tree.specs.Forest.{below_at, count, moves_held}
 use Rattle.chess_tree.specs.Edits.{parent}
 use Rattle.chess_tree.specs.Comments.{IsComment}
 use Rattle.chess_tree.specs.Calls.{StepsUp}
-use Rattle.chess_tree.specs.GameTree.{TreeParts, adding, annotating, at_path, commented_here, deleted, deleting, line_to, promoting}
+use Rattle.chess_tree.specs.GameTree.{TreeParts, adding, annotating, unannotating, at_path, commented_here, deleted, deleting, line_to, promoting}
 use Rattle.chess_tree.specs.CursorLine.{GoesOn}
 use Rattle.chess_tree.specs.WellFormed.{IsGameTree}
 use Rattle.chess_tree.specs.steps.Rooted.{Held, Rooted, commented_at, commented_root, edited_root, leaf, parts_of, path_root}
 use Rattle.chess_tree.specs.steps.Grove.{no_move}
 use Rattle.chess_tree.proofs.EditLemmas.{leads_on, leads_parent, path_le_height}
 use Rattle.chess_tree.proofs.SoundLemmas.{no_comment}
-use Rattle.chess_tree.proofs.TreeLemmas.{game_added, game_annotated, game_at, game_commented, game_deleted, game_promoted}
-use Rattle.chess_tree.proofs.LineLemmas.{line_added, line_annotated, line_commented, line_promoted}
+use Rattle.chess_tree.proofs.TreeLemmas.{game_added, game_annotated, game_unannotated, game_at, game_commented, game_deleted, game_promoted}
+use Rattle.chess_tree.proofs.LineLemmas.{line_added, line_annotated, line_unannotated, line_commented, line_promoted}
 use Rattle.chess_tree.proofs.StepLemmas.{goes_down, goes_out, goes_up}
 
 -- a tree with no move
@@ -82,6 +82,11 @@ module _ (start : PositionParts) (z : Rooted) (game : IsGameTree (parts_of start
   kept_annotated nag e =
       subst (λ (x : Rooted). IsGameTree (parts_of start x) × (line_to (parts_of start x) ≡ line_to (parts_of start z))) (sym e)
       (game_annotated nag (parts_of start z) game, line_annotated nag (parts_of start z) game)
+
+  pub kept_unannotated : w ≡ edited_root unannotating z → IsGameTree (parts_of start w) × (line_to (parts_of start w) ≡ line_to (parts_of start z))
+  kept_unannotated e =
+      subst (λ (x : Rooted). IsGameTree (parts_of start x) × (line_to (parts_of start x) ≡ line_to (parts_of start z))) (sym e)
+      (game_unannotated (parts_of start z) game, line_unannotated (parts_of start z) game)
 
   pub comment_is : (text : List ℕ) → w ≡ commented_root text z → parts_of start w ≡ commented_here text (parts_of start z)
   comment_is text e = ap (parts_of start) e ∙ comment_parts start text z.path z.root

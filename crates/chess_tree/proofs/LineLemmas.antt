@@ -14,8 +14,8 @@ use Rattle.chess_types.specs.board.After.{after}
 use Rattle.chess_types.specs.board.Legal.{is_legal}
 use Rattle.chess_types.specs.board.Lines.{AreLegal, Line, extended, last, play}
 use Rattle.chess_tree.specs.Forest.{Forest, Bare, Node, NodeParts, below_at, below_child, child, count}
-use Rattle.chess_tree.specs.Edits.{annotated, change_below, change_node, commented, in_front, inside, parent, promoted, with_move, without_node}
-use Rattle.chess_tree.specs.GameTree.{GameTree, TreeParts, added, annotated_here, at_path, commented_here, commented_tree, deleted, find, here, is_move, line_to, move_of, moves_along, node_of, promoted_here, root_node}
+use Rattle.chess_tree.specs.Edits.{annotated, unannotated, change_below, change_node, commented, in_front, inside, parent, promoted, with_move, without_node}
+use Rattle.chess_tree.specs.GameTree.{GameTree, TreeParts, added, annotated_here, unannotated_here, at_path, commented_here, commented_tree, deleted, find, here, is_move, line_to, move_of, moves_along, node_of, promoted_here, root_node}
 use Rattle.chess_tree.specs.WellFormed.{IsGameTree, Leads}
 use Rattle.chess_tree.proofs.EditLemmas.{below_changed, below_inside, deeper, leads_parent, path_le_height}
 use Rattle.chess_tree.proofs.SoundLemmas.{legal_along}
@@ -70,6 +70,11 @@ move_annotated nag k Bare = refl
 move_annotated nag zero (Node m nags comment below next) = refl
 move_annotated nag (suc k) (Node m nags comment below next) = move_annotated nag k next
 
+move_unannotated : (k : ℕ) (f : Forest) → move_of k (unannotated k f) ≡ move_of k f
+move_unannotated k Bare = refl
+move_unannotated zero (Node m nags comment below next) = refl
+move_unannotated (suc k) (Node m nags comment below next) = move_unannotated k next
+
 -- a line from there
 abbrev from : PositionParts → List MoveParts → Line
 from start moves = record { start = start; moves = moves }
@@ -79,6 +84,9 @@ line_promoted t game some = ap (from t.tree.start) (along_promoted t.path t.tree
 
 pub line_annotated : (nag : ℕ) (t : TreeParts) → IsGameTree t → line_to (annotated_here nag t) ≡ line_to t
 line_annotated nag t game = ap (from t.tree.start) (along_node (annotated nag) t.path t.tree.below (move_annotated nag) game.cursor)
+
+pub line_unannotated : (t : TreeParts) → IsGameTree t → line_to (unannotated_here t) ≡ line_to t
+line_unannotated t game = ap (from t.tree.start) (along_node unannotated t.path t.tree.below move_unannotated game.cursor)
 
 along_commented : (text path : List ℕ) (tree : GameTree) → Leads path tree.below
     → from (commented_tree text path tree).start (moves_along path (commented_tree text path tree).below) ≡ from tree.start (moves_along path tree.below)

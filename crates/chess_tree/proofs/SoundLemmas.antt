@@ -8,7 +8,7 @@ use Rattle.chess_types.specs.board.After.{after}
 use Rattle.chess_types.specs.board.Legal.{is_legal}
 use Rattle.chess_types.specs.board.Lines.{AreLegal, play}
 use Rattle.chess_tree.specs.Forest.{Forest, Bare, Node, append, below_at, below_child, count}
-use Rattle.chess_tree.specs.Edits.{annotated, change_below, change_node, commented, in_front, inside, promoted, with_move, without_node}
+use Rattle.chess_tree.specs.Edits.{annotated, unannotated, change_below, change_node, commented, in_front, inside, promoted, with_move, without_node}
 use Rattle.chess_tree.specs.Comments.{IsComment, normalised}
 use Rattle.chess_tree.specs.GameTree.{move_of, moves_along}
 use Rattle.chess_tree.specs.WellFormed.{AreSound, Leads}
@@ -62,6 +62,11 @@ pub sound_annotated : (nag k : ℕ) (p : PositionParts) (f : Forest) → AreSoun
 sound_annotated nag k p Bare sound = tt
 sound_annotated nag zero p (Node m nags comment below next) sound = sound
 sound_annotated nag (suc k) p (Node m nags comment below next) sound = (sound.0, sound.1, sound.2, sound_annotated nag k p next sound.3)
+
+pub sound_unannotated : (k : ℕ) (p : PositionParts) (f : Forest) → AreSound p f → AreSound p (unannotated k f)
+sound_unannotated k p Bare sound = tt
+sound_unannotated zero p (Node m nags comment below next) sound = sound
+sound_unannotated (suc k) p (Node m nags comment below next) sound = (sound.0, sound.1, sound.2, sound_unannotated k p next sound.3)
 
 -- ---- for callers: the moves on the way to a node are legal, each where it is made
 

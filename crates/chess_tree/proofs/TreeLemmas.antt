@@ -4,12 +4,12 @@ use Rattle.chess_types.specs.board.MoveParts.{MoveParts}
 use Rattle.chess_types.specs.board.Legal.{is_legal}
 use Rattle.chess_types.specs.board.Lines.{last}
 use Rattle.chess_tree.specs.Forest.{Forest, height, moves_held}
-use Rattle.chess_tree.specs.Edits.{annotated, change_below, change_node, commented, promoted, with_move, without_node}
+use Rattle.chess_tree.specs.Edits.{annotated, unannotated, change_below, change_node, commented, promoted, with_move, without_node}
 use Rattle.chess_tree.specs.Comments.{IsComment}
-use Rattle.chess_tree.specs.GameTree.{TreeParts, added, annotated_here, at_path, changed, commented_here, deleted, line_to, promoted_here}
+use Rattle.chess_tree.specs.GameTree.{TreeParts, added, annotated_here, unannotated_here, at_path, changed, commented_here, deleted, line_to, promoted_here}
 use Rattle.chess_tree.specs.WellFormed.{AreSound, IsGameTree, Leads}
 use Rattle.chess_tree.proofs.EditLemmas as edits
-use Rattle.chess_tree.proofs.SoundLemmas.{sound_annotated, sound_commented, sound_node, sound_promoted, sound_with_move, sound_without}
+use Rattle.chess_tree.proofs.SoundLemmas.{sound_annotated, sound_unannotated, sound_commented, sound_node, sound_promoted, sound_with_move, sound_without}
 
 -- other moves from the same start, and another cursor
 game_changed : (change : Forest → Forest) (path : List ℕ) (t : TreeParts) → IsGameTree t → AreSound t.tree.start (change t.tree.below)
@@ -62,6 +62,14 @@ game_annotated nag t game =
     (omega (arith, edits.height_node (annotated nag) t.path t.tree.below (edits.height_annotated nag), game.deep))
     (omega (arith, edits.held_node (annotated nag) t.path t.tree.below (edits.held_annotated nag), game.many))
     (edits.leads_node (annotated nag) t.path t.tree.below (edits.count_annotated nag) game.cursor)
+
+pub game_unannotated : (t : TreeParts) → IsGameTree t → IsGameTree (unannotated_here t)
+game_unannotated t game =
+    game_changed (change_node unannotated t.path) _ t game
+    (sound_node unannotated t.tree.start t.path t.tree.below sound_unannotated game.moves)
+    (omega (arith, edits.height_node unannotated t.path t.tree.below edits.height_unannotated, game.deep))
+    (omega (arith, edits.held_node unannotated t.path t.tree.below edits.held_unannotated, game.many))
+    (edits.leads_node unannotated t.path t.tree.below edits.count_unannotated game.cursor)
 
 commented_from : (text path : List ℕ) (t : TreeParts) → path ≡ t.path → IsComment text → IsGameTree t
     → IsGameTree (commented_here text (at_path path t))

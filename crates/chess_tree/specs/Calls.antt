@@ -5,6 +5,7 @@
 --   GoesToEnd     along the main continuations to a node without children
 --   Promotes      the node is before its siblings
 --   Annotates     one more annotation number
+--   Unannotates   no annotation number
 --   Comments      the words of a text as the comment
 use Rattle.std.specs.Prelude.{◌≡◌, ℕ, ◌<◌, ◌≤◌, ◌++◌, ◌∷◌, [], true, false, length, List, Result, Ok, Err, IfErr, MatchResult, OnErr, OnOk}
 use Rattle.chess_draws.specs.Pushes.{most_plies}
@@ -12,7 +13,7 @@ use Rattle.chess_tree.specs.declared.fault.TreeFault.{TreeFault}
 use Rattle.chess_tree.specs.declared.fault.TreeFault.TheVariants.{AtRoot, BadComment, Memory, NoSuch}
 use Rattle.chess_tree.specs.Comments.{has_brace, normalised}
 use Rattle.chess_tree.specs.Forest.{count}
-use Rattle.chess_tree.specs.GameTree.{TreeParts, annotated_here, at_path, commented_here, has, line_along, line_to, main_line, moves_along, nodes_here, promoted_here}
+use Rattle.chess_tree.specs.GameTree.{TreeParts, annotated_here, at_path, commented_here, has, line_along, line_to, main_line, moves_along, nodes_here, promoted_here, unannotated_here}
 use Rattle.chess_tree.specs.CursorLine.{GoesOn}
 
 -- to the child at that place, from 0, where there is one
@@ -56,6 +57,13 @@ pub record Annotates (nag : ℕ) (old : TreeParts) (result : Result (Unit {0}) T
   pub err : OnErr result (new ≡ old)
   pub at_root : old.path ≡ [] → result ≡ Err AtRoot
   pub memory : 0 < length old.path → IfErr result (λ fault. fault ≡ Memory)
+
+-- the node has no annotation numbers, unless it is the root
+pub record Unannotates (old : TreeParts) (result : Result (Unit {0}) TreeFault) (new : TreeParts) : Type 0 where
+  pub ok : OnOk result (new ≡ unannotated_here old)
+  pub line : line_to new ≡ line_to old
+  pub err : OnErr result (new ≡ old)
+  pub at_root : MatchResult result (λ _. 0 < length old.path) (λ fault. (fault ≡ AtRoot) × (old.path ≡ []))
 
 -- the node has the words of that text as its comment, unless a right brace stands in it
 pub record Comments (text : List ℕ) (old : TreeParts) (result : Result (Unit {0}) TreeFault) (new : TreeParts) : Type 0 where

@@ -5,6 +5,7 @@
 --   promoted      one of them before the others
 --   commented     a comment for one of them, instead of its own
 --   annotated     one more annotation number for one of them
+--   unannotated   no annotation number for one of them
 --   parent        the path one node less deep
 use Rattle.std.specs.Prelude.{ℕ, zero, suc, List, [], ◌∷◌, ◌++◌}
 use Rattle.chess_types.specs.board.MoveParts.{MoveParts}
@@ -58,6 +59,12 @@ abbrev pub annotated : ℕ → ℕ → Forest → Forest
 annotated n k Bare = Bare
 annotated n zero (Node m nags comment below next) = Node m (nags ++ n ∷ []) comment below next
 annotated n (suc k) (Node m nags comment below next) = Node m nags comment below (annotated n k next)
+
+-- the node at that place has no annotation numbers
+abbrev pub unannotated : ℕ → Forest → Forest
+unannotated k Bare = Bare
+unannotated zero (Node m nags comment below next) = Node m [] comment below next
+unannotated (suc k) (Node m nags comment below next) = Node m nags comment below (unannotated k next)
 
 -- the path to the parent
 abbrev pub parent : List ℕ → List ℕ

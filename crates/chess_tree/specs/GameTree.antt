@@ -18,7 +18,7 @@ use Rattle.chess_types.specs.board.MoveParts.{MoveParts}
 use Rattle.chess_types.specs.board.Position.{PositionParts}
 use Rattle.chess_types.specs.board.Lines.{Line}
 use Rattle.chess_tree.specs.Forest.{Forest, Bare, Node, NodeParts, below_at, below_child, child, count}
-use Rattle.chess_tree.specs.Edits.{annotated, change_below, change_node, commented, parent, promoted, with_move, without_node}
+use Rattle.chess_tree.specs.Edits.{annotated, change_below, change_node, commented, parent, promoted, with_move, without_node, unannotated}
 
 -- the position in which it begins, its comment and its moves
 pub record GameTree : Type 0 where
@@ -103,6 +103,10 @@ promoting = record { below = change_node promoted; path = λ path f. parent path
 abbrev pub annotating : ℕ → Edit
 annotating nag = record { below = change_node (annotated nag); path = λ path f. path }
 
+-- no annotation numbers of the node
+abbrev pub unannotating : Edit
+unannotating = record { below = change_node unannotated; path = λ path f. path }
+
 -- the tree and the cursor after an edit
 abbrev pub edited : Edit → TreeParts → TreeParts
 edited edit t = record { tree = changed (edit.below t.path) t.tree; path = edit.path t.path t.tree.below }
@@ -122,6 +126,10 @@ promoted_here = edited promoting
 -- the node annotated
 abbrev pub annotated_here : ℕ → TreeParts → TreeParts
 annotated_here nag = edited (annotating nag)
+
+-- the node without its annotation numbers
+abbrev pub unannotated_here : TreeParts → TreeParts
+unannotated_here = edited unannotating
 
 -- that text instead of the comment of the node at a path, or of the root
 abbrev pub commented_tree : List ℕ → List ℕ → GameTree → GameTree

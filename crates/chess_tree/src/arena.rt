@@ -1,7 +1,7 @@
 ghost use Rattle.std.specs.Prelude.{◌≡◌, ◌<◌, ◌≤◌, ◌++◌, ◌∷◌, [], nat_le, nat_lt, true, false, length, slice_index, IfOk, IsOk, OnOk, OnErr};
 ghost use Rattle.chess_tree.specs.Forest.{below_at, count, height, moves_held, most_moves};
 ghost use Rattle.chess_tree.specs.Edits.{parent};
-ghost use Rattle.chess_tree.specs.GameTree.{adding, annotating, deleting, find, node_of, promoting};
+ghost use Rattle.chess_tree.specs.GameTree.{adding, annotating, deleting, find, node_of, promoting, unannotating};
 ghost use Rattle.chess_tree.specs.steps.Rooted.{commented_root, edited_root, leaf, path_root, root_shown};
 ghost use Rattle.chess_tree.specs.steps.Grove.{no_move};
 
@@ -242,6 +242,14 @@ impl<'a, A: Allocator> Arena<'a, A> {
     {
         notes::add_nag(&mut self.notes, self.nodes.alloc(), self.here, nag)?;
         Ok(())
+    }
+
+    /// Takes the annotation numbers at the cursor out.
+    pub(crate) fn clear_nags(&mut self)
+        requires { 0 < length self.old.path }
+        ensures { self.new ≡ edited_root unannotating self.old }
+    {
+        notes::clear_nags(&mut self.notes, self.here);
     }
 
     /// Sets the comment at the cursor.

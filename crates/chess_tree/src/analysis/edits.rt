@@ -1,4 +1,4 @@
-ghost use Rattle.chess_tree.specs.Calls.{Annotates, Comments, Promotes, StepsUp};
+ghost use Rattle.chess_tree.specs.Calls.{Annotates, Comments, Promotes, StepsUp, Unannotates};
 ghost use Rattle.chess_tree.specs.GameTree.{deleted};
 ghost use Rattle.chess_tree.specs.Undo.{undone};
 
@@ -51,5 +51,11 @@ impl<'a, 'k, A: Allocator> Analysis<'a, 'k, A> {
         ensures { Annotates nag self.old result self.new }
     {
         self.tree.add_nag(nag)
+    }
+    /// Takes all annotation numbers of the node at the cursor out (PGN 10). No memory is taken. `AtRoot` at the root.
+    pub fn clear_nags(&mut self) -> Result<(), TreeFault>
+        ensures { Unannotates self.old result self.new }
+    {
+        self.tree.clear_nags()
     }
 }

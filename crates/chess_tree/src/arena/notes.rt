@@ -74,6 +74,19 @@ pub(crate) fn add_nag<'a, A: Allocator>(
     Ok(())
 }
 
+/// No nags at a number. Where no comment is there either, the map has no entry.
+pub(crate) fn clear_nags<'a, A: Allocator>(notes: &mut NoteMap<'a, A>, number: NodeId)
+    ensures { IsNotedAt (noted_in notes.old) (noted_in notes.new) number (record { nags = []; comment = (noted_in notes.old number).comment }) }
+{
+    if comment(notes, number).is_empty() {
+        forget(notes, number);
+        return;
+    }
+    if let Some(note) = notes.get_mut(&number.number()) {
+        note.nags.clear();
+    }
+}
+
 /// Another comment at a number. Where an empty one leaves no notes, the map has no entry. An empty one takes no memory.
 pub(crate) fn set_comment<'a, A: Allocator>(
     notes: &mut NoteMap<'a, A>,

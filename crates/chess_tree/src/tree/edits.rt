@@ -1,4 +1,4 @@
-ghost use Rattle.chess_tree.specs.Calls.{Annotates, Promotes, StepsUp};
+ghost use Rattle.chess_tree.specs.Calls.{Annotates, Promotes, StepsUp, Unannotates};
 ghost use Rattle.chess_tree.specs.GameTree.{deleted};
 
 use super::Tree;
@@ -35,6 +35,14 @@ impl<'a, A: Allocator> Tree<'a, A> {
     {
         self.below_root()?;
         self.nodes.add_nag(nag)?;
+        Ok(())
+    }
+    /// Takes all annotation numbers of the node at the cursor out (PGN 10). No memory is taken. `AtRoot` at the root.
+    pub fn clear_nags(&mut self) -> Result<(), TreeFault>
+        ensures { Unannotates self.old result self.new }
+    {
+        self.below_root()?;
+        self.nodes.clear_nags();
         Ok(())
     }
 }
