@@ -43,7 +43,7 @@ module _ {X : Type 0} (breaks : X → X → Type 0) (at_hand : X → List ℕ) (
 
   fault_there : (fault : PgnFault) → Faulty (Pgn fault) → (fault.kind ≡ Memory) ⊎ HasNoGame (at_hand old)
   fault_there fault (inl k) = inl k.0
-  fault_there fault (inr h) = inr (none_there h)
+  fault_there fault (inr h) = inr (none_there h.1)
 
   -- a white text has none, and no fault
   pub white_fault : (told : GamesFault) (fault : PgnFault) → Faulty told → told ≡ Pgn fault → IsWhite (at_hand old) → fault.kind ≡ Memory
@@ -52,7 +52,7 @@ module _ {X : Type 0} (breaks : X → X → Type 0) (at_hand : X → List ℕ) (
       by : Faulty (Pgn fault) → fault.kind ≡ Memory
       by (inl k) = k.0
       by (inr n) =
-          absurd (n.dark [] (λ e. refl) (subst (λ (z : List ℕ). IsWhite z) (sym (ap (λ (z : List ℕ). at_hand old ++ (z ++ [])) (no_bytes old new n.pieces n.came) ∙ append-nil (at_hand old))) w))
+          absurd (n.1.dark [] (λ e. refl) (subst (λ (z : List ℕ). IsWhite z) (sym (ap (λ (z : List ℕ). at_hand old ++ (z ++ [])) (no_bytes old new n.1.pieces n.1.came) ∙ append-nil (at_hand old))) w))
 
   pub whole_fault : (told : GamesFault) (fault : PgnFault) → Faulty told → told ≡ Pgn fault → (fault.kind ≡ Memory) ⊎ HasNoGame (at_hand old)
   whole_fault told fault h e = fault_there fault (subst (λ (f : GamesFault). Faulty f) e h)
@@ -92,9 +92,13 @@ module _ {R : Type 0} (gives : R → List ℕ → R → Type 0) (failed : R → 
   source_fault (Pgn fault) (Pgn placed) (inl k) e =
       let c = starved_where k.1 in
       inl (e ∙ k.0, record { bytes = joined k.1.pieces; came = c.came; needed = needed_of (unread old) c.came.pieces c.asked; ends = open_of (unread old) c.came.pieces c.asked; still = λ h. let s = k.1.still h in (s.0, s.2 s.1) })
-  source_fault (Pgn fault) (Pgn placed) (inr h) e =
+  source_fault (Pgn fault) (Pgn placed) (inr k) e =
+      let h = k.1 in
       let c = came_where EndsOpen gives failed old new h.pieces (all_came gives failed old new h.pieces h.came) (since_where EndsOpen (joined h.pieces) h.needed) in
-      inr (record { bytes = joined h.pieces; came = c.came; items = h.items; begins = h.begins; used = h.used; needed = c.asked; ended_so = h.sound_still; none = h.none; dark = h.dark; still = h.still })
+      inr (
+        (λ m. k.0 (sym e ∙ m)),
+        record { bytes = joined h.pieces; came = c.came; items = h.items; begins = h.begins; used = h.used; needed = c.asked; ended_so = h.sound_still; none = h.none; dark = h.dark; still = h.still },
+      )
   source_fault (Pgn fault) Read h e = absurd e
   source_fault Read (Pgn placed) h e = absurd e
   source_fault Read Read h e = record {

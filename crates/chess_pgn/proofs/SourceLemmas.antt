@@ -125,7 +125,7 @@ module _ {R : Type 0} (gives : R → List ℕ → R → Type 0) (failed : R → 
       by : (fault : GamesFault) → GoesOn (Some fault) → HasFault gives failed ended old new.text fault → new.text.has_ended ≡ true → ended new.text.source
       by Read on h = absurd on
       by (Pgn f) on (inl k) = absurd (on k.0)
-      by (Pgn f) on (inr k) = k.ended_so
+      by (Pgn f) on (inr k) = k.1.ended_so
 
   -- and such a fault stays where bytes can't be passed over
   pub not_passed_sound : (old : AtHand R) (new : Games R) (fault : GamesFault) → new.fault ≡ Some fault → NotGivenUp gives failed old new.text fault → IsSound ended new

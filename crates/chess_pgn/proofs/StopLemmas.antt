@@ -309,18 +309,21 @@ module _ {X A : Type 0} (comes : X → List ℕ → X → Type 0) (at_hand : X �
     ]
 
   pub no_game_come : (new : X) (found : Option Stopped) (s : Stopped) (fault : PgnFault) → Passes comes at_hand all sound reads takes 1048576 old new t u (Ok found) → found ≡ Some s → Unanswered s.why u fault → sound new
-      → ((fault.kind ≡ Memory) × HasStarved comes at_hand all sound reads old new) ⊎ NotCome comes at_hand all sound reads old new
+      → ((fault.kind ≡ Memory) × HasStarved comes at_hand all sound reads old new) ⊎ ((fault.kind ≡ Memory → ⊥) × NotCome comes at_hand all sound reads old new)
   no_game_come new found s fault h e a well = by (is_memory fault.kind)
     where
       p : Passed comes at_hand all sound reads takes limit old new t u s
       p = subst (λ (o : Option Stopped). Passes comes at_hand all sound reads takes limit old new t u (Ok o)) e h
 
-      by : (fault.kind ≡ Memory) ⊎ (fault.kind ≡ Memory → ⊥) → ((fault.kind ≡ Memory) × HasStarved comes at_hand all sound reads old new) ⊎ NotCome comes at_hand all sound reads old new
+      by : (fault.kind ≡ Memory) ⊎ (fault.kind ≡ Memory → ⊥) → ((fault.kind ≡ Memory) × HasStarved comes at_hand all sound reads old new) ⊎ ((fault.kind ≡ Memory → ⊥) × NotCome comes at_hand all sound reads old new)
       by (inl k) = inl (k, starved s new p well)
-      by (inr k) = inr (elim p.after [
-        | inl same ↦ subst (λ (x : X). NotCome comes at_hand all sound reads old x) (sym same.0) (here_none s fault k a p.mid p.ran p.more same.1 (subst sound same.0 well))
-        | inr w ↦ beyond_none s fault k a p.mid p.ran new w well
-      ])
+      by (inr k) = inr (
+        k,
+        elim p.after [
+          | inl same ↦ subst (λ (x : X). NotCome comes at_hand all sound reads old x) (sym same.0) (here_none s fault k a p.mid p.ran p.more same.1 (subst sound same.0 well))
+          | inr w ↦ beyond_none s fault k a p.mid p.ran new w well
+        ],
+      )
 
 -- ---- a read broke off
 

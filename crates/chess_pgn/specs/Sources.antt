@@ -127,7 +127,7 @@ pub record ReadFails {R : Type 0} (gives : R → List ℕ → R → Type 0) (fai
 
 abbrev pub HasFault : {R : Type 0} → (R → List ℕ → R → Type 0) → (R → Bool) → (R → Type 0) → AtHand R → AtHand R → GamesFault → Type 0
 HasFault gives failed ended old new Read = ReadFails gives failed old new
-HasFault gives failed ended old new (Pgn fault) = ((fault.kind ≡ Memory) × Starves gives failed ended old new) ⊎ Fails gives failed ended old new
+HasFault gives failed ended old new (Pgn fault) = ((fault.kind ≡ Memory) × Starves gives failed ended old new) ⊎ ((fault.kind ≢ Memory) × Fails gives failed ended old new)
 
 abbrev pub IsPlaced : ℕ → GamesFault → Type 0
 IsPlaced used (Pgn fault) = (used ≤ fault.place) × (fault.kind ≡ Memory → fault.place ≡ used)

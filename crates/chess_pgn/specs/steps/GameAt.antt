@@ -13,7 +13,7 @@
 --   TakesGame  what becomes of a text of which one game is taken
 --   is_flood, halt_at  whether white space alone came before what reaches past the limit; where not, how far the items of a game were used
 --   HaltsAt    how far the items of a game that can't be read were used
-use Rattle.std.specs.Prelude.{◌≡◌, ◌⊎◌, ◌≤◌, ℕ, Bool, true, false, List, [], ◌++◌, length, Option, Some, None, Result, Ok, Err, ⊤}
+use Rattle.std.specs.Prelude.{◌≡◌, ◌≢◌, ◌⊎◌, ◌≤◌, ℕ, Bool, true, false, List, [], ◌++◌, length, Option, Some, None, Result, Ok, Err, ⊤}
 use Rattle.byte_streams.specs.Calls.{Calls, joined}
 use Rattle.chess_items.specs.Abandoned.{HaltsIn, UsesAllIn}
 use Rattle.chess_items.specs.Items.{Item, Spells}
@@ -93,7 +93,7 @@ module _ {X : Type 0} (comes : X → List ℕ → X → Type 0) (at_hand : X →
 
   abbrev pub IsFault : (X → X → Type 0) → X → X → GamesFault → Type 0
   IsFault breaks old new Read = HasBroken breaks old new
-  IsFault breaks old new (Pgn fault) = ((fault.kind ≡ Memory) × HasStarved old new) ⊎ NotCome old new
+  IsFault breaks old new (Pgn fault) = ((fault.kind ≡ Memory) × HasStarved old new) ⊎ ((fault.kind ≢ Memory) × NotCome old new)
 
   abbrev pub TakesGame : {A : Type 0} → (X → X → Type 0) → X → X → Result (Option (Game A × ℕ)) GamesFault → Type 0
   TakesGame breaks old new (Ok found) = FoundGame comes at_hand all reads_left old new found
