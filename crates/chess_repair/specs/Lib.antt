@@ -1,0 +1,4 @@
+-- What is repaired in a text.
+pub mod Words
+pub mod Repairs
+pub mod Spelled

@@ -1,0 +1,83 @@
+-- Texts that are written anew, so that they may be read.
+--   quoted     a text as a comment, after a head
+--   IsPutIn    a text is another with this instead of some bytes
+--   IsMore     the fields that a FEN lacks
+--   IsFen      what may be written for a FEN's tag
+--   IsRepair   what may be written for some bytes, by the kind of the repair
+--   padded     what is written for them: between two spaces, but within a word, and at the end
+--   Rewrites   a text is written anew up to what is left of it: the repairs, in order, with their places and lengths; all bytes between them are as they were
+use Rattle.std.specs.Prelude.{◌≡◌, ◌⊎◌, ℕ, ◌+◌, true, not, List, [], ◌∷◌, ◌++◌, length, map, Some, codes}
+use Rattle.std.specs.List.{list_all}
+use Rattle.chess_items.specs.Items.{is_glyph, is_name_byte}
+use Rattle.chess_repair.specs.Words.{castling_of, core, is_right, is_said, letters, quiet, result_of, sign_of, number_for}
+use Rattle.chess_repair.specs.declared.repair.Repair.{Repair}
+use Rattle.chess_repair.specs.declared.repair.RepairKind.{RepairKind}
+use Rattle.chess_repair.specs.declared.repair.RepairKind.TheVariants as k
+
+abbrev pub quoted : List ℕ → List ℕ → List ℕ
+quoted head was = codes "{" ++ (head ++ (map quiet was ++ codes "}"))
+
+-- no letter and no digit is lost
+abbrev pub SaysNothing : List ℕ → Type 0
+SaysNothing was = list_all (λ b. not (is_name_byte b)) was ≡ true
+
+-- it is instead of some bytes
+abbrev pub IsPutIn : List ℕ → List ℕ → List ℕ → Type 0
+IsPutIn put was now = (before field after : List ℕ) × (was ≡ before ++ (field ++ after)) × (now ≡ before ++ (put ++ after))
+
+-- the fields that a FEN lacks: no target, and the counters 0 and 1, or the second of them
+abbrev pub IsMore : List ℕ → Type 0
+IsMore more = (more ≡ codes " - 0 1") ⊎ (more ≡ codes " 1")
+
+-- a FEN's tag is left out, or it gets the fields that it lacks, or castling rights in the standard's letters
+abbrev pub IsFen : List ℕ → List ℕ → Type 0
+IsFen was now = (now ≡ []) ⊎ ((put : List ℕ) × IsPutIn put was now × (IsMore put ⊎ (list_all is_right put ≡ true)))
+
+abbrev pub IsRepair : RepairKind → List ℕ → List ℕ → Type 0
+IsRepair k.TagQuotes was now = letters was ≡ letters now
+IsRepair k.TagBracket was now = letters was ≡ letters now
+IsRepair k.TagName was now = letters was ≡ letters now
+IsRepair k.Castling was now = core was ≡ core now
+IsRepair k.Hyphen was now = core was ≡ core now
+IsRepair k.Colon was now = core was ≡ core now
+IsRepair k.Pawn was now = core was ≡ core now
+IsRepair k.Small was now = core was ≡ core now
+IsRepair k.Large was now = core was ≡ core now
+IsRepair k.Promotion was now = core was ≡ core now
+IsRepair k.Sign was now = sign_of was ≡ Some now
+IsRepair k.Said was now = (is_said was ≡ true) × (now ≡ [])
+IsRepair k.Value was now = number_for was ≡ Some now
+IsRepair k.Result was now = result_of was ≡ Some now
+IsRepair k.Glyphs was now = (more : List ℕ) × (was ≡ now ++ more) × (length now ≡ 2) × (list_all is_glyph was ≡ true)
+IsRepair k.Number was now = now ≡ quoted [] was
+IsRepair k.Offer was now = now ≡ quoted [] was
+IsRepair k.Angles was now = now ≡ quoted [] was
+IsRepair k.Bracket was now = now ≡ quoted [] was
+IsRepair k.Marker was now = now ≡ quoted [] was
+IsRepair k.Symbol was now = now ≡ quoted [] was
+IsRepair k.Nested was now = now ≡ quoted [] was
+IsRepair k.Null was now = now ≡ quoted (codes "cut: ") was
+IsRepair k.Illegal was now = now ≡ quoted (codes "cut: ") was
+IsRepair k.Unreadable was now = now ≡ quoted (codes "cut: ") was
+IsRepair k.Variation was now = now ≡ quoted (codes "cut: ") was
+IsRepair k.Dots was now = (was ≡ 226 ∷ 128 ∷ 166 ∷ []) × (now ≡ codes "...")
+IsRepair k.Space was now = SaysNothing was × (now ≡ [])
+IsRepair k.Control was now = SaysNothing was × (now ≡ [])
+IsRepair k.Stray was now = SaysNothing was × (now ≡ [])
+IsRepair k.Comment was now = (was ≡ []) × (now ≡ codes "}")
+IsRepair k.Unclosed was now = (was ≡ []) × (now ≡ 10 ∷ codes ")")
+IsRepair k.Prose was now = now ≡ []
+IsRepair k.Fen was now = IsFen was now
+IsRepair k.Squares was now = castling_of was ≡ Some now
+
+-- a sign is within a word
+abbrev pub padded : RepairKind → List ℕ → List ℕ
+padded k.Sign now = now
+padded _ now = 32 ∷ (now ++ 32 ∷ [])
+
+-- the place of a repair is counted from the beginning of a text of so many bytes
+abbrev pub Rewrites : ℕ → List ℕ → List Repair → List ℕ → List ℕ → Type 0
+Rewrites size text [] out rest = text ≡ out ++ rest
+Rewrites size text (r ∷ rs) out rest =
+    (kept was others now more : List ℕ) × (text ≡ kept ++ (was ++ others)) × (out ≡ kept ++ (padded r.kind now ++ more)) × (r.place + length (was ++ others) ≡ size) × (r.length ≡ length was)
+    × (r.written ≡ length (padded r.kind now)) × IsRepair r.kind was now × Rewrites size others rs more rest

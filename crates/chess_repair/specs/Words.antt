@@ -1,0 +1,112 @@
+-- Bytes and words of games as people write them.
+--   is_kept     a byte of names, or one beyond ASCII: what no repair of a tag may lose
+--   Sense       what of a text is looked at: those bytes, or what a move's text spoken
+--   spoken        what a byte spoken in a sense
+--   letters     what a text spoken in the first
+--   core_byte   what a byte of a move's text spoken: nothing, where it is a sign; a letter in any size, and a circle of castling, are one
+--   core        what a move's text spoken: the man, the squares, the promotion and check
+--   is_right    a castling right, or the sign of none
+--   quiet       a byte as it may be in a comment: no brace, and no bracket
+--   number_for    the annotation number for a word of evaluation, as it is written
+--   is_said     words that the move spoken itself
+--   result_of   the marker for a result in another form
+--   castling_of  castling for the squares of king and rook
+--   sign_of     what is written for a dash, a sign of captures or a figurine of UTF-8 within a word
+use Rattle.std.specs.Prelude.{ℕ, Bool, ◌||◌, ◌&&◌, ◌==◌, nat_le, ◌+◌, if◌then◌else◌, List, [], ◌∷◌, Option, Some, None, codes, bytes_eq}
+use Rattle.std.specs.Str.{byte}
+use Rattle.std.specs.List.{flat_map}
+use Rattle.chess_items.specs.Items.{is_name_byte}
+use Rattle.chess_repair.specs.declared.senses.Sense.{Sense}
+use Rattle.chess_repair.specs.declared.senses.Sense.TheVariants.{Letters, Moves}
+
+unfoldable pub is_kept : ℕ → Bool
+is_kept b = is_name_byte b || nat_le 128 b
+
+-- the signs between the parts of a move, and the P of a pawn
+unfoldable pub is_sign : ℕ → Bool
+is_sign b = b == 0 || b == byte "-" || b == byte ":" || b == byte "x" || b == byte "=" || b == byte "(" || b == byte ")" || b == byte "/" || b == byte "P"
+
+unfoldable pub core_byte : ℕ → List ℕ
+core_byte b =
+    if is_sign b then []
+    else (if b == byte "0" then byte "o" ∷ [] else (if nat_le (byte "A") b && nat_le b (byte "Z") then (b + 32) ∷ [] else b ∷ []))
+
+unfoldable pub spoken : Sense → ℕ → List ℕ
+spoken Letters b = if is_kept b then b ∷ [] else []
+spoken Moves b = core_byte b
+
+-- what all bytes say, one after the other
+abbrev pub sense : Sense → List ℕ → List ℕ
+sense s text = flat_map (spoken s) text
+
+abbrev pub letters : List ℕ → List ℕ
+letters text = sense Letters text
+
+abbrev pub core : List ℕ → List ℕ
+core text = sense Moves text
+
+-- a castling right as a FEN has it, or the sign of none
+unfoldable pub is_right : ℕ → Bool
+is_right b = b == byte "K" || b == byte "Q" || b == byte "k" || b == byte "q" || b == byte "-"
+
+unfoldable pub quiet : ℕ → ℕ
+quiet b = if b == byte "{" || b == byte "[" then byte "(" else (if b == byte "}" || b == byte "]" then byte ")" else b)
+
+unfoldable pub number_for : List ℕ → Option (List ℕ)
+number_for word =
+    if bytes_eq word (codes "=") then Some (codes "$10")
+    else (if bytes_eq word (codes "~") || bytes_eq word (226 ∷ 136 ∷ 158 ∷ []) then Some (codes "$13")
+    else (if bytes_eq word (codes "+=") || bytes_eq word (codes "+/=") || bytes_eq word (226 ∷ 169 ∷ 178 ∷ []) then Some (codes "$14")
+    else (if bytes_eq word (codes "=+") || bytes_eq word (codes "=/+") || bytes_eq word (226 ∷ 169 ∷ 177 ∷ []) then Some (codes "$15")
+    else (if bytes_eq word (codes "+/-") || bytes_eq word (194 ∷ 177 ∷ []) then Some (codes "$16")
+    else (if bytes_eq word (codes "-/+") || bytes_eq word (226 ∷ 136 ∷ 147 ∷ []) then Some (codes "$17")
+    else (if bytes_eq word (codes "+-") then Some (codes "$18")
+    else (if bytes_eq word (codes "-+") then Some (codes "$19")
+    else (if bytes_eq word (codes "N") || bytes_eq word (codes "TN") then Some (codes "$146")
+    else (if bytes_eq word (codes "D") then Some (codes "$220") else None)))))))))
+
+unfoldable pub is_said : List ℕ → Bool
+is_said word =
+    bytes_eq word (codes "ep") || bytes_eq word (codes "e.p.") || bytes_eq word (codes "e.p") || bytes_eq word (codes "ch") || bytes_eq word (codes "dis") || bytes_eq word (codes "dbl") || bytes_eq word (codes "disch")
+    || bytes_eq word (codes "dblch") || bytes_eq word (codes "check") || bytes_eq word (codes "mate") || bytes_eq word (codes "+") || bytes_eq word (codes "++") || bytes_eq word (codes "#")
+
+-- with blanks, a colon, halves or decimals
+unfoldable pub says_draw : List ℕ → Bool
+says_draw word =
+    bytes_eq word (codes "1/2") || bytes_eq word (194 ∷ 189 ∷ 45 ∷ 194 ∷ 189 ∷ []) || bytes_eq word (194 ∷ 189 ∷ []) || bytes_eq word (codes "1/2:1/2") || bytes_eq word (codes "0.5-0.5") || bytes_eq word (codes "1/2 - 1/2")
+    || bytes_eq word (codes "0.5 - 0.5")
+
+-- with a colon, a letter O, blanks or a dash
+unfoldable pub says_win : List ℕ → Bool
+says_win word = bytes_eq word (codes "1:0") || bytes_eq word (codes "1-O") || bytes_eq word (codes "1 - 0") || bytes_eq word (49 ∷ 226 ∷ 128 ∷ 147 ∷ 48 ∷ [])
+
+-- the same for Black
+unfoldable pub says_loss : List ℕ → Bool
+says_loss word = bytes_eq word (codes "0:1") || bytes_eq word (codes "O-1") || bytes_eq word (codes "0 - 1") || bytes_eq word (48 ∷ 226 ∷ 128 ∷ 147 ∷ 49 ∷ [])
+
+unfoldable pub result_of : List ℕ → Option (List ℕ)
+result_of word = if says_draw word then Some (codes "1/2-1/2") else (if says_win word then Some (codes "1-0") else (if says_loss word then Some (codes "0-1") else None))
+
+unfoldable pub castling_of : List ℕ → Option (List ℕ)
+castling_of word =
+    if bytes_eq word (codes "e1h1") || bytes_eq word (codes "e8h8") then Some (codes "O-O")
+    else (if bytes_eq word (codes "e1a1") || bytes_eq word (codes "e8a8") then Some (codes "O-O-O") else None)
+
+-- dashes of UTF-8, from the hyphen to the horizontal bar, and the sign of minus
+unfoldable pub is_dash : List ℕ → Bool
+is_dash word =
+    bytes_eq word (226 ∷ 128 ∷ 144 ∷ []) || bytes_eq word (226 ∷ 128 ∷ 145 ∷ []) || bytes_eq word (226 ∷ 128 ∷ 146 ∷ []) || bytes_eq word (226 ∷ 128 ∷ 147 ∷ []) || bytes_eq word (226 ∷ 128 ∷ 148 ∷ [])
+    || bytes_eq word (226 ∷ 128 ∷ 149 ∷ []) || bytes_eq word (226 ∷ 136 ∷ 146 ∷ [])
+
+-- a figurine of UTF-8, white or black, with the last byte
+unfoldable pub is_figurine : ℕ → ℕ → List ℕ → Bool
+is_figurine white black word = bytes_eq word (226 ∷ 153 ∷ white ∷ []) || bytes_eq word (226 ∷ 153 ∷ black ∷ [])
+
+-- a pawn has no letter
+unfoldable pub sign_of : List ℕ → Option (List ℕ)
+sign_of word =
+    if is_dash word || is_figurine 153 159 word then Some []
+    else (if bytes_eq word (195 ∷ 151 ∷ []) then Some (codes "x")
+    else (if is_figurine 148 154 word then Some (codes "K")
+    else (if is_figurine 149 155 word then Some (codes "Q")
+    else (if is_figurine 150 156 word then Some (codes "R") else (if is_figurine 151 157 word then Some (codes "B") else (if is_figurine 152 158 word then Some (codes "N") else None))))))

@@ -1,0 +1,2 @@
+-- What a game that is salvaged is read from.
+pub mod Salvaging

@@ -1,0 +1,123 @@
+"""`chess_games --salvage`: forms of games as people have them, and random mutations. What is written is read again without a change, what strict reading
+accepts is written as ever, and each byte of the input is accounted for.
+
+tests/salvage.jsonl has a row for each form: its name, its bytes (as Latin-1), the movetexts that are written of it, and what is said of it."""
+import json
+import random
+import re
+import subprocess
+import unittest
+
+import runs
+from test_parallel import BAD, GAMES, games
+
+with open(f"{runs.TOP}/tests/salvage.jsonl", encoding="utf-8") as rows:
+    FORMS = [json.loads(row) for row in rows]
+
+TOTALS = re.compile(rb"games (\d+), bytes (\d+), passed over (\d+), repaired (\d+)")
+REPAIR = re.compile(rb"game (\d+): repaired (\d+) [A-Z][A-Za-z]+")
+FAULT = re.compile(rb"game (\d+): fault (\d+) \d+ [A-Z][A-Za-z]+")
+MUTATIONS = 2_000
+# What takes a random byte's place: what texts of games are made of, and a few others.
+BYTES = b'[]{}()"\\;%$*.,!?+-=#:/ \n\t\0\x1a\xa0\xe2\x80\xa6abcdefghNBRQKOox0123456789<>&~'
+
+
+def ran(text, *words):
+    ended = subprocess.run([GAMES, *words], input=text, capture_output=True, timeout=runs.MOST_SECONDS)
+    assert ended.returncode in (0, 2), (text, ended)
+    return ended
+
+
+def strictly(text):
+    return subprocess.run([runs.BUILT, "pgn"], input=text, capture_output=True, timeout=runs.MOST_SECONDS)
+
+
+def movetexts(written):
+    return [" ".join(text.split()) for text in written.decode("latin-1").split("\n\n")[1::2]]
+
+
+def mutated(chance, text):
+    """The text with one to three bytes replaced, left out, or put in."""
+    text = bytearray(text)
+    for _ in range(chance.randint(1, 3)):
+        at = chance.randrange(len(text))
+        kept = chance.choice((0, 1))
+        put = bytes([chance.choice(BYTES)]) if chance.random() < 0.7 else b""
+        text[at:at + 1 - kept] = put
+    return bytes(text)
+
+
+class Salvage(unittest.TestCase):
+    def check(self, text):
+        """What every run keeps, whatever its input; what it writes."""
+        saved = ran(text, "--salvage", "--totals")
+        *lines, last = saved.stderr.splitlines()
+        said = [int(number) for number in TOTALS.fullmatch(last).groups()]
+        repairs, faults = ([line for line in lines if form.fullmatch(line)] for form in (REPAIR, FAULT))
+        self.assertEqual(len(repairs) + len(faults), len(lines), lines)
+        self.assertEqual((said[1], said[3]), (len(text), len(repairs)))
+        self.assertLessEqual(said[2], said[1])
+        self.assertEqual(saved.returncode, 2 if faults else 0)
+        self.assertTrue(all(int(REPAIR.fullmatch(line)[2]) <= len(text) for line in repairs), repairs)
+        again = strictly(saved.stdout)
+        self.assertEqual((again.returncode, again.stdout), (0, saved.stdout), text)
+        games_again = int(re.match(rb"games (\d+)", ran(saved.stdout, "--totals").stderr)[1])
+        self.assertEqual(games_again, said[0] - len(faults), text)
+        strict = ran(text)
+        if strict.returncode == 0:
+            self.assertEqual((strict.stdout, lines), (saved.stdout, []), text)
+        return saved
+
+    def test_forms(self):
+        for form in FORMS:
+            with self.subTest(form=form["name"]):
+                saved = self.check(form["bytes"].encode("latin-1"))
+                self.assertEqual(movetexts(saved.stdout), form["moves"])
+                self.assertEqual([line.split(": ", 1)[1] for line in saved.stderr.decode().splitlines()[:-1]], form["said"])
+
+    def test_collections(self):
+        """The forms one after another: each is read as it is alone, and the games between them are untouched."""
+        forms = [form for form in FORMS if form["bytes"].startswith("[") and "{" not in form["bytes"] and "\0" not in form["bytes"]]
+        text = b"".join(form["bytes"].encode("latin-1") + b"\n\n" + games()[number % 24].encode() for number, form in enumerate(forms))
+        saved = self.check(text)
+        self.assertGreaterEqual(len(movetexts(saved.stdout)), 2 * len(forms) - 4)
+
+    def test_good_collections_are_untouched(self):
+        for path in ("crates/corpus/stdout", "crates/chess_games/stdout"):
+            with open(f"{runs.TOP}/{path}", "rb") as file:
+                text = file.read()
+            self.assertEqual(self.check(text).stdout, ran(text).stdout)
+
+    def test_parts_together_are_all_games(self):
+        text = b"".join(form["bytes"].encode("latin-1") + b"\n\n" for form in FORMS[:60]) + BAD.encode()
+        whole = self.check(text)
+        parts = [ran(text, "--salvage", "--part", f"{number}/3") for number in (1, 2, 3)]
+        said = [line for part in parts for line in part.stderr.splitlines()]
+        self.assertEqual(sorted(whole.stderr.splitlines()[:-1]), sorted(said))
+        split = [re.split(rb"(?<=\n\n)(?=\[Event )", each.stdout) for each in (whole, *parts)]
+        self.assertEqual(sorted(split[0]), sorted(game for part in split[1:] for game in part))
+
+    def test_mutations(self):
+        chance = random.Random(62)
+        whole = [game.encode() for game in games()] + [form["bytes"].encode("latin-1") for form in FORMS]
+        for _ in range(MUTATIONS // 4):
+            self.check(b"\n\n".join(mutated(chance, chance.choice(whole)) for _ in range(4)))
+
+    def test_more_bytes_than_are_at_hand(self):
+        """White space, and a comment, longer than what is read at once, and many games."""
+        game = games()[0].encode()
+        for between in (b"\n" * 4_000_000, b"% " + b"x" * 4_000_000 + b"\n", b'[Event "a"]\n\n1. e4 {' + b"c" * 1_300_000 + b"} *\n\n"):
+            saved = self.check(game + between + game)
+            written = movetexts(saved.stdout)
+            self.assertEqual(written[0], written[-1])
+        self.check((game + BAD.encode()) * 30_000)
+
+    def test_a_game_that_cannot_be_saved(self):
+        text = b'[FEN "8/8"]\n\n1. e4 *\n\n' + games()[0].encode()
+        saved = self.check(text)
+        self.assertEqual((saved.returncode, len(movetexts(saved.stdout))), (2, 1))
+        self.assertEqual(saved.stderr.splitlines()[-1], f"games 2, bytes {len(text)}, passed over 22, repaired 0".encode())
+
+
+if __name__ == "__main__":
+    unittest.main()
