@@ -5,4 +5,5 @@ _arguments \
     '--part[every N-th game alone, from game K, as 1/4]:part:' \
     '--cut[copy the input, cut into pieces of at least so many bytes]:bytes:' \
     '--totals[the number of games, of bytes and of those passed over, on the standard error]' \
+    "--salvage[repair games that can't be read, with a line on the standard error for each repair]" \
     '--progress[bytes and games so far, once a second]'

@@ -11,7 +11,7 @@ use Rattle.chess_items.specs.declared.fault.PgnFault.{PgnFault}
 use Rattle.chess_loop.specs.RunEnds.{Broken}
 use Rattle.chess_loop.specs.steps.Sending.{Sent, SentOr}
 use Rattle.chess_loop.proofs.SendingLemmas.{sent_whole}
-use Rattle.chess_pgn.specs.Sources.{Fails, Games, GivesUp, GoesOn, HasFault, HasNone, IsPlaced, Leaves, ReadFails, used_after, used_of}
+use Rattle.chess_pgn.specs.Sources.{Fails, Games, GivesUp, GoesOn, HasFault, HasNone, IsPlaced, Leaves, ReadFails, Starves, used_after, used_of}
 use Rattle.chess_pgn.specs.declared.games.GamesFault.TheVariants.{Pgn}
 use Rattle.chess_pgn.specs.declared.games.GamesFault.{GamesFault}
 use Rattle.chess_programs.specs.declared.collection.Failure.{Failure}
@@ -75,7 +75,17 @@ no_lack kind not is = true≢false (sym (ap is_lack is) ∙ not)
 fails_there : {R : Type 0} (gives : R → List ℕ → R → Type 0) (failed : R → Bool) (ended : R → Type 0) (old new : AtHand R) (fault : PgnFault) → fault.kind ≢ Memory → HasFault gives failed ended old new (Pgn fault)
     → Fails gives failed ended old new
 fails_there gives failed ended old new fault not (inl starves) = absurd (not starves.0)
-fails_there gives failed ended old new fault not (inr fails) = fails
+fails_there gives failed ended old new fault not (inr fails) = fails.1
+
+-- want of memory
+lack : (kind : FaultKind) → is_lack kind ≡ true → kind ≡ Memory
+lack Memory is = refl
+lack _ is = absurd cc
+
+pub starves_there : {R : Type 0} (gives : R → List ℕ → R → Type 0) (failed : R → Bool) (ended : R → Type 0) (old new : AtHand R) (fault : PgnFault) → is_lack fault.kind ≡ true → HasFault gives failed ended old new (Pgn fault)
+    → Starves gives failed ended old new
+starves_there gives failed ended old new fault is (inl starves) = starves.1
+starves_there gives failed ended old new fault is (inr fails) = absurd (fails.0 (lack fault.kind is))
 
 -- an entry that is no game
 pub bad_there : {R X : Type 0} (gives : R → List ℕ → R → Type 0) (failed : R → Bool) (ended : R → Type 0) (old new : Games R) (offset : ℕ) (fault : PgnFault) (result : Result X GamesFault) → result ≡ Err (Pgn fault) → is_lack fault.kind ≡ false
@@ -172,8 +182,8 @@ module _ {R W : Type 0} (gives : R → List ℕ → R → Type 0) (read_failed :
     ends_many many = record { entries = so_far.entries; last = so_far.last; judged = so_far.judged; stops = inr (inr (so_far.goes_on, so_far.counted ∙ many)) }
 
     -- there was no memory
-    pub ends_starved : JudgesFirst gives read_failed ended takes failed asked start w w1
-    ends_starved = record { entries = so_far.entries; last = so_far.last; judged = so_far.judged }
+    pub ends_starved : (new : Games R) → Starves gives read_failed ended now.text new.text → JudgesFirst gives read_failed ended takes failed asked start new w w1
+    ends_starved new starves = record { entries = so_far.entries; last = so_far.last; judged = so_far.judged; lacks = inl (now, so_far.goes_on, starves) }
 
     number_is : count + 1 ≡ 1 + length so_far.entries
     number_is = (let e = so_far.counted in omega (arith, e))
@@ -216,14 +226,14 @@ module _ {R W : Type 0} (gives : R → List ℕ → R → Type 0) (read_failed :
           fails = wrote.fails;
         };
       }
-      ends_at by.Memory well wrote = record { entries = so_far.entries; last = so_far.last; judged = subst (λ (v : W). IsJudged gives read_failed ended takes failed asked start so_far.entries so_far.last w v) (sym wrote) so_far.judged }
+      ends_at by.Memory well wrote = record { entries = so_far.entries; last = so_far.last; judged = subst (λ (v : W). IsJudged gives read_failed ended takes failed asked start so_far.entries so_far.last w v) (sym wrote) so_far.judged; lacks = inr (inl (entry, (now, so_far.goes_on, there))) }
 
       module _ (sent : Sent takes failed w1 (row_of asked (count + 1) entry) [] w2) where
         -- reading doesn't go on
         pub ends_there : new.fault ≢ None → (end : Games R) (failure : Failure) → NotOn gives read_failed new end failure → JudgeEnds gives read_failed ended takes failed asked start end w w2 (Err failure)
         ends_there some end by.Read stops = record { entries = so_far.entries ++ entry ∷ []; last = new; judged = all_judged sent; stops = inr (inl (some, stops)) }
         ends_there some end by.Write stops = absurd stops
-        ends_there some end by.Memory stops = record { entries = so_far.entries ++ entry ∷ []; last = new; judged = all_judged sent }
+        ends_there some end by.Memory stops = record { entries = so_far.entries ++ entry ∷ []; last = new; judged = all_judged sent; lacks = inr (inr (some, stops)) }
 
         -- it goes on
         one_more : (next : Games R) (bad' : ℕ) → bad' ≡ bad_in (so_far.entries ++ entry ∷ []) → GoesOnTo gives read_failed ended new next → SoFar gives read_failed ended takes failed asked (count + 1) bad' start next w w2

@@ -8,18 +8,20 @@
 --   Finds        an entry is the next that a reader finds
 --   AreFound     so are these, one after another
 --   IsJudged     the rows of what was found are written, whole and no more; no write failed
---   Stops        a read failed, or there may be no more; or there were as many games as a run takes
+--   Stops        a read failed, or there may be no more; or there were as many games as a run takes; no read was made that wasn't needed
+--   Lacks        there was no memory for the next entry, for its row, or to give up a bad game; no read was made that wasn't needed
 --   JudgeEnds    how a run ends: the input has ended and all rows are written, with how many faults; or a read failed, and the rows of all that was found
 --                before are written; or a write failed or took no byte, and a prefix of the rows is written; or there was no memory to go on, and the rows
---                before are written
-use Rattle.std.specs.Prelude.{◌≡◌, ◌≢◌, ◌⊎◌, ℕ, suc, Bool, false, not, ◌&&◌, if◌then◌else◌, List, [], ◌∷◌, ◌++◌, length, Option, Some, None, Result, Ok, Err, ⊤}
+--                of all that was found before are written
+use Rattle.std.specs.Prelude.{◌≡◌, ◌≢◌, ◌⊎◌, ℕ, suc, Bool, false, not, ◌&&◌, if◌then◌else◌, List, [], ◌∷◌, ◌++◌, length, Option, Some, None, Result, Ok, Err}
 use Rattle.byte_streams.specs.Calls.{Carries}
-use Rattle.chess_items.specs.Coming.{AtHand, BreaksWhere}
+use Rattle.chess_items.specs.Abandoned.{GoesFurther}
+use Rattle.chess_items.specs.Coming.{AtHand, BreaksWhere, CameWhere}
 use Rattle.chess_items.specs.declared.fault.FaultKind.TheVariants as lacks
 use Rattle.chess_items.specs.declared.fault.PgnFault.{PgnFault}
 use Rattle.chess_loop.specs.RunEnds.{Broken}
 use Rattle.chess_pgn.specs.Games.{Game}
-use Rattle.chess_pgn.specs.Sources.{Fails, Games, GivesUp, HasNone, IsPlaced, Leaves, NextGame, ReadFails}
+use Rattle.chess_pgn.specs.Sources.{Fails, Games, GivesUp, HasNone, IsPlaced, Leaves, NextGame, ReadFails, Starves}
 use Rattle.chess_pgn.specs.declared.games.GamesFault.{GamesFault}
 use Rattle.chess_pgn.specs.declared.games.GamesFault.TheVariants.{Pgn}
 use Rattle.chess_programs.specs.declared.collection.Failure.{Failure}
@@ -97,8 +99,15 @@ module _ {R : Type 0} (gives : R → List ℕ → R → Type 0) (failed : R → 
   abbrev pub Stops : ℕ → Games R → Games R → Type 0
   Stops count last new =
       ((mid : Games R) × GoesOnTo last mid × ReadFails gives failed mid.text new.text)
-      ⊎ ((last.fault ≢ None) × BreaksWhere (λ _. ⊤) gives failed last.text new.text)
+      ⊎ ((last.fault ≢ None) × ((before : AtHand R) → Leaves gives failed before last.text last.halt → BreaksWhere GoesFurther gives failed before new.text))
       ⊎ (GoesOnTo last new × (count ≡ most_games))
+
+  -- what there was no memory for, after some entries
+  abbrev pub Lacks : Games R → Games R → Type 0
+  Lacks last new =
+      ((mid : Games R) × GoesOnTo last mid × Starves gives failed ended mid.text new.text)
+      ⊎ ((entry : Entry) × Finds last entry new)
+      ⊎ ((last.fault ≢ None) × ((before : AtHand R) → Leaves gives failed before last.text last.halt → CameWhere GoesFurther gives failed before new.text))
 
   module _ {W : Type 0} (takes : W → List ℕ → W → Type 0) (write_failed : W → Bool) (asked : Asked) where
     -- all rows are written
@@ -133,13 +142,14 @@ module _ {R : Type 0} (gives : R → List ℕ → R → Type 0) (failed : R → 
       pub broken : Broken takes write_failed w (report_text asked entries) w'
 
     -- there was no memory
-    pub record JudgesFirst (start : Games R) (w w' : W) : Type 0 where
+    pub record JudgesFirst (start new : Games R) (w w' : W) : Type 0 where
       pub entries : List Entry
       pub last : Games R
       pub judged : IsJudged start entries last w w'
+      pub lacks : Lacks last new
 
     abbrev pub JudgeEnds : Games R → Games R → W → W → Result ℕ Failure → Type 0
     JudgeEnds start new w w' (Ok bad) = JudgesAll bad start new w w'
     JudgeEnds start new w w' (Err by.Read) = JudgesSome start new w w'
     JudgeEnds start new w w' (Err by.Write) = JudgesInPart start w w'
-    JudgeEnds start new w w' (Err by.Memory) = JudgesFirst start w w'
+    JudgeEnds start new w w' (Err by.Memory) = JudgesFirst start new w w'

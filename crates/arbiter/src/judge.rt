@@ -109,7 +109,7 @@ fn go_on<R: Source>(games: &mut Games<'_, R, Global>) -> Result<(), Failure>
     ensures sound { IsSound R.ended games.new }
     ensures good { OnOk result (games.new.fault ≡ None) }
     ensures gives_up { (fault : GamesFault) (before : AtHand R) → games.old.fault ≡ Some fault → Leaves R.gives R.failed before games.old.text games.old.halt → IfOk result (λ _. GivesUp R.gives R.failed before games.new.text) }
-    ensures fault { IfErr result (λ failure. NotOn R.gives R.failed games.old games.new failure) }
+    ensures fault { (fault : GamesFault) → games.old.fault ≡ Some fault → IfErr result (λ failure. NotOn R.gives R.failed games.old games.new failure) }
 {
     match games.pass_over() {
         Ok(_) => Ok(()),
@@ -179,7 +179,8 @@ fn write_rows<R: Source, W: Sink>(
 /// # Errors
 ///
 /// `Read`: a read failed, there were 2^40, or there were 2^57 games; the rows of all games before it are written. `Write`: a write failed or took no
-/// byte, and a prefix of the rows is written. `Memory`: there was none to go on; some first rows are written.
+/// byte, and a prefix of the rows is written. `Memory`: there was none for the next game or its row, or to give up a
+/// bad one; the rows of all before it are written.
 pub fn judge<R: Source, W: Sink>(
     alloc: Global,
     asked: Asked,

@@ -13,7 +13,6 @@ use Rattle.chess_pgn.specs.declared.game.Game.{Game as Code}
 use Rattle.chess_pgn.specs.steps.GameCode.{game_of}
 use Rattle.chess_pgn.specs.declared.games.GamesFault.{GamesFault}
 use Rattle.chess_pgn.specs.declared.games.GamesFault.TheVariants.{Pgn, Read}
-use Rattle.chess_items.proofs.BreakLemmas.{came_none}
 use Rattle.chess_programs.specs.declared.collection.Failure.{Failure}
 use Rattle.chess_programs.specs.declared.collection.Failure.TheVariants as by
 use Rattle.chess_games.specs.Filtered.{Entry, Good, Bad, Goes, good_text, bad_count, IsFilteredInPart, IsFresh, IsGoneOver, IsFiltered, IsLeftOff, IsUnwritten, NoNext, Stops, most_games}
@@ -77,22 +76,22 @@ module _ {R : Type 0} (gives : R → List ℕ → R → Type 0) (failed : R → 
   -- a fault of the text, where it isn't want of memory
   fails_there : (m f : AtHand R) (fault : PgnFault) → HasFault gives failed ended m f (Pgn fault) → fault.kind ≢ lacks.Memory → Fails gives failed ended m f
   fails_there m f fault (inl starves) k = absurd (k starves.0)
-  fails_there m f fault (inr fails) k = fails
+  fails_there m f fault (inr fails) k = fails.1
 
   -- a fault after which reading doesn't go on
   pub stops_there : (m f : AtHand R) (fault : GamesFault) (failure : Failure) → IsFor failure fault → HasFault gives failed ended m f fault → NoNext gives failed ended m f failure
   stops_there m f Read by.Read is has = inl has
   stops_there m f (Pgn fault) by.Memory is (inl starves) = inl starves.1
-  stops_there m f (Pgn fault) by.Memory is (inr fails) = inr (f, [], fails, came_none gives failed f f refl refl refl refl)
+  stops_there m f (Pgn fault) by.Memory is (inr fails) = absurd (fails.0 is)
   stops_there m f (Pgn fault) by.Read is has = absurd is
   stops_there m f fault by.Write is has = absurd is
   stops_there m f Read by.Memory is has = absurd is
 
   -- a bad game that isn't passed over
-  pub stops_past : (m f n : AtHand R) (fault : PgnFault) (failure : Failure) → HasFault gives failed ended m f (Pgn fault) → fault.kind ≢ lacks.Memory → NotPassed gives failed f n failure → NoNext gives failed ended m n failure
+  pub stops_past : (m f n : AtHand R) (fault : PgnFault) (failure : Failure) → HasFault gives failed ended m f (Pgn fault) → fault.kind ≢ lacks.Memory → NotPassed gives failed m n failure → NoNext gives failed ended m n failure
   stops_past m f n fault by.Read h k p = inr (f, fails_there m f fault h k, p)
   stops_past m f n fault by.Write h k p = absurd p
-  stops_past m f n fault by.Memory h k p = inr (f, p.0, fails_there m f fault h k, p.1)
+  stops_past m f n fault by.Memory h k p = inr (f, fails_there m f fault h k, p)
 
 -- what is read and written so far
 pub record SoFar {R W : Type 0} (gives : R → List ℕ → R → Type 0) (failed : R → Bool) (ended : R → Type 0) (takes : W → List ℕ → W → Type 0) (write_failed : W → Bool) (part : Part) (source now : AtHand R) (old new : W) (bad before : ℕ) : Type 0 where

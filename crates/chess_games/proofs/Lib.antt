@@ -1,3 +1,5 @@
 -- Lemmas on games that are read and written, and on bytes with zero bytes put in.
 pub mod FilteredLemmas
 pub mod MarkedLemmas
+mod WindowLemmas
+mod SalvagedLemmas

@@ -9,13 +9,14 @@
 --   IsFiltered  so it is from its beginning
 --   IsUnwritten  a text isn't written whole: a write failed or took no byte, and was the last, after a prefix; or there was no memory, and nothing of it is
 --   NoNext      there is no way to the next game: a read failed, or there may be no more, or there was no memory, for the game or, where it can't be
---               read, to give it up
+--               read, to give it up; no read was made that wasn't needed
 --   Stops       after so many games there is no way to the next; or it is a good one of the part that isn't written whole; or there were 2^57
 --   IsLeftOff   games are read so up to there, and the good games of the part are written, and then it stops; nothing else is written
 --   IsFilteredInPart  so it is from the source's beginning
-use Rattle.std.specs.Prelude.{◌≡◌, ◌≢◌, ◌⊎◌, ℕ, ◌+◌, Bool, true, false, if◌then◌else◌, List, [], ◌∷◌, ◌++◌, length, ⊤}
+use Rattle.std.specs.Prelude.{◌≡◌, ◌≢◌, ◌⊎◌, ℕ, ◌+◌, Bool, true, false, if◌then◌else◌, List, [], ◌∷◌, ◌++◌, length}
 use Rattle.byte_streams.specs.Calls.{Carries}
-use Rattle.chess_items.specs.Coming.{AtHand, BreaksWhere, Came}
+use Rattle.chess_items.specs.Abandoned.{GoesFurther}
+use Rattle.chess_items.specs.Coming.{AtHand, BreaksWhere, CameWhere}
 use Rattle.chess_items.specs.declared.fault.FaultKind.TheVariants as lacks
 use Rattle.chess_items.specs.declared.fault.PgnFault.{PgnFault}
 use Rattle.chess_loop.specs.RunEnds.{Broken}
@@ -83,10 +84,10 @@ IsUnwritten takes failed text old new by.Memory = new ≡ old
 module _ {R : Type 0} (gives : R → List ℕ → R → Type 0) (failed : R → Bool) (ended : R → Type 0) where
   abbrev pub NoNext : AtHand R → AtHand R → Failure → Type 0
   NoNext there left by.Read =
-      ReadFails gives failed there left ⊎ ((mid : AtHand R) × Fails gives failed ended there mid × BreaksWhere (λ _. ⊤) gives failed mid left)
+      ReadFails gives failed there left ⊎ ((mid : AtHand R) × Fails gives failed ended there mid × BreaksWhere GoesFurther gives failed there left)
   NoNext there left by.Write = ⊥
   NoNext there left by.Memory =
-      Starves gives failed ended there left ⊎ ((mid : AtHand R) × (bytes : List ℕ) × Fails gives failed ended there mid × Came gives failed mid bytes left)
+      Starves gives failed ended there left ⊎ ((mid : AtHand R) × Fails gives failed ended there mid × CameWhere GoesFurther gives failed there left)
 
   module _ {W : Type 0} (takes : W → List ℕ → W → Type 0) (write_failed : W → Bool) (part : Part) where
     abbrev pub Stops : ℕ → AtHand R → W → W → Failure → Type 0

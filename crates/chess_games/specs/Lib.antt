@@ -3,4 +3,6 @@
 pub mod Filtered
 pub mod Parts
 pub mod Pieces
+pub mod Salvaged
+pub mod Windows
 pub mod steps

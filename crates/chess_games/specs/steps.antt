@@ -1,2 +1,3 @@
 -- The words of the code's steps: why reading ends.
 pub mod Leaving
+pub mod Salvages

@@ -48,7 +48,7 @@ fn write_if<'a, A: Allocator, W: Sink>(
 }
 
 /// Why a run ends after the most games.
-const TOO_MANY: Failure = Failure::Read;
+pub const TOO_MANY: Failure = Failure::Read;
 
 // A line on the standard error with the number of a game, from 1, and its fault. A fault of the standard error is ignored.
 fn report(rt: &HostRuntime, number: u64, fault: PgnFault) {
@@ -63,7 +63,7 @@ fn report_totals(rt: &HostRuntime, games: u64, bytes: u64, passed: u64) {
 }
 
 // The same of the game after so many others, if it is asked for; how many lines that were.
-fn report_if(rt: &HostRuntime, is_asked: bool, before: u64, fault: PgnFault) -> u64
+pub fn report_if(rt: &HostRuntime, is_asked: bool, before: u64, fault: PgnFault) -> u64
     ensures count { result ≡ (if is_asked then 1 else 0) }
     ensures one { result ≤ 1 }
 {
@@ -96,7 +96,7 @@ fn pass<'a, A: Allocator, R: Source>(games: &mut Games<'a, R, A>) -> Result<(), 
     ensures good { OnOk result (games.new.fault ≡ None) }
     ensures goes_on { OnOk result (GoesOn games.old.fault) }
     ensures gives_up { (fault : GamesFault) (before : AtHand R) → games.old.fault ≡ Some fault → Leaves R.gives R.failed before games.old.text games.old.halt → OnOk result (GivesUp R.gives R.failed before games.new.text) }
-    ensures broken { GoesOn games.old.fault → IfErr result (λ failure. NotPassed R.gives R.failed games.old.text games.new.text failure) }
+    ensures in_part { (fault : GamesFault) (before : AtHand R) → games.old.fault ≡ Some fault → GoesOn (Some fault) → Leaves R.gives R.failed before games.old.text games.old.halt → IfErr result (λ failure. NotPassed R.gives R.failed before games.new.text failure) }
 {
     match games.pass_over() {
         Ok(_count) => Ok(()),

@@ -9,7 +9,12 @@ use std::convert::AsStr;
 #[derive(Clone, Copy)]
 pub enum Words {
     /// Games are read, with a line on the standard error once a second where that is asked for.
-    Filter { wanted: Wanted, progress: bool },
+    Filter {
+        wanted: Wanted,
+        /// Bad games are salvaged.
+        is_saving: bool,
+        progress: bool,
+    },
     /// The input is cut into pieces of at least so many bytes.
     Cut(u64),
 }
@@ -19,7 +24,8 @@ const ABOUT: &str =
 
 const AFTER: &str = "\
 Of each game that can't be read the standard error has a line `game NUMBER: fault PLACE KIND NAME`; reading goes on
-at the next `[` that opens a tag and is first on its line. With `--part K/N` only the games K, K + N, K + 2 N .. are
+at the next `[` that opens a tag and is first on its line. With `--salvage` such a game is repaired and read again, where
+that can be, and has a line `game NUMBER: repaired PLACE NAME` for each repair; one that is saved is a good one. With `--part K/N` only the games K, K + N, K + 2 N .. are
 written or reported, so that N processes over one file write all of them. With `--cut BYTES` the input is copied, with a
 zero byte between pieces of whole games, at least so many bytes each; a process over each piece with `--totals` writes
 its games. The exit status is 0, 2 where a game was refused, 1 for wrong words, 3 where a stream or memory failed, or
@@ -50,6 +56,11 @@ fn matched<S: AsStr>(alloc: Global, words: &[S]) -> Result<Result<Words, &'stati
         "totals",
         "the number of games, of bytes and of those passed over, on the standard error",
     );
+    let salvage = flag(
+        alloc,
+        "salvage",
+        "repair games that can't be read, with a line on the standard error for each repair",
+    );
     let command = Command::new(alloc, "chess_games")
         .about(ABOUT)
         .version(VERSION)
@@ -57,6 +68,7 @@ fn matched<S: AsStr>(alloc: Global, words: &[S]) -> Result<Result<Words, &'stati
         .arg(part)?
         .arg(cut)?
         .arg(totals)?
+        .arg(salvage)?
         .arg(progress_flag(alloc))?;
     let matches = command.try_get_matches_from(words)?;
     if let Some(text) = matches.get_str("cut") {
@@ -70,9 +82,11 @@ fn matched<S: AsStr>(alloc: Global, words: &[S]) -> Result<Result<Words, &'stati
         return Ok(Err(NO_PART));
     };
     let totals = matches.get_flag("totals");
+    let is_saving = matches.get_flag("salvage");
     let progress = matches.get_flag("progress");
     Ok(Ok(Words::Filter {
         wanted: Wanted { part, totals },
+        is_saving,
         progress,
     }))
 }

@@ -4,13 +4,14 @@
 --   NotOn       reading doesn't go on after a fault
 --   IsReady     nothing is read yet, and reading and writing may begin
 --   SoFar       games were found, one after another, and their rows are written
-use Rattle.std.specs.Prelude.{◌≡◌, ℕ, Bool, true, false, List, [], length, None, Result, Ok, Err, ⊤}
+use Rattle.std.specs.Prelude.{◌≡◌, ℕ, Bool, true, false, List, [], length, None, Result, Ok, Err}
 use Rattle.chess_loop.specs.RunEnds.{Broken}
 use Rattle.chess_loop.specs.steps.Sending.{Sent}
-use Rattle.chess_items.specs.Coming.{BreaksWhere}
+use Rattle.chess_items.specs.Abandoned.{GoesFurther}
+use Rattle.chess_items.specs.Coming.{AtHand, BreaksWhere, CameWhere}
 use Rattle.chess_items.specs.declared.fault.FaultKind.{FaultKind}
 use Rattle.chess_items.specs.declared.fault.FaultKind.TheVariants.{Memory}
-use Rattle.chess_pgn.specs.Sources.{Games, IsSound}
+use Rattle.chess_pgn.specs.Sources.{Games, IsSound, Leaves}
 use Rattle.chess_programs.specs.declared.collection.Failure.{Failure}
 use Rattle.chess_programs.specs.declared.collection.Failure.TheVariants as by
 use Rattle.arbiter.specs.declared.judge.Asked.{Asked}
@@ -28,11 +29,11 @@ abbrev pub is_lack : FaultKind → Bool
 is_lack Memory = true
 is_lack _ = false
 
--- why bytes aren't passed over
+-- why a bad game isn't given up, from its first byte
 abbrev pub NotOn : {R : Type 0} → (R → List ℕ → R → Type 0) → (R → Bool) → Games R → Games R → Failure → Type 0
-NotOn gives failed old new by.Read = BreaksWhere (λ _. ⊤) gives failed old.text new.text
-NotOn gives failed old new by.Write = ⊥
-NotOn gives failed old new by.Memory = ⊤
+NotOn {R} gives failed old new by.Read = (before : AtHand R) → Leaves gives failed before old.text old.halt → BreaksWhere GoesFurther gives failed before new.text
+NotOn {R} gives failed old new by.Write = ⊥
+NotOn {R} gives failed old new by.Memory = (before : AtHand R) → Leaves gives failed before old.text old.halt → CameWhere GoesFurther gives failed before new.text
 
 -- no fault came, and no write failed
 pub record IsReady {R W : Type 0} (ended : R → Type 0) (write_failed : W → Bool) (games : Games R) (sink : W) : Type 0 where

@@ -3,7 +3,7 @@ use Rattle.chess_pgn.specs.Sources.{HasFault, NextGame}
 use Rattle.chess_pgn.specs.declared.games.GamesFault.TheVariants.{Pgn, Read}
 use Rattle.chess_pgn.specs.steps.GameCode.{game_of}
 use Rattle.arbiter.specs.Collections.{Bad, Found, IsThere, header_text}
-use Rattle.arbiter.proofs.JudgeLemmas.{bad_there, ends_all, ends_at, ends_at_header, ends_many, ends_there, ends_unread, err_holds, fault_more, found_game, game_more, goes_on_after, header_broken, header_sent, none_yet, ok_holds, some_fault, still_on, used_still}
+use Rattle.arbiter.proofs.JudgeLemmas.{bad_there, ends_all, ends_at, ends_at_header, ends_many, ends_starved, ends_there, ends_unread, err_holds, fault_more, found_game, game_more, goes_on_after, header_broken, header_sent, none_yet, ok_holds, some_fault, starves_there, still_on, used_still}
 use Rattle.arbiter.proofs.judge.write_rows.Given.{Over}
 use Rattle.arbiter.proofs.judge.write_rows.Goals as goal
 use Rattle.arbiter.proofs.judge.write_rows.Goals.{Else-is_lack, in-Ok-Some+in_default, in-Err-Pgn+else-is_lack+in_default-fault+in_default-go_on}
@@ -53,6 +53,14 @@ returns-in-Err-Read g c =
     (err_holds (λ f. HasFault g.R.Source.gives g.R.Source.failed g.R.Source.ended c.loop-before.games.text c.next.new.self.text f) c.next.result Read (c.in-Err-Read.is ∙ ap Err c.in-Err-Read.field-0-is)
     (c.next.ensures.fault c.loop-before.invariant.none))
 
+pub returns-then-is_lack : goal.returns-then-is_lack
+returns-then-is_lack g c =
+    ends_starved g.R.Source.gives g.R.Source.failed g.R.Source.ended g.W.Sink.takes g.W.Sink.failed c.args.maker.now.asked c.loop-before.before c.loop-before.bad c.args.games.now c.loop-before.games c.args.writer.now c.loop-before.writer
+    c.loop-before.invariant.written c.next.new.self
+    (starves_there g.R.Source.gives g.R.Source.failed g.R.Source.ended c.loop-before.games.text c.next.new.self.text c.in-Err-Pgn.fault (sym c.is_lack.ensures ∙ c.if-is_lack.true)
+    (err_holds (λ f. HasFault g.R.Source.gives g.R.Source.failed g.R.Source.ended c.loop-before.games.text c.next.new.self.text f) c.next.result (Pgn c.in-Err-Pgn.fault) (c.in-Err-Pgn.is ∙ ap Err c.in-Err-Pgn.field-0-is)
+    (c.next.ensures.fault c.loop-before.invariant.none)))
+
 pub returns-in-Err-fault : goal.returns-in-Err-fault
 returns-in-Err-fault g c =
     ends_at g.R.Source.gives g.R.Source.failed g.R.Source.ended g.W.Sink.takes g.W.Sink.failed c.args.maker.now.asked c.loop-before.before c.loop-before.bad c.args.games.now c.loop-before.games c.args.writer.now c.loop-before.writer
@@ -63,7 +71,8 @@ pub returns-in-Err-go_on : goal.returns-in-Err-go_on
 returns-in-Err-go_on g c =
     ends_there g.R.Source.gives g.R.Source.failed g.R.Source.ended g.W.Sink.takes g.W.Sink.failed c.args.maker.now.asked c.loop-before.before c.loop-before.bad c.args.games.now c.loop-before.games c.args.writer.now c.loop-before.writer
     c.loop-before.invariant.written (Bad c.used-offset.result c.in-Err-Pgn.fault) c.next.new.self (bad g (goal.at.returns-in-Err-go_on g c).Else-is_lack)
-    c.fault.new.writer c.in_default-fault.ensures (some_fault c.next.new.self.fault _ (bad g (goal.at.returns-in-Err-go_on g c).Else-is_lack).4) c.go_on.new.games c.in-Err-go_on.failure c.in-Err-go_on.ensures.fault
+    c.fault.new.writer c.in_default-fault.ensures (some_fault c.next.new.self.fault _ (bad g (goal.at.returns-in-Err-go_on g c).Else-is_lack).4) c.go_on.new.games c.in-Err-go_on.failure
+    (c.in-Err-go_on.ensures.fault _ (bad g (goal.at.returns-in-Err-go_on g c).Else-is_lack).4)
 
 pub returns : goal.returns
 returns g c =

@@ -47,12 +47,13 @@ returns-in_err-pass-in-Err-clause-off g c =
     let is = subst (λ x. HasFault g.R.Source.gives g.R.Source.failed g.R.Source.ended c.loop-before.games.text c.next_with.new.self.text x) c.in_ok-fault-in-Err.ensures.fault refused in
     let kept = err_holds (λ f. c.next_with.new.self.fault ≡ Some f) c.next_with.result c.in-Err.fault c.in-Err.is c.next_with.ensures.sticky in
     let on = subst (λ f. GoesOn f) (sym kept) c.in_ok-fault-in-Err.ensures.goes_on in
+    let left = left_off g.R.Source.gives g.R.Source.failed c.loop-before.games c.next_with.new.self c.next_with.result c.in-Err.fault c.in-Err.is c.next_with.ensures.sticky on (c.next_with.ensures.leaves c.loop-before.invariant.none) in
     let real = not_memory c.next_with.new.self.fault c.in-Err.fault fault kept c.in_ok-fault-in-Err.ensures.fault on in
     handed_on (λ f. IsLeftOff g.R.Source.gives g.R.Source.failed g.R.Source.ended g.W.Sink.takes g.W.Sink.failed c.args.wanted.now.part c.args.games.now.text c.args.writer.now c.loop-before.writer f) c.from_residual-in_err-pass-in-Err.result failure
     c.from_residual-in_err-pass-in-Err.ensures.1
     (off_at_next g.R.Source.gives g.R.Source.failed g.R.Source.ended g.W.Sink.takes g.W.Sink.failed c.args.wanted.now.part c.args.games.now.text c.loop-before.games.text c.args.writer.now c.loop-before.writer c.loop-before.bad c.loop-before.before
     c.loop-before.invariant.so_far c.pass.new.games.text failure
-    (stops_past g.R.Source.gives g.R.Source.failed g.R.Source.ended c.loop-before.games.text c.next_with.new.self.text c.pass.new.games.text fault failure is real (c.in_err-pass-in-Err.ensures.broken on)))
+    (stops_past g.R.Source.gives g.R.Source.failed g.R.Source.ended c.loop-before.games.text c.next_with.new.self.text c.pass.new.games.text fault failure is real (c.in_err-pass-in-Err.ensures.in_part c.in-Err.fault c.loop-before.games.text left.0 c.in_ok-fault-in-Err.ensures.goes_on left.1)))
 
 -- there were too many
 pub returns-clause-off : goal.returns-clause-off
