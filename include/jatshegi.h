@@ -29,8 +29,9 @@
  * the status isn't JATSHEGI_OK, but for what is said at jatshegi_board_answer and at the events of the engine. All outputs are written at JATSHEGI_OK. At
  * JATSHEGI_NO_ROOM the length or the count is written, of jatshegi_game_read and jatshegi_game_report `used`, too, of the latter the report, and of
  * jatshegi_engine_slice_within `searched` and `visited`; the room is as it was. At PGN_... `used` is the place of the fault in the text, in bytes, at most
- * its length, and nothing else is written; at JATSHEGI_ABANDONED `visited` alone is. At every other status all outputs are as they were. All this is proved,
- * but that the place is that of the first fault.
+ * its length, of jatshegi_game_next and jatshegi_board_load_next the bytes to pass over, which these write at NO_GAME, too, and nothing else is written; at
+ * JATSHEGI_ABANDONED `visited` alone is. At every other status all outputs are as they were. All this is proved, but that the place is that of the first
+ * fault.
  *
  * Texts are bytes and a length, without a byte 0 at the end. Squares are numbers: 0 for a1, 1 for b1, 63 for h8.
  */
@@ -65,6 +66,7 @@ enum jatshegi_status {
     JATSHEGI_NONE = 11,       /* there is no legal move, so none is best; or no search was begun, or nothing searched */
     JATSHEGI_NO_SUCH = 12,    /* there is no such child, or no such tag */
     JATSHEGI_BAD_COMMENT = 13, /* the comment has a right brace */
+    JATSHEGI_MORE = 14,       /* more bytes decide what is there */
     JATSHEGI_NO_GAME = 16,    /* only whitespace follows */
     JATSHEGI_ABANDONED = 17,  /* the search was abandoned: the positions that it may ask for were not enough, or its flag was found set */
     JATSHEGI_TAG_NAME = 18,   /* the name of a tag is empty, or has a byte that is no letter, digit or underscore */
@@ -109,6 +111,7 @@ static inline const char *jatshegi_status_text(uint32_t status) {
     case JATSHEGI_NONE: return "there is no legal move, or no search";
     case JATSHEGI_NO_SUCH: return "there is no such child, or no such tag";
     case JATSHEGI_BAD_COMMENT: return "a comment has no right brace";
+    case JATSHEGI_MORE: return "more bytes decide what is there";
     case JATSHEGI_NO_GAME: return "only whitespace follows";
     case JATSHEGI_ABANDONED: return "the search was abandoned";
     case JATSHEGI_TAG_NAME: return "a tag's name has letters, digits and underscores, at least one";
@@ -300,10 +303,16 @@ uint32_t jatshegi_board_set_position(struct jatshegi_board *board, const struct 
 
 /*
  * Begins with the whole game at the start of a text (PGN), its tags and its result, its variations, comments and annotations, from the position in which it
- * begins; and says how many bytes of the text the game takes. The cursor is at the root. But for OK the board is as it was; at PGN_... `used` is the place of the fault. OK, EMPTY,
- * NO_MEMORY, NO_GAME, PGN_...
+ * begins; and says how many bytes of the text the game takes. The cursor is at the root. But for OK the board is as it was; at PGN_... `used` is the place of
+ * the fault. OK, EMPTY, NO_MEMORY, NO_GAME, PGN_...
  */
 uint32_t jatshegi_board_load(struct jatshegi_board *board, const char *text, size_t length, size_t *used);
+
+/*
+ * The same of a text that comes bit by bit: begins with the game that jatshegi_game_next finds at the start of the bytes that have come, and writes the same
+ * `used`. But for OK the board is as it was. OK, EMPTY, NO_MEMORY, NO_GAME, MORE, PGN_...
+ */
+uint32_t jatshegi_board_load_next(struct jatshegi_board *board, const char *text, size_t length, bool is_last, size_t *used);
 
 /* The FEN of the position, and its length, at most JATSHEGI_MOST_FEN (PGN 16.1). OK, EMPTY, NO_ROOM. */
 uint32_t jatshegi_board_fen(const struct jatshegi_board *board, char *text, size_t room, size_t *length);
@@ -551,11 +560,14 @@ uint32_t jatshegi_board_end(struct jatshegi_board *board);
 uint32_t jatshegi_board_promote(struct jatshegi_board *board);
 uint32_t jatshegi_board_delete(struct jatshegi_board *board);
 
-/* A comment for the node at the cursor; the one that it had is forgotten (PGN 5). OK, EMPTY, NO_MEMORY, BAD_COMMENT. */
+/* A comment for the node at the cursor; the one that it had is forgotten: a text without words takes it out (PGN 5). OK, EMPTY, NO_MEMORY, BAD_COMMENT. */
 uint32_t jatshegi_board_comment(struct jatshegi_board *board, const char *text, size_t length);
 
 /* An annotation number more for the move at the cursor (PGN 8.2.4). OK, EMPTY, NO_MEMORY, AT_ROOT. */
 uint32_t jatshegi_board_annotate(struct jatshegi_board *board, uint8_t number);
+
+/* Takes all annotation numbers of the move at the cursor out. OK, EMPTY, AT_ROOT. */
+uint32_t jatshegi_board_clear_annotations(struct jatshegi_board *board);
 
 /*
  * Answers a line of the program's `board`, without its line feed, and hands out the answer and its length. OK, EMPTY, NO_ROOM, NO_MEMORY.
@@ -587,6 +599,19 @@ uint32_t jatshegi_game_report(const char *text, size_t length, struct jatshegi_r
  * the end. It is at least 1 byte where the text has any. OK, NO_MEMORY.
  */
 uint32_t jatshegi_game_pass(const char *text, size_t length, size_t *used);
+
+/*
+ * A text that comes bit by bit, from a pipe, a socket or a large file: what is at the start of its bytes that have come and aren't passed over yet; `is_last`
+ * says that nothing follows them. `used` is how many bytes to pass over next. OK, NO_MEMORY, NO_GAME, MORE, PGN_...
+ *
+ * At OK one game is there, whatever follows, and `used` is its length: jatshegi_game_read and jatshegi_game_report have the same game of these bytes. At PGN_...
+ * no game is, whatever follows, and `used` is what jatshegi_game_pass has of the whole text. At NO_GAME all is white space, and the last. At MORE the caller
+ * asks again with more bytes behind these; at MORE and at NO_MEMORY `used` is as it was. So games and faults are those of the whole text, however it comes.
+ *
+ * A call reads the bytes from their first one on, so they had better come in large pieces. Where there are more than 1,048,576, MORE says that they are white
+ * space, or belong to a game that can't be read and is given up as far as the next section of tags: a caller may stop there.
+ */
+uint32_t jatshegi_game_next(const char *text, size_t length, bool is_last, size_t *used);
 
 #ifdef __cplusplus
 }

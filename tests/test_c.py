@@ -9,7 +9,12 @@ import unittest
 import runs
 
 HEADER = f"{runs.TOP}/include"
+# Files of games that are read in pieces.
+PIECES = ["suite/claims.pgn"]
+
 STRICT = ["-Wall", "-Wextra", "-Werror", "-pedantic", "-g", f"-I{HEADER}"]
+# So that a program can refuse allocations.
+WRAPPED = "-Wl,--wrap=malloc,--wrap=realloc,--wrap=free"
 
 
 def called(*words, **also):
@@ -113,9 +118,55 @@ class Library(unittest.TestCase):
         self.wants("valgrind")
         self.assert_ends_well("valgrind", "--tool=helgrind", "--error-exitcode=9", program, "20")
 
+    def test_a_text_cut_into_pieces(self):
+        """Its games, its faults and what is passed over are those of the whole text; of the texts of the program, and of files."""
+        program = self.build(["cc", "-std=c11", "-O1"], "pieces.c")
+        files = [f"{runs.TOP}/{path}" for path in PIECES]
+        said = self.assert_ends_well(program, *files)
+        games, faults, ways = map(int, re.fullmatch(r"(\d+) games, (\d+) faults, (\d+) ways\n", said).groups())
+        self.assertGreater(games, 20)
+        self.assertGreater(faults, 10)
+        self.assertEqual(ways, 4 * 18 + 3 * 3 + 3 * len(files))
+
+    def test_the_reader_of_the_page(self):
+        with open(f"{runs.TOP}/docs/C.md", encoding="utf-8") as page:
+            function = next(part for part in page.read().split("```c\n") if "read_games" in part).split("```")[0]
+        main = 'int main(void) {\n    static struct jatshegi_keys keys;\n    struct jatshegi_board board = JATSHEGI_NO_BOARD;\n    jatshegi_keys_fill(&keys);\n'
+        main += "    if (jatshegi_board_new(&keys, &board) != JATSHEGI_OK || !read_games(stdin, &board)) return 1;\n    jatshegi_board_free(&board);\n    return 0;\n}\n"
+        with open(f"{self.folder}/read.c", "w", encoding="utf-8") as file:
+            file.write(f'#include <stdio.h>\n#include <stdlib.h>\n#include <string.h>\n#include "jatshegi.h"\n{function}{main}')
+        built = called("cc", "-std=c11", *STRICT, f"{self.folder}/read.c", f"{runs.TOP}/out/libjatshegi.a", "-o", f"{self.folder}/read")
+        self.assertEqual(built.returncode, 0, built.stderr)
+        text = "1. e4 *\n1. e5 *\n[A \"b\"]\n1. d4 {" + "x" * 200_000 + "} 1-0\n"
+        ran = subprocess.run([f"{self.folder}/read"], input=text, capture_output=True, text=True, timeout=60, check=True)
+        self.assertEqual(ran.stdout, "a game of 7 bytes\nno game: a word that names no legal move, or more than one\na game of 200020 bytes\n")
+
     def test_each_allocation_refused(self):
-        program = self.build(["cc", "-std=gnu11", "-Wl,--wrap=malloc,--wrap=realloc,--wrap=free"], "refused.c")
+        program = self.build(["cc", "-std=gnu11", WRAPPED], "refused.c")
         self.assertIn("allocations refused", self.assert_ends_well(program))
+
+    def test_random_calls_of_every_function(self):
+        """Nothing outside of an argument is touched, a refused call changes nothing, and each function of the header is done, and refused where it can be."""
+        with open(f"{HEADER}/jatshegi.h", encoding="utf-8") as header, open(f"{runs.TOP}/tests/c/fuzz.c", encoding="utf-8") as source:
+            declared = re.findall(r"^(?:static inline const char \*|uint32_t |void )jatshegi_(\w+)\(", header.read(), re.M)
+            self.assertEqual(set(re.findall(r"^    X\((\w+),", source.read(), re.M)), set(declared))
+        for compiler, seeds in (("cc", (1, 2, 3)), ("clang", (4,))):
+            with self.subTest(compiler=compiler):
+                self.wants(compiler)
+                program = self.build([compiler, "-std=c11", "-O1", WRAPPED], "fuzz.c")
+                for seed in seeds:
+                    said = self.assert_ends_well(program, str(seed), "100000")
+                    self.assertRegex(said, r"^steps 100000, calls \d{7}, refused \d{5}\n$")
+
+    def test_random_calls_with_the_checks_of_the_compiler(self):
+        sanitizers = ["-fsanitize=address,undefined", "-fno-sanitize-recover=undefined"]
+        with open(f"{self.folder}/empty.c", "w", encoding="utf-8") as file:
+            file.write("int main(void) { return 0; }\n")
+        if called("cc", *sanitizers, f"{self.folder}/empty.c", "-o", f"{self.folder}/empty").returncode != 0:
+            self.skipTest("cc has no sanitizers here")
+        program = self.build(["cc", "-std=c11", "-O1", *sanitizers, WRAPPED], "fuzz.c")
+        # (the program counts itself what is held)
+        self.assert_ends_well(program, "7", "20000", env={**os.environ, "ASAN_OPTIONS": "detect_leaks=0"})
 
     def test_the_heap_for_a_page_gives_back_all_memory(self):
         runs.make("prove", "lent_heap_c")
@@ -133,9 +184,10 @@ class Library(unittest.TestCase):
             lines = [line for line in file if not line.startswith(("static inline", "#define"))]
         declared = {word.split("(")[0].lstrip("*") for word in " ".join(lines).split() if word.startswith("jatshegi_") and "(" in word}
         for words, library in ((["nm", "-g", "--defined-only"], "libjatshegi.a"), (["nm", "-D", "--defined-only"], "libjatshegi.so")):
-            names = {line.split()[-1] for line in called(*words, f"{runs.TOP}/out/{library}").stdout.splitlines() if " T " in line or " D " in line or " B " in line}
+            shown = {line.split()[-1] for line in called(*words, f"{runs.TOP}/out/{library}").stdout.splitlines() if " T " in line or " D " in line or " B " in line}
             with self.subTest(library=library):
-                self.assertEqual(names, declared)
+                # (in the shared library each has the version of the interface in which it came)
+                self.assertEqual(shown, {f"{name}@@JATSHEGI_1" if library.endswith(".so") else name for name in declared})
 
     def test_pkg_config(self):
         self.wants("pkg-config")

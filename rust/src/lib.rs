@@ -34,6 +34,7 @@ extern crate alloc;
 
 mod board;
 mod book;
+mod coming;
 mod error;
 mod game;
 mod moves;
@@ -47,6 +48,7 @@ mod tree;
 
 pub use board::{Board, Claims, MoveKind, Setup, Status};
 pub use book::{find_in_book, BookMove};
+pub use coming::{next_game, Next};
 pub use error::{Error, FenError, GameError, GameFault};
 pub use game::{read_game, report, Games, Marker, Report};
 pub use moves::{Move, Moves, NotAMove};

@@ -15,6 +15,7 @@ pub const NO_ROOM: u32 = 10;
 pub const NONE: u32 = 11;
 pub const NO_SUCH: u32 = 12;
 pub const BAD_COMMENT: u32 = 13;
+pub const MORE: u32 = 14;
 pub const NO_GAME: u32 = 16;
 pub const ABANDONED: u32 = 17;
 pub const TAG_NAME: u32 = 18;
@@ -92,6 +93,7 @@ extern "C" {
     pub fn jatshegi_board_set(board: *mut Slot, fen: *const u8, length: usize) -> u32;
     pub fn jatshegi_board_set_position(board: *mut Slot, position: *const Position) -> u32;
     pub fn jatshegi_board_load(board: *mut Slot, text: *const u8, length: usize, used: *mut usize) -> u32;
+    pub fn jatshegi_board_load_next(board: *mut Slot, text: *const u8, length: usize, is_last: bool, used: *mut usize) -> u32;
     pub fn jatshegi_board_fen(board: *const Slot, text: *mut u8, room: usize, length: *mut usize) -> u32;
     pub fn jatshegi_board_epd(board: *const Slot, text: *mut u8, room: usize, length: *mut usize) -> u32;
     pub fn jatshegi_board_key(board: *const Slot, key: *mut u64) -> u32;
@@ -166,8 +168,10 @@ extern "C" {
     pub fn jatshegi_board_delete(board: *mut Slot) -> u32;
     pub fn jatshegi_board_comment(board: *mut Slot, text: *const u8, length: usize) -> u32;
     pub fn jatshegi_board_annotate(board: *mut Slot, number: u8) -> u32;
+    pub fn jatshegi_board_clear_annotations(board: *mut Slot) -> u32;
     pub fn jatshegi_board_answer(board: *mut Slot, line: *const u8, length: usize, answer: *mut u8, room: usize, count: *mut usize) -> u32;
     pub fn jatshegi_game_read(text: *const u8, length: usize, game: *mut u8, room: usize, count: *mut usize, used: *mut usize) -> u32;
     pub fn jatshegi_game_report(text: *const u8, length: usize, report: *mut Report, fen: *mut u8, room: usize, count: *mut usize, used: *mut usize) -> u32;
     pub fn jatshegi_game_pass(text: *const u8, length: usize, used: *mut usize) -> u32;
+    pub fn jatshegi_game_next(text: *const u8, length: usize, is_last: bool, used: *mut usize) -> u32;
 }

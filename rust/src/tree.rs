@@ -137,6 +137,16 @@ impl Board {
         checked(unsafe { sys::jatshegi_board_annotate(self.at(), number) })
     }
 
+    /// Takes all annotation numbers of the move at the cursor out.
+    ///
+    /// # Errors
+    ///
+    /// [`Error::AtRoot`].
+    pub fn clear_annotations(&mut self) -> Result<(), Error> {
+        // SAFETY: the slot has a board.
+        checked(unsafe { sys::jatshegi_board_clear_annotations(self.at()) })
+    }
+
     /// Answers a line of the program's `board`, without its line feed.
     ///
     /// # Errors

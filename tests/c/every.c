@@ -124,6 +124,7 @@ static void without_a_board(void) {
     CHECK(jatshegi_stop_set(&stop, true) == JATSHEGI_EMPTY && jatshegi_stop_share(&stop, &stop_too) == JATSHEGI_EMPTY);
     jatshegi_stop_free(&stop);
     CHECK(jatshegi_board_load(&none, "*", 1, &count) == JATSHEGI_EMPTY && count == 7);
+    CHECK(jatshegi_board_load_next(&none, "*", 1, true, &count) == JATSHEGI_EMPTY && count == 7);
     CHECK(jatshegi_board_pgn(&none, text, sizeof text, &count) == JATSHEGI_EMPTY && jatshegi_board_tags(&none, 0, text, sizeof text, &count) == JATSHEGI_EMPTY);
     CHECK(jatshegi_board_tag(&none, "Event", 5, text, sizeof text, &count) == JATSHEGI_EMPTY && jatshegi_board_set_tag(&none, "A", 1, "b", 1) == JATSHEGI_EMPTY);
     CHECK(jatshegi_board_clear_tag(&none, "A", 1) == JATSHEGI_EMPTY && jatshegi_board_result(&none, &number) == JATSHEGI_EMPTY);
@@ -137,7 +138,7 @@ static void without_a_board(void) {
     CHECK(jatshegi_board_promote(&none) == JATSHEGI_EMPTY);
     CHECK(jatshegi_board_delete(&none) == JATSHEGI_EMPTY);
     CHECK(jatshegi_board_comment(&none, "", 0) == JATSHEGI_EMPTY);
-    CHECK(jatshegi_board_annotate(&none, 1) == JATSHEGI_EMPTY);
+    CHECK(jatshegi_board_annotate(&none, 1) == JATSHEGI_EMPTY && jatshegi_board_clear_annotations(&none) == JATSHEGI_EMPTY);
     CHECK(jatshegi_board_answer(&none, "fen", 3, text, sizeof text, &count) == JATSHEGI_EMPTY);
     CHECK(number == 7 && value == 7 && count == 7 && m.from == 12 && m.to == 28 && m.promotion == 0);
     jatshegi_board_free(&none);
@@ -433,7 +434,10 @@ static void nodes(struct jatshegi_board *b) {
     CHECK(node_is(b, 1, 0, move_of(11, 27, 0), "good", "\001\016"));
     CHECK(jatshegi_board_comment_of(b, text, 3, &length) == JATSHEGI_NO_ROOM && length == 4 && text[0] == 'x');
     CHECK(jatshegi_board_annotations_of(b, (uint8_t *)text, 1, &length) == JATSHEGI_NO_ROOM && length == 2 && text[0] == 'x');
+    CHECK(jatshegi_board_clear_annotations(b) == JATSHEGI_OK && node_is(b, 1, 0, move_of(11, 27, 0), "good", ""));
+    CHECK(jatshegi_board_clear_annotations(b) == JATSHEGI_OK && jatshegi_board_comment(b, " ", 1) == JATSHEGI_OK && node_is(b, 1, 0, move_of(11, 27, 0), "", ""));
     CHECK(jatshegi_board_back(b) == JATSHEGI_OK && node_is(b, 0, 2, move_of(9, 9, 9), "the start", ""));
+    CHECK(jatshegi_board_clear_annotations(b) == JATSHEGI_AT_ROOT && node_is(b, 0, 2, move_of(9, 9, 9), "the start", ""));
     CHECK(jatshegi_board_step(b, 0) == JATSHEGI_OK && node_is(b, 1, 0, move_of(12, 28, 0), "", ""));
 }
 
@@ -507,6 +511,31 @@ static struct jatshegi_report reported(const char *text, char *fen) {
     CHECK(jatshegi_game_report(text, strlen(text), &report, fen, JATSHEGI_MOST_FEN, &count, &used) == JATSHEGI_OK && used == strlen(text) && count < JATSHEGI_MOST_FEN);
     fen[count] = 0;
     return report;
+}
+
+/* Of bytes that come bit by bit, what is at their start whatever follows. */
+static void comes(struct jatshegi_board *b) {
+    static const char text[] = "1. e4 e5 {x} * 1. d4 d4 *\n[A \"b\"]\n1. c4";
+    static const char kings[] = "4k3/8/8/8/8/8/8/4K3 w - - 0 1";
+    uint32_t depth = 7;
+    size_t used = 7, first = strlen("1. e4 e5 {x} *"), bad = strlen(" 1. d4 d4 *\n"), last = strlen(text) - first - bad;
+    CHECK(set(b, kings) == JATSHEGI_OK);
+    for (size_t come = 0; come < first; come++) {
+        CHECK(jatshegi_game_next(text, come, false, &used) == JATSHEGI_MORE && used == 7);
+        CHECK(jatshegi_board_load_next(b, text, come, false, &used) == JATSHEGI_MORE && used == 7 && fen_is(b, kings));
+    }
+    CHECK(jatshegi_game_next(text, first, false, &used) == JATSHEGI_OK && used == first);
+    CHECK(jatshegi_game_next(text, strlen(text), true, &used) == JATSHEGI_OK && used == first);
+    CHECK(jatshegi_game_next(text + first, bad + 1, false, &used) == JATSHEGI_MORE && used == first);
+    CHECK(jatshegi_board_load_next(b, text + first, bad + 2, false, &used) == JATSHEGI_PGN_MOVE && used == bad && fen_is(b, kings));
+    CHECK(jatshegi_game_next(text + first + bad, last, false, &used) == JATSHEGI_MORE);
+    CHECK(jatshegi_board_load_next(b, text + first + bad, last, true, &used) == JATSHEGI_OK && used == last && fen_is(b, START));
+    CHECK(jatshegi_board_end(b) == JATSHEGI_OK && jatshegi_board_depth(b, &depth) == JATSHEGI_OK && depth == 1);
+    used = 7;
+    CHECK(jatshegi_game_next(" \n", 2, false, &used) == JATSHEGI_MORE && used == 7);
+    CHECK(jatshegi_board_load_next(b, " \n", 2, true, &used) == JATSHEGI_NO_GAME && used == 2);
+    CHECK(jatshegi_game_next("{", 1, true, &used) == JATSHEGI_PGN_TRUNCATED && used == 1);
+    CHECK(jatshegi_game_next("", 0, true, &used) == JATSHEGI_NO_GAME && used == 0);
 }
 
 static void reports(void) {
@@ -862,7 +891,7 @@ static void texts(void) {
         for (size_t i = 0; i < many; i++) CHECK(strcmp(known[i], text) != 0);
         known[many++] = text;
     }
-    CHECK(many == 37 && strcmp(jatshegi_status_text(UINT32_MAX), none) == 0 && strcmp(jatshegi_status_text(14), none) == 0);
+    CHECK(many == 38 && strcmp(jatshegi_status_text(UINT32_MAX), none) == 0 && strcmp(jatshegi_status_text(15), none) == 0);
     CHECK(jatshegi_version() == JATSHEGI_VERSION_NUMBER);
 }
 
@@ -885,6 +914,7 @@ int main(void) {
     lines(&board);
     games();
     loads(&board);
+    comes(&board);
     tags(&board);
     copies(&board);
     ways(&board);

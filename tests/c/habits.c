@@ -44,6 +44,9 @@ static void empty_texts(struct jatshegi_board *board) {
     struct jatshegi_move move;
     size_t used = 7;
     bool added;
+    uint16_t weight;
+    uint32_t learn;
+    size_t first = 7;
     CHECK(jatshegi_board_set(board, NULL, 0) == JATSHEGI_FEN_FIELDS);
     CHECK(jatshegi_board_load(board, NULL, 0, &used) == JATSHEGI_NO_GAME && used == 7);
     CHECK(jatshegi_board_play_text(board, NULL, 0, &added) == JATSHEGI_FORM);
@@ -53,7 +56,16 @@ static void empty_texts(struct jatshegi_board *board) {
     CHECK(jatshegi_board_set_tag(board, NULL, 0, "a", 1) == JATSHEGI_TAG_NAME);
     CHECK(jatshegi_board_set_tag(board, "Annotator", 9, NULL, 0) == JATSHEGI_OK);
     CHECK(jatshegi_board_clear_tag(board, NULL, 0) == JATSHEGI_OK);
+    CHECK(jatshegi_board_book_move(board, NULL, 0, 0, &move, &weight, &learn) == JATSHEGI_ARGUMENT);
+    jatshegi_book_find(NULL, 0, 7, &first, &used);
+    CHECK(first == 0 && used == 0);
     CHECK(jatshegi_game_pass(NULL, 0, &used) == JATSHEGI_OK && used == 0);
+    used = 7;
+    CHECK(jatshegi_game_next(NULL, 0, false, &used) == JATSHEGI_MORE && used == 7);
+    CHECK(jatshegi_game_next(NULL, 0, true, &used) == JATSHEGI_NO_GAME && used == 0);
+    used = 7;
+    CHECK(jatshegi_board_load_next(board, NULL, 0, false, &used) == JATSHEGI_MORE && used == 7);
+    CHECK(jatshegi_board_load_next(board, NULL, 0, true, &used) == JATSHEGI_NO_GAME && used == 0);
 }
 
 /* Rooms of which the length alone is asked for, first of all of a board that is const. */
@@ -61,7 +73,10 @@ static void empty_rooms(const struct jatshegi_board *board, struct jatshegi_boar
     static const char game[] = "1. e4 *";
     struct jatshegi_move move = {12, 28, JATSHEGI_NO_PROMOTION};
     struct jatshegi_report report;
+    struct jatshegi_stop none = JATSHEGI_NO_STOP;
     size_t count = 0, used = 0;
+    uint64_t visited = 7;
+    bool searched = false;
     CHECK(jatshegi_board_fen(board, NULL, 0, &count) == JATSHEGI_NO_ROOM && count == 56);
     CHECK(jatshegi_board_epd(board, NULL, 0, &count) == JATSHEGI_NO_ROOM && count == 52);
     CHECK(jatshegi_board_moves(board, NULL, 0, &count) == JATSHEGI_NO_ROOM && count == 20);
@@ -80,6 +95,7 @@ static void empty_rooms(const struct jatshegi_board *board, struct jatshegi_boar
     CHECK(jatshegi_engine_line(same, "isready", 7, NULL, 0, &count) == JATSHEGI_NO_ROOM && count == 8);
     CHECK(jatshegi_engine_slice(same, NULL, 0, &count) == JATSHEGI_OK && count == 0);
     CHECK(jatshegi_engine_moment(same, 1, NULL, 0, &count) == JATSHEGI_OK && count == 0);
+    CHECK(jatshegi_engine_slice_within(same, UINT64_MAX, &none, &searched, &visited, NULL, 0, &count) == JATSHEGI_OK && searched && visited == 0 && count == 0);
     CHECK(jatshegi_game_read(game, sizeof game - 1, NULL, 0, &count, &used) == JATSHEGI_NO_ROOM && used == 7);
     CHECK(jatshegi_game_report(game, sizeof game - 1, &report, NULL, 0, &count, &used) == JATSHEGI_NO_ROOM && report.plies == 1);
     CHECK(jatshegi_game_read(NULL, 0, NULL, 0, &count, &used) == JATSHEGI_NO_GAME);

@@ -88,7 +88,7 @@ static const struct {
     {"} {not a comment\n  [A \"b\"]\n\n*\n", 19},
     {"1. e4 {[A \"b\"]\n[A \"b\"]\n} e4\n[A \"b\"] *", 28},
 };
-enum { PASSES = sizeof passes / sizeof passes[0], FIRST_TAG = 19, COPIED = 24, FIRST_PASS = 25, STEPS = FIRST_PASS + PASSES };
+enum { PASSES = sizeof passes / sizeof passes[0], FIRST_TAG = 19, COPIED = 24, FIRST_PASS = 25, FIRST_NEXT = FIRST_PASS + PASSES, LOADED = FIRST_NEXT + PASSES, STEPS };
 
 /* A copy of the board, freed at once; the other board is as it was where it is refused. */
 static uint32_t copied(struct jatshegi_board *board) {
@@ -127,7 +127,9 @@ static uint32_t step(struct jatshegi_board *board, int number) {
     if (number == FIRST_TAG + 3) return jatshegi_board_clear_tag(board, "White", 5);
     if (number == FIRST_TAG + 4) return jatshegi_board_pgn(board, out.text, sizeof out.text, &out.count);
     if (number == COPIED) return copied(board);
-    text = passes[number - FIRST_PASS].text;
+    if (number == LOADED) return jatshegi_board_load_next(board, GOOD, sizeof GOOD - 1, false, &out.passed);
+    text = passes[(number - FIRST_PASS) % PASSES].text;
+    if (number >= FIRST_NEXT) return jatshegi_game_next(text, strlen(text), true, &out.passed);
     return jatshegi_game_pass(text, strlen(text), &out.passed);
 }
 
@@ -138,7 +140,14 @@ static int is_right(int number, uint32_t status) {
         wanted.used = 6;
         return status == JATSHEGI_PGN_MOVE && memcmp(&out, &wanted, sizeof out) == 0;
     }
+    if (number >= FIRST_NEXT && number < LOADED) {
+        /* (a good game, a bad one, and white space) */
+        if (status != JATSHEGI_OK && status != JATSHEGI_NO_GAME && status < JATSHEGI_PGN_TOKEN) return 0;
+        wanted.passed = passes[number - FIRST_NEXT].passed;
+        return memcmp(&out, &wanted, sizeof out) == 0;
+    }
     if (status != JATSHEGI_OK) return 0;
+    if (number == LOADED) return out.passed == sizeof GOOD - 1;
     if (out.added != (number >= 1 && number <= 6)) return 0;
     if (number >= 11 && number <= 13 && out.used != sizeof GOOD - 1) return 0;
     if ((number == 9 || number == 11 || number == 12 || number == FIRST_TAG + 4) && (out.count > sizeof out.text || memcmp(out.text, untouched.text, out.count) == 0)) return 0;

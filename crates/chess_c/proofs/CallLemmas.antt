@@ -11,12 +11,13 @@ use Rattle.chess_slots.specs.Answers.{IsTold}
 use Rattle.chess_slots.specs.Codes.{ok}
 use Rattle.chess_slots.specs.Headings.{HeadingParts}
 use Rattle.chess_slots.specs.Loads.{LoadsFrom}
+use Rattle.chess_slots.specs.Next.{LoadsNext}
 use Rattle.chess_c.specs.Asked.{SaysAdded}
 use Rattle.chess_c.specs.Calls.{Acts, ActsOnHeading, AsksHeading, IsAnswered, IsReplying, IsReplyingWithin}
 use Rattle.chess_c.specs.Codes.{ended_code, refusal_code}
 use Rattle.chess_c.specs.Engines.{IsRepliedFrom, IsRepliedWithinFrom}
 use Rattle.chess_c.specs.Held.{Held, Searching, with_board, with_engine, with_heading, with_search}
-use Rattle.chess_c.specs.Loads.{Loads}
+use Rattle.chess_c.specs.Loads.{Loads, LoadsAsItComes}
 use Rattle.chess_c.specs.Searches.{IsBegun, IsBegunFrom, IsSliced, IsSlicedWithin, SlicedFrom, SlicedWithinFrom}
 
 pub acts_some : (ends : TreeParts → Result (Unit {0}) Refusal → TreeParts → Type 0) → (old new : Option Held) → (held : Held) → (after : TreeParts)
@@ -97,6 +98,18 @@ pub loaded_some : (text : List ℕ) → (old new : Option Held) → (held after 
     → LoadsFrom text held.board held.heading code used used' after.board after.heading → Loads text old code used used' new
 loaded_some text old new held after code used used' is en ks ke loads =
     subst (λ (o : Option Held). Loads text o code used used' new) (sym is) (
+      after.board,
+      after.heading,
+      loads,
+      en ∙ ap (λ (h : Held). Some h) (
+          ap (λ (s : Option Searching). record { board = after.board; heading = after.heading; search = s; engine = after.engine }) ks
+          ∙ ap (λ (e : State). record { board = after.board; heading = after.heading; search = held.search; engine = e }) ke),
+    )
+
+pub loaded_next : (text : List ℕ) → (is_last : Bool) → (old new : Option Held) → (held after : Held) → (code used used' : ℕ) → old ≡ Some held → new ≡ Some after → after.search ≡ held.search → after.engine ≡ held.engine
+    → LoadsNext text is_last held.board held.heading code used used' after.board after.heading → LoadsAsItComes text is_last old code used used' new
+loaded_next text is_last old new held after code used used' is en ks ke loads =
+    subst (λ (o : Option Held). LoadsAsItComes text is_last o code used used' new) (sym is) (
       after.board,
       after.heading,
       loads,

@@ -3,7 +3,7 @@ ghost use Rattle.chess_types.specs.board.Lines.{last};
 ghost use Rattle.chess_san.specs.Naming.{san_reading};
 ghost use Rattle.chess_tree.specs.Edits.{parent};
 ghost use Rattle.chess_tree.specs.Forest.{count};
-ghost use Rattle.chess_tree.specs.GameTree.{annotated_here, at_path, deleted, line_to, main_line, nodes_here, promoted_here};
+ghost use Rattle.chess_tree.specs.GameTree.{annotated_here, at_path, deleted, line_to, main_line, nodes_here, promoted_here, unannotated_here};
 ghost use Rattle.chess_cli.specs.Answers.{Does, HasEffect, comment_effect, has_words, if_it_exists, names_new, not_at_root, play_effect};
 ghost use Rattle.chess_tree.specs.Undo.{undone};
 ghost use Rattle.chess_c.specs.Calls.{Acts};
@@ -193,6 +193,19 @@ pub extern "C" fn jatshegi_board_annotate(alloc: Global, slot: &mut Slot, number
         return EMPTY;
     };
     let ended = session.board.nag(number);
+    put(slot, session, alloc);
+    ended_code(ended)
+}
+
+/// Takes all annotation numbers of the node out (PGN 8.2.4); no memory is taken.
+#[unsafe(no_mangle)]
+pub extern "C" fn jatshegi_board_clear_annotations(alloc: Global, slot: &mut Slot) -> u32
+    ensures { Acts (λ board ended after. HasEffect false (not_at_root board.path (unannotated_here board)) board ended after) slot.old.held result slot.new.held }
+{
+    let Some(mut session) = take(slot, alloc) else {
+        return EMPTY;
+    };
+    let ended = session.board.clear_nags();
     put(slot, session, alloc);
     ended_code(ended)
 }

@@ -1,7 +1,8 @@
 ghost use Rattle.chess_slots.specs.Games.{IsGame, IsPassed};
+ghost use Rattle.chess_slots.specs.Next.{IsNext};
 ghost use Rattle.chess_slots.specs.Reports.{IsReport};
 
-use chess_slots::{GameReport, game, passed, report};
+use chess_slots::{GameReport, game, next_game, passed, report};
 use std::alloc::Global;
 
 /// The game at the start of a text (PGN), in export form, and how many bytes of the text it takes: 0. 16 where only whitespace follows. Where no game is
@@ -44,4 +45,20 @@ pub extern "C" fn jatshegi_game_pass(alloc: Global, text: &[u8], used: &mut usiz
     ensures { IsPassed text.now result used.old used.new }
 {
     passed(&alloc, text, used)
+}
+
+/// How many bytes of a text to pass over to what follows its first game, where only its first bytes are known, or all (`is_last`): 0, those of the game at
+/// their start, which is there whatever follows. 16 where all are white space, and nothing follows. Where no game is there, the number of the text's first
+/// fault and 40, and the bytes that are given up with it, as `jatshegi_game_pass` has them of the whole text. 14 where more bytes decide, and 2 where there is
+/// no memory: the number is as it was.
+#[unsafe(no_mangle)]
+pub extern "C" fn jatshegi_game_next(
+    alloc: Global,
+    text: &[u8],
+    is_last: bool,
+    used: &mut usize,
+) -> u32
+    ensures { IsNext text.now is_last result used.old used.new }
+{
+    next_game(&alloc, text, is_last, used)
 }

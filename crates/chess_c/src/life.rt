@@ -3,7 +3,7 @@ ghost use Rattle.chess_fen.specs.Reading.{fen_reading};
 ghost use Rattle.chess_cli.specs.Answers.{HasEffect, set_effect};
 ghost use Rattle.chess_c.specs.Calls.{Acts, IsCopied};
 ghost use Rattle.chess_c.specs.Held.{beginning};
-ghost use Rattle.chess_c.specs.Loads.{Loads};
+ghost use Rattle.chess_c.specs.Loads.{Loads, LoadsAsItComes};
 ghost use Rattle.chess_c.specs.Positions.{position_in};
 
 use crate::codes::ended_code;
@@ -130,6 +130,26 @@ pub extern "C" fn jatshegi_board_load(
         return EMPTY;
     };
     let code = session.load(text, used);
+    put(slot, session, alloc);
+    code
+}
+
+/// The same of a text of which only the first bytes are known, or all (`is_last`): begins with the game that is at their start whatever follows, and says how
+/// many bytes it takes: 0. Else the board is as it was, and it is answered as by `jatshegi_game_next`.
+#[unsafe(no_mangle)]
+pub extern "C" fn jatshegi_board_load_next(
+    alloc: Global,
+    slot: &mut Slot,
+    text: &[u8],
+    is_last: bool,
+    used: &mut usize,
+) -> u32
+    ensures { LoadsAsItComes text.now is_last slot.old.held result used.old used.new slot.new.held }
+{
+    let Some(mut session) = take(slot, alloc) else {
+        return EMPTY;
+    };
+    let code = session.load_next(text, is_last, used);
     put(slot, session, alloc);
     code
 }

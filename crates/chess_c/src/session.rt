@@ -11,6 +11,7 @@ ghost use Rattle.chess_uci.specs.Machine.{is_infinite, is_waiting, time_left};
 ghost use Rattle.chess_c.specs.Engines.{IsRepliedFrom, IsRepliedWithinFrom};
 ghost use Rattle.chess_c.specs.Held.{beginning, copy_of};
 ghost use Rattle.chess_slots.specs.Loads.{LoadsFrom};
+ghost use Rattle.chess_slots.specs.Next.{LoadsNext};
 ghost use Rattle.chess_c.specs.Searches.{IsBegunFrom, SlicedFrom, SlicedWithinFrom, best_of};
 
 use crate::kept_engine::Engine;
@@ -21,7 +22,8 @@ use chess_key::KeyTable;
 use chess_loop::OutputBuffer;
 use chess_search::Nodes;
 use chess_slots::{
-    ABANDONED, ARGUMENT, Heading, MEMORY, NONE, OK, Within, answer, cursor_line, load, whole_game,
+    ABANDONED, ARGUMENT, Heading, MEMORY, NONE, OK, Within, answer, cursor_line, load, load_next,
+    whole_game,
 };
 use chess_tree::TreeFault;
 use chess_types::Move;
@@ -216,6 +218,15 @@ impl Session {
         ensures engine { self.new.engine ≡ self.old.engine }
     {
         load(&mut self.board, &mut self.heading, text, used)
+    }
+
+    /// The same of a text of which only the first bytes are known, or all.
+    pub fn load_next(&mut self, text: &[u8], is_last: bool, used: &mut usize) -> u32
+        ensures board { LoadsNext text.now is_last self.old.board self.old.heading result used.old used.new self.new.board self.new.heading }
+        ensures search { self.new.search ≡ self.old.search }
+        ensures engine { self.new.engine ≡ self.old.engine }
+    {
+        load_next(&mut self.board, &mut self.heading, text, is_last, used)
     }
 
     /// Begins a search of the position at the cursor; one that was there is ended.

@@ -1,7 +1,7 @@
 -- Games that are read and written one after another.
 use Rattle.std.proofs.Common.{◌≡◌, ◌⊎◌, ℕ, ◌+◌, ◌≤◌, Bool, true, false, List, [], ◌∷◌, ◌++◌, length, refl, sym, ap, subst, ◌∙◌, arith, append_assoc, append-nil, length-append, Err, inl, inr}
 use Rattle.std.proofs.lemmas.Bool.{false≢true}
-use Rattle.std.specs.Prelude.{Result, Ok, Option, Some, None, IfErr, IfOk, IfSome}
+use Rattle.std.specs.Prelude.{Result, Ok, Option, Some, None, IfErr, IfOk, IfSome, ⊤}
 use Rattle.byte_streams.specs.Calls.{Carries, joined}
 use Rattle.byte_streams.proofs.CallLemmas.{Calls-append, Carries-none, Carries-append, joined-append}
 use Rattle.chess_items.specs.Coming.{AtHand, Breaks, Came, EachBrings, LastReadWhere, unread}
@@ -11,7 +11,7 @@ use Rattle.chess_items.proofs.LastLemmas.{joins}
 use Rattle.chess_items.proofs.ReadLemmas.{empty_is}
 use Rattle.chess_pgn.specs.Games.{Game}
 use Rattle.chess_pgn.specs.Reading.{HasNoGame, HasNoGameYet, BeginsWithGame, IsWhite}
-use Rattle.chess_pgn.specs.Sources.{Fails, Games, GoesOn, HasFault, HasGame, HasNone, NextGame, Starves}
+use Rattle.chess_pgn.specs.Sources.{EndsOpen, Fails, Games, GoesOn, HasFault, HasGame, HasNone, NextGame, Starves}
 use Rattle.chess_pgn.specs.Written.{game_text}
 use Rattle.chess_pgn.specs.steps.GameCode.{game_of}
 use Rattle.chess_pgn.specs.declared.game.Game.{Game as Code}
@@ -48,23 +48,29 @@ module _ {R : Type 0} (gives : R → List ℕ → R → Type 0) (failed : R → 
   abbrev carries : (s n : AtHand R) (bytes : List ℕ) → Came gives failed s bytes n → Carries gives s.source bytes n.source
   carries s n bytes c = record { pieces = c.pieces; calls = c.calls; whole = c.whole }
 
-  -- where the last read was made, if one was, no one game was after those before it
-  abbrev Yet : AtHand R → List (List ℕ) → Type 0
-  Yet m pieces = (pieces ≡ []) ⊎ ((before : List (List ℕ)) × (piece : List ℕ) × (pieces ≡ before ++ piece ∷ []) × HasNoGameYet (unread m ++ joined before))
+  -- where the last read was made, if one was, no one game was after those before it, and this held
+  abbrev Yet : (List ℕ → Type 0) → AtHand R → List (List ℕ) → Type 0
+  Yet holds m pieces = (pieces ≡ []) ⊎ ((before : List (List ℕ)) × (piece : List ℕ) × (pieces ≡ before ++ piece ∷ []) × HasNoGameYet (unread m ++ joined before) × holds (unread m ++ joined before))
 
-  asked_yet : (m : AtHand R) (pieces : List (List ℕ)) → LastReadWhere HasNoGameYet (unread m) pieces → Yet m pieces
+  asked_yet : (m : AtHand R) (pieces : List (List ℕ)) → LastReadWhere HasNoGameYet (unread m) pieces → Yet (λ _. ⊤) m pieces
   asked_yet m pieces (inl e) = inl e
-  asked_yet m pieces (inr w) = inr (w.0, w.1, w.2, w.4)
+  asked_yet m pieces (inr w) = inr (w.0, w.1, w.2, w.4, tt)
 
   some_pieces : (before : List (List ℕ)) (piece : List ℕ) → before ++ piece ∷ [] ≡ [] → ⊥
   some_pieces [] piece e = cc
   some_pieces (p ∷ before) piece e = cc
 
-  whole_on : (s m n : AtHand R) (games others : List Game) (r : Reads gives failed s m games) (bytes : List ℕ) (came : Came gives failed m bytes n) → Yet m came.pieces → HoldsWhole (unread s) (r.came.pieces ++ came.pieces) (games ++ others)
-  whole_on s m n games others r bytes came (inl e) =
-      subst (λ (z : List (List ℕ)). HoldsWhole (unread s) z (games ++ others)) (sym (ap (λ (z : List (List ℕ)). r.came.pieces ++ z) e ∙ append-nil r.came.pieces)) (more r.whole)
+  -- what holds where it is wanted, or where others follow
+  whole_on : (holds wanted : List ℕ → Type 0) → ((text : List ℕ) → EndsOpen text → wanted text) → (s m n : AtHand R) (games others : List Game) → ((text : List ℕ) → others ≡ [] → holds text → wanted text) → (r : Reads gives failed s m games) (bytes : List ℕ) (came : Came gives failed m bytes n)
+      → Yet holds m came.pieces → HoldsWhole wanted (unread s) (r.came.pieces ++ came.pieces) (games ++ others)
+  whole_on holds wanted weaker s m n games others of r bytes came (inl e) =
+      subst (λ (z : List (List ℕ)). HoldsWhole wanted (unread s) z (games ++ others)) (sym (ap (λ (z : List (List ℕ)). r.came.pieces ++ z) e ∙ append-nil r.came.pieces)) (more r.whole)
     where
-      more : HoldsWhole (unread s) r.came.pieces games → HoldsWhole (unread s) r.came.pieces (games ++ others)
+      first_nil : (xs ys : List Game) → xs ++ ys ≡ [] → xs ≡ []
+      first_nil [] ys e = refl
+      first_nil (x ∷ xs) ys e = absurd cc
+
+      more : HoldsWhole EndsOpen (unread s) r.came.pieces games → HoldsWhole wanted (unread s) r.came.pieces (games ++ others)
       more (inl none) = inl none
       more (inr w) = inr (record {
         before = w.before;
@@ -76,8 +82,9 @@ module _ {R : Type 0} (gives : R → List ℕ → R → Type 0) (failed : R → 
         left = w.left;
         are = w.are;
         none = w.none;
+        still = λ e. weaker w.left (w.still (first_nil w.others others e));
       })
-  whole_on s m n games others r bytes came (inr y) = inr (record {
+  whole_on holds wanted weaker s m n games others of r bytes came (inr y) = inr (record {
     before = r.came.pieces ++ y.0;
     piece = y.1;
     parts = ap (λ (z : List (List ℕ)). r.came.pieces ++ z) y.2 ∙ sym (append_assoc r.came.pieces y.0 (y.1 ∷ []));
@@ -92,13 +99,14 @@ module _ {R : Type 0} (gives : R → List ℕ → R → Type 0) (failed : R → 
         subst (λ (z : List ℕ). AreGames (unread s ++ z) games ((unread m ++ joined y.0) ++ more)) text
         (subst (λ (z : List ℕ). AreGames (unread s ++ (r.bytes ++ (joined y.0 ++ more))) games z) (sym (append_assoc (unread m) (joined y.0) more)) here);
     none = y.3;
+    still = λ e. of (unread m ++ joined y.0) e y.4;
   })
 
   reads_more : (s m n : AtHand R) (games : List Game) (game : Game) → Reads gives failed s m games → HasGame gives failed m n game → Reads gives failed s n (games ++ game ∷ [])
   reads_more s m n games game r h = record {
     bytes = r.bytes ++ h.bytes;
     came = joins gives failed s n m r.bytes h.bytes (r.bytes ++ h.bytes) r.came h.came refl;
-    whole = whole_on s m n games (game ∷ []) r h.bytes h.came (asked_yet m h.came.pieces h.needed);
+    whole = whole_on (λ _. ⊤) EndsOpen (λ text e. e) s m n games (game ∷ []) (λ text e. absurd cc) r h.bytes h.came (asked_yet m h.came.pieces h.needed);
     are = λ more none.
         let before = r.are (h.bytes ++ more) (λ e. (let still = h.still e in ap (λ (z : List ℕ). z ++ more) still.0 ∙ none still.1)) in
         let parts : unread m ++ (h.bytes ++ more) ≡ h.text ++ (unread n ++ more) =
@@ -113,8 +121,10 @@ module _ {R : Type 0} (gives : R → List ℕ → R → Type 0) (failed : R → 
     all_bytes = joins gives failed s n m r.bytes bytes (r.bytes ++ bytes) r.came came refl
 
     -- the games hold each that is whole before the last read
-    whole_still : Yet m came.pieces → HoldsWhole [] (r.came.pieces ++ came.pieces) games
-    whole_still yet = subst (λ (z : List ℕ). HoldsWhole z (r.came.pieces ++ came.pieces) games) nothing (subst (λ (z : List Game). HoldsWhole (unread s) (r.came.pieces ++ came.pieces) z) (append-nil games) (whole_on s m n games [] r bytes came yet))
+    whole_still : (wanted : List ℕ → Type 0) → ((text : List ℕ) → EndsOpen text → wanted text) → Yet wanted m came.pieces → HoldsWhole wanted [] (r.came.pieces ++ came.pieces) games
+    whole_still wanted weaker yet =
+        subst (λ (z : List ℕ). HoldsWhole wanted z (r.came.pieces ++ came.pieces) games) nothing
+        (subst (λ (z : List Game). HoldsWhole wanted (unread s) (r.came.pieces ++ came.pieces) z) (append-nil games) (whole_on wanted wanted weaker s m n games [] (λ text e h. h) r bytes came yet))
 
     well_read : failed n.source ≡ false
     well_read = came.well ∙ r.came.well ∙ first
@@ -190,12 +200,32 @@ module _ {R W : Type 0} (gives : R → List ℕ → R → Type 0) (read_failed :
       written = so_far.written;
     }
 
+    -- where no game is there in any case
+    fails_yet : (m n : AtHand R) (fails : Fails gives read_failed ended m n) → Yet gives read_failed EndsOpen m fails.came.pieces
+    fails_yet m n fails = by fails.came.pieces fails.came.whole fails.needed
+      where
+        by : (pieces : List (List ℕ)) → joined pieces ≡ fails.bytes → LastReadWhere EndsOpen (unread m) pieces → Yet gives read_failed EndsOpen m pieces
+        by pieces whole needed = elim needed [
+          | inl e ↦ inl e
+          | inr l ↦ inr (
+            l.0,
+            l.1,
+            l.2,
+            (λ g k x.
+                let text : (unread m ++ joined l.0) ++ (l.1 ++ []) ≡ unread m ++ (fails.bytes ++ []) =
+                append_assoc (unread m) (joined l.0) (l.1 ++ []) ∙ ap (λ (z : List ℕ). unread m ++ z) (sym (joined-append l.0 (l.1 ∷ [])) ∙ ap joined (sym l.2) ∙ whole ∙ sym (append-nil fails.bytes)) in
+                fails.none [] (λ e. refl) g k (subst (λ (z : List ℕ). BeginsWithGame z g k) text (x (l.1 ++ [])))),
+            l.4,
+          )
+        ]
+
     -- what comes after the games is refused
     refused_there : (m n : AtHand R) (old new : W) → SoFar gives read_failed ended takes failed count s m old new → Fails gives read_failed ended m n → EndsAtFault gives read_failed ended takes failed s.source n.source old new
     unfolding collected
     refused_there m n old new so_far fails = record {
       games = so_far.games;
       reads = collected gives read_failed s m n so_far.games nothing first_read so_far.reads fails.bytes fails.came ended n.has_ended fails.ended_so fails.still;
+      needed = whole_still gives read_failed s m n so_far.games nothing first_read so_far.reads fails.bytes fails.came EndsOpen (λ text e. e) (fails_yet m n fails);
       refused = λ more none.
           let same = sym (append_assoc (unread m) fails.bytes more) in
           (subst HasNoGame same (fails.none more none), subst (λ (z : List ℕ). IsWhite z → ⊥) same (fails.dark more none));
@@ -207,39 +237,8 @@ module _ {R W : Type 0} (gives : R → List ℕ → R → Type 0) (read_failed :
     unfolding collected
     starved_there m n old new so_far starves = record {
       games = so_far.games;
-      whole = whole_still gives read_failed s m n so_far.games nothing first_read so_far.reads starves.bytes starves.came (asked_yet gives read_failed m starves.came.pieces starves.needed);
+      whole = whole_still gives read_failed s m n so_far.games nothing first_read so_far.reads starves.bytes starves.came (λ _. ⊤) (λ text e. tt) (asked_yet gives read_failed m starves.came.pieces starves.needed);
       reads = collected gives read_failed s m n so_far.games nothing first_read so_far.reads starves.bytes starves.came ended m.has_ended (λ e. (starves.still e).1) (λ e. ((starves.still e).0, e));
-      written = so_far.written;
-    }
-
-    -- where no game is there in any case
-    fails_yet : (m n : AtHand R) (fails : Fails gives read_failed ended m n) → Yet gives read_failed m fails.came.pieces
-    fails_yet m n fails = by fails.came.pieces fails.came.whole
-      where
-        last_of : (pieces : List (List ℕ)) → (pieces ≡ []) ⊎ ((before : List (List ℕ)) × (piece : List ℕ) × (pieces ≡ before ++ piece ∷ []))
-        last_of [] = inl refl
-        last_of (p ∷ ps) = inr (elim (last_of ps) [ inl e ↦ ([], p, ap (λ (z : List (List ℕ)). p ∷ z) e) | inr l ↦ (p ∷ l.0, l.1, ap (λ (z : List (List ℕ)). p ∷ z) l.2) ])
-
-        by : (pieces : List (List ℕ)) → joined pieces ≡ fails.bytes → Yet gives read_failed m pieces
-        by pieces whole = elim (last_of pieces) [
-          | inl e ↦ inl e
-          | inr l ↦ inr (
-            l.0,
-            l.1,
-            l.2,
-            λ g k x.
-                let text : (unread m ++ joined l.0) ++ (l.1 ++ []) ≡ unread m ++ (fails.bytes ++ []) =
-                append_assoc (unread m) (joined l.0) (l.1 ++ []) ∙ ap (λ (z : List ℕ). unread m ++ z) (sym (joined-append l.0 (l.1 ∷ [])) ∙ ap joined (sym l.2) ∙ whole ∙ sym (append-nil fails.bytes)) in
-                fails.none [] (λ e. refl) g k (subst (λ (z : List ℕ). BeginsWithGame z g k) text (x (l.1 ++ []))),
-          )
-        ]
-
-    written_there : (m n : AtHand R) (old new : W) → SoFar gives read_failed ended takes failed count s m old new → Fails gives read_failed ended m n → EndsWritten gives read_failed ended takes failed s.source n.source old new
-    unfolding collected
-    written_there m n old new so_far fails = record {
-      games = so_far.games;
-      whole = whole_still gives read_failed s m n so_far.games nothing first_read so_far.reads fails.bytes fails.came (fails_yet m n fails);
-      reads = collected gives read_failed s m n so_far.games nothing first_read so_far.reads fails.bytes fails.came ended n.has_ended fails.ended_so fails.still;
       written = so_far.written;
     }
 
@@ -248,8 +247,8 @@ module _ {R W : Type 0} (gives : R → List ℕ → R → Type 0) (read_failed :
         → WritesAll gives read_failed ended takes failed s.source n.source old new why
     ends_at_fault m n old new fault why so_far (inl starves) (inl by) = subst (λ (e : Ended). WritesAll gives read_failed ended takes failed s.source n.source old new e) (sym by.1) (starved_there m n old new so_far starves.1)
     ends_at_fault m n old new fault why so_far (inl starves) (inr by) = absurd (by.0 starves.0)
-    ends_at_fault m n old new fault why so_far (inr fails) (inl by) = subst (λ (e : Ended). WritesAll gives read_failed ended takes failed s.source n.source old new e) (sym by.1) (written_there m n old new so_far fails)
-    ends_at_fault m n old new fault why so_far (inr fails) (inr by) = subst (λ (e : Ended). WritesAll gives read_failed ended takes failed s.source n.source old new e) (sym by.1) (by.0, refused_there m n old new so_far fails)
+    ends_at_fault m n old new fault why so_far (inr fails) (inl by) = absurd (fails.0 by.0)
+    ends_at_fault m n old new fault why so_far (inr fails) (inr by) = subst (λ (e : Ended). WritesAll gives read_failed ended takes failed s.source n.source old new e) (sym by.1) (by.0, refused_there m n old new so_far fails.1)
 
     -- why a read was the last
     caused : (m b n : AtHand R) (bytes : List ℕ) (games : List Game) (r : Reads gives read_failed s m games) (came : Came gives read_failed m bytes b) → s.reads ≡ most_reads → Breaks gives read_failed b n
@@ -276,6 +275,7 @@ module _ {R W : Type 0} (gives : R → List ℕ → R → Type 0) (read_failed :
           are = λ more. subst (λ (z : List ℕ). AreGames (z ++ more) so_far.games ((unread m ++ fails.bytes) ++ more)) (sym whole)
               (are_on gives read_failed s m fails.before so_far.games nothing first_read r fails.bytes fails.came more (λ e. absurd (false≢true (sym goes ∙ e))));
           none = fails.none;
+          ends = reads.within.ends;
           written = so_far.written;
         }
 
@@ -313,7 +313,7 @@ module _ {R W : Type 0} (gives : R → List ℕ → R → Type 0) (read_failed :
     unfolding collected
     ends_written m n old new game told so_far read = record {
       games = so_far.games;
-      whole = whole_still gives read_failed s m n so_far.games nothing first_read so_far.reads read.bytes read.came (asked_yet gives read_failed m read.came.pieces read.needed);
+      whole = whole_still gives read_failed s m n so_far.games nothing first_read so_far.reads read.bytes read.came (λ _. ⊤) (λ text e. tt) (asked_yet gives read_failed m read.came.pieces read.needed);
       reads = collected gives read_failed s m n so_far.games nothing first_read so_far.reads read.bytes read.came ended n.has_ended told read.still;
       written = so_far.written;
     }

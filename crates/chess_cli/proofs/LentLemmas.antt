@@ -45,7 +45,7 @@ module _ {S R N : Type 0} (now : S → R) (name : S → N) (gives : R → List �
 
       fault_now : EndsAtFault lent_gives (λ x. failed (now x)) (λ x. ended (now x)) takes write_failed s t old new → EndsAtFault gives failed ended takes write_failed (now s) (now t) old new
       unfolding collected_now
-      fault_now e = record { games = e.games; reads = collected_now e.games e.reads; refused = e.refused; written = e.written }
+      fault_now e = record { games = e.games; reads = collected_now e.games e.reads; needed = e.needed; refused = e.refused; written = e.written }
 
       unread_now : EndsUnread lent_gives (λ x. failed (now x)) (λ x. ended (now x)) takes write_failed most_reads s t old new → EndsUnread gives failed ended takes write_failed most_reads (now s) (now t) old new
       unread_now e = record {
@@ -62,6 +62,7 @@ module _ {S R N : Type 0} (now : S → R) (name : S → N) (gives : R → List �
         rest = e.rest;
         are = e.are;
         none = e.none;
+        ends = e.ends;
         written = e.written;
       }
 

@@ -3,18 +3,20 @@
 --   AreGames      games stand one after another at the start of a text, and this is left
 --   Collected     these games stand so at the start of what a source gave up to where it was left, whatever it gives next; no read failed
 --   WritesGames   they are written whole, and nothing else; no write failed
---   HoldsWhole    of the reads that were made, games hold each that is whole, whatever comes next, before the last of them
+--   WholeBefore   before the last read games were there, and no one game after them; where these are all, this holds of what comes after them
+--   HoldsWhole    so it is, or no read was made
 --   EndsWritten   these games are written, which are at least those that are whole before the last read; no call failed
 --   EndsWhole     so they are, the source has ended, and what is left of its bytes is white; no call failed
---   EndsAtFault   so they are, and after them stands no game, and not white alone, whatever comes next
+--   EndsAtFault   so they are, and after them is no game, and not white alone, whatever comes next; no read was made that this didn't need
 --   EndsUnread    a read failed, the last, or there were as many reads as there may be, of some bytes each; the games at the start of what was read are
---                 written, each that is there whatever comes next
+--                 written, each that is there whatever comes next, and what is after them may be the beginning of another
 --   EndsInPart    a write failed or took no byte, and was the last call: a prefix of the games is written
-use Rattle.std.specs.Prelude.{◌≡◌, ◌⊎◌, ℕ, ◌<◌, Bool, true, false, List, [], ◌∷◌, ◌++◌, length}
+use Rattle.std.specs.Prelude.{◌≡◌, ◌⊎◌, ℕ, ◌<◌, Bool, true, false, List, [], ◌∷◌, ◌++◌, length, ⊤}
 use Rattle.std.specs.List.{AllByRecursion}
 use Rattle.byte_streams.specs.Calls.{Calls, Carries, joined}
 use Rattle.chess_pgn.specs.Games.{Game}
 use Rattle.chess_pgn.specs.Reading.{HasNoGame, HasNoGameYet, BeginsWithGame, IsWhite}
+use Rattle.chess_pgn.specs.Sources.{EndsOpen}
 use Rattle.chess_pgn.specs.Written.{game_text}
 use Rattle.chess_loop.specs.RunEnds.{Broken}
 
@@ -44,8 +46,8 @@ pub record WritesGames {W : Type 0} (takes : W → List ℕ → W → Type 0) (f
   pub writes : Carries takes old (games_text games) new
   pub well_written : failed new ≡ false
 
--- before the last read the first games were there, and no one game after them
-pub record WholeBefore (hand : List ℕ) (pieces : List (List ℕ)) (games : List Game) : Type 0 where
+-- with the bytes that were at hand before
+pub record WholeBefore (holds : List ℕ → Type 0) (hand : List ℕ) (pieces : List (List ℕ)) (games : List Game) : Type 0 where
   pub before : List (List ℕ)
   pub piece : List ℕ
   pub parts : pieces ≡ before ++ piece ∷ []
@@ -55,16 +57,16 @@ pub record WholeBefore (hand : List ℕ) (pieces : List (List ℕ)) (games : Lis
   pub left : List ℕ
   pub are : (more : List ℕ) → AreGames (hand ++ (joined before ++ more)) first (left ++ more)
   pub none : HasNoGameYet left
+  pub still : others ≡ [] → holds left
 
--- with the bytes that were at hand before
-abbrev pub HoldsWhole : List ℕ → List (List ℕ) → List Game → Type 0
-HoldsWhole hand pieces games = (pieces ≡ []) ⊎ WholeBefore hand pieces games
+abbrev pub HoldsWhole : (List ℕ → Type 0) → List ℕ → List (List ℕ) → List Game → Type 0
+HoldsWhole holds hand pieces games = (pieces ≡ []) ⊎ WholeBefore holds hand pieces games
 
 module _ {R W : Type 0} (gives : R → List ℕ → R → Type 0) (read_failed : R → Bool) (ended : R → Type 0) (takes : W → List ℕ → W → Type 0) (failed : W → Bool) where
   pub record EndsWritten (reader reader' : R) (old new : W) : Type 0 where
     pub games : List Game
     pub reads : Collected gives read_failed ended reader reader' games
-    pub whole : HoldsWhole [] reads.came.pieces games
+    pub whole : HoldsWhole (λ _. ⊤) [] reads.came.pieces games
     pub written : WritesGames takes failed games old new
 
   pub record EndsWhole (reader reader' : R) (old new : W) : Type 0 where
@@ -81,6 +83,7 @@ module _ {R W : Type 0} (gives : R → List ℕ → R → Type 0) (read_failed :
   pub record EndsAtFault (reader reader' : R) (old new : W) : Type 0 where
     pub games : List Game
     pub reads : Collected gives read_failed ended reader reader' games
+    pub needed : HoldsWhole EndsOpen [] reads.came.pieces games
     pub refused : (more : List ℕ) → (reads.all ≡ true → more ≡ []) → HasNoGame (reads.rest ++ more) × (IsWhite (reads.rest ++ more) → ⊥)
     pub written : WritesGames takes failed games old new
 
@@ -96,6 +99,7 @@ module _ {R W : Type 0} (gives : R → List ℕ → R → Type 0) (read_failed :
     pub rest : List ℕ
     pub are : (more : List ℕ) → AreGames (joined pieces ++ more) games (rest ++ more)
     pub none : HasNoGameYet rest
+    pub ends : EndsOpen rest
     pub written : WritesGames takes failed games old new
 
   pub record EndsInPart (reader reader' : R) (old new : W) : Type 0 where

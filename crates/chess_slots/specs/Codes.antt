@@ -1,5 +1,5 @@
 -- What the statuses of calls are, as numbers, and how small values are seen.
---   ok, empty_slot, no_memory, not_legal, argument, no_room, none_best, no_such, no_game, was_abandoned, bad_name, own_tag, bad_value   statuses of their own
+--   ok, empty_slot, no_memory, not_legal, argument, no_room, none_best, no_such, wants_more, no_game, was_abandoned, bad_name, own_tag, bad_value   statuses of their own
 --   fault_code      the status of a text at whose start no game is
 --   outcome_code    how a game stands
 use Rattle.std.specs.Prelude.{ℕ, ◌+◌}
@@ -40,6 +40,10 @@ none_best = 11
 -- there is nothing of that name, or at that place
 abbrev pub no_such : ℕ
 no_such = 12
+
+-- more bytes decide what is there
+abbrev pub wants_more : ℕ
+wants_more = 14
 
 -- only whitespace follows
 abbrev pub no_game : ℕ

@@ -1,9 +1,11 @@
 pub mod Answers
 pub mod Codes
+pub mod Coming
 pub mod Games
 pub mod Handed
 pub mod Headings
 pub mod Loads
+pub mod Next
 pub mod Reports
 pub mod Slots
 pub mod Texts

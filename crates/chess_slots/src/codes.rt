@@ -34,6 +34,9 @@ pub const NONE: u32 = 11;
 /// There is nothing of that name, or at that place.
 pub const NO_SUCH: u32 = 12;
 
+/// More bytes decide what is there.
+pub const MORE: u32 = 14;
+
 /// No game follows.
 pub const NO_GAME: u32 = 16;
 

@@ -13,7 +13,7 @@ use chess_pgn::{FaultKind, PgnFault, read_game, write_game};
 use std::alloc::Allocator;
 
 // Whether it is a fault of the text, and not want of memory.
-fn is_of_text(kind: FaultKind) -> bool
+pub(crate) fn is_of_text(kind: FaultKind) -> bool
     ensures { result ≡ is_of_text kind }
 {
     match kind {

@@ -2,13 +2,14 @@
 //!
 //! `Loose` is a `Box` as a raw pointer, which a slot can keep; each library has a slot of its own, since a type that crosses to C has no parameters. The others
 //! are calls over a text, a board or an engine, which hand out what they answer: `game`, `passed` and `report` of a text, `load` of one into a board and its
-//! heading, `answer` of a line of the board, `reply` of an event of an engine; and over a `Heading`, a game's tags and its end: `tag`, `tag_name`, `set_tag`,
+//! heading, `next_game` and `load_next` of bytes of which more may come, `answer` of a line of the board, `reply` of an event of an engine; and over a `Heading`, a game's tags and its end: `tag`, `tag_name`, `set_tag`,
 //! `clear_tag`, `set_outcome`, `whole_game`. Each returns a status, of which 0 is success (`specs/Codes.antt`).
 #![tactic(auto)]
 
 mod along;
 mod answers;
 mod codes;
+mod coming;
 mod games;
 mod gathered;
 mod heading;
@@ -16,6 +17,7 @@ mod headings;
 mod loads;
 mod loose;
 mod lost;
+mod next;
 mod reports;
 mod texts;
 mod within;
@@ -31,6 +33,7 @@ pub use headings::{clear_tag, set_outcome, set_tag, tag, tag_name, whole_game};
 pub use loads::load;
 pub use loose::Loose;
 pub use lost::Lost;
+pub use next::{load_next, next_game};
 pub use reports::{GameReport, NEVER, marker_code};
 pub use texts::hand;
 pub use within::Within;

@@ -9,6 +9,7 @@ use Rattle.chess_items.specs.Coming.{AtHand, Came, unread}
 use Rattle.chess_items.specs.declared.fault.FaultKind.TheVariants as lacks
 use Rattle.chess_items.specs.declared.fault.PgnFault.{PgnFault}
 use Rattle.chess_pgn.specs.Games.{Game}
+use Rattle.chess_pgn.specs.Sources.{EndsOpen}
 use Rattle.chess_cli.specs.Collections.{AreGames, EndsAtFault, EndsInPart, EndsUnread, EndsWhole, EndsWritten, HoldsWhole, WritesGames}
 use Rattle.chess_loop.specs.RunEnds.{Broken, most_reads}
 use Rattle.chess_loop.specs.steps.Sending.{Sent}
@@ -29,7 +30,7 @@ pub record Reads {R : Type 0} (gives : R → List ℕ → R → Type 0) (read_fa
   pub bytes : List ℕ
   pub came : Came gives read_failed old bytes new
   pub are : (more : List ℕ) → (new.has_ended ≡ true → more ≡ []) → AreGames (unread old ++ (bytes ++ more)) games (unread new ++ more)
-  pub whole : HoldsWhole (unread old) came.pieces games
+  pub whole : HoldsWhole EndsOpen (unread old) came.pieces games
 
 module _ {R W : Type 0} (gives : R → List ℕ → R → Type 0) (read_failed : R → Bool) (ended : R → Type 0) (takes : W → List ℕ → W → Type 0) (failed : W → Bool) where
   -- each game takes a byte, so there can't be more games than bytes

@@ -11,7 +11,7 @@ ghost use Rattle.chess_types.specs.board.Position.{start, man_on};
 ghost use Rattle.chess_eval.specs.Evaluation.{evaluation};
 ghost use Rattle.chess_tree.specs.Forest.{count as count_children};
 ghost use Rattle.chess_tree.specs.Edits.{parent};
-ghost use Rattle.chess_tree.specs.GameTree.{TreeParts, annotated_here, at_path, deleted, line_to, main_line, nodes_here, promoted_here};
+ghost use Rattle.chess_tree.specs.GameTree.{TreeParts, annotated_here, at_path, deleted, line_to, main_line, nodes_here, promoted_here, unannotated_here};
 ghost use Rattle.chess_tree.specs.Plays.{is_new};
 ghost use Rattle.chess_tree.specs.Undo.{undone};
 ghost use Rattle.chess_tree.specs.declared.fault.TreeFault.TheVariants.{Memory as NoMemory};
@@ -477,6 +477,13 @@ impl<'k, A: Allocator> Board<'k, A> {
         ensures { HasEffect true (not_at_root self.old.path (annotated_here nag self.old)) self.old result self.new }
     {
         Ok(self.analysis.add_nag(nag)?)
+    }
+
+    /// No annotation number.
+    pub fn clear_nags(&mut self) -> Result<(), Refusal>
+        ensures { HasEffect false (not_at_root self.old.path (unannotated_here self.old)) self.old result self.new }
+    {
+        Ok(self.analysis.clear_nags()?)
     }
 
     // How often the position has come up.

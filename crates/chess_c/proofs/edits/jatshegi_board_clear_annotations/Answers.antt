@@ -1,0 +1,6 @@
+use Rattle.std.proofs.Common.{rules}
+use Rattle.chess_c.proofs.CallLemmas.{acts_some}
+use Rattle.chess_c.proofs.edits.jatshegi_board_clear_annotations.Goals as goal
+
+pub returns : goal.returns
+returns c = acts_some _ _ _ c.in-Some.session.value c.clear_nags-ended.new.self c.clear_nags-ended.result _ (search rules) (search rules) (search rules) (search rules)
