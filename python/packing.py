@@ -1,9 +1,10 @@
 """Packs the package with its library by pip's interface for building (PEP 517 and 660): into a wheel for Linux on x86-64, into an archive of the sources that
-has the library in it, too, or for an editable install. Nothing is compiled: the library is the one that tools/libraries put beside the package, else the
-released one of the clone."""
+has the library in it, too, or for an editable install. Nothing is compiled: the library and the part in C are those that tools/libraries and tools/fast put beside the
+package, else the released ones of the clone."""
 import base64
 import gzip
 import hashlib
+import importlib.machinery
 import io
 import os
 import re
@@ -11,7 +12,9 @@ import tarfile
 import zipfile
 
 # The library needs nothing of glibc that is newer than 2.14; this is the oldest tag that pip still knows by this name.
-TAG = "py3-none-manylinux_2_17_x86_64"
+PLATFORM = "manylinux_2_17_x86_64"
+# The part in C, which may be missing, and which only CPython takes that isn't free-threaded: without it any Python 3 takes the wheel.
+FAST = ["jatshegi/_fast.abi3.so", "../release/x86_64-linux/lib/_fast.abi3.so"]
 LIBRARIES = ["jatshegi/libjatshegi.so", "../release/x86_64-linux/lib/libjatshegi.so.1"]
 CLASSIFIERS = [
     "Intended Audience :: Developers",
@@ -40,9 +43,21 @@ def library():
     raise SystemExit(f"there is none of {', '.join(LIBRARIES)}: run tools/libraries of the repository first")
 
 
+def binaries():
+    """The library, and the part in C where it has been built and the Python that packs takes it."""
+    paths = [path for path in FAST if os.path.exists(path) and ".abi3.so" in importlib.machinery.EXTENSION_SUFFIXES]
+    fast = read(paths[0]) if paths else None
+    return {"jatshegi/libjatshegi.so": library()} | ({} if fast is None else {"jatshegi/_fast.abi3.so": fast})
+
+
+def tag_of(entries):
+    """The tag of a wheel with these files: with the part in C it is for CPython from 3.9 on."""
+    return f"{'cp39-abi3' if 'jatshegi/_fast.abi3.so' in entries else 'py3-none'}-{PLATFORM}"
+
+
 def sources():
     """The package's own files by their paths."""
-    return {f"jatshegi/{name}": read(f"jatshegi/{name}") for name in sorted(os.listdir("jatshegi")) if name.endswith((".py", ".typed"))}
+    return {f"jatshegi/{name}": read(f"jatshegi/{name}") for name in sorted(os.listdir("jatshegi")) if name.endswith((".py", ".typed", ".c"))}
 
 
 def metadata():
@@ -74,19 +89,20 @@ def write_wheel(folder, tag, entries):
 
 def build_wheel(wheel_directory, config_settings=None, metadata_directory=None):
     """Writes the wheel into the folder, and returns its name."""
-    return write_wheel(wheel_directory, TAG, sources() | {"jatshegi/libjatshegi.so": library()})
+    entries = {path: data for path, data in (sources() | binaries()).items() if not path.endswith(".c")}
+    return write_wheel(wheel_directory, tag_of(entries), entries)
 
 
 def build_editable(wheel_directory, config_settings=None, metadata_directory=None):
     """Writes a wheel that leads to this folder, where the package and its library are used as they are."""
     library()
-    return write_wheel(wheel_directory, TAG, {"jatshegi.pth": f"{os.getcwd()}\n".encode()})
+    return write_wheel(wheel_directory, f"py3-none-{PLATFORM}", {"jatshegi.pth": f"{os.getcwd()}\n".encode()})
 
 
 def build_sdist(sdist_directory, config_settings=None):
     """Writes an archive of the sources and the library, from which the wheel is built anywhere, and returns its name."""
     name = f"jatshegi-{version()}"
-    entries = {"PKG-INFO": metadata(), **sources(), "jatshegi/libjatshegi.so": library()}
+    entries = {"PKG-INFO": metadata(), **sources(), **binaries()}
     entries |= {path: read(path) for path in ("packing.py", "pyproject.toml", "README.md") if os.path.exists(path)}
     with open(os.path.join(sdist_directory, f"{name}.tar.gz"), "wb") as file, gzip.GzipFile("", "wb", fileobj=file, mtime=0) as packed, tarfile.open(fileobj=packed, mode="w") as tar:
         for path, data in sorted(entries.items()):

@@ -2,7 +2,8 @@
 
     PYTHONPATH=python /usr/bin/python3 tests/speed_python.py
 
-The same random games for both, and each a second at least. Not a test: what it prints stands in docs/PYTHON.md.
+The same random games for both, and each a second at least; `JATSHEGI_PLAIN=1` measures the package by ctypes alone. Not a test: what it prints stands in
+docs/PYTHON.md and docs/SPEED.md.
 """
 import gc
 import itertools
@@ -30,13 +31,14 @@ def random_games():
 
 
 def rate(work, count):
-    """How often a second of processor time the work is done, which does it so many times."""
+    """How often a second of processor time the work is done, which does it so many times: the quickest of the passes that a second has."""
     gc.collect()
-    begin, times = time.process_time(), 0
+    begin, best = time.process_time(), float("inf")
     while time.process_time() - begin < 1:
+        before = time.process_time()
         work()
-        times += count
-    return times / (time.process_time() - begin)
+        best = min(best, time.process_time() - before)
+    return count / best
 
 
 def positions(games):
@@ -50,7 +52,51 @@ def positions(games):
     return fens
 
 
+KIWIPETE = "r3k2r/p1ppqpb1/bn2pnp1/3PN3/1p2P3/2N2Q1p/PPPBBPPP/R3K2R w KQkq - 0 1"
+
+
+def many(call, count):
+    """The call so many times."""
+    for _ in range(count):
+        call()
+
+
+def one_position():
+    """Single calls at one position, as a program makes them that looks at each move."""
+    board, start, e4 = jatshegi.Board(KIWIPETE), jatshegi.Board(), jatshegi.Move.from_uci("e2e4")
+
+    def pair():
+        start.push(e4)
+        start.pop()
+
+    for what, call in (
+        ("push and pop at the start, pairs", pair),
+        ("legal_moves of Kiwipete", lambda: board.legal_moves),
+        ("is_check", board.is_check),
+        ("attackers", lambda: board.attackers(True, 36)),
+        ("status", lambda: board.status),
+        ("fen", board.fen),
+        ("san", lambda: start.san(e4)),
+        ("piece_at", lambda: board.piece_at(28)),
+        ("Board()", jatshegi.Board),
+    ):
+        yield what, rate(lambda: many(call, 5000), 5000)
+
+
+def self_play():
+    """Random games, each until it is over."""
+    chance, plies = random.Random(3), 0
+    for _ in range(10):
+        board = jatshegi.Board()
+        while not board.is_game_over():
+            board.push(chance.choice(board.legal_moves))
+        plies += board.ply
+    return plies
+
+
 def ours(games, file):
+    yield from one_position()
+    yield "random self-play, plies", rate(self_play, self_play())
     boards = [jatshegi.Board(fen) for fen in positions(games)]
     tried = [(board, board.legal_moves) for board in boards]
     moves = sum(len(sans) for sans, _ in games)
@@ -70,7 +116,11 @@ def ours(games, file):
     yield "legal moves as a list, positions", rate(lambda: [board.legal_moves for board in boards], len(boards))
     yield "legal moves made and taken back, pairs", rate(look_ahead, sum(len(found) for _, found in tried))
     yield "games replayed from SAN, moves", rate(replay, moves)
-    yield "a file of games read, moves", rate(lambda: [sum(1 for _ in game.mainline()) for game in jatshegi.pgn.games(file)], moves)
+    yield "a file of games read, moves", rate(lambda: sum(1 for game in jatshegi.pgn.games(file)), moves)
+    yield "the same with a tag of each", rate(lambda: [game.headers["White"] for game in jatshegi.pgn.games(file)], moves)
+    yield "the same with the main line's texts", rate(lambda: [game.mainline_sans() for game in jatshegi.pgn.games(file)], moves)
+    yield "the same with the main line's moves", rate(lambda: [list(game.mainline_moves()) for game in jatshegi.pgn.games(file)], moves)
+    yield "a file of games read with the tree", rate(lambda: [sum(1 for _ in game.mainline()) for game in jatshegi.pgn.games(file)], moves)
     yield "the same with a report of each game, moves", rate(lambda: [game.report() for game in jatshegi.pgn.games(file)], moves)
 
 

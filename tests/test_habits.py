@@ -1,6 +1,9 @@
 """The Python package in the names of python-chess: snippets as its users write them, and each short question beside what the board says otherwise."""
+import ast
 import importlib
+import importlib.util
 import io
+import json
 import os
 import pickle
 import random
@@ -197,7 +200,7 @@ class Questions(unittest.TestCase):
         for bad in ("", "x", "KK", "1"):
             self.assertRaises(ValueError, jatshegi.Piece.from_symbol, bad)
         for bad in (0, 7, None):
-            self.assertRaises(ValueError, jatshegi.Piece, bad, True)
+            self.assertRaises((TypeError, ValueError), jatshegi.Piece, bad, True)
         for call in (board.piece_at, board.piece_type_at, board.color_at, lambda square: board.is_attacked_by(True, square)):
             for square in (-1, 64):
                 self.assertRaises(ValueError, call, square)
@@ -444,6 +447,80 @@ class Books(unittest.TestCase):
         self.assertGreater(len(moves), 2000)
 
 
+class Differences(unittest.TestCase):
+    """Each row of PYTHON.md's table of what differs from python-chess, that no other test here has."""
+
+    def row(self, beginning):
+        with open(f"{runs.TOP}/docs/PYTHON.md", encoding="utf-8") as file:
+            section = file.read().split("## From python-chess")[1].split("\n## ")[0]
+        self.assertIn(f"\n| {beginning}", section)
+
+    def test_positions(self):
+        chess, board = jatshegi, jatshegi.Board()
+        self.row("`Board(None)`")
+        self.assertEqual(chess.Board(None).fen(), chess.STARTING_FEN)
+        self.row("`fen()`")
+        board.push_san("e4")
+        self.assertEqual((board.fen().split()[3], board.epd().split()[3], board.ep_square), ("e3", "-", chess.E3))
+        self.row("`legal_moves`")
+        self.assertEqual((type(board.legal_moves), len(board.legal_moves)), (list, 20))
+        self.row("`ply`, `status`")
+        self.assertEqual((board.ply, board.status, board.is_valid()), (1, chess.Status.PLAY, True))
+        self.row("`set_piece_at(square, piece)`")
+        self.assertRaises(ValueError, board.set_piece_at, chess.E1, None)
+        board.set_piece_at(chess.A2, None)
+        self.assertEqual((board.ply, board.turn), (0, chess.BLACK))
+
+    def test_moves(self):
+        chess, board = jatshegi, jatshegi.Board()
+        self.row("`push(move)`")
+        self.assertRaises(chess.IllegalMoveError, board.push, chess.Move(12, 36))
+        for text in ("0000", "--"):
+            self.assertRaises(ValueError, board.push_uci, text)
+        self.row("`Move`")
+        self.assertTrue(chess.Move(0, 0) and chess.Move(12, 28) == (12, 28, None) and hash(chess.Move(12, 28)) == hash((12, 28, None)))
+        moves = [chess.Move(12, 28), chess.Move(48, 56), chess.Move(48, 56, 2), chess.Move(48, 56, 5), chess.Move(48, 57)]
+        self.assertEqual(sorted(moves[::-1]), moves)
+        self.assertTrue(moves[1] <= moves[2] < moves[3] and moves[4] >= moves[3] > moves[0])
+        self.assertRaises(TypeError, lambda: moves[0] < "e2e5")
+        self.row("`is_capture(move)`")
+        self.assertRaises(chess.IllegalMoveError, board.is_capture, chess.Move(12, 36))
+        self.row("`parse_san(text)`")
+        self.assertRaises(ValueError, board.parse_san, "Ng1-f3")
+        self.assertEqual(board.lan(chess.Move.from_uci("g1f3")), "Ng1-f3")
+
+    def test_equality(self):
+        board, other = jatshegi.Board(), jatshegi.Board()
+        self.row("`board == board`")
+        for san in ("Nf3", "Nf6", "Ng1", "Ng8"):
+            other.push_san(san)
+        self.assertTrue(board != other and board == jatshegi.Board() and board != jatshegi.STARTING_FEN)
+        for it in (board, other):
+            it.set_fen("4k3/8/8/8/4P3/8/8/4K3 b - - 0 1")
+        other.set_fen("4k3/8/8/8/4P3/8/8/4K3 b - e3 0 1")
+        self.assertEqual(board, other)
+        self.assertRaises(TypeError, hash, board)
+
+    def test_names_of_python_chess_in_short(self):
+        chess = jatshegi
+        for fen in (chess.STARTING_FEN, *FENS):
+            board = chess.Board(fen)
+            self.assertEqual(board.mirror().mirror(), board)
+            self.assertEqual((board.mirror().turn, len(board.mirror().legal_moves), board.mirror().evaluate()), (not board.turn, len(board.legal_moves), -board.evaluate()))
+            self.assertEqual((board.board_fen(), board.has_castling_rights(True)), (fen.split()[0], any(it in fen.split()[2] for it in "KQ")))
+            for colour in (chess.WHITE, chess.BLACK):
+                found = [0] * 64
+                for square, man in board.piece_map().items():
+                    for to in board.attacks(square) if man.color == colour else ():
+                        found[to] += 1
+                self.assertEqual(found, board.attack_counts(colour))
+            for move in board.legal_moves:
+                self.assertEqual((board.parse_uci(board.uci(move)), board.find_move(*move)), (move, move))
+        self.assertEqual(len(chess.Board().attacks(chess.E4)), 0)
+        self.assertRaises(chess.IllegalMoveError, chess.Board().parse_uci, "e2e5")
+        self.assertRaises(chess.IllegalMoveError, chess.Board().find_move, chess.E2, chess.E5)
+
+
 class Examples(unittest.TestCase):
     """The programs of python/examples, as a user runs them."""
 
@@ -509,6 +586,52 @@ class Examples(unittest.TestCase):
         queen, sicilian = game["d4"].end(), game["e4"]["c5"]["Nf3"]
         self.assertEqual((queen.parent.san, queen.parent.nags, queen.parent.comment, queen.comment[:8]), ("Qa4+", (6,), "a { b", "depth 1:"))
         self.assertEqual((sicilian.nags, sicilian.comment, len(sicilian.variations), len(game["e4"].variations)), ((1,), "the open Sicilian", 1, 2))
+
+    def test_a_position_edited(self):
+        given = "put Nf3\noff g1\nmove e5\nmove e4\nback\nfen\nput Kz9\nput Ke4\nfrom rubbish\nnonsense\n\nfrom 8/8/8/8/8/4k3/4p3/4K3 w - - 0 1\n"
+        shown, _ = self.run_example("fen_editor.py", "rnbqkbnr/ppp1pppp/8/3p4/8/8/PPPPPPPP/RNBQKBNR w KQkq - 0 1".replace("PPPPPPPP", "PPPPPPP1"), given=given)
+        parts = shown.strip().split("\n\n")
+        self.assertEqual(len(parts), 11)
+        self.assertEqual([part.startswith("refused: ") for part in parts], [False, False, True, False, False, False, True, True, True, True, False])
+        self.assertEqual(parts[5], "rnbqkbnr/ppp1pppp/8/3p4/8/5N2/PPPPPPP1/RNBQKB1R w KQkq - 0 1")
+        self.assertTrue(parts[-1].endswith("8/8/8/8/8/4k3/4p3/4K3 w - - 0 1\n0 legal moves"))
+
+    def test_a_view_for_a_web_service(self):
+        of = importlib.util.spec_from_file_location("web_view", f"{PACKAGE}/examples/web_view.py")
+        web_view = importlib.util.module_from_spec(of)
+        of.loader.exec_module(web_view)
+
+        def got(query):
+            heads = []
+            body = b"".join(web_view.application({"QUERY_STRING": query}, lambda *head: heads.append(head)))
+            return heads[0][0][:3], heads[0][1][0][1].split(";")[0], body.decode()
+
+        status, kind, text = got("moves=f3,e5,g4")
+        view = json.loads(text)
+        self.assertEqual((status, kind, view["turn"], view["best"], view["legal"]["d8h4"], view["outcome"]), ("200", "application/json", "black", "Qh4#", "Qh4#", None))
+        self.assertEqual(json.loads(got("moves=f3,e5,g4,Qh4")[2])["outcome"], {"result": "0-1", "by": "checkmate"})
+        self.assertEqual((got("svg&moves=e4")[:2], got("moves=e5")[0], got("fen=x")[0], "error" in json.loads(got("fen=x")[2])), (("200", "image/svg+xml"), "400", "400", True))
+
+    def test_a_notebook(self):
+        """Its cells in turn; what a cell ends with is what a notebook shows."""
+        with open(f"{PACKAGE}/examples/notebook.ipynb", encoding="utf-8") as file:
+            cells = ["".join(cell["source"]) for cell in json.load(file)["cells"] if cell["cell_type"] == "code"]
+        words, shown = {}, []
+        for cell in cells:
+            *before, last = ast.parse(cell).body
+            exec(compile(ast.Module(before, []), "cell", "exec"), words)
+            shown.append(eval(compile(ast.Expression(last.value), "cell", "eval"), words))
+        board, attacked, values, kinds, report = shown
+        self.assertEqual((board.result(), report, len(values), values[0]), ("1-0", ("CHECKMATE", 33, True), 33, jatshegi.Board("rnbqkbnr/pppppppp/8/8/4P3/8/PPPP1PPP/RNBQKBNR b KQkq e3 0 1").evaluate()))
+        self.assertEqual((sum(count for _, count in kinds), jatshegi.D8 in board.move_stack[-1:][0][1:2]), (33, True))
+        for it in (board, attacked):
+            self.assertTrue(it._repr_svg_().startswith("<svg"))
+
+    def test_each_is_short(self):
+        for name in os.listdir(f"{PACKAGE}/examples"):
+            if name.endswith((".py", ".ipynb")):
+                with open(f"{PACKAGE}/examples/{name}", encoding="utf-8") as file:
+                    self.assertLess(len(file.read().splitlines()), 60 if name.endswith(".py") else 120, name)
 
     def test_pictures(self):
         shown, _ = self.run_example("picture.py", "FILE")

@@ -91,3 +91,8 @@ __all__ = [
     "svg",
 ]
 __all__ += _names
+
+# Each class shows under the name by which it is found here.
+for _name in __all__:
+    if isinstance(globals()[_name], type):
+        globals()[_name].__module__ = __name__

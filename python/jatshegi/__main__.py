@@ -29,10 +29,9 @@ def rewrite(path: str) -> int:
     """Writes the games of a file. The status is 1 where some couldn't be read, and 2 where the file couldn't."""
     bad: List[InvalidGameError] = []
     try:
-        with (sys.stdin.buffer if path == "-" else open(path, "rb")) as file:
-            for game in pgn.games(file, bad.append):
-                sys.stdout.buffer.write(bytes(game))
-    except OSError as fault:
+        for game in pgn.games(path, bad.append):
+            sys.stdout.buffer.write(bytes(game))
+    except (EOFError, OSError) as fault:
         print(f"jatshegi: {fault}", file=sys.stderr)
         return 2
     for error in bad:

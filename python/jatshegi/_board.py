@@ -9,12 +9,15 @@ from ctypes import byref, c_bool, c_char, c_int32, c_size_t, c_uint8, c_uint16, 
 from typing import TYPE_CHECKING, Any, Callable, Dict, Iterator, List, NamedTuple, Optional, Tuple, Type, TypeVar
 
 from . import _library as c
-from ._errors import AmbiguousMoveError, EmptyBoardError, Error, IllegalMoveError, InvalidFenError, InvalidMoveError, LimitError
+from ._checks import colour_of, depth_of, square_of, text_of, whole
+from ._core import SHOWN, Calls, Core, numbers_of
+from ._errors import Error, IllegalMoveError, InvalidFenError, LimitError
 from ._habits import Habits
 from ._moves import BLACK, SQUARE_NAMES, STARTING_FEN, WHITE, Move
-from ._pieces import MEN, Piece
+from ._pieces import BY_LETTER, Piece
 from ._sets import SquareSet
 from ._status import Outcome, Status
+from ._stops import ANY_NUMBER, Flag, run, stoppable
 from ._tags import Tags
 
 if TYPE_CHECKING:
@@ -46,122 +49,31 @@ class Best(NamedTuple):
     nodes: int
 
 
-class _Flag:
-    """A flag that is set in this thread, by one handle, and looked at in another thread, by the other. The block ends once the other thread has."""
-
-    def __enter__(self) -> _Flag:
-        self._mine, self._theirs = c.Stop(), c.Stop()
-        self.mine, self.theirs = byref(self._mine), byref(self._theirs)
-        if c.lib.jatshegi_stop_new(self.mine) or c.lib.jatshegi_stop_share(self.mine, self.theirs):
-            self.__exit__()
-            raise MemoryError("no memory for a flag")
-        return self
-
-    def set(self) -> None:
-        if c.lib.jatshegi_stop_set(self.mine, True):
-            raise EmptyBoardError("there is no flag")
-
-    def __exit__(self, *_: object) -> None:
-        c.lib.jatshegi_stop_free(self.theirs)
-        c.lib.jatshegi_stop_free(self.mine)
-
-
-class _Worker(threading.Thread):
-    """A thread whose work is waited for whatever comes; what it raises is raised there. `join` isn't used: where Ctrl-C ends it, Python may take a thread that runs
-    for one that has ended."""
-
-    def __init__(self, work: Callable[[], None]) -> None:
-        super().__init__(daemon=True)
-        self._work, self.ended = work, threading.Event()
-        self._begun = self._cancelled = False
-        self._raised: Optional[BaseException] = None
-
-    def run(self) -> None:
-        self._begun = True
-        try:
-            if not self._cancelled:
-                self._work()
-        except BaseException as raised:
-            self._raised = raised
-        finally:
-            self.ended.set()
-
-    def end(self, flag: _Flag) -> None:
-        """Sets the flag, and waits for the end, also where an exception comes meanwhile, as by Ctrl-C: that is raised then, else what the work raised."""
-        came: Optional[BaseException] = None
-        is_set, self._cancelled = False, True
-        while self._begun and not self.ended.is_set():
-            try:
-                if not is_set:
-                    flag.set()
-                    is_set = True
-                self.ended.wait()
-            except Error as it:
-                # Nothing ends the work but its own end.
-                came, is_set = it, True
-            except BaseException as it:
-                came = it
-        raised = came or self._raised
-        if raised is not None:
-            raise raised
-
-
-class _Shown(Dict[bytes, Move]):
-    """The move of the three bytes that C sees; each is made once."""
-
-    def __missing__(self, key: bytes) -> Move:
-        origin, target, became = key
-        move = self[key] = Move(origin, target, became + 1 if became else None)
-        return move
-
-
-class _Numbers(Dict[Move, c.CMove]):
-    """The three numbers of a move; each is made once. Only a `Move` has them: its parts are whole numbers."""
-
-    def __missing__(self, move: Move) -> c.CMove:
-        if not isinstance(move, Move):
-            raise TypeError(f"a move is a Move, as Move.from_uci('e2e4'); a text is made by push_uci or push_san: {move!r}")
-        origin, target, promotion = move
-        became = 0 if promotion is None else promotion - 1
-        if not (0 <= origin < 64 and 0 <= target < 64 and (promotion is None or 1 <= became <= 4)):
-            raise IllegalMoveError(f"no move of a board: {origin}, {target}, {promotion}")
-        numbers = self[move] = c.CMove(origin, target, became)
-        return numbers
-
-
-_SHOWN = _Shown()
-_NUMBERS = _Numbers()
-
-
-def _numbers(move: Move) -> c.CMove:
-    """The three numbers of a move. Raises `TypeError` for what is none, also where it equals one, and `IllegalMoveError` for one of no board."""
-    return _NUMBERS[move] if isinstance(move, Move) else _NUMBERS.__missing__(move)
-
-
-# The men by the bytes of their letters.
-_MEN = {ord(letter): man for letter, man in MEN.items()}
-
 # Room for texts, and for the squares of a board.
-_FenRoom, _SanRoom, _AnswerRoom, _Squares = c_char * c.MOST_FEN, c_char * c.MOST_SAN, c_char * c.MOST_ANSWER, c_uint8 * 64
+_FenRoom, _AnswerRoom, _Squares = c_char * c.MOST_FEN, c_char * c.MOST_ANSWER, c_uint8 * 64
+
+
+# The encodings that were looked up.
+_KNOWN: Dict[str, str] = {}
 
 
 def _known(encoding: str) -> str:
     """The encoding, in which ASCII is ASCII. Raises `LookupError` for a name of none, and `ValueError` for another one."""
-    codecs.lookup(encoding)
-    plain = bytes(range(128))
-    if plain.decode("ascii").encode(encoding, "replace") != plain:
-        raise ValueError(f"games are read in an encoding that has ASCII as it is, as utf-8 or iso-8859-1: {encoding!r}")
-    return encoding
+    if text_of(encoding, "an encoding is a name, as 'utf-8'") not in _KNOWN:
+        codecs.lookup(encoding)
+        plain = bytes(range(128))
+        if plain.decode("ascii").encode(encoding, "replace") != plain:
+            raise ValueError(f"games are read in an encoding that has ASCII as it is, as utf-8 or iso-8859-1: {encoding!r}")
+        _KNOWN[encoding] = encoding
+    return _KNOWN[encoding]
 
 
-_play, _undo, _move, _read = c.lib.jatshegi_board_play, c.lib.jatshegi_board_undo, c.lib.jatshegi_board_move, c.lib.jatshegi_board_read
-# As many positions as a search likes.
-_ANY_NUMBER = (1 << 64) - 1
+_STATUSES = tuple(Status)
 
 _Board = TypeVar("_Board", bound="Board")
 
 
-class Board(Habits):
+class Board(Core, Calls, Habits):
     """A board: a position, and the moves that led to it from the one in which the game began.
 
     >>> board = Board("8/8/8/K1pP3r/8/8/8/4k3 w - c6 0 2")
@@ -172,15 +84,9 @@ class Board(Habits):
     thread may use a board; where another one is in a call of it, a call waits.
     """
 
-    _slot: c.Slot
-    _at: Any
-    _lock: threading.RLock
-
     def __new__(cls: Type[_Board], *words: Any, **named: Any) -> _Board:
         self = super().__new__(cls)
-        self._slot = c.Slot()
-        self._at = byref(self._slot)
-        self._lock = threading.RLock()
+        self._at = byref(c.Slot.from_address(self._address))
         return self
 
     def __init__(self, fen: Optional[str] = None, *, encoding: str = "utf-8") -> None:
@@ -192,9 +98,7 @@ class Board(Habits):
             if c.lib.jatshegi_board_new(c.KEYS, self._at):
                 raise MemoryError("no memory for a board")
             self._searches = 0
-            # Of the last steps to the cursor what `push` was answered: whether it added a node. Shorter than the way to the cursor where something else led there;
-            # of those steps `pop` takes no node out. While a call may move the cursor it is empty, so it is empty after an exception (as by Ctrl-C).
-            self._made: List[bool] = []
+            self._made.clear()
             if fen is not None:
                 self.set_fen(fen)
 
@@ -225,10 +129,10 @@ class Board(Habits):
 
         used = c_size_t()
         with self._lock:
-            made, self._made = self._made, []
+            made, self._made[:] = self._made[:], []
             status = c.lib.jatshegi_board_load(self._at, text, len(text), byref(used))
             if status:
-                self._made = made
+                self._made[:] = made
         if status == c.NO_GAME or status > c.PGN:
             raise _fault(status, used.value)
         if status:
@@ -249,7 +153,7 @@ class Board(Habits):
             status = c.lib.jatshegi_board_copy(self._at, other._at)
             if status:
                 raise self._fail(status, "copy")
-            other.encoding, other._searches, other._made = self.encoding, 0, list(self._made)
+            other.encoding, other._searches, other._made[:] = self.encoding, 0, self._made
             other.__dict__.update(self._state())
         return other
 
@@ -274,37 +178,6 @@ class Board(Habits):
         _restored(*words)
         return _restored, words, state
 
-    def __del__(self) -> None:
-        if c is not None and hasattr(self, "_at"):
-            c.lib.jatshegi_board_free(self._at)
-
-    # What a status other than OK raises.
-    def _fail(self, status: int, what: object) -> Exception:
-        if status == c.EMPTY:
-            return EmptyBoardError("there is no board: its memory was given back, or it was never begun")
-        if status == c.NO_MEMORY:
-            return MemoryError("no memory")
-        if status == c.ILLEGAL:
-            return IllegalMoveError(f"not legal here: {what} in {self.fen()}")
-        if status == c.AMBIGUOUS:
-            return AmbiguousMoveError(f"more than one legal move: {what} in {self.fen()}")
-        if status == c.FORM:
-            return InvalidMoveError(f"no form of a move: {what!r}")
-        if status == c.TOO_LONG:
-            return LimitError("the line has 20,000 plies")
-        if status == c.FULL:
-            return LimitError("the game holds 1,000,000 moves")
-        if status == c.AT_ROOT:
-            return IndexError("no move has been made")
-        return Error(f"{what!r}: status {status}")
-
-    # Calls a function of the library on the board. A status other than OK is an error.
-    def _call(self, function: Callable[..., int], what: object, *words: object) -> None:
-        with self._lock:
-            status = function(self._at, *words)
-        if status:
-            raise self._fail(status, what)
-
     # The number that a function of the library answers.
     def _number(self, function: Callable[..., int], what: object, *words: object) -> int:
         number = c_uint32()
@@ -322,20 +195,16 @@ class Board(Habits):
 
     def set_fen(self, fen: str) -> None:
         """Begins a new game from that position, as `Board(fen)`. Raises `InvalidFenError`, and the game is then as it was."""
-        text = fen.encode(errors="surrogatepass")
+        text = text_of(fen, "a FEN is a text").encode(errors="surrogatepass")
         with self._lock:
-            made, self._made = self._made, []
+            made, self._made[:] = self._made[:], []
             status = c.lib.jatshegi_board_set(self._at, text, len(text))
             if status:
-                self._made = made
+                self._made[:] = made
             if status > c.FEN:
                 raise InvalidFenError(fen, status - c.FEN, _FAULTS[status - c.FEN - 1])
             if status:
                 raise self._fail(status, fen)
-
-    def fen(self) -> str:
-        """The position's FEN, with all six fields (PGN 16.1). The en passant target is written wherever a pawn has just passed over it."""
-        return self._short(c.lib.jatshegi_board_fen, "fen")
 
     def epd(self) -> str:
         """The first four fields of the FEN, with the en passant target only where a legal move captures on it: the same text exactly where the Laws call positions
@@ -368,11 +237,6 @@ class Board(Habits):
             raise self._fail(status, what)
         return text.raw[: count.value].decode()
 
-    @property
-    def turn(self) -> bool:
-        """The colour of the side to move: WHITE or BLACK."""
-        return WHITE if self._fields().side == 0 else BLACK
-
     # What an entry of a book says here: the move, its weight and a number; None where it stands for no legal move.
     def _booked(self, book: "ctypes.Array[c_char]", size: int, entry: int) -> Optional[Tuple[Move, int, int]]:
         move, weight, learn = c.CMove(), c_uint16(), c_uint32()
@@ -382,28 +246,7 @@ class Board(Habits):
             return None
         if status:
             raise self._fail(status, "find_all")
-        return _SHOWN[bytes(move)], weight.value, learn.value
-
-    # What sort of move a legal one is.
-    def _kinds(self, move: Move) -> int:
-        return self._number(c.lib.jatshegi_board_kinds, move, _numbers(move))
-
-    # The position's six fields.
-    def _fields(self) -> c.CPosition:
-        position = c.CPosition()
-        self._call(c.lib.jatshegi_board_position, "position", byref(position))
-        return position
-
-    @property
-    def move_stack(self) -> List[Move]:
-        """The moves that led to the position, from the game's start, in the order in which they were made."""
-        return self._moves(c.lib.jatshegi_board_line, "move_stack")
-
-    def peek(self) -> Move:
-        """The move that led to the position. Raises `IndexError` where no move has been made."""
-        move = c.CMove()
-        self._call(_move, "peek", byref(move))
-        return _SHOWN[bytes(move)]
+        return SHOWN[bytes(move)], weight.value, learn.value
 
     @property
     def ply(self) -> int:
@@ -412,7 +255,7 @@ class Board(Habits):
 
     def piece_map(self) -> Dict[int, Piece]:
         """The men by their squares. A man equals his letter, as FEN writes it: 'K' for White's king, 'p' for a pawn of Black's."""
-        return {square: _MEN[letter] for square, letter in enumerate(bytes(self._fields().men)) if letter}
+        return {square: BY_LETTER[letter] for square, letter in enumerate(self._men()) if letter}
 
     @property
     def ep_square(self) -> Optional[int]:
@@ -426,11 +269,11 @@ class Board(Habits):
 
     def has_kingside_castling_rights(self, colour: bool) -> bool:
         """Whether that side may still castle with the rook of file h (FIDE Laws 3.8.2.1)."""
-        return bool(self._fields().castling & (1 if colour else 4))
+        return bool(self._fields().castling & (1 if colour_of(colour) else 4))
 
     def has_queenside_castling_rights(self, colour: bool) -> bool:
         """The same with the rook of file a."""
-        return bool(self._fields().castling & (2 if colour else 8))
+        return bool(self._fields().castling & (2 if colour_of(colour) else 8))
 
     @property
     def halfmove_clock(self) -> int:
@@ -444,24 +287,6 @@ class Board(Habits):
 
     # ---- moves
 
-    @property
-    def legal_moves(self) -> List[Move]:
-        """The legal moves (FIDE Laws 3.1 to 3.10), by the square that they begin on, then by the one that they end on."""
-        return self._moves(c.lib.jatshegi_board_moves, "legal_moves")
-
-    # The moves that a function of the library hands out.
-    def _moves(self, function: Callable[..., int], what: str) -> List[Move]:
-        moves, count = (c.CMove * 64)(), c_size_t()
-        with self._lock:
-            status = function(self._at, moves, 64, byref(count))
-            if status == c.NO_ROOM:
-                moves = (c.CMove * count.value)()
-                status = function(self._at, moves, len(moves), byref(count))
-        if status:
-            raise self._fail(status, what)
-        shown = bytes(moves)
-        return [_SHOWN[shown[i : i + 3]] for i in range(0, 3 * count.value, 3)]
-
     def is_legal(self, move: Move) -> bool:
         """Whether the move is legal."""
         try:
@@ -469,18 +294,6 @@ class Board(Habits):
         except IllegalMoveError:
             return False
         return True
-
-    def push(self, move: Move) -> None:
-        """Makes the move: steps to its node, which is added where there is none. Raises `IllegalMoveError`, or `LimitError` after 20,000 plies."""
-        numbers, added = _numbers(move), c_bool()
-        with self._lock:
-            made, self._made = self._made, []
-            status = _play(self._at, numbers, byref(added))
-            if not status:
-                made.append(added.value)
-            self._made = made
-            if status:
-                raise self._fail(status, move)
 
     def push_san(self, san: str) -> Move:
         """Makes the move that the text names in standard algebraic notation, and returns it. Raises `InvalidMoveError`, `IllegalMoveError`
@@ -497,81 +310,16 @@ class Board(Habits):
         self.push(move)
         return move
 
-    def pop(self) -> Move:
-        """Takes back the last move, and returns it: steps to the parent. The node is taken out of the game where `push` added it, nothing hangs on it, no move,
-        comment or annotation, and no `line` was answered with 'ok' since; else it stays, as with `back`. Raises `IndexError` where no move has been made.
-
-        >>> board = Board.from_game(jatshegi.pgn.read_game("1. e4 e5 *"))
-        >>> for move in board.legal_moves:
-        ...     board.push(move)
-        ...     move = board.pop()
-        >>> print(board.pgn().splitlines()[-2])
-        1. e4 e5 *
-        """
-        with self._lock:
-            return self._step_back(bool(self._made) and self._made[-1])
-
-    def back(self) -> Move:
-        """Steps to the parent, and returns the move that led from there; the node stays in the game. Raises `IndexError` where no move has been made.
-
-        >>> board = Board()
-        >>> board.push_san("e4") == board.back()
-        True
-        >>> print(board.pgn().splitlines()[-2])
-        1. e4 *
-        """
-        with self._lock:
-            return self._step_back(False)
-
-    # Steps to the parent, and returns the move that led from there; its node is undone by whether it was added.
-    def _step_back(self, added: bool) -> Move:
-        move, made = c.CMove(), self._made
-        status = _move(self._at, byref(move))
-        if not status:
-            self._made = []
-            status = _undo(self._at, added)
-            if not status:
-                del made[-1:]
-            self._made = made
-        if status:
-            raise self._fail(status, "pop")
-        return _SHOWN[bytes(move)]
-
-    def parse_san(self, san: str) -> Move:
-        """The legal move that the text names in standard algebraic notation (PGN 8.2.3). Raises as `push_san`."""
-        text, move = san.encode("utf-8", "surrogatepass"), c.CMove()
-        with self._lock:
-            status = _read(self._at, text, len(text), byref(move))
-        if status:
-            raise self._fail(status, san)
-        return _SHOWN[bytes(move)]
-
-    def san(self, move: Move) -> str:
-        """The move's text in standard algebraic notation (PGN 8.2.3). Raises `IllegalMoveError`.
-
-        >>> Board("k7/7P/8/8/8/8/8/K7 w - -").san(Move.from_uci("h7h8q"))
-        'h8=Q+'
-        """
-        text, count = _SanRoom(), c_size_t()
-        self._call(c.lib.jatshegi_board_write, move, _numbers(move), text, c.MOST_SAN, byref(count))
-        return text.raw[: count.value].decode()
-
     # ---- the Laws
-
-    def is_check(self) -> bool:
-        """Whether the side to move is in check (FIDE Laws 3.9.1)."""
-        return bool(self.checkers())
 
     def checkers(self) -> SquareSet:
         """The squares of the men that check the side to move."""
-        found = _Squares()
-        self._call(c.lib.jatshegi_board_checks, "checkers", found)
-        return SquareSet(square for square, checks in enumerate(bytes(found)) if checks)
+        return SquareSet(self._checks())
 
     @property
     def status(self) -> Status:
         """How the game stands (FIDE Laws 5.1.1, 5.2.1, 5.2.2, 9.6); `Status.PLAY` where it goes on."""
-        return Status(self._number(c.lib.jatshegi_board_outcome, "status"))
+        return _STATUSES[self._outcome()]
 
     def outcome(self, *, claim_draw: bool = False) -> Optional[Outcome]:
         """How the game ended, or None where it goes on. With `claim_draw` it ends where the side to move may claim a draw, by the position for the third time or 50
@@ -580,6 +328,8 @@ class Board(Habits):
         >>> Board("7k/8/6Q1/8/8/8/8/K7 b - -").outcome()
         Outcome(termination=<Status.STALEMATE: 1>, winner=None)
         """
+        if not claim_draw and self._outcome() == Status.PLAY:
+            return None
         with self._lock:
             status = self.status
             if status == Status.CHECKMATE:
@@ -601,7 +351,7 @@ class Board(Habits):
         (True, False)
         """
         cannot = c_bool()
-        self._call(c.lib.jatshegi_board_cannot_mate, "has_insufficient_material", 0 if color else 1, byref(cannot))
+        self._call(c.lib.jatshegi_board_cannot_mate, "has_insufficient_material", 0 if colour_of(color) else 1, byref(cannot))
         return cannot.value
 
     def claims(self, move: Optional[Move] = None) -> Tuple[bool, bool]:
@@ -610,7 +360,7 @@ class Board(Habits):
         if move is None:
             number = self._number(c.lib.jatshegi_board_claims, "claims")
         else:
-            number = self._number(c.lib.jatshegi_board_claims_with, move, _numbers(move))
+            number = self._number(c.lib.jatshegi_board_claims_with, move, numbers_of(move))
         return bool(number & 1), bool(number & 2)
 
     def repetitions(self) -> int:
@@ -624,11 +374,7 @@ class Board(Habits):
         >>> [SQUARE_NAMES[square] for square in Board().attackers(WHITE, 21)]
         ['g1', 'e2', 'g2']
         """
-        if not 0 <= square < 64:
-            raise ValueError(f"no square: {square}")
-        found = c_uint64()
-        self._call(c.lib.jatshegi_board_attackers, "attackers", 0 if colour else 1, square, byref(found))
-        return SquareSet(found.value)
+        return SquareSet(self._attacks(square_of(square) + (0 if colour_of(colour) else 64)))
 
     def attack_counts(self, colour: bool) -> List[int]:
         """For each square, a1 first, how many men of that colour attack it (FIDE Laws 3.1.2).
@@ -636,9 +382,9 @@ class Board(Habits):
         >>> Board().attack_counts(WHITE)[16:24]
         [2, 2, 3, 2, 2, 3, 2, 2]
         """
-        white, black = _Squares(), _Squares()
+        is_white, white, black = colour_of(colour), _Squares(), _Squares()
         self._call(c.lib.jatshegi_board_counts, "attack_counts", white, black)
-        return list(bytes(white if colour else black))
+        return list(bytes(white if is_white else black))
 
     # ---- the engine
 
@@ -650,17 +396,21 @@ class Board(Habits):
 
     def best(self, depth: int) -> Optional[Tuple[Move, int]]:
         """The first legal move of greatest minimax value, 1 to 16 plies deep, and its value for the side to move: centipawns, or 30,000
-        less the plies to a mate. None where there is no legal move. Raises `ValueError` for another depth."""
-        if not 1 <= depth <= 16:
-            raise ValueError(f"a depth is 1 to 16 plies: {depth}")
-        move, value = c.CMove(), c_int32()
+        less the plies to a mate. None where there is no legal move. An exception that a signal raises, as Ctrl-C does, leaves it within some milliseconds, with the
+        board as before. Raises `ValueError` for another depth."""
+        depth = depth_of(depth)
+        move, value, visited = c.CMove(), c_int32(), c_uint64()
+
+        def search(nodes: int, stop: Any) -> int:
+            return int(c.lib.jatshegi_board_best_within(self._at, depth, nodes, stop, byref(move), byref(value), byref(visited)))
+
         with self._lock:
-            status = c.lib.jatshegi_board_best(self._at, depth, byref(move), byref(value))
+            status = stoppable(self, search)
         if status == c.NONE:
             return None
         if status:
             raise self._fail(status, "best")
-        return _SHOWN[bytes(move)], value.value
+        return SHOWN[bytes(move)], value.value
 
     def best_within(self, depth: int = 16, *, time: Optional[float] = None, nodes: Optional[int] = None) -> Optional[Best]:
         """The same at depths 1, 2, .. up to that one, as far as a time in seconds and a number of positions allow: what `best` answers at the deepest depth that
@@ -670,36 +420,30 @@ class Board(Habits):
         >>> Board("7k/8/6K1/8/8/8/8/R7 w - - 0 1").best_within(3, time=60)[:3]
         (Move.from_uci('a1a8'), 29999, 3)
         """
-        if not 1 <= depth <= 16:
-            raise ValueError(f"a depth is 1 to 16 plies: {depth}")
+        depth = depth_of(depth)
+        if time is not None and not isinstance(time, (int, float)):
+            raise TypeError(f"a time is a number of seconds, not below 0: {time!r}")
         if time is not None and not 0 <= time <= threading.TIMEOUT_MAX:
             raise ValueError(f"a time is a number of seconds, not below 0: {time}")
-        if nodes is not None and nodes < 0:
-            raise ValueError(f"a number of positions is not below 0: {nodes}")
-        most = _ANY_NUMBER if nodes is None else min(nodes, _ANY_NUMBER)
+        most = ANY_NUMBER if nodes is None else min(whole(nodes, "a number of positions is not below 0", 0), ANY_NUMBER)
         # The worker calls on the board in this thread's name, which has the lock until the worker has ended.
-        with self._lock, _Flag() as flag:
-            found: List[Best] = []
-            worker = _Worker(lambda: self._deepen(depth, most, flag, found))
-            try:
-                worker.start()
-                worker.ended.wait(time)
-            finally:
-                worker.end(flag)
+        found: List[Best] = []
+        with self._lock, Flag() as flag:
+            run(self, lambda: self._deepen(depth, most, flag, found), flag, time)
         return found[-1] if found else None
 
     # Searches deeper and deeper, until a search is abandoned; no other call is on the board meanwhile.
-    def _deepen(self, last: int, most: int, flag: _Flag, found: List[Best]) -> None:
+    def _deepen(self, last: int, most: int, flag: Flag, found: List[Best]) -> None:
         move, value, visited, all_visited = c.CMove(), c_int32(), c_uint64(), 0
         for depth in range(1, last + 1):
-            left = _ANY_NUMBER if depth == 1 else max(most - all_visited, 0)
+            left = ANY_NUMBER if depth == 1 else max(most - all_visited, 0)
             status = c.lib.jatshegi_board_best_within(self._at, depth, left, flag.theirs, byref(move), byref(value), byref(visited))
             if status in (c.NONE, c.ABANDONED):
                 return
             if status:
                 raise self._fail(status, "best")
             all_visited += visited.value
-            found.append(Best(_SHOWN[bytes(move)], value.value, depth, all_visited))
+            found.append(Best(SHOWN[bytes(move)], value.value, depth, all_visited))
 
     def search(self, depth: int) -> Iterator[Tuple[int, Move, int]]:
         """The same search in slices: one legal move after another is searched, and after each come how many are left, the best so far and its value.
@@ -711,8 +455,7 @@ class Board(Habits):
         ...         print(move.uci(), value)
         a1a8 29999
         """
-        if not 1 <= depth <= 16:
-            raise ValueError(f"a depth is 1 to 16 plies: {depth}")
+        depth = depth_of(depth)
         with self._lock:
             status = c.lib.jatshegi_search_start(self._at, depth)
             if status not in (c.OK, c.NONE):
@@ -722,16 +465,22 @@ class Board(Habits):
 
     # The slices of the search with that number, while no other is begun.
     def _slices(self, number: int) -> Iterator[Tuple[int, Move, int]]:
-        left, best, value = c_size_t(1), c.CMove(), c_int32()
+        left, best, value, visited = c_size_t(1), c.CMove(), c_int32(), c_uint64()
+
+        def search(nodes: int, stop: Any) -> int:
+            return int(c.lib.jatshegi_search_slice_within(self._at, nodes, stop, byref(left), byref(visited)))
+
         while left.value:
             with self._lock:
                 if number != self._searches:
                     return
-                self._call(c.lib.jatshegi_search_slice, "search", byref(left))
+                status = stoppable(self, search)
+                if status:
+                    raise self._fail(status, "search")
                 self._call(c.lib.jatshegi_search_best, "search", byref(best), byref(value))
                 if not left.value:
                     self._call(c.lib.jatshegi_search_end, "search")
-            yield left.value, _SHOWN[bytes(best)], value.value
+            yield left.value, SHOWN[bytes(best)], value.value
 
     # ---- the game
 
@@ -765,9 +514,16 @@ class Board(Habits):
 
     @marker.setter
     def marker(self, marker: str) -> None:
-        if marker not in _MARKERS:
+        if not isinstance(marker, str) or marker not in _MARKERS:
             raise ValueError(f"a game's end is one of {', '.join(_MARKERS)}: {marker!r}")
         self._call(c.lib.jatshegi_board_set_result, marker, _MARKERS.index(marker))
+
+    # The moves along the first children to the end; the cursor is there then.
+    def _main_line(self) -> List[Move]:
+        with self._lock:
+            self._made.clear()
+            self._call(c.lib.jatshegi_board_end, "end")
+            return self.move_stack
 
     # The bytes of the game in export form.
     def _game(self) -> bytes:
@@ -782,15 +538,16 @@ class Board(Habits):
         >>> Board().line("play e5")
         'refused 2 Illegal'
         """
+        text_of(line, "a line is a text")
         if "\n" in line or "\r" in line:
             raise ValueError("a line has no end of line in it")
         text = line.encode(self.encoding, "surrogateescape")
         with self._lock:
-            made, self._made = self._made, []
+            made, self._made[:] = self._made[:], []
             answer = self._shown(self._bytes(text)).rstrip("\n")
             # What is done is answered with `ok`; any other answer says something of the board, or is a refusal.
             if answer != "ok":
-                self._made = made
+                self._made[:] = made
         return answer
 
     # A text of the board's, read in its encoding.
@@ -821,6 +578,15 @@ class Board(Habits):
     def _status(self, function: Callable[..., int], *words: object) -> int:
         with self._lock:
             return function(self._at, *words)
+
+    def __eq__(self, other: object) -> bool:
+        """Whether the positions are the same (FIDE Laws 9.2.3), and the halfmove clock and the number of the move."""
+        if not isinstance(other, Board):
+            return NotImplemented
+        return self.epd() == other.epd() and (self.halfmove_clock, self.fullmove_number) == (other.halfmove_clock, other.fullmove_number)
+
+    # (it changes)
+    __hash__ = None  # type: ignore[assignment]
 
     # ---- pictures
 
@@ -870,5 +636,5 @@ def _restored(of: Type[_Board], encoding: str, text: bytes, path: bytes, made: T
         board._bytes(b"goto " + path.rstrip(b"\n"))
     if (board._game(), board._bytes(b"path")) != (text, path):
         raise Error("the board can't be copied: its game reads as another one")
-    board._made = list(made)
+    board._made[:] = made
     return board

@@ -6,7 +6,8 @@ from ctypes import byref, c_bool
 from typing import TYPE_CHECKING, Callable, Iterable, List, NamedTuple, Optional, Sequence, Tuple, TypeVar, Union
 
 from . import _library as c
-from ._board import Board, _numbers
+from ._board import Board
+from ._core import numbers_of
 from ._errors import Error
 from ._moves import Move
 
@@ -35,6 +36,8 @@ class Edits:
 
     def __init__(self, game: Game) -> None:
         self._game = game
+        # The tree as it is before the first edit.
+        game._children
         self._board = Board.from_game(game)
         # The node at the board's cursor, where it is known.
         self._cursor: Optional[Node] = game
@@ -184,7 +187,7 @@ class Edits:
         if isinstance(move, str):
             move = self._board.parse_san(move)
         san, added = self._board.san(move), c_bool()
-        self._board._call(c.lib.jatshegi_board_play, move, _numbers(move), byref(added))
+        self._board._call(c.lib.jatshegi_board_play, move, numbers_of(move), byref(added))
         if added.value:
             return _Step(san, True, -1)
         return _Step(san, False, int(self._board._bytes(b"path").rpartition(b".")[2]))

@@ -1,12 +1,15 @@
 """A session of the engine, driven by events."""
 from __future__ import annotations
 
+import ctypes
 import threading
 from ctypes import byref, c_bool, c_char, c_size_t, c_uint64
 from typing import Any, Callable, List, Optional, Tuple
 
 from . import _library as c
+from ._checks import text_of, whole
 from ._errors import EmptyBoardError, Error
+from ._stops import LentLock, stoppable
 
 
 class Engine:
@@ -26,7 +29,7 @@ class Engine:
 
     _slot: c.Slot
     _at: Any
-    _lock: threading.RLock
+    _lock: Any
 
     def __new__(cls) -> Engine:
         self = super().__new__(cls)
@@ -48,29 +51,42 @@ class Engine:
     def __reduce__(self) -> Tuple[Any, ...]:
         raise TypeError("a session of the engine has no copy: begin another one, and tell it the same lines")
 
+    # Whether another thread is on the session in the name of this one, which has the lock.
+    def _lend(self, is_lent: bool) -> None:
+        self._lock = LentLock(self._lock) if is_lent else self._lock.lock
+
     # The replies that an event has.
     def _replies(self, event: Callable[..., int], *words: object) -> List[str]:
         room, count = (c_char * c.MOST_REPLIES)(), c_size_t()
         with self._lock:
             _answered(event(self._at, *words, room, c.MOST_REPLIES, byref(count)))
-        return room.raw[: count.value].decode("utf-8", "surrogateescape").split("\n")[:-1]
+        return _lines(room, count)
 
     def line(self, line: str) -> List[str]:
         """The replies to a line, as 'go depth 5' or 'stop'."""
+        text_of(line, "a line is a text")
         if "\n" in line or "\r" in line:
             raise ValueError("a line has no end of line in it")
         text = line.encode("utf-8", "surrogateescape")
         return self._replies(c.lib.jatshegi_engine_line, text, len(text))
 
     def slice(self) -> List[str]:
-        """The replies once there was time to search one legal move more."""
-        return self._replies(c.lib.jatshegi_engine_slice)
+        """The replies once there was time to search one legal move more. An exception that a signal raises, as Ctrl-C does, leaves it, and the session is as before."""
+        room, count, searched, visited = (c_char * c.MOST_REPLIES)(), c_size_t(), c_bool(), c_uint64()
+
+        # (a slice that was abandoned has the status OK, and hasn't been made)
+        def search(nodes: int, stop: Any) -> int:
+            status = c.lib.jatshegi_engine_slice_within(self._at, nodes, stop, byref(searched), byref(visited), room, c.MOST_REPLIES, byref(count))
+            return status or (c.OK if searched.value else c.ABANDONED)
+
+        with self._lock:
+            _answered(stoppable(self, search))
+        return _lines(room, count)
 
     def moment(self, milliseconds: int) -> List[str]:
         """The replies once the clock reads so many milliseconds, from any moment on: a search whose time is over ends."""
-        if not 0 <= milliseconds < 1 << 64:
-            raise ValueError(f"a moment is a number of milliseconds, 0 to 2^64 - 1: {milliseconds}")
-        return self._replies(c.lib.jatshegi_engine_moment, milliseconds)
+        moment = whole(milliseconds, "a moment is a number of milliseconds, 0 to 2^64 - 1", 0, (1 << 64) - 1)
+        return self._replies(c.lib.jatshegi_engine_moment, moment)
 
     # One of the questions of the session.
     def _is(self, question: Callable[..., int]) -> bool:
@@ -104,6 +120,11 @@ class Engine:
             return None
         _answered(status)
         return left.value
+
+
+def _lines(room: "ctypes.Array[c_char]", count: c_size_t) -> List[str]:
+    """The replies in a room."""
+    return room.raw[: count.value].decode("utf-8", "surrogateescape").split("\n")[:-1]
 
 
 def _answered(status: int) -> None:

@@ -5,8 +5,9 @@ import re
 from typing import TYPE_CHECKING, Any, Dict, Iterable, Mapping, NamedTuple, Optional, Tuple
 
 from . import _library as c
-from ._moves import KING, SQUARE_NAMES, Move, _checked
-from ._pieces import Piece
+from ._checks import colour_of, one_of, square_of, whole
+from ._moves import QUEEN, SQUARE_NAMES, Move
+from ._pieces import BY_LETTER, Piece
 from ._sets import SquareSet
 from ._status import Outcome, Status
 
@@ -26,6 +27,11 @@ class Habits:
         fullmove_number: Any
 
         def piece_map(self) -> Dict[int, Piece]: ...
+        def _men(self) -> bytes: ...
+        def _attacks(self, which: int) -> int: ...
+        def has_kingside_castling_rights(self, colour: bool) -> bool: ...
+        def has_queenside_castling_rights(self, colour: bool) -> bool: ...
+        def __new__(cls, fen: str) -> Self: ...
         def san(self, move: Move) -> str: ...
         def _kinds(self, move: Move) -> int: ...
         def push(self, move: Move) -> None: ...
@@ -45,7 +51,8 @@ class Habits:
         >>> Board().piece_at(jatshegi.E1), Board().piece_at(jatshegi.E4)
         (Piece.from_symbol('K'), None)
         """
-        return self.piece_map().get(_checked(square))
+        letter = self._men()[square_of(square)]
+        return BY_LETTER[letter] if letter else None
 
     def piece_type_at(self, square: int) -> Optional[int]:
         """The kind of the man on the square, PAWN to KING, or None."""
@@ -63,12 +70,12 @@ class Habits:
         >>> [jatshegi.square_name(square) for square in Board().pieces(jatshegi.KNIGHT, jatshegi.BLACK)]
         ['b8', 'g8']
         """
-        wanted = Piece(piece_type, color)
-        return SquareSet(square for square, man in self.piece_map().items() if man == wanted)
+        wanted = ord(Piece(piece_type, color))
+        return SquareSet(square for square, letter in enumerate(self._men()) if letter == wanted)
 
     def king(self, color: bool) -> int:
         """The square of that side's king."""
-        return next(iter(self.pieces(KING, color)))
+        return self._men().index(b"K" if colour_of(color) else b"k")
 
     def set_piece_at(self, square: int, piece: Optional[Piece]) -> None:
         """Begins a new game from the position with that man on the square, or none. The castling rights that its kings and rooks still have stay, and the side to
@@ -79,7 +86,7 @@ class Habits:
         >>> board.fen()
         '4k3/8/8/8/8/8/P7/4K3 w - - 0 1'
         """
-        men: Dict[int, Optional[Piece]] = {**self.piece_map(), _checked(square): piece}
+        men: Dict[int, Optional[Piece]] = {**self.piece_map(), square_of(square): piece}
         self.set_piece_map({at: man for at, man in men.items() if man is not None})
 
     def remove_piece_at(self, square: int) -> Optional[Piece]:
@@ -91,10 +98,44 @@ class Habits:
 
     def set_piece_map(self, pieces: Mapping[int, Piece]) -> None:
         """Begins a new game from the position with those men alone, as `set_piece_at`."""
-        men = {_checked(square): Piece.from_symbol(piece) for square, piece in pieces.items()}
+        if not isinstance(pieces, Mapping):
+            raise TypeError(f"men are a mapping from squares to them: {pieces!r}")
+        men = {square_of(square): Piece.from_symbol(piece) for square, piece in pieces.items()}
         ranks = ("".join(men.get(8 * rank + file, "1") for file in range(8)) for rank in range(7, -1, -1))
         placement = re.sub("1+", lambda empty: str(len(empty[0])), "/".join(ranks))
         self.set_fen(" ".join([placement, *self.fen().split()[1:]]))
+
+    def board_fen(self) -> str:
+        """The men alone, the first field of the FEN.
+
+        >>> Board().board_fen()
+        'rnbqkbnr/pppppppp/8/8/8/8/PPPPPPPP/RNBQKBNR'
+        """
+        return self.fen().split()[0]
+
+    def has_castling_rights(self, color: bool) -> bool:
+        """Whether that side may still castle with a rook (FIDE Laws 3.8.2.1)."""
+        return self.has_kingside_castling_rights(color) or self.has_queenside_castling_rights(color)
+
+    def mirror(self) -> Self:
+        """A board as the other side would see it: the ranks turned round, the colours changed, and the side to move with them. It has no moves before it.
+
+        >>> Board("4k3/8/8/8/8/8/4P3/4K3 w - - 0 1").mirror().fen()
+        '4k3/4p3/8/8/8/8/8/4K3 b - - 0 1'
+        """
+        men, side, rights, target, *counters = self.fen().split()
+        turned = "/".join(men.swapcase().split("/")[::-1])
+        other = "-" if target == "-" else target[0] + str(9 - int(target[1]))
+        return type(self)(" ".join([turned, "b" if side == "w" else "w", rights.swapcase(), other, *counters]))
+
+    def attacks(self, square: int) -> SquareSet:
+        """The squares that the man on the square attacks (FIDE Laws 3.1 to 3.8); none where there is no man.
+
+        >>> [jatshegi.square_name(square) for square in Board().attacks(jatshegi.G1)]
+        ['e2', 'f3', 'h3']
+        """
+        color = self.color_at(square)
+        return SquareSet() if color is None else SquareSet(to for to in range(64) if self._attacks(to if color else 64 + to) >> square & 1)
 
     def is_attacked_by(self, color: bool, square: int) -> bool:
         """Whether a man of that colour attacks the square (FIDE Laws 3.1.2)."""
@@ -128,7 +169,7 @@ class Habits:
 
     def is_repetition(self, count: int = 3) -> bool:
         """Whether the position has come up that often in the game, this time included."""
-        return self.repetitions() >= count
+        return self.repetitions() >= whole(count, "a number of times is 1 or more", 1)
 
     def is_game_over(self, *, claim_draw: bool = False) -> bool:
         """Whether `outcome` says how the game ended."""
@@ -164,6 +205,30 @@ class Habits:
         return self.can_claim_threefold_repetition() or self.can_claim_fifty_moves()
 
     # ---- what a move is
+
+    def uci(self, move: Move) -> str:
+        """The move's text as UCI has it, as `move.uci()`."""
+        one_of(move, Move, "a move is a Move")
+        return move.uci()
+
+    def parse_uci(self, uci: str) -> Move:
+        """The legal move of a text as UCI has it. Raises `InvalidMoveError` and `IllegalMoveError`."""
+        move = Move.from_uci(uci)
+        self._kinds(move)
+        return move
+
+    def find_move(self, from_square: int, to_square: int, promotion: Optional[int] = None) -> Move:
+        """The legal move from a square to a square; a pawn becomes a queen on the last rank, where nothing else is named. Raises `IllegalMoveError`.
+
+        >>> Board("k7/7P/8/8/8/8/8/K7 w - -").find_move(jatshegi.H7, jatshegi.H8)
+        Move.from_uci('h7h8q')
+        """
+        move = Move(square_of(from_square), square_of(to_square), promotion)
+        queen = Move(from_square, to_square, QUEEN)
+        if promotion is None and queen in self.legal_moves:
+            return queen
+        self._kinds(move)
+        return move
 
     def is_capture(self, move: Move) -> bool:
         """Whether the legal move captures, also en passant. Raises `IllegalMoveError`.

@@ -6,6 +6,7 @@ import os
 from ctypes import POINTER, c_bool, c_char, c_char_p, c_int32, c_size_t, c_uint8, c_uint16, c_uint32, c_uint64, c_void_p
 
 OK, EMPTY, NO_MEMORY, ILLEGAL, AMBIGUOUS, FORM, TOO_LONG, FULL, AT_ROOT, ARGUMENT, NO_ROOM, NONE, NO_SUCH, BAD_COMMENT = range(14)
+MORE = 14
 NO_GAME, ABANDONED, TAG_NAME, TAG_OWN, TAG_VALUE = range(16, 21)
 
 # The status of a FEN's fault is its number and this; so is that of a game's.
@@ -70,7 +71,8 @@ def _found() -> str:
     raise ImportError(f"there is none of {', '.join(paths)}: install the package, or run tools/libraries in a clone of the repository")
 
 
-lib = ctypes.CDLL(_found())
+PATH = _found()
+lib = ctypes.CDLL(PATH)
 
 _slot, _number, _stop = POINTER(Slot), POINTER(c_uint32), POINTER(Stop)
 for _name, _types in {
@@ -78,6 +80,7 @@ for _name, _types in {
     "copy": [_slot, _slot],
     "set": [_slot, c_char_p, c_size_t],
     "load": [_slot, c_char_p, c_size_t, POINTER(c_size_t)],
+    "load_next": [_slot, c_void_p, c_size_t, c_bool, POINTER(c_size_t)],
     "fen": [_slot, POINTER(c_char), c_size_t, POINTER(c_size_t)],
     "epd": [_slot, POINTER(c_char), c_size_t, POINTER(c_size_t)],
     "position": [_slot, POINTER(CPosition)],
@@ -115,6 +118,7 @@ for _name, _types in {
     "delete": [_slot],
     "comment": [_slot, c_char_p, c_size_t],
     "annotate": [_slot, c_uint8],
+    "clear_annotations": [_slot],
     "answer": [_slot, c_char_p, c_size_t, POINTER(c_char), c_size_t, POINTER(c_size_t)],
     "pgn": [_slot, POINTER(c_char), c_size_t, POINTER(c_size_t)],
     "tag": [_slot, c_char_p, c_size_t, POINTER(c_char), c_size_t, POINTER(c_size_t)],
@@ -152,6 +156,7 @@ lib.jatshegi_game_read.restype = c_uint32
 lib.jatshegi_game_report.argtypes = [c_char_p, c_size_t, POINTER(CReport), POINTER(c_char), c_size_t, POINTER(c_size_t), POINTER(c_size_t)]
 lib.jatshegi_game_report.restype = c_uint32
 lib.jatshegi_game_pass.argtypes, lib.jatshegi_game_pass.restype = [c_void_p, c_size_t, POINTER(c_size_t)], c_uint32
+lib.jatshegi_game_next.argtypes, lib.jatshegi_game_next.restype = [c_void_p, c_size_t, c_bool, POINTER(c_size_t)], c_uint32
 lib.jatshegi_book_find.argtypes = [c_void_p, c_size_t, c_uint64, POINTER(c_size_t), POINTER(c_size_t)]
 lib.jatshegi_book_find.restype = None
 lib.jatshegi_board_free.argtypes, lib.jatshegi_board_free.restype = [_slot], None

@@ -2,8 +2,9 @@
 from __future__ import annotations
 
 from operator import index
-from typing import List, NamedTuple, Optional
+from typing import Any, List, NamedTuple, Optional, Tuple
 
+from ._checks import square_of, text_of, whole
 from ._errors import InvalidMoveError
 
 WHITE = True
@@ -24,26 +25,18 @@ _KINDS = {letter: kind for kind, letter in _LETTERS.items()}
 
 def square(file: int, rank: int) -> int:
     """The square on that file and rank, both 0 to 7."""
-    if not (0 <= file < 8 and 0 <= rank < 8):
-        raise ValueError(f"a file and a rank are 0 to 7: {file}, {rank}")
-    return 8 * rank + file
-
-
-def _checked(square: int) -> int:
-    """The number of a square. Raises `ValueError` for another one."""
-    if not 0 <= square < 64:
-        raise ValueError(f"a square is 0 to 63: {square}")
-    return square
+    what = "a file and a rank are 0 to 7"
+    return 8 * whole(rank, what, 0, 7) + whole(file, what, 0, 7)
 
 
 def square_file(square: int) -> int:
     """The square's file, 0 for a to 7 for h."""
-    return _checked(square) & 7
+    return square_of(square) & 7
 
 
 def square_rank(square: int) -> int:
     """The square's rank, 0 for the first to 7 for the eighth."""
-    return _checked(square) >> 3
+    return square_of(square) >> 3
 
 
 def square_name(square: int) -> str:
@@ -52,7 +45,7 @@ def square_name(square: int) -> str:
     >>> square_name(28)
     'e4'
     """
-    return SQUARE_NAMES[_checked(square)]
+    return SQUARE_NAMES[square_of(square)]
 
 
 def parse_square(name: str) -> int:
@@ -61,10 +54,10 @@ def parse_square(name: str) -> int:
     >>> parse_square("e4")
     28
     """
-    try:
-        return _NUMBERS[name]
-    except KeyError:
-        raise ValueError(f"a square is a1 to h8: {name!r}") from None
+    number = _NUMBERS.get(text_of(name, "a square's name is a text, a1 to h8"))
+    if number is None:
+        raise ValueError(f"a square is a1 to h8: {name!r}")
+    return number
 
 
 class _Parts(NamedTuple):
@@ -80,7 +73,10 @@ class Move(_Parts):
 
     def __new__(cls, from_square: int, to_square: int, promotion: Optional[int] = None) -> Move:
         """Raises `TypeError` for what is no whole number. Any whole numbers are a move, whose `uci()` is asked for where they are one of a board."""
-        return super().__new__(cls, index(from_square), index(to_square), None if promotion is None else index(promotion))
+        try:
+            return super().__new__(cls, index(from_square), index(to_square), None if promotion is None else index(promotion))
+        except TypeError:
+            raise TypeError(f"a move is of numbers, two squares and a kind or None: {from_square!r}, {to_square!r}, {promotion!r}") from None
 
     @classmethod
     def from_uci(cls, text: str) -> Move:
@@ -89,6 +85,7 @@ class Move(_Parts):
         >>> Move.from_uci("e7e8q").promotion == QUEEN
         True
         """
+        text_of(text, "a move's text is one, as e2e4")
         if len(text) in (4, 5) and text[:2] in _NUMBERS and text[2:4] in _NUMBERS and (len(text) == 4 or text[4] in _KINDS):
             return cls(_NUMBERS[text[:2]], _NUMBERS[text[2:4]], _KINDS[text[4]] if text[4:] else None)
         raise InvalidMoveError(f"a move from square to square is as e2e4 or e7e8q: {text!r}")
@@ -100,12 +97,36 @@ class Move(_Parts):
             raise InvalidMoveError(f"no move of a board: {self!r}")
         return SQUARE_NAMES[origin] + SQUARE_NAMES[target] + ("" if became is None else _LETTERS[became])
 
+    # By the two squares, then by the kind that a pawn becomes, none first.
+    def _order(self) -> Tuple[int, int, int]:
+        return self.from_square, self.to_square, self.promotion or 0
+
+    def __lt__(self, other: Any) -> bool:
+        if not isinstance(other, Move):
+            return NotImplemented
+        return self._order() < other._order()
+
+    def __le__(self, other: Any) -> bool:
+        if not isinstance(other, Move):
+            return NotImplemented
+        return self._order() <= other._order()
+
+    def __gt__(self, other: Any) -> bool:
+        if not isinstance(other, Move):
+            return NotImplemented
+        return self._order() > other._order()
+
+    def __ge__(self, other: Any) -> bool:
+        if not isinstance(other, Move):
+            return NotImplemented
+        return self._order() >= other._order()
+
     def __str__(self) -> str:
         return self.uci()
 
     def __repr__(self) -> str:
         origin, target, became = self
         try:
-            return f"Move.from_uci({SQUARE_NAMES[_checked(origin)] + SQUARE_NAMES[_checked(target)] + ('' if became is None else _LETTERS[became])!r})"
+            return f"Move.from_uci({SQUARE_NAMES[square_of(origin)] + SQUARE_NAMES[square_of(target)] + ('' if became is None else _LETTERS[became])!r})"
         except (ValueError, KeyError):
             return f"Move({origin}, {target}, {became})"

@@ -4,6 +4,7 @@ from __future__ import annotations
 from typing import TYPE_CHECKING, AbstractSet, Any, Callable, Iterable, Iterator, List, Optional, Sequence, Tuple, TypeVar, Union, cast, overload
 
 from ._board import Board
+from ._checks import one_of
 from ._errors import AmbiguousMoveError, IllegalMoveError, InvalidMoveError
 from ._moves import Move
 
@@ -383,8 +384,9 @@ class Node:
 
     def accept(self, visitor: BaseVisitor[_T]) -> _T:
         """Has the visitor see the move and all that follows, and returns its result. The variations beside the move are none of it."""
-        from ._visitors import walk
+        from ._visitors import BaseVisitor, walk
 
+        one_of(visitor, BaseVisitor, "a visitor is a BaseVisitor")
         assert self._parent is not None
         visitor.visit_encoding(self.game().encoding)
         walk(self, self._parent.board(), visitor)

@@ -3,6 +3,7 @@ from __future__ import annotations
 
 from typing import Dict
 
+from ._checks import colour_of, text_of, whole
 from ._moves import BISHOP, KING, KNIGHT, PAWN, QUEEN, ROOK
 
 _SYMBOLS = {PAWN: "P", KNIGHT: "N", BISHOP: "B", ROOK: "R", QUEEN: "Q", KING: "K"}
@@ -21,14 +22,13 @@ class Piece(str):
 
     def __new__(cls, piece_type: int, color: bool) -> Piece:
         """The man of that kind and colour. Raises `ValueError` for a number that is no kind's."""
-        if piece_type not in _SYMBOLS:
-            raise ValueError(f"a kind is PAWN (1) to KING (6): {piece_type!r}")
-        symbol = _SYMBOLS[piece_type]
-        return super().__new__(cls, symbol if color else symbol.lower())
+        symbol = _SYMBOLS[whole(piece_type, "a kind is PAWN (1) to KING (6)", PAWN, KING)]
+        return super().__new__(cls, symbol if colour_of(color) else symbol.lower())
 
     @classmethod
     def from_symbol(cls, symbol: str) -> Piece:
         """The man of a letter. Raises `ValueError` for another text."""
+        text_of(symbol, "a man's letter is a text, one of PNBRQK, small for Black")
         if symbol.upper() not in _KINDS or len(symbol) != 1:
             raise ValueError(f"a man's letter is one of PNBRQK, small for Black: {symbol!r}")
         return cls(_KINDS[symbol.upper()], symbol.isupper())
@@ -64,3 +64,6 @@ class Piece(str):
 
 # Each man once.
 MEN: Dict[str, Piece] = {letter: Piece.from_symbol(letter) for letter in _GLYPHS}
+
+# And by the byte of his letter.
+BY_LETTER: Dict[int, Piece] = {ord(letter): man for letter, man in MEN.items()}

@@ -3,7 +3,7 @@ from __future__ import annotations
 
 from typing import Any, Iterable, Iterator, List, MutableSet, Union
 
-from ._moves import _checked
+from ._checks import square_of, whole
 
 ALL = 0xFFFFFFFFFFFFFFFF
 
@@ -22,14 +22,14 @@ class SquareSet(MutableSet[int]):
         """The set of these squares, or of the squares whose bits are 1. Raises `ValueError` for what is no square's, or no word's."""
         self.mask: int = 0
         if isinstance(squares, int):
-            if not 0 <= squares <= ALL:
-                raise ValueError(f"a set of squares is a word of 64 bits: {squares}")
-            self.mask = squares
+            self.mask = whole(squares, "a set of squares is a word of 64 bits", 0, ALL)
         elif isinstance(squares, SquareSet):
             self.mask = squares.mask
-        else:
+        elif isinstance(squares, Iterable):
             for square in squares:
                 self.add(square)
+        else:
+            raise TypeError(f"a set of squares is of their numbers, or a word of 64 bits: {squares!r}")
 
     @classmethod
     def from_square(cls, square: int) -> "SquareSet":
@@ -62,11 +62,11 @@ class SquareSet(MutableSet[int]):
 
     def add(self, square: int) -> None:
         """Adds the square. Raises `ValueError` for a number that is no square's."""
-        self.mask |= 1 << _checked(square)
+        self.mask |= 1 << square_of(square)
 
     def discard(self, square: int) -> None:
         """Takes the square out, if it is there. Raises `ValueError` for a number that is no square's."""
-        self.mask &= ~(1 << _checked(square))
+        self.mask &= ~(1 << square_of(square))
 
     def clear(self) -> None:
         """Takes all squares out."""

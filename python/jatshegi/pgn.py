@@ -18,19 +18,23 @@ Games are bytes. They are read in UTF-8, and a game whose bytes are none in ISO 
 """
 from __future__ import annotations
 
+import contextlib
 import ctypes
+import importlib
 import os
-import re
+import sys
 import threading
 import weakref
-from ctypes import byref, c_size_t, c_void_p
-from typing import IO, Any, Callable, Dict, Iterator, List, MutableMapping, NamedTuple, Optional, Tuple, TypeVar, Union
+from ctypes import byref, c_char, c_size_t, c_void_p
+from typing import IO, Any, Callable, Dict, Iterator, List, MutableMapping, NamedTuple, Optional, Tuple, TypeVar, Union, cast
 
 from . import _library as c
+from . import _texts
 from ._board import Board, _known
+from ._checks import one_of
 from ._edits import EDITING, Edits
 from ._errors import InvalidGameError
-from ._moves import BLACK, WHITE
+from ._moves import BLACK, WHITE, Move
 from ._nodes import Nags, Node
 from ._status import Status
 from ._visitors import SKIP, BaseVisitor, SkipType, StringExporter, walk
@@ -66,10 +70,6 @@ _FAULTS = [
 # The tags of a game's start.
 _STARTS = ("FEN", "SetUp")
 _MARKERS = ("*", "1-0", "0-1", "1/2-1/2")
-_TAG = re.compile(r'\[(\w+) "((?:[^"\\]|\\.)*)"\]\n')
-_ESCAPED = re.compile(r"\\(.)")
-_WORD = re.compile(r"\{([^}]*)\}|([()])|\$(\d+)|(\d+)\.+|(1-0|0-1|1/2-1/2|\*)|([^\s(){}]+)")
-
 
 class Headers(MutableMapping[str, str]):
     """The tags of a game by their names, as the game has them at each moment. They can be set and taken out (PGN 8.1).
@@ -201,7 +201,7 @@ class Game(Node):
     1. Nf3 d5 (1... Nf6 {as often}) 1-0
     """
 
-    __slots__ = ("_data", "_edits", "_encoding", "_result", "_tags", "_text")
+    __slots__ = ("_data", "_edits", "_encoding", "_marker", "_nodes", "_said", "_tags", "_text")
 
     def __init__(self, text: Union[str, bytes] = "*") -> None:
         """The first game of a text, as `read_game` has it; one without moves where no text is given. Raises `InvalidGameError`, also where no game is there."""
@@ -222,21 +222,80 @@ class Game(Node):
         >>> game.headers["White"], [node.san for node in game.mainline()]
         ('Réti', ['e4'])
         """
+        one_of(board, Board, "a game is made from a Board")
         game = cls.__new__(cls)
         game._begin(board._game(), board.encoding)
         return game
 
-    # From bytes in export form.
+    # From bytes in export form. The tags and the tree are made out when they are asked for; so are the bytes and the text of a game that is edited.
     def _begin(self, data: bytes, encoding: Optional[str]) -> None:
-        super().__init__()
-        # Of a game that is edited the bytes, the text and the tags are made out when they are asked for.
+        self._san = self._parent = None
+        self._nags = ()
+        self._edits: Optional[Edits] = None
+        self._tags: Optional[Dict[str, str]] = None
         self._data: Optional[bytes] = data
         self._text: Optional[str]
         self._text, self._encoding = _decoded(data, encoding)
-        self._edits: Optional[Edits] = None
-        self._tags: Optional[Dict[str, str]]
-        self._tags, at = _tags_of(self._text)
-        self._result = _tree(self, self._text, at)
+        # The children, the comment and the marker, once they are made out.
+        self._nodes: Optional[List[Node]] = None
+        self._said = self._marker = ""
+
+    # Makes out the tree, once.
+    def _grown_tree(self) -> List[Node]:
+        with EDITING:
+            if self._nodes is None:
+                top = Node()
+                self._marker = _tree(top, self, bytes(self))
+                self._said, self._nodes = top._comment, top._children
+            return self._nodes
+
+    # (a root keeps these elsewhere than other nodes, so that they are made out when they are asked for)
+    @property
+    def _children(self) -> List[Node]:
+        nodes = self._nodes
+        return self._grown_tree() if nodes is None else nodes
+
+    @_children.setter
+    def _children(self, nodes: List[Node]) -> None:
+        self._nodes = nodes
+
+    @property
+    def _comment(self) -> str:
+        self._children
+        return self._said
+
+    @_comment.setter
+    def _comment(self, comment: str) -> None:
+        self._children
+        self._said = comment
+
+    @property
+    def _result(self) -> str:
+        return self._marker if self._nodes is not None else bytes(self).split()[-1].decode()
+
+    @_result.setter
+    def _result(self, marker: str) -> None:
+        self._children
+        self._marker = marker
+
+    def mainline_moves(self) -> Iterator[Move]:
+        """The moves of the main line. The library makes them out all at once, without the tree.
+
+        >>> [move.uci() for move in jatshegi.pgn.read_game("1. e4 e5 (1... c5) 2. Nf3 *").mainline_moves()]
+        ['e2e4', 'e7e5', 'g1f3']
+        """
+        return iter(Board.from_game(self)._main_line())
+
+    def mainline_sans(self) -> List[str]:
+        """Their texts in standard algebraic notation, without the tree.
+
+        >>> jatshegi.pgn.read_game("1. e4 {best by test} e5 (1... c5 (1... e6) 2. Nf3) 2. Nf3 *").mainline_sans()
+        ['e4', 'e5', 'Nf3']
+        """
+        data = bytes(self)
+        sans = _texts.words(data, _texts.movetext(data), True)
+        sans.pop()
+        return cast(List[str], sans)
 
     # What edits it, from the first edit on.
     def _edits_of(self) -> Edits:
@@ -261,8 +320,7 @@ class Game(Node):
         tags = self._tags
         if tags is None:
             with EDITING:
-                tags, _ = _tags_of(str(self))
-                self._tags = tags
+                tags = self._tags = _texts.tags(bytes(self), self._encoding)
         return tags
 
     @property
@@ -303,6 +361,7 @@ class Game(Node):
         >>> print(str(game).splitlines()[-2])
         20... Kd7 *
         """
+        one_of(board, (str, Board), "a game begins in the position of a Board, or of a FEN")
         self._edits_of().begin(board if isinstance(board, str) else board.fen())
 
     def board(self, node: Optional[Node] = None) -> Board:
@@ -313,10 +372,12 @@ class Game(Node):
         >>> game.board(last).outcome().result()
         '0-1'
         """
+        one_of(node, (Node, type(None)), "a game's board is at a Node, or at None")
         return super().board() if node is None or node is self else node.board()
 
     def accept(self, visitor: BaseVisitor[_T]) -> _T:
         """Has the visitor see the whole game, and returns its result."""
+        one_of(visitor, BaseVisitor, "a visitor is a BaseVisitor")
         visitor.visit_encoding(self._encoding)
         if visitor.begin_game() is not SKIP:
             for name, value in self.headers.items():
@@ -394,37 +455,25 @@ class Game(Node):
         return f"<Game {self.headers.get('White', '?')} - {self.headers.get('Black', '?')}, {self.result}>"
 
 
-def _tags_of(text: str) -> Tuple[Dict[str, str], int]:
-    """The tags of a text in export form, and where they end."""
-    tags, at = {}, 0
-    for tag in iter(lambda: _TAG.match(text, at), None):
-        tags[tag[1]] = _ESCAPED.sub(r"\1", tag[2])
-        at = tag.end()
-    return tags, at
-
-
-def _tree(root: Node, text: str, at: int) -> str:
-    """Puts the tree of the movetext from there on below a root. The marker at its end."""
-    node, result = root, "*"
-    left: List[Node] = []
-    for comment, bracket, nag, number, marker, san in _WORD.findall(text, at):
-        if san:
-            child = Node(san, node)
+def _tree(top: Node, root: Game, data: bytes) -> str:
+    """Puts the tree of a game in export form below a node, which stands for the root, and the comment of that. The marker at its end."""
+    node, left = top, []
+    *words, marker = _texts.words(data, _texts.movetext(data), False)
+    for word in words:
+        if isinstance(word, bytes):
+            node._comment = " ".join(word.decode(root._encoding, "surrogateescape").split("\n"))
+        elif word == "(":
+            left.append(node)
+            node = top if node._parent is root else node._parent  # type: ignore[assignment]
+        elif word == ")":
+            node = left.pop()
+        elif word[0] == "$":
+            node._nags += (int(word[1:]),)
+        else:
+            child = Node(word, root if node is top else node)
             node._children.append(child)
             node = child
-        elif bracket == "(":
-            left.append(node)
-            assert node._parent is not None
-            node = node._parent
-        elif bracket:
-            node = left.pop()
-        elif nag:
-            node._nags += (int(nag),)
-        elif marker:
-            result = marker
-        elif not number:
-            node._comment = " ".join(comment.split("\n"))
-    return result
+    return str(marker)
 
 
 def _fault(status: int, place: int) -> Exception:
@@ -434,17 +483,6 @@ def _fault(status: int, place: int) -> Exception:
     if status == c.NO_GAME:
         return InvalidGameError(place, 6, "there is no game")
     return InvalidGameError(place, status - c.PGN, _FAULTS[status - c.PGN - 1])
-
-
-def _export_at(address: int, length: int, room: int) -> Tuple[int, bytes, int]:
-    """The status, the game in export form and the bytes taken of the text at an address."""
-    while True:
-        game = ctypes.create_string_buffer(room)
-        count, used = c_size_t(), c_size_t()
-        status = c.lib.jatshegi_game_read(address, length, game, room, byref(count), byref(used))
-        if status != c.NO_ROOM:
-            return status, game.raw[: count.value], used.value
-        room = count.value
 
 
 # No answer about a game hangs on bytes that are further from its beginning, with three of a byte order mark; and how many are read at a time.
@@ -475,6 +513,8 @@ class _Texts:
         self._data, self._read, self._lock = data, read, threading.Lock()
         # Where the next game is looked for, and how many bytes came before those that are kept.
         self._at = self._before = 0
+        # Room for an export form.
+        self._room = (c_char * 16384)()
 
     # Reads more, at least as much as is kept, so that no byte is looked at often.
     def _more(self) -> None:
@@ -500,12 +540,16 @@ class _Texts:
         while True:
             while self._read and (len(self._data) - self._at <= _DECIDED or self._data.endswith(_PARTS_OF_A_MARK)):
                 self._more()
-            status, game, used = _export_at(*self._place(), 4096)
+            count, used = c_size_t(), c_size_t()
+            status = c.lib.jatshegi_game_read(*self._place(), self._room, len(self._room), byref(count), byref(used))
             if status == c.OK:
-                self._at += used
-                return game
+                self._at += used.value
+                return ctypes.string_at(self._room, count.value)
+            if status == c.NO_ROOM:
+                self._room = (c_char * (2 * count.value))()
+                continue
             if status != c.NO_GAME:
-                raise self._passing(status, used)
+                raise self._passing(status, used.value)
             # Only whitespace is there.
             if self._read is None:
                 self._at = len(self._data)
@@ -569,7 +613,7 @@ def read_game(source: Union[str, bytes, IO[Any]], *, encoding: Optional[str] = N
     >>> jatshegi.pgn.read_game("1. e5 *")
     Traceback (most recent call last):
     ...
-    jatshegi._errors.InvalidGameError: no game: at byte 3, this names no legal move, or more than one
+    jatshegi.InvalidGameError: no game: at byte 3, this names no legal move, or more than one
     >>> import io
     >>> with io.StringIO("1. e4 * 1. d4 *") as file:
     ...     while game := jatshegi.pgn.read_game(file):
@@ -599,11 +643,31 @@ def read_headers(source: Union[str, bytes, IO[Any]], *, encoding: Optional[str] 
     return None if game is None else game.headers.copy()
 
 
+# How files begin that were packed, and the module that unpacks them.
+_PACKED = {b"\x1f\x8b": "gzip", b"BZh": "bz2", b"\xfd7zXZ\0": "lzma"}
+
+
+@contextlib.contextmanager
+def _opened(path: Union[str, "os.PathLike[str]"]) -> Iterator[IO[Any]]:
+    """The file of that path, unpacked where it was packed; it is closed afterwards."""
+    if not isinstance(path, (str, os.PathLike)):
+        raise TypeError(f"games are read from bytes, an open file or a path: {path!r}")
+    with contextlib.ExitStack() as stack:
+        file = sys.stdin.buffer if path == "-" else stack.enter_context(open(path, "rb"))
+        # (a buffer's own call: what it shows is still to be read)
+        first = file.peek(6) if hasattr(file, "peek") else b""
+        for mark, module in _PACKED.items():
+            if first.startswith(mark):
+                file = stack.enter_context(importlib.import_module(module).open(file))
+        yield file
+
+
 def games(
     source: Union[str, bytes, "os.PathLike[str]", IO[Any]], bad: Optional[Callable[[InvalidGameError], object]] = None, *, encoding: Optional[str] = None
 ) -> Iterator[Game]:
     """The games of a file, open or by its path, or of bytes, one after another, each read in the encoding that is named, or as `read_game` does. A file is
-    read by pieces of 2 MiB, so one of any size takes little memory, and it is open meanwhile.
+    read by pieces of 2 MiB, so one of any size takes little memory, and it is open meanwhile. The path `-` is the standard input. By a path a file that was
+    packed by gzip, bzip2 or xz, as its first bytes say, is unpacked as it is read.
 
     A game that can't be read raises `InvalidGameError`. With `bad`, that is called with it instead, and reading goes on at the next section of tags.
 
@@ -623,5 +687,10 @@ def games(
         for text in _exports(_Texts(b"", pieces), bad):
             yield _game(text, "utf-8" if pieces.is_text else encoding)
     else:
-        with open(source, "rb") as file:
+        with _opened(source) as file:
             yield from games(file, bad, encoding=encoding)
+
+# Each class shows under the name by which it is found here.
+for _name in __all__:
+    if isinstance(globals()[_name], type) and globals()[_name].__module__ != "jatshegi":
+        globals()[_name].__module__ = __name__

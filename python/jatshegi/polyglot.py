@@ -18,7 +18,8 @@ from types import TracebackType
 from typing import Iterator, NamedTuple, Optional, Type, Union
 
 from . import _library as c
-from ._board import _SHOWN, Board
+from ._board import Board
+from ._checks import one_of, whole
 from ._moves import Move
 
 __all__ = ["Entry", "Reader", "open_reader", "zobrist_hash"]
@@ -43,6 +44,7 @@ def zobrist_hash(board: Board) -> int:
     >>> hex(zobrist_hash(Board()))
     '0x463b96181691fc9c'
     """
+    one_of(board, Board, "a key is that of a Board")
     return board.polyglot_key()
 
 
@@ -51,6 +53,7 @@ class Reader:
 
     def __init__(self, filename: Union[str, "os.PathLike[str]"]) -> None:
         """Raises `OSError` where there is no such file."""
+        one_of(filename, (str, os.PathLike), "a book has a path")
         with open(filename, "rb") as file:
             size = os.fstat(file.fileno()).st_size
             # (nothing can be mapped of an empty file; a private mapping may be handed to the library, which only reads it)
@@ -76,6 +79,8 @@ class Reader:
 
     def find_all(self, board: Board, *, minimum_weight: int = 1) -> Iterator[Entry]:
         """The position's entries of at least that weight, in the order of the book; those that stand for no legal move are left out."""
+        one_of(board, Board, "a book is asked for the position of a Board")
+        whole(minimum_weight, "a weight is a whole number", -(1 << 63))
         key, first, count = board.polyglot_key(), c_size_t(), c_size_t()
         c.lib.jatshegi_book_find(self._bytes, self._size, key, byref(first), byref(count))
         found = [board._booked(self._bytes, self._size, place) for place in range(first.value, first.value + count.value)]

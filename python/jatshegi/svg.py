@@ -10,11 +10,12 @@ A notebook shows a board's picture by itself. The men are those of the page for 
 from __future__ import annotations
 
 import math
-from typing import Dict, Iterable, List, Mapping, NamedTuple, Optional, Tuple, Union
+from typing import Any, Dict, Iterable, List, Mapping, NamedTuple, Optional, Tuple, Union
 from xml.sax.saxutils import quoteattr
 
 from ._board import Board
-from ._moves import SQUARE_NAMES, WHITE, Move, _checked
+from ._checks import colour_of, one_of, square_of, text_of, whole
+from ._moves import SQUARE_NAMES, WHITE, Move
 from ._pieces import Piece
 
 __all__ = ["Arrow", "board", "piece"]
@@ -70,19 +71,19 @@ def piece(piece: Piece, size: Optional[int] = None) -> str:
     >>> jatshegi.svg.piece(jatshegi.Piece.from_symbol("R"), size=40).count("<path")
     3
     """
-    return f'<svg xmlns="http://www.w3.org/2000/svg" viewBox="0 0 40 40"{_sized(size)}>{_man(piece)}</svg>'
+    return f'<svg xmlns="http://www.w3.org/2000/svg" viewBox="0 0 40 40"{_sized(size)}>{_man(Piece.from_symbol(piece))}</svg>'
 
 
 def _sized(size: Optional[int]) -> str:
     if size is None:
         return ""
-    if size <= 0:
-        raise ValueError(f"a picture is at least a pixel wide: {size}")
+    size = whole(size, "a picture is a number of pixels wide, at least 1", 1)
     return f' width="{size}" height="{size}"'
 
 
 # The colours with the caller's in their places.
 def _colours(colors: Mapping[str, str]) -> Dict[str, str]:
+    one_of(colors, Mapping, "colours are a mapping from their names")
     wrong = [name for name in colors if name not in _COLOURS]
     if wrong:
         raise ValueError(f"no part of a picture has the colour {wrong[0]!r}: {', '.join(_COLOURS)}")
@@ -91,7 +92,7 @@ def _colours(colors: Mapping[str, str]) -> Dict[str, str]:
 
 # An arrow's or a ring's part of the picture.
 def _arrow(arrow: Arrow, at: Dict[int, Tuple[float, float]], colours: Mapping[str, str]) -> str:
-    (x1, y1), (x2, y2) = at[_checked(arrow.tail)], at[_checked(arrow.head)]
+    (x1, y1), (x2, y2) = at[square_of(arrow.tail)], at[square_of(arrow.head)]
     x1, y1, x2, y2 = (it + _SIDE / 2 for it in (x1, y1, x2, y2))
     colour = quoteattr(colours.get(f"arrow {arrow.color}", arrow.color))
     if arrow.tail == arrow.head:
@@ -106,6 +107,36 @@ def _arrow(arrow: Arrow, at: Dict[int, Tuple[float, float]], colours: Mapping[st
     return (
         f'<g opacity=".72"><line x1="{x1:.1f}" y1="{y1:.1f}" x2="{x0:.1f}" y2="{y0:.1f}" stroke={colour} stroke-width="{_SIDE * 0.2:g}" stroke-linecap="butt"/>'
         f'<polygon points="{" ".join(f"{x:.1f},{y:.1f}" for x, y in corners)}" fill={colour}/></g>'
+    )
+
+
+# The colours, where the words of a picture are such as it takes.
+def _checked(board: Any, orientation: Any, lastmove: Any, fill: Any, colors: Any) -> Dict[str, str]:
+    if board is not None:
+        one_of(board, Board, "a picture is of a Board, or of None")
+    if lastmove is not None:
+        one_of(lastmove, Move, "the last move is a Move, or None")
+        square_of(lastmove.from_square), square_of(lastmove.to_square)
+    colour_of(orientation)
+    one_of(fill, Mapping, "the squares that are filled are a mapping to colours")
+    for colour in (*fill.values(), *(colors.values() if isinstance(colors, Mapping) else ())):
+        text_of(colour, "a colour of a picture is a text, as '#ffce9e'")
+    return _colours(colors)
+
+
+# Where the picture of a square begins.
+def _corner(square: int, orientation: bool, margin: int) -> Tuple[int, int]:
+    file, rank = square & 7, square >> 3
+    x, y = (file, 7 - rank) if orientation == WHITE else (7 - file, rank)
+    return x * _SIDE + margin, y * _SIDE + margin
+
+
+# What lies below a king in check.
+def _glow(colour: str) -> str:
+    stop = quoteattr(colour)
+    return (
+        f'<defs><radialGradient id="check"><stop offset="0" stop-color={stop}/><stop offset=".5" stop-color={stop}/>'
+        f'<stop offset="1" stop-color={stop} stop-opacity="0"/></radialGradient></defs>'
     )
 
 
@@ -131,27 +162,23 @@ def board(
     >>> picture.count("<rect"), picture.count("<line")
     (65, 1)
     """
-    colours = _colours(colors)
+    colours = _checked(board, orientation, lastmove, fill, colors)
     men = {} if board is None else board.piece_map()
-    filled, crossed = {_checked(it): colour for it, colour in fill.items()}, {_checked(it) for it in squares}
+    filled, crossed = {square_of(it): colour for it, colour in fill.items()}, {square_of(it) for it in squares}
     last = set() if lastmove is None else {lastmove.from_square, lastmove.to_square}
     margin = _MARGIN if coordinates else 0
     full = 8 * _SIDE + 2 * margin
     at: Dict[int, Tuple[float, float]] = {}
     parts = [f'<svg xmlns="http://www.w3.org/2000/svg" viewBox="0 0 {full} {full}"{_sized(size)}><rect width="{full}" height="{full}" fill={quoteattr(colours["margin"])}/>']
-    if check is not None:
-        parts.append(
-            f'<defs><radialGradient id="check"><stop offset="0" stop-color={quoteattr(colours["check"])}/><stop offset=".5" stop-color={quoteattr(colours["check"])}/>'
-            f'<stop offset="1" stop-color={quoteattr(colours["check"])} stop-opacity="0"/></radialGradient></defs>'
-        )
+    checked = None if check is None else square_of(check)
+    if checked is not None:
+        parts.append(_glow(colours["check"]))
     for square in range(64):
-        file, rank = square & 7, square >> 3
-        x, y = (file, 7 - rank) if orientation == WHITE else (7 - file, rank)
-        at[square] = left, top = x * _SIDE + margin, y * _SIDE + margin
-        shade = "square light" if (file ^ rank) & 1 else "square dark"
+        at[square] = left, top = _corner(square, orientation, margin)
+        shade = "square light" if (square ^ square >> 3) & 1 else "square dark"
         colour = filled.get(square, colours[f"{shade} lastmove" if square in last else shade])
         parts.append(f'<rect x="{left}" y="{top}" width="{_SIDE}" height="{_SIDE}" fill={quoteattr(colour)}><title>{SQUARE_NAMES[square]}</title></rect>')
-        if check is not None and square == _checked(check):
+        if square == checked:
             parts.append(f'<circle cx="{left + _SIDE // 2}" cy="{top + _SIDE // 2}" r="{_SIDE // 2}" fill="url(#check)"/>')
         if square in men:
             parts.append(f'<g transform="translate({left} {top})">{_man(men[square])}</g>')
