@@ -1,0 +1,204 @@
+export type Color = 'w' | 'b';
+export type PieceSymbol = 'p' | 'n' | 'b' | 'r' | 'q' | 'k';
+/** `a1` to `h8`. */
+export type Square = `${'a' | 'b' | 'c' | 'd' | 'e' | 'f' | 'g' | 'h'}${1 | 2 | 3 | 4 | 5 | 6 | 7 | 8}`;
+export interface Piece { type: PieceSymbol; color: Color }
+export type Status = 'mate' | 'stalemate' | 'dead' | 'fivefold' | 'seventyfive' | 'play';
+export type Claim = 'threefold' | 'fifty';
+/** For the side to move: centipawns, or in how many of its moves it mates (below 0: is mated by the other's). */
+export type Score = { cp: number } | { mate: number };
+/** The text of a move, standard or long algebraic, or its squares. */
+export type MoveLike = string | { from: string; to: string; promotion?: string };
+export interface Place { byte: number; line: number; column: number }
+export type Result = '*' | '1-0' | '0-1' | '1/2-1/2';
+
+export declare const DEFAULT_POSITION: string;
+export declare const WHITE: 'w';
+export declare const BLACK: 'b';
+export declare const PAWN: 'p';
+export declare const KNIGHT: 'n';
+export declare const BISHOP: 'b';
+export declare const ROOK: 'r';
+export declare const QUEEN: 'q';
+export declare const KING: 'k';
+export declare const SEVEN_TAG_ROSTER: readonly string[];
+export declare const SQUARES: readonly Square[];
+
+/** Begins with the module's bytes, or with what WebAssembly compiled of them. The package itself does it, the entry `jatshegi/core` doesn't. */
+export declare function start(source: BufferSource | WebAssembly.Module): void;
+/** Whether a FEN spells a position. */
+export declare function validateFen(fen: string): { ok: true } | { ok: false; code: string; error: string };
+/** The games of a whole text. A bad game is thrown, or told to `onFault`, and reading goes on after it. */
+export declare function games(source: Piecewise, options?: { onFault?: (fault: Fault) => void }): Generator<Game>;
+/** The games of a stream, as its bytes come. */
+export declare function readGames(source: Source, options?: { onFault?: (fault: Fault) => void }): AsyncGenerator<Game>;
+export type Piecewise = string | ArrayBufferView | ArrayBuffer;
+export type Source = Piecewise | AsyncIterable<Piecewise> | Iterable<Piecewise> | ReadableStream<Uint8Array> | Blob | Response;
+
+/** What is refused; nothing has changed. */
+export declare class ChessError extends Error {
+  constructor(code: string, message: string, more?: { number?: number | null; place?: Place | null });
+  /** The refusal's name, as `Illegal`. */
+  readonly code: string;
+  /** The board's number of it, or the fault's. */
+  readonly number: number | null;
+  /** Where in the text: the byte from 0, the line and the column from 1. */
+  readonly place: Place | null;
+}
+export type Fault = ChessError & { index: number; place: Place };
+
+export declare class Move {
+  readonly color: Color;
+  readonly from: Square;
+  readonly to: Square;
+  readonly piece: PieceSymbol;
+  readonly captured?: PieceSymbol;
+  readonly promotion?: PieceSymbol;
+  /** `n`, `b` (a pawn's two squares), `e` (en passant), `c`, `k`, `q`; with `p` after it for a promotion. */
+  readonly flags: string;
+  readonly san: string;
+  readonly lan: string;
+  readonly before: string;
+  readonly after: string;
+  isCapture(): boolean;
+  isPromotion(): boolean;
+  isEnPassant(): boolean;
+  isKingsideCastle(): boolean;
+  isQueensideCastle(): boolean;
+  isBigPawn(): boolean;
+  toString(): string;
+}
+
+/** A node of a game's tree as it was when it was asked for. */
+export declare class Node {
+  private constructor();
+  readonly parent: Node | null;
+  /** Which child of its parent it is, from 0. */
+  readonly index: number;
+  /** The text of its move; null for the root. */
+  readonly san: string | null;
+  readonly nags: number[];
+  readonly comment: string;
+  readonly children: Node[];
+  readonly isRoot: boolean;
+  /** Child numbers from 0 from the root, separated by periods; `-` for the root. */
+  readonly path: string;
+  /** The nodes from the first move to this one. */
+  line(): Node[];
+  /** The nodes of the main line after this one. */
+  mainline(): Node[];
+  /** All nodes below this one. */
+  [Symbol.iterator](): Iterator<Node>;
+}
+
+/** What the Laws say of a game's main line. A ply is a number of moves made; null is what never happens. */
+export interface Report {
+  plies: number;
+  result: Result;
+  status: Status;
+  winner: Color | null;
+  /** The first ply at which the game is over, and why. */
+  over: number | null;
+  why: Status | null;
+  /** The first ply at which a draw may be claimed. */
+  threefold: number | null;
+  fifty: number | null;
+  /** The most often a position has come up. */
+  repetitions: number;
+  /** The most plies in a row without a capture or a pawn's move. */
+  quiet: number;
+  /** Whether the result agrees with the board. */
+  agrees: boolean;
+  /** The FEN of the last position. */
+  fen: string;
+}
+
+export declare class Game {
+  private constructor();
+  /** The export form, as `chess pgn` writes it. */
+  readonly bytes: Uint8Array;
+  /** Which game of the text it is, from 0, bad ones counted. */
+  readonly index: number;
+  /** Where its bytes begin, white space before it among them, and how many they are. */
+  readonly place: number;
+  readonly length: number;
+  pgn(): string;
+  getHeaders(): Record<string, string>;
+  root(): Node;
+  moves(): string[];
+  report(): Report;
+}
+
+export declare class Chess {
+  constructor(fen?: string, options?: object);
+  /** The board's answer to a line as `chess board` writes it. */
+  line(text: string): string;
+  fen(): string;
+  load(fen: string, options?: { preserveHeaders?: boolean }): void;
+  reset(options?: { preserveHeaders?: boolean }): void;
+  clear(options?: { preserveHeaders?: boolean }): void;
+  turn(): Color;
+  moveNumber(): number;
+  get(square: string): Piece | undefined;
+  put(piece: Piece, square: string): boolean;
+  remove(square: string): Piece | undefined;
+  board(): ({ square: Square; type: PieceSymbol; color: Color } | null)[][];
+  ascii(): string;
+  findPiece(piece: Piece): Square[];
+  squareColor(square: string): 'light' | 'dark';
+  getCastlingRights(color: Color): { k: boolean; q: boolean };
+  setCastlingRights(color: Color, rights: { k?: boolean; q?: boolean }): boolean;
+  setTurn(color: Color): boolean;
+  moves(options?: { verbose?: false; square?: string; piece?: PieceSymbol }): string[];
+  moves(options: { verbose: true; square?: string; piece?: PieceSymbol }): Move[];
+  lans(): string[];
+  move(move: MoveLike, options?: { strict?: boolean }): Move;
+  isLegal(move: MoveLike): boolean;
+  undo(): Move | null;
+  history(options?: { verbose?: false }): string[];
+  history(options: { verbose: true }): Move[];
+  status(): Status;
+  claims(move?: MoveLike): Claim[];
+  repetitions(): number;
+  checks(): Square[];
+  isCheck(): boolean;
+  inCheck(): boolean;
+  isCheckmate(): boolean;
+  isStalemate(): boolean;
+  isInsufficientMaterial(): boolean;
+  isThreefoldRepetition(): boolean;
+  isDrawByFiftyMoves(): boolean;
+  isDraw(): boolean;
+  isGameOver(): boolean;
+  counts(color: Color): Record<Square, number>;
+  isAttacked(square: string, color: Color): boolean;
+  attackers(square: string, color?: Color): Square[];
+  evaluate(): number;
+  best(depth: number): { move: Move; score: Score } | null;
+  search(depth: number, options?: { signal?: AbortSignal }): AsyncGenerator<{ depth: number; move: Move; score: Score }>;
+  root(): Node;
+  node(): Node;
+  goto(node: Node | string): void;
+  fenAt(node: Node | string): string;
+  back(): boolean;
+  forward(child?: number): boolean;
+  toStart(): void;
+  toEnd(): void;
+  promoteVariation(): void;
+  deleteVariation(): void;
+  addNag(nag: number): void;
+  getNags(): number[];
+  getComment(): string | undefined;
+  setComment(text: string): void;
+  removeComment(): string | undefined;
+  getComments(): { fen: string; comment: string }[];
+  removeComments(): { fen: string; comment: string }[];
+  pgn(options?: { newline?: string }): string;
+  pgnBytes(): Uint8Array;
+  loadPgn(text: string | ArrayBufferView | ArrayBuffer, options?: object): void;
+  clone(): Chess;
+  getHeaders(): Record<string, string>;
+  setHeader(name: string, value: string): Record<string, string>;
+  removeHeader(name: string): boolean;
+  header(...pairs: string[]): Record<string, string>;
+}

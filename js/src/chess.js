@@ -1,0 +1,584 @@
+// A board with its game: a tree of moves with a cursor. Each answer is the module's, a line to its board or a call.
+import { bytesOf, decode, encode, shown, toBytes } from './bytes.js';
+import { ChessError, noMemory, refusal, strange } from './errors.js';
+import { begin, beside, costOf, faultOf, keep, line, on, placeIn, readers, theMemory } from './boards.js';
+import { tagsOf, treeOf, Node } from './export.js';
+import { ARGUMENT, BAD_NAME, BAD_VALUE, MEMORY, NONE, OK, OWN_TAG } from './memory.js';
+import { menOf, pieceOf, placedOf } from './move.js';
+import { NAMES, attackersOf, colorOf, countsOf, lineOf, movesOf, sansOf, squareOf, tried } from './questions.js';
+import { search } from './search.js';
+
+export const DEFAULT_POSITION = 'rnbqkbnr/pppppppp/8/8/8/8/PPPPPPPP/RNBQKBNR w KQkq - 0 1';
+const EMPTY = '8/8/8/8/8/8/8/8 w - - 0 1';
+const MARKERS = ['*', '1-0', '0-1', '1/2-1/2'];
+
+const only = (options, ...names) => {
+  for (const name of Object.keys(options ?? {})) {
+    if (options[name] !== undefined && options[name] !== false && !names.includes(name)) throw new ChessError('Option', `no such option here: ${name}`);
+  }
+  return options ?? {};
+};
+
+/** Whether a FEN spells a position: `{ok: true}` or `{ok: false, code, error}`. */
+export const validateFen = (fen) => {
+  encode(fen);
+  const { ok, answer } = tried(fen);
+  if (ok) return { ok };
+  const error = refusal(answer, fen);
+  return { ok, code: error.code, error: error.message };
+};
+
+export class Chess {
+  #kept;
+  // A placement that is no position yet, as `clear` and `put` leave it: `{fen, error}`.
+  #draft = null;
+  #tree = { version: -1 };
+
+  constructor(fen = DEFAULT_POSITION, options = {}) {
+    only(options);
+    this.#kept = keep(this);
+    if (fen !== DEFAULT_POSITION) this.load(fen);
+  }
+
+  // ---- Lines of the board.
+
+  #position() {
+    if (this.#draft) throw this.#draft.error;
+    return this.#kept;
+  }
+
+  // The board's answer, which may be none of the refusals.
+  #ask(text, cost) {
+    const answer = line(this.#position(), text, cost);
+    if (answer.startsWith('refused ')) throw refusal(answer, text);
+    return answer;
+  }
+
+  #change(text) {
+    this.#ask(text, costOf(text));
+    this.#kept.version++;
+  }
+
+  /** The board's answer to a line as `chess board` writes it, without its line feed; refusals are answers here. */
+  line(text) {
+    encode(text);
+    if (text.includes('\n')) throw new ChessError('Text', 'more than one line');
+    const kept = this.#position();
+    kept.version++;
+    try {
+      return shown(line(kept, text, costOf(text)));
+    } catch (error) {
+      if (error.code !== 'Memory') throw error;
+      return 'refused 5 Memory';
+    }
+  }
+
+  // ---- Positions.
+
+  fen() {
+    return this.#draft?.fen ?? this.#ask('fen');
+  }
+
+  #fields() {
+    return this.fen().split(' ');
+  }
+
+  #begin(fen, keepsHeaders) {
+    const { ok, answer } = tried(fen);
+    if (!ok) throw refusal(answer, fen);
+    const text = toBytes(beside().pgn());
+    if (keepsHeaders) line(this.#kept, `set ${fen}`);
+    else begin(this.#kept, text);
+    this.#kept.version++;
+    this.#draft = null;
+  }
+
+  /** Begins a new game with the position of a FEN; where it is none, nothing has changed. */
+  load(fen, options = {}) {
+    const { preserveHeaders } = only(options, 'preserveHeaders');
+    encode(fen);
+    this.#begin(fen, preserveHeaders);
+  }
+
+  reset(options = {}) {
+    this.load(DEFAULT_POSITION, options);
+  }
+
+  turn() {
+    return this.#fields()[1];
+  }
+
+  moveNumber() {
+    return Number(this.#fields()[5]);
+  }
+
+  get(square) {
+    squareOf(square);
+    return pieceOf(menOf(this.#fields()[0]).get(square));
+  }
+
+  /** Ranks 8 to 1, in each files a to h: `{square, type, color}` or null. */
+  board() {
+    const men = menOf(this.#fields()[0]);
+    return [8, 7, 6, 5, 4, 3, 2, 1].map((rank) => [...'abcdefgh'].map((file) => {
+      const square = file + rank;
+      return men.has(square) ? { square, ...pieceOf(men.get(square)) } : null;
+    }));
+  }
+
+  ascii() {
+    const edge = '   +------------------------+\n';
+    const rows = this.board().map((row, down) => ` ${8 - down} |${row.map((it) => ` ${it ? (it.color === 'w' ? it.type.toUpperCase() : it.type) : '.'} `).join('')}|\n`);
+    return `${edge}${rows.join('')}${edge}     a  b  c  d  e  f  g  h`;
+  }
+
+  findPiece({ type, color }) {
+    const letter = color === 'w' ? type.toUpperCase() : type;
+    const men = menOf(this.#fields()[0]);
+    return NAMES.filter((it) => men.get(it) === letter);
+  }
+
+  squareColor(square) {
+    return NAMES.indexOf(squareOf(square)) % 2 === (square[1] % 2 ? 1 : 0) ? 'light' : 'dark';
+  }
+
+  getCastlingRights(color) {
+    const rights = this.#fields()[2];
+    const spelt = colorOf(color) === 'w' ? 'KQ' : 'kq';
+    return { k: rights.includes(spelt[0]), q: rights.includes(spelt[1]) };
+  }
+
+  // ---- Placing men. What is no position yet is a draft: each call that needs a position throws why it is none.
+
+  #edit(change) {
+    if (!this.#draft && this.root().children.length) throw new ChessError('HasMoves', 'men are placed before the first move: load a FEN, or clear, first');
+    const fields = this.#fields();
+    const men = menOf(fields[0]);
+    change(men, fields);
+    const fen = [placedOf(men), fields[1], fields[2], '-', fields[4], fields[5]].join(' ');
+    const { ok, answer } = tried(fen);
+    if (ok) this.#begin(fen, true);
+    else this.#draft = { fen, error: refusal(answer, fen) };
+  }
+
+  clear(options = {}) {
+    const { preserveHeaders } = only(options, 'preserveHeaders');
+    this.reset({ preserveHeaders });
+    this.#draft = { fen: EMPTY, error: refusal('refused 3 Kings', EMPTY) };
+  }
+
+  put({ type, color }, square) {
+    squareOf(square);
+    if (typeof type !== 'string' || !/^[pnbrqkPNBRQK]$/.test(type)) throw new ChessError('Piece', `no piece: ${String(type)}`);
+    const letter = colorOf(color) === 'w' ? type.toUpperCase() : type.toLowerCase();
+    this.#edit((men) => men.set(square, letter));
+    return true;
+  }
+
+  remove(square) {
+    const there = this.get(square);
+    if (there) this.#edit((men) => men.delete(square));
+    return there;
+  }
+
+  setTurn(color) {
+    colorOf(color);
+    if (this.turn() === color) return false;
+    this.#edit((men, fields) => {
+      fields[1] = color;
+    });
+    return true;
+  }
+
+  /** Whether the rights then are those. The module drops one whose king or rook isn't at home. */
+  setCastlingRights(color, rights) {
+    const all = { ...this.getCastlingRights(color), ...rights };
+    this.#edit((men, fields) => {
+      const own = color === 'w' ? 'KQ' : 'kq';
+      const rest = [...fields[2]].filter((it) => it !== '-' && !own.includes(it));
+      const held = [...rest, ...(all.k ? [own[0]] : []), ...(all.q ? [own[1]] : [])];
+      fields[2] = [...'KQkq'].filter((it) => held.includes(it)).join('') || '-';
+    });
+    const now = this.getCastlingRights(color);
+    return now.k === all.k && now.q === all.q;
+  }
+
+  // ---- Moves.
+
+  moves({ verbose = false, square, piece } = {}) {
+    if (square !== undefined) squareOf(square);
+    const answer = this.#ask('moves');
+    const fen = this.fen();
+    const men = piece === undefined ? null : menOf(fen.split(' ')[0]);
+    const lans = (answer === 'none' ? [] : answer.split(' ')).filter((it) => (square === undefined || it.startsWith(square)) && (!men || men.get(it.slice(0, 2)).toLowerCase() === piece));
+    return verbose ? movesOf(fen, lans) : sansOf(fen, lans);
+  }
+
+  /** The legal moves in long algebraic notation, by squares. */
+  lans() {
+    const answer = this.#ask('moves');
+    return answer === 'none' ? [] : answer.split(' ');
+  }
+
+  // The legal move that a text or an object names, in long algebraic notation; else why it names none.
+  #named(move) {
+    let texts = [move];
+    if (typeof move === 'object' && move) {
+      const pair = `${squareOf(move.from)}${squareOf(move.to)}`;
+      // (a promotion that no move has is passed over, as chess.js does)
+      texts = move.promotion === undefined ? [pair] : [pair + move.promotion, pair];
+    }
+    for (const text of texts) {
+      encode(text);
+      const lan = on(this.#position(), (session) => session.read(text));
+      if (lan !== null) return lan;
+    }
+    const [text] = texts;
+    const asked = `${text} in ${this.fen()}`;
+    const why = /^\S+$/.test(text) ? line(this.#kept, `claim ${text}`) : 'refused 1 Form';
+    throw refusal(why.startsWith('refused ') ? why : 'refused 1 Form', asked);
+  }
+
+  /** Makes the move: along a node that has it, else as a further variation. */
+  move(move, options = {}) {
+    only(options, 'strict');
+    const lan = this.#named(move);
+    const [made] = movesOf(this.fen(), [lan]);
+    this.#change(`play ${lan}`);
+    return made;
+  }
+
+  /** Whether a text or an object names a legal move. */
+  isLegal(move) {
+    try {
+      return Boolean(this.#named(move));
+    } catch (error) {
+      if (error instanceof ChessError && ['Form', 'Illegal', 'Ambiguous', 'Square'].includes(error.code)) return false;
+      throw error;
+    }
+  }
+
+  /** Takes the last move out of the game, with what follows it; null at the start. */
+  undo() {
+    const node = this.node();
+    if (node.isRoot) return null;
+    const [undone] = lineOf(this.fenAt(node.parent), [node.san]);
+    this.#change('delete');
+    return undone;
+  }
+
+  history({ verbose = false } = {}) {
+    const sans = this.node().line().map(({ san }) => san);
+    return verbose ? lineOf(this.#startFen(), sans) : sans;
+  }
+
+  // The FEN of the root.
+  #startFen() {
+    return this.#at('-', () => this.#ask('fen'));
+  }
+
+  // What is asked at another node, `path` if it isn't gone to.
+  #at(path, asks) {
+    const here = this.#ask('path');
+    try {
+      this.#go(path);
+      return asks();
+    } finally {
+      this.#go(here);
+    }
+  }
+
+  #go(path) {
+    this.#ask(path === '-' ? 'start' : `goto ${path}`);
+  }
+
+  // ---- How the game stands.
+
+  /** `mate`, `stalemate`, `dead`, `fivefold`, `seventyfive` or `play`. */
+  status() {
+    return this.#ask('status');
+  }
+
+  /** The draws that may be claimed, `threefold` and `fifty`; with a move, those that may be claimed with it. */
+  claims(move) {
+    const answer = move === undefined ? this.#ask('claims') : this.#ask(`claim ${this.#named(move)}`);
+    return answer === 'none' ? [] : answer.split(' ');
+  }
+
+  /** How often the position has come up. */
+  repetitions() {
+    return Number(this.#ask('count'));
+  }
+
+  /** The squares of the men that give check. */
+  checks() {
+    const answer = this.#ask('checks');
+    return answer === 'none' ? [] : answer.split(' ');
+  }
+
+  isCheck() {
+    return this.checks().length > 0;
+  }
+
+  inCheck() {
+    return this.isCheck();
+  }
+
+  isCheckmate() {
+    return this.status() === 'mate';
+  }
+
+  isStalemate() {
+    return this.status() === 'stalemate';
+  }
+
+  isInsufficientMaterial() {
+    return this.status() === 'dead';
+  }
+
+  isThreefoldRepetition() {
+    return this.claims().includes('threefold');
+  }
+
+  isDrawByFiftyMoves() {
+    return this.claims().includes('fifty');
+  }
+
+  isDraw() {
+    const status = this.status();
+    return status === 'play' ? this.claims().length > 0 : status !== 'mate';
+  }
+
+  isGameOver() {
+    return this.status() !== 'play' || this.isDraw();
+  }
+
+  // ---- Attacks, evaluation, search.
+
+  /** How many men of a colour attack each square, by its name. */
+  counts(color) {
+    return countsOf(this.#ask(`counts ${colorOf(color)}`));
+  }
+
+  isAttacked(square, color) {
+    return this.counts(color)[squareOf(square)] > 0;
+  }
+
+  attackers(square, color = this.turn()) {
+    squareOf(square);
+    colorOf(color);
+    return attackersOf(this.fen(), color, square, this.turn() === color ? this.checks() : []);
+  }
+
+  /** Centipawns, for White. */
+  evaluate() {
+    return Number(this.#ask('eval'));
+  }
+
+  /** The first move of greatest minimax value, 1 to 16 plies deep: `{move, score: {cp} or {mate}}`; null where no move is legal. */
+  best(depth) {
+    const answer = this.#ask(`best ${depth}`);
+    if (answer === 'none') return null;
+    const [lan, unit, value] = answer.split(' ');
+    return { move: movesOf(this.fen(), [lan])[0], score: { [unit]: Number(value) } };
+  }
+
+  /** The same depth after depth, while other things go on: an async iterator of `{depth, move, score}`. `signal` ends it. */
+  search(depth, { signal } = {}) {
+    const lans = this.history({ verbose: true }).map((it) => it.lan);
+    return search({ start: this.#startFen(), lans, fen: this.fen(), depth, signal });
+  }
+
+  // ---- The tree.
+
+  /** The root of the game's tree as it now is. */
+  root() {
+    const kept = this.#position();
+    if (this.#tree.version !== kept.version) this.#tree = { version: kept.version, root: treeOf(on(kept, (session) => session.pgn())) };
+    return this.#tree.root;
+  }
+
+  /** The node at the cursor. */
+  node() {
+    const path = this.#ask('path');
+    return path === '-' ? this.root() : path.split('.').reduce((node, i) => node.children[i], this.root());
+  }
+
+  /** To a node, or to a path as `node.path` has it. */
+  goto(node) {
+    if (!(node instanceof Node)) {
+      this.#go(node);
+      return;
+    }
+    const sans = node.line().map(({ san }) => san);
+    let it = this.root();
+    const found = node.path === '-' || node.path.split('.').every((i, at) => {
+      it = it.children[i];
+      return it?.san === sans[at];
+    });
+    if (!found) throw new ChessError('NoSuch', `the game has no such node any more: ${sans.join(' ')}`);
+    this.#go(node.path);
+  }
+
+  /** The FEN at a node. */
+  fenAt(node) {
+    return this.#at(this.#ask('path'), () => {
+      this.goto(node);
+      return this.fen();
+    });
+  }
+
+  /** Steps back; whether it did. The move stays in the game. */
+  back() {
+    if (this.#ask('path') === '-') return false;
+    this.#ask('back');
+    return true;
+  }
+
+  /** Steps to a child, from 0; whether there is one. */
+  forward(child = 0) {
+    const answer = line(this.#position(), `step ${child}`);
+    if (answer === 'refused 1 NoSuch') return false;
+    if (answer !== 'ok') throw refusal(answer, `step ${child}`);
+    return true;
+  }
+
+  toStart() {
+    this.#ask('start');
+  }
+
+  toEnd() {
+    this.#ask('end');
+  }
+
+  /** The node at the cursor becomes the first of those beside it. */
+  promoteVariation() {
+    this.#change('promote');
+  }
+
+  /** Takes out the node at the cursor and all below it. */
+  deleteVariation() {
+    this.#change('delete');
+  }
+
+  addNag(nag) {
+    this.#change(`nag ${nag}`);
+  }
+
+  getNags() {
+    return [...this.node().nags];
+  }
+
+  getComment() {
+    return this.node().comment || undefined;
+  }
+
+  setComment(text) {
+    encode(text);
+    this.#change(`comment ${text}`);
+  }
+
+  removeComment() {
+    const comment = this.getComment();
+    this.setComment('');
+    return comment;
+  }
+
+  /** The comments of the line to the cursor, `{fen, comment}`. */
+  getComments() {
+    const nodes = [this.root(), ...this.node().line()];
+    return nodes.filter((it) => it.comment).map((it) => ({ fen: this.fenAt(it), comment: it.comment }));
+  }
+
+  removeComments() {
+    const all = this.getComments();
+    const here = this.node();
+    for (const it of [this.root(), ...here.line()].filter(({ comment }) => comment)) this.#at(it.path, () => this.#change('comment'));
+    return all;
+  }
+
+  // ---- The game as a text.
+
+  /** The whole game in export form, with its variations. */
+  pgn(options = {}) {
+    const { newline = '\n' } = only(options, 'newline');
+    const text = decode(this.pgnBytes());
+    return newline === '\n' ? text : text.replaceAll('\n', newline);
+  }
+
+  /** Its bytes, as `chess pgn` writes them. */
+  pgnBytes() {
+    return toBytes(on(this.#position(), (session) => session.pgn()));
+  }
+
+  /** The game of a text comes on the board, the cursor at the end of its main line. Where the text isn't one game, nothing has changed. */
+  loadPgn(text, options = {}) {
+    only(options);
+    const bytes = bytesOf(text);
+    const [at, length] = theMemory().put(bytes).map(Number);
+    const reader = readers();
+    const one = reader.game(at, length);
+    if (one.status === MEMORY) throw noMemory();
+    if (one.status !== OK) throw faultOf(one.status, placeIn(bytes, one.used));
+    const next = reader.game(at + one.used, length - one.used);
+    if (next.status === MEMORY) throw noMemory();
+    if (next.status === OK) throw new ChessError('Many', 'more than one game: read them by games() or readGames()', { place: placeIn(bytes, one.used) });
+    if (next.status !== NONE) throw faultOf(next.status, placeIn(bytes, one.used + next.used));
+    begin(this.#kept, bytes);
+    this.#draft = null;
+    this.toEnd();
+  }
+
+  /** A board with the same game and cursor. */
+  clone() {
+    const other = new Chess();
+    other.loadPgn(this.pgnBytes());
+    other.goto(this.#ask('path'));
+    return other;
+  }
+
+  /** The tags of the game, in the order of its text. */
+  getHeaders() {
+    return Object.fromEntries(tagsOf(on(this.#kept, (session) => session.pgn())).tags);
+  }
+
+  #heading(name, action, cost = 0) {
+    const status = on(this.#kept, (session) => {
+      const code = action(session);
+      if (code === MEMORY) throw noMemory();
+      return code;
+    }, cost);
+    this.#kept.version++;
+    if (status === OK) return;
+    this.#kept.version--;
+    const says = {
+      [ARGUMENT]: ['Result', 'no result, which is *, 1-0, 0-1 or 1/2-1/2'],
+      [BAD_NAME]: ['TagName', 'no name of a tag'],
+      [OWN_TAG]: ['OwnTag', 'the game itself has what this tag says'],
+      [BAD_VALUE]: ['TagValue', 'a value is one line'],
+    }[status];
+    if (!says) throw strange('a tag', status);
+    throw new ChessError(says[0], `${says[1]}: ${name}`);
+  }
+
+  setHeader(name, value) {
+    const [first, second] = [encode(name), encode(value)];
+    if (name === 'Result') this.#heading(value, (session) => session.setResult(MARKERS.includes(value) ? MARKERS.indexOf(value) : MARKERS.length));
+    else this.#heading(name, (session) => session.setTag(first, second), costOf(name + value));
+    return this.getHeaders();
+  }
+
+  /** Whether there was such a tag. One of the seven that each game has then says that nothing is known. */
+  removeHeader(name) {
+    const before = this.getHeaders()[name];
+    const bytes = encode(name);
+    this.#heading(name, (session) => (name === 'Result' ? session.setResult(0) : session.clearTag(bytes)));
+    return this.getHeaders()[name] !== before;
+  }
+
+  header(...pairs) {
+    if (pairs.length % 2) throw new ChessError('Argument', 'names and values in pairs are wanted');
+    for (let i = 0; i < pairs.length; i += 2) this.setHeader(pairs[i], pairs[i + 1]);
+    return this.getHeaders();
+  }
+}

@@ -1,0 +1,90 @@
+// The export form of a game, as the module writes it, cut into its tags and its tree.
+import { shown } from './bytes.js';
+
+/** A node of a game as it was when it was asked for: the root, or a move. */
+export class Node {
+  constructor(parent, index, san) {
+    this.parent = parent;
+    this.index = index;
+    this.san = san;
+    this.nags = [];
+    this.comment = '';
+    this.children = [];
+  }
+
+  get isRoot() {
+    return this.parent === null;
+  }
+
+  /** Child numbers from 0 from the root, separated by periods; `-` for the root. */
+  get path() {
+    const all = [];
+    for (let it = this; it.parent; it = it.parent) all.push(it.index);
+    return all.length ? all.reverse().join('.') : '-';
+  }
+
+  /** The nodes from the first move to this one. */
+  line() {
+    const all = [];
+    for (let it = this; it.parent; it = it.parent) all.push(it);
+    return all.reverse();
+  }
+
+  /** The nodes of the main line after this one. */
+  mainline() {
+    const all = [];
+    for (let it = this.children[0]; it; it = it.children[0]) all.push(it);
+    return all;
+  }
+
+  /** The nodes below this one, each before those below it. */
+  *[Symbol.iterator]() {
+    const waiting = [...this.children].reverse();
+    while (waiting.length) {
+      const it = waiting.pop();
+      yield it;
+      waiting.push(...[...it.children].reverse());
+    }
+  }
+
+  toJSON() {
+    const { san, nags, comment, children } = this;
+    return { san, nags, comment, children };
+  }
+}
+
+const TAG = /^\[([A-Za-z0-9_]+) "(.*)"\]$/s;
+
+/** The tags of an export form (a byte string), `[name, value]`, and where its movetext begins. */
+export const tagsOf = (text) => {
+  const end = text.startsWith('\n') ? 0 : text.indexOf('\n\n') + 1;
+  const tags = [];
+  for (const row of text.slice(0, end).split('\n')) {
+    const found = TAG.exec(row);
+    if (found) tags.push([found[1], shown(found[2].replace(/\\(.)/gs, '$1'))]);
+  }
+  return { tags, end };
+};
+
+const WORD = /\{([^}]*)\}|(\()|(\))|\$(\d+)|(\d+\.+)|(1-0|0-1|1\/2-1\/2|\*)(?=\s|$)|([^\s(){}]+)/g;
+
+/** The root of an export form's tree. */
+export const treeOf = (text) => {
+  const root = new Node(null, 0, null);
+  const saved = [];
+  let here = root;
+  for (const [, comment, opens, closes, nag, counted, marker, san] of text.slice(tagsOf(text).end).matchAll(WORD)) {
+    if (comment !== undefined) here.comment = shown(comment.replace(/[\t-\r ]+/g, ' ').trim());
+    else if (opens) {
+      saved.push(here);
+      here = here.parent;
+    } else if (closes) here = saved.pop();
+    else if (nag !== undefined) here.nags.push(Number(nag));
+    else if (san && !counted && !marker) {
+      const next = new Node(here, here.children.length, san);
+      here.children.push(next);
+      here = next;
+    }
+  }
+  return root;
+};

@@ -1,0 +1,77 @@
+// A move as users of chess.js know it. What it is is read off what the module wrote: its text, and the FENs before and after it.
+
+/** The men of a FEN's first field, by their squares. */
+export const menOf = (placed) => {
+  const men = new Map();
+  placed.split('/').forEach((row, down) => {
+    let file = 0;
+    for (const c of row) {
+      if (c >= '1' && c <= '8') file += Number(c);
+      else men.set('abcdefgh'[file++] + (8 - down), c);
+    }
+  });
+  return men;
+};
+
+/** The first field of a FEN for men by their squares. */
+export const placedOf = (men) => [8, 7, 6, 5, 4, 3, 2, 1].map((rank) => {
+  const row = [...'abcdefgh'].map((file) => men.get(file + rank) ?? '1').join('');
+  return row.replace(/1+/g, (run) => String(run.length));
+}).join('/');
+
+export const pieceOf = (letter) => (letter ? { type: letter.toLowerCase(), color: letter === letter.toLowerCase() ? 'b' : 'w' } : undefined);
+
+export class Move {
+  constructor(lan, san, before, after) {
+    const [placed, color] = before.split(' ');
+    const men = menOf(placed);
+    this.color = color;
+    this.from = lan.slice(0, 2);
+    this.to = lan.slice(2, 4);
+    this.piece = men.get(this.from).toLowerCase();
+    const there = men.get(this.to);
+    if (san.includes('x')) this.captured = there ? there.toLowerCase() : 'p';
+    if (lan.length > 4) this.promotion = lan[4];
+    this.flags = this.#flags(san, there);
+    this.san = san;
+    this.lan = lan;
+    this.before = before;
+    this.after = after;
+  }
+
+  #flags(san, there) {
+    if (san.startsWith('O-O-O')) return 'q';
+    if (san.startsWith('O-O')) return 'k';
+    const isBig = this.piece === 'p' && Math.abs(this.to[1] - this.from[1]) === 2;
+    const takes = !this.captured ? '' : there ? 'c' : 'e';
+    return `${takes || (isBig ? 'b' : 'n')}${this.promotion ? 'p' : ''}`;
+  }
+
+  isCapture() {
+    return this.captured !== undefined;
+  }
+
+  isPromotion() {
+    return this.promotion !== undefined;
+  }
+
+  isEnPassant() {
+    return this.flags === 'e';
+  }
+
+  isKingsideCastle() {
+    return this.flags === 'k';
+  }
+
+  isQueensideCastle() {
+    return this.flags === 'q';
+  }
+
+  isBigPawn() {
+    return this.flags === 'b';
+  }
+
+  toString() {
+    return this.san;
+  }
+}

@@ -1,0 +1,11 @@
+// For Node, Bun and Deno: the module is read from beside this file, where the package has it, or in a clone of the repository from the page's folder.
+import { readFile } from 'node:fs/promises';
+import { start } from './core.js';
+
+export * from './core.js';
+
+const places = ['./jatshegi.wasm', '../../web/jatshegi.wasm'].map((path) => new URL(path, import.meta.url));
+start(await readFile(places[0]).catch((error) => {
+  if (error.code !== 'ENOENT') throw error;
+  return readFile(places[1]);
+}));

@@ -1,0 +1,197 @@
+"""The package for JavaScript: its own tests by Node, and what `make packages` makes of it, used as a new user would.
+
+Needs Node 18 or later; the package is installed by npm where that is there. Without Node these tests are skipped.
+"""
+import importlib.machinery
+import importlib.util
+import json
+import os
+import re
+import shutil
+import subprocess
+import tarfile
+import tempfile
+import unittest
+
+import firefox
+import runs
+import test_web
+
+PACKAGE = f"{runs.TOP}/js"
+CHESS = f"{runs.TOP}/release/x86_64-linux/bin/chess"
+# No test of the package takes so long, but for a machine with much else to do.
+MOST_SECONDS = 20 * runs.MOST_SECONDS
+
+
+def setUpModule():
+    if not shutil.which("node"):
+        raise unittest.SkipTest("node is not on the path")
+    version = called("node", "--version").stdout
+    if int(re.match(r"v(\d+)", version)[1]) < 18:
+        raise unittest.SkipTest(f"this is Node {version.strip()}, and 18 is wanted")
+
+
+def called(*words, **also):
+    also["env"] = os.environ | {"CHESS": CHESS, "npm_config_offline": "true", "npm_config_audit": "false", "npm_config_update_notifier": "false"} | also.get("env", {})
+    return subprocess.run(words, **{"stdin": subprocess.DEVNULL, "capture_output": True, "text": True, "timeout": MOST_SECONDS} | also)
+
+
+def packed(folder):
+    """The package for npm in that folder, by what tools/packages makes it with."""
+    loader = importlib.machinery.SourceFileLoader("packages", f"{runs.TOP}/tools/packages")
+    tool = importlib.util.module_from_spec(importlib.util.spec_from_loader("packages", loader))
+    loader.exec_module(tool)
+    words = tool.release_words()
+    return tool.npm(folder, words["version"], words, tool.datetime.datetime.fromisoformat(words["date"]).replace(tzinfo=tool.datetime.timezone.utc))
+
+
+class ItsOwnTests(unittest.TestCase):
+    def assert_passes(self, name):
+        ran = called("node", "--test", f"{PACKAGE}/test/{name}.test.js")
+        self.assertEqual(ran.returncode, 0, ran.stdout[-6000:] + ran.stderr[-2000:])
+
+    def test_there_is_no_other_file(self):
+        names = {it.removesuffix(".test.js") for it in os.listdir(f"{PACKAGE}/test") if it.endswith(".test.js")}
+        self.assertEqual(names, {it.removeprefix("test_of_") for it in dir(self) if it.startswith("test_of_")})
+
+    def test_of_board(self):
+        self.assert_passes("board")
+
+    def test_of_beside(self):
+        self.assert_passes("beside")
+
+    def test_of_chessjs(self):
+        self.assert_passes("chessjs")
+
+    def test_of_examples(self):
+        self.assert_passes("examples")
+
+
+class ThePackage(unittest.TestCase):
+    def setUp(self):
+        folder = tempfile.TemporaryDirectory()
+        self.addCleanup(folder.cleanup)
+        self.folder = folder.name
+
+    def test_its_words(self):
+        with open(f"{PACKAGE}/package.json", encoding="utf-8") as file:
+            words = json.load(file)
+        self.assertEqual(words["version"], runs.VERSION)
+        self.assertFalse({"dependencies", "scripts", "peerDependencies", "optionalDependencies"} & set(words))
+        named = [it for entry in words["exports"].values() for it in (entry.values() if isinstance(entry, dict) else [entry])]
+        with tarfile.open(packed(self.folder)) as tar:
+            there = set(tar.getnames())
+        for name in [words["main"], words["types"], *named]:
+            self.assertIn(f"package/{name.removeprefix('./')}", there)
+
+    def test_it_holds_what_npm_would_pack_and_the_released_module(self):
+        with tarfile.open(packed(self.folder)) as tar:
+            names = set(tar.getnames())
+            module = tar.extractfile("package/src/jatshegi.wasm").read()
+        with open(f"{runs.TOP}/web/jatshegi.wasm", "rb") as file:
+            self.assertTrue(module == file.read())
+        if not shutil.which("npm"):
+            self.skipTest("npm is not on the path")
+        # (in the clone the module is the page's)
+        copy = shutil.copytree(PACKAGE, f"{self.folder}/js")
+        shutil.copy(f"{runs.TOP}/web/jatshegi.wasm", f"{copy}/src")
+        for name in ("LICENSE-APACHE", "LICENSE-MIT"):
+            shutil.copy(f"{runs.TOP}/{name}", copy)
+        ran = called("npm", "pack", "--json", "--dry-run", cwd=copy, env={"HOME": self.folder})
+        self.assertEqual(ran.returncode, 0, ran.stderr)
+        self.assertEqual({f"package/{it['path']}" for it in json.loads(ran.stdout)[0]["files"]}, names)
+
+    def test_two_of_them_have_the_same_bytes(self):
+        os.mkdir(f"{self.folder}/other")
+        with open(packed(self.folder), "rb") as one, open(packed(f"{self.folder}/other"), "rb") as other:
+            self.assertTrue(one.read() == other.read())
+
+    def test_a_new_user(self):
+        """Installed from the file alone, without a registry, into a project: its examples say what they are to say."""
+        package = packed(self.folder)
+        project = f"{self.folder}/project"
+        os.mkdir(project)
+        if shutil.which("npm"):
+            ran = called("npm", "install", package, "--offline", cwd=project, env={"HOME": self.folder})
+            self.assertEqual(ran.returncode, 0, ran.stdout + ran.stderr)
+        else:
+            with tarfile.open(package) as tar:
+                tar.extractall(f"{self.folder}/unpacked")
+            shutil.copytree(f"{self.folder}/unpacked/package", f"{project}/node_modules/jatshegi")
+        there = f"{project}/node_modules/jatshegi"
+        self.assertFalse([name for at, folders, names in os.walk(there) for name in folders + names if os.path.islink(f"{at}/{name}")])
+        for name in sorted(os.listdir(f"{there}/examples")):
+            with self.subTest(example=name):
+                shutil.copy(f"{there}/examples/{name}", project)
+                with open(f"{project}/{name}", encoding="utf-8") as file:
+                    said = re.findall(r"^//> ?(.*?) *$", file.read(), re.M)
+                ran = called("node", name, cwd=project)
+                self.assertEqual(ran.stderr, "")
+                self.assertEqual([it.rstrip() for it in ran.stdout.rstrip().split("\n")], said)
+
+    def test_its_types(self):
+        if not shutil.which("tsc"):
+            self.skipTest("tsc is not on the path (Debian's node-typescript)")
+        with tarfile.open(packed(self.folder)) as tar:
+            tar.extractall(self.folder)
+        os.mkdir(f"{self.folder}/node_modules")
+        os.rename(f"{self.folder}/package", f"{self.folder}/node_modules/jatshegi")
+        shutil.copy(f"{PACKAGE}/test/use.mts", self.folder)
+        for ways in (["node16", "node16"], ["es2022", "node"]):
+            words = ["--noEmit", "--strict", "--target", "es2022", "--lib", "es2022,dom,dom.iterable", "--module", ways[0], "--moduleResolution", ways[1]]
+            ran = called("tsc", *words, "use.mts", cwd=self.folder)
+            self.assertEqual((ran.returncode, ran.stdout), (0, ""))
+
+    def test_what_has_not_been_begun_says_so(self):
+        ran = called("node", "--input-type=module", "-e", "import { Chess } from './src/core.js'; try { new Chess().fen() } catch (error) { console.log(error.code) }", cwd=PACKAGE)
+        self.assertEqual(ran.stdout, "Module\n", ran.stderr)
+
+    def test_the_module_by_itself(self):
+        """What a worker does, that has the module already compiled: without the file beside the package."""
+        words = "import { readFile } from 'node:fs/promises'; import { Chess, start } from './src/core.js'; start(new WebAssembly.Module(await readFile('../web/jatshegi.wasm'))); console.log(new Chess().moves().length)"
+        ran = called("node", "--input-type=module", "-e", words, cwd=PACKAGE)
+        self.assertEqual(ran.stdout, "20\n", ran.stderr)
+
+
+class InBrowsers(unittest.TestCase):
+    """The package, unpacked, in a page of another: the same answers as by Node."""
+
+    def answers(self, new_browser):
+        with tempfile.TemporaryDirectory() as folder, tarfile.open(packed(folder)) as tar:
+            tar.extractall(folder)
+            shutil.copy(f"{PACKAGE}/test/anywhere.js", folder)
+            with open(f"{folder}/index.html", "w", encoding="utf-8") as file:
+                file.write("<!doctype html><title>a page</title>")
+            server = test_web.serve(folder)
+            self.addCleanup(test_web.stop, server)
+            browser = new_browser(folder)
+            self.addCleanup(browser.quit)
+            browser.get(f"http://127.0.0.1:{server.server_port}/index.html")
+            return browser.execute_async_script("""
+                const done = arguments[0];
+                Promise.all([import('/package/src/index.js'), import('/anywhere.js')]).then(async ([it, { default: all }]) => done(await all(it))).catch((error) => done(String(error)));
+            """)
+
+    def wanted(self):
+        ran = called("node", "--input-type=module", "-e", "import * as it from './src/node.js'; import all from './test/anywhere.js'; console.log(await all(it));", cwd=PACKAGE)
+        self.assertEqual(ran.stderr, "")
+        return ran.stdout.rstrip("\n")
+
+    def assert_same(self, new_browser):
+        got, wanted = self.answers(new_browser), self.wanted()
+        self.assertTrue(wanted.startswith("[") and len(json.loads(wanted)) > 200)
+        self.assertEqual(got, wanted)
+
+    def test_in_chromium(self):
+        test_web.wants_browser()
+        self.assert_same(test_web.new_browser)
+
+    def test_in_firefox(self):
+        test_web.wants_browser()
+        if not shutil.which("firefox-esr"):
+            self.skipTest("firefox-esr is not installed")
+        self.assert_same(firefox.Firefox)
+
+
+if __name__ == "__main__":
+    unittest.main()
