@@ -26,7 +26,8 @@
 enum {
     MOST_LINE = 1048576,  /* bytes of a line, without its line feed, as `chess uci` has it */
     TICK = 4,             /* milliseconds at most between two looks at the input and the clock in a search */
-    REPORT = 1000         /* milliseconds between two lines `info time` in a search */
+    REPORT = 1000,        /* milliseconds between two lines `info time` in a search, and before the first root is named */
+    REPLY_DEPTH = 3, REPLY_NODES = 20000  /* how deep a reply is searched at most for the line of best replies, and the positions for all of them */
 };
 
 /* What was read: lines from `begin` on, up to `end`. A line that is too long is passed over up to its line feed. */
@@ -37,10 +38,10 @@ static struct {
 } input;
 static atomic_bool input_has_ended;
 
-/* The search that runs: when it began, the positions visited, and when they were last reported. */
+/* The search that runs: when it began, the positions visited, and when they were last reported; the last whole depth, and the roots searched since. */
 static struct {
     bool runs;
-    uint64_t begin, visited, reported;
+    uint64_t begin, visited, reported, depth, root;
 } search;
 
 static struct jatshegi_keys keys;
@@ -49,6 +50,10 @@ static FILE *record;
 
 /* The flag that has a root abandoned, by two handles: the search's and the second thread's. */
 static struct jatshegi_stop stop, stopper;
+
+/* The position that the session searches, where it is known here, a copy to look ahead on, and whether all legal moves are the roots. */
+static struct jatshegi_board position, ahead;
+static bool is_known, are_all_roots;
 
 /* What the second thread does: it watches, up to a moment at the latest, or rests, or is to end. The lock is held by who reads or writes it. */
 static struct {
@@ -90,7 +95,29 @@ static void write_effort(void) {
     printf(" time %" PRIu64 " nodes %" PRIu64 " nps %" PRIu64, time, search.visited, search.visited * 1000 / (time ? time : 1));
 }
 
-/* Writes a reply: the engine has its own name here, and the report of a depth says besides what it took. */
+static void write_move(struct jatshegi_move move) {
+    char text[JATSHEGI_MOST_UCI];
+    size_t length;
+    check(jatshegi_move_write(move, text, sizeof text, &length));
+    printf(" %.*s", (int)length, text);
+}
+
+/* Writes the best replies after a move that was searched so deep, each found by a search of its own, as far as the flag, memory and positions go. */
+static void write_line_after(const char *text, size_t length, uint64_t depth) {
+    uint64_t left = REPLY_NODES, visited;
+    struct jatshegi_move move;
+    int32_t value;
+    bool added;
+    if (!is_known || jatshegi_move_read(text, length, &move) != JATSHEGI_OK || jatshegi_board_copy(&position, &ahead) != JATSHEGI_OK) return;
+    while (depth-- > 1 && jatshegi_board_play(&ahead, move, &added) == JATSHEGI_OK) {
+        uint8_t plies = (uint8_t)(depth < REPLY_DEPTH ? depth : REPLY_DEPTH);
+        if (jatshegi_board_best_within(&ahead, plies, left, &stop, &move, &value, &visited) != JATSHEGI_OK) return;
+        write_move(move);
+        left -= visited;
+    }
+}
+
+/* Writes a reply: the engine has its own name here, and the report of a depth says besides what it took, and the best replies. */
 static void write_reply(const char *reply, size_t length) {
     static const char name[] = "id name ", depth[] = "info depth ", moves[] = " pv ";
     const char *last = length < sizeof depth - 1 || memcmp(reply, depth, sizeof depth - 1) ? NULL : reply;
@@ -103,6 +130,9 @@ static void write_reply(const char *reply, size_t length) {
     if (last) {
         write_effort();
         fwrite(last, 1, length - (size_t)(last - reply), stdout);
+        search.depth = strtoul(reply + sizeof depth - 1, NULL, 10);
+        search.root = 0;
+        write_line_after(last + sizeof moves - 1, length - (size_t)(last - reply) - (sizeof moves - 1), search.depth);
     }
     putchar('\n');
 }
@@ -114,7 +144,7 @@ static void reply(const char *replies, size_t count) {
     check(jatshegi_engine_searching(&board, &runs));
     if (runs && !search.runs) {
         search.begin = search.reported = now();
-        search.visited = 0;
+        search.visited = search.root = search.depth = 0;
     }
     search.runs = runs;
     for (const char *next; replies < end; replies = next + 1) {
@@ -135,12 +165,48 @@ static void take_moment(void) {
     reply(replies, count);
 }
 
+/* The next word of a line up to its end, and its length; 0 where there is none. */
+static size_t take_word(const char **line, const char *end, const char **word) {
+    while (*line < end && memchr(" \t\n\v\f\r", **line, 6)) ++*line;
+    for (*word = *line; *line < end && !memchr(" \t\n\v\f\r", **line, 6);) ++*line;
+    return (size_t)(*line - *word);
+}
+
+static bool is_word(const char *word, size_t length, const char *wanted) { return length == strlen(wanted) && !memcmp(word, wanted, length); }
+
+/* Whether one of the line's words is this one. */
+static bool names(const char *line, const char *end, const char *wanted) {
+    const char *word;
+    for (size_t length; (length = take_word(&line, end, &word));) if (is_word(word, length, wanted)) return true;
+    return false;
+}
+
+/* Follows a line that the session has taken; false where it isn't in the usual form, so that the position isn't known here. */
+static bool follow(const char *line, const char *end) {
+    const char *word, *fen;
+    size_t length = take_word(&line, end, &word), given = 0;
+    struct jatshegi_move move;
+    bool begins, added;
+    if (!is_word(word, length, "position")) return is_word(word, length, "ucinewgame") && jatshegi_board_new(&keys, &position) == JATSHEGI_OK;
+    length = take_word(&line, end, &word);
+    begins = is_word(word, length, "startpos");
+    if (!begins && !is_word(word, length, "fen")) return false;
+    length = take_word(&line, end, &fen);
+    for (word = fen; length && !is_word(word, length, "moves"); length = take_word(&line, end, &word)) given = (size_t)(word + length - fen);
+    if ((begins && given) || (begins ? jatshegi_board_new(&keys, &position) : jatshegi_board_set(&position, fen, given)) != JATSHEGI_OK) return false;
+    while ((length = take_word(&line, end, &word)))
+        if (jatshegi_move_read(word, length, &move) != JATSHEGI_OK || jatshegi_board_play(&position, move, &added) != JATSHEGI_OK) return false;
+    return true;
+}
+
 static void take_line(const char *line, size_t length) {
     char replies[JATSHEGI_MOST_REPLIES];
     size_t count;
+    if (!search.runs) are_all_roots = !names(line, line + length, "searchmoves");
     take_moment();
     note("line ", line, length);
     check(jatshegi_engine_line(&board, line, length, replies, sizeof replies, &count));
+    if (!count && (names(line, line + length, "position") || names(line, line + length, "ucinewgame"))) is_known = follow(line, line + length);
     reply(replies, count);
 }
 
@@ -177,6 +243,19 @@ static void *watch_search(void *none) {
     return none;
 }
 
+/* Names the root that is searched next, in a long search: all legal moves are searched in their order. */
+static void name_root(void) {
+    struct jatshegi_move moves[JATSHEGI_MOST_MOVES];
+    size_t count;
+    if (!is_known || !are_all_roots || now() - search.begin < REPORT) return;
+    check(jatshegi_board_moves(&position, moves, JATSHEGI_MOST_MOVES, &count));
+    if (search.root >= count) return;
+    printf("info depth %" PRIu64 " currmove", search.depth + 1);
+    write_move(moves[search.root]);
+    printf(" currmovenumber %" PRIu64 "\n", search.root + 1);
+    if (fflush(stdout) == EOF) fail("the replies can't be written");
+}
+
 /* Searches one root more, as far as the flag and the clock let it; then the clock is read. */
 static void take_slice(void) {
     char replies[JATSHEGI_MOST_REPLIES];
@@ -185,11 +264,13 @@ static void take_slice(void) {
     bool searched;
     uint32_t timed = jatshegi_engine_time_left(&board, &left);
     if (timed != JATSHEGI_NONE) check(timed);
+    name_root();
     check(jatshegi_stop_set(&stop, false));
     set_watch(true, timed == JATSHEGI_OK ? now() + left : UINT64_MAX);
     check(jatshegi_engine_slice_within(&board, UINT64_MAX, &stop, &searched, &visited, replies, sizeof replies, &count));
     search.visited += visited;
     if (searched) note("slice", "", 0);
+    search.root += searched;
     reply(replies, count);
     if (search.runs) take_moment();
     if (search.runs && now() - search.reported >= REPORT) {
@@ -302,6 +383,7 @@ int main(int count, char **words) {
     if (count == 3 && !(record = fopen(words[2], "w"))) fail("the record can't be written");
     jatshegi_keys_fill(&keys);
     check(jatshegi_board_new(&keys, &board));
+    is_known = jatshegi_board_new(&keys, &position) == JATSHEGI_OK;
     check(jatshegi_stop_new(&stop));
     check(jatshegi_stop_share(&stop, &stopper));
     if (pthread_create(&second, NULL, watch_search, NULL)) fail("there is no second thread");
@@ -309,6 +391,8 @@ int main(int count, char **words) {
     end_watch(second);
     jatshegi_stop_free(&stopper);
     jatshegi_stop_free(&stop);
+    jatshegi_board_free(&ahead);
+    jatshegi_board_free(&position);
     jatshegi_board_free(&board);
     if (record && fclose(record)) fail("the record can't be written");
     return 0;

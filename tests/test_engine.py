@@ -77,23 +77,37 @@ class Program:
 
 
 def plain(line):
-    """The session's own line: without the effort, and by the session's name."""
-    line = re.sub(r" time \d+ nodes \d+ nps \d+", "", line)
+    """The session's own line: without the effort and the replies to the move, and by the session's name."""
+    line = re.sub(r" time \d+ nodes \d+ nps \d+( pv \w+)?.*", lambda found: found[1] or "", line)
     return re.sub(r"id name Jatshegi .*", "id name chess_uci 1", line)
 
 
-def replayed(record):
-    """The replies of a session to the events of a record, and of each `go` whether a search was begun or answered at once."""
+def board_of(position):
+    """The board of the words after `position`."""
     import jatshegi
 
-    session, replies, searches = jatshegi.Engine(), [], 0
+    start, _, moves = position.partition(" moves ")
+    board = jatshegi.Board(start.removeprefix("fen ") if start.startswith("fen") else jatshegi.STARTING_FEN)
+    for move in moves.split():
+        board.push_uci(move)
+    return board
+
+
+def replayed(record):
+    """The replies of a session to the events of a record, of each `go` whether a search was begun or answered at once, and the position of each report of a depth."""
+    import jatshegi
+
+    session, replies, searches, position, positions = jatshegi.Engine(), [], 0, "startpos", []
     for event in record:
         word, _, rest = event.partition(" ")
         said = session.slice() if word == "slice" else session.moment(int(rest)) if word == "moment" else session.line(rest.rstrip("\r"))
         if word == "line" and rest.split()[:1] == ["go"]:
             searches += "info string busy" not in said
+        if word == "line" and not said and rest.split()[:1] in (["position"], ["ucinewgame"]):
+            position = rest.partition("position ")[2].rstrip("\r") or "startpos"
+        positions += [position for it in said if it.startswith("info depth")]
         replies += said
-    return replies, searches, session.is_searching()
+    return replies, searches, session.is_searching(), positions
 
 
 def record_of(path):
@@ -131,10 +145,21 @@ class TheEngine(unittest.TestCase):
         lines = [it[5:] for it in record if it.startswith("line ")]
         # (the end of the input is a `quit`, after a `stop` where the last search is infinite)
         self.assertEqual([it for it in lines if it not in ("stop", "quit")], [it for it in said if it != "stop"], seed)
-        replies, searches, searching = replayed(record)
-        written = [plain(it) for it in engine.lines]
+        replies, searches, searching, positions = replayed(record)
+        written = [plain(it) for it in engine.lines if " currmove " not in it]
         self.assertEqual([it for it in written if it != "info"], replies, (seed, said))
+        for position, line in zip(positions, [it for it in engine.lines if " pv " in it], strict=True):
+            self.check_line(position, line)
         self.assertEqual((sum(it.startswith("bestmove ") for it in written), searching), (searches, False), (seed, said))
+
+    def check_line(self, position, report):
+        """Each move of the line is legal, and there are no more than the depth; of `position` at each report there is a line of its own."""
+        depth, moves = re.fullmatch(r"info depth (\d+) score .* pv ((?: ?\w+)+)", report).groups()
+        self.assertLessEqual(len(moves.split()), int(depth), report)
+        board = board_of(position)
+        for move in moves.split():
+            self.assertIn(move, [it.uci() for it in board.legal_moves], (position, report))
+            board.push_uci(move)
 
     def test_random_moments(self):
         """The replies are those of the session to the recorded events; each search has one `bestmove`, of the session."""
@@ -142,19 +167,13 @@ class TheEngine(unittest.TestCase):
             self.check_script(seed)
 
     def test_best_moves_are_legal(self):
-        import jatshegi
-
         for position in POSITIONS[:5]:
             engine = Program()
             engine.say(f"position {position}")
             engine.say("go movetime 30")
             found = engine.wait("bestmove .*")
             self.assertEqual(engine.end(), 0)
-            fen = position.removeprefix("fen ") if position.startswith("fen") else jatshegi.STARTING_FEN
-            board = jatshegi.Board(fen)
-            for move in position.split(" moves ")[1].split() if " moves " in position else []:
-                board.push_uci(move)
-            self.assertIn(found.split()[1], [move.uci() for move in board.legal_moves] or ["0000"], position)
+            self.assertIn(found.split()[1], [move.uci() for move in board_of(position).legal_moves] or ["0000"], position)
 
     def test_a_long_search_answers(self):
         """`isready`, `stop` and `quit` are answered long before the search is over."""
@@ -186,10 +205,52 @@ class TheEngine(unittest.TestCase):
         engine.say("go depth 4")
         engine.wait("bestmove .*")
         engine.end()
-        reports = [re.fullmatch(r"info depth (\d) score cp -?\d+ time \d+ nodes (\d+) nps \d+ pv [a-h][1-8][a-h][1-8]", it) for it in engine.lines[:-1]]
+        reports = [re.fullmatch(r"info depth (\d) score cp -?\d+ time \d+ nodes (\d+) nps \d+ pv((?: [a-h][1-8][a-h][1-8])+)", it) for it in engine.lines[:-1]]
         self.assertEqual([it[1] for it in reports], ["1", "2", "3", "4"])
+        # (a few thousand positions are enough for each reply)
+        self.assertEqual([len(it[3].split()) for it in reports], [1, 2, 3, 4])
         visited = [int(it[2]) for it in reports]
         self.assertTrue(20 <= visited[0] and visited == sorted(visited), visited)
+
+    def test_a_line_after_other_lines(self):
+        """The line of best replies follows the session's position: refused and busy lines change nothing, and where a line isn't in the usual form there is
+        no more than the session's own move."""
+        fools, plain_words = "startpos moves f2f3 e7e5 g2g4", ("position startpos moves e2e5", "position fen 8/8 w - - 0 1", "debug on")
+        for lines, position, most in (
+            ([f"position {fools}", *plain_words], fools, 1),
+            ([f"  position\t{fools} \r", "isready"], fools, 1),
+            (["position startpos moves e2e4", "ucinewgame"], "startpos", 3),
+            (["position startpos", f"position fen  {ONE_MOVE}  moves e8f7"], f"fen {ONE_MOVE} moves e8f7", 3),
+            (["position startpos", "please position startpos moves e2e4"], "startpos moves e2e4", 1),
+        ):
+            engine = Program()
+            for line in lines:
+                engine.say(line)
+            engine.say("go depth 3")
+            engine.say(f"position {POSITIONS[1]}")
+            engine.wait("bestmove .*")
+            engine.end()
+            reports = [it for it in engine.lines if " pv " in it]
+            self.assertEqual(len(reports), 3, lines)
+            for report in reports:
+                self.check_line(position, report)
+            self.assertEqual(len(reports[-1].split(" pv ")[1].split()), most, (lines, reports))
+
+    def test_the_root_that_is_searched(self):
+        """After a second, the roots in their order, each beside the report of its depth; none where the search has some roots alone."""
+        roots = [move.uci() for move in board_of("startpos").legal_moves]
+        for go, named in (("go infinite", True), ("go infinite searchmoves e2e4 d2d4 g1f3 b1c3 a2a3", False)):
+            engine, depth = Program(), 0
+            engine.say(go)
+            self.assertEqual(engine.wait(r"info depth .* currmove .*", 4) is not None, named, go)
+            engine.say("stop")
+            engine.wait("bestmove .*")
+            engine.end()
+            for line in engine.lines:
+                depth = int(line.split()[2]) if " score " in line else depth
+                if " currmove " in line:
+                    _, _, at, _, move, _, number = line.split()
+                    self.assertEqual((int(at), move), (depth + 1, roots[int(number) - 1]), line)
 
     def test_the_end_of_the_input(self):
         """A search that ends by itself does so; one that doesn't is stopped."""

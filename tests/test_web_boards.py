@@ -486,11 +486,11 @@ class Boards:
             self.assertEqual((self.inner_moves(), self.inner("return page.querySelector('[aria-current=step]').textContent")), ("1. e4 e5 1... c5 the Sicilian 2. Qh5", "e5"))
         address = self.inner("return view.location.href")
         self.inner("at('forward').click()")
-        page.until(lambda: self.inner("return page.querySelector('[aria-current=step]').textContent") == "Qh5", "one step is gone")
+        page.until(lambda: self.inner("return page.querySelector('[aria-current=step]')?.textContent") == "Qh5", "one step is gone")
         self.inner("page.dispatchEvent(new view.KeyboardEvent('keydown', { key: 'ArrowUp', bubbles: true })); page.body.dispatchEvent(new view.KeyboardEvent('keydown', { key: 'ArrowUp', bubbles: true }))")
         page.until(lambda: self.inner("return page.querySelector('[aria-current=step]')") is None, "the start is shown")
         self.inner("page.querySelector('[data-path=\"0.1\"]').click()")
-        page.until(lambda: self.inner("return page.querySelector('[aria-current=step]').textContent") == "1... c5", "a variation is gone to")
+        page.until(lambda: self.inner("return page.querySelector('[aria-current=step]')?.textContent") == "1... c5", "a variation is gone to")
         self.frame(f"?embed=1&fen={ROOK.replace(' ', '_')}&f=1", 600, 400)
         self.assertEqual((self.inner("return at('fen').value"), self.inner_moves(), self.inner("return page.querySelector('[data-square]').dataset.square")), (ROOK, "", "h1"))
         for bad, said in (("&fen=rubbish", "The address names no position: A FEN has four or six fields."), ("#pgn=1.%20e5", f"No game: {NO_MOVE}, at line 1, column 4, move 1 of White: “e5”.")):

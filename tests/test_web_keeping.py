@@ -1,6 +1,7 @@
 """What a person made on the page is there again: by undo and redo, after a reload, after a crash, in several games, and in the file that a game came from."""
 import os
 import random
+import re
 import shutil
 import signal
 import tempfile
@@ -19,6 +20,7 @@ const done = arguments[arguments.length - 1];
 const { game, exported, settled } = window.jatshegi;
 settled().then(exported).then((text) => done([text, game.state.path, game.state.fen, game.draft?.text ?? null, game.history.canUndo(), game.history.canRedo()]), (error) => done(String(error)));
 """
+SQUARES = [f"{file}{rank}" for file in "abcdefgh" for rank in range(1, 9)]
 TAGS = {"tagWhite": "White", "tagBlack": "Black", "tagEvent": "Event"}
 
 
@@ -48,10 +50,10 @@ class Browsing:
     def until_kept(self):
         self.page.until(lambda: self.page.script("return document.documentElement.dataset.kept") == "yes", "all is kept")
 
-    def reload(self):
+    def reload(self, fragment=""):
         self.until_kept()
         self.browser.get("about:blank")
-        self.page.open(keeps=True)
+        self.page.open(fragment, keeps=True)
 
     def press(self, *keys, blurs=True):
         """Presses keys together, where no field has the focus."""
@@ -168,7 +170,7 @@ class Keeping(Browsing):
         """One random thing on the page and beside it: what was done, and the model of the game that is then on the board."""
         page, keys = self.page, {"ctrl": "\ue009", "shift": "\ue008"}
         what = rng.choice(["play"] * 6 + ["type"] * 2 + ["undo", "undo", "ctrl-z", "redo", "ctrl-y", "ctrl-shift-z", "reload", "reload"]
-                          + ["another", "open", "open", "listed", "address", "no address", "illegal", "enter", "escape", "back", "forward", "start", "end", "nag", "delete", "promote", "tag", "result", "new", "fen", "paste"])
+                          + ["another", "open", "open", "edit", "edit", "listed", "address", "no address", "illegal", "enter", "escape", "back", "forward", "start", "end", "nag", "delete", "promote", "tag", "result", "new", "fen", "paste"])
         board = model.board
         if what == "type":
             model.draft = rng.choice(["good", "so-so", "sch\u00f6n (it) is; $5 %", "a } brace", "word " * 12 + "end"]) + f" {rng.randrange(1000)}"
@@ -217,7 +219,10 @@ class Keeping(Browsing):
             self.press(keys["ctrl"], *([keys["shift"]] if "shift" in what else []), what[-1])
             model.travel(-1 if what == "ctrl-z" else 1)
         elif what == "reload":
-            self.reload()
+            # (a position with which nothing was done is kept by its address alone)
+            place = "" if model.is_kept or board.fen() == test_web.library().Board().fen() else f"#fen={board.fen().replace(' ', '_')}"
+            page.until(lambda: model.is_kept or page.script("return location.hash") == place, f"the address has {place}")
+            self.reload(place)
         elif what == "nag":
             page.choose("nag", "5")
             model.do("nag 5")
@@ -238,6 +243,12 @@ class Keeping(Browsing):
             fen = rng.choice(["r3k2r/8/8/8/8/8/8/R3K2R w KQkq - 3 7", "8/8/8/8/8/8/8/8 w - - 0 1", "4k3/8/8/3pP3/8/8/8/4K3 w - d6 0 2"])
             page.set_fen_now(fen)
             model.do(f"set {fen}", {}, "*")
+        elif what == "edit":
+            fen = self.edit(rng)
+            model.do(f"set {fen}", {}, "*")
+            page.until(lambda: self.seen() == model.seen(), f"{fen} is set, or refused: {model.seen()}, not {self.seen()}")
+            # (where it is refused the box stays)
+            page.script("document.getElementById('fenbox').close()")
         elif what == "paste":
             text = rng.choice(GAMES)
             page.paste(text)
@@ -246,6 +257,26 @@ class Keeping(Browsing):
             page.script("document.getElementById(arguments[0]).click()", what)
             model.do("step 0" if what == "forward" else what)
         return what, model
+
+    def edit(self, rng):
+        """Sets a position up in the board editor, which may be none, and returns the FEN that it is to have."""
+        page, men = self.page, {}
+        page.script("document.getElementById('menufen').click(); document.getElementById('editempty').click()")
+        kings = rng.sample(SQUARES, 2 if rng.randrange(5) else 1)
+        for letter, square in [*zip("Kk", kings), *((rng.choice("QRBNPqrbnp"), rng.choice(SQUARES)) for _ in range(rng.randrange(4)))]:
+            men[square] = letter
+            page.script("""
+                const it = document.querySelector(`[data-edit=${arguments[0]}]`);
+                it.focus();
+                it.dispatchEvent(new KeyboardEvent('keydown', { key: arguments[1], bubbles: true, cancelable: true }));
+            """, square, letter)
+        side = rng.choice("wb")
+        page.script("const it = document.getElementById('editside'); it.value = arguments[0]; it.dispatchEvent(new Event('input'))", side)
+        rows = ("".join(men.get(f"{file}{rank}", "1") for file in "abcdefgh") for rank in range(8, 0, -1))
+        fen = f"{re.sub('1+', lambda it: str(len(it[0])), '/'.join(rows))} {side} - - 0 1"
+        self.assertEqual(page.script("return document.getElementById('fen').value"), fen)
+        page.script("document.querySelector('#fenform button.main').click()")
+        return fen
 
     def retag(self, model, tags, result):
         """The names and the result are changed at once, and no comment that is being typed is set by it."""
@@ -490,7 +521,7 @@ class Keeping(Browsing):
         self.browser.get("about:blank")
         page.open(link, keeps=True)
         page.until_moves("1. e4 e5")
-        page.until(lambda: len(page.script("return [...document.querySelectorAll('#own li')]")) == 3, "all three are there")
+        page.until(lambda: page.script("return document.querySelectorAll('#own li').length") == 3, "all three are there")
         self.reload()
         page.until_moves("1. e4 e5")
 

@@ -86,6 +86,58 @@ MARKS = """
 """
 
 
+# Where what is shown breaks a rule of docs/WEB.md, "For everyone": the rule, and what breaks it.
+BROKEN = """
+    const found = [];
+    const breaks = (rule, it) => found.push(`${rule}: ${typeof it === 'string' ? it : it.outerHTML.slice(0, 120)}`);
+    const all = [...document.querySelectorAll('*')];
+    const shown = all.filter((it) => document.body.contains(it) && it.checkVisibility({ visibilityProperty: true }));
+    const textOf = (id) => document.getElementById(id)?.textContent.trim() ?? '';
+    const nameOf = (it) => it.getAttribute('aria-label') || (it.getAttribute('aria-labelledby') ?? '').split(' ').map(textOf).join(' ').trim()
+      || [...(it.labels ?? [])].map((label) => label.textContent.trim()).join(' ') || (it.matches('input, select, textarea') ? '' : it.textContent.trim());
+    const CONTROLS = 'a[href], button, input, select, textarea, summary, iframe, [tabindex]';
+    // 1.1.1, 2.5.3, 3.3.2, 4.1.2: names
+    for (const it of shown.filter((it) => it.matches(CONTROLS) && !it.matches('main, dialog'))) if (!nameOf(it)) breaks('a control has a name', it);
+    for (const it of shown.filter((it) => it.matches('dialog, [role=grid], [role=group], section'))) if (!nameOf(it).length || !(it.hasAttribute('aria-label') || it.hasAttribute('aria-labelledby'))) breaks('a part has a name', it);
+    for (const it of shown.filter((it) => it.matches('img:not([alt])'))) breaks('a picture has a text', it);
+    for (const it of shown.filter((it) => it.matches('svg') && !it.closest('[aria-hidden=true], [role=img], button, [aria-label]'))) breaks('a picture has a text or is hidden', it);
+    // 2.4.2, 3.1.1: the page says what it is, and in which language
+    if (!document.title.trim()) breaks('the page has a title', 'title');
+    if (!document.documentElement.lang) breaks('the page has a language', 'html');
+    // 1.3.1, 4.1.2: roles, states and what they refer to
+    const ids = all.map((it) => it.id).filter(Boolean);
+    for (const id of ids.filter((id, i) => ids.indexOf(id) !== i)) breaks('an id occurs once', id);
+    for (const it of all) {
+      for (const name of ['aria-labelledby', 'aria-describedby', 'aria-controls', 'aria-owns', 'for']) for (const id of (it.getAttribute(name) ?? '').split(' ').filter(Boolean)) if (!document.getElementById(id)) breaks('what is referred to is there', it);
+      for (const name of ['aria-pressed', 'aria-selected', 'aria-disabled', 'aria-expanded', 'aria-hidden']) if (it.hasAttribute(name) && !['true', 'false'].includes(it.getAttribute(name))) breaks('a state is true or false', it);
+      const role = it.getAttribute('role');
+      if (role && !['grid', 'row', 'gridcell', 'group', 'alert', 'status', 'img', 'presentation', 'dialog', 'tree', 'treeitem', 'list', 'listitem', 'meter', 'toolbar', 'none'].includes(role)) breaks('a role is one of ARIA', it);
+      if (role === 'row' && !it.parentElement.matches('[role=grid]')) breaks('a row is in a grid', it);
+      if (role === 'gridcell' && !it.parentElement.matches('[role=row]')) breaks('a cell is in a row', it);
+      if (it.matches('li') && !it.parentElement.matches('ul, ol, menu')) breaks('an item is in a list', it);
+    }
+    // 2.1.1, 2.4.3: the order of the keys is that of the page
+    for (const it of all.filter((it) => it.tabIndex > 0)) breaks('no place in the order of its own', it);
+    for (const it of shown.filter((it) => it.matches('[aria-hidden=true] *, [aria-hidden=true]') && it.matches(CONTROLS) && it.tabIndex >= 0)) breaks('what is hidden has no focus', it);
+    for (const it of shown.filter((it) => it.matches(CONTROLS) && it.parentElement.closest('button, a[href]'))) breaks('no control in a control', it);
+    // 2.5.8: targets of 24 pixels, but for those in a line of text
+    for (const it of shown.filter((it) => it.matches('button, select, summary, input:not([type=checkbox])') && !it.closest('#moves, .away'))) {
+      const { width, height } = it.getBoundingClientRect();
+      if (width && (width < 24 || height < 24)) breaks(`a target has 24 pixels (${width.toFixed(0)} x ${height.toFixed(0)})`, it);
+    }
+    return found;
+"""
+
+# Something wrong by each of these rules.
+WRONG = {
+    "a control has a name": "<button></button>", "a part has a name": "<section>a</section>", "a picture has a text": '<img src="icon.svg">', "an id occurs once": '<p id="board"></p>',
+    "what is referred to is there": '<p aria-describedby="nothing">a</p>', "a state is true or false": '<button aria-pressed="yes">a</button>', "a role is one of ARIA": '<p role="chess">a</p>',
+    "a row is in a grid": '<p role="row">a</p>', "a cell is in a row": '<p role="gridcell">a</p>', "an item is in a list": "<div><li>a</li></div>",
+    "no place in the order of its own": '<button tabindex="3">a</button>', "what is hidden has no focus": '<p aria-hidden="true"><button>a</button></p>',
+    "no control in a control": '<a href="#"><span tabindex="0">a</span></a>', "a target has 24 pixels": '<button class="small">a</button>',
+}
+
+
 class Looking:
     def setUp(self):
         self.page.open()
@@ -277,6 +329,60 @@ class Looking:
         page.script("document.getElementById('start').click()")
         page.until(lambda: len(page.script("return heard")) >= 5, "five things are said")
         self.assertEqual(page.script("return heard"), ["1. e4. Black to move.", "\u2026 f6. White to move.", "2. Qh5+. Black to move, in check from h5 (Article 3.9.1).", "\u2026 f6. White to move.", "The start. White to move."])
+
+    def test_the_rules_for_everyone(self):
+        """Those that axe would look for, in the page and in each of its boxes, which takes the focus and gives it back."""
+        page = self.page
+        self.read()
+        self.assertEqual(page.script(BROKEN), [])
+        for name in page.script("return [...document.querySelectorAll('[data-opens]')].filter((it) => it.id !== 'mygames').map((it) => it.id)"):
+            with self.subTest(box=name):
+                box = page.script("return document.getElementById(arguments[0]).dataset.opens", name)
+                page.shows(name)
+                page.script("document.getElementById(arguments[0]).focus(); document.getElementById(arguments[0]).click()", name)
+                page.until(lambda: page.script("return document.getElementById(arguments[0]).contains(document.activeElement)", box), f"{box} has the focus")
+                self.assertEqual(page.script(BROKEN), [])
+                self.press("\ue00c")
+                page.until(lambda: not page.script("return document.getElementById(arguments[0]).open", box), f"{box} is closed")
+                page.until(lambda: page.script("return document.activeElement !== document.body && !document.querySelector('dialog[open]')"), "the focus is on the page")
+                page.closes()
+
+    def test_what_is_wrong_by_a_rule_is_found(self):
+        page = self.page
+        for rule, text in WRONG.items():
+            with self.subTest(rule=rule):
+                page.script("""
+                    const it = document.createElement('div');
+                    it.id = 'wrong';
+                    it.innerHTML = arguments[0];
+                    for (const small of it.querySelectorAll('.small')) small.style.cssText = 'all: initial; width: 9px; height: 9px; padding: 0';
+                    document.body.append(it);
+                """, text)
+                found = page.script(BROKEN)
+                page.script("document.getElementById('wrong').remove()")
+                self.assertTrue(any(it.startswith(rule) for it in found), found)
+
+    def test_tab_goes_through_the_page_in_its_order(self):
+        page = self.page
+        self.read()
+        page.script("""
+            window.passed = [];
+            addEventListener('focusin', ({ target }) => passed.push(target));
+            [...document.querySelectorAll('a[href], button, input, select')].find((it) => it.tabIndex === 0 && it.checkVisibility({ visibilityProperty: true })).focus();
+        """)
+        for _ in range(40):
+            self.press("\ue004")
+        passed = """
+            const once = [...new Set(passed)];
+            const wrong = once.filter((it, i) => i > 0 && !(once[i - 1].compareDocumentPosition(it) & Node.DOCUMENT_POSITION_FOLLOWING));
+            const can = [...document.querySelectorAll('a[href], button, input, select, textarea, summary, [tabindex="0"]')].filter((it) => it.tabIndex === 0 && !it.disabled && it.checkVisibility({ visibilityProperty: true }));
+            return [once.length, wrong.map((it) => it.id), can.filter((it) => !passed.includes(it)).map((it) => it.outerHTML.slice(0, 80))];
+        """
+        count, wrong, missed = page.script(passed)
+        self.assertGreater(count, 12)
+        # (where the keys come to the end they begin anew)
+        self.assertLessEqual(len(wrong), 1)
+        self.assertEqual(missed, [])
 
     def test_the_focus_is_never_lost_and_lists_have_one_tab_stop(self):
         page = self.page

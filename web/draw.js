@@ -130,6 +130,8 @@ const showCurrent = () => {
   if (a.top < b.top || a.bottom > b.bottom) box.scrollTop += a.top - b.top - box.clientHeight / 2;
 };
 new ResizeObserver(showCurrent).observe(by('moves'));
+// (and once more where the window's new size is laid out)
+addEventListener('resize', () => requestAnimationFrame(showCurrent));
 
 // Marks the move at the cursor, which is the list's one tab stop, and where the focus goes on.
 const markCurrent = (path) => {

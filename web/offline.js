@@ -1,6 +1,6 @@
 // Keeps the page's own files of one version in the browser, so that it opens without a net. A new version replaces them as a whole.
 // The list is written by tools/offline.
-const VERSION = 'eae9f9e70b88434a';
+const VERSION = '23966dde88745894';
 const KEPT = {
   'about.html': 'sha256-mrV3coyMVDhM7xuMlwARmmScfkzuIbh/V9u0O/mLAnQ=',
   'analysis.js': 'sha256-9hgVYkci1M32ZfrPwrkcAz49SMtLjByFpPN5X57xmVY=',
@@ -8,7 +8,7 @@ const KEPT = {
   'board.css': 'sha256-1SIGtrHf+ajfox6CxnDuHt85t0usFrKz5k0pjb8L81w=',
   'board.js': 'sha256-XTa1bKbgW749+MEPzuhPzybvywT4kLNWiGnhOXsphoI=',
   'dialogs.js': 'sha256-wlMRBT5ViXNl2w0azNBj5FO8bPcbUsLiikDWGehJwkQ=',
-  'draw.js': 'sha256-sciCUN10KHUXUnm+qrkgZ+0xW9wdf2v2+HJ9LdXUAQU=',
+  'draw.js': 'sha256-k5GVRy1CI6vBJ/fUnhJCTEJ25GdLOzQhC7G2pMt+kFk=',
   'editor.js': 'sha256-CW9xUf71JzMWbNNuHnzfPbU9EWR2clZWxXmx1VHQ3QM=',
   'engine.js': 'sha256-QUxQdVTVwtBs6NUNRGd0wBmD30uKB0omFXy8jGKcC/o=',
   'epd.js': 'sha256-xQn3GCHNc2Yqdh0gMV5ngVdUaQNX/WBZXprjkCkK10g=',
@@ -18,7 +18,7 @@ const KEPT = {
   'history.js': 'sha256-b2xYiCnIoEXfhgI8jth/7pFno7cjEuzPowCCkZyQYLc=',
   'icon.svg': 'sha256-MIqbBfrY8jneIrbk+mcJq7TJSYDbHm5LwjQhbWTpmWU=',
   'index.html': 'sha256-05tenwPNE+tjUFOqI7CkFxttU2q05JtJ7Y8GhbXC/9Q=',
-  'jatshegi.wasm': 'sha256-LkC7Xaw4mjfP9wPnepfJDYjI28u6idiv8UvpgiDBjT0=',
+  'jatshegi.wasm': 'sha256-BMTYavWJtOSAZhY3+MFFUC8pzS22X4AvKC/3zOFKXKQ=',
   'kept.js': 'sha256-vpP/bVdI8p6TCGMGRKn1e5vRVBq7u7djRam2xRtcoqM=',
   'link.js': 'sha256-uvvtXdVH8YbP3sw5pJIiGgnVAOYy3kn+ZSN9t3Hspt8=',
   'main.js': 'sha256-Jpi5lrrFC4UYCh3dKQb8JwbqbjUy2wwlHhWsqzQYsIY=',
