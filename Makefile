@@ -3,7 +3,7 @@
 #     make install                        into /usr/local
 #     make install PREFIX=/usr DESTDIR=d  into the folder d, as a package would have it
 #     make uninstall                      with the same words: removes what was installed, and the folders that were made for it
-#     make packages                       the Debian package, the tarball and the wheel, into out/
+#     make packages                       the Debian package, the tarball, the wheel and the package for npm, into out/
 
 PREFIX = /usr/local
 DESTDIR =

@@ -265,7 +265,7 @@ class Packages(Used):
         return ran.stdout.split()
 
     def test_two_builds_have_the_same_bytes(self):
-        self.assertEqual(len(self.packages[0]), 3)
+        self.assertEqual(len(self.packages[0]), 4)
         for one, other in zip(*self.packages):
             with open(one, "rb") as first, open(other, "rb") as second:
                 self.assertTrue(first.read() == second.read(), one)
@@ -328,7 +328,8 @@ class Packages(Used):
     def test_the_tag_of_the_wheel(self):
         """The library needs no newer glibc than the wheel's tag says."""
         self.wants("objdump")
-        needed = re.findall(r"GLIBC_(\d+)\.(\d+)", called("objdump", "-T", f"{runs.TOP}/release/x86_64-linux/lib/libjatshegi.so.1").stdout)
+        paths = [f"{runs.TOP}/release/x86_64-linux/lib/{it}" for it in ("libjatshegi.so.1", "_fast.abi3.so")]
+        needed = re.findall(r"GLIBC_(\d+)\.(\d+)", "".join(called("objdump", "-T", path).stdout for path in paths))
         major, minor = re.search(r"manylinux_(\d+)_(\d+)_x86_64", self.packages[0][2]).groups()
         self.assertTrue(needed)
         self.assertLessEqual(max((int(a), int(b)) for a, b in needed), (int(major), int(minor)))
@@ -353,7 +354,7 @@ class GetIt(Used):
             with open(f"{tools}/{name}", "w", encoding="utf-8") as file:
                 file.write(f"#!/bin/sh\n{text}\n")
             os.chmod(f"{tools}/{name}", 0o755)
-        self.env = {"PATH": f"{tools}:{BARE}", "HOME": self.folder, "PIP_NO_INDEX": "1", "PIP_DISABLE_PIP_VERSION_CHECK": "1"}
+        self.env = {"PATH": f"{tools}:{BARE}", "HOME": self.folder, "PIP_NO_INDEX": "1", "PIP_DISABLE_PIP_VERSION_CHECK": "1", "npm_config_offline": "true"}
 
     def ran(self, line):
         ran = called("sh", "-c", line, cwd=self.top, env=self.env)
@@ -381,11 +382,17 @@ class GetIt(Used):
         shown = self.ran("here/bin/python -c 'import jatshegi; print(jatshegi.__file__, len(jatshegi.Board().legal_moves))'")
         self.assertRegex(shown, rf"\A{re.escape(self.top)}/here/lib/.*/jatshegi/__init__.py 20\n\Z")
 
+    def in_a_project(self, line):
+        if not shutil.which("npm", path=BARE):
+            self.skipTest("npm is not installed")
+        self.ran(line)
+        self.assertEqual(self.ran("node --input-type=module -e \"import { Chess } from 'jatshegi'; console.log(new Chess().moves().length)\""), "20\n")
+
     def test_each_command(self):
         with open(f"{runs.TOP}/README.md", encoding="utf-8") as file:
             section = re.search(r"^## Get it\n(.*?)^## ", file.read(), re.M | re.S)[1]
         lines = re.findall(r"^    (\S.*)$", section, re.M)
-        ways = {"sudo make install": self.installed, "make packages": self.packed, "tar -xf": self.unpacked_here, "python3 -m venv": self.in_an_environment}
+        ways = {"sudo make install": self.installed, "make packages": self.ran, "sudo dpkg": self.packed, "tar -xf": self.unpacked_here, "python3 -m venv": self.in_an_environment, "npm install": self.in_a_project}
         self.assertEqual([next((way for way in ways if line.startswith(way)), line) for line in lines], list(ways))
         for line, way in zip(lines, ways.values()):
             with self.subTest(line=line):

@@ -2,16 +2,20 @@
 import glob
 import os
 import re
+import subprocess
 import unittest
 
 import runs
 
-PAGES = ["README.md", "CONTRIBUTING.md", "CHANGELOG.md", "suite/README.md", *sorted(glob.glob("docs/*.md", root_dir=runs.TOP))]
+PAGES = ["README.md", "CONTRIBUTING.md", "CHANGELOG.md", "SECURITY.md", "crates/README.md", "examples/README.md", "js/README.md", "suite/README.md"]
+PAGES += sorted(it for folder in ("docs", ".github", ".github/ISSUE_TEMPLATE") for it in glob.glob(f"{folder}/*.md", root_dir=runs.TOP))
 
 # Words that no source has: commands of the machine, letters of men and moves, a move that is not read, and a name that stands for others.
 ELSEWHERE = {"bash", "cc", "git", "parallel", "pgn-extract", "polyglot", "sed", "stockfish", "valgrind", "xboard", "Z0", "After-f", "NAME"}
 # Names of Rust's library and of shakmaty, on the page for Rust.
 ELSEWHERE |= {"no_std", "Sync", "to_string", "into_position", "San", "SanPlus", "Bitboard"}
+# Options of chess.js, and what one of its calls answers, on the page for JavaScript.
+ELSEWHERE |= {"skipValidation", "maxWidth", "newlineChar", "undefined"}
 LETTERS = re.compile(r"[PNBRQK]+|[pnbrqk]+|[PNBRQKpnbrqk]{12}|([a-h][1-8]){2}")
 
 
@@ -75,7 +79,7 @@ class Pages(unittest.TestCase):
     @classmethod
     def setUpClass(cls):
         cls.files = list(sources())
-        cls.words = set()
+        cls.words = set(os.listdir(runs.TOP))
         for path in cls.files:
             cls.words.update(re.findall(r"\w+", path))
             cls.words.update(re.split(r"[/.]", path))
@@ -84,8 +88,9 @@ class Pages(unittest.TestCase):
                 cls.words.update(re.findall(r"\w+", text_of(path)))
         python = glob.glob("python/jatshegi/*.py", root_dir=runs.TOP)
         rust = glob.glob("rust/src/*.rs", root_dir=runs.TOP)
+        script = glob.glob("js/src/*.js", root_dir=runs.TOP)
         tools = [f"tools/{name}" for name in os.listdir(f"{runs.TOP}/tools")]
-        for path in ("chess", "build", "test", *tools, "suite/run_class.py", "suite/run_uci.py", "crates.txt", "include/jatshegi.h", "rust/build.rs", *python, *rust):
+        for path in ("chess", "build", "test", *tools, "suite/run_class.py", "suite/run_uci.py", "crates.txt", "include/jatshegi.h", "rust/build.rs", *python, *rust, *script):
             cls.words.update(re.findall(r"[\w-]+", text_of(path)))
 
     def test_each_link_leads_somewhere(self):
@@ -95,6 +100,21 @@ class Pages(unittest.TestCase):
                     with self.subTest(page=page, target=target):
                         self.assertTrue(os.path.exists(os.path.join(runs.TOP, os.path.dirname(page), target)))
 
+    def test_each_anchor_is_a_heading(self):
+        """As GitHub makes them of headings: in lower case, without punctuation, with a hyphen for each space."""
+        for page in PAGES:
+            for target, anchor in re.findall(r"\]\(([^)#\s]*)#([^)\s]+)\)", text_of(page)):
+                path = os.path.normpath(os.path.join(os.path.dirname(page), target)) if target else page
+                if "://" not in target:
+                    headings = re.findall(r"^#+ (.*)$", re.sub(r"^```.*?^```$", "", text_of(path), flags=re.M | re.S), flags=re.M)
+                    with self.subTest(page=page, target=target, anchor=anchor):
+                        self.assertIn(anchor, [re.sub(r"[^\w\- ]", "", it.lower()).replace(" ", "-") for it in headings])
+
+    def test_no_file_is_a_link(self):
+        """`rt ci` proves nothing in a repository that has one."""
+        links = [f"{at}/{name}" for at, below, names in os.walk(runs.TOP) for name in below + names if os.path.islink(f"{at}/{name}")]
+        self.assertEqual([it for it in links if not it.startswith((f"{runs.TOP}/out/", f"{runs.TOP}/.git/"))], [])
+
     def test_each_file_that_is_named_exists(self):
         for page in PAGES:
             for text in marked(page):
@@ -103,6 +123,39 @@ class Pages(unittest.TestCase):
                         shape = re.escape(path.rstrip("/.")).replace(r"\*", "[^/]*")
                         there = os.path.exists(f"{runs.TOP}/{path}") or any(re.search(f"(^|/){shape}($|/)", file) for file in self.files)
                         self.assertTrue(there or glob.glob(f"{runs.TOP}/{path}") or "NAME" in path)
+
+    def test_what_is_quoted_is_as_in_the_sources(self):
+        ran = subprocess.run([f"{runs.TOP}/tools/quote", "--check"], capture_output=True, text=True)
+        self.assertEqual((ran.returncode, ran.stderr), (0, ""), f"put it in anew: tools/quote\n{ran.stdout}")
+        self.assertGreater(int(re.search(r"(\d+) quotations", ran.stdout)[1]), 20)
+
+    def test_no_promise_is_long(self):
+        """A paragraph, or a point of a list, has at most 100 words; a table may be as long as it is."""
+        prose = re.sub(r"^```.*?^```$", "", text_of("docs/PROMISES.md"), flags=re.M | re.S)
+        for paragraph in re.split(r"\n\s*\n|\n(?=- )", prose):
+            if not paragraph.startswith("|"):
+                with self.subTest(paragraph=paragraph.strip().splitlines()[:1]):
+                    self.assertLessEqual(len(paragraph.split()), 100)
+
+    def test_each_rule_shows_its_definition(self):
+        laws = text_of("docs/LAWS.md")
+        shown = {name for names in re.findall(r"<!-- from crates/chess_types/\S+: ([^>]*) -->", laws) for name in names.split()}
+        rows = [row for row in re.findall(r"^\| [^|]* \| [^|]* \| (`\w+\.antt`: .*) \|$", laws, flags=re.M)]
+        self.assertGreater(len(rows), 12)
+        for row in rows:
+            with self.subTest(row=row):
+                self.assertLessEqual({it for it in re.findall(r"`(\w+)`", row)}, shown)
+
+    def test_each_definition_of_the_board_that_is_used_is_shown(self):
+        """What LAWS shows of chess_types/specs/board uses nothing of that folder that it doesn't show."""
+        defined = set()
+        for path in self.files:
+            if path.startswith("crates/chess_types/specs/board/"):
+                defined.update(re.findall(r"^ *(?:pub record|abbrev pub|unfoldable pub|pub data) (\S+)", text_of(path), flags=re.M))
+        quoted = re.findall(r"<!-- from crates/chess_types/specs/board/\S+: ([^>]*) -->\n```\n(.*?)^```$", text_of("docs/LAWS.md"), flags=re.M | re.S)
+        shown = {name for names, _ in quoted for name in names.split()}
+        used = {word for _, code in quoted for word in re.findall(r"[A-Za-z_][\w-]*", re.sub(r'"[^"]*"', "", code))}
+        self.assertEqual(sorted(used & defined - shown), [])
 
     def test_each_function_that_is_shown_is_a_source(self):
         guide = {text_of(path) for path in ("crates/chess_guide/src/main.rt", "crates/chess_guide/src/tasks.rt")}
@@ -131,6 +184,26 @@ class Pages(unittest.TestCase):
                     with self.subTest(page=page, functions=names, clause=clause):
                         self.assertTrue(any(clause in named[it] for it in functions))
         self.assertGreater(count, 80)
+
+    def test_the_changelog_and_the_citation_are_dated(self):
+        """By keepachangelog's rules: what isn't released comes first, then the releases with their dates, the newest first; each with sections once."""
+        log = text_of("CHANGELOG.md")
+        releases = re.findall(r"^## (.*)\n((?:(?!## ).*\n)*)", log, flags=re.M)
+        named = [re.fullmatch(r"\[(\d+)\.(\d+)\.(\d+)\] - (\d{4}-\d\d-\d\d)", head) for head, _ in releases if head != "[Unreleased]"]
+        self.assertTrue(all(named) and "[Unreleased]" not in [head for head, _ in releases[1:]])
+        order = [([int(it) for it in one.groups()[:3]], one[4]) for one in named]
+        self.assertEqual(order, sorted(order, reverse=True))
+        for head, text in releases:
+            kinds = re.findall(r"^### (.*)$", text, flags=re.M)
+            with self.subTest(release=head):
+                self.assertEqual(kinds, [it for it in ("Added", "Changed", "Deprecated", "Removed", "Fixed", "Security", "Proved") if it in kinds])
+        self.assertRegex(text_of("CITATION.cff"), rf'(?m)^version: "{re.escape(runs.VERSION)}"\ndate-released: "\d{{4}}-\d\d-\d\d"$')
+
+    def test_the_measures_by_release_are_those_that_are_kept(self):
+        rows = [row.split(",") for row in text_of("docs/benchmarks.csv").splitlines()[1:]]
+        table = [[cell.strip() for cell in row.strip("|").split("|")] for row in re.search(r"^\| Measure \|.*\n(?:\|.*\n)*", text_of("docs/SPEED.md"), re.M)[0].splitlines()]
+        shown = {(version, row[0]): cell.split()[0] for row in table[2:] for version, cell in zip(table[0][1:], row[1:]) if cell != "not there"}
+        self.assertEqual(shown, {(version, name): f"{int(value) / 1e6:.2f}" for version, _, name, value in rows}, "make it anew: tools/benchmarks --table")
 
     def test_what_a_wrong_body_or_a_part_replaces_occurs_once(self):
         for path in glob.glob("crates/*/must-fail/*.edit", root_dir=runs.TOP):
@@ -182,3 +255,20 @@ class Pages(unittest.TestCase):
         for name in known:
             with self.subTest(crate=name):
                 self.assertTrue(f"`{name}`" in text_of("docs/ARCHITECTURE.md"), name)
+
+    def test_the_folder_of_crates_has_its_map(self):
+        """The sections and crates of crates/README.md are those of crates.txt, in order."""
+        rows = re.findall(r"^(?:# (.*)|([a-z_]+)(?: staticlib)?:.*)$", text_of("crates.txt"), flags=re.M)
+        self.assertEqual(re.findall(r"^(?:## (.*)|\| \[([a-z_]+)\]\(\2\) \| .* \|)$", text_of("crates/README.md"), flags=re.M), rows)
+
+    def test_a_name_is_defined_in_one_crate(self):
+        """A name of specs/, steps apart, is defined in one crate, but those that tests/names.txt lists with their crates."""
+        found = {}
+        for path in self.files:
+            crate = re.fullmatch(r"crates/(\w+)/specs/(?!steps).*\.antt", path)
+            for name in re.findall(r"^ *(?:pub record|abbrev pub|unfoldable pub|pub data) (\S+)", text_of(path), flags=re.M) if crate else ():
+                found.setdefault(name, set()).add(crate[1])
+        listed = {row.split()[0]: set(row.split()[1:]) for row in text_of("tests/names.txt").splitlines() if not row.startswith("#")}
+        for name in sorted({name for name, crates in found.items() if len(crates) > 1} | listed.keys()):
+            with self.subTest(name=name):
+                self.assertEqual(found.get(name), listed.get(name), "give it another name; tests/names.txt has those that are known")

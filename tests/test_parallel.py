@@ -1,4 +1,4 @@
-"""The README's recipe for GNU parallel, on one machine and on two, and the program that goes on after bad games: collections whose tags come in every
+"""`tools/in_parallel`, on one machine and on two, and the program that goes on after bad games: collections whose tags come in every
 order, with lines that end with a carriage return, and with games that can't be read."""
 import contextlib
 import getpass
@@ -15,7 +15,6 @@ import time
 import unittest
 
 import runs
-from test_pages import text_of
 
 TAGS = ['[Event "E"]', '[White "W"]', '[Result "*"]', '[Opening "Italian"]']
 MOVES = ["1. e4 e5 *", "1. d4 {two\nlines} d5\n2. c4 *", "1. Nf3 (1. c4 c5) 1... Nf6 *"]
@@ -37,22 +36,12 @@ def collection(rounds):
     return "".join(text.replace("\n", "\r\n") if number % 3 == 0 else text for number, text in enumerate(texts)).encode()
 
 
-def recipe():
-    """The command, as the README has it."""
-    return re.search(r"^    (chess_games --cut .*\n(?:        .*\n)*)", text_of("README.md"), flags=re.M).group(1)
-
-
-def run_recipe(text, least, options="", environment=None):
-    """What the recipe writes: the good games, and its reports."""
+def run_script(text, least, options=(), environment=None):
+    """What the script writes: the good games, and its reports."""
     with tempfile.TemporaryDirectory() as folder:
-        with open(f"{folder}/games.pgn", "wb") as file:
-            file.write(text)
-        command = re.sub(r"chess_games(?= --)", GAMES, recipe()).replace("--cut 2000000", f"--cut {least}")
-        command = command.replace("parallel --pipe", f"parallel {options} --pipe")
-        environment = {**os.environ, "PARALLEL_HOME": folder, **(environment or {})}
-        ran = subprocess.run(["sh", "-c", command], cwd=folder, stdin=subprocess.DEVNULL, capture_output=True, check=False, env=environment)
-        with open(f"{folder}/clean.pgn", "rb") as file:
-            return file.read(), ran.stdout.decode()
+        environment = {**os.environ, "PARALLEL_HOME": folder, "CHESS_GAMES": GAMES, "CUT": str(least), **(environment or {})}
+        ran = subprocess.run([f"{runs.TOP}/tools/in_parallel", *options], cwd=folder, input=text, capture_output=True, check=False, env=environment)
+        return ran.stdout, ran.stderr.decode()
 
 
 def one_run(text):
@@ -60,7 +49,7 @@ def one_run(text):
     return ran.stdout, ran.stderr.decode()
 
 
-@unittest.skipUnless(shutil.which("parallel"), "GNU parallel is not installed: its recipe is not tried (apt-get install parallel)")
+@unittest.skipUnless(shutil.which("parallel"), "GNU parallel is not installed: the script is not tried (apt-get install parallel)")
 class Parallel(unittest.TestCase):
     def test_all_cores_write_what_one_run_writes(self):
         text = collection(20)
@@ -68,13 +57,13 @@ class Parallel(unittest.TestCase):
         self.assertIn("game 25: fault ", wanted[1])
         for least in (1000, 10_000, 2_000_000):
             with self.subTest(least=least):
-                self.assertEqual(run_recipe(text, least), wanted)
+                self.assertEqual(run_script(text, least), wanted)
 
-    @unittest.skipUnless(os.path.exists("/usr/sbin/sshd"), "no sshd: the recipe is not tried on two machines (apt-get install openssh-server)")
+    @unittest.skipUnless(os.path.exists("/usr/sbin/sshd"), "no sshd: the script is not tried on two machines (apt-get install openssh-server)")
     def test_two_machines_write_what_one_run_writes(self):
         text = collection(20)
         with two_hosts() as environment:
-            self.assertEqual(run_recipe(text, 2000, "-S one,two", environment), one_run(text))
+            self.assertEqual(run_script(text, 2000, ("-S", "one,two"), environment), one_run(text))
 
 
 def free_port():
@@ -250,7 +239,7 @@ class GoodGames(unittest.TestCase):
 
 
 def speeds():
-    """The wall time of the recipe by one, two and four processes, and on two machines, beside that of one run."""
+    """The wall time of the script by one, two and four processes, and on two machines, beside that of one run."""
     texts = collection(1) + open(f"{runs.TOP}/crates/corpus/stdout", "rb").read() * 1500
     print(f"{len(texts)} bytes")
     begun = time.monotonic()
@@ -259,7 +248,7 @@ def speeds():
     with two_hosts() as environment:
         for options in ("-j1", "-j2", "-j4", "-j1 -S one,two", "-j2 -S one,two"):
             begun = time.monotonic()
-            got = run_recipe(texts, 2_000_000, options, environment)
+            got = run_script(texts, 2_000_000, options.split(), environment)
             print(f"{options}: {time.monotonic() - begun:.1f} s, {'the same' if got == wanted else 'NOT THE SAME'}")
 
 

@@ -1,6 +1,7 @@
 """The released program is what the sources give, and ./chess runs it there and nowhere else."""
 import hashlib
 import os
+import platform
 import pty
 import shutil
 import subprocess
@@ -15,6 +16,8 @@ PROGRAM = f"{SYSTEM}/bin/chess"
 OTHERS = ("arbiter", "chess_games", "perft")
 ENGINE = f"{SYSTEM}/bin/jatshegi"
 LIBRARIES = ("libjatshegi.a", "libjatshegi.so.1")
+# The part of the Python package in C.
+FAST = f"{SYSTEM}/lib/_fast.abi3.so"
 # The system's own folders: no kit is on this path.
 BARE = {"PATH": "/usr/bin:/bin"}
 
@@ -77,7 +80,7 @@ class TheRelease(unittest.TestCase):
         for folder, _, names in os.walk(f"{runs.TOP}/release"):
             found.update(os.path.relpath(f"{folder}/{name}", f"{runs.TOP}/release") for name in names)
         self.assertEqual(found - {"MANIFEST", "chess.sources", "all.sources"}, set(manifest()[1]))
-        self.assertEqual(set(manifest()[1]), {PROGRAM, ENGINE, *(f"{SYSTEM}/bin/{it}" for it in OTHERS), *(f"{SYSTEM}/lib/{it}" for it in LIBRARIES)})
+        self.assertEqual(set(manifest()[1]), {PROGRAM, ENGINE, *(f"{SYSTEM}/bin/{it}" for it in OTHERS), *(f"{SYSTEM}/lib/{it}" for it in LIBRARIES), FAST})
 
     def test_the_module_of_the_page_is_as_the_manifest_says(self):
         """tests/test_web.py asks whether its sources are those of the repository."""
@@ -113,6 +116,13 @@ class TheRelease(unittest.TestCase):
         for name in LIBRARIES:
             self.assertEqual(sum_of(read(f"{runs.TOP}/release/{SYSTEM}/lib/{name}")), sum_of(read(f"{runs.TOP}/out/{name}")), name)
         self.assertEqual(sum_of(read(f"{runs.TOP}/release/{ENGINE}")), sum_of(read(f"{runs.TOP}/out/jatshegi")), ENGINE)
+
+    def test_the_part_in_c_of_the_python_package_is_the_one_just_built(self):
+        """To the byte under the same compiler and the same Python; under others test_python tries it."""
+        if (manifest()[0]["cc"], manifest()[0]["python"]) != (tool_version("cc", "--version"), platform.python_version()):
+            self.skipTest("the release was built by another compiler or Python")
+        runs.make("fast")
+        self.assertEqual(sum_of(read(f"{runs.TOP}/release/{FAST}")), sum_of(read(f"{runs.TOP}/python/jatshegi/_fast.abi3.so")))
 
     def test_the_module_of_the_page_is_the_one_just_built(self):
         """To the byte under the same kit, and lowered to a 32-bit memory under the same binaryen; tests/test_web.py tries it."""
