@@ -1,0 +1,3 @@
+-- Lemmas on the rows of a line.
+pub mod MadeLemmas
+pub mod RowLemmas

@@ -1,0 +1,2 @@
+-- Definitions for the code alone.
+pub mod Made
