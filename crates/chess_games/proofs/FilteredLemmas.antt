@@ -8,29 +8,30 @@ use Rattle.chess_items.specs.declared.fault.FaultKind.TheVariants as lacks
 use Rattle.chess_items.specs.declared.fault.PgnFault.{PgnFault}
 use Rattle.chess_pgn.specs.Games.{Game}
 use Rattle.chess_pgn.specs.Sources.{Fails, Games, GivesUp, GoesOn, HasFault, HasGame, HasNone, Leaves, NextGame}
-use Rattle.chess_pgn.specs.Written.{game_text}
 use Rattle.chess_pgn.specs.declared.game.Game.{Game as Code}
 use Rattle.chess_pgn.specs.steps.GameCode.{game_of}
 use Rattle.chess_pgn.specs.declared.games.GamesFault.{GamesFault}
 use Rattle.chess_pgn.specs.declared.games.GamesFault.TheVariants.{Pgn, Read}
 use Rattle.chess_programs.specs.declared.collection.Failure.{Failure}
 use Rattle.chess_programs.specs.declared.collection.Failure.TheVariants as by
+use Rattle.chess_games.specs.declared.form.Form.{Form}
+use Rattle.chess_games.specs.Forms.{text_in}
 use Rattle.chess_games.specs.Filtered.{Entry, Good, Bad, Goes, good_text, bad_count, IsFilteredInPart, IsFresh, IsGoneOver, IsFiltered, IsLeftOff, IsUnwritten, NoNext, Stops, most_games}
 use Rattle.chess_games.specs.steps.Leaving.{IsFor, NotPassed}
 use Rattle.chess_games.specs.Parts.{Part, is_in}
 
-good_text-append : (part : Part) (before : ℕ) (entries : List Entry) (entry : Entry) → good_text part before (entries ++ entry ∷ []) ≡ good_text part before entries ++ good_text part (before + length entries) (entry ∷ [])
-good_text-append part before [] entry = ap (λ (n : ℕ). good_text part n (entry ∷ [])) (omega arith)
-good_text-append part before (Good game ∷ entries) entry =
-    let first = if is_in part before then game_text game else [] in
-    let rest = good_text-append part (before + 1) entries entry in
+good_text-append : (form : Form) (part : Part) (before : ℕ) (entries : List Entry) (entry : Entry) → good_text form part before (entries ++ entry ∷ []) ≡ good_text form part before entries ++ good_text form part (before + length entries) (entry ∷ [])
+good_text-append form part before [] entry = ap (λ (n : ℕ). good_text form part n (entry ∷ [])) (omega arith)
+good_text-append form part before (Good game ∷ entries) entry =
+    let first = if is_in part before then text_in form before game else [] in
+    let rest = good_text-append form part (before + 1) entries entry in
     let place : (before + 1) + length entries ≡ before + length (Good game ∷ entries) = omega arith in
-    ap (λ (t : List ℕ). first ++ t) (rest ∙ ap (λ (n : ℕ). good_text part (before + 1) entries ++ good_text part n (entry ∷ [])) place)
-    ∙ sym (append_assoc first (good_text part (before + 1) entries) (good_text part (before + length (Good game ∷ entries)) (entry ∷ [])))
-good_text-append part before (Bad fault ∷ entries) entry =
-    let rest = good_text-append part (before + 1) entries entry in
+    ap (λ (t : List ℕ). first ++ t) (rest ∙ ap (λ (n : ℕ). good_text form part (before + 1) entries ++ good_text form part n (entry ∷ [])) place)
+    ∙ sym (append_assoc first (good_text form part (before + 1) entries) (good_text form part (before + length (Good game ∷ entries)) (entry ∷ [])))
+good_text-append form part before (Bad fault ∷ entries) entry =
+    let rest = good_text-append form part (before + 1) entries entry in
     let place : (before + 1) + length entries ≡ before + length (Bad fault ∷ entries) = omega arith in
-    rest ∙ ap (λ (n : ℕ). good_text part (before + 1) entries ++ good_text part n (entry ∷ [])) place
+    rest ∙ ap (λ (n : ℕ). good_text form part (before + 1) entries ++ good_text form part n (entry ∷ [])) place
 
 bad_count-append : (part : Part) (before : ℕ) (entries : List Entry) (entry : Entry) → bad_count part before (entries ++ entry ∷ []) ≡ bad_count part before entries + bad_count part (before + length entries) (entry ∷ [])
 bad_count-append part before [] entry =
@@ -47,10 +48,10 @@ bad_count-append part before (Bad fault ∷ entries) entry =
     omega (arith, whole)
 
 -- of a whole collection
-good_text-more : (part : Part) (entries : List Entry) (entry : Entry) → good_text part 0 (entries ++ entry ∷ []) ≡ good_text part 0 entries ++ good_text part (length entries) (entry ∷ [])
-good_text-more part entries entry =
+good_text-more : (form : Form) (part : Part) (entries : List Entry) (entry : Entry) → good_text form part 0 (entries ++ entry ∷ []) ≡ good_text form part 0 entries ++ good_text form part (length entries) (entry ∷ [])
+good_text-more form part entries entry =
     let place : 0 + length entries ≡ length entries = omega arith in
-    good_text-append part 0 entries entry ∙ ap (λ (n : ℕ). good_text part 0 entries ++ good_text part n (entry ∷ [])) place
+    good_text-append form part 0 entries entry ∙ ap (λ (n : ℕ). good_text form part 0 entries ++ good_text form part n (entry ∷ [])) place
 
 bad_count-more : (part : Part) (entries : List Entry) (entry : Entry) → bad_count part 0 (entries ++ entry ∷ []) ≡ bad_count part 0 entries + bad_count part (length entries) (entry ∷ [])
 bad_count-more part entries entry =
@@ -94,42 +95,42 @@ module _ {R : Type 0} (gives : R → List ℕ → R → Type 0) (failed : R → 
   stops_past m f n fault by.Memory h k p = inr (f, fails_there m f fault h k, p)
 
 -- what is read and written so far
-pub record SoFar {R W : Type 0} (gives : R → List ℕ → R → Type 0) (failed : R → Bool) (ended : R → Type 0) (takes : W → List ℕ → W → Type 0) (write_failed : W → Bool) (part : Part) (source now : AtHand R) (old new : W) (bad before : ℕ) : Type 0 where
+pub record SoFar {R W : Type 0} (gives : R → List ℕ → R → Type 0) (failed : R → Bool) (ended : R → Type 0) (takes : W → List ℕ → W → Type 0) (write_failed : W → Bool) (form : Form) (part : Part) (source now : AtHand R) (old new : W) (bad before : ℕ) : Type 0 where
   pub entries : List Entry
   pub goes : Goes gives failed ended source entries now
-  pub writes : Carries takes old (good_text part 0 entries) new
+  pub writes : Carries takes old (good_text form part 0 entries) new
   pub well : write_failed new ≡ write_failed old
   pub counted : bad ≡ bad_count part 0 entries
   pub place : before ≡ length entries
   pub few : bad ≤ before
 
-module _ {R W : Type 0} (gives : R → List ℕ → R → Type 0) (failed : R → Bool) (ended : R → Type 0) (takes : W → List ℕ → W → Type 0) (write_failed : W → Bool) (part : Part) where
-  pub none_yet : (s : AtHand R) (w : W) → SoFar gives failed ended takes write_failed part s s w w 0 0
+module _ {R W : Type 0} (gives : R → List ℕ → R → Type 0) (failed : R → Bool) (ended : R → Type 0) (takes : W → List ℕ → W → Type 0) (write_failed : W → Bool) (form : Form) (part : Part) where
+  pub none_yet : (s : AtHand R) (w : W) → SoFar gives failed ended takes write_failed form part s s w w 0 0
   none_yet s w = record { entries = []; goes = refl; writes = Carries-none takes w; well = refl; counted = refl; place = refl; few = omega arith }
 
-  pub one_good : (s m n : AtHand R) (old mid new : W) (bad before : ℕ) (game : Game) → SoFar gives failed ended takes write_failed part s m old mid bad before → HasGame gives failed m n game
-      → Carries takes mid (if is_in part before then game_text game else []) new → write_failed new ≡ write_failed mid → SoFar gives failed ended takes write_failed part s n old new bad (before + 1)
+  pub one_good : (s m n : AtHand R) (old mid new : W) (bad before : ℕ) (game : Game) → SoFar gives failed ended takes write_failed form part s m old mid bad before → HasGame gives failed m n game
+      → Carries takes mid (if is_in part before then text_in form before game else []) new → write_failed new ≡ write_failed mid → SoFar gives failed ended takes write_failed form part s n old new bad (before + 1)
   one_good s m n old mid new bad before game f h written well = record {
     entries = f.entries ++ Good game ∷ [];
     goes = goes_good gives failed ended s m n f.entries game f.goes h;
     well = well ∙ f.well;
     writes =
-        (let there = subst (λ (k : ℕ). Carries takes mid (if is_in part k then game_text game else []) new) f.place written in
-        let last = subst (λ (t : List ℕ). Carries takes mid t new) (sym (append-nil (if is_in part (length f.entries) then game_text game else []))) there in
-        subst (λ (t : List ℕ). Carries takes old t new) (sym (good_text-more part f.entries (Good game)))
-        (Carries-append takes old mid new (good_text part 0 f.entries) (good_text part (length f.entries) (Good game ∷ [])) f.writes last));
+        (let there = subst (λ (k : ℕ). Carries takes mid (if is_in part k then text_in form k game else []) new) f.place written in
+        let last = subst (λ (t : List ℕ). Carries takes mid t new) (sym (append-nil (if is_in part (length f.entries) then text_in form (length f.entries) game else []))) there in
+        subst (λ (t : List ℕ). Carries takes old t new) (sym (good_text-more form part f.entries (Good game)))
+        (Carries-append takes old mid new (good_text form part 0 f.entries) (good_text form part (length f.entries) (Good game ∷ [])) f.writes last));
     counted = omega (arith, f.counted, bad_count-more part f.entries (Good game));
     place = omega (arith, f.place, length-more f.entries (Good game));
     few = omega (arith, f.few);
   }
 
-  pub one_bad : (s m f n : AtHand R) (old mid : W) (bad more before : ℕ) (fault : PgnFault) → SoFar gives failed ended takes write_failed part s m old mid bad before → HasFault gives failed ended m f (Pgn fault) → fault.kind ≢ lacks.Memory
-      → GivesUp gives failed m n → more ≡ (if is_in part before then 1 else 0) → more ≤ 1 → SoFar gives failed ended takes write_failed part s n old mid (bad + more) (before + 1)
+  pub one_bad : (s m f n : AtHand R) (old mid : W) (bad more before : ℕ) (fault : PgnFault) → SoFar gives failed ended takes write_failed form part s m old mid bad before → HasFault gives failed ended m f (Pgn fault) → fault.kind ≢ lacks.Memory
+      → GivesUp gives failed m n → more ≡ (if is_in part before then 1 else 0) → more ≤ 1 → SoFar gives failed ended takes write_failed form part s n old mid (bad + more) (before + 1)
   one_bad s m f n old mid bad more before fault g h k p counts one = record {
     entries = g.entries ++ Bad fault ∷ [];
     goes = goes_bad gives failed ended s m f n g.entries fault g.goes k (fails_there gives failed ended m f fault h k) p;
     well = g.well;
-    writes = subst (λ (t : List ℕ). Carries takes old t mid) (sym (good_text-more part g.entries (Bad fault) ∙ append-nil (good_text part 0 g.entries))) g.writes;
+    writes = subst (λ (t : List ℕ). Carries takes old t mid) (sym (good_text-more form part g.entries (Bad fault) ∙ append-nil (good_text form part 0 g.entries))) g.writes;
     counted =
         (let there : more ≡ (if is_in part (length g.entries) then 1 else 0) = subst (λ (k : ℕ). more ≡ (if is_in part k then 1 else 0)) g.place counts in
         omega (arith, g.counted, there, bad_count-more part g.entries (Bad fault)));
@@ -137,11 +138,11 @@ module _ {R W : Type 0} (gives : R → List ℕ → R → Type 0) (failed : R �
     few = omega (arith, g.few, one);
   }
 
-  pub all_read : (s m n : AtHand R) (old new : W) (bad before : ℕ) → SoFar gives failed ended takes write_failed part s m old new bad before → HasNone gives failed m n → ended n.source → IsGoneOver gives failed ended takes write_failed part s old new bad
+  pub all_read : (s m n : AtHand R) (old new : W) (bad before : ℕ) → SoFar gives failed ended takes write_failed form part s m old new bad before → HasNone gives failed m n → ended n.source → IsGoneOver gives failed ended takes write_failed form part s old new bad
   all_read s m n old new bad before f h told = record { entries = f.entries; there = m; goes = f.goes; left = n; none = h; all = told; writes = f.writes; well_written = f.well; counted = f.counted }
 
-  module _ (s m : AtHand R) (old mid : W) (bad before : ℕ) (f : SoFar gives failed ended takes write_failed part s m old mid bad before) where
-    left_off_by : (new : W) (failure : Failure) → Stops gives failed ended takes write_failed part before m mid new failure → IsLeftOff gives failed ended takes write_failed part s old new failure
+  module _ (s m : AtHand R) (old mid : W) (bad before : ℕ) (f : SoFar gives failed ended takes write_failed form part s m old mid bad before) where
+    left_off_by : (new : W) (failure : Failure) → Stops gives failed ended takes write_failed form part before m mid new failure → IsLeftOff gives failed ended takes write_failed form part s old new failure
     left_off_by new failure stops = record {
       entries = f.entries;
       there = m;
@@ -149,20 +150,20 @@ module _ {R W : Type 0} (gives : R → List ℕ → R → Type 0) (failed : R �
       mid = mid;
       writes = f.writes;
       well_written = f.well;
-      stops = subst (λ (n : ℕ). Stops gives failed ended takes write_failed part n m mid new failure) f.place stops;
+      stops = subst (λ (n : ℕ). Stops gives failed ended takes write_failed form part n m mid new failure) f.place stops;
     }
 
     -- there is no way to the next game
-    pub off_at_next : (left : AtHand R) (failure : Failure) → NoNext gives failed ended m left failure → IsLeftOff gives failed ended takes write_failed part s old mid failure
+    pub off_at_next : (left : AtHand R) (failure : Failure) → NoNext gives failed ended m left failure → IsLeftOff gives failed ended takes write_failed form part s old mid failure
     off_at_next left failure none = left_off_by mid failure (inl (left, none, refl))
 
     -- it isn't written whole
-    pub off_at_game : (left : AtHand R) (new : W) (game : Game) (failure : Failure) → HasGame gives failed m left game → (asked : Bool) → asked ≡ is_in part before → asked ≡ true → IsUnwritten takes write_failed (game_text game) mid new failure
-        → IsLeftOff gives failed ended takes write_failed part s old new failure
+    pub off_at_game : (left : AtHand R) (new : W) (game : Game) (failure : Failure) → HasGame gives failed m left game → (asked : Bool) → asked ≡ is_in part before → asked ≡ true → IsUnwritten takes write_failed (text_in form before game) mid new failure
+        → IsLeftOff gives failed ended takes write_failed form part s old new failure
     off_at_game left new game failure has asked is so unwritten = left_off_by new failure (inr (inl (left, game, has, sym is ∙ so, unwritten)))
 
     -- there were too many
-    pub off_at_most : before ≡ most_games → IsLeftOff gives failed ended takes write_failed part s old mid by.Read
+    pub off_at_most : before ≡ most_games → IsLeftOff gives failed ended takes write_failed form part s old mid by.Read
     off_at_most most = left_off_by mid by.Read (inr (inr (most, refl, refl)))
 
 -- what holds of a failure holds of it as it is handed on
@@ -208,12 +209,12 @@ pub still_on : (fault : Option GamesFault) → fault ≡ None → GoesOn fault
 still_on fault e = subst (λ (f : Option GamesFault). GoesOn f) (sym e) tt
 
 -- from the beginning of a source
-pub from_fresh : {R W E : Type 0} (gives : R → List ℕ → R → Type 0) (failed : R → Bool) (ended : R → Type 0) (takes : W → List ℕ → W → Type 0) (write_failed : W → Bool) (part : Part) (source : R) (text : AtHand R) (old new : W) (result : Result ℕ E) → IsFresh source text
-    → IfOk result (λ bad. IsGoneOver gives failed ended takes write_failed part text old new bad) → IfOk result (λ bad. IsFiltered gives failed ended takes write_failed part source old new bad)
-from_fresh gives failed ended takes write_failed part source text old new (Ok bad) fresh all = record { text = text; fresh = fresh; all = all }
-from_fresh gives failed ended takes write_failed part source text old new (Err e) fresh all = all
+pub from_fresh : {R W E : Type 0} (gives : R → List ℕ → R → Type 0) (failed : R → Bool) (ended : R → Type 0) (takes : W → List ℕ → W → Type 0) (write_failed : W → Bool) (form : Form) (part : Part) (source : R) (text : AtHand R) (old new : W) (result : Result ℕ E) → IsFresh source text
+    → IfOk result (λ bad. IsGoneOver gives failed ended takes write_failed form part text old new bad) → IfOk result (λ bad. IsFiltered gives failed ended takes write_failed form part source old new bad)
+from_fresh gives failed ended takes write_failed form part source text old new (Ok bad) fresh all = record { text = text; fresh = fresh; all = all }
+from_fresh gives failed ended takes write_failed form part source text old new (Err e) fresh all = all
 
-pub short_fresh : {R W X : Type 0} (gives : R → List ℕ → R → Type 0) (failed : R → Bool) (ended : R → Type 0) (takes : W → List ℕ → W → Type 0) (write_failed : W → Bool) (part : Part) (source : R) (text : AtHand R) (old new : W) (result : Result X Failure) → IsFresh source text
-    → IfErr result (λ failure. IsLeftOff gives failed ended takes write_failed part text old new failure) → IfErr result (λ failure. IsFilteredInPart gives failed ended takes write_failed part source old new failure)
-short_fresh gives failed ended takes write_failed part source text old new (Ok x) fresh off = off
-short_fresh gives failed ended takes write_failed part source text old new (Err e) fresh off = record { text = text; fresh = fresh; off = off }
+pub short_fresh : {R W X : Type 0} (gives : R → List ℕ → R → Type 0) (failed : R → Bool) (ended : R → Type 0) (takes : W → List ℕ → W → Type 0) (write_failed : W → Bool) (form : Form) (part : Part) (source : R) (text : AtHand R) (old new : W) (result : Result X Failure) → IsFresh source text
+    → IfErr result (λ failure. IsLeftOff gives failed ended takes write_failed form part text old new failure) → IfErr result (λ failure. IsFilteredInPart gives failed ended takes write_failed form part source old new failure)
+short_fresh gives failed ended takes write_failed form part source text old new (Ok x) fresh off = off
+short_fresh gives failed ended takes write_failed form part source text old new (Err e) fresh off = record { text = text; fresh = fresh; off = off }

@@ -12,19 +12,20 @@ use Rattle.chess_pgn.specs.declared.game.Game as code
 use Rattle.chess_pgn.specs.steps.GameCode.{game_of}
 use Rattle.chess_repair.specs.declared.repair.Repair.{Repair}
 use Rattle.chess_salvage.specs.Salvaging.{IsSalvaged, found_in}
+use Rattle.chess_games.specs.declared.form.Form.{Form}
 use Rattle.chess_games.specs.Parts.{Part, is_in}
 use Rattle.chess_games.specs.Salvaged.{Explains, Good, IsLookedAt, IsSalvagedAll, IsSavedFrom, Lost, Saved, Stretch, Tiles, bytes_of, found_text, loss_of, lost_count, saved_text, text_of}
 use Rattle.chess_games.specs.Windows.{Comes, KnowsItsEnd, Window}
 use Rattle.chess_games.specs.steps.Salvages.{IsNext, IsSaved, IsWide}
 
-saved_text-append : (part : Part) (before : ℕ) (ss : List Stretch) (s : Stretch) → saved_text part before (ss ++ s ∷ []) ≡ saved_text part before ss ++ text_of (is_in part (before + length ss)) s
-saved_text-append part before [] s =
-    append-nil (text_of (is_in part before) s) ∙ ap (λ (n : ℕ). text_of (is_in part n) s) (let e : before ≡ before + length {A = Stretch} [] = omega arith in e)
-saved_text-append part before (first ∷ ss) s =
-    let rest = saved_text-append part (before + 1) ss s in
+saved_text-append : (form : Form) (part : Part) (before : ℕ) (ss : List Stretch) (s : Stretch) → saved_text form part before (ss ++ s ∷ []) ≡ saved_text form part before ss ++ text_of form (before + length ss) (is_in part (before + length ss)) s
+saved_text-append form part before [] s =
+    append-nil (text_of form before (is_in part before) s) ∙ ap (λ (n : ℕ). text_of form n (is_in part n) s) (let e : before ≡ before + length {A = Stretch} [] = omega arith in e)
+saved_text-append form part before (first ∷ ss) s =
+    let rest = saved_text-append form part (before + 1) ss s in
     let place : (before + 1) + length ss ≡ before + length (first ∷ ss) = omega arith in
-    ap (λ (t : List ℕ). text_of (is_in part before) first ++ t) (rest ∙ ap (λ (n : ℕ). saved_text part (before + 1) ss ++ text_of (is_in part n) s) place)
-    ∙ sym (append_assoc (text_of (is_in part before) first) (saved_text part (before + 1) ss) (text_of (is_in part (before + length (first ∷ ss))) s))
+    ap (λ (t : List ℕ). text_of form before (is_in part before) first ++ t) (rest ∙ ap (λ (n : ℕ). saved_text form part (before + 1) ss ++ text_of form n (is_in part n) s) place)
+    ∙ sym (append_assoc (text_of form before (is_in part before) first) (saved_text form part (before + 1) ss) (text_of form (before + length (first ∷ ss)) (is_in part (before + length (first ∷ ss))) s))
 
 lost_count-append : (part : Part) (before : ℕ) (ss : List Stretch) (s : Stretch) → lost_count part before (ss ++ s ∷ []) ≡ lost_count part before ss + loss_of (is_in part (before + length ss)) s
 lost_count-append part before [] s =
@@ -46,20 +47,20 @@ length-more [] x = refl
 length-more (y ∷ xs) x = (let l = length-more xs x in omega (arith, l))
 
 -- what is read and written so far
-pub record SavedSoFar {R W : Type 0} (gives : R → List ℕ → R → Type 0) (failed : R → Bool) (takes : W → List ℕ → W → Type 0) (write_failed : W → Bool) (part : Part) (source : R) (now : Window R) (old new : W) (bad before : ℕ) : Type 0 where
+pub record SavedSoFar {R W : Type 0} (gives : R → List ℕ → R → Type 0) (failed : R → Bool) (takes : W → List ℕ → W → Type 0) (write_failed : W → Bool) (form : Form) (part : Part) (source : R) (now : Window R) (old new : W) (bad before : ℕ) : Type 0 where
   pub text : List ℕ
   pub came : Carries gives source text now.source
   pub well : failed now.source ≡ failed source
   pub stretches : List Stretch
   pub tiles : (more : List ℕ) → (now.has_ended ≡ true → more ≡ []) → Tiles (text ++ more) stretches (now.bytes ++ more)
-  pub writes : Carries takes old (saved_text part 0 stretches) new
+  pub writes : Carries takes old (saved_text form part 0 stretches) new
   pub well_written : write_failed new ≡ write_failed old
   pub counted : bad ≡ lost_count part 0 stretches
   pub place : before ≡ length stretches
   pub few : bad ≤ before
 
-module _ {R W : Type 0} (gives : R → List ℕ → R → Type 0) (failed : R → Bool) (takes : W → List ℕ → W → Type 0) (write_failed : W → Bool) (part : Part) where
-  pub nothing_yet : (w : Window R) (x : W) → w.bytes ≡ [] → SavedSoFar gives failed takes write_failed part w.source w x x 0 0
+module _ {R W : Type 0} (gives : R → List ℕ → R → Type 0) (failed : R → Bool) (takes : W → List ℕ → W → Type 0) (write_failed : W → Bool) (form : Form) (part : Part) where
+  pub nothing_yet : (w : Window R) (x : W) → w.bytes ≡ [] → SavedSoFar gives failed takes write_failed form part w.source w x x 0 0
   nothing_yet w x none = record {
     text = [];
     came = Carries-none gives w.source;
@@ -74,7 +75,7 @@ module _ {R W : Type 0} (gives : R → List ℕ → R → Type 0) (failed : R �
   }
 
   -- more bytes came
-  pub more_at_hand : (source : R) (w v : Window R) (old new : W) (bad before : ℕ) → SavedSoFar gives failed takes write_failed part source w old new bad before → Comes gives failed w v → SavedSoFar gives failed takes write_failed part source v old new bad before
+  pub more_at_hand : (source : R) (w v : Window R) (old new : W) (bad before : ℕ) → SavedSoFar gives failed takes write_failed form part source w old new bad before → Comes gives failed w v → SavedSoFar gives failed takes write_failed form part source v old new bad before
   more_at_hand source w v old new bad before f c = record {
     text = f.text ++ c.bytes;
     came = Carries-append gives source w.source v.source f.text c.bytes f.came c.came;
@@ -96,9 +97,9 @@ module _ {R W : Type 0} (gives : R → List ℕ → R → Type 0) (failed : R �
   looked_at w more (inr over) ends = record { more = more; parts = refl; wide = inr (ends over) }
 
   -- a stretch more
-  pub one_stretch : (source : R) (w v : Window R) (old mid new : W) (bad more before used : ℕ) (s : Stretch) → SavedSoFar gives failed takes write_failed part source w old mid bad before → IsWide w → Explains w.bytes s → bytes_of s ≡ take used w.bytes
-      → v.bytes ≡ drop used w.bytes → v.source ≡ w.source → v.has_ended ≡ w.has_ended → Carries takes mid (text_of (is_in part before) s) new → write_failed new ≡ write_failed mid → more ≡ loss_of (is_in part before) s → more ≤ 1
-      → SavedSoFar gives failed takes write_failed part source v old new (bad + more) (before + 1)
+  pub one_stretch : (source : R) (w v : Window R) (old mid new : W) (bad more before used : ℕ) (s : Stretch) → SavedSoFar gives failed takes write_failed form part source w old mid bad before → IsWide w → Explains w.bytes s → bytes_of s ≡ take used w.bytes
+      → v.bytes ≡ drop used w.bytes → v.source ≡ w.source → v.has_ended ≡ w.has_ended → Carries takes mid (text_of form before (is_in part before) s) new → write_failed new ≡ write_failed mid → more ≡ loss_of (is_in part before) s → more ≤ 1
+      → SavedSoFar gives failed takes write_failed form part source v old new (bad + more) (before + 1)
   one_stretch source w v old mid new bad more before used s f wide explained bytes left same ended written well counts one = record {
     text = f.text;
     came = subst (λ (x : R). Carries gives source f.text x) (sym same) f.came;
@@ -110,9 +111,9 @@ module _ {R W : Type 0} (gives : R → List ℕ → R → Type 0) (failed : R �
         (ap (λ (z : List ℕ). z ++ rest) (sym (take-append-drop used w.bytes)) ∙ append_assoc (take used w.bytes) (drop used w.bytes) rest
         ∙ ap (λ (z : List ℕ). z ++ (drop used w.bytes ++ rest)) (sym bytes) ∙ ap (λ (z : List ℕ). bytes_of s ++ (z ++ rest)) (sym left));
     writes =
-        subst (λ (t : List ℕ). Carries takes old t new) (sym (saved_text-append part 0 f.stretches s))
-        (Carries-append takes old mid new (saved_text part 0 f.stretches) (text_of (is_in part (0 + length f.stretches)) s) f.writes
-        (subst (λ (n : ℕ). Carries takes mid (text_of (is_in part n) s) new) (f.place ∙ zero_more) written));
+        subst (λ (t : List ℕ). Carries takes old t new) (sym (saved_text-append form part 0 f.stretches s))
+        (Carries-append takes old mid new (saved_text form part 0 f.stretches) (text_of form (0 + length f.stretches) (is_in part (0 + length f.stretches)) s) f.writes
+        (subst (λ (n : ℕ). Carries takes mid (text_of form n (is_in part n) s) new) (f.place ∙ zero_more) written));
     well_written = well ∙ f.well_written;
     counted =
         (let there : more ≡ loss_of (is_in part (0 + length f.stretches)) s = subst (λ (n : ℕ). more ≡ loss_of (is_in part n) s) (f.place ∙ zero_more) counts in
@@ -127,7 +128,7 @@ module _ {R W : Type 0} (gives : R → List ℕ → R → Type 0) (failed : R �
       zero_more = omega arith
 
   -- nothing is left but white space
-  pub all_saved : (ended : R → Type 0) (source : R) (w : Window R) (old new : W) (bad before : ℕ) → SavedSoFar gives failed takes write_failed part source w old new bad before → ended w.source → IsWhite w.bytes → IsSalvagedAll gives failed ended takes write_failed part source old new bad
+  pub all_saved : (ended : R → Type 0) (source : R) (w : Window R) (old new : W) (bad before : ℕ) → SavedSoFar gives failed takes write_failed form part source w old new bad before → ended w.source → IsWhite w.bytes → IsSalvagedAll gives failed ended takes write_failed form part source old new bad
   all_saved ended source w old new bad before f over white = record {
     text = f.text;
     left = w.source;
@@ -175,7 +176,7 @@ next_good bytes game used (fits, one, is, begins) = record {
   stretch = Good (take used bytes) one;
   explained = good_here used bytes one fits begins;
   first = refl;
-  written = λ asked. ap (λ (x : Option Game). found_text asked x) (sym is);
+  written = λ form before asked. ap (λ (x : Option Game). found_text form before asked x) (sym is);
   lost = λ asked. refl;
 }
 
@@ -185,7 +186,7 @@ next_saved bytes game used (fits, one, is, from) = record {
   stretch = Saved (take used bytes) one;
   explained = saved_here used bytes one fits from;
   first = refl;
-  written = λ asked. ap (λ (x : Option Game). found_text asked x) (sym is);
+  written = λ form before asked. ap (λ (x : Option Game). found_text form before asked x) (sym is);
   lost = λ asked. refl;
 }
 
@@ -195,7 +196,7 @@ next_lost bytes game used fault is none up = record {
   stretch = Lost (take used bytes);
   explained = lost_here used bytes (let n = up.counted in omega (arith, n)) none up;
   first = refl;
-  written = λ asked. ap (λ (x : Option Game). found_text asked x) (sym is);
+  written = λ form before asked. ap (λ (x : Option Game). found_text form before asked x) (sym is);
   lost = λ asked. refl;
 }
 

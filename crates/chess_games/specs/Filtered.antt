@@ -1,7 +1,7 @@
 -- What is read of a collection, and written of it.
 --   Entry       a game that was read, or the fault of one that can't be read
 --   Goes        games are read one after another: one that can't be read, not for want of memory, is given up, from its first byte to where its text says that the next begins
---   good_text   the export forms of the good games of a part, in order, after so many games
+--   good_text   what is written of the good games of a part, in order, after so many games
 --   bad_count   how many games of a part can't be read
 --   IsFresh     nothing of a source is read
 --   IsGoneOver  it is read so to its end, which the source has come to; the good games of the part are written, and nothing else; this many of the part can't be
@@ -22,9 +22,10 @@ use Rattle.chess_items.specs.declared.fault.PgnFault.{PgnFault}
 use Rattle.chess_loop.specs.RunEnds.{Broken}
 use Rattle.chess_pgn.specs.Games.{Game}
 use Rattle.chess_pgn.specs.Sources.{Fails, GivesUp, HasGame, HasNone, ReadFails, Starves}
-use Rattle.chess_pgn.specs.Written.{game_text}
 use Rattle.chess_programs.specs.declared.collection.Failure.{Failure}
 use Rattle.chess_programs.specs.declared.collection.Failure.TheVariants as by
+use Rattle.chess_games.specs.declared.form.Form.{Form}
+use Rattle.chess_games.specs.Forms.{text_in}
 use Rattle.chess_games.specs.Parts.{Part, is_in}
 
 pub data Entry : Type 0 where
@@ -38,10 +39,10 @@ module _ {R : Type 0} (gives : R → List ℕ → R → Type 0) (failed : R → 
   Goes old (Bad fault ∷ entries) new =
       (there : AtHand R) × (mid : AtHand R) × (fault.kind ≢ lacks.Memory) × Fails gives failed ended old there × GivesUp gives failed old mid × Goes mid entries new
 
-abbrev pub good_text : Part → ℕ → List Entry → List ℕ
-good_text part before [] = []
-good_text part before (Good game ∷ entries) = (if is_in part before then game_text game else []) ++ good_text part (before + 1) entries
-good_text part before (Bad fault ∷ entries) = good_text part (before + 1) entries
+abbrev pub good_text : Form → Part → ℕ → List Entry → List ℕ
+good_text form part before [] = []
+good_text form part before (Good game ∷ entries) = (if is_in part before then text_in form before game else []) ++ good_text form part (before + 1) entries
+good_text form part before (Bad fault ∷ entries) = good_text form part (before + 1) entries
 
 abbrev pub bad_count : Part → ℕ → List Entry → ℕ
 bad_count part before [] = 0
@@ -56,21 +57,21 @@ pub record IsFresh {R : Type 0} (source : R) (text : AtHand R) : Type 0 where
   pub reads : text.reads ≡ 1099511627776
   pub used : text.used ≡ 0
 
-pub record IsGoneOver {R W : Type 0} (gives : R → List ℕ → R → Type 0) (failed : R → Bool) (ended : R → Type 0) (takes : W → List ℕ → W → Type 0) (write_failed : W → Bool) (part : Part) (text : AtHand R) (old new : W) (bad : ℕ) : Type 0 where
+pub record IsGoneOver {R W : Type 0} (gives : R → List ℕ → R → Type 0) (failed : R → Bool) (ended : R → Type 0) (takes : W → List ℕ → W → Type 0) (write_failed : W → Bool) (form : Form) (part : Part) (text : AtHand R) (old new : W) (bad : ℕ) : Type 0 where
   pub entries : List Entry
   pub there : AtHand R
   pub goes : Goes gives failed ended text entries there
   pub left : AtHand R
   pub none : HasNone gives failed there left
   pub all : ended left.source
-  pub writes : Carries takes old (good_text part 0 entries) new
+  pub writes : Carries takes old (good_text form part 0 entries) new
   pub well_written : write_failed new ≡ write_failed old
   pub counted : bad ≡ bad_count part 0 entries
 
-pub record IsFiltered {R W : Type 0} (gives : R → List ℕ → R → Type 0) (failed : R → Bool) (ended : R → Type 0) (takes : W → List ℕ → W → Type 0) (write_failed : W → Bool) (part : Part) (source : R) (old new : W) (bad : ℕ) : Type 0 where
+pub record IsFiltered {R W : Type 0} (gives : R → List ℕ → R → Type 0) (failed : R → Bool) (ended : R → Type 0) (takes : W → List ℕ → W → Type 0) (write_failed : W → Bool) (form : Form) (part : Part) (source : R) (old new : W) (bad : ℕ) : Type 0 where
   pub text : AtHand R
   pub fresh : IsFresh source text
-  pub all : IsGoneOver gives failed ended takes write_failed part text old new bad
+  pub all : IsGoneOver gives failed ended takes write_failed form part text old new bad
 
 -- 2^57
 abbrev pub most_games : ℕ
@@ -89,11 +90,11 @@ module _ {R : Type 0} (gives : R → List ℕ → R → Type 0) (failed : R → 
   NoNext there left by.Memory =
       Starves gives failed ended there left ⊎ ((mid : AtHand R) × Fails gives failed ended there mid × CameWhere GoesFurther gives failed there left)
 
-  module _ {W : Type 0} (takes : W → List ℕ → W → Type 0) (write_failed : W → Bool) (part : Part) where
+  module _ {W : Type 0} (takes : W → List ℕ → W → Type 0) (write_failed : W → Bool) (form : Form) (part : Part) where
     abbrev pub Stops : ℕ → AtHand R → W → W → Failure → Type 0
     Stops count there mid new failure =
         ((left : AtHand R) × NoNext there left failure × (new ≡ mid))
-        ⊎ ((left : AtHand R) × (game : Game) × HasGame gives failed there left game × (is_in part count ≡ true) × IsUnwritten takes write_failed (game_text game) mid new failure)
+        ⊎ ((left : AtHand R) × (game : Game) × HasGame gives failed there left game × (is_in part count ≡ true) × IsUnwritten takes write_failed (text_in form count game) mid new failure)
         ⊎ ((count ≡ most_games) × (failure ≡ by.Read) × (new ≡ mid))
 
     pub record IsLeftOff (text : AtHand R) (old new : W) (failure : Failure) : Type 0 where
@@ -101,7 +102,7 @@ module _ {R : Type 0} (gives : R → List ℕ → R → Type 0) (failed : R → 
       pub there : AtHand R
       pub goes : Goes gives failed ended text entries there
       pub mid : W
-      pub writes : Carries takes old (good_text part 0 entries) mid
+      pub writes : Carries takes old (good_text form part 0 entries) mid
       pub well_written : write_failed mid ≡ write_failed old
       pub stops : Stops (length entries) there mid new failure
 

@@ -1,5 +1,6 @@
 -- What a part of a collection is, what is written of it, and what the pieces of a collection are. `steps` has words of the code alone.
 
+pub mod Forms
 pub mod Filtered
 pub mod Parts
 pub mod Pieces

@@ -1,47 +1,69 @@
-ghost use Rattle.std.specs.Prelude.{◌≡◌, ◌≤◌, if◌then◌else◌, [], true, false, None, Some, IfErr, IfOk, OnOk};
+ghost use Rattle.std.specs.Prelude.{◌≡◌, ◌≤◌, ◌<◌, ◌⊎◌, if◌then◌else◌, [], true, false, None, Some, IfErr, IfOk, OnOk};
 ghost use Rattle.byte_streams.specs.Calls.{Carries};
 ghost use Rattle.chess_items.specs.Coming.{AtHand};
 ghost use Rattle.chess_pgn.specs.Sources.{GivesUp, GoesOn, IsSound, Leaves};
 ghost use Rattle.chess_pgn.specs.declared.games.GamesFault.{GamesFault};
 ghost use Rattle.chess_pgn.specs.declared.games.GamesFault.TheVariants.{Pgn};
-ghost use Rattle.chess_pgn.specs.Written.{game_text};
 ghost use Rattle.chess_pgn.specs.steps.GameCode.{game_of};
-ghost use Rattle.chess_games.specs.Filtered.{IsFiltered, IsFilteredInPart, IsGoneOver, IsLeftOff, IsUnwritten};
+ghost use Rattle.chess_games.specs.Filtered.{IsFiltered, IsFilteredInPart, IsGoneOver, IsLeftOff, IsUnwritten, most_games};
+ghost use Rattle.chess_games.specs.Forms.{IsHeaded, head_in, text_in};
 ghost use Rattle.chess_games.specs.steps.Leaving.{IsFor, NotPassed};
 
+use crate::form::Form;
 use crate::part::Part;
 use crate::put::put;
 use byte_streams::{Sink, Source};
-use chess_pgn::{FaultKind, Game, Games, GamesFault, PgnFault, Texts, write_game_with};
+use chess_pgn::{FaultKind, Game, Games, GamesFault, PgnFault, Texts};
 use chess_programs::{Failure, GAMES, Progress};
 use std::alloc::Allocator;
 
 /// What is asked of a run over games.
-#[derive(Clone, Copy)]
+#[derive(Drop)]
 pub struct Wanted {
+    /// How good games are written.
+    pub form: Form,
     /// The games that are written or reported.
     pub part: Part,
     /// At the end a line with the number of games, of bytes, and of the bytes of bad games, on the standard error.
     pub totals: bool,
 }
 
-// Writes the export form of a game, if it is asked for.
+/// Writes what stands before all games.
+pub fn put_head<A: Allocator, W: Sink>(
+    alloc: &A,
+    form: &Form,
+    writer: &mut W,
+) -> Result<(), Failure>
+    ensures all { OnOk result (Carries W.takes writer.old (head_in form.now) writer.new) }
+    ensures well { OnOk result (W.failed writer.new ≡ W.failed writer.old) }
+    ensures unwritten { IfErr result (λ failure. IsUnwritten W.takes W.failed (head_in form.now) writer.old writer.new failure) }
+{
+    let Ok(text) = form.head(alloc) else {
+        return Err(Failure::Memory);
+    };
+    put(writer, text.as_slice())
+}
+
+// Writes a game, if it is asked for.
 fn write_if<'a, A: Allocator, W: Sink>(
     alloc: &'a A,
+    form: &Form,
     is_asked: bool,
+    before: u64,
     game: &Game<'a, A>,
     texts: &Texts<'a, A>,
     writer: &mut W,
 ) -> Result<(), Failure>
-    ensures all { OnOk result (Carries W.takes writer.old (if is_asked then game_text (game_of game.now) else []) writer.new) }
+    requires few { before < most_games }
+    ensures all { OnOk result (Carries W.takes writer.old (if is_asked then text_in form.now before (game_of game.now) else []) writer.new) }
     ensures well { OnOk result (W.failed writer.new ≡ W.failed writer.old) }
     ensures asked { IfErr result (λ _. is_asked ≡ true) }
-    ensures unwritten { IfErr result (λ failure. IsUnwritten W.takes W.failed (game_text (game_of game.now)) writer.old writer.new failure) }
+    ensures unwritten { IfErr result (λ failure. IsUnwritten W.takes W.failed (text_in form.now before (game_of game.now)) writer.old writer.new failure) }
 {
     if !is_asked {
         return Ok(());
     }
-    let Ok(text) = write_game_with(alloc, game, texts) else {
+    let Ok(text) = form.text(alloc, before, game, texts) else {
         return Err(Failure::Memory);
     };
     put(writer, text.as_slice())
@@ -116,8 +138,8 @@ fn write_good<'a, A: Allocator, R: Source, W: Sink>(
 ) -> Result<u64, Failure>
     requires sound { IsSound R.ended games.old }
     requires none { games.old.fault ≡ None }
-    ensures good { IfOk result (λ bad. IsGoneOver R.gives R.failed R.ended W.takes W.failed wanted.now.part games.old.text writer.old writer.new bad) }
-    ensures off { IfErr result (λ failure. IsLeftOff R.gives R.failed R.ended W.takes W.failed wanted.now.part games.old.text writer.old writer.new failure) }
+    ensures good { IfOk result (λ bad. IsGoneOver R.gives R.failed R.ended W.takes W.failed wanted.now.form wanted.now.part games.old.text writer.old writer.new bad) }
+    ensures off { IfErr result (λ failure. IsLeftOff R.gives R.failed R.ended W.takes W.failed wanted.now.form wanted.now.part games.old.text writer.old writer.new failure) }
 {
     let mut bad = 0u64;
     let mut passed = 0u64;
@@ -134,7 +156,7 @@ fn write_good<'a, A: Allocator, R: Source, W: Sink>(
                 return Ok(bad);
             }
             Ok(Some(game)) => {
-                write_if(alloc, is_asked, &game, &texts, writer)?;
+                write_if(alloc, &wanted.form, is_asked, before, &game, &texts, writer)?;
             }
             Err(fault) => {
                 let fault = passable(fault)?;
@@ -147,7 +169,23 @@ fn write_good<'a, A: Allocator, R: Source, W: Sink>(
     Err(TOO_MANY)
 }
 
-/// Writes the good games of a part of the reader's games in export form (PGN 3.2), each before the next is read, and reports the others of the part by
+// The same, from the beginning of a reader.
+fn filter_games<A: Allocator, R: Source + Drop, W: Sink>(
+    rt: &HostRuntime,
+    alloc: A,
+    wanted: &Wanted,
+    reader: R,
+    writer: &mut W,
+    progress: &mut Progress<'_>,
+) -> Result<u64, Failure>
+    ensures good { IfOk result (λ bad. IsFiltered R.gives R.failed R.ended W.takes W.failed wanted.now.form wanted.now.part reader writer.old writer.new bad) }
+    ensures short { IfErr result (λ failure. IsFilteredInPart R.gives R.failed R.ended W.takes W.failed wanted.now.form wanted.now.part reader writer.old writer.new failure) }
+{
+    let mut games = Games::new(&alloc, reader);
+    write_good(rt, &alloc, wanted, &mut games, writer, progress)
+}
+
+/// Writes what stands before all games, and the good games of a part of the reader's games, each before the next is read, and reports the others of the part by
 /// number, place and fault on the standard error. Returns how many others there were in it.
 ///
 /// # Errors
@@ -163,9 +201,9 @@ pub fn filter<A: Allocator, R: Source + Drop, W: Sink>(
 ) -> Result<u64, Failure>
     requires reader { R.failed reader ≡ false }
     requires writer { W.failed writer.old ≡ false }
-    ensures good { IfOk result (λ bad. IsFiltered R.gives R.failed R.ended W.takes W.failed wanted.part reader writer.old writer.new bad) }
-    ensures short { IfErr result (λ failure. IsFilteredInPart R.gives R.failed R.ended W.takes W.failed wanted.part reader writer.old writer.new failure) }
+    ensures good { IfOk result (λ bad. IsHeaded W.takes W.failed wanted.form writer.old (λ mid. IsFiltered R.gives R.failed R.ended W.takes W.failed wanted.form wanted.part reader mid writer.new bad)) }
+    ensures short { IfErr result (λ failure. IsUnwritten W.takes W.failed (head_in wanted.form) writer.old writer.new failure ⊎ IsHeaded W.takes W.failed wanted.form writer.old (λ mid. IsFilteredInPart R.gives R.failed R.ended W.takes W.failed wanted.form wanted.part reader mid writer.new failure)) }
 {
-    let mut games = Games::new(&alloc, reader);
-    write_good(rt, &alloc, &wanted, &mut games, writer, progress)
+    put_head(&alloc, &wanted.form, writer)?;
+    filter_games(rt, alloc, &wanted, reader, writer, progress)
 }

@@ -2,12 +2,14 @@
 //! output, as `chess pgn` does. At a game that can't be read it goes on: the standard error gets a line with the game's number, the place of
 //! the fault in bytes from the input's beginning, and its kind, and reading goes on at the next section of tags (`Games::pass_over`). With `--part K/N`
 //! only every N-th game is written or reported, from game K: N processes over the same input write all games together. With `--salvage` a bad game is
-//! repaired and read again, and what was repaired is reported. With `--cut BYTES` the input is
+//! repaired and read again, and what was repaired is reported. With `--format positions` a good game is written as rows, one for each ply of its main line
+//! (`chess_positions`). With `--cut BYTES` the input is
 //! copied, with a zero byte between pieces of whole games, for as many processes.
 #![tactic(auto)]
 
 mod cut;
 mod filter;
+mod form;
 mod part;
 mod put;
 mod salvaging;

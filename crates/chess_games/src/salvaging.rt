@@ -4,19 +4,21 @@ ghost use Rattle.std.specs.Prelude.{◌≡◌, ◌≤◌, ◌<◌, if◌then◌e
 ghost use Rattle.byte_streams.specs.Calls.{Carries};
 ghost use Rattle.chess_items.specs.Abandoned.{GivesUp};
 ghost use Rattle.chess_pgn.specs.Reading.{HasNoGame, IsWhite};
-ghost use Rattle.chess_pgn.specs.Written.{game_text};
 ghost use Rattle.chess_pgn.specs.steps.GameCode.{game_of};
 ghost use Rattle.chess_salvage.specs.Salvaging.{found_in};
+ghost use Rattle.chess_games.specs.Filtered.{most_games};
+ghost use Rattle.chess_games.specs.Forms.{IsHeaded, text_in};
 ghost use Rattle.chess_games.specs.Salvaged.{IsSalvagedAll, found_text};
 ghost use Rattle.chess_games.specs.Windows.{Comes, KnowsItsEnd};
 ghost use Rattle.chess_games.specs.steps.Salvages.{IsNext, IsRead, IsSaved, IsWide, lost_if};
 
-use crate::filter::{TOO_MANY, Wanted, report_if};
+use crate::filter::{TOO_MANY, Wanted, put_head, report_if};
+use crate::form::Form;
 use crate::put::put;
 use crate::window::Window;
 use byte_streams::{Sink, Source};
 use chess_items::given_up;
-use chess_pgn::{FaultKind, Game, PgnFault, read_game, write_game};
+use chess_pgn::{FaultKind, Game, PgnFault, Texts, read_game};
 use chess_programs::{Failure, GAMES, Progress};
 use chess_salvage::{Salvaged, salvage};
 use std::alloc::Allocator;
@@ -108,14 +110,17 @@ impl Sums {
     }
 }
 
-// Writes the export form of the game that was found, if it is asked for.
+// Writes the game that was found, if it is asked for.
 fn write_found<'a, A: Allocator, W: Sink>(
     alloc: &'a A,
+    form: &Form,
     is_asked: bool,
+    before: u64,
     game: &Option<Game<'a, A>>,
     writer: &mut W,
 ) -> Result<(), Failure>
-    ensures all { OnOk result (Carries W.takes writer.old (found_text is_asked (found_in game.now)) writer.new) }
+    requires few { before < most_games }
+    ensures all { OnOk result (Carries W.takes writer.old (found_text form.now before is_asked (found_in game.now)) writer.new) }
     ensures well { OnOk result (W.failed writer.new ≡ W.failed writer.old) }
 {
     let Some(game) = game else {
@@ -124,7 +129,7 @@ fn write_found<'a, A: Allocator, W: Sink>(
     if !is_asked {
         return Ok(());
     }
-    let Ok(text) = write_game(alloc, game) else {
+    let Ok(text) = form.text(alloc, before, game, &Texts::new(alloc)) else {
         return Err(Failure::Memory);
     };
     put(writer, text.as_slice())
@@ -279,7 +284,7 @@ fn write_saved<'a, A: Allocator, R: Source, W: Sink>(
 ) -> Result<u64, Failure>
     requires sound { KnowsItsEnd R.ended window.old }
     requires fresh { window.old.bytes ≡ [] }
-    ensures good { IfOk result (λ bad. IsSalvagedAll R.gives R.failed R.ended W.takes W.failed wanted.now.part window.old.source writer.old writer.new bad) }
+    ensures good { IfOk result (λ bad. IsSalvagedAll R.gives R.failed R.ended W.takes W.failed wanted.now.form wanted.now.part window.old.source writer.old writer.new bad) }
 {
     let mut bad = 0u64;
     let mut sums = Sums {
@@ -297,7 +302,7 @@ fn write_saved<'a, A: Allocator, R: Source, W: Sink>(
             report_sums(rt, wanted.totals, before, &sums, window.unread().len());
             return Ok(bad);
         };
-        write_found(alloc, is_asked, &game, writer)?;
+        write_found(alloc, &wanted.form, is_asked, before, &game, writer)?;
         bad += report_lost(rt, is_asked, before, found.fault, sums.used);
         window.use_first(found.used);
         sums.add(found);
@@ -313,7 +318,7 @@ fn placed(fault: PgnFault, from: u64) -> PgnFault {
     }
 }
 
-/// Writes the good games of a part of the reader's games in export form (PGN 3.2), and of a bad game what strict reading gives of its text after
+/// Writes what stands before all games, the good games of a part of the reader's games, and of a bad game what strict reading gives of its text after
 /// repair, if it gives one; what was repaired is reported on the standard error by number, place and name, and a game that can't be saved by number, place
 /// and fault. Returns how many of those there were in the part.
 ///
@@ -328,8 +333,9 @@ pub fn filter_saving<A: Allocator, R: Source + Drop, W: Sink>(
     writer: &mut W,
     progress: &mut Progress<'_>,
 ) -> Result<u64, Failure>
-    ensures good { IfOk result (λ bad. IsSalvagedAll R.gives R.failed R.ended W.takes W.failed wanted.part reader writer.old writer.new bad) }
+    ensures good { IfOk result (λ bad. IsHeaded W.takes W.failed wanted.form writer.old (λ mid. IsSalvagedAll R.gives R.failed R.ended W.takes W.failed wanted.form wanted.part reader mid writer.new bad)) }
 {
+    put_head(&alloc, &wanted.form, writer)?;
     let mut window = Window::new(&alloc, reader);
     write_saved(rt, &alloc, &wanted, &mut window, writer, progress)
 }

@@ -8,6 +8,7 @@ use Rattle.std.specs.Prelude.{◌≡◌, ◌⊎◌, ◌≤◌, ℕ, Bool, true, 
 use Rattle.chess_items.specs.declared.fault.PgnFault.{PgnFault}
 use Rattle.chess_pgn.specs.Games.{Game}
 use Rattle.chess_pgn.specs.Reading.{BeginsWithGame, HasNoGame, IsWhite}
+use Rattle.chess_games.specs.declared.form.Form.{Form}
 use Rattle.chess_games.specs.Salvaged.{Explains, IsSavedFrom, Stretch, bytes_of, found_text, loss_of, text_of}
 use Rattle.chess_games.specs.Windows.{Window}
 use Rattle.chess_games.specs.declared.salvaging.Found.{Found}
@@ -29,7 +30,7 @@ pub record IsNext (bytes : List ℕ) (game : Option Game) (found : Found) : Type
   pub stretch : Stretch
   pub explained : Explains bytes stretch
   pub first : bytes_of stretch ≡ take found.used bytes
-  pub written : (asked : Bool) → text_of asked stretch ≡ found_text asked game
+  pub written : (form : Form) (before : ℕ) (asked : Bool) → text_of form before asked stretch ≡ found_text form before asked game
   pub lost : (asked : Bool) → loss_of asked stretch ≡ lost_if asked found.fault
 
 abbrev pub IsWide : {R : Type 0} → Window R → Type 0

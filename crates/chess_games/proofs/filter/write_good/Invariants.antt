@@ -8,5 +8,5 @@ abbrev pub invariant-loop-before : goal.invariant-loop-before
 invariant-loop-before g l = record {
   sound : IsSound g.R.Source.ended l.games;
   none : l.games.fault ≡ None;
-  so_far : SoFar g.R.Source.gives g.R.Source.failed g.R.Source.ended g.W.Sink.takes g.W.Sink.failed l.wanted.part l.fn.games.text l.games.text l.fn.writer l.writer l.bad l.before;
+  so_far : SoFar g.R.Source.gives g.R.Source.failed g.R.Source.ended g.W.Sink.takes g.W.Sink.failed l.wanted.form l.wanted.part l.fn.games.text l.games.text l.fn.writer l.writer l.bad l.before;
 }
