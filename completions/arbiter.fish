@@ -1,5 +1,5 @@
 complete -c arbiter -f
-complete -c arbiter -l findings -d 'only games that contradict the Laws, or cannot be read'
+complete -c arbiter -l findings -d 'only games that have a finding, or cannot be read'
 complete -c arbiter -l format -x -a 'csv jsonl' -d 'the form of a row'
 complete -c arbiter -l progress -d 'bytes and games so far, once a second'
 complete -c arbiter -s h -l help -d 'print help'

@@ -3,6 +3,7 @@ import csv
 import io
 import json
 import os
+import re
 import subprocess
 import unittest
 
@@ -27,7 +28,7 @@ def rows(text, *words):
     """The rows as dictionaries of texts by the header's names."""
     ended = judged(text, *words)
     assert ended.returncode in (0, 2), ended
-    return list(csv.DictReader(io.StringIO(ended.stdout.decode("latin-1"), newline="")))
+    return list(csv.DictReader(io.StringIO(ended.stdout.decode(), newline="")))
 
 
 @unittest.skipUnless(os.path.exists(ARBITER), "crates/arbiter is not built")
@@ -53,7 +54,9 @@ class Arbiter(unittest.TestCase):
     def test_the_wrong_winner(self):
         self.judge(BLACK_MATES + "1-0", winner="black", agrees="false")
         self.judge(BLACK_MATES + "1/2-1/2", agrees="false")
-        self.judge(BLACK_MATES + "*", agrees="true")
+        self.judge(BLACK_MATES + "*", agrees="true", left_open="true")
+        self.judge(BLACK_MATES, result="*", left_open="true")
+        self.judge(BLACK_MATES + "0-1", left_open="false")
 
     def test_a_win_on_a_stalemate(self):
         board = start("7k/8/6K1/8/8/8/8/5Q2 w - - 0 1")
@@ -64,17 +67,48 @@ class Arbiter(unittest.TestCase):
         self.judge(start("4k3/8/8/8/8/8/4p3/4K3 w - - 0 1") + "1. Kxe2 Kd7 1/2-1/2", plies="2", status="dead", over_ply="1", over_why="dead", agrees="true")
 
     def test_moves_after_the_fifth_repetition(self):
-        self.judge(KNIGHTS * 4 + "e4 1-0", plies="17", status="play", over_ply="16", over_why="fivefold", threefold_ply="8", fifty_ply="", repetitions="5",
-                   quiet="16", agrees="true")
+        self.judge(KNIGHTS * 4 + "e4 1-0", plies="17", status="play", over_ply="16", over_move="8", over_why="fivefold", threefold_ply="8",
+                   threefold_move="4", fifty_ply="", repetitions="5", quiet="16", agrees="true")
 
     def test_the_fourth_repetition_ends_no_game(self):
         self.judge(KNIGHTS * 3 + "e4 1-0", plies="13", over_ply="", threefold_ply="8", repetitions="4", quiet="12")
 
     def test_a_claim_by_fifty_moves(self):
-        self.judge(start("4k3/8/8/8/8/8/8/R3K3 w - - 98 80") + "1. Ra2 Kd7 2. Ra3 *", fifty_ply="2", threefold_ply="", quiet="101", repetitions="1")
+        self.judge(start("4k3/8/8/8/8/8/8/R3K3 w - - 98 80") + "1. Ra2 Kd7 2. Ra3 *", fifty_ply="2", fifty_move="80", threefold_ply="", threefold_move="",
+                   quiet="101", repetitions="1")
 
     def test_75_moves(self):
-        self.judge(start("4k3/8/8/8/8/8/8/R3K3 w - - 148 80") + "1. Ra2 Kd7 2. Ra3 1-0", over_ply="2", over_why="seventyfive", status="seventyfive", agrees="false", fifty_ply="0")
+        self.judge(start("4k3/8/8/8/8/8/8/R3K3 w - - 148 80") + "1. Ra2 Kd7 2. Ra3 1-0", over_ply="2", over_why="seventyfive", status="seventyfive",
+                   agrees="false", fifty_ply="0", fifty_move="")
+
+    def test_moves_are_numbered_as_on_the_score_sheet(self):
+        """The number of White's move and of Black's next one, from a start with Black to move, too."""
+        rooks = "Ra2 Kd7 Ra1 Ke8 "
+        self.judge(start("4k3/8/8/8/8/8/8/R3K3 w - - 0 30") + rooks * 2 + "1/2-1/2", threefold_ply="8", threefold_move="33")
+        self.judge(start("4k3/8/8/8/8/8/8/R3K3 b - - 0 30") + "Kd7 Ra2 Ke8 Ra1 " * 2 + "1/2-1/2", threefold_ply="8", threefold_move="34")
+        self.judge(start("4k3/8/8/8/8/8/8/R3K3 b - - 99 30") + "Kd7 *", fifty_ply="1", fifty_move="30")
+        self.judge(start("4k3/8/8/8/8/8/8/R3K3 b - - 98 30") + "Kd7 Ra2 *", fifty_ply="2", fifty_move="31")
+
+    def test_tags_and_start(self):
+        self.judge('[White "a"][Black "b"][WhiteElo "2500"][BlackElo "-"][Event "c"][Site "d"][Date "2026.11.28"][Round "3.1"]\n\n*', white="a", black="b",
+                   white_elo="2500", black_elo="-", event="c", site="d", date="2026.11.28", round="3.1", variant="", start_fen="", other_variant="false")
+        self.judge("*", round="?", site="?", white_elo="", black_elo="", variant="")
+        self.judge(start("4k3/8/8/8/8/8/8/R3K3 w - - 5 30") + "Ra2 *", start_fen="4k3/8/8/8/8/8/8/R3K3 w - - 5 30")
+        usual = "rnbqkbnr/pppppppp/8/8/8/8/PPPPPPPP/RNBQKBNR w KQkq - 0 "
+        self.judge(start(usual + "1") + "*", start_fen="")
+        self.judge(start(usual + "2") + "*", start_fen=usual + "2")
+
+    def test_a_win_of_a_king_alone(self):
+        board = start("4k3/8/8/8/8/8/8/R3K3 w - - 0 1") + "Ra2 Kd7 "
+        for marker, bare in (("1-0", "false"), ("0-1", "true"), ("1/2-1/2", "false"), ("*", "false")):
+            self.judge(board + marker, bare_king_wins=bare, agrees="true", left_open="false")
+        self.judge(start("4k2r/8/8/8/8/8/8/4K3 w - - 0 1") + "1-0", bare_king_wins="true")
+        self.judge(start("4k2r/8/8/8/8/8/8/4K2N w - - 0 1") + "1-0", bare_king_wins="false")
+
+    def test_another_variant(self):
+        for name, other in (("Standard", "false"), ("chess", "false"), ("From Position", "false"), ("Normal", "false"), ("CLASSICAL", "false"),
+                            ("Chess960", "true"), ("Antichess", "true"), ("King of the Hill", "true"), ("chess ", "true"), ("", "false"), ("?", "false")):
+            self.judge(f'[Variant "{name}"]\n\n*', variant=name, other_variant=other)
 
     def test_variations_are_left_out(self):
         self.judge("1. e4 (1. f3 e5 2. g4 Qh4#) 1... e5 *", plies="2", status="play")
@@ -93,8 +127,9 @@ class Arbiter(unittest.TestCase):
         self.assertEqual(row["fault"], "Move")
 
     def test_findings(self):
-        text = f"{BLACK_MATES}0-1 {BLACK_MATES}1-0 {KNIGHTS * 4}e4 *"
-        self.assertEqual([row["number"] for row in rows(text, "--findings")], ["2", "3"])
+        bare = start("4k3/8/8/8/8/8/8/R3K3 w - - 0 1")
+        text = f'{BLACK_MATES}0-1 {BLACK_MATES}1-0 {KNIGHTS * 4}e4 * {BLACK_MATES}*\n\n{bare}0-1\n\n{bare}1-0\n\n[Variant "Atomic"]\n\n*'
+        self.assertEqual([row["number"] for row in rows(text, "--findings")], ["2", "3", "4", "5", "7"])
         self.assertEqual(judged(text, "--findings").returncode, 0)
 
     def test_lines_of_json(self):
@@ -107,15 +142,47 @@ class Arbiter(unittest.TestCase):
     def test_a_line_of_json_to_the_byte(self):
         text = f'*\n\n[White "a"]\n\n{BLACK_MATES}1-0\n\n[Site "?"]\n\n1. e5 *\n'
         self.assertEqual(judged(text, "--findings", "--format", "jsonl").stdout.decode(),
-            '{"number":2,"offset":1,"white":"a","black":"?","event":"?","date":"????.??.??","plies":4,"result":"1-0","status":"mate","winner":"black",'
-            '"over_ply":null,"over_why":null,"threefold_ply":null,"fifty_ply":null,"repetitions":1,"quiet":1,"agrees":false,'
+            '{"number":2,"offset":1,"white":"a","black":"?","white_elo":null,"black_elo":null,"event":"?","site":"?","date":"????.??.??","round":"?",'
+            '"variant":null,"other_variant":false,"start_fen":null,"plies":4,"result":"1-0","status":"mate","winner":"black",'
+            '"over_ply":null,"over_move":null,"over_why":null,"threefold_ply":null,"threefold_move":null,"fifty_ply":null,"fifty_move":null,'
+            '"repetitions":1,"quiet":1,"agrees":false,"left_open":false,"bare_king_wins":false,'
             '"fen":"rnb1kbnr/pppp1ppp/8/4p3/6Pq/5P2/PPPPP2P/RNBQKBNR w KQkq - 1 3","fault_place":null,"fault":null}\n'
-            '{"number":3,"offset":39,"white":null,"black":null,"event":null,"date":null,"plies":null,"result":null,"status":null,"winner":null,'
-            '"over_ply":null,"over_why":null,"threefold_ply":null,"fifty_ply":null,"repetitions":null,"quiet":null,"agrees":null,"fen":null,'
+            '{"number":3,"offset":39,"white":null,"black":null,"white_elo":null,"black_elo":null,"event":null,"site":null,"date":null,"round":null,'
+            '"variant":null,"other_variant":null,"start_fen":null,"plies":null,"result":null,"status":null,"winner":null,'
+            '"over_ply":null,"over_move":null,"over_why":null,"threefold_ply":null,"threefold_move":null,"fifty_ply":null,"fifty_move":null,'
+            '"repetitions":null,"quiet":null,"agrees":null,"left_open":null,"bare_king_wins":null,"fen":null,'
             '"fault_place":56,"fault":"Move"}\n')
 
-    def test_bytes_of_a_tag_stay(self):
-        self.assertEqual(rows(b'[White "M\xfcller"] *')[0]["white"], "Müller")
+    def test_a_row_to_the_byte(self):
+        self.assertEqual(judged('[White "a, \\"b\\""][Black "c"]\n\n1. e4 *').stdout.decode().split("\r\n")[1:],
+            ['1,0,"a, ""b""",c,,,?,?,????.??.??,?,,false,,1,*,play,,,,,,,,,1,0,true,false,false,'
+             "rnbqkbnr/pppppppp/8/8/4P3/8/PPPP1PPP/RNBQKBNR b KQkq e3 0 1,,", ""])
+
+    def test_rows_are_utf_8(self):
+        """What isn't is read as ISO 8859-1, a value by itself."""
+        found = rows(b'[White "M\xfcller"][Black "M\xc3\xbcller"][Event "\xc3"][Site "\xf6=1"] *')[0]
+        self.assertEqual([found[name] for name in ("white", "black", "event", "site")], ["Müller", "Müller", "Ã", "ö=1"])
+
+    def test_no_value_is_a_formula(self):
+        """OWASP, CSV injection: an apostrophe before what a spreadsheet would take for a formula."""
+        values = {'=HYPERLINK(\\"x\\",1)': '\'=HYPERLINK("x",1)', "+1": "'+1", "-1": "'-1", "@SUM(A1)": "'@SUM(A1)", "\t=1": "'\t=1", "=": "'=", "--": "'--",
+                  "-": "-", "1-0": "1-0", "a=1": "a=1", " =1": " =1", "'=1": "'=1", "": ""}
+        for value, written in values.items():
+            for tag, name in (("White", "white"), ("Round", "round"), ("WhiteElo", "white_elo"), ("Variant", "variant")):
+                ended = judged(f'[{tag} "{value}"]\n\n*')
+                self.assertEqual(list(csv.DictReader(io.StringIO(ended.stdout.decode(), newline="")))[0][name], written, (value, ended.stderr))
+        self.assertEqual(json.loads(judged('[White "=1"]\n\n*', "--format", "jsonl").stdout)["white"], "=1")
+
+    def test_pages_list_the_columns(self):
+        names = list(csv.reader(io.StringIO(judged("").stdout.decode())))[0]
+        with open(f"{runs.TOP}/man/arbiter.1", encoding="utf-8") as page:
+            columns = page.read().split(".Sh COLUMNS")[1].split(".El")[0]
+        listed = [name for item in re.findall(r"^\.It Cm (.*)$", columns, re.M) for name in re.findall(r"\w+", item)]
+        self.assertEqual(sorted(listed), sorted(names))
+        with open(f"{runs.TOP}/docs/FORMATS.md", encoding="utf-8") as page:
+            table = page.read().split("| Column | What it says |")[1].split("\n\n")[0]
+        listed = [name for item in re.findall(r"^\| (`[^|]*`) \|", table, re.M) for name in re.findall(r"\w+", item)]
+        self.assertEqual(sorted(listed), sorted(names))
 
     def test_words(self):
         self.assertEqual(judged("", "x").returncode, 1)

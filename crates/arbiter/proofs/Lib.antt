@@ -1,4 +1,6 @@
--- Lemmas on cells, rows, reports and runs over a collection.
+-- Lemmas on cells, rows, numbers of moves, reports and runs over a collection.
 pub mod CellLemmas
+pub mod CsvLemmas
+pub mod NumberLemmas
 pub mod RowLemmas
 pub mod JudgeLemmas

@@ -2,13 +2,15 @@
 --   Value       what a column has: a number, a text of any bytes, a truth, or nothing
 --   maybe       a value that may be missing
 --   Cell        a column's name and its value
+--   as_utf8     a text as UTF-8; bytes that aren't are read as ISO 8859-1 (PGN 4.1)
+--   is_formula  a spreadsheet may take the text for a formula (OWASP, CSV injection)
+--   as_text     the text, written so that it takes it for none
 --   csv_text    a value among comma-separated values
---   as_utf8     a text in JSON; bytes that aren't UTF-8 are read as ISO 8859-1 (PGN 3.1)
 --   json_value  a value in JSON
 --   row_text    a row of these cells
-use Rattle.std.specs.Prelude.{ℕ, Bool, true, false, if◌then◌else◌, List, [], ◌∷◌, ◌++◌, codes, decimal, flat_map, map, Option, Some, None}
+use Rattle.std.specs.Prelude.{ℕ, Bool, true, false, not, ◌&&◌, ◌||◌, ◌==◌, if◌then◌else◌, List, [], ◌∷◌, ◌++◌, codes, decimal, flat_map, map, Option, Some, None}
 use Rattle.std.specs.Char.{encode_utf8}
-use Rattle.std.specs.Str.{is_utf8}
+use Rattle.std.specs.Str.{byte, is_utf8}
 use Rattle.csv.specs.Writing as csv
 use Rattle.csv.specs.declared.parser.Terminator.TheVariants.{CRLF}
 use Rattle.csv.specs.declared.writer.WriterBuilder.{WriterBuilder}
@@ -36,25 +38,39 @@ maybe value None = Nothing
 abbrev pub Cell : Type 0
 Cell = List ℕ × Value
 
+-- a text as UTF-8
+abbrev pub as_utf8 : List ℕ → List ℕ
+as_utf8 text = if is_utf8 text then text else flat_map encode_utf8 text
+
 -- ---- comma-separated values
 
 -- lines end as RFC 4180 has them; a value is between quotation marks only where it has to be
 abbrev pub csv_lines : WriterBuilder
 csv_lines = csv.with_terminator csv.default_writer CRLF
 
+-- `=`, `+`, `-`, `@`, a tab, a line feed or a carriage return
+abbrev pub begins_formula : ℕ → Bool
+begins_formula b = (b == byte "=") || (b == byte "+") || (b == byte "-") || (b == byte "@") || (b == 9) || (b == 10) || (b == 13)
+
+-- it begins so, and is no hyphen alone, by which PGN says that there is no such value (PGN 8.1.1.4, 9.1.2)
+abbrev pub is_formula : List ℕ → Bool
+is_formula [] = false
+is_formula (b ∷ []) = begins_formula b && not (b == byte "-")
+is_formula (b ∷ next ∷ rest) = begins_formula b
+
+-- an apostrophe before a formula
+abbrev pub as_text : List ℕ → List ℕ
+as_text text = if is_formula text then byte "'" ∷ text else text
+
 -- a value; one that isn't there is empty
 abbrev pub csv_text : Value → List ℕ
 csv_text (Number n) = decimal n
-csv_text (Text text) = text
+csv_text (Text text) = as_text (as_utf8 text)
 csv_text (Truth true) = codes "true"
 csv_text (Truth false) = codes "false"
 csv_text Nothing = []
 
 -- ---- JSON
-
--- a text as UTF-8
-abbrev pub as_utf8 : List ℕ → List ℕ
-as_utf8 text = if is_utf8 text then text else flat_map encode_utf8 text
 
 -- a value
 abbrev pub json_value : Value → Token
@@ -83,9 +99,14 @@ row_text Jsonl cells = print (object cells) ++ codes "\n"
 -- what a value is
 abbrev pub value_of : values.Value → Value
 value_of (variant.Number n) = Number n
+value_of (variant.Word word) = Text word.now
 value_of (variant.Text text) = Text text.now
 value_of (variant.Truth b) = Truth b
 value_of variant.Nothing = Nothing
+
+-- a field that isn't the first of its row
+abbrev pub behind_comma : Cell → List ℕ
+behind_comma cell = byte "," ∷ csv.field_text csv_lines (csv_text cell.1)
 
 -- what a cell is
 abbrev pub cell_of : declared.Cell → Cell

@@ -29,8 +29,9 @@ use Rattle.chess_programs.specs.declared.collection.Failure.TheVariants as by
 use Rattle.arbiter.specs.declared.judge.Asked.{Asked}
 use Rattle.arbiter.specs.declared.row.Format.{Format}
 use Rattle.arbiter.specs.declared.row.Format.TheVariants.{Csv, Jsonl}
-use Rattle.arbiter.specs.Cells.{row_text}
-use Rattle.arbiter.specs.Rows.{fault_cells, game_cells, has_finding, header}
+use Rattle.csv.specs.Writing as csv
+use Rattle.arbiter.specs.Cells.{csv_lines, row_text}
+use Rattle.arbiter.specs.Rows.{fault_cells, game_cells, has_finding, names}
 
 -- what a reader finds, with the number of the bytes before it
 pub data Entry : Type 0 where
@@ -51,7 +52,7 @@ rows_text asked number (entry ∷ entries) = row_of asked number entry ++ rows_t
 
 -- the names of the columns, where the format has a row of them
 abbrev pub header_text : Format → List ℕ
-header_text Csv = row_text Csv header
+header_text Csv = csv.row_text csv_lines names
 header_text Jsonl = []
 
 -- all that is written

@@ -5,6 +5,8 @@ ghost use Rattle.arbiter.specs.Cells.{Number, Text, Truth, Nothing, cell_of, may
 #[derive(Clone, Copy)]
 pub enum Value<'v> {
     Number(u64),
+    /// A text that is UTF-8.
+    Word(&'v str),
     /// A text of any bytes.
     Text(&'v [u8]),
     Truth(bool),
@@ -38,18 +40,24 @@ pub fn any_number<'v>(name: &'static str, value: Option<u32>) -> Cell<'v>
     }
 }
 
-/// A text of the program's own.
-pub fn word<'v>(name: &'static str, value: &'static str) -> Cell<'v>
+/// A text that is UTF-8.
+pub fn word<'v>(name: &'static str, value: &'v str) -> Cell<'v>
     ensures { cell_of result ≡ (name.now, Text value.now) }
 {
-    text(name, value.as_bytes())
+    Cell {
+        name,
+        value: Value::Word(value),
+    }
 }
 
-/// A text of the program's own, if it is there.
+/// A text that is UTF-8, if it is there.
 pub fn any_word<'v>(name: &'static str, value: Option<&'static str>) -> Cell<'v>
     ensures { cell_of result ≡ (name.now, maybe Text (option_map (λ v. v.now) value.entry)) }
 {
-    any_text(name, value.map(|value| value.as_bytes()))
+    match value {
+        Some(value) => word(name, value),
+        None => nothing(name),
+    }
 }
 
 /// A text of any bytes.

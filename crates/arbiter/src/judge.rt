@@ -7,7 +7,8 @@ ghost use Rattle.arbiter.specs.Collections.{Bad, Found, JudgeEnds, header_text, 
 ghost use Rattle.arbiter.specs.steps.Judging.{IsReady, NotOn, WritesText, is_lack};
 ghost use Rattle.arbiter.specs.steps.Reports.{IsReportOf};
 
-use crate::columns::{HEADER, fault_row, game_row, has_finding};
+use crate::columns::{HEADER, fault_row, game_row};
+use crate::findings::has_finding;
 use crate::row::Format;
 use byte_streams::{Sink, Source};
 use chess_key::KeyTable;
@@ -70,10 +71,11 @@ impl<'t> RowMaker<'t> {
         ensures { IfOk result (λ row. row.items ≡ row_of self.now.asked place.number (Found place.offset (game_of game.now))) }
     {
         let report = report_of(&self.alloc, game, self.table)?;
-        if self.asked.findings & !has_finding(&report) {
+        if self.asked.findings & !has_finding(game, &report) {
             return Ok(Vec::new(self.alloc));
         }
-        game_row(self.alloc, self.asked.format, place, game, &report)
+        let start = game.tree.position();
+        game_row(self.alloc, self.asked.format, place, game, start, &report)
     }
 
     // Writes a game's row, where it is asked for.

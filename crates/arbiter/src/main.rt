@@ -5,6 +5,7 @@
 
 mod cell;
 mod columns;
+mod findings;
 mod judge;
 mod row;
 mod words;

@@ -1,14 +1,12 @@
-ghost use Rattle.std.specs.Prelude.{◌≡◌, ◌++◌, ◌∷◌, [], flat_map, map, string_bytes, IfOk, OnOk};
+ghost use Rattle.std.specs.Prelude.{◌≡◌, ◌<◌, ◌++◌, ◌∷◌, [], flat_map, length, map, string_bytes, IfOk, OnOk};
 ghost use Rattle.std.specs.Char.{encode_utf8};
-ghost use Rattle.csv.specs.Records.{fields_of, partial_of};
 ghost use Rattle.csv.specs.Writing as csv;
 ghost use Rattle.json.specs.Token.{string};
 ghost use Rattle.json.specs.Print.{print};
-ghost use Rattle.arbiter.specs.Cells.{as_utf8, cell_of, csv_lines, csv_text, json_value, member, object, row_text, value_of};
+ghost use Rattle.arbiter.specs.Cells.{as_text, as_utf8, begins_formula, behind_comma, cell_of, csv_lines, csv_text, is_formula, json_value, member, object, row_text, value_of};
 ghost use Rattle.arbiter.specs.declared.row.Format.TheVariants.{Csv, Jsonl};
 
 use crate::cell::{Cell, Value};
-use csv::{ByteRecord, Terminator, WriterBuilder};
 use itoa::Buffer;
 use json::Writer;
 use std::alloc::{AllocError, Global};
@@ -23,45 +21,78 @@ pub enum Format {
     Jsonl,
 }
 
-// A field more.
-fn push(fields: &mut ByteRecord, value: Value<'_>) -> Result<(), AllocError>
-    requires { partial_of fields.old ≡ [] }
-    ensures fields { OnOk result (fields_of fields.new ≡ fields_of fields.old ++ csv_text (value_of value.entry) ∷ []) }
-    ensures partial { OnOk result (partial_of fields.new ≡ []) }
+// Whether a field with that byte has to be between quotation marks.
+fn is_special(byte: u8) -> bool
+    ensures { result ≡ csv.needs_byte csv_lines byte }
 {
-    match value {
-        Value::Number(number) => fields.push_field(Buffer::new().format(number).as_bytes()),
-        Value::Text(text) => fields.push_field(text),
-        Value::Truth(truth) => fields.push_field(if truth { b"true" } else { b"false" }),
-        Value::Nothing => fields.push_field(b""),
+    matches!(byte, b',' | b'"' | b'\r' | b'\n')
+}
+
+// Whether a field has to be between quotation marks.
+fn needs_quotes(field: &[u8]) -> bool
+    ensures { result ≡ csv.needs_quotes csv_lines field.now }
+{
+    for byte in field {
+        if is_special(*byte) {
+            return true;
+        }
+    }
+    false
+}
+
+// Adds a field between quotation marks.
+fn put_quoted(row: &mut Vec<u8>, field: &[u8]) -> Result<(), AllocError>
+    ensures { OnOk result (row.new.items ≡ row.old.items ++ csv.quoted csv_lines field.now) }
+{
+    row.push(b'"')?;
+    for byte in field {
+        if *byte == b'"' {
+            row.push(b'"')?;
+        }
+        row.push(*byte)?;
+    }
+    row.push(b'"')?;
+    Ok(())
+}
+
+// Adds a field.
+fn put_field(row: &mut Vec<u8>, field: &[u8]) -> Result<(), AllocError>
+    ensures { OnOk result (row.new.items ≡ row.old.items ++ csv.field_text csv_lines field.now) }
+{
+    if needs_quotes(field) {
+        return put_quoted(row, field);
+    }
+    row.extend_from_slice(field)
+}
+
+// Whether a byte begins a formula.
+fn begins_formula(byte: u8) -> bool
+    ensures { result ≡ begins_formula byte }
+{
+    matches!(byte, b'=' | b'+' | b'-' | b'@' | b'\t' | b'\n' | b'\r')
+}
+
+// Whether a spreadsheet may take a text for a formula.
+fn is_formula(text: &[u8]) -> bool
+    ensures { result ≡ is_formula text.now }
+{
+    match text {
+        [] => false,
+        [byte] => begins_formula(*byte) & (*byte != b'-'),
+        [byte, ..] => begins_formula(*byte),
     }
 }
 
-// A row of fields.
-fn csv_text(alloc: Global, fields: &ByteRecord) -> Result<Vec<u8>, AllocError>
-    ensures { IfOk result (λ row. row.items ≡ csv.row_text csv_lines (fields_of fields.now)) }
+// Adds a text as a field that is no formula.
+fn put_plain(alloc: Global, row: &mut Vec<u8>, text: &[u8]) -> Result<(), AllocError>
+    ensures { OnOk result (row.new.items ≡ row.old.items ++ csv.field_text csv_lines (as_text text.now)) }
 {
-    let mut writer = WriterBuilder::new()
-        .terminator(Terminator::CRLF)
-        .from_writer(Vec::new(alloc));
-    if writer.write_byte_record(fields).is_err() {
-        return Err(AllocError);
+    if !is_formula(text) {
+        return put_field(row, text);
     }
-    match writer.into_inner() {
-        Ok(text) => Ok(text),
-        Err(_) => Err(AllocError),
-    }
-}
-
-// A row as comma-separated values.
-fn csv_row(alloc: Global, cells: &[Cell<'_>]) -> Result<Vec<u8>, AllocError>
-    ensures { IfOk result (λ row. row.items ≡ row_text Csv (map cell_of cells.now)) }
-{
-    let mut fields = ByteRecord::new(alloc);
-    for cell in cells {
-        push(&mut fields, cell.value)?;
-    }
-    csv_text(alloc, &fields)
+    let mut field = Vec::from_slice(alloc, b"'")?;
+    field.extend_from_slice(text)?;
+    put_field(row, field.as_slice())
 }
 
 // A text of ISO 8859-1.
@@ -73,6 +104,52 @@ fn latin_1(alloc: Global, text: &[u8]) -> Result<String, AllocError>
         chars.push(*byte as char)?;
     }
     Ok(chars)
+}
+
+// Adds a text of any bytes as a field.
+fn put_bytes(alloc: Global, row: &mut Vec<u8>, text: &[u8]) -> Result<(), AllocError>
+    ensures { OnOk result (row.new.items ≡ row.old.items ++ csv.field_text csv_lines (as_text (as_utf8 text.now))) }
+{
+    match str::from_utf8(text) {
+        Ok(text) => put_plain(alloc, row, text.as_bytes()),
+        Err(_) => put_plain(alloc, row, latin_1(alloc, text)?.as_bytes()),
+    }
+}
+
+// Adds a value as a field.
+fn put_csv(alloc: Global, row: &mut Vec<u8>, value: Value<'_>) -> Result<(), AllocError>
+    ensures { OnOk result (row.new.items ≡ row.old.items ++ csv.field_text csv_lines (csv_text (value_of value.entry))) }
+{
+    match value {
+        Value::Number(number) => put_field(row, Buffer::new().format(number).as_bytes()),
+        Value::Word(word) => put_plain(alloc, row, word.as_bytes()),
+        Value::Text(text) => put_bytes(alloc, row, text),
+        Value::Truth(truth) => put_field(row, if truth { b"true" } else { b"false" }),
+        Value::Nothing => put_field(row, b""),
+    }
+}
+
+// Adds the fields after the first.
+fn put_others(alloc: Global, row: &mut Vec<u8>, cells: &[Cell<'_>]) -> Result<(), AllocError>
+    ensures { OnOk result (row.new.items ≡ row.old.items ++ flat_map behind_comma (map cell_of cells.now)) }
+{
+    for cell in cells {
+        row.push(b',')?;
+        put_csv(alloc, row, cell.value)?;
+    }
+    Ok(())
+}
+
+// A row as comma-separated values.
+fn csv_row(alloc: Global, cells: &[Cell<'_>]) -> Result<Vec<u8>, AllocError>
+    requires { 1 < length cells.now }
+    ensures { IfOk result (λ row. row.items ≡ row_text Csv (map cell_of cells.now)) }
+{
+    let mut row = Vec::with_capacity(alloc, 512)?;
+    put_csv(alloc, &mut row, cells[0].value)?;
+    put_others(alloc, &mut row, &cells[1..])?;
+    row.extend_from_slice(b"\r\n")?;
+    Ok(row)
 }
 
 // A text in JSON.
@@ -93,6 +170,7 @@ fn put_value(alloc: Global, writer: &mut Writer, value: Value<'_>) -> Result<(),
 {
     match value {
         Value::Number(number) => writer.u64(number),
+        Value::Word(word) => put_text(alloc, writer, word.as_bytes()),
         Value::Text(text) => put_text(alloc, writer, text),
         Value::Truth(truth) => writer.boolean(truth),
         Value::Nothing => writer.null(),
@@ -132,6 +210,7 @@ fn json_line(alloc: Global, cells: &[Cell<'_>]) -> Result<Vec<u8>, AllocError>
 
 /// The bytes of a row of these cells.
 pub fn row_bytes(alloc: Global, format: Format, cells: &[Cell<'_>]) -> Result<Vec<u8>, AllocError>
+    requires { 1 < length cells.now }
     ensures { IfOk result (λ row. row.items ≡ row_text format (map cell_of cells.now)) }
 {
     match format {

@@ -17,16 +17,18 @@ const ABOUT: &str =
     "Jatshegi 0.2.0: what the FIDE Laws say of each game of the standard input, a row a game on the standard output.";
 
 const AFTER: &str = "\
-A row has the game's number and place, its players, event and date, its plies, its marker, and what the Laws say of its
-main line: how the last position stands, where the game was over before its last move, where a draw could be claimed, and
-whether the marker agrees. A game that can't be read has a row with its fault. docs/FORMATS.md has the columns. The exit
+A row has the game's number and place, its players and the other tags of a table, its start, its plies, its marker, and
+what the Laws say of its main line: how the last position stands, where the game was over before its last move, where a
+draw could be claimed, and whether the marker agrees. A game that can't be read has a row with its fault. arbiter(1) and
+docs/FORMATS.md have the columns. A finding is: moves after the game was over; a marker that contradicts the board, or
+that is * where the board ends the game; a win of a side that has only its king; another variant than chess. The exit
 status is 0, 2 where a game could not be read, 1 for wrong words, 3 where a stream or memory failed.";
 
 fn matched<S: AsStr>(alloc: Global, words: &[S]) -> Result<Words, Error> {
     let findings = flag(
         alloc,
         "findings",
-        "only games that went on after they were over, whose marker disagrees with the board, or that can't be read",
+        "only games that have a finding (below), and those that can't be read",
     );
     let format = Arg::new(alloc, "format")
         .long("format")

@@ -1,37 +1,64 @@
 -- What a report's fields say in a row.
+--   is_unended    the board says that the game is over, and its marker doesn't
+--   move_by       the number of the move that leads to a ply, counted from the start
 --   report_cells  what a report says
+--   is_finding    something is wrong with the game
 --   IsReportOf    a report is that of a game
-use Rattle.std.specs.Prelude.{◌≡◌, ℕ, Bool, not, ◌||◌, is_some, List, [], ◌∷◌, length, codes, option_map, IfSome}
+use Rattle.std.specs.Prelude.{◌≡◌, ℕ, zero, suc, ◌+◌, ◌/◌, Bool, not, ◌||◌, ◌&&◌, is_some, List, [], ◌∷◌, length, codes, Option, Some, None, option_map, IfSome}
 use Rattle.chess_types.specs.board.Lines.{last}
-use Rattle.chess_types.specs.board.Outcome.{status, winner, status_text}
-use Rattle.chess_pgn.specs.Games.{Game}
+use Rattle.chess_types.specs.board.Men.{colour_number}
+use Rattle.chess_types.specs.board.Outcome.{is_play, status, winner, status_text}
+use Rattle.chess_types.specs.board.Position.{PositionParts}
+use Rattle.chess_pgn.specs.Games.{Game, Tags, tag_value}
 use Rattle.chess_items.specs.Markers.{outcome_text}
 use Rattle.chess_report.specs.MainLine.{as_far, main}
-use Rattle.chess_report.specs.Findings.{agrees, first_fifty, first_over, first_threefold, longest_quiet, most_repetitions, played_on}
+use Rattle.chess_report.specs.Findings.{agrees, is_open, first_fifty, first_over, first_threefold, longest_quiet, most_repetitions, played_on}
 use Rattle.chess_report.specs.declared.report.Report.{Report}
 use Rattle.arbiter.specs.Cells.{Cell, Number, Text, Truth, maybe}
-use Rattle.arbiter.specs.Rows.{colour_text}
+use Rattle.arbiter.specs.Rows.{colour_text, is_other_variant, start_text, wins_bare}
 
--- what a report says, whose last position has that FEN
-abbrev pub report_cells : Report → List ℕ → List Cell
-report_cells report fen =
-    (codes "plies", Number report.plies)
+-- its last position ends the game, and its marker is open
+abbrev pub is_unended : Report → Bool
+is_unended report = is_open report.marker && not (is_play report.status)
+
+-- the number of the move that is made after so many others: White and Black move in turn, and a move of White and the next of Black have one number
+abbrev pub number_of_move : PositionParts → ℕ → ℕ
+number_of_move start plies = start.number + (plies + colour_number start.side) / 2
+
+-- of the one that leads to a ply, by the start of the line
+abbrev pub move_by : PositionParts → Option ℕ → Option ℕ
+move_by start None = None
+move_by start (Some zero) = None
+move_by start (Some (suc plies)) = Some (number_of_move start plies)
+
+-- what a report of a game with that start says, whose first and last positions have those FENs
+abbrev pub report_cells : Report → PositionParts → List ℕ → List ℕ → List Cell
+report_cells report start first fen =
+    (codes "start_fen", maybe Text (start_text first))
+    ∷ (codes "plies", Number report.plies)
     ∷ (codes "result", Text (outcome_text report.marker))
     ∷ (codes "status", Text (status_text report.status))
     ∷ (codes "winner", maybe Text (option_map colour_text report.winner))
     ∷ (codes "over_ply", maybe Number (option_map (λ o. o.ply) (played_on report.over report.plies)))
+    ∷ (codes "over_move", maybe Number (move_by start (option_map (λ o. o.ply) (played_on report.over report.plies))))
     ∷ (codes "over_why", maybe Text (option_map (λ o. status_text o.why) (played_on report.over report.plies)))
     ∷ (codes "threefold_ply", maybe Number report.threefold)
+    ∷ (codes "threefold_move", maybe Number (move_by start report.threefold))
     ∷ (codes "fifty_ply", maybe Number report.fifty)
+    ∷ (codes "fifty_move", maybe Number (move_by start report.fifty))
     ∷ (codes "repetitions", Number report.repetitions)
     ∷ (codes "quiet", Number report.quiet)
     ∷ (codes "agrees", Truth report.agrees)
+    ∷ (codes "left_open", Truth (is_unended report))
+    ∷ (codes "bare_king_wins", Truth (wins_bare report.last report.marker))
     ∷ (codes "fen", Text fen)
     ∷ []
 
--- something is wrong with the game
-abbrev pub is_finding : Report → Bool
-is_finding report = is_some (played_on report.over report.plies) || not report.agrees
+-- something is wrong with the game that has those tags
+abbrev pub is_finding : Tags → Report → Bool
+is_finding tags report =
+    is_some (played_on report.over report.plies) || not report.agrees || is_unended report || wins_bare report.last report.marker
+    || is_other_variant (tag_value (codes "Variant") tags)
 
 -- a report is that of a game
 pub record IsReportOf (report : Report) (game : Game) : Type 0 where
