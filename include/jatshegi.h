@@ -27,11 +27,11 @@
  *
  * Then every input is answered, and nothing aborts. Each function is proved to answer what the Laws of Chess say, and to keep the board as it was wherever
  * the status isn't JATSHEGI_OK, but for what is said at jatshegi_board_answer and at the events of the engine. All outputs are written at JATSHEGI_OK. At
- * JATSHEGI_NO_ROOM the length or the count is written, of jatshegi_game_read and jatshegi_game_report `used`, too, of the latter the report, and of
+ * JATSHEGI_NO_ROOM the length or the count is written, of the three calls of whole texts `used`, too, with the repairs or the report, and of
  * jatshegi_engine_slice_within `searched` and `visited`; the room is as it was. At PGN_... `used` is the place of the fault in the text, in bytes, at most
- * its length, of jatshegi_game_next and jatshegi_board_load_next the bytes to pass over, which these write at NO_GAME, too, and nothing else is written; at
- * JATSHEGI_ABANDONED `visited` alone is. At every other status all outputs are as they were. All this is proved, but that the place is that of the first
- * fault.
+ * its length, of jatshegi_game_salvage and of the calls of a text that comes bit by bit the bytes to pass over, which the latter write at NO_GAME, too, and
+ * nothing else is written; at JATSHEGI_ABANDONED `visited` alone is. At every other status all outputs are as they were. All this is proved, but that the
+ * place is that of the first fault.
  *
  * Texts are bytes and a length, without a byte 0 at the end. Squares are numbers: 0 for a1, 1 for b1, 63 for h8.
  */
@@ -217,6 +217,63 @@ struct jatshegi_position {
 
 /* The ply of what never happens. */
 #define JATSHEGI_NEVER UINT32_MAX
+
+/* What was repaired in a text: the names that `chess_games --salvage` reports, in whose list it is said what is written for each. */
+enum jatshegi_repair_kind {
+    JATSHEGI_REPAIR_TAG_QUOTES = 0,
+    JATSHEGI_REPAIR_TAG_BRACKET = 1,
+    JATSHEGI_REPAIR_TAG_NAME = 2,
+    JATSHEGI_REPAIR_CASTLING = 3,
+    JATSHEGI_REPAIR_HYPHEN = 4,
+    JATSHEGI_REPAIR_COLON = 5,
+    JATSHEGI_REPAIR_PAWN = 6,
+    JATSHEGI_REPAIR_SMALL = 7,
+    JATSHEGI_REPAIR_LARGE = 8,
+    JATSHEGI_REPAIR_PROMOTION = 9,
+    JATSHEGI_REPAIR_SIGN = 10,
+    JATSHEGI_REPAIR_SAID = 11,
+    JATSHEGI_REPAIR_VALUE = 12,
+    JATSHEGI_REPAIR_RESULT = 13,
+    JATSHEGI_REPAIR_GLYPHS = 14,
+    JATSHEGI_REPAIR_NUMBER = 15,
+    JATSHEGI_REPAIR_DOTS = 16,
+    JATSHEGI_REPAIR_SPACE = 17,
+    JATSHEGI_REPAIR_CONTROL = 18,
+    JATSHEGI_REPAIR_STRAY = 19,
+    JATSHEGI_REPAIR_OFFER = 20,
+    JATSHEGI_REPAIR_ANGLES = 21,
+    JATSHEGI_REPAIR_BRACKET = 22,
+    JATSHEGI_REPAIR_MARKER = 23,
+    JATSHEGI_REPAIR_SYMBOL = 24,
+    JATSHEGI_REPAIR_NESTED = 25,
+    JATSHEGI_REPAIR_COMMENT = 26,
+    JATSHEGI_REPAIR_UNCLOSED = 27,
+    JATSHEGI_REPAIR_PROSE = 28,
+    JATSHEGI_REPAIR_FEN = 29,
+    JATSHEGI_REPAIR_SQUARES = 30,
+    JATSHEGI_REPAIR_NULL = 31,
+    JATSHEGI_REPAIR_ILLEGAL = 32,
+    JATSHEGI_REPAIR_UNREADABLE = 33,
+    JATSHEGI_REPAIR_VARIATION = 34
+};
+
+/* One repair. Where reading stopped at it, and its line was cut off or written anew there, its place is as near as it can be said. */
+struct jatshegi_repair {
+    size_t place;   /* of its first byte, in bytes of the text */
+    size_t length;  /* how many bytes it replaces */
+    size_t written; /* how many bytes are written for them */
+    uint32_t kind;  /* an enum jatshegi_repair_kind */
+};
+
+/* The name of a kind of repair: a text that stays; null where there is no such kind. */
+static inline const char *jatshegi_repair_text(uint32_t kind) {
+    static const char *const names[] = {
+        "TagQuotes", "TagBracket", "TagName", "Castling", "Hyphen", "Colon", "Pawn", "Small", "Large", "Promotion", "Sign", "Said", "Value", "Result",
+        "Glyphs", "Number", "Dots", "Space", "Control", "Stray", "Offer", "Angles", "Bracket", "Marker", "Symbol", "Nested", "Comment", "Unclosed", "Prose",
+        "Fen", "Squares", "Null", "Illegal", "Unreadable", "Variation"
+    };
+    return kind < sizeof names / sizeof names[0] ? names[kind] : NULL;
+}
 
 /* What the Laws say of a game's main line (FIDE Laws 5 and 9). A ply is a number of moves made, from 0 to `plies`, or JATSHEGI_NEVER. */
 struct jatshegi_report {
@@ -585,6 +642,19 @@ uint32_t jatshegi_board_answer(struct jatshegi_board *board, const char *line, s
  * At NO_ROOM the length and the bytes taken are written, and the game may be asked for again with more room. At PGN_... `used` is the place of the fault.
  */
 uint32_t jatshegi_game_read(const char *text, size_t length, char *game, size_t room, size_t *count, size_t *used);
+
+/*
+ * The same, saved where it can be: the game at the start of a text in export form; where jatshegi_game_read refuses it, the game that the text has after
+ * repair, with the repairs, as many as there are places for, and their number; none where none was needed. `used` is how many bytes to pass over next. OK,
+ * NO_MEMORY, NO_ROOM, NO_GAME, PGN_...
+ *
+ * A repair writes some bytes of the text otherwise, by its kind; all bytes between repairs are as they were, and strict reading of what results gives the game.
+ * First come those that need no reading of moves, in the order of their places, and then those that were made where reading stopped, one after another. At
+ * NO_ROOM, which speaks of the game's room alone, the length, the repairs and `used` are written. At PGN_... no game could be saved, and `used` is what
+ * jatshegi_game_pass has of the text.
+ */
+uint32_t jatshegi_game_salvage(const char *text, size_t length, char *game, size_t room, size_t *count, struct jatshegi_repair *repairs, size_t places,
+                               size_t *repaired, size_t *used);
 
 /*
  * What the Laws say of the main line of the game at the start of a text, the FEN of its last position with its length, at most JATSHEGI_MOST_FEN, and how

@@ -28,10 +28,23 @@ export declare const SQUARES: readonly Square[];
 export declare function start(source: BufferSource | WebAssembly.Module): void;
 /** Whether a FEN spells a position. */
 export declare function validateFen(fen: string): { ok: true } | { ok: false; code: string; error: string };
-/** The games of a whole text. A bad game is thrown, or told to `onFault`, and reading goes on after it. */
-export declare function games(source: Piecewise, options?: { onFault?: (fault: Fault) => void }): Generator<Game>;
+/** What was written otherwise in the text of a game so that it could be read: its name, its place in bytes of the whole, and how many bytes became how many. */
+export interface Repair {
+  name: string;
+  place: number;
+  length: number;
+  written: number;
+}
+export interface ReadOptions {
+  /** Has each game that can't be read; without it that is thrown. */
+  onFault?: (fault: Fault) => void;
+  /** With it a game that can't be read is saved where it can be, and it has the repairs, before the game comes. */
+  onRepair?: (repairs: Repair[], game: Game) => void;
+}
+/** The games of a whole text. A bad game is thrown, or reported to `onFault`, and reading goes on after it. */
+export declare function games(source: Piecewise, options?: ReadOptions): Generator<Game>;
 /** The games of a stream, as its bytes come. */
-export declare function readGames(source: Source, options?: { onFault?: (fault: Fault) => void }): AsyncGenerator<Game>;
+export declare function readGames(source: Source, options?: ReadOptions): AsyncGenerator<Game>;
 export type Piecewise = string | ArrayBufferView | ArrayBuffer;
 export type Source = Piecewise | AsyncIterable<Piecewise> | Iterable<Piecewise> | ReadableStream<Uint8Array> | Blob | Response;
 
@@ -187,6 +200,7 @@ export declare class Chess {
   promoteVariation(): void;
   deleteVariation(): void;
   addNag(nag: number): void;
+  clearNags(): void;
   getNags(): number[];
   getComment(): string | undefined;
   setComment(text: string): void;

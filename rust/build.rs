@@ -13,6 +13,9 @@ fn main() {
     } else if target == "x86_64-unknown-linux-gnu" {
         folders.push(here.join("../out"));
         folders.push(here.join("../release/x86_64-linux/lib"));
+    } else if target == "aarch64-unknown-linux-gnu" {
+        folders.push(here.join("../out/aarch64-linux"));
+        folders.push(here.join("../release/aarch64-linux/lib"));
     }
     let Some(folder) = folders.iter().find(|folder| folder.join("libjatshegi.a").exists()) else {
         panic!("jatshegi: there is no libjatshegi.a for {target} in {folders:?}: set JATSHEGI_LIB_DIR to its folder");

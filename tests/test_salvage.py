@@ -2,10 +2,12 @@
 accepts is written as ever, and each byte of the input is accounted for.
 
 tests/salvage.jsonl has a row for each form: its name, its bytes (as Latin-1), the movetexts that are written of it, and what is said of it."""
+import importlib
 import json
 import random
 import re
 import subprocess
+import sys
 import unittest
 
 import runs
@@ -20,6 +22,17 @@ FAULT = re.compile(rb"game (\d+): fault (\d+) \d+ [A-Z][A-Za-z]+")
 MUTATIONS = 2_000
 # What takes a random byte's place: what texts of games are made of, and a few others.
 BYTES = b'[]{}()"\\;%$*.,!?+-=#:/ \n\t\0\x1a\xa0\xe2\x80\xa6abcdefghNBRQKOox0123456789<>&~'
+
+
+def setUpModule():
+    runs.make("libraries")
+    sys.path.insert(0, f"{runs.TOP}/python")
+    global jatshegi
+    jatshegi = importlib.import_module("jatshegi")
+
+
+def tearDownModule():
+    sys.path.remove(f"{runs.TOP}/python")
 
 
 def ran(text, *words):
@@ -102,6 +115,21 @@ class Salvage(unittest.TestCase):
         whole = [game.encode() for game in games()] + [form["bytes"].encode("latin-1") for form in FORMS]
         for _ in range(MUTATIONS // 4):
             self.check(b"\n\n".join(mutated(chance, chance.choice(whole)) for _ in range(4)))
+
+    def test_the_package_saves_the_same(self):
+        """Python's games, of each form and of some mutations: as the program writes and reports them."""
+        chance = random.Random(63)
+        whole = [form["bytes"].encode("latin-1") for form in FORMS]
+        for text in whole + [b"\n\n".join(mutated(chance, chance.choice(whole)) for _ in range(4)) for _ in range(100)]:
+            found, faults, repairs = [], [], []
+            for game in jatshegi.pgn.games(text, faults.append, repairs.append):
+                found.append(bytes(game))
+            program = ran(text, "--salvage")
+            self.assertEqual(b"".join(found), program.stdout, text)
+            said = [f"repaired {repair.place} {repair.name}" for each in repairs for repair in each]
+            said += [f"fault {fault.place} {fault.fault}" for fault in faults]
+            lines = [re.fullmatch(r"game \d+: (repaired \d+ \w+|fault \d+ \d+)(?: \w+)?", line)[1] for line in program.stderr.decode().splitlines()]
+            self.assertEqual(sorted(said), sorted(lines), text)
 
     def test_more_bytes_than_are_at_hand(self):
         """White space, and a comment, longer than what is read at once, and many games."""

@@ -3,7 +3,7 @@ import { bytesOf, decode, encode, shown, toBytes } from './bytes.js';
 import { ChessError, noMemory, refusal, strange } from './errors.js';
 import { begin, beside, costOf, faultOf, keep, line, on, placeIn, readers, theMemory } from './boards.js';
 import { tagsOf, treeOf, Node } from './export.js';
-import { ARGUMENT, BAD_NAME, BAD_VALUE, MEMORY, NONE, OK, OWN_TAG } from './memory.js';
+import { ARGUMENT, AT_ROOT, BAD_NAME, BAD_VALUE, MEMORY, NONE, OK, OWN_TAG } from './memory.js';
 import { menOf, pieceOf, placedOf } from './move.js';
 import { NAMES, attackersOf, colorOf, countsOf, lineOf, movesOf, sansOf, squareOf, tried } from './questions.js';
 import { search } from './search.js';
@@ -463,6 +463,14 @@ export class Chess {
 
   addNag(nag) {
     this.#change(`nag ${nag}`);
+  }
+
+  /** Takes the annotation numbers of the move at the cursor out. */
+  clearNags() {
+    const status = on(this.#kept, (session) => session.clearNags());
+    if (status === AT_ROOT) throw refusal('refused 2 AtRoot', 'clearNags');
+    if (status !== OK) throw strange('jatshegi_board_clear_annotations', status);
+    this.#kept.version++;
   }
 
   getNags() {

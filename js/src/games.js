@@ -9,6 +9,14 @@ const FIRST = 1 << 19;
 const MOST = 1 << 30;
 const TRUNCATED = FAULTS + 6;
 const RIGHT_BRACE = 125;
+// As many bytes decide what a game is repaired to.
+const DECIDED = 1_179_648;
+
+// The kinds of repairs by their numbers.
+const REPAIRS = (
+  'TagQuotes TagBracket TagName Castling Hyphen Colon Pawn Small Large Promotion Sign Said Value Result Glyphs Number Dots Space Control Stray Offer Angles '
+  + 'Bracket Marker Symbol Nested Comment Unclosed Prose Fen Squares Null Illegal Unreadable Variation'
+).split(' ');
 
 const STATUSES = ['mate', 'stalemate', 'dead', 'fivefold', 'seventyfive', 'play'];
 const MARKERS = ['*', '1-0', '0-1', '1/2-1/2'];
@@ -69,7 +77,8 @@ export class Game {
 
 // Bytes in the module's memory, some of which were read.
 class Reader {
-  constructor() {
+  constructor(saves = false) {
+    this.saves = saves;
     this.area = theMemory().area(FIRST);
     this.from = 0;
     this.to = 0;
@@ -138,6 +147,14 @@ class Reader {
     throw strange('jatshegi_game', status);
   }
 
+  // The game that takes so many bytes, and what was repaired in it.
+  #game(text, used, repaired = []) {
+    const begin = this.passed.byte;
+    const game = new Game(text, this.count++, begin, used);
+    this.#pass(used);
+    return { game, repairs: repaired.map(({ place, length, written, kind }) => ({ place: begin + place, name: REPAIRS[kind], length, written })) };
+  }
+
   #answer(status, used, length, at, text) {
     // (a game is there whatever comes where it ended before the last byte)
     const isThere = status === OK && (this.isEnded || used < length);
@@ -151,10 +168,14 @@ class Reader {
       return null;
     }
     const { bytes } = theMemory();
-    if (isThere) {
-      const game = new Game(text, this.count++, this.passed.byte, used);
-      this.#pass(used);
-      return { game };
+    if (isThere) return this.#game(text, used);
+    if (this.saves) {
+      if (!this.isEnded && length < DECIDED) {
+        this.tries = length;
+        return null;
+      }
+      const saved = read((session) => session.salvage(at, length));
+      if (saved.status === OK) return this.#game(theMemory().handed().slice(), saved.used, saved.repairs);
     }
     const fault = faultOf(status, placeIn(bytes.subarray(at, at + length), used, this.passed));
     fault.index = this.count++;
@@ -165,28 +186,30 @@ class Reader {
 
 const PIECE = 1 << 18;
 
-// Those that can be read now, one after another; a fault is told, or thrown where nobody asks for faults.
-function* ready(reader, onFault) {
+// Those that can be read now, one after another; a fault is reported, or thrown where nobody asks for faults.
+function* ready(reader, { onFault, onRepair }) {
   for (;;) {
     const it = reader.next();
     if (!it || it.end) return;
-    if (it.game) yield it.game;
-    else if (onFault) onFault(it.fault);
+    if (it.game) {
+      if (it.repairs.length > 0) onRepair(it.repairs, it.game);
+      yield it.game;
+    } else if (onFault) onFault(it.fault);
     else throw it.fault;
   }
 }
 
-/** The games of a whole text, one after another. */
-export function* games(source, { onFault = null } = {}) {
+/** The games of a whole text, one after another; with `onRepair` those that can't be read are saved where they can be, and it has what was repaired in each. */
+export function* games(source, { onFault = null, onRepair = null } = {}) {
   const all = bytesOf(source);
-  const reader = new Reader();
+  const reader = new Reader(onRepair !== null);
   try {
     for (let from = 0; from < all.length; from += PIECE) {
       reader.push(all.subarray(from, from + PIECE));
-      yield* ready(reader, onFault);
+      yield* ready(reader, { onFault, onRepair });
     }
     reader.end();
-    yield* ready(reader, onFault);
+    yield* ready(reader, { onFault, onRepair });
   } finally {
     reader.close();
   }
@@ -208,8 +231,8 @@ async function* pieces(source) {
 }
 
 /** The games of a stream, as its bytes come. */
-export async function* readGames(source, { onFault = null } = {}) {
-  const reader = new Reader();
+export async function* readGames(source, { onFault = null, onRepair = null } = {}) {
+  const reader = new Reader(onRepair !== null);
   // (half of a surrogate pair may end a piece that is a string)
   let half = '';
   try {
@@ -220,11 +243,11 @@ export async function* readGames(source, { onFault = null } = {}) {
         if (half) piece = piece.slice(0, -1);
       } else if (half) encode(half);
       reader.push(bytesOf(piece));
-      yield* ready(reader, onFault);
+      yield* ready(reader, { onFault, onRepair });
     }
     if (half) reader.push(encode(half));
     reader.end();
-    yield* ready(reader, onFault);
+    yield* ready(reader, { onFault, onRepair });
   } finally {
     reader.close();
   }

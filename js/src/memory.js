@@ -11,10 +11,12 @@ const FLAG = 16;
 const LENT = 32;
 const REPORT = 64;
 const CELLS = 128;
+const REPAIR = 32;
 
 export const OK = 0;
 export const MEMORY = 2;
 export const ILLEGAL = 3;
+export const AT_ROOT = 8;
 export const ARGUMENT = 9;
 export const ROOM = 10;
 export const NO_SUCH = 12;
@@ -34,6 +36,7 @@ export class Memory {
     this.look();
     this.cells = this.area(CELLS).at;
     this.answers = this.area(UNIT);
+    this.repairs = this.area(64 * REPAIR);
     this.text = this.area(UNIT);
   }
 
@@ -103,6 +106,12 @@ export class Memory {
   /** The bytes that the last call handed out; they are there until the next. */
   handed() {
     return this.bytes.subarray(this.answers.at, this.answers.at + this.number(COUNT));
+  }
+
+  // A repair as the module writes it.
+  repair(at) {
+    const [place, length, written] = [0, 8, 16].map((part) => Number(this.view.getBigUint64(at + part, true)));
+    return { place, length, written, kind: this.view.getUint32(at + 24, true) };
   }
 
   lend(place, { at, size }) {
@@ -177,6 +186,11 @@ export class Session {
     return this.memory.exports.jatshegi_board_clear_tag(this.slot, ...this.memory.put(name));
   }
 
+  /** Takes the annotation numbers of the move at the cursor out: the status, 8 at the root. */
+  clearNags() {
+    return this.memory.exports.jatshegi_board_clear_annotations(this.slot);
+  }
+
   setResult(marker) {
     return this.memory.exports.jatshegi_board_set_result(this.slot, marker);
   }
@@ -195,6 +209,25 @@ export class Session {
       const status = memory.exports.jatshegi_game(this.slot, BigInt(at), BigInt(length), BigInt(answers.at), BigInt(answers.size), memory.cell(COUNT), memory.cell(USED));
       if (status !== ROOM) return { status, used: memory.number(USED) };
       memory.larger('answers', 2 * Math.max(answers.size, memory.number(COUNT)));
+    }
+  }
+
+  /** The same, saved where it can be: `{status, used, repairs}`, where each of these is `{place, length, written, kind}`, a number. */
+  salvage(at, length) {
+    const { memory } = this;
+    for (;;) {
+      const { answers, repairs } = memory;
+      const places = Math.floor(repairs.size / REPAIR);
+      const status = memory.exports.jatshegi_salvage(
+        this.slot, BigInt(at), BigInt(length), BigInt(answers.at), BigInt(answers.size), memory.cell(COUNT), BigInt(repairs.at), BigInt(places), memory.cell(FLAG),
+        memory.cell(USED),
+      );
+      const used = memory.number(USED);
+      if (status !== ROOM && status !== OK) return { status, used, repairs: [] };
+      const many = memory.number(FLAG);
+      if (status === OK && many <= places) return { status, used, repairs: Array.from({ length: many }, (_, i) => memory.repair(repairs.at + REPAIR * i)) };
+      if (many > places) memory.larger('repairs', REPAIR * many);
+      if (status === ROOM) memory.larger('answers', 2 * Math.max(answers.size, memory.number(COUNT)));
     }
   }
 

@@ -153,6 +153,9 @@ test('the tree', () => {
   chess.addNag(1);
   chess.setComment(' open\n game ');
   assert.deepEqual([chess.getNags(), chess.getComment()], [[1], 'open game']);
+  chess.clearNags();
+  assert.deepEqual([chess.getNags(), chess.getComment()], [[], 'open game']);
+  chess.addNag(1);
   chess.promoteVariation();
   assert.deepEqual(chess.root().mainline().map(({ san }) => san), ['e4', 'c5']);
   const [e4] = chess.root().children;
@@ -170,6 +173,7 @@ test('the tree', () => {
   chess.toStart();
   assert.equal(chess.back(), false);
   refuses('AtRoot', () => chess.addNag(1));
+  refuses('AtRoot', () => chess.clearNags());
   refuses('AtRoot', () => chess.promoteVariation());
   refuses('AtRoot', () => chess.deleteVariation());
   refuses('BadComment', () => chess.setComment('a } b'));
@@ -253,6 +257,23 @@ test('games of a text', () => {
   refuses('Move', () => [...games(text)]);
   assert.throws(() => [...games(5)], TypeError);
   assert.deepEqual([...games(' \n')], []);
+});
+
+test('games that are saved', async () => {
+  const saved = [];
+  const text = '1. e4 *\n\n[White "é"]\n\n1. e2-e4 e5 2. OO Nc6 *\n\n[FEN "8/8"]\n\n*';
+  const faults = [];
+  const options = { onFault: (it) => faults.push(it.code), onRepair: (repairs, game) => saved.push([game.index, repairs]) };
+  assert.deepEqual([...games(text, options)].map((it) => it.moves().join(' ')), ['e4', 'e4 e5']);
+  assert.deepEqual(faults, ['Fen']);
+  const begin = Buffer.from(text.split('[White')[0]).length;
+  const places = ['e2-e4', 'OO', 'OO'].map((it) => Buffer.from(text.slice(0, text.indexOf(it))).length);
+  assert.deepEqual(saved.map(([index, all]) => [index, all.map(({ name, place }) => [name, place])]), [[1, [['Hyphen', places[0]], ['Castling', places[1]], ['Illegal', places[2]]]]]);
+  assert.deepEqual([saved[0][1][0].length, saved[0][1][0].written, begin > 0], [5, 6, true]);
+  const came = [];
+  for await (const it of readGames(text.split(''), options)) came.push(it.moves().length);
+  assert.deepEqual([came, faults, saved[1]], [[1, 2], ['Fen', 'Fen'], saved[0]]);
+  assert.throws(() => [...games(text)], ChessError);
 });
 
 test('games of a stream', async () => {

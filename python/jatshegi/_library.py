@@ -3,6 +3,7 @@ from __future__ import annotations
 
 import ctypes
 import os
+import platform
 from ctypes import POINTER, c_bool, c_char, c_char_p, c_int32, c_size_t, c_uint8, c_uint16, c_uint32, c_uint64, c_void_p
 
 OK, EMPTY, NO_MEMORY, ILLEGAL, AMBIGUOUS, FORM, TOO_LONG, FULL, AT_ROOT, ARGUMENT, NO_ROOM, NONE, NO_SUCH, BAD_COMMENT = range(14)
@@ -60,11 +61,17 @@ class CReport(ctypes.Structure):
     ]
 
 
+class CRepair(ctypes.Structure):
+    """A repair of a game's text as C sees it."""
+
+    _fields_ = [("place", c_size_t), ("length", c_size_t), ("written", c_size_t), ("kind", c_uint32)]
+
+
 def _found() -> str:
     """The library beside this file, else in a clone of the repository the one that tools/libraries made, or the released one."""
     here = os.path.dirname(os.path.realpath(__file__))
     top = os.path.dirname(os.path.dirname(here))
-    paths = [f"{here}/libjatshegi.so", f"{top}/out/libjatshegi.so.1", f"{top}/release/x86_64-linux/lib/libjatshegi.so.1"]
+    paths = [f"{here}/libjatshegi.so", f"{top}/out/libjatshegi.so.1", f"{top}/release/{platform.machine()}-linux/lib/libjatshegi.so.1"]
     for path in paths:
         if os.path.exists(path):
             return path
@@ -153,6 +160,9 @@ for _name, _types in {
     _function.argtypes, _function.restype = _types, c_uint32
 lib.jatshegi_game_read.argtypes = [c_void_p, c_size_t, POINTER(c_char), c_size_t, POINTER(c_size_t), POINTER(c_size_t)]
 lib.jatshegi_game_read.restype = c_uint32
+_salvage = lib.jatshegi_game_salvage
+_salvage.argtypes = [c_void_p, c_size_t, POINTER(c_char), c_size_t, POINTER(c_size_t), POINTER(CRepair), c_size_t, POINTER(c_size_t), POINTER(c_size_t)]
+_salvage.restype = c_uint32
 lib.jatshegi_game_report.argtypes = [c_char_p, c_size_t, POINTER(CReport), POINTER(c_char), c_size_t, POINTER(c_size_t), POINTER(c_size_t)]
 lib.jatshegi_game_report.restype = c_uint32
 lib.jatshegi_game_pass.argtypes, lib.jatshegi_game_pass.restype = [c_void_p, c_size_t, POINTER(c_size_t)], c_uint32

@@ -46,6 +46,7 @@ __all__ = [
     "Headers",
     "Nags",
     "Node",
+    "Repair",
     "Report",
     "SkipType",
     "StringExporter",
@@ -67,6 +68,11 @@ _FAULTS = [
     "",
     "the game is larger than 1,048,576 bytes or 20,000 plies",
 ]
+# The kinds of repairs, by their numbers (`enum jatshegi_repair_kind`).
+_REPAIRS = (
+    "TagQuotes TagBracket TagName Castling Hyphen Colon Pawn Small Large Promotion Sign Said Value Result Glyphs Number Dots Space Control Stray Offer Angles "
+    "Bracket Marker Symbol Nested Comment Unclosed Prose Fen Squares Null Illegal Unreadable Variation"
+).split()
 # The tags of a game's start.
 _STARTS = ("FEN", "SetUp")
 _MARKERS = ("*", "1-0", "0-1", "1/2-1/2")
@@ -165,6 +171,17 @@ class Report(NamedTuple):
     def has_finding(self) -> bool:
         """Whether something is wrong: moves follow after the game was over, or its marker disagrees with the board."""
         return self.is_played_on or not self.agrees
+
+
+class Repair(NamedTuple):
+    """What was written otherwise in the text of a game so that it could be read: `name` says what (`Castling`, `Hyphen`, `Illegal`, ..; the formats of
+    `chess_games --salvage` list them), `place` where, in bytes from the beginning of the input, and `length` and `written` how many bytes were replaced by
+    how many. Of a line that is cut off the place is as near as it can be said."""
+
+    place: int
+    name: str
+    length: int
+    written: int
 
 
 def _ply(number: int) -> Optional[int]:
@@ -485,8 +502,9 @@ def _fault(status: int, place: int) -> Exception:
     return InvalidGameError(place, status - c.PGN, _FAULTS[status - c.PGN - 1])
 
 
-# No answer about a game hangs on bytes that are further from its beginning, with three of a byte order mark; and how many are read at a time.
-_DECIDED, _PIECE = 1_048_576 + 3, 1 << 21
+# No answer about a game hangs on bytes that are further from its beginning, with three of a byte order mark, and more for a game that is repaired; and how
+# many are read at a time.
+_DECIDED, _PIECE = 1_179_648, 1 << 21
 _PARTS_OF_A_MARK = (b"\xef", b"\xef\xbb")
 
 
@@ -509,12 +527,14 @@ class _Pieces:
 class _Texts:
     """The export forms of games, one after another: of some bytes, or of what is read piece by piece. As much of that is kept as decides the next game."""
 
-    def __init__(self, data: bytes, read: Optional[Callable[[int], bytes]] = None) -> None:
-        self._data, self._read, self._lock = data, read, threading.Lock()
+    def __init__(
+        self, data: bytes, read: Optional[Callable[[int], bytes]] = None, repaired: Optional[Callable[[List[Repair]], object]] = None
+    ) -> None:
+        self._data, self._read, self._repaired, self._lock = data, read, repaired, threading.Lock()
         # Where the next game is looked for, and how many bytes came before those that are kept.
         self._at = self._before = 0
-        # Room for an export form.
-        self._room = (c_char * 16384)()
+        # Room for an export form, and for repairs.
+        self._room, self._repairs = (c_char * 16384)(), (c.CRepair * 64)()
 
     # Reads more, at least as much as is kept, so that no byte is looked at often.
     def _more(self) -> None:
@@ -549,12 +569,33 @@ class _Texts:
                 self._room = (c_char * (2 * count.value))()
                 continue
             if status != c.NO_GAME:
-                raise self._passing(status, used.value)
+                saved = self._saved() if self._repaired else None
+                if saved is None:
+                    raise self._passing(status, used.value)
+                return saved
             # Only whitespace is there.
             if self._read is None:
                 self._at = len(self._data)
                 return None
             self._more()
+
+    # The export form of a game that strict reading refuses, where it can be saved; then its repairs are handed on.
+    def _saved(self) -> Optional[bytes]:
+        assert self._repaired is not None
+        while True:
+            count, used, repaired = c_size_t(), c_size_t(), c_size_t()
+            places = self._room, len(self._room), byref(count), self._repairs, len(self._repairs), byref(repaired), byref(used)
+            status = c.lib.jatshegi_game_salvage(*self._place(), *places)
+            if status not in (c.OK, c.NO_ROOM):
+                return None
+            if status == c.OK and repaired.value <= len(self._repairs):
+                break
+            self._room = (c_char * max(len(self._room), count.value))()
+            self._repairs = (c.CRepair * max(len(self._repairs), repaired.value))()
+        begin = self._before + self._at
+        self._at += used.value
+        self._repaired([Repair(begin + it.place, _REPAIRS[it.kind], it.length, it.written) for it in self._repairs[: repaired.value]])
+        return ctypes.string_at(self._room, count.value)
 
     # What a status raises, once the bytes of a game that can't be read have been passed over.
     def _passing(self, status: int, used: int) -> Exception:
@@ -663,7 +704,11 @@ def _opened(path: Union[str, "os.PathLike[str]"]) -> Iterator[IO[Any]]:
 
 
 def games(
-    source: Union[str, bytes, "os.PathLike[str]", IO[Any]], bad: Optional[Callable[[InvalidGameError], object]] = None, *, encoding: Optional[str] = None
+    source: Union[str, bytes, "os.PathLike[str]", IO[Any]],
+    bad: Optional[Callable[[InvalidGameError], object]] = None,
+    repaired: Optional[Callable[[List[Repair]], object]] = None,
+    *,
+    encoding: Optional[str] = None,
 ) -> Iterator[Game]:
     """The games of a file, open or by its path, or of bytes, one after another, each read in the encoding that is named, or as `read_game` does. A file is
     read by pieces of 2 MiB, so one of any size takes little memory, and it is open meanwhile. The path `-` is the standard input. By a path a file that was
@@ -677,18 +722,27 @@ def games(
     ['?', 'Morphy']
     >>> [(fault.place, fault.fault) for fault in faults]
     [(25, 3)]
+
+    With `repaired`, a game that can't be read is saved where it can be: it is read from its text after repair, as `chess_games --salvage` does, and before
+    it comes `repaired` is called with the list of its repairs. A line with an illegal move ends before it, and a comment says what was cut off.
+
+    >>> repairs = []
+    >>> [str(game.mainline_sans()) for game in jatshegi.pgn.games(b"1. e2-e4 e5 2. OO Nc6 *", repaired=repairs.append)]
+    ["['e4', 'e5']"]
+    >>> [(repair.name, repair.place) for repair in repairs[0]]
+    [('Hyphen', 3), ('Castling', 15), ('Illegal', 15)]
     """
     encoding = None if encoding is None else _known(encoding)
     if isinstance(source, bytes):
-        for text in _exports(_Texts(source), bad):
+        for text in _exports(_Texts(source, None, repaired), bad):
             yield _game(text, encoding)
     elif hasattr(source, "read"):
         pieces = _Pieces(lambda: source)
-        for text in _exports(_Texts(b"", pieces), bad):
+        for text in _exports(_Texts(b"", pieces, repaired), bad):
             yield _game(text, "utf-8" if pieces.is_text else encoding)
     else:
         with _opened(source) as file:
-            yield from games(file, bad, encoding=encoding)
+            yield from games(file, bad, repaired, encoding=encoding)
 
 # Each class shows under the name by which it is found here.
 for _name in __all__:

@@ -58,6 +58,15 @@ pub struct Move {
 }
 
 #[repr(C)]
+#[derive(Clone, Copy, Default)]
+pub struct Repair {
+    pub place: usize,
+    pub length: usize,
+    pub written: usize,
+    pub kind: u32,
+}
+
+#[repr(C)]
 #[derive(Clone, Copy)]
 pub struct Position {
     pub men: [u8; 64],
@@ -171,6 +180,17 @@ extern "C" {
     pub fn jatshegi_board_clear_annotations(board: *mut Slot) -> u32;
     pub fn jatshegi_board_answer(board: *mut Slot, line: *const u8, length: usize, answer: *mut u8, room: usize, count: *mut usize) -> u32;
     pub fn jatshegi_game_read(text: *const u8, length: usize, game: *mut u8, room: usize, count: *mut usize, used: *mut usize) -> u32;
+    pub fn jatshegi_game_salvage(
+        text: *const u8,
+        length: usize,
+        game: *mut u8,
+        room: usize,
+        count: *mut usize,
+        repairs: *mut Repair,
+        places: usize,
+        repaired: *mut usize,
+        used: *mut usize,
+    ) -> u32;
     pub fn jatshegi_game_report(text: *const u8, length: usize, report: *mut Report, fen: *mut u8, room: usize, count: *mut usize, used: *mut usize) -> u32;
     pub fn jatshegi_game_pass(text: *const u8, length: usize, used: *mut usize) -> u32;
     pub fn jatshegi_game_next(text: *const u8, length: usize, is_last: bool, used: *mut usize) -> u32;

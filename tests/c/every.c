@@ -484,6 +484,31 @@ static void games(void) {
     CHECK(jatshegi_game_read("[FEN \"8\"] *", 11, game, sizeof game, &count, &used) == JATSHEGI_PGN_FEN);
 }
 
+/* A game that strict reading refuses is saved, with what was repaired; one that needs no repair is as ever, and one that can't be saved is passed over. */
+static void saves(void) {
+    static const char bad[] = "1. e2-e4 e5 2. OO Nc6 * 1. d4 *", lost[] = "[FEN \"8/8\"]\n\n1. e4 *\n\n[White \"b\"]", good[] = "1. e4 * 1. d4 *";
+    static const char moves[] = "1. e4 e5 {cut: O-O Nc6} *\n\n";
+    struct jatshegi_repair repairs[3];
+    size_t count = 7, used = 7, repaired = 7;
+    char game[512];
+    CHECK(jatshegi_game_salvage(bad, strlen(bad), game, sizeof game, &count, repairs, 3, &repaired, &used) == JATSHEGI_OK && used == strlen("1. e2-e4 e5 2. OO Nc6 *"));
+    CHECK(count > strlen(moves) && memcmp(game + count - strlen(moves), moves, strlen(moves)) == 0 && repaired == 3);
+    CHECK(repairs[0].place == 3 && repairs[0].length == 5 && repairs[0].written == 6 && repairs[0].kind == JATSHEGI_REPAIR_HYPHEN);
+    CHECK(repairs[1].place == 15 && repairs[1].length == 2 && repairs[1].kind == JATSHEGI_REPAIR_CASTLING);
+    CHECK(repairs[2].place == 15 && repairs[2].kind == JATSHEGI_REPAIR_ILLEGAL);
+    memset(repairs, 9, sizeof repairs);
+    CHECK(jatshegi_game_salvage(bad, strlen(bad), NULL, 0, &count, repairs, 1, &repaired, &used) == JATSHEGI_NO_ROOM && repaired == 3 && count > strlen(moves));
+    CHECK(repairs[0].place == 3 && repairs[1].kind == 0x09090909);
+    CHECK(jatshegi_game_salvage(good, strlen(good), game, sizeof game, &count, NULL, 0, &repaired, &used) == JATSHEGI_OK && used == 7 && repaired == 0);
+    count = repaired = 7;
+    CHECK(jatshegi_game_salvage(lost, strlen(lost), game, sizeof game, &count, repairs, 3, &repaired, &used) == JATSHEGI_PGN_FEN && count == 7 && repaired == 7);
+    CHECK(used == strlen(lost) - strlen("[White \"b\"]"));
+    used = 7;
+    CHECK(jatshegi_game_salvage(" \n", 2, game, sizeof game, &count, repairs, 3, &repaired, &used) == JATSHEGI_NO_GAME && count == 7 && repaired == 7 && used == 7);
+    CHECK(strcmp(jatshegi_repair_text(JATSHEGI_REPAIR_TAG_QUOTES), "TagQuotes") == 0 && strcmp(jatshegi_repair_text(JATSHEGI_REPAIR_VARIATION), "Variation") == 0);
+    CHECK(jatshegi_repair_text(JATSHEGI_REPAIR_VARIATION + 1) == NULL);
+}
+
 /* A game of a text loaded into a board; what is no game changes nothing. */
 static void loads(struct jatshegi_board *b) {
     static const char text[] = "[FEN \"4k3/8/8/8/8/8/4P3/4K3 w - - 0 1\"]\n\n{a study} 1.e4 $1 Kd7(1...Ke7{slower})2.e5 1/2-1/2 1.d4 *";
@@ -913,6 +938,7 @@ int main(void) {
     nodes(&board);
     lines(&board);
     games();
+    saves();
     loads(&board);
     comes(&board);
     tags(&board);

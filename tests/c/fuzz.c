@@ -409,6 +409,8 @@ static size_t compose(enum text kind) {
 #define UNITS(size) {size, true, false, {0}}
 #define GAMES {1, true, true, {0}}
 #define REPORTED {1, true, true, {sizeof(struct jatshegi_report)}}
+#define REPAIRS 3
+#define REPAIRED {1, true, true, {REPAIRS * sizeof(struct jatshegi_repair), sizeof(size_t), 0}}
 #define SLICED {1, true, false, {1, 8, 0}}
 #define USED {0, false, true, {0}}
 #define OUT(a, b, c) {0, false, false, {a, b, c}}
@@ -418,6 +420,8 @@ static size_t compose(enum text kind) {
 #define CALLS(X) \
     X(version, NO_TEXT, NOTHING, 0, OK, jatshegi_version() == JATSHEGI_VERSION_NUMBER ? JATSHEGI_OK : 63) \
     X(status_text, NO_TEXT, NOTHING, 0, OK, *jatshegi_status_text((uint32_t)a.number) ? JATSHEGI_OK : 63) \
+    X(repair_text, NO_TEXT, NOTHING, 0, OK, \
+      (jatshegi_repair_text((uint32_t)a.number) == NULL) == ((uint32_t)a.number > JATSHEGI_REPAIR_VARIATION) ? JATSHEGI_OK : 63) \
     X(keys_fill, NO_TEXT, OUT(sizeof(struct jatshegi_keys), 0, 0), 0, OK, (jatshegi_keys_fill(a.out[0]), JATSHEGI_OK)) \
     X(board_new, NO_TEXT, NOTHING, ALL, OK | MEMORY, jatshegi_board_new(keys, a.board)) \
     X(board_copy, NO_TEXT, NOTHING, 0, EMPTY | MEMORY, jatshegi_board_copy(a.board, a.other)) \
@@ -498,6 +502,8 @@ static size_t compose(enum text kind) {
     X(board_clear_annotations, NO_TEXT, NOTHING, TREE, EMPTY | AT_ROOT, jatshegi_board_clear_annotations(a.board)) \
     X(board_answer, COMMAND, UNITS(1), TREE | CURSOR, EMPTY | ROOM | MEMORY, jatshegi_board_answer(a.board, a.text, a.length, a.room, a.size, a.count)) \
     X(game_read, GAME, GAMES, 0, OK | MEMORY | ROOM | NO_GAME | PGNS, jatshegi_game_read(a.text, a.length, a.room, a.size, a.count, a.used)) \
+    X(game_salvage, GAME, REPAIRED, 0, OK | MEMORY | ROOM | NO_GAME | PGNS, \
+      jatshegi_game_salvage(a.text, a.length, a.room, a.size, a.count, a.out[0], REPAIRS, a.out[1], a.used)) \
     X(game_report, GAME, REPORTED, 0, OK | MEMORY | ROOM | NO_GAME | PGNS, \
       jatshegi_game_report(a.text, a.length, a.out[0], a.room, a.size, a.count, a.used)) \
     X(game_pass, GAME, USED, 0, OK | MEMORY, jatshegi_game_pass(a.text, a.length, a.used)) \
@@ -572,7 +578,7 @@ static unsigned char scrap[1 << 13];
 static size_t dry(const struct call *call) {
     size_t count = 0, used = 0;
     if (call->changes) return below(200);
-    a.count = &count, a.used = &used, a.out[0] = scrap, a.room = NULL, a.size = 0;
+    a.count = &count, a.used = &used, a.out[0] = scrap, a.out[1] = scrap + sizeof scrap / 2, a.room = NULL, a.size = 0;
     uint32_t answer = ASKED(call->made());
     want(answer != JATSHEGI_NO_ROOM || count > 0, "an empty answer has no room");
     return answer == JATSHEGI_NO_ROOM ? count : 0;
@@ -741,6 +747,16 @@ static void is_same_game(bool is_loaded) {
     if (is_loaded) want(now->line_count == 0 && now->tree_length == count && (count > TREE_ROOM || memcmp(written, now->tree, count) == 0), "another game is loaded");
 }
 
+/* A saved game is read, and a game that needs no repair is as ever. */
+static void is_saved(void) {
+    size_t used = 0, count = 0, repaired;
+    memcpy(&repaired, a.out[1], sizeof repaired);
+    want(ASKED(jatshegi_game_read(a.room, *a.count, written, TREE_ROOM, &count, &used)) == JATSHEGI_NO_ROOM || status == JATSHEGI_OK, "what was saved isn't read");
+    want(count == *a.count && (count > TREE_ROOM || memcmp(written, a.room, count) == 0), "what was saved is read otherwise");
+    if (ASKED(jatshegi_game_read(a.text, a.length, written, 0, &count, &used)) != JATSHEGI_NO_ROOM) return;
+    want(count == *a.count && used == *a.used && repaired == 0, "a good game is another after repair");
+}
+
 /* A line of 20,000 plies takes no more. */
 static void is_long(void) {
     uint32_t depth = 0;
@@ -792,6 +808,7 @@ static void law(enum number number) {
     case CALL_board_clear_annotations: is_annotated(0); break;
     case CALL_board_load: case CALL_board_load_next: is_same_game(true); if (*a.used > 70000) is_long(); break;
     case CALL_game_next: case CALL_game_read: is_same_game(false); break;
+    case CALL_game_salvage: is_saved(); break;
     case CALL_search_start: depths[a.at] = a.depth; break;
     case CALL_engine_slice: case CALL_engine_slice_within: slices[a.at]++; break;
     case CALL_engine_line: slices[a.at] = 0; break;

@@ -1,8 +1,9 @@
 ghost use Rattle.chess_slots.specs.Games.{IsGame, IsPassed};
 ghost use Rattle.chess_slots.specs.Next.{IsNext};
 ghost use Rattle.chess_slots.specs.Reports.{IsReport};
+ghost use Rattle.chess_slots.specs.Saved.{IsReadOrSaved};
 
-use chess_slots::{GameReport, game, next_game, passed, report};
+use chess_slots::{GameReport, RepairReport, game, next_game, passed, report, saved_game};
 use std::alloc::Global;
 
 /// The game at the start of a text (PGN), in export form, and how many bytes of the text it takes: 0. 16 where only whitespace follows. Where no game is
@@ -19,6 +20,23 @@ pub extern "C" fn jatshegi_game_read(
     ensures { IsGame text.now result count.old count.new used.old used.new room.old room.new }
 {
     game(&alloc, text, room, count, used)
+}
+
+/// The same, and where strict reading refuses the text, what that gives of it after repair, with the repairs, as many as there are places for, and their
+/// number: 0. Where no game can be saved, the number of the text's first fault and 40, and the bytes to pass over where else the bytes taken are.
+#[unsafe(no_mangle)]
+pub extern "C" fn jatshegi_game_salvage(
+    alloc: Global,
+    text: &[u8],
+    room: &mut [u8],
+    count: &mut usize,
+    repairs: &mut [RepairReport],
+    repaired: &mut usize,
+    used: &mut usize,
+) -> u32
+    ensures { IsReadOrSaved text.now result count.old count.new used.old used.new repaired.old repaired.new room.old room.new repairs.old repairs.new }
+{
+    saved_game(&alloc, text, room, count, repairs, repaired, used)
 }
 
 /// What the Laws say of the main line of the game at the start of a text (FIDE Laws 5 and 9), the FEN of its last position, at most 128 bytes, and how many

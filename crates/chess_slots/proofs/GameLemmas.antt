@@ -26,7 +26,7 @@ pub report_told : (text : List ℕ) → (game : Game) → (code count count' use
 report_told text game code count count' used used' report report' room room' at is handed = inl (game, at, is, handed)
 
 -- a fault of the text says that the game at its start is bad
-is_bad : (text : List ℕ) → (kind : FaultKind) → is_of_text kind ≡ true → (kind ≡ Memory) ⊎ HasNoGame text → (IsWhite text → kind ≡ Memory) → IsBad text
+pub is_bad : (text : List ℕ) → (kind : FaultKind) → is_of_text kind ≡ true → (kind ≡ Memory) ⊎ HasNoGame text → (IsWhite text → kind ≡ Memory) → IsBad text
 is_bad text kind of_text (inl memory) white = absurd (true≢false (sym of_text ∙ ap is_of_text memory))
 is_bad text kind of_text (inr none) white = (none, λ w. absurd (true≢false (sym of_text ∙ ap is_of_text (white w))))
 

@@ -3,6 +3,7 @@ pub mod GameLemmas
 pub mod HeadingLemmas
 pub mod NextLemmas
 pub mod ReportLemmas
+pub mod SavedLemmas
 pub mod SlotValues
 pub mod TextLemmas
 pub mod Values

@@ -7,6 +7,7 @@ pub mod Headings
 pub mod Loads
 pub mod Next
 pub mod Reports
+pub mod Saved
 pub mod Slots
 pub mod Texts
 pub mod Within

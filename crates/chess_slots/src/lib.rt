@@ -1,9 +1,10 @@
 //! What the libraries for C and for a page share: what is kept in a slot, and how answers are handed out.
 //!
 //! `Loose` is a `Box` as a raw pointer, which a slot can keep; each library has a slot of its own, since a type that crosses to C has no parameters. The others
-//! are calls over a text, a board or an engine, which hand out what they answer: `game`, `passed` and `report` of a text, `load` of one into a board and its
-//! heading, `next_game` and `load_next` of bytes of which more may come, `answer` of a line of the board, `reply` of an event of an engine; and over a `Heading`, a game's tags and its end: `tag`, `tag_name`, `set_tag`,
-//! `clear_tag`, `set_outcome`, `whole_game`. Each returns a status, of which 0 is success (`specs/Codes.antt`).
+//! are calls over a text, a board or an engine, which hand out what they answer: `game`, `passed` and `report` of a text, `saved_game` of one that may need
+//! repair, `load` of one into a board and its heading, `next_game` and `load_next` of bytes of which more may come, `answer` of a line of the board, `reply`
+//! of an event of an engine; and over a `Heading`, a game's tags and its end: `tag`, `tag_name`, `set_tag`, `clear_tag`, `set_outcome`, `whole_game`. Each
+//! returns a status, of which 0 is success (`specs/Codes.antt`).
 #![tactic(auto)]
 
 mod along;
@@ -19,6 +20,7 @@ mod loose;
 mod lost;
 mod next;
 mod reports;
+mod saved;
 mod texts;
 mod within;
 
@@ -35,5 +37,6 @@ pub use loose::Loose;
 pub use lost::Lost;
 pub use next::{load_next, next_game};
 pub use reports::{GameReport, NEVER, marker_code};
+pub use saved::{RepairReport, saved_game};
 pub use texts::hand;
 pub use within::Within;

@@ -1,0 +1,203 @@
+//! Games that strict reading refuses, saved where they can be.
+use crate::error::{Error, GameFault};
+use crate::sys;
+use crate::text::long;
+use alloc::vec::Vec;
+use core::fmt;
+
+/// What was repaired.
+#[derive(Clone, Copy, Debug, PartialEq, Eq, Hash)]
+#[non_exhaustive]
+pub enum RepairKind {
+    /// A tag whose value has no quotation marks or bare ones.
+    TagQuotes,
+    /// A tag without its right bracket.
+    TagBracket,
+    /// A tag whose name has other bytes than letters, digits and the underscore.
+    TagName,
+    /// Castling in small letters, in other zeros, or without hyphens.
+    Castling,
+    /// A move with a hyphen between its squares.
+    Hyphen,
+    /// A capture with a colon.
+    Colon,
+    /// A pawn's move with a P.
+    Pawn,
+    /// A man's letter that is small.
+    Small,
+    /// A file's letter that is large.
+    Large,
+    /// A promotion with another sign, or in parentheses.
+    Promotion,
+    /// A figurine, a dash or a sign of captures within a word.
+    Sign,
+    /// A word that the move says itself, as `e.p.` or `mate`.
+    Said,
+    /// A word of evaluation, for which there is an annotation number.
+    Value,
+    /// A result in another form.
+    Result,
+    /// More than two signs of annotation together, or two that aren't of the standard.
+    Glyphs,
+    /// An annotation number that isn't one from 0 to 255.
+    Number,
+    /// An ellipsis of one character.
+    Dots,
+    /// A space that isn't one of ASCII.
+    Space,
+    /// A control byte.
+    Control,
+    /// Punctuation that belongs to nothing.
+    Stray,
+    /// An offer of a draw or another letter in parentheses.
+    Offer,
+    /// A text in angle brackets.
+    Angles,
+    /// A text in square brackets within the moves.
+    Bracket,
+    /// A result within a variation.
+    Marker,
+    /// A sign that no other row has.
+    Symbol,
+    /// A comment within a comment: what comes after the inner one.
+    Nested,
+    /// A comment without its right brace.
+    Comment,
+    /// A variation without its right parenthesis.
+    Unclosed,
+    /// Text that belongs to no game.
+    Prose,
+    /// A FEN tag without its last fields, with castling rights by files, or without a position.
+    Fen,
+    /// Castling by the squares of king and rook.
+    Squares,
+    /// The rest of a line after a null move, which is cut off.
+    Null,
+    /// The rest of a line after a word that names no legal move, or more than one.
+    Illegal,
+    /// The rest of a line after what is no move.
+    Unreadable,
+    /// A variation that can't begin where it does.
+    Variation,
+}
+
+const KINDS: [RepairKind; 35] = [
+    RepairKind::TagQuotes,
+    RepairKind::TagBracket,
+    RepairKind::TagName,
+    RepairKind::Castling,
+    RepairKind::Hyphen,
+    RepairKind::Colon,
+    RepairKind::Pawn,
+    RepairKind::Small,
+    RepairKind::Large,
+    RepairKind::Promotion,
+    RepairKind::Sign,
+    RepairKind::Said,
+    RepairKind::Value,
+    RepairKind::Result,
+    RepairKind::Glyphs,
+    RepairKind::Number,
+    RepairKind::Dots,
+    RepairKind::Space,
+    RepairKind::Control,
+    RepairKind::Stray,
+    RepairKind::Offer,
+    RepairKind::Angles,
+    RepairKind::Bracket,
+    RepairKind::Marker,
+    RepairKind::Symbol,
+    RepairKind::Nested,
+    RepairKind::Comment,
+    RepairKind::Unclosed,
+    RepairKind::Prose,
+    RepairKind::Fen,
+    RepairKind::Squares,
+    RepairKind::Null,
+    RepairKind::Illegal,
+    RepairKind::Unreadable,
+    RepairKind::Variation,
+];
+
+impl fmt::Display for RepairKind {
+    fn fmt(&self, f: &mut fmt::Formatter<'_>) -> fmt::Result {
+        fmt::Debug::fmt(self, f)
+    }
+}
+
+/// What was written otherwise in the text of a game so that it could be read.
+#[derive(Clone, Copy, Debug, PartialEq, Eq, Hash)]
+pub struct Repair {
+    /// What was repaired.
+    pub kind: RepairKind,
+    /// The place of its first byte, in bytes of the text; where a line is cut off, as near as it can be said.
+    pub place: usize,
+    /// How many bytes it replaces.
+    pub length: usize,
+    /// How many bytes are written for them.
+    pub written: usize,
+}
+
+/// What is at the start of a text that may need repair.
+#[derive(Clone, Debug, PartialEq, Eq, Hash)]
+pub enum Salvaged {
+    /// A game in export form, how many bytes of the text it takes, and what was repaired: nothing, where nothing had to be.
+    Game(Vec<u8>, usize, Vec<Repair>),
+    /// A game that can't be saved: what is wrong, and how many bytes are given up with it.
+    Lost(GameFault, usize),
+    /// White space alone.
+    End,
+}
+
+/// The game at the start of a text (PGN), in export form; where [`read_game`](crate::read_game) refuses it, the game that the text has after repair.
+///
+/// ```
+/// use jatshegi::{salvage_game, RepairKind, Salvaged};
+///
+/// let Salvaged::Game(game, used, repairs) = salvage_game(b"1. e2-e4 e5 2. OO Nc6 *")? else { panic!() };
+/// assert!(String::from_utf8(game).unwrap().ends_with("1. e4 e5 {cut: O-O Nc6} *\n\n"));
+/// assert_eq!(used, 23);
+/// let kinds: Vec<_> = repairs.iter().map(|repair| repair.kind).collect();
+/// assert_eq!(kinds, [RepairKind::Hyphen, RepairKind::Castling, RepairKind::Illegal]);
+/// # Ok::<(), jatshegi::Error>(())
+/// ```
+///
+/// # Errors
+///
+/// [`Error::NoMemory`].
+pub fn salvage_game(text: &[u8]) -> Result<Salvaged, Error> {
+    let (mut used, mut found) = (0, 0);
+    let mut repairs: Vec<sys::Repair> = Vec::new();
+    loop {
+        let (places, many) = (repairs.as_mut_ptr(), repairs.len());
+        // SAFETY: the text is bytes of that length, the rooms have those sizes, and the numbers are written.
+        let game = match long(|game, room, count| unsafe {
+            sys::jatshegi_game_salvage(text.as_ptr(), text.len(), game, room, count, places, many, &mut found, &mut used)
+        }) {
+            Ok(game) => game,
+            Err((sys::NO_GAME, _)) => return Ok(Salvaged::End),
+            Err((status, _)) => {
+                return match Error::of(status, used) {
+                    Error::Game(error) => Ok(Salvaged::Lost(error.fault, used)),
+                    error => Err(error),
+                }
+            }
+        };
+        if found <= many {
+            return Ok(Salvaged::Game(game, used, repairs.iter().map(Repair::of).collect()));
+        }
+        repairs.try_reserve_exact(found - many).map_err(|_| Error::NoMemory)?;
+        repairs.resize(found, sys::Repair::default());
+    }
+}
+
+impl Repair {
+    fn of(repair: &sys::Repair) -> Repair {
+        Repair {
+            kind: KINDS[repair.kind as usize],
+            place: repair.place,
+            length: repair.length,
+            written: repair.written,
+        }
+    }
+}
