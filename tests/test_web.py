@@ -3,7 +3,6 @@
 Needs Debian's chromium, chromium-driver, python3-selenium and firefox-esr; where they are missing and can't be installed, these tests are skipped. With the word
 `pictures` (python3 -m tests.test_web pictures, from tests/: python3 test_web.py pictures) the screenshots of docs/ are made anew.
 """
-import fcntl
 import functools
 import hashlib
 import http.server
@@ -56,29 +55,13 @@ def has_browser():
     return bool(shutil.which("chromium") and shutil.which("chromedriver")) and found_selenium()
 
 
-def install():
-    """Installs what is missing, where this is Debian and the user may. Several files of tests ask for it at once: the others wait for the first."""
-    if os.geteuid() != 0 or not shutil.which("apt-get"):
-        return
-    with open(f"{tempfile.gettempdir()}/jatshegi-packages.lock", "w", encoding="utf-8") as lock:
-        fcntl.flock(lock, fcntl.LOCK_EX)
-        if not has_browser():
-            install_packages()
-
-
-def install_packages():
-    quiet = {"stdin": subprocess.DEVNULL, "stdout": subprocess.DEVNULL, "stderr": subprocess.DEVNULL, "env": {**os.environ, "DEBIAN_FRONTEND": "noninteractive"}}
-    subprocess.run(["apt-get", "update", "-qq"], **quiet)
-    subprocess.run(["apt-get", "install", "-y", "-qq", "-o", "DPkg::Lock::Timeout=300", *PACKAGES, "firefox-esr"], **quiet)
-
-
 class Handler(http.server.SimpleHTTPRequestHandler):
     def log_message(self, *words):
         pass
 
 
 def wants_browser():
-    install()
+    runs.install(has_browser, *PACKAGES, "firefox-esr")
     if not has_browser():
         raise unittest.SkipTest(f"these packages are missing: {' '.join(PACKAGES)}")
 
@@ -363,6 +346,10 @@ class InTheBrowser(unittest.TestCase):
         page.until_moves("1. e4 e5 1... c5")
         page.choose("nag", "1")
         page.until_moves("1. e4 e5 1... c5!")
+        page.choose("nag", "none")
+        page.until_moves("1. e4 e5 1... c5")
+        page.click("undo")
+        page.until_moves("1. e4 e5 1... c5!")
         page.type("comment", "the Sicilian")
         page.until_moves("1. e4 e5 1... c5! the Sicilian")
         page.click("promote")
@@ -502,7 +489,7 @@ class InTheBrowser(unittest.TestCase):
             return page.script("return [document.getElementById('fen').value, document.getElementById('comment').value]")
 
         for number in range(70):
-            what = rng.choice(["type", "type", "play", "play", "illegal", "back", "forward", "start", "end", "nag", "escape", "enter", "delete", "promote"])
+            what = rng.choice(["type", "type", "play", "play", "illegal", "back", "forward", "start", "end", "nag", "nag", "unmark", "escape", "enter", "delete", "promote"])
             line = None
             if what == "type":
                 draft = rng.choice(["good", "so-so", "schön (it) is; $5", "a } brace", "word " * 12 + "end"]) + f" {number}"
@@ -519,8 +506,11 @@ class InTheBrowser(unittest.TestCase):
             elif what == "nag":
                 line = "nag 1"
                 page.choose("nag", "1")
-            elif what in ("back", "start", "delete", "promote") and board.line("path") == "-":
+            elif what in ("back", "start", "delete", "promote", "unmark") and board.line("path") == "-":
                 continue
+            elif what == "unmark":
+                line = ""
+                page.choose("nag", "none")
             else:
                 line = "step 0" if what == "forward" else what
                 page.click(what)
@@ -529,6 +519,8 @@ class InTheBrowser(unittest.TestCase):
                     draft = None
                     if line:
                         board.line(line)
+                    if what == "unmark":
+                        self.assertEqual(library()._library.lib.jatshegi_board_clear_annotations(board._at), 0)
             page.until(lambda: seen() == [board.fen(), comment() if draft is None else draft], f"after {number}, {what} {line}: {board.fen()}, {draft or comment()}")
         page.at("comment").send_keys(Keys.ESCAPE)
         self.assertEqual(self.saved().decode().rstrip(), board.pgn().rstrip())
@@ -1012,7 +1004,15 @@ class TheModule(unittest.TestCase):
         found = self.browser.execute_async_script("""
             const [jobs, module, done] = arguments;
             const worker = new Worker('./worker.js', { type: 'module' });
-            const ask = (job) => new Promise((ready) => { worker.onmessage = ({ data }) => ready(data); worker.postMessage({ id: 1, ...job }); });
+            // (a list may come in parts, where the machine is slow)
+            const ask = (job) => new Promise((ready) => {
+              const parts = [];
+              worker.onmessage = ({ data }) => {
+                if (data.part) parts.push(...data.part);
+                else ready(data.result?.found ? { ...data, result: { ...data.result, found: [...parts, ...data.result.found] } } : data);
+              };
+              worker.postMessage({ id: 1, ...job });
+            });
             const bytes = (text) => Uint8Array.from(text, (c) => c.charCodeAt(0));
             (async () => {
               await ask({ job: 'start', module });
@@ -1030,8 +1030,9 @@ class TheModule(unittest.TestCase):
               }
               worker.terminate();
               done(found);
-            })();
+            })().catch((error) => done(String(error)));
         """, jobs, f"http://127.0.0.1:{server.server_port}/jatshegi.wasm")
+        self.assertIsInstance(found, list, found)
         for number, (job, it, want) in enumerate(zip(jobs, found, wanted)):
             self.assertEqual(it, want, (number, job))
         self.assertEqual(len(found), len(wanted))
@@ -1269,8 +1270,86 @@ import('./module.js').then(async (it) => {
 """
 
 
+# What one does until it is drawn: a key, or a move; each so often.
+STEPPED = """
+const [what, times, done] = arguments;
+const { game, settled } = window.jatshegi;
+const begins = (m) => {
+  if (what !== 'play') {
+    document.body.dispatchEvent(new KeyboardEvent('keydown', { key: what, bubbles: true, cancelable: true }));
+    return;
+  }
+  document.getElementById('san').value = m;
+  document.getElementById('sanform').requestSubmit();
+};
+(async () => {
+  const found = [];
+  for (let i = 0; i < times; i++) {
+    await settled();
+    await new Promise((go) => setTimeout(go, 400));
+    const { fen, moves } = game.state;
+    const begun = performance.now();
+    begins(moves.split(' ')[0]);
+    while (game.state.fen === fen) await new Promise((go) => { const { port1, port2 } = new MessageChannel(); port1.onmessage = go; port2.postMessage(0); });
+    await settled();
+    const drawn = performance.now() - begun;
+    await new Promise((go) => requestAnimationFrame(() => setTimeout(go)));
+    found.push([drawn, performance.now() - begun]);
+  }
+  done(found);
+})().catch((error) => done([String(error)]));
+"""
+
+
+def long_games(plies):
+    """Games of so many plies, by the program: one line, and one with two more moves in each tenth place, each with a comment."""
+    rng, made = random.Random(1), []
+    for each in (0, 10):
+        program = subprocess.Popen([CHESS, "board"], stdin=subprocess.PIPE, stdout=subprocess.PIPE, text=True)
+
+        def say(*lines):
+            for line in lines:
+                program.stdin.write(f"{line}\n")
+            program.stdin.flush()
+            return [program.stdout.readline().strip() for _ in lines][-1]
+
+        count = 0
+        while count < plies:
+            moves = say("moves").split()
+            # (few pawns go on, so that the men stay)
+            move = rng.choice([it for it in moves if it[1] not in "27" or rng.random() < 0.05] or moves)
+            say(f"play {move}")
+            if say("moves") == "none":
+                say("delete")
+                continue
+            count += 1
+            if each and count % each == 0:
+                path = say("path")
+                for other in [it for it in moves if it != move][:2]:
+                    say("back", f"play {other}", "comment so it is", f"goto {path}")
+        whole = program.communicate("pgn\n")[0]
+        made.append(whole)
+    return made
+
+
+def step_speeds(page):
+    """Prints how long a key and a move take in games of 4,000 plies, in milliseconds: the fastest and the median, until the page is drawn and until its frame is."""
+    for name, text in zip(("a line", "a tree"), long_games(4000)):
+        page.open()
+        page.paste(text)
+        page.until(lambda: page.script("return document.querySelectorAll('.move').length") >= 4000, "the game is read")
+        page.closes()
+        for place, key in (("start", "ArrowRight"), ("end", "ArrowLeft"), ("end", "play")):
+            page.script("document.activeElement.blur()")
+            page.click(place)
+            page.browser.execute_async_script("window.jatshegi.settled().then(arguments[0])")
+            found = page.browser.execute_async_script(STEPPED, key, 9)
+            drawn, frame = (sorted(it) for it in zip(*found))
+            print(f"{name} of 4,000 plies, {key} from the {place}: {drawn[0]:.0f}, {drawn[4]:.0f} ms; its frame {frame[0]:.0f}, {frame[4]:.0f} ms", flush=True)
+
+
 def speeds():
-    """Prints how long the module takes for some lines in the page, in milliseconds, and how long until the page is ready."""
+    """Prints how long the module takes for some lines in the page, in milliseconds, how long until the page is ready, and steps and moves in long games."""
     setUpModule()
     with tempfile.TemporaryDirectory() as folder:
         browser = new_browser(folder)
@@ -1287,6 +1366,7 @@ def speeds():
         chess("board", given=b"new\nbest 6\n")
         print(f"best 6 by the program: {1000 * (time.monotonic() - begun):.0f} ms")
         print(f"the page is ready after {sorted(ready)[4]:.0f} ms")
+        step_speeds(page)
         browser.quit()
     tearDownModule()
 

@@ -489,7 +489,7 @@ class Boards:
         page.until(lambda: self.inner("return page.querySelector('[aria-current=step]')?.textContent") == "Qh5", "one step is gone")
         self.inner("page.dispatchEvent(new view.KeyboardEvent('keydown', { key: 'ArrowUp', bubbles: true })); page.body.dispatchEvent(new view.KeyboardEvent('keydown', { key: 'ArrowUp', bubbles: true }))")
         page.until(lambda: self.inner("return page.querySelector('[aria-current=step]')") is None, "the start is shown")
-        self.inner("page.querySelector('[data-path=\"0.1\"]').click()")
+        self.inner("[...page.querySelectorAll('.move')].find((it) => view.jatshegi.pathAt(it) === '0.1').click()")
         page.until(lambda: self.inner("return page.querySelector('[aria-current=step]')?.textContent") == "1... c5", "a variation is gone to")
         self.frame(f"?embed=1&fen={ROOK.replace(' ', '_')}&f=1", 600, 400)
         self.assertEqual((self.inner("return at('fen').value"), self.inner_moves(), self.inner("return page.querySelector('[data-square]').dataset.square")), (ROOK, "", "h1"))

@@ -388,11 +388,13 @@ class Looking:
         page = self.page
         self.read()
         stops = "return [document.querySelectorAll('#board [tabindex=\"0\"]').length, [...document.querySelectorAll('#moves button')].filter((it) => it.tabIndex === 0).length]"
-        focused = "const it = document.activeElement; return it.id || it.dataset.square || it.dataset.path || it.tagName"
+        focused = "const it = document.activeElement; return it.id || it.dataset.square || window.jatshegi.pathAt(it) || it.tagName"
+        current = "const it = document.querySelector('[aria-current]'); return it && window.jatshegi.pathAt(it)"
+        focus = "[...document.querySelectorAll('.move')].find((it) => window.jatshegi.pathAt(it) === arguments[0]).focus()"
         self.assertEqual(page.script(stops), [1, 1])
-        page.script("document.querySelector('[data-path=\"0.0.0\"]').focus()")
+        page.script(focus, "0.0.0")
         self.press("\ue007")
-        page.until(lambda: page.script("return document.querySelector('[aria-current]').dataset.path") == "0.0.0", "the move is gone to")
+        page.until(lambda: page.script(current) == "0.0.0", "the move is gone to")
         self.assertEqual(page.script(focused), "0.0.0")
         self.press("\ue014")
         page.until(lambda: page.script(focused) == "0.0.0.0", "the focus goes on with the moves")
@@ -401,9 +403,9 @@ class Looking:
         self.press("\ue011")
         page.until(lambda: page.script("return document.getElementById('start').getAttribute('aria-disabled')") == "true", "the start is shown")
         self.assertEqual((page.script(focused), page.script(stops)), ("0", [1, 1]))
-        page.script("document.querySelector('[data-path=\"0.0.0\"]').focus()")
+        page.script(focus, "0.0.0")
         self.press("\ue007")
-        page.until(lambda: page.script("return document.querySelector('[aria-current]')?.dataset.path") == "0.0.0", "the move is gone to")
+        page.until(lambda: page.script(current) == "0.0.0", "the move is gone to")
         # what the focused move hangs on is taken out, and the focus is still in the list
         page.script("window.jatshegi.settled().then(() => document.getElementById('delete').onclick())")
         page.until(lambda: "Nf3" not in page.moves, "it is taken out")

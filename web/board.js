@@ -37,6 +37,7 @@ export class Board {
   // The 64 squares in the order that they are seen.
   lay() {
     this.place.replaceChildren();
+    this.drawn = {};
     for (let row = 0; row < 8; row++) {
       const rank = document.createElement('div');
       rank.className = 'rank';
@@ -161,7 +162,7 @@ export class Board {
     const targets = this.chosen ? this.targets() : [];
     const rooks = this.chosen ? this.rooks() : [];
     const king = this.side === 'w' ? 'K' : 'k';
-    for (const [name, square] of Object.entries(this.squares)) {
+    for (const name of Object.keys(this.squares)) {
       const letter = men[name];
       const dark = (FILES.indexOf(name[0]) + Number(name[1])) % 2 === 1;
       const isRook = rooks.includes(name);
@@ -169,24 +170,7 @@ export class Board {
       const isLast = last.slice(0, 2) === name || last.slice(2, 4) === name;
       const isChecked = checks.length > 0 && letter === king;
       const is = { dark, last: isLast, chosen: name === this.chosen, target, taken: target && letter, checking: checks.includes(name), checked: isChecked };
-      square.className = ['square', ...Object.keys(is).filter((it) => is[it])].join(' ');
-      square.tabIndex = name === this.at ? 0 : -1;
-      square.replaceChildren(...this.names(name));
-      if (letter) square.append(man(letter));
-      if (name === this.at) {
-        const ring = document.createElement('span');
-        ring.className = 'ring';
-        square.append(ring);
-      }
       const count = heat ? heat.counts[(Number(name[1]) - 1) * 8 + FILES.indexOf(name[0])] : 0;
-      if (heat) {
-        const shown = document.createElement('span');
-        shown.className = 'heat';
-        square.classList.add(`by${heat.colour}`);
-        square.style.setProperty('--n', count);
-        shown.textContent = count || '';
-        square.append(shown);
-      }
       const said = [name, letter ? named(letter) : 'empty'];
       if (name === this.chosen) said.push('chosen');
       if (target) said.push(isRook ? 'may be castled with' : 'may be moved to');
@@ -194,9 +178,36 @@ export class Board {
       if (isChecked) said.push('in check');
       if (checks.includes(name)) said.push('gives check');
       if (heat) said.push(`attacked ${count} times`);
-      square.setAttribute('aria-label', said.join(', '));
-      square.setAttribute('aria-selected', String(name === this.chosen));
+      const kind = ['square', ...Object.keys(is).filter((it) => is[it]), ...(heat ? [`by${heat.colour}`] : [])].join(' ');
+      this.drawSquare(name, { kind, letter, isAt: name === this.at, count: heat ? count : null, said: said.join(', ') });
     }
+  }
+
+  // (a square that shows the same as before stays)
+  drawSquare(name, shows) {
+    const { kind, letter, isAt, count, said } = shows;
+    const all = JSON.stringify(shows);
+    if (this.drawn[name] === all) return;
+    this.drawn[name] = all;
+    const square = this.squares[name];
+    square.className = kind;
+    square.tabIndex = isAt ? 0 : -1;
+    square.replaceChildren(...this.names(name));
+    if (letter) square.append(man(letter));
+    if (isAt) {
+      const ring = document.createElement('span');
+      ring.className = 'ring';
+      square.append(ring);
+    }
+    if (count !== null) {
+      const shown = document.createElement('span');
+      shown.className = 'heat';
+      square.style.setProperty('--n', count);
+      shown.textContent = count || '';
+      square.append(shown);
+    }
+    square.setAttribute('aria-label', said);
+    square.setAttribute('aria-selected', String(name === this.chosen));
   }
 
   begins(name) {
@@ -251,6 +262,7 @@ export class Board {
         ghost.append(man(this.shown.men[from]));
         document.body.append(ghost);
         this.squares[from].classList.add('dragged');
+        this.drawn[from] = '';
       }
       if (ghost) {
         ghost.style.left = `${it.clientX - ghost.offsetWidth / 2}px`;

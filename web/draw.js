@@ -1,6 +1,6 @@
 // What the page shows of the game: the status with its articles, the moves, the comment, and the names.
 import { game, page, retag, tag } from './game.js';
-import { parts, rows, shown, typed } from './pgn.js';
+import { nodesOn, parts, pathOf, rows, shown, typed } from './pgn.js';
 import { CLAIMS, CLAIMS_WITH, MARKS, RESULTS, ROSTER, STATUS } from './words.js';
 
 const by = (id) => document.getElementById(id);
@@ -65,9 +65,8 @@ const rowsNow = () => {
 
 const moveText = (row) => `${row.san}${row.nags.map((it) => MARKS[it] ?? ` $${it}`).join('')}`;
 
-const moveButton = (row, text) => {
+const moveButton = (text) => {
   const button = element('button', text, 'move');
-  button.dataset.path = row.path.join('.');
   button.tabIndex = -1;
   return button;
 };
@@ -75,17 +74,47 @@ const moveButton = (row, text) => {
 // A move's number, which Black's needs only where something stands between it and White's.
 const numberOf = (row, before) => (row.number.endsWith('...') && before?.kind === 'move' && !before.comment ? '' : row.number);
 
+const isWhites = (row) => row.number !== '' && !row.number.endsWith('...');
+
 // A move of the main line in its column, with its number.
-const inColumns = (row, number) => {
-  const button = moveButton(row, moveText(row));
-  button.classList.add(row.number && !row.number.endsWith('...') ? 'white' : 'black');
+const inColumns = ({ row, number, text }) => {
+  const button = moveButton(text);
+  button.classList.add(isWhites(row) ? 'white' : 'black');
   return [...(number ? [element('span', number, 'number'), ' '] : []), button, ' '];
 };
 
-const drawTree = (all) => {
-  const top = document.createElement('div');
-  const open = [top];
+// The list is drawn in pieces of so many moves of the main line, each with its variations: what is the same as before stays.
+const PIECE = 40;
+
+// The pieces of a list of rows: what each shows, its moves, and all of its words, by which it is compared.
+const piecesOf = (all) => {
+  const found = [];
+  let open = 0;
+  let played = PIECE;
   for (const [i, row] of all.entries()) {
+    if (open === 0 && row.kind === 'move' && played++ >= PIECE && isWhites(row) || i === 0) {
+      found.push({ shows: [], moves: [], words: '' });
+      played = row.kind === 'move' ? 1 : 0;
+    }
+    if (row.kind === 'open') open++;
+    if (row.kind === 'close') open--;
+    const piece = found.at(-1);
+    const [number, text] = row.kind === 'move' ? [numberOf(row, all[i - 1]), moveText(row)] : ['', ''];
+    if (row.kind === 'move') {
+      Object.assign(row, { piece, at: piece.moves.length });
+      piece.moves.push(row);
+    }
+    piece.shows.push({ row, number, text });
+    piece.words += `${row.kind} ${number} ${text} ${row.comment ?? ''}\n`;
+  }
+  return found;
+};
+
+const drawPiece = ({ shows }) => {
+  const top = element('div', '', 'piece');
+  const open = [top];
+  for (const it of shows) {
+    const { row, number, text } = it;
     const to = open.at(-1);
     if (row.kind === 'open') {
       const inner = element('div', '', 'variation');
@@ -95,14 +124,35 @@ const drawTree = (all) => {
       open.push(inner);
     } else if (row.kind === 'close') open.pop();
     else {
-      if (row.kind === 'move') {
-        const number = numberOf(row, all[i - 1]);
-        to.append(...(open.length === 1 ? inColumns(row, number) : [moveButton(row, `${number ? `${number} ` : ''}${moveText(row)}`), ' ']));
-      }
+      if (row.kind === 'move') to.append(...(open.length === 1 ? inColumns(it) : [moveButton(`${number ? `${number} ` : ''}${text}`), ' ']));
       if (row.comment) to.append(element('span', ` ${shown(row.comment)} `, 'remark'));
     }
   }
-  by('moves').replaceChildren(...top.childNodes);
+  return top;
+};
+
+let pieces = [];
+
+const drawTree = (all) => {
+  const box = by('moves');
+  const had = pieces;
+  pieces = piecesOf(all);
+  for (const [i, it] of pieces.entries()) {
+    it.place = had[i]?.words === it.words ? had[i].place : drawPiece(it);
+    if (!box.children[i]) box.append(it.place);
+    else if (box.children[i] !== it.place) box.children[i].replaceWith(it.place);
+  }
+  while (box.children.length > pieces.length) box.lastElementChild.remove();
+};
+
+const buttonOf = ({ piece, at }) => piece.place.querySelectorAll('.move')[at];
+
+/** The path of the move that an element of the list is, as the board reads it; undefined where it is none. */
+export const pathAt = (target) => {
+  const button = target.closest('.move');
+  const place = button?.closest('.piece');
+  const piece = pieces.find((it) => it.place === place);
+  return piece && pathOf(piece.moves[[...place.querySelectorAll('.move')].indexOf(button)]).join('.');
 };
 
 // The comment of the node at the cursor, as it was set.
@@ -117,11 +167,11 @@ export const saidHere = () => said;
 
 let drawn = null;
 let marked = null;
+let current = null;
 
 // Has the move at the cursor in sight.
 const showCurrent = () => {
   const box = by('moves');
-  const current = box.querySelector('[aria-current]');
   if (!current) {
     box.scrollTop = 0;
     return;
@@ -134,12 +184,12 @@ new ResizeObserver(showCurrent).observe(by('moves'));
 addEventListener('resize', () => requestAnimationFrame(showCurrent));
 
 // Marks the move at the cursor, which is the list's one tab stop, and where the focus goes on.
-const markCurrent = (path) => {
+const markCurrent = (row) => {
   const box = by('moves');
   const had = box.contains(document.activeElement) || document.activeElement === marked;
   marked?.removeAttribute('aria-current');
   if (marked) marked.tabIndex = -1;
-  const current = path ? box.querySelector(`[data-path="${path}"]`) : null;
+  current = row?.kind === 'move' ? buttonOf(row) : null;
   current?.setAttribute('aria-current', 'step');
   marked = current ?? box.querySelector('.move');
   if (marked) marked.tabIndex = 0;
@@ -162,19 +212,20 @@ const announce = (row) => {
 
 export const drawMoves = () => {
   const all = rowsNow();
-  const path = game.state.path === '-' ? '' : game.state.path;
-  const had = by('moves').contains(document.activeElement);
+  const box = by('moves');
+  const row = all.length ? nodesOn(all[0], game.state.path).at(-1) : undefined;
+  const had = box.contains(document.activeElement);
   if (drawn !== all) drawTree(all);
   drawn = all;
-  if (had && !by('moves').contains(document.activeElement)) by('moves').querySelector('.move')?.focus({ preventScroll: true });
-  markCurrent(path);
-  const row = all.find((it) => it.path && it.path.join('.') === path);
+  if (had && !box.contains(document.activeElement)) box.querySelector('.move')?.focus({ preventScroll: true });
+  markCurrent(row);
   said = row ? shown(row.comment) : '';
   showComment();
   announce(row);
   // (a control that can do nothing keeps the focus)
-  const next = game.state.pgn.startsWith('refused') || by('moves').querySelector(`[data-path="${path ? `${path}.0` : '0'}"]`);
-  const can = { promote: path, delete: path, back: path, start: path, forward: next, end: next, undo: game.history.canUndo() || game.draft, redo: game.history.canRedo() };
+  const isInside = game.state.path !== '-';
+  const next = game.state.pgn.startsWith('refused') || row?.children.length;
+  const can = { promote: isInside, delete: isInside, back: isInside, start: isInside, forward: next, end: next, undo: game.history.canUndo() || game.draft, redo: game.history.canRedo() };
   for (const [id, is] of Object.entries(can)) by(id).setAttribute('aria-disabled', String(!is));
 };
 

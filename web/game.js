@@ -39,6 +39,14 @@ export const exported = () => {
   return pgn;
 };
 
+// As `ask`, of a job that answers with a state, in which the game's text comes only where it is another than that of the state which is here.
+const asked = async (job, more) => {
+  const had = game.state;
+  const found = await ask(job, { ...more, has: had?.number });
+  if (found.state) found.state.pgn ??= had.pgn;
+  return found;
+};
+
 // ---- The states.
 
 // Notes how the game now is. What can't be written can't be noted.
@@ -54,7 +62,7 @@ const note = () => {
 
 /** Has the module restore a state. Where it can't, all is as before. */
 const restored = async ({ origin, pgn, path }) => {
-  const found = await ask('restore', { bytes: toBytes(pgn), path });
+  const found = await asked('restore', { bytes: toBytes(pgn), path });
   if (found.status !== 0) {
     page.told(`That can\u2019t be restored: ${faultText(found.status)}.`);
     return false;
@@ -98,7 +106,7 @@ const commentLine = ({ text }) => `comment ${typed(text)}`;
 
 // Has the board answer lines, up to one that is refused; or begin a game by one.
 const say = async (all, job = 'lines') => {
-  const { answers, state } = await ask(job, { lines: all.map((it) => it.replace(/[\r\n]+/g, ' ')) });
+  const { answers, state } = await asked(job, { lines: all.map((it) => it.replace(/[\r\n]+/g, ' ')) });
   return { answers, bad: answers.find((it) => it.startsWith('refused')), state };
 };
 
@@ -193,7 +201,7 @@ export const isSettled = async () => !game.draft || answered([]);
  * Refused, all is as it was.
  */
 export const retag = (job, name, value) => doing(async () => {
-  const { status, state } = await ask(job, { name, value });
+  const { status, state } = await asked(job, { name, value });
   if (status !== 0) throw new Error(`${name} stays as it was: ${faultText(status)}`);
   game.state = state;
   page.told('');
@@ -201,12 +209,27 @@ export const retag = (job, name, value) => doing(async () => {
   page.draw();
 });
 
+/** Takes the marks of the move at the cursor out; at the root that is said. */
+export const unmark = () => doing(async () => {
+  if (!await isSettled()) return false;
+  const { status, state } = await asked('unmark', {});
+  if (status !== 0) {
+    page.told(refusal('refused 2 AtRoot'));
+    return false;
+  }
+  game.state = state;
+  page.told('');
+  note();
+  page.draw();
+  return true;
+});
+
 /**
  * The text's first game comes on the board, at the node with that path: in the place of the one that is there, or beside it, with no state before. `origin` is the file
  * and the number of the game there. Only in turn, once `isSettled`.
  */
 export const taken = async (bytes, { path = '-', isBeside = false, origin = null } = {}) => {
-  const found = await ask('load', { bytes, path });
+  const found = await asked('load', { bytes, path });
   if (found.status !== 0) {
     page.told(found.status === 16 ? 'There is no game in it.' : `No game: ${faultText(found.status, found.where)}.`);
     return false;

@@ -11,8 +11,16 @@ let waiting;
 
 const through = async (bytes, stream) => new Uint8Array(await new Response(new Blob([bytes]).stream().pipeThrough(stream)).arrayBuffer());
 
-const heldNow = async () => btoa(fromBytes(await through(toBytes(exported()), new CompressionStream('deflate-raw'))))
+const deflated = async (pgn) => btoa(fromBytes(await through(toBytes(pgn), new CompressionStream('deflate-raw'))))
   .replaceAll('+', '-').replaceAll('/', '_').replace(/=+$/, '');
+
+// The game's text as a link has it, which a step leaves as it is.
+let last = { pgn: '', held: '' };
+const heldNow = async () => {
+  const pgn = exported();
+  if (last.pgn !== pgn) last = { pgn, held: await deflated(pgn) };
+  return last.held;
+};
 
 const whole = (held, isTurned) => `#g=${held}&p=${game.state.path}${isTurned ? '&f=1' : ''}`;
 

@@ -3,10 +3,10 @@ import { MODULE, ask, startWorker } from './ask.js';
 import { moveNow, points, positionChanged, positionDrawn, reply, toggleAnalysis } from './analysis.js';
 import { Board, man, named } from './board.js';
 import { dialogs, openDialog } from './dialogs.js';
-import { drawMoves, drawPlayers, drawStatus, drawTags, saidHere, showComment } from './draw.js';
+import { drawMoves, drawPlayers, drawStatus, drawTags, pathAt, saidHere, showComment } from './draw.js';
 import { editing } from './editor.js';
 import { choose, download, listAgain, read, readWhole, saveBack, showCollection } from './files.js';
-import { begin, exported, game, isSettled, lines, page, playTyped, redo, settled, stepped, doing, undo } from './game.js';
+import { begin, exported, game, isSettled, lines, page, playTyped, redo, settled, stepped, doing, undo, unmark } from './game.js';
 import { keepOffline } from './kept.js';
 import { faultOf, isEmbedded, keepLink, linkNow, linked, openLink } from './link.js';
 import { beside, keep, mine, start } from './mine.js';
@@ -106,7 +106,7 @@ const steps = () => {
     if (text && await playTyped(text)) by('san').value = '';
   };
   by('moves').onclick = (event) => {
-    const path = event.target.closest('[data-path]')?.dataset.path;
+    const path = pathAt(event.target);
     if (path !== undefined) lines(`goto ${path}`);
   };
 };
@@ -115,7 +115,8 @@ const annotations = () => {
   by('nag').onchange = () => {
     const mark = by('nag').value;
     by('nag').value = '';
-    if (mark) lines(`nag ${mark}`);
+    if (mark === 'none') unmark();
+    else if (mark) lines(`nag ${mark}`);
   };
   by('comment').oninput = () => {
     game.acts++;
@@ -309,6 +310,6 @@ const main = async () => {
 };
 
 // For who looks on, from the console or a test.
-globalThis.jatshegi = { game, exported: async () => shown(exported()), settled };
+globalThis.jatshegi = { game, exported: async () => shown(exported()), settled, pathAt };
 
 main().catch((error) => lacks(`The board could not be begun: ${error.message}. Chrome and Edge from 97 on, Firefox from 114 on and Safari from 15.4 on have what it needs.`));

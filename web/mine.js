@@ -67,13 +67,14 @@ const players = () => {
 };
 
 // What of a state that was written may change: its place, and a comment that was left with it.
-const mark = ({ path, draft }) => JSON.stringify([path, draft ?? null]);
+const mark = ({ path, draft }) => ({ path, draft });
+const isMarked = (it, { path, draft }) => it.path === path && it.draft?.path === draft?.path && it.draft?.text === draft?.text;
 
 // What is to be written: the record, and the states that aren't in the store as they are. The place of the state that is there now is the record's.
 const snapshot = (it) => {
   const { history, kept } = it;
   const states = history.states.map((state, i) => ({ state, number: history.first + i }))
-    .filter(({ state, number }) => !kept.has(state) || (number !== history.number && kept.get(state) !== mark(state)));
+    .filter(({ state, number }) => !kept.has(state) || (number !== history.number && !isMarked(kept.get(state), state)));
   const files = [...new Set(history.states.map(({ origin }) => origin?.file).filter(Boolean))];
   it.record = { ...it.record, files, players: it.players, draft: it.draft, at: history.number, path: history.here.path, changed: Date.now() };
   return { states, record: { ...it.record, version: it.record.version + 1 }, first: history.first, last: history.last };

@@ -125,6 +125,11 @@ class Session {
     return this.exports.jatshegi_board_clear_tag(this.at(SLOT), ...this.put(toBytes(name)));
   }
 
+  /** Takes the marks of the move at the cursor out. The status, 8 at the root. */
+  clearMarks() {
+    return this.exports.jatshegi_board_clear_annotations(this.at(SLOT));
+  }
+
   /** How the game ended, by its number: 0 for `*`, 1 for `1-0`, 2 for `0-1`, 3 for `1/2-1/2`. */
   result() {
     this.exports.jatshegi_board_result(this.at(SLOT), this.at(FLAG));

@@ -12,7 +12,12 @@ const button = (text, says, does) => {
   return it;
 };
 
-const when = (time) => new Date(time).toLocaleString([], { dateStyle: 'medium', timeStyle: 'short' });
+// (made once it is wanted: that takes long)
+let times = null;
+const when = (time) => {
+  times ??= new Intl.DateTimeFormat([], { dateStyle: 'medium', timeStyle: 'short' });
+  return times.format(time);
+};
 
 const row = (it, isHere) => {
   const place = document.createElement('li');

@@ -2,7 +2,7 @@
 import { position } from './epd.js';
 import { FILES, placed } from './fen.js';
 import { fromBytes, open, toBytes, OK, NONE } from './module.js';
-import { parts, rows, shown, typed } from './pgn.js';
+import { nodesOn, parts, pathOf, rows, shown, typed } from './pgn.js';
 import { spellings, squares } from './spellings.js';
 import { SHOWN } from './words.js';
 
@@ -10,21 +10,46 @@ let session;
 
 const line = (text) => session.line(text);
 
-// The words of the moves by their paths, as the board writes them.
-let written = { pgn: '', moves: new Map() };
-const namedBy = (pgn) => {
-  if (written.pgn !== pgn) written = { pgn, moves: wordsOf(pgn) };
-  return written.moves;
-};
-const wordsOf = (pgn) => new Map((pgn.startsWith('refused') ? [] : rows(parts(pgn).movetext)).filter((it) => it.kind === 'move').map((it) => [it.path.join('.'), it.san]));
+// The rows of a text that a board wrote; the root alone where it wrote none.
+const rowsOf = (pgn) => rows(pgn.startsWith('refused') ? '' : parts(pgn).movetext);
 
-// The move that led to the cursor, in long algebraic notation; empty at the root.
-const lastMove = ({ path, pgn }) => {
-  if (path === '-') return '';
-  line('back');
-  const found = session.read(namedBy(pgn).get(path) ?? '');
-  line(`goto ${path}`);
-  return found;
+// ---- The game's text, which is asked for only where it may be another.
+
+// The text that the board wrote last, with a number of its own, and the root of its tree once it is wanted. `isOld` is whether the game may have changed since.
+let written = { pgn: '', number: 0, root: null, isOld: true };
+const changed = () => { written.isOld = true; };
+
+const writtenNow = () => {
+  if (written.isOld) {
+    const pgn = session.pgn();
+    written = pgn === written.pgn ? { ...written, isOld: false } : { pgn, number: written.number + 1, root: null, isOld: false };
+  }
+  return written;
+};
+
+const rootNow = () => {
+  const it = writtenNow();
+  it.root ??= rowsOf(it.pgn)[0];
+  return it.root;
+};
+
+// The lines that go to another node and leave the tree as it is, answered or refused.
+const STEPS = /^[ \t]*(back|step|start|end|goto)([ \t]|$)/;
+
+const moved = (text) => {
+  if (line(text) !== 'ok\n') throw new Error(`the board does not go ${text}`);
+};
+
+// The move that led to the cursor, in long algebraic notation; empty at the root. A node keeps its own once it is known.
+const lastMove = (path) => {
+  const it = nodesOn(rootNow(), path).at(-1);
+  if (path === '-' || !it) return '';
+  if (it.move === undefined) {
+    moved('back');
+    it.move = session.read(it.san);
+    moved(`step ${it.index}`);
+  }
+  return it.move;
 };
 
 // The castlings that the module names, `{king, rook, move}`: the rook is the next man on the side that the king goes to.
@@ -36,14 +61,16 @@ const castlings = (fen) => ['O-O', 'O-O-O'].map((it) => session.read(it)).filter
   return { king: move.slice(0, 2), rook: FILES[file] + move[1], move };
 });
 
-// All that the page draws of the position at the cursor. `told` is what the board answers.
-const state = () => {
+// All that the page draws of the position at the cursor. `told` is what the board answers; the game's text is left out where it is the one with that number.
+const state = (has) => {
   const told = {};
   for (const asked of ['path', 'fen', 'moves', 'status', 'claims', 'checks', 'count', 'eval', 'counts w', 'counts b']) told[asked] = line(asked).replace(/\n$/, '');
-  told.pgn = session.pgn();
+  const { pgn, number } = writtenNow();
+  told.number = number;
+  if (number !== has) told.pgn = pgn;
   told.tags = Object.fromEntries(SHOWN.map((name) => [name, session.tag(name)]));
   told.result = session.result();
-  told.last = lastMove(told);
+  told.last = lastMove(told.path);
   told.castlings = castlings(told.fen);
   // What may be claimed with a move that is then made.
   told.with = told.moves === 'none' ? [] : told.moves.split(' ').map((m) => [m, line(`claim ${m}`).trim()]).filter(([, claims]) => claims !== 'none').slice(0, 5);
@@ -100,10 +127,10 @@ const moveAt = (bytes, at, place) => {
   const before = fromBytes(bytes.subarray(at, place));
   beside.hold(toBytes(`${before} {${MARK}} ${')'.repeat(openAt(before))} *`));
   if (beside.load(0).status !== OK) return null;
-  const found = rows(parts(beside.pgn()).movetext).find((it) => it.comment?.includes(MARK));
+  const found = rowsOf(beside.pgn()).find((it) => it.comment?.includes(MARK));
   if (!found) return null;
   // (where a variation has just been opened, its first move comes in the place of the last one)
-  const path = OPENED.test(before) ? found.path.slice(0, -1) : found.path;
+  const path = OPENED.test(before) ? pathOf(found).slice(0, -1) : pathOf(found);
   if (path.length && beside.line(`goto ${path.join('.')}`) !== 'ok\n') return null;
   const fields = beside.line('fen').trim().split(' ');
   return [fields[5], fields[1]];
@@ -146,7 +173,7 @@ const finding = (report) => {
 let beside;
 const words = (fen, moves) => moves.map((m) => {
   if (beside.line(`set ${fen}`) !== 'ok\n' || beside.line(`play ${m}`) !== 'ok\n') return m;
-  return namedBy(beside.pgn()).get('0') ?? m;
+  return rowsOf(beside.pgn())[0].children[0]?.san ?? m;
 });
 
 // Which refusal of a move's text says most of it.
@@ -183,13 +210,14 @@ const jobs = {
   },
 
   // The answers to lines, one after another up to one that is refused, and how the board then is.
-  lines({ lines }) {
+  lines({ lines, has }) {
     const answers = [];
     for (const text of lines) {
+      if (!STEPS.test(text)) changed();
       answers.push(line(text).replace(/\n$/, ''));
       if (answers.at(-1).startsWith('refused')) break;
     }
-    return { answers, state: state() };
+    return { answers, state: state(has) };
   },
 
   // The move that a typed text means.
@@ -198,23 +226,32 @@ const jobs = {
   },
 
   // A game begins by a line, `new` or `set FEN`, with no tags and no result: a board beside has one, and the module puts it on the board, or leaves that as it is.
-  begin({ lines: [text] }) {
+  begin({ lines: [text], has }) {
+    changed();
     let answer = beside.line(text).trim();
     if (answer === 'ok') {
       session.hold(toBytes(beside.pgn()));
       if (session.load(0).status !== OK) answer = 'refused 5 Memory';
     }
-    return { answers: [answer], state: state() };
+    return { answers: [answer], state: state(has) };
   },
 
   // A tag gets a value, or where that is empty is taken out.
-  tag({ name, value }) {
-    return { status: value === '' ? session.clearTag(name) : session.setTag(name, value), state: state() };
+  tag({ name, value, has }) {
+    changed();
+    return { status: value === '' ? session.clearTag(name) : session.setTag(name, value), state: state(has) };
+  },
+
+  // The marks of the move at the cursor are taken out.
+  unmark({ has }) {
+    changed();
+    return { status: session.clearMarks(), state: state(has) };
   },
 
   // How the game ended, by its number.
-  result({ value }) {
-    return { status: session.setResult(value), state: state() };
+  result({ value, has }) {
+    changed();
+    return { status: session.setResult(value), state: state(has) };
   },
 
   // The moves of a position as they are written (SAN).
@@ -222,19 +259,20 @@ const jobs = {
     return words(fen, moves);
   },
 
-  // The line of moves to the cursor, as the engine reads it.
+  // The line of moves to the cursor, as the engine reads it. The board is gone through only where a move of it isn't known yet.
   position() {
-    const path = line('path').trim();
-    const steps = path === '-' ? [] : path.split('.');
-    const named = namedBy(session.pgn());
-    line('start');
-    const fen = line('fen').trim();
-    const moves = steps.map((step, i) => {
-      const m = session.read(named.get(steps.slice(0, i + 1).join('.')));
-      line(`step ${step}`);
-      return m;
-    });
-    return `position fen ${fen}${moves.length ? ' moves ' : ''}${moves.join(' ')}`;
+    const root = rootNow();
+    const nodes = nodesOn(root, line('path').trim()).slice(1);
+    if (nodes.includes(undefined)) throw new Error(`the game can\u2019t be written: ${written.pgn.trim()}`);
+    if (root.fen === undefined || nodes.some((it) => it.move === undefined)) {
+      moved('start');
+      root.fen = line('fen').trim();
+      for (const it of nodes) {
+        it.move ??= session.read(it.san);
+        moved(`step ${it.index}`);
+      }
+    }
+    return `position fen ${root.fen}${nodes.length ? ' moves ' : ''}${nodes.map((it) => it.move).join(' ')}`;
   },
 
   // The export form of a text's first game.
@@ -243,18 +281,19 @@ const jobs = {
   },
 
   // The text's first game comes on the board, if it isn't too long to be shown, the cursor at the node with that path.
-  load({ bytes, path = '-' }) {
+  load({ bytes, path = '-', has }) {
     const game = readOne(bytes);
-    return game.status === OK ? jobs.restore({ bytes, path }) : { ...game, where: faultAt(bytes, 0, game) };
+    return game.status === OK ? jobs.restore({ bytes, path, has }) : { ...game, where: faultAt(bytes, 0, game) };
   },
 
   // The game of a text which the board wrote comes on the board, the cursor at that path.
-  restore({ bytes, path }) {
+  restore({ bytes, path, has }) {
+    changed();
     session.hold(bytes);
     const loaded = session.load(0);
     if (loaded.status !== OK) return loaded;
     if (path !== '-') line(`goto ${path}`);
-    return { ...loaded, state: state() };
+    return { ...loaded, state: state(has) };
   },
 
   // Where the game with that number among those of the text begins and ends; null where there is none.

@@ -1,7 +1,9 @@
-ghost use Rattle.chess_web.specs.Calls.{IsAnswered, IsLoadedOf, IsNamedOf};
+ghost use Rattle.std.specs.Prelude.{◌≡◌};
+ghost use Rattle.chess_web.specs.Calls.{IsAnswered, IsClearedOf, IsLoadedOf, IsNamedOf, cleared_code};
 
 use crate::slot::{Slot, put, take};
-use chess_slots::EMPTY;
+use chess_cli::Refusal;
+use chess_slots::{AT_ROOT, EMPTY, OK};
 
 /// Answers a line of the board, as the program does, and hands out the answer with the line feed at its end. Where the answer is longer than the room
 /// for it, or there is no memory to gather it in, the line has been answered all the same; only `path` and `pgn` have answers of more than 2,600 bytes.
@@ -53,4 +55,27 @@ pub extern "C" fn jatshegi_board_read(
     let code = session.named(text, answer, count);
     put(slot, session);
     code
+}
+
+// What is refused is that the cursor is at the root.
+fn cleared_code(ended: Result<(), Refusal>) -> u32
+    ensures { result ≡ cleared_code ended }
+{
+    match ended {
+        Ok(()) => OK,
+        Err(_) => AT_ROOT,
+    }
+}
+
+/// Takes all annotation numbers of the move at the cursor out (PGN 8.2.4): 0; 8 at the root, where the board stays as it is.
+#[unsafe(no_mangle)]
+pub extern "C" fn jatshegi_board_clear_annotations(slot: &mut Slot) -> u32
+    ensures { IsClearedOf slot.old.held result slot.new.held }
+{
+    let Some(mut session) = take(slot) else {
+        return EMPTY;
+    };
+    let ended = session.board.clear_nags();
+    put(slot, session);
+    cleared_code(ended)
 }

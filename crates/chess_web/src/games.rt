@@ -1,7 +1,7 @@
-ghost use Rattle.chess_web.specs.Calls.{IsGameOf, IsPassedOf, IsReportOf};
+ghost use Rattle.chess_web.specs.Calls.{IsGameOf, IsPassedOf, IsReportOf, IsSavedOf};
 
 use crate::slot::{Slot, put, take};
-use chess_slots::{EMPTY, GameReport};
+use chess_slots::{EMPTY, GameReport, RepairReport};
 
 /// The game at the start of a text (PGN): 0, its export form, and how many bytes of the text it takes. 16 where only whitespace follows. 41 to 49 is the
 /// number of the text's first fault and 40, with the place of the fault where else the bytes taken are. The session stays as it is.
@@ -19,6 +19,29 @@ pub extern "C" fn jatshegi_game(
         return EMPTY;
     };
     let code = chess_slots::game(session.heap, text, answer, count, used);
+    put(slot, session);
+    code
+}
+
+/// The same, and where strict reading refuses the text, what that gives of it after repair, with the repairs, as many as there are places for, and their
+/// number: 0. Where no game can be saved, the number of the text's first fault and 40, and the bytes to pass over where else the bytes taken are. The session
+/// stays as it is.
+#[unsafe(no_mangle)]
+pub extern "C" fn jatshegi_salvage(
+    slot: &mut Slot,
+    text: &[u8],
+    answer: &mut [u8],
+    count: &mut usize,
+    repairs: &mut [RepairReport],
+    repaired: &mut usize,
+    used: &mut usize,
+) -> u32
+    ensures { IsSavedOf slot.old.held text.now result count.old count.new used.old used.new repaired.old repaired.new answer.old answer.new repairs.old repairs.new slot.new.held }
+{
+    let Some(session) = take(slot) else {
+        return EMPTY;
+    };
+    let code = chess_slots::saved_game(session.heap, text, answer, count, repairs, repaired, used);
     put(slot, session);
     code
 }
