@@ -3,7 +3,7 @@
 #     make install                        into /usr/local
 #     make install PREFIX=/usr DESTDIR=d  into the folder d, as a package would have it
 #     make uninstall                      with the same words: removes what was installed, and the folders that were made for it
-#     make packages                       the Debian package, the tarball, the wheel and the package for npm, into out/
+#     make packages                       the Debian package, the tarball, the wheel and the package for npm, into out/; for arm64 into out/aarch64-linux/
 
 PREFIX = /usr/local
 DESTDIR =
@@ -16,8 +16,10 @@ DOCDIR = $(DATADIR)/doc/jatshegi
 # Where they are empty, tools/install has Debian's folders for PREFIX=/usr, else those below PREFIX that python3 and zsh look into.
 PYTHONDIR =
 ZSHDIR =
+# The folder of release/ that is installed; where it is empty, the machine's own.
+SYSTEM =
 
-export PREFIX DESTDIR BINDIR LIBDIR INCLUDEDIR DATADIR MANDIR DOCDIR PYTHONDIR ZSHDIR
+export SYSTEM PREFIX DESTDIR BINDIR LIBDIR INCLUDEDIR DATADIR MANDIR DOCDIR PYTHONDIR ZSHDIR
 
 help:
 	@sed -n 's/^# \{0,1\}//p' Makefile

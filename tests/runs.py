@@ -3,8 +3,11 @@
 The answers are those of the FIDE Laws, of the PGN standard and of the UCI protocol, as docs/FORMATS.md has them.
 """
 import dataclasses
+import fcntl
 import os
+import shutil
 import subprocess
+import tempfile
 
 TOP = os.path.dirname(os.path.dirname(os.path.realpath(__file__)))
 BUILT = f"{TOP}/crates/chess/out/chess"
@@ -195,6 +198,35 @@ RUNS = [
     Run("uci: a closed output", ["uci"], "isready\n", writes_to_closed=True, error="write fault\n", status=3),
     Run("pgn: a closed output", ["pgn"], "*\n", writes_to_closed=True, error="write fault\n", status=3),
 ]
+
+
+# For Linux on arm64: the compiler, and what runs its programs here.
+ARM64_TOOLS = ("aarch64-linux-gnu-gcc", "qemu-aarch64")
+ARM64_PACKAGES = ("gcc-aarch64-linux-gnu", "libc6-dev-arm64-cross", "qemu-user")
+
+
+def install(is_there, *packages):
+    """Installs packages of Debian's where something of theirs is missing, this is Debian, and the user may. Several files of tests ask for it at once: the
+    others wait for the first."""
+    if is_there() or os.geteuid() != 0 or not shutil.which("apt-get"):
+        return
+    with open(f"{tempfile.gettempdir()}/jatshegi-packages.lock", "w", encoding="utf-8") as lock:
+        fcntl.flock(lock, fcntl.LOCK_EX)
+        if is_there():
+            return
+        quiet = {"stdin": subprocess.DEVNULL, "stdout": subprocess.DEVNULL, "stderr": subprocess.DEVNULL, "env": {**os.environ, "DEBIAN_FRONTEND": "noninteractive"}}
+        subprocess.run(["apt-get", "update", "-qq"], **quiet)
+        subprocess.run(["apt-get", "install", "-y", "-qq", "-o", "DPkg::Lock::Timeout=300", *packages], **quiet)
+
+
+def has_arm64_tools():
+    return all(map(shutil.which, ARM64_TOOLS))
+
+
+def install_arm64_tools():
+    """Installs what builds and runs programs for arm64 where it is missing, and returns whether it is there."""
+    install(has_arm64_tools, *ARM64_PACKAGES)
+    return has_arm64_tools()
 
 
 def make(tool, *words):

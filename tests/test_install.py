@@ -265,7 +265,7 @@ class Packages(Used):
         return ran.stdout.split()
 
     def test_two_builds_have_the_same_bytes(self):
-        self.assertEqual(len(self.packages[0]), 4)
+        self.assertEqual(len(self.packages[0]), 7)
         for one, other in zip(*self.packages):
             with open(one, "rb") as first, open(other, "rb") as second:
                 self.assertTrue(first.read() == second.read(), one)
@@ -293,6 +293,23 @@ class Packages(Used):
         self.wants("lintian")
         ran = called("lintian", "--fail-on", "error", package)
         self.assertEqual(ran.returncode, 0, ran.stdout + ran.stderr)
+
+    def test_the_packages_for_arm64(self):
+        """They have the files that are released for it, and the wheel says so; tests/test_arm64.py runs these."""
+        for package, words in zip(self.packages[0][4:6], (["dpkg-deb", "--extract"], ["tar", "-C", f"{self.folder}/tar", "-xf"])):
+            os.makedirs(f"{self.folder}/tar", exist_ok=True)
+            called(*words, package, *([f"{self.folder}/deb"] if words[0] == "dpkg-deb" else []))
+        self.assertEqual(called("dpkg-deb", "--field", self.packages[0][4], "Architecture").stdout, "arm64\n")
+        released = f"{runs.TOP}/release/aarch64-linux"
+        tops = f"{self.folder}/deb/usr", f"{self.folder}/tar/jatshegi-{runs.VERSION}-aarch64-linux"
+        for top, library in zip(tops, ("lib/aarch64-linux-gnu", "lib")):
+            for path, of in (("bin/chess", "bin/chess"), (f"{library}/libjatshegi.so.1", "lib/libjatshegi.so.1")):
+                with open(f"{top}/{path}", "rb") as one, open(f"{released}/{of}", "rb") as other:
+                    self.assertTrue(one.read() == other.read(), path)
+        self.assertRegex(self.packages[0][6], r"py3-none-manylinux_2_17_aarch64\.whl$")
+        with zipfile.ZipFile(self.packages[0][6]) as wheel, open(f"{released}/lib/libjatshegi.so.1", "rb") as library:
+            self.assertTrue(wheel.read("jatshegi/libjatshegi.so") == library.read())
+            self.assertNotIn("jatshegi/_fast.abi3.so", wheel.namelist())
 
     def test_the_tarball(self):
         package = self.packages[0][1]

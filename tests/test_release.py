@@ -80,7 +80,8 @@ class TheRelease(unittest.TestCase):
         for folder, _, names in os.walk(f"{runs.TOP}/release"):
             found.update(os.path.relpath(f"{folder}/{name}", f"{runs.TOP}/release") for name in names)
         self.assertEqual(found - {"MANIFEST", "chess.sources", "all.sources"}, set(manifest()[1]))
-        self.assertEqual(set(manifest()[1]), {PROGRAM, ENGINE, *(f"{SYSTEM}/bin/{it}" for it in OTHERS), *(f"{SYSTEM}/lib/{it}" for it in LIBRARIES), FAST})
+        of_each = ["bin/chess", "bin/jatshegi", *(f"bin/{it}" for it in OTHERS), *(f"lib/{it}" for it in LIBRARIES)]
+        self.assertEqual(set(manifest()[1]), {FAST, *(f"{system}/{it}" for system in (SYSTEM, "aarch64-linux") for it in of_each)})
 
     def test_the_module_of_the_page_is_as_the_manifest_says(self):
         """tests/test_web.py asks whether its sources are those of the repository."""
