@@ -11,7 +11,7 @@ PAGES = ["README.md", "CONTRIBUTING.md", "CHANGELOG.md", "SECURITY.md", "crates/
 PAGES += sorted(it for folder in ("docs", ".github", ".github/ISSUE_TEMPLATE") for it in glob.glob(f"{folder}/*.md", root_dir=runs.TOP))
 
 # Words that no source has: commands of the machine, letters of men and moves, a move that is not read, and a name that stands for others.
-ELSEWHERE = {"bash", "cc", "git", "parallel", "pgn-extract", "polyglot", "sed", "stockfish", "valgrind", "xboard", "Z0", "After-f", "NAME"}
+ELSEWHERE = {"bash", "cc", "git", "parallel", "pgn-extract", "polyglot", "sed", "stockfish", "qemu-user", "valgrind", "xboard", "errno", "Z0", "After-f", "NAME"}
 # Names of Rust's library and of shakmaty, on the page for Rust.
 ELSEWHERE |= {"no_std", "Sync", "to_string", "into_position", "San", "SanPlus", "Bitboard"}
 # Options of chess.js, and what one of its calls answers, on the page for JavaScript.
@@ -90,7 +90,9 @@ class Pages(unittest.TestCase):
         rust = glob.glob("rust/src/*.rs", root_dir=runs.TOP)
         script = glob.glob("js/src/*.js", root_dir=runs.TOP)
         tools = [f"tools/{name}" for name in os.listdir(f"{runs.TOP}/tools")]
-        for path in ("chess", "build", "test", *tools, "suite/run_class.py", "suite/run_uci.py", "crates.txt", "include/jatshegi.h", "rust/build.rs", *python, *rust, *script):
+        suite = [f"suite/{name}" for name in glob.glob("run*", root_dir=f"{runs.TOP}/suite") + glob.glob("*.jsonl", root_dir=f"{runs.TOP}/suite")]
+        suite += glob.glob("suite/boards/*.*", root_dir=runs.TOP)
+        for path in ("chess", "build", "test", *tools, *suite, "crates.txt", "include/jatshegi.h", "rust/build.rs", *python, *rust, *script):
             cls.words.update(re.findall(r"[\w-]+", text_of(path)))
 
     def test_each_link_leads_somewhere(self):
