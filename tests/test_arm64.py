@@ -74,6 +74,8 @@ class OnArm64(unittest.TestCase):
 
     def test_the_files_are_those_just_built(self):
         """To the byte under the same kit and compiler."""
+        if not runs.builds_for_arm64():
+            self.skipTest("on fewer than four processors the files for arm64 are run as they were released, and not built again")
         words = manifest()[0]
         if (words["kit"], words["cc-arm"]) != (tool_version("rt", "version"), tool_version("aarch64-linux-gnu-gcc", "--version")):
             self.skipTest("the release was built by another kit or compiler")
