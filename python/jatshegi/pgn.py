@@ -13,7 +13,7 @@
 A game is read by the proved reader of the library, which hands it out in export form (PGN 3.2): each move legal, its text the standard one. This module
 takes that text apart, which is tested. What is changed of a game is changed by the library, on a board that holds it; `Game()` is one without moves.
 
-Games are bytes. They are read in UTF-8, and a game whose bytes are none in ISO 8859-1, the encoding of the standard (PGN 3.1); `encoding` names another one.
+Games are bytes. They are read in UTF-8, and a game whose bytes are none in ISO 8859-1, the encoding of the standard (PGN 4.1); `encoding` names another one.
 `bytes(game)` are the game's own bytes, whatever it is.
 """
 from __future__ import annotations
