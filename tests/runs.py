@@ -229,6 +229,10 @@ def install_arm64_tools():
     return has_arm64_tools()
 
 
+# The crates of what is released for arm64.
+FOR_ARM64 = ("chess", "chess_games", "arbiter", "perft", "chess_c")
+
+
 def builds_for_arm64():
     """Whether the gate builds what is released for arm64 again: it proves five crates once more, which on fewer than four processors takes too long."""
     return len(os.sched_getaffinity(0)) >= 4

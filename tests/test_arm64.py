@@ -79,7 +79,8 @@ class OnArm64(unittest.TestCase):
         words = manifest()[0]
         if (words["kit"], words["cc-arm"]) != (tool_version("rt", "version"), tool_version("aarch64-linux-gnu-gcc", "--version")):
             self.skipTest("the release was built by another kit or compiler")
-        runs.make("prove", "--gate", "--arm64", *PROGRAMS, "chess_c")
+        for name in runs.FOR_ARM64:
+            runs.make("prove", "--gate", "--arm64", name)
         runs.make("libraries", "--gate", "--arm64")
         built = {f"bin/{name}": f"{runs.TOP}/crates/{name}/out/{name}.arm64" for name in PROGRAMS}
         built |= {path: f"{runs.TOP}/out/{SYSTEM}/{os.path.basename(path)}" for path in ("bin/jatshegi", "lib/libjatshegi.a", "lib/libjatshegi.so.1")}
