@@ -213,10 +213,11 @@ export const retag = (job, name, value) => doing(async () => {
 export const unmark = () => doing(async () => {
   if (!await isSettled()) return false;
   const { status, state } = await asked('unmark', {});
-  if (status !== 0) {
+  if (status === 8) {
     page.told(refusal('refused 2 AtRoot'));
     return false;
   }
+  if (status !== 0) throw new Error(`The marks stay as they were: ${faultText(status)}`);
   game.state = state;
   page.told('');
   note();

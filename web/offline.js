@@ -1,6 +1,6 @@
 // Keeps the page's own files of one version in the browser, so that it opens without a net. A new version replaces them as a whole.
 // The list is written by tools/offline.
-const VERSION = 'bffc9781137f5edb';
+const VERSION = '423244e079906097';
 const KEPT = {
   'about.html': 'sha256-mrV3coyMVDhM7xuMlwARmmScfkzuIbh/V9u0O/mLAnQ=',
   'analysis.js': 'sha256-9hgVYkci1M32ZfrPwrkcAz49SMtLjByFpPN5X57xmVY=',
@@ -14,7 +14,7 @@ const KEPT = {
   'epd.js': 'sha256-xQn3GCHNc2Yqdh0gMV5ngVdUaQNX/WBZXprjkCkK10g=',
   'fen.js': 'sha256-tYVv38gdjVF02qg7ZhnHkVXIz6EbA+6cJslqsPCR140=',
   'files.js': 'sha256-EqGlIdbA9ANddNRoQwSHFRZ2xnDnUO4mFoZhLmjYdbk=',
-  'game.js': 'sha256-K2VBY2ySVI1xc4Lt71RY9SqQu27rkYn6MoXk5leumDk=',
+  'game.js': 'sha256-yDJFSPzcjri1AZbaE5VhWqu2Sf9Lqr67FCM1LhagXHM=',
   'history.js': 'sha256-b2xYiCnIoEXfhgI8jth/7pFno7cjEuzPowCCkZyQYLc=',
   'icon.svg': 'sha256-MIqbBfrY8jneIrbk+mcJq7TJSYDbHm5LwjQhbWTpmWU=',
   'index.html': 'sha256-hrr1FfPbiS0blORhm4U7HrFIfjlgtj49bt1ZGANp9qY=',

@@ -176,6 +176,7 @@ class Reader {
       }
       const saved = read((session) => session.salvage(at, length));
       if (saved.status === OK) return this.#game(theMemory().handed().slice(), saved.used, saved.repairs);
+      if (saved.status <= FAULTS) throw strange('jatshegi_salvage', saved.status);
     }
     const fault = faultOf(status, placeIn(bytes.subarray(at, at + length), used, this.passed));
     fault.index = this.count++;

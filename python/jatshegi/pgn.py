@@ -586,6 +586,8 @@ class _Texts:
             count, used, repaired = c_size_t(), c_size_t(), c_size_t()
             places = self._room, len(self._room), byref(count), self._repairs, len(self._repairs), byref(repaired), byref(used)
             status = c.lib.jatshegi_game_salvage(*self._place(), *places)
+            if status == c.NO_MEMORY:
+                raise MemoryError("no memory for a game")
             if status not in (c.OK, c.NO_ROOM):
                 return None
             if status == c.OK and repaired.value <= len(self._repairs):
