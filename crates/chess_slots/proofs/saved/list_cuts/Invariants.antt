@@ -1,7 +1,0 @@
-use Rattle.std.proofs.Common.{◌≡◌, map, take}
-use Rattle.chess_slots.specs.Saved.{cut_report, unplaced}
-use Rattle.chess_slots.proofs.saved.list_cuts.Given as goal
-
--- those so far are listed
-abbrev pub invariant-loop-cut : goal.invariant-loop-cut
-invariant-loop-cut g l = map unplaced l.reports.items ≡ map cut_report (take l.cut-index l.found.cuts.items)
