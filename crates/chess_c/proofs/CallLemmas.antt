@@ -7,11 +7,11 @@ use Rattle.chess_uci.specs.declared.event.Event.{Event}
 use Rattle.chess_uci.specs.Machine.{State}
 use Rattle.chess_cli.specs.declared.board_command.refusal.Refusal.{Refusal}
 use Rattle.chess_cli.specs.declared.board_command.refusal.Refusal.TheVariants.{Fen}
-use Rattle.chess_slots.specs.Answers.{IsTold}
-use Rattle.chess_slots.specs.Codes.{ok}
-use Rattle.chess_slots.specs.Headings.{HeadingParts}
-use Rattle.chess_slots.specs.Loads.{LoadsFrom}
-use Rattle.chess_slots.specs.Next.{LoadsNext}
+use Rattle.chess_bindings.specs.Answers.{IsLineAnswered}
+use Rattle.chess_bindings.specs.Codes.{ok}
+use Rattle.chess_bindings.specs.Headings.{HeadingParts}
+use Rattle.chess_bindings.specs.Loads.{LoadsFrom}
+use Rattle.chess_bindings.specs.Next.{LoadsNext}
 use Rattle.chess_c.specs.Asked.{SaysAdded}
 use Rattle.chess_c.specs.Calls.{Acts, ActsOnHeading, AsksHeading, IsAnswered, IsReplying, IsReplyingWithin}
 use Rattle.chess_c.specs.Codes.{ended_code, refusal_code}
@@ -59,7 +59,7 @@ same_but_engine held after kb kh ks =
     ∙ ap (λ (s : Option Searching). record { board = held.board; heading = held.heading; search = s; engine = after.engine }) ks
 
 pub answered_some : (line : List ℕ) → (old new : Option Held) → (held after : Held) → (code count count' : ℕ) → (room room' : List ℕ)
-    → old ≡ Some held → new ≡ Some after → after.heading ≡ held.heading → after.search ≡ held.search → after.engine ≡ held.engine → IsTold held.board line code count count' room room' after.board
+    → old ≡ Some held → new ≡ Some after → after.heading ≡ held.heading → after.search ≡ held.search → after.engine ≡ held.engine → IsLineAnswered held.board line code count count' room room' after.board
     → IsAnswered old line code count count' room room' new
 answered_some line old new held after code count count' room room' is en kh ks ke told =
     subst (λ (o : Option Held). IsAnswered o line code count count' room room' new) (sym is) (after.board, told, en ∙ ap (λ (h : Held). Some h) (same_but_board held after kh ks ke))

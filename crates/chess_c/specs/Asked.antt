@@ -34,8 +34,8 @@ use Rattle.chess_cli.specs.declared.board_command.refusal.Refusal.TheVariants.{A
 use Rattle.chess_cli.specs.Refusals.{san_refusal}
 use Rattle.chess_cli.specs.Answers.{Effect, Refuses, move_effect}
 use Rattle.chess_c.specs.declared.moves.CMove.{CMove}
-use Rattle.chess_slots.specs.Codes.{no_memory, none_best, ok, was_abandoned}
-use Rattle.chess_slots.specs.Handed.{IsHanded}
+use Rattle.chess_bindings.specs.Codes.{no_memory, none_best, ok, was_abandoned}
+use Rattle.chess_bindings.specs.Handed.{IsHanded}
 use Rattle.chess_c.specs.Codes.{claims_code, refusal_code}
 use Rattle.chess_c.specs.Held.{Held}
 use Rattle.chess_c.specs.Moves.{shown}

@@ -8,7 +8,7 @@ use Rattle.chess_types.specs.board.Position.{PositionParts, man_on}
 use Rattle.chess_polyglot.specs.Books.{big_endian, entries_in, if_legal, key_at, named_move}
 use Rattle.chess_polyglot.specs.Keys.{polyglot_key}
 use Rattle.chess_c.specs.declared.moves.CMove.{CMove}
-use Rattle.chess_slots.specs.Codes.{argument, not_legal, ok}
+use Rattle.chess_bindings.specs.Codes.{argument, not_legal, ok}
 use Rattle.chess_c.specs.Moves.{shown}
 
 -- the move that an entry stands for; one of another position says nothing here

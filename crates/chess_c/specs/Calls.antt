@@ -4,7 +4,7 @@
 --   AsksHeading, ActsOnHeading   the same two of a call on the tags and the end of a game
 --   IsCopied     of a copy into another slot: it is there, or there is no memory and the other slot is as it was
 --   IsAnswered   of a line: the board may answer it with a text, and go from the one board to the other; the text is handed out, or there was no memory, and all is as
---                before (`IsTold`)
+--                before (`IsLineAnswered`)
 --   IsReplying   of an event: the engine replies to it (`IsRepliedFrom`)
 --   IsSearching, IsInfinite, IsWaiting, IsEnded   what is shown of the engine: whether it searches, without an end of its own, and waits for `stop`; whether `quit` came
 --   IsTimed      after how many milliseconds the clock ends the search; the status of none where it ends none
@@ -14,9 +14,9 @@ use Rattle.chess_tree.specs.GameTree.{TreeParts}
 use Rattle.chess_uci.specs.declared.event.Event.{Event}
 use Rattle.chess_uci.specs.Machine.{State, is_infinite, is_waiting, time_left}
 use Rattle.chess_cli.specs.declared.board_command.refusal.Refusal.{Refusal}
-use Rattle.chess_slots.specs.Answers.{IsTold}
-use Rattle.chess_slots.specs.Codes.{empty_slot, no_memory, none_best, ok}
-use Rattle.chess_slots.specs.Headings.{HeadingParts}
+use Rattle.chess_bindings.specs.Answers.{IsLineAnswered}
+use Rattle.chess_bindings.specs.Codes.{empty_slot, no_memory, none_best, ok}
+use Rattle.chess_bindings.specs.Headings.{HeadingParts}
 use Rattle.chess_c.specs.Codes.{ended_code}
 use Rattle.chess_c.specs.Engines.{IsRepliedFrom, IsRepliedWithinFrom}
 use Rattle.chess_c.specs.Held.{Held, copy_of, with_board, with_engine, with_heading}
@@ -50,7 +50,7 @@ IsCopied (Some held) code other other' = ((code ≡ ok) × (other' ≡ Some (cop
 abbrev pub IsAnswered : Option Held → List ℕ → (code count count' : ℕ) → (room room' : List ℕ) → Option Held → Type 0
 IsAnswered None line code count count' room room' new = (code ≡ empty_slot) × (new ≡ None) × (count' ≡ count) × (room' ≡ room)
 IsAnswered (Some held) line code count count' room room' new =
-    (after : TreeParts) × IsTold held.board line code count count' room room' after × (new ≡ Some (with_board after held))
+    (after : TreeParts) × IsLineAnswered held.board line code count count' room room' after × (new ≡ Some (with_board after held))
 
 -- an event is replied to
 abbrev pub IsReplying : Event → Option Held → (code count count' : ℕ) → (room room' : List ℕ) → Option Held → Type 0

@@ -10,7 +10,7 @@ use Rattle.chess_types.specs.declared.board.outcome.Claims.{Claims}
 use Rattle.chess_fen.specs.Faults.{number_of}
 use Rattle.chess_cli.specs.declared.board_command.refusal.Refusal.{Refusal}
 use Rattle.chess_cli.specs.declared.board_command.refusal.Refusal.TheVariants.{Fen, Form, NoSuch, Illegal, TooLong, AtRoot, Ambiguous, Full, BadComment, Memory, Command, Argument, LongLine}
-use Rattle.chess_slots.specs.Codes.{argument, no_memory, not_legal, ok}
+use Rattle.chess_bindings.specs.Codes.{argument, no_memory, not_legal, ok}
 
 -- FENs are refused from 21 on, by the number of the fault
 abbrev pub refusal_code : Refusal → ℕ

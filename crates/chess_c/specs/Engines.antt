@@ -4,9 +4,9 @@
 use Rattle.std.specs.Prelude.{◌≡◌, ◌⊎◌, ℕ, Bool, List, Option}
 use Rattle.chess_uci.specs.declared.event.Event.{Event}
 use Rattle.chess_uci.specs.Machine.{State, beginning}
-use Rattle.chess_slots.specs.Answers.{IsReplied}
-use Rattle.chess_slots.specs.Codes.{no_memory}
-use Rattle.chess_slots.specs.Within.{IsRepliedWithin}
+use Rattle.chess_bindings.specs.Answers.{IsReplied}
+use Rattle.chess_bindings.specs.Codes.{no_memory}
+use Rattle.chess_bindings.specs.Within.{IsRepliedWithin}
 
 -- no memory for a session at its start, which is as before
 abbrev pub IsUnmade : (old new : State) → (code : ℕ) → Type 0

@@ -18,7 +18,7 @@ use Rattle.chess_uci.specs.Machine.{State}
 use Rattle.chess_uci.specs.Machine as machine
 use Rattle.chess_uci.specs.steps.StateCode.{coded_session}
 use Rattle.chess_cli.specs.Answers as answers
-use Rattle.chess_slots.specs.Headings.{HeadingParts, coded_heading, nothing_known}
+use Rattle.chess_bindings.specs.Headings.{HeadingParts, coded_heading, nothing_known}
 
 -- a search as far as it has come
 pub record Searching : Type 0 where

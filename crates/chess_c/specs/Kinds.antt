@@ -12,7 +12,7 @@ use Rattle.chess_types.specs.board.Mating.{cannot_mate}
 use Rattle.chess_types.specs.board.Men.{is_pawn}
 use Rattle.chess_types.specs.board.MoveParts.{MoveParts}
 use Rattle.chess_types.specs.board.Position.{PositionParts, man_on}
-use Rattle.chess_slots.specs.Codes.{argument, not_legal, ok}
+use Rattle.chess_bindings.specs.Codes.{argument, not_legal, ok}
 
 -- the number of a sort, where the move is of it
 abbrev pub sort : Bool → ℕ → ℕ

@@ -9,5 +9,4 @@ pub mod Books
 pub mod Kinds
 pub mod Positions
 pub mod Searches
-pub mod Slots
 pub mod Stops

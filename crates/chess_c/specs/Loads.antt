@@ -3,10 +3,10 @@
 --   LoadsAsItComes   the same of a text of which only the first bytes are known, or all (`LoadsNext`)
 use Rattle.std.specs.Prelude.{◌≡◌, ℕ, Bool, List, Option, Some, None}
 use Rattle.chess_tree.specs.GameTree.{TreeParts}
-use Rattle.chess_slots.specs.Codes.{empty_slot}
-use Rattle.chess_slots.specs.Headings.{HeadingParts}
-use Rattle.chess_slots.specs.Loads.{LoadsFrom}
-use Rattle.chess_slots.specs.Next.{LoadsNext}
+use Rattle.chess_bindings.specs.Codes.{empty_slot}
+use Rattle.chess_bindings.specs.Headings.{HeadingParts}
+use Rattle.chess_bindings.specs.Loads.{LoadsFrom}
+use Rattle.chess_bindings.specs.Next.{LoadsNext}
 use Rattle.chess_c.specs.Held.{Held, with_board, with_heading}
 
 -- the game is there, or none is

@@ -9,8 +9,8 @@ use Rattle.chess_types.specs.declared.board.man.Kind.TheVariants.{Knight, Bishop
 use Rattle.chess_types.specs.board.MoveParts.{MoveParts}
 use Rattle.chess_types.specs.board.Texts.{IsPromotion, move_text}
 use Rattle.chess_cli.specs.declared.board_command.refusal.Refusal.TheVariants.{Argument, Form}
-use Rattle.chess_slots.specs.Codes.{ok}
-use Rattle.chess_slots.specs.Handed.{IsHanded}
+use Rattle.chess_bindings.specs.Codes.{ok}
+use Rattle.chess_bindings.specs.Handed.{IsHanded}
 use Rattle.chess_c.specs.Codes.{refusal_code}
 use Rattle.chess_c.specs.declared.moves.CMove.{CMove}
 

@@ -17,7 +17,7 @@ use Rattle.chess_search.specs.Best.{best}
 use Rattle.chess_search.specs.Slices.{GoesWith, Progress}
 use Rattle.chess_tree.specs.GameTree.{TreeParts, line_to}
 use Rattle.chess_uci.specs.Within.{IsWatched, root_size}
-use Rattle.chess_slots.specs.Codes.{argument, empty_slot, no_memory, none_best, ok, was_abandoned}
+use Rattle.chess_bindings.specs.Codes.{argument, empty_slot, no_memory, none_best, ok, was_abandoned}
 use Rattle.chess_c.specs.declared.moves.CMove.{CMove}
 use Rattle.chess_c.specs.Asked.{IsBest}
 use Rattle.chess_c.specs.Held.{Held, Searching, roots, with_search}

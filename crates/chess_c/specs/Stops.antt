@@ -3,7 +3,7 @@
 --   SharesFrom   the same of another handle of a flag, if there is one
 --   set_code     the status of a flag that is set or cleared
 use Rattle.std.specs.Prelude.{◌≡◌, ◌⊎◌, ℕ, Option, Some, None}
-use Rattle.chess_slots.specs.Codes.{empty_slot, no_memory, ok}
+use Rattle.chess_bindings.specs.Codes.{empty_slot, no_memory, ok}
 
 -- there is a handle, or what there was
 abbrev pub IsKept : ℕ → (old new : Option (Unit {0})) → Type 0

@@ -14,9 +14,9 @@ ghost use Rattle.chess_san.specs.Naming.{san_reading};
 ghost use Rattle.chess_tree.specs.GameTree.{line_to};
 ghost use Rattle.chess_c.specs.Asked.{IsAttackedBy, IsBestAt, IsBestWithin, IsClaimed, IsRead, IsWritten, attackers_of, claims_in, flag};
 ghost use Rattle.chess_c.specs.Calls.{Asks};
-ghost use Rattle.chess_slots.specs.Codes.{outcome_code};
-ghost use Rattle.chess_slots.specs.Handed.{IsHanded};
-ghost use Rattle.chess_slots.specs.Within.{says_within};
+ghost use Rattle.chess_bindings.specs.Codes.{outcome_code};
+ghost use Rattle.chess_bindings.specs.Handed.{IsHanded};
+ghost use Rattle.chess_bindings.specs.Within.{says_within};
 ghost use Rattle.chess_c.specs.Codes.{claims_code, colour_in};
 ghost use Rattle.chess_c.specs.Moves.{move_in, shown};
 ghost use Rattle.chess_c.specs.Positions.{position_shown};
@@ -29,15 +29,15 @@ use crate::slot::{Slot, put, take};
 use crate::squares::{put_counts, put_set, word_of};
 use crate::stop::{Stop, put_stop, take_stop};
 use chess_attack::attackers;
+use chess_bindings::{ARGUMENT, EMPTY, ILLEGAL, NONE, OK, hand, outcome_code};
 use chess_cli::{Board, Refusal};
+use chess_memory::{Heap, Kept};
 use chess_play::Live;
-use chess_slots::{ARGUMENT, EMPTY, ILLEGAL, NONE, OK, hand, outcome_code};
 use chess_types::{Colour, Square, SquareSet};
-use std::alloc::Global;
 
 /// How the game stands: 0 mate, 1 stalemate, 2 dead, 3 fivefold repetition, 4 the 75 moves, 5 play (FIDE Laws 5.1.1, 5.2.1, 5.2.2, 9.6).
 #[unsafe(no_mangle)]
-pub extern "C" fn jatshegi_board_outcome(alloc: Global, slot: &mut Slot, outcome: &mut u32) -> u32
+pub extern "C" fn jatshegi_board_outcome(alloc: Kept, slot: &mut Slot, outcome: &mut u32) -> u32
     ensures { Asks (outcome.new ≡ outcome.old) (λ board code. (code ≡ 0) × (outcome.new ≡ outcome_code (status (line_to board)))) slot.old.held result slot.new.held }
 {
     let Some(mut session) = take(slot, alloc) else {
@@ -50,7 +50,7 @@ pub extern "C" fn jatshegi_board_outcome(alloc: Global, slot: &mut Slot, outcome
 
 /// The draws that may be claimed: 1 for threefold repetition, and 2 for fifty moves (FIDE Laws 9.2.2, 9.3.2).
 #[unsafe(no_mangle)]
-pub extern "C" fn jatshegi_board_claims(alloc: Global, slot: &mut Slot, draws: &mut u32) -> u32
+pub extern "C" fn jatshegi_board_claims(alloc: Kept, slot: &mut Slot, draws: &mut u32) -> u32
     ensures { Asks (draws.new ≡ draws.old) (λ board code. (code ≡ 0) × (draws.new ≡ claims_code (claims (line_to board)))) slot.old.held result slot.new.held }
 {
     let Some(mut session) = take(slot, alloc) else {
@@ -62,7 +62,7 @@ pub extern "C" fn jatshegi_board_claims(alloc: Global, slot: &mut Slot, draws: &
 }
 
 // What may be claimed with a move.
-fn claims_with(board: &mut Board<'static, Global>, m: CMove, draws: &mut u32) -> u32
+fn claims_with(board: &mut Board<'static, Heap>, m: CMove, draws: &mut u32) -> u32
     ensures value { IsClaimed (claims_in (move_in m) (line_to board.old)) result draws.old draws.new }
     ensures as_before { board.new ≡ board.old }
 {
@@ -79,7 +79,7 @@ fn claims_with(board: &mut Board<'static, Global>, m: CMove, draws: &mut u32) ->
 /// The draws that may be claimed with a move (FIDE Laws 9.2.1, 9.3.1).
 #[unsafe(no_mangle)]
 pub extern "C" fn jatshegi_board_claims_with(
-    alloc: Global,
+    alloc: Kept,
     slot: &mut Slot,
     m: CMove,
     draws: &mut u32,
@@ -96,7 +96,7 @@ pub extern "C" fn jatshegi_board_claims_with(
 
 /// How often the position has come up on the way to it, this time included (FIDE Laws 9.2.2).
 #[unsafe(no_mangle)]
-pub extern "C" fn jatshegi_board_repetitions(alloc: Global, slot: &mut Slot, times: &mut u32) -> u32
+pub extern "C" fn jatshegi_board_repetitions(alloc: Kept, slot: &mut Slot, times: &mut u32) -> u32
     ensures { Asks (times.new ≡ times.old) (λ board code. (code ≡ 0) × (times.new ≡ repetitions (line_to board))) slot.old.held result slot.new.held }
 {
     let Some(mut session) = take(slot, alloc) else {
@@ -109,7 +109,7 @@ pub extern "C" fn jatshegi_board_repetitions(alloc: Global, slot: &mut Slot, tim
 
 /// The evaluation, in centipawns for White.
 #[unsafe(no_mangle)]
-pub extern "C" fn jatshegi_board_evaluation(alloc: Global, slot: &mut Slot, value: &mut i32) -> u32
+pub extern "C" fn jatshegi_board_evaluation(alloc: Kept, slot: &mut Slot, value: &mut i32) -> u32
     ensures { Asks (value.new ≡ value.old) (λ board code. (code ≡ 0) × (value.new ≡ evaluation (man_on (last (line_to board))))) slot.old.held result slot.new.held }
 {
     let Some(session) = take(slot, alloc) else {
@@ -123,7 +123,7 @@ pub extern "C" fn jatshegi_board_evaluation(alloc: Global, slot: &mut Slot, valu
 /// How many men of each colour attack each of the 64 squares, a1 first (FIDE Laws 3.1.2).
 #[unsafe(no_mangle)]
 pub extern "C" fn jatshegi_board_counts(
-    alloc: Global,
+    alloc: Kept,
     slot: &mut Slot,
     white: &mut [u8; 64],
     black: &mut [u8; 64],
@@ -140,7 +140,7 @@ pub extern "C" fn jatshegi_board_counts(
 }
 
 // Which squares have a man that checks the side to move.
-fn put_checks(board: &Board<'static, Global>, checks: &mut [u8; 64])
+fn put_checks(board: &Board<'static, Heap>, checks: &mut [u8; 64])
     ensures { checks.new ≡ map (λ square. flag (checks_from (man_on (last (line_to board.now))) (last (line_to board.now)).side square)) squares }
 {
     put_set(board.checking(), checks);
@@ -148,11 +148,7 @@ fn put_checks(board: &Board<'static, Global>, checks: &mut [u8; 64])
 
 /// For each of the 64 squares, a1 first, 1 where a man on it checks the side to move, else 0 (FIDE Laws 3.9.1).
 #[unsafe(no_mangle)]
-pub extern "C" fn jatshegi_board_checks(
-    alloc: Global,
-    slot: &mut Slot,
-    checks: &mut [u8; 64],
-) -> u32
+pub extern "C" fn jatshegi_board_checks(alloc: Kept, slot: &mut Slot, checks: &mut [u8; 64]) -> u32
     ensures { Asks (checks.new ≡ checks.old) (λ board code. (code ≡ 0) × (checks.new ≡ map (λ square. flag (checks_from (man_on (last (line_to board))) (last (line_to board)).side square)) squares)) slot.old.held result slot.new.held }
 {
     let Some(session) = take(slot, alloc) else {
@@ -196,7 +192,7 @@ fn put_attackers(live: &Live<'_>, colour: u8, square: u8, set: &mut u64) -> u32
 /// for a1. A king and pinned men attack too, a man that another is in the way of doesn't (FIDE Laws 3.1 to 3.8).
 #[unsafe(no_mangle)]
 pub extern "C" fn jatshegi_board_attackers(
-    alloc: Global,
+    alloc: Kept,
     slot: &mut Slot,
     colour: u8,
     square: u8,
@@ -215,7 +211,7 @@ pub extern "C" fn jatshegi_board_attackers(
 /// The legal moves in order, and how many they are, at most 432 (FIDE Laws 3.1 to 3.10).
 #[unsafe(no_mangle)]
 pub extern "C" fn jatshegi_board_moves(
-    alloc: Global,
+    alloc: Kept,
     slot: &mut Slot,
     moves: &mut [CMove],
     count: &mut usize,
@@ -233,7 +229,7 @@ pub extern "C" fn jatshegi_board_moves(
 /// The moves from the root to the cursor, in the order in which they were made, and how many they are, at most 20,000.
 #[unsafe(no_mangle)]
 pub extern "C" fn jatshegi_board_line(
-    alloc: Global,
+    alloc: Kept,
     slot: &mut Slot,
     moves: &mut [CMove],
     count: &mut usize,
@@ -251,7 +247,7 @@ pub extern "C" fn jatshegi_board_line(
 /// The FEN of the position, at most 128 bytes (PGN 16.1).
 #[unsafe(no_mangle)]
 pub extern "C" fn jatshegi_board_fen(
-    alloc: Global,
+    alloc: Kept,
     slot: &mut Slot,
     text: &mut [u8],
     count: &mut usize,
@@ -270,7 +266,7 @@ pub extern "C" fn jatshegi_board_fen(
 /// captures on it (FIDE Laws 9.2.3; `identity_laws` of `chess_draws`).
 #[unsafe(no_mangle)]
 pub extern "C" fn jatshegi_board_epd(
-    alloc: Global,
+    alloc: Kept,
     slot: &mut Slot,
     text: &mut [u8],
     count: &mut usize,
@@ -292,7 +288,7 @@ pub extern "C" fn jatshegi_board_epd(
 /// The position by its six fields.
 #[unsafe(no_mangle)]
 pub extern "C" fn jatshegi_board_position(
-    alloc: Global,
+    alloc: Kept,
     slot: &mut Slot,
     position: &mut CPosition,
 ) -> u32
@@ -307,7 +303,7 @@ pub extern "C" fn jatshegi_board_position(
 }
 
 // The text of a move.
-fn write(board: &Board<'static, Global>, m: CMove, text: &mut [u8], count: &mut usize) -> u32
+fn write(board: &Board<'static, Heap>, m: CMove, text: &mut [u8], count: &mut usize) -> u32
     ensures { IsWritten (move_in m) (last (line_to board.now)) result count.old count.new text.old text.new }
 {
     let Some(legal) = m.read() else {
@@ -322,7 +318,7 @@ fn write(board: &Board<'static, Global>, m: CMove, text: &mut [u8], count: &mut 
 /// The text of a legal move in standard algebraic notation, at most 8 bytes (PGN 8.2.3).
 #[unsafe(no_mangle)]
 pub extern "C" fn jatshegi_board_write(
-    alloc: Global,
+    alloc: Kept,
     slot: &mut Slot,
     m: CMove,
     text: &mut [u8],
@@ -339,7 +335,7 @@ pub extern "C" fn jatshegi_board_write(
 }
 
 // The move that a text names.
-fn read(board: &mut Board<'static, Global>, text: &[u8], m: &mut CMove) -> u32
+fn read(board: &mut Board<'static, Heap>, text: &[u8], m: &mut CMove) -> u32
     ensures value { IsRead (san_reading (last (line_to board.old)) text.now) result m.old m.new }
     ensures as_before { board.new ≡ board.old }
 {
@@ -355,7 +351,7 @@ fn read(board: &mut Board<'static, Global>, text: &[u8], m: &mut CMove) -> u32
 /// The legal move that a text names, in standard algebraic notation or from square to square (PGN 8.2.3).
 #[unsafe(no_mangle)]
 pub extern "C" fn jatshegi_board_read(
-    alloc: Global,
+    alloc: Kept,
     slot: &mut Slot,
     text: &[u8],
     m: &mut CMove,
@@ -371,7 +367,7 @@ pub extern "C" fn jatshegi_board_read(
 }
 
 // The best move and its value.
-fn best(board: &mut Board<'static, Global>, depth: u8, m: &mut CMove, value: &mut i32) -> u32
+fn best(board: &mut Board<'static, Heap>, depth: u8, m: &mut CMove, value: &mut i32) -> u32
     ensures value { IsBestAt (line_to board.old) depth result m.old m.new value.old value.new }
     ensures as_before { board.new ≡ board.old }
 {
@@ -392,7 +388,7 @@ fn best(board: &mut Board<'static, Global>, depth: u8, m: &mut CMove, value: &mu
 /// a mate.
 #[unsafe(no_mangle)]
 pub extern "C" fn jatshegi_board_best(
-    alloc: Global,
+    alloc: Kept,
     slot: &mut Slot,
     depth: u8,
     m: &mut CMove,
@@ -412,7 +408,7 @@ pub extern "C" fn jatshegi_board_best(
 /// there is one, is found set. How many positions were asked for. It takes memory for a line of its own.
 #[unsafe(no_mangle)]
 pub extern "C" fn jatshegi_board_best_within(
-    alloc: Global,
+    alloc: Kept,
     slot: &mut Slot,
     depth: u8,
     nodes: u64,
@@ -428,7 +424,7 @@ pub extern "C" fn jatshegi_board_best_within(
         return EMPTY;
     };
     let flag = take_stop(stop, alloc);
-    let code = session.best_within(alloc, depth, within(nodes.max(1), &flag), m, value, visited);
+    let code = session.best_within(depth, within(nodes.max(1), &flag), m, value, visited);
     put_stop(stop, flag, alloc);
     put(slot, session, alloc);
     code

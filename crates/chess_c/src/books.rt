@@ -9,15 +9,15 @@ ghost use Rattle.chess_c.specs.Calls.{Asks};
 
 use crate::moves::CMove;
 use crate::slot::{Slot, put, take};
+use chess_bindings::{ARGUMENT, EMPTY, ILLEGAL, OK};
 use chess_cli::Board;
+use chess_memory::{Heap, Kept};
 use chess_polyglot::{Entry, entries_in, find, key as key_of, named_move};
-use chess_slots::{ARGUMENT, EMPTY, ILLEGAL, OK};
 use chess_types::{Move, Setup};
-use std::alloc::Global;
 
 /// The position's key in Polyglot's opening books, by which many programs name positions (http://hgm.nubati.net/book_format.html).
 #[unsafe(no_mangle)]
-pub extern "C" fn jatshegi_board_key(alloc: Global, slot: &mut Slot, key: &mut u64) -> u32
+pub extern "C" fn jatshegi_board_key(alloc: Kept, slot: &mut Slot, key: &mut u64) -> u32
     ensures { Asks (key.new ≡ key.old) (λ board code. (code ≡ 0) × (key.new ≡ polyglot_key (last (line_to board)))) slot.old.held result slot.new.held }
 {
     let Some(session) = take(slot, alloc) else {
@@ -57,7 +57,7 @@ fn named_by(setup: &Setup, book: &[u8], entry: usize) -> Option<Move>
 }
 
 // That move at the cursor, where it is legal.
-fn booked(board: &mut Board<'static, Global>, book: &[u8], entry: usize) -> Option<Move>
+fn booked(board: &mut Board<'static, Heap>, book: &[u8], entry: usize) -> Option<Move>
     requires { entry < entries_in book.now }
     ensures value { result ≡ booked book.now entry (last (line_to board.old)) }
     ensures as_before { board.new ≡ board.old }
@@ -68,7 +68,7 @@ fn booked(board: &mut Board<'static, Global>, book: &[u8], entry: usize) -> Opti
 
 // What an entry says at the cursor.
 fn put_booked(
-    board: &mut Board<'static, Global>,
+    board: &mut Board<'static, Heap>,
     book: &[u8],
     entry: usize,
     m: &mut CMove,
@@ -94,7 +94,7 @@ fn put_booked(
 /// The legal move that an entry of a book stands for, where its key is the position's, how often to play it and the number for a program's own use.
 #[unsafe(no_mangle)]
 pub extern "C" fn jatshegi_board_book_move(
-    alloc: Global,
+    alloc: Kept,
     slot: &mut Slot,
     book: &[u8],
     entry: usize,

@@ -1,8 +1,8 @@
 ghost use Rattle.std.specs.Prelude.{◌≡◌};
 ghost use Rattle.chess_c.specs.Codes.{claims_code, colour_code, colour_in, ended_code, refusal_code};
 
+use chess_bindings::{ARGUMENT, AT_ROOT, FORM, ILLEGAL, MEMORY, OK};
 use chess_cli::Refusal;
-use chess_slots::{ARGUMENT, AT_ROOT, FORM, ILLEGAL, MEMORY, OK};
 use chess_types::{Claims, Colour};
 
 /// The status of a refusal.

@@ -13,12 +13,12 @@ ghost use Rattle.chess_c.specs.Moves.{move_in};
 use crate::codes::ended_code;
 use crate::moves::CMove;
 use crate::slot::{Slot, put, take};
+use chess_bindings::EMPTY;
 use chess_cli::{Board, Refusal};
-use chess_slots::EMPTY;
-use std::alloc::Global;
+use chess_memory::{Heap, Kept};
 
 // Makes the move of three numbers.
-fn play(board: &mut Board<'static, Global>, m: CMove, added: &mut bool) -> Result<(), Refusal>
+fn play(board: &mut Board<'static, Heap>, m: CMove, added: &mut bool) -> Result<(), Refusal>
     ensures effect { HasEffect (is_new_in (move_in m) board.old) (play_in (move_in m) board.old) board.old result board.new }
     ensures adds { added.new ≡ (if is_ok result then is_new_in (move_in m) board.old else added.old) }
 {
@@ -30,11 +30,7 @@ fn play(board: &mut Board<'static, Global>, m: CMove, added: &mut bool) -> Resul
 }
 
 // Makes the move that a text names.
-fn play_text(
-    board: &mut Board<'static, Global>,
-    text: &[u8],
-    added: &mut bool,
-) -> Result<(), Refusal>
+fn play_text(board: &mut Board<'static, Heap>, text: &[u8], added: &mut bool) -> Result<(), Refusal>
     ensures effect { HasEffect (names_new board.old (san_reading (last (line_to board.old)) text.now)) (play_effect board.old (san_reading (last (line_to board.old)) text.now)) board.old result board.new }
     ensures adds { added.new ≡ (if is_ok result then names_new board.old (san_reading (last (line_to board.old)) text.now) else added.old) }
 {
@@ -45,7 +41,7 @@ fn play_text(
 /// Makes a move at the cursor: steps to the first child that has it, else to a new one, and says whether it added a node.
 #[unsafe(no_mangle)]
 pub extern "C" fn jatshegi_board_play(
-    alloc: Global,
+    alloc: Kept,
     slot: &mut Slot,
     m: CMove,
     added: &mut bool,
@@ -64,7 +60,7 @@ pub extern "C" fn jatshegi_board_play(
 /// Makes the move that a text names, in standard algebraic notation or from square to square, and says whether it added a node.
 #[unsafe(no_mangle)]
 pub extern "C" fn jatshegi_board_play_text(
-    alloc: Global,
+    alloc: Kept,
     slot: &mut Slot,
     text: &[u8],
     added: &mut bool,
@@ -82,7 +78,7 @@ pub extern "C" fn jatshegi_board_play_text(
 
 /// Takes a played move back: steps to the parent, and takes the node out that it leaves where it was added and nothing hangs on it.
 #[unsafe(no_mangle)]
-pub extern "C" fn jatshegi_board_undo(alloc: Global, slot: &mut Slot, added: bool) -> u32
+pub extern "C" fn jatshegi_board_undo(alloc: Kept, slot: &mut Slot, added: bool) -> u32
     ensures { Acts (λ board ended after. HasEffect false (not_at_root board.path (undone added board)) board ended after) slot.old.held result slot.new.held }
 {
     let Some(mut session) = take(slot, alloc) else {
@@ -95,7 +91,7 @@ pub extern "C" fn jatshegi_board_undo(alloc: Global, slot: &mut Slot, added: boo
 
 /// Steps to the parent: the node stays in the tree.
 #[unsafe(no_mangle)]
-pub extern "C" fn jatshegi_board_back(alloc: Global, slot: &mut Slot) -> u32
+pub extern "C" fn jatshegi_board_back(alloc: Kept, slot: &mut Slot) -> u32
     ensures { Acts (λ board ended after. HasEffect false (not_at_root board.path (at_path (parent board.path) board)) board ended after) slot.old.held result slot.new.held }
 {
     let Some(mut session) = take(slot, alloc) else {
@@ -108,7 +104,7 @@ pub extern "C" fn jatshegi_board_back(alloc: Global, slot: &mut Slot) -> u32
 
 /// Steps to a child, by its place among its siblings, from 0.
 #[unsafe(no_mangle)]
-pub extern "C" fn jatshegi_board_step(alloc: Global, slot: &mut Slot, place: u32) -> u32
+pub extern "C" fn jatshegi_board_step(alloc: Kept, slot: &mut Slot, place: u32) -> u32
     ensures { Acts (λ board ended after. HasEffect false (if_it_exists (nat_lt place (count (nodes_here board))) (at_path (board.path ++ place ∷ []) board)) board ended after) slot.old.held result slot.new.held }
 {
     let Some(mut session) = take(slot, alloc) else {
@@ -121,7 +117,7 @@ pub extern "C" fn jatshegi_board_step(alloc: Global, slot: &mut Slot, place: u32
 
 /// Goes to the root.
 #[unsafe(no_mangle)]
-pub extern "C" fn jatshegi_board_start(alloc: Global, slot: &mut Slot) -> u32
+pub extern "C" fn jatshegi_board_start(alloc: Kept, slot: &mut Slot) -> u32
     ensures { Acts (λ board ended after. HasEffect false (Does (at_path [] board)) board ended after) slot.old.held result slot.new.held }
 {
     let Some(mut session) = take(slot, alloc) else {
@@ -134,7 +130,7 @@ pub extern "C" fn jatshegi_board_start(alloc: Global, slot: &mut Slot) -> u32
 
 /// Goes along the main continuations, as far as they lead.
 #[unsafe(no_mangle)]
-pub extern "C" fn jatshegi_board_end(alloc: Global, slot: &mut Slot) -> u32
+pub extern "C" fn jatshegi_board_end(alloc: Kept, slot: &mut Slot) -> u32
     ensures { Acts (λ board ended after. HasEffect false (Does (at_path (board.path ++ main_line (nodes_here board)) board)) board ended after) slot.old.held result slot.new.held }
 {
     let Some(mut session) = take(slot, alloc) else {
@@ -147,7 +143,7 @@ pub extern "C" fn jatshegi_board_end(alloc: Global, slot: &mut Slot) -> u32
 
 /// Puts the node before its siblings.
 #[unsafe(no_mangle)]
-pub extern "C" fn jatshegi_board_promote(alloc: Global, slot: &mut Slot) -> u32
+pub extern "C" fn jatshegi_board_promote(alloc: Kept, slot: &mut Slot) -> u32
     ensures { Acts (λ board ended after. HasEffect false (not_at_root board.path (promoted_here board)) board ended after) slot.old.held result slot.new.held }
 {
     let Some(mut session) = take(slot, alloc) else {
@@ -160,7 +156,7 @@ pub extern "C" fn jatshegi_board_promote(alloc: Global, slot: &mut Slot) -> u32
 
 /// Takes out the node and all below it; the cursor is then at its parent.
 #[unsafe(no_mangle)]
-pub extern "C" fn jatshegi_board_delete(alloc: Global, slot: &mut Slot) -> u32
+pub extern "C" fn jatshegi_board_delete(alloc: Kept, slot: &mut Slot) -> u32
     ensures { Acts (λ board ended after. HasEffect false (not_at_root board.path (deleted board)) board ended after) slot.old.held result slot.new.held }
 {
     let Some(mut session) = take(slot, alloc) else {
@@ -173,7 +169,7 @@ pub extern "C" fn jatshegi_board_delete(alloc: Global, slot: &mut Slot) -> u32
 
 /// A text for the node's comment; the one that it had is forgotten.
 #[unsafe(no_mangle)]
-pub extern "C" fn jatshegi_board_comment(alloc: Global, slot: &mut Slot, comment: &[u8]) -> u32
+pub extern "C" fn jatshegi_board_comment(alloc: Kept, slot: &mut Slot, comment: &[u8]) -> u32
     ensures { Acts (λ board ended after. HasEffect (has_words comment.now) (comment_effect board comment.now) board ended after) slot.old.held result slot.new.held }
 {
     let Some(mut session) = take(slot, alloc) else {
@@ -186,7 +182,7 @@ pub extern "C" fn jatshegi_board_comment(alloc: Global, slot: &mut Slot, comment
 
 /// An annotation number more, 0 to 255 (PGN 8.2.4).
 #[unsafe(no_mangle)]
-pub extern "C" fn jatshegi_board_annotate(alloc: Global, slot: &mut Slot, number: u8) -> u32
+pub extern "C" fn jatshegi_board_annotate(alloc: Kept, slot: &mut Slot, number: u8) -> u32
     ensures { Acts (λ board ended after. HasEffect true (not_at_root board.path (annotated_here number board)) board ended after) slot.old.held result slot.new.held }
 {
     let Some(mut session) = take(slot, alloc) else {
@@ -199,7 +195,7 @@ pub extern "C" fn jatshegi_board_annotate(alloc: Global, slot: &mut Slot, number
 
 /// Takes all annotation numbers of the node out (PGN 8.2.4); no memory is taken.
 #[unsafe(no_mangle)]
-pub extern "C" fn jatshegi_board_clear_annotations(alloc: Global, slot: &mut Slot) -> u32
+pub extern "C" fn jatshegi_board_clear_annotations(alloc: Kept, slot: &mut Slot) -> u32
     ensures { Acts (λ board ended after. HasEffect false (not_at_root board.path (unannotated_here board)) board ended after) slot.old.held result slot.new.held }
 {
     let Some(mut session) = take(slot, alloc) else {

@@ -1,17 +1,17 @@
 ghost use Rattle.std.specs.Prelude.{◌≡◌, is_some};
-ghost use Rattle.chess_slots.specs.Within.{says_within};
+ghost use Rattle.chess_bindings.specs.Within.{says_within};
 ghost use Rattle.chess_c.specs.Calls.{IsEnded, IsInfinite, IsReplying, IsReplyingWithin, IsSearching, IsTimed, IsWaiting};
 
 use crate::flag::within;
 use crate::slot::{Slot, put, take};
 use crate::stop::{Stop, put_stop, take_stop};
-use chess_slots::{EMPTY, OK};
+use chess_bindings::{EMPTY, OK};
+use chess_memory::Kept;
 use chess_uci::Event;
-use std::alloc::Global;
 
 // What the engine in the slot replies to an event.
 fn happen(
-    alloc: Global,
+    alloc: Kept,
     slot: &mut Slot,
     event: Event<'_>,
     replies: &mut [u8],
@@ -30,7 +30,7 @@ fn happen(
 /// A line is read by the board's engine (UCI), which knows nothing of the board, without its line feed; the replies, each on a line of its own, at most 260 bytes.
 #[unsafe(no_mangle)]
 pub extern "C" fn jatshegi_engine_line(
-    alloc: Global,
+    alloc: Kept,
     slot: &mut Slot,
     line: &[u8],
     replies: &mut [u8],
@@ -44,7 +44,7 @@ pub extern "C" fn jatshegi_engine_line(
 /// There is time to search one root move more; the replies.
 #[unsafe(no_mangle)]
 pub extern "C" fn jatshegi_engine_slice(
-    alloc: Global,
+    alloc: Kept,
     slot: &mut Slot,
     replies: &mut [u8],
     count: &mut usize,
@@ -58,7 +58,7 @@ pub extern "C" fn jatshegi_engine_slice(
 /// position. Whether it was made, and how many positions were asked for; where it was abandoned, nothing is replied, and the engine is as before.
 #[unsafe(no_mangle)]
 pub extern "C" fn jatshegi_engine_slice_within(
-    alloc: Global,
+    alloc: Kept,
     slot: &mut Slot,
     nodes: u64,
     stop: &mut Stop,
@@ -83,7 +83,7 @@ pub extern "C" fn jatshegi_engine_slice_within(
 /// The clock reads so many milliseconds; the replies.
 #[unsafe(no_mangle)]
 pub extern "C" fn jatshegi_engine_moment(
-    alloc: Global,
+    alloc: Kept,
     slot: &mut Slot,
     moment: u64,
     replies: &mut [u8],
@@ -97,7 +97,7 @@ pub extern "C" fn jatshegi_engine_moment(
 /// Whether a search runs.
 #[unsafe(no_mangle)]
 pub extern "C" fn jatshegi_engine_searching(
-    alloc: Global,
+    alloc: Kept,
     slot: &mut Slot,
     searching: &mut bool,
 ) -> u32
@@ -113,11 +113,7 @@ pub extern "C" fn jatshegi_engine_searching(
 
 /// Whether an infinite search runs, one that ends by `stop` alone.
 #[unsafe(no_mangle)]
-pub extern "C" fn jatshegi_engine_infinite(
-    alloc: Global,
-    slot: &mut Slot,
-    infinite: &mut bool,
-) -> u32
+pub extern "C" fn jatshegi_engine_infinite(alloc: Kept, slot: &mut Slot, infinite: &mut bool) -> u32
     ensures { IsInfinite slot.old.held result infinite.old infinite.new slot.new.held }
 {
     let Some(session) = take(slot, alloc) else {
@@ -130,7 +126,7 @@ pub extern "C" fn jatshegi_engine_infinite(
 
 /// Whether the search that runs has done all that it has to do, and waits for `stop`.
 #[unsafe(no_mangle)]
-pub extern "C" fn jatshegi_engine_waiting(alloc: Global, slot: &mut Slot, waiting: &mut bool) -> u32
+pub extern "C" fn jatshegi_engine_waiting(alloc: Kept, slot: &mut Slot, waiting: &mut bool) -> u32
     ensures { IsWaiting slot.old.held result waiting.old waiting.new slot.new.held }
 {
     let Some(session) = take(slot, alloc) else {
@@ -143,7 +139,7 @@ pub extern "C" fn jatshegi_engine_waiting(alloc: Global, slot: &mut Slot, waitin
 
 /// Whether `quit` came.
 #[unsafe(no_mangle)]
-pub extern "C" fn jatshegi_engine_ended(alloc: Global, slot: &mut Slot, ended: &mut bool) -> u32
+pub extern "C" fn jatshegi_engine_ended(alloc: Kept, slot: &mut Slot, ended: &mut bool) -> u32
     ensures { IsEnded slot.old.held result ended.old ended.new slot.new.held }
 {
     let Some(session) = take(slot, alloc) else {
@@ -156,7 +152,7 @@ pub extern "C" fn jatshegi_engine_ended(alloc: Global, slot: &mut Slot, ended: &
 
 /// After how many milliseconds from the last moment the clock ends the search that runs.
 #[unsafe(no_mangle)]
-pub extern "C" fn jatshegi_engine_time_left(alloc: Global, slot: &mut Slot, left: &mut u64) -> u32
+pub extern "C" fn jatshegi_engine_time_left(alloc: Kept, slot: &mut Slot, left: &mut u64) -> u32
     ensures { IsTimed slot.old.held result left.old left.new slot.new.held }
 {
     let Some(session) = take(slot, alloc) else {

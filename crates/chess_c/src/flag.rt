@@ -1,8 +1,8 @@
 //! A flag by which one thread has the searches of another abandoned.
 ghost use Rattle.std.specs.Prelude.{◌≡◌, is_some};
 
-use chess_slots::Within;
-use std::alloc::Global;
+use chess_bindings::Within;
+use chess_memory::{Handle, Kept};
 use std::marker::Model;
 use std::sync::Arc;
 use std::sync::atomic::{AtomicBool, Ordering};
@@ -10,7 +10,7 @@ use std::sync::atomic::{AtomicBool, Ordering};
 /// A handle of a flag that any thread may set.
 #[derive(Drop)]
 pub struct Flag {
-    flag: Arc<AtomicBool, Global>,
+    flag: Arc<AtomicBool, Handle>,
 }
 
 impl Model for Flag {
@@ -21,8 +21,8 @@ impl Model for Flag {
 
 impl Flag {
     /// A flag that isn't set; `None` where there is no memory.
-    pub fn new(alloc: Global) -> Option<Flag> {
-        match Arc::new(alloc, AtomicBool::new(false)) {
+    pub fn new(handle: Handle) -> Option<Flag> {
+        match Arc::new(handle, AtomicBool::new(false)) {
             Ok(flag) => Some(Flag { flag }),
             Err(_) => None,
         }
@@ -43,7 +43,7 @@ impl Flag {
 }
 
 /// No more positions than so many, and the flag of a handle, if there is one.
-pub fn within(nodes: u64, flag: &Option<Box<Flag, Global>>) -> Within<'_>
+pub fn within(nodes: u64, flag: &Option<Box<Flag, Kept>>) -> Within<'_>
     ensures { (result.nodes ≡ nodes) × (is_some result.flag ≡ is_some flag.now) }
 {
     Within {

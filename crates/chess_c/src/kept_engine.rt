@@ -1,21 +1,21 @@
 //! A board's session of the engine, which takes memory once an event comes.
 ghost use Rattle.std.specs.Prelude.{◌≡◌, is_some, MatchOption};
-ghost use Rattle.chess_slots.specs.Within.{says_within};
+ghost use Rattle.chess_bindings.specs.Within.{says_within};
 ghost use Rattle.chess_uci.specs.Machine.{beginning, is_infinite, is_waiting, time_left};
 ghost use Rattle.chess_c.specs.Calls.{IsLeft};
 ghost use Rattle.chess_c.specs.Engines.{IsRepliedFrom, IsRepliedWithinFrom};
 
+use chess_bindings::{MEMORY, NONE, OK, Within, reply, reply_within};
 use chess_key::KeyTable;
-use chess_slots::{MEMORY, NONE, OK, Within, reply, reply_within};
+use chess_memory::{Handle, Heap, handle_to};
 use chess_uci::{Event, Session};
-use std::alloc::Global;
 use std::marker::Model;
 
 /// A session of the engine. Before its first event it takes no memory.
 #[derive(Drop)]
 pub struct Engine {
     // Nothing before the first event.
-    kept: Option<Box<Session<'static, Global>, Global>>,
+    kept: Option<Box<Session<'static, Heap>, Handle>>,
 }
 
 impl Model for Engine {
@@ -41,15 +41,15 @@ impl Engine {
     // The session itself, taken out; where there is none yet, one that begins. `None` where there is no memory for that.
     fn take(
         &mut self,
-        alloc: &'static Global,
+        alloc: &'static Heap,
         table: &'static KeyTable,
-    ) -> Option<Box<Session<'static, Global>, Global>>
+    ) -> Option<Box<Session<'static, Heap>, Handle>>
         ensures { MatchOption result ((self.old ≡ beginning) × (self.new ≡ self.old)) (λ kept. kept.value ≡ self.old) }
     {
         if let Some(kept) = self.kept.take() {
             return Some(kept);
         }
-        match Box::new(*alloc, Session::new(alloc, table)) {
+        match Box::new(handle_to(alloc), Session::new(alloc, table)) {
             Ok(made) => Some(made),
             Err(_) => None,
         }
@@ -58,7 +58,7 @@ impl Engine {
     /// What the event is replied, each reply on a line of its own; `MEMORY` where it is the first one, and there is no memory for the session.
     pub fn event(
         &mut self,
-        alloc: &'static Global,
+        alloc: &'static Heap,
         table: &'static KeyTable,
         event: Event<'_>,
         room: &mut [u8],
@@ -77,7 +77,7 @@ impl Engine {
     /// What a slice that may be abandoned is replied, each reply on a line of its own; `MEMORY` as at `event`.
     pub fn slice(
         &mut self,
-        alloc: &'static Global,
+        alloc: &'static Heap,
         table: &'static KeyTable,
         mut watch: Within<'_>,
         visited: &mut u64,

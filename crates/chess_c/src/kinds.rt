@@ -11,12 +11,12 @@ ghost use Rattle.chess_c.specs.Moves.{move_in};
 use crate::codes::colour_in;
 use crate::moves::CMove;
 use crate::slot::{Slot, put, take};
+use chess_bindings::{ARGUMENT, EMPTY, ILLEGAL, OK};
 use chess_cli::Board;
 use chess_draws::cannot_mate;
+use chess_memory::{Heap, Kept};
 use chess_play::{captured, is_en_passant};
-use chess_slots::{ARGUMENT, EMPTY, ILLEGAL, OK};
 use chess_types::{Move, Setup, Wing};
-use std::alloc::Global;
 
 // The number of a sort, where the move is of it.
 fn sort(is_one: bool, number: u32) -> u32
@@ -40,7 +40,7 @@ fn kinds_of(setup: &Setup, m: Move) -> u32
 }
 
 // The sorts of a legal move.
-fn put_kinds(board: &mut Board<'static, Global>, m: CMove, kinds: &mut u32) -> u32
+fn put_kinds(board: &mut Board<'static, Heap>, m: CMove, kinds: &mut u32) -> u32
     ensures value { IsOfKinds (move_in m) (last (line_to board.old)) result kinds.old kinds.new }
     ensures as_before { board.new ≡ board.old }
 {
@@ -58,7 +58,7 @@ fn put_kinds(board: &mut Board<'static, Global>, m: CMove, kinds: &mut u32) -> u
 /// a move of a pawn (FIDE Laws 3.1, 3.7.3.1, 3.8.2).
 #[unsafe(no_mangle)]
 pub extern "C" fn jatshegi_board_kinds(
-    alloc: Global,
+    alloc: Kept,
     slot: &mut Slot,
     m: CMove,
     kinds: &mut u32,
@@ -85,10 +85,10 @@ fn put_unable(setup: &Setup, side: u8, is_unable: &mut bool) -> u32
 }
 
 /// Whether a side, 0 for White and 1 for Black, can't mate any more by any series of legal moves: it has only its king, or the position is dead (FIDE Laws 5.2.2,
-/// 6.9; `mating_laws` of `chess_laws`). `false` doesn't say that it can.
+/// 6.9; `mating_laws` of `chess_theorems`). `false` doesn't say that it can.
 #[unsafe(no_mangle)]
 pub extern "C" fn jatshegi_board_cannot_mate(
-    alloc: Global,
+    alloc: Kept,
     slot: &mut Slot,
     side: u8,
     is_unable: &mut bool,

@@ -2,7 +2,8 @@
 //!
 //! `include/jatshegi.h` declares them. A slot holds a board or nothing; every function returns a status, of which 0 is success and 1 an empty
 //! slot (`specs/Codes.antt`). Contracts say both by two relations of `specs/Calls.antt`: `Asks` of a call that leaves the board as it was, `Acts` of
-//! one that may change it. A `Global` is C's `malloc`, `realloc` and `free`; C passes nothing for it.
+//! one that may change it. `chess_memory` says where the memory comes from: from C's `malloc`, `realloc` and `free`, for which C passes nothing; or, in
+//! WebAssembly, from what the page lends (`docs/WEB.md`).
 #![tactic(auto)]
 
 mod asked;

@@ -10,51 +10,46 @@ use crate::codes::ended_code;
 use crate::keys::Keys;
 use crate::positions::CPosition;
 use crate::session::Session;
-use crate::slot::{Slot, put, take};
+use crate::slot::{Slot, put, settle, take};
+use chess_bindings::{EMPTY, MEMORY, OK};
 use chess_cli::{Board, Refusal};
-use chess_slots::{EMPTY, MEMORY, OK};
-use std::alloc::Global;
+use chess_memory::{Heap, Kept, Lender, handle_to, heap_of};
 
 /// A board as a game begins, in the slot; what was there is freed. Where there is no memory the slot is as it was.
 #[unsafe(no_mangle)]
-pub extern "C" fn jatshegi_board_new(alloc: Global, keys: &'static Keys, slot: &mut Slot) -> u32
+pub extern "C" fn jatshegi_board_new(lender: Lender, keys: &'static Keys, slot: &mut Slot) -> u32
     ensures { ((result ≡ 0) × (slot.new.held ≡ Some beginning)) ⊎ ((result ≡ 2) × (slot.new.held ≡ slot.old.held)) }
 {
-    let Ok(session) = Session::new(&keys.heap, &keys.table) else {
+    let Some(heap) = heap_of(lender, &keys.heap) else {
         return MEMORY;
     };
-    let Ok(kept) = Box::new(alloc, session) else {
+    let Ok(session) = Session::new(heap, &keys.table) else {
         return MEMORY;
     };
-    put(slot, kept, alloc);
-    OK
+    settle(slot, session, handle_to(heap))
 }
 
 /// Puts a copy of the board into the other slot: the same game with its tags, at the same node, no search, and an engine at its start; what was there is freed.
 /// Where there is no memory the other slot is as it was.
 #[unsafe(no_mangle)]
-pub extern "C" fn jatshegi_board_copy(alloc: Global, slot: &mut Slot, other: &mut Slot) -> u32
+pub extern "C" fn jatshegi_board_copy(alloc: Kept, slot: &mut Slot, other: &mut Slot) -> u32
     ensures copied { IsCopied slot.old.held result other.old.held other.new.held }
     ensures same { slot.new.held ≡ slot.old.held }
 {
     let Some(session) = take(slot, alloc) else {
         return EMPTY;
     };
-    let copied = session.copy();
+    let (copied, handle) = (session.copy(), session.handle());
     put(slot, session, alloc);
-    let Ok(copy) = copied else {
-        return MEMORY;
-    };
-    let Ok(kept) = Box::new(alloc, copy) else {
-        return MEMORY;
-    };
-    put(other, kept, alloc);
-    OK
+    match copied {
+        Ok(copy) => settle(other, copy, handle),
+        Err(_) => MEMORY,
+    }
 }
 
 /// Frees the board; the slot is then empty.
 #[unsafe(no_mangle)]
-pub extern "C" fn jatshegi_board_free(alloc: Global, slot: &mut Slot)
+pub extern "C" fn jatshegi_board_free(alloc: Kept, slot: &mut Slot)
     ensures { slot.new.held ≡ None }
 {
     drop(take(slot, alloc));
@@ -63,7 +58,7 @@ pub extern "C" fn jatshegi_board_free(alloc: Global, slot: &mut Slot)
 /// Gives back what memory the board doesn't need between calls: the page on which the answers to lines are written, which the next line asks for again. The
 /// board, its search and its engine stay as they are.
 #[unsafe(no_mangle)]
-pub extern "C" fn jatshegi_board_trim(alloc: Global, slot: &mut Slot) -> u32
+pub extern "C" fn jatshegi_board_trim(alloc: Kept, slot: &mut Slot) -> u32
     ensures code { result ≡ (if is_some slot.old.held then 0 else 1) }
     ensures same { slot.new.held ≡ slot.old.held }
 {
@@ -77,7 +72,7 @@ pub extern "C" fn jatshegi_board_trim(alloc: Global, slot: &mut Slot) -> u32
 
 /// Begins a tree from the position of a FEN; the one that was there is freed.
 #[unsafe(no_mangle)]
-pub extern "C" fn jatshegi_board_set(alloc: Global, slot: &mut Slot, fen: &[u8]) -> u32
+pub extern "C" fn jatshegi_board_set(alloc: Kept, slot: &mut Slot, fen: &[u8]) -> u32
     ensures { Acts (λ board ended after. HasEffect true (set_effect (fen_reading fen.now)) board ended after) slot.old.held result slot.new.held }
 {
     let Some(mut session) = take(slot, alloc) else {
@@ -89,7 +84,7 @@ pub extern "C" fn jatshegi_board_set(alloc: Global, slot: &mut Slot, fen: &[u8])
 }
 
 // The same of a position by its fields: its FEN reads as it.
-fn set_position(board: &mut Board<'static, Global>, position: &CPosition) -> Result<(), Refusal>
+fn set_position(board: &mut Board<'static, Heap>, position: &CPosition) -> Result<(), Refusal>
     ensures { HasEffect true (set_effect (position_in position.now)) board.old result board.new }
 {
     let made = position.read()?;
@@ -100,7 +95,7 @@ fn set_position(board: &mut Board<'static, Global>, position: &CPosition) -> Res
 /// without its king and its rook at home and a target that no advance explains, is a fault (PGN 16.1.3).
 #[unsafe(no_mangle)]
 pub extern "C" fn jatshegi_board_set_position(
-    alloc: Global,
+    alloc: Kept,
     slot: &mut Slot,
     position: &CPosition,
 ) -> u32
@@ -119,7 +114,7 @@ pub extern "C" fn jatshegi_board_set_position(
 /// there is no memory, and nothing is written. But for 0 the board is as it was.
 #[unsafe(no_mangle)]
 pub extern "C" fn jatshegi_board_load(
-    alloc: Global,
+    alloc: Kept,
     slot: &mut Slot,
     text: &[u8],
     used: &mut usize,
@@ -138,7 +133,7 @@ pub extern "C" fn jatshegi_board_load(
 /// many bytes it takes: 0. Else the board is as it was, and it is answered as by `jatshegi_game_next`.
 #[unsafe(no_mangle)]
 pub extern "C" fn jatshegi_board_load_next(
-    alloc: Global,
+    alloc: Kept,
     slot: &mut Slot,
     text: &[u8],
     is_last: bool,

@@ -1,11 +1,11 @@
 ghost use Rattle.std.specs.Prelude.{◌≡◌, ◌≤◌, ◌++◌, drop, length, map};
-ghost use Rattle.chess_slots.specs.Handed.{IsHanded};
+ghost use Rattle.chess_bindings.specs.Handed.{IsHanded};
 ghost use Rattle.chess_c.specs.Moves.{IsParsed, IsSpelled, move_in, promotion_code, promotion_in, shown};
 
+use chess_bindings::{ARGUMENT, FORM, OK, ROOM, hand};
 use chess_draws::Line;
-use chess_slots::{ARGUMENT, FORM, OK, ROOM, hand};
+use chess_memory::Heap;
 use chess_types::{Kind, Move, Square};
-use std::alloc::Global;
 
 /// A move, as C sees it.
 #[repr(C)]
@@ -95,7 +95,7 @@ pub fn hand_moves(moves: &[Move], room: &mut [CMove], count: &mut usize) -> u32
 }
 
 // Puts the moves of a line first in a room that is large enough.
-fn put_line(line: &Line<'static, &'static Global>, room: &mut [CMove])
+fn put_line(line: &Line<'static, &'static Heap>, room: &mut [CMove])
     requires still { line.now.looked ≡ 0 }
     requires room { length line.now.line.moves ≤ length room.old }
     ensures { room.new ≡ map shown line.now.line.moves ++ drop (length line.now.line.moves) room.old }
@@ -109,11 +109,7 @@ fn put_line(line: &Line<'static, &'static Global>, room: &mut [CMove])
 }
 
 /// The same of the moves of a line.
-pub fn hand_line(
-    line: &Line<'static, &'static Global>,
-    room: &mut [CMove],
-    count: &mut usize,
-) -> u32
+pub fn hand_line(line: &Line<'static, &'static Heap>, room: &mut [CMove], count: &mut usize) -> u32
     requires { line.now.looked ≡ 0 }
     ensures { IsHanded (map shown line.now.line.moves) result count.new room.old room.new }
 {

@@ -2,19 +2,19 @@
 ghost use Rattle.std.specs.Prelude.{◌≡◌, length};
 ghost use Rattle.chess_tree.specs.Forest.{count};
 ghost use Rattle.chess_tree.specs.GameTree.{here, nodes_here};
-ghost use Rattle.chess_slots.specs.Handed.{IsHanded};
+ghost use Rattle.chess_bindings.specs.Handed.{IsHanded};
 ghost use Rattle.chess_c.specs.Asked.{IsMoveHere};
 ghost use Rattle.chess_c.specs.Calls.{Asks};
 
 use crate::moves::CMove;
 use crate::slot::{Slot, put, take};
+use chess_bindings::{AT_ROOT, EMPTY, OK, hand};
 use chess_cli::Board;
-use chess_slots::{AT_ROOT, EMPTY, OK, hand};
-use std::alloc::Global;
+use chess_memory::{Heap, Kept};
 
 /// How many plies the cursor is below the root, at most 20,000.
 #[unsafe(no_mangle)]
-pub extern "C" fn jatshegi_board_depth(alloc: Global, slot: &mut Slot, depth: &mut u32) -> u32
+pub extern "C" fn jatshegi_board_depth(alloc: Kept, slot: &mut Slot, depth: &mut u32) -> u32
     ensures { Asks (depth.new ≡ depth.old) (λ board code. (code ≡ 0) × (depth.new ≡ length board.path)) slot.old.held result slot.new.held }
 {
     let Some(session) = take(slot, alloc) else {
@@ -27,7 +27,7 @@ pub extern "C" fn jatshegi_board_depth(alloc: Global, slot: &mut Slot, depth: &m
 
 /// How many children the node at the cursor has, at most 1,000,000.
 #[unsafe(no_mangle)]
-pub extern "C" fn jatshegi_board_children(alloc: Global, slot: &mut Slot, children: &mut u32) -> u32
+pub extern "C" fn jatshegi_board_children(alloc: Kept, slot: &mut Slot, children: &mut u32) -> u32
     ensures { Asks (children.new ≡ children.old) (λ board code. (code ≡ 0) × (children.new ≡ count (nodes_here board))) slot.old.held result slot.new.held }
 {
     let Some(session) = take(slot, alloc) else {
@@ -39,7 +39,7 @@ pub extern "C" fn jatshegi_board_children(alloc: Global, slot: &mut Slot, childr
 }
 
 // The move that led to the cursor.
-fn move_here(board: &Board<'static, Global>, m: &mut CMove) -> u32
+fn move_here(board: &Board<'static, Heap>, m: &mut CMove) -> u32
     ensures { IsMoveHere (here board.now).move result m.old m.new }
 {
     match board.tree().move_at() {
@@ -53,7 +53,7 @@ fn move_here(board: &Board<'static, Global>, m: &mut CMove) -> u32
 
 /// The move that leads to the node at the cursor.
 #[unsafe(no_mangle)]
-pub extern "C" fn jatshegi_board_move(alloc: Global, slot: &mut Slot, m: &mut CMove) -> u32
+pub extern "C" fn jatshegi_board_move(alloc: Kept, slot: &mut Slot, m: &mut CMove) -> u32
     ensures { Asks (m.new ≡ m.old) (λ board code. IsMoveHere (here board).move code m.old m.new) slot.old.held result slot.new.held }
 {
     let Some(session) = take(slot, alloc) else {
@@ -67,7 +67,7 @@ pub extern "C" fn jatshegi_board_move(alloc: Global, slot: &mut Slot, m: &mut CM
 /// The comment of the node at the cursor, which is empty where there is none (PGN 5).
 #[unsafe(no_mangle)]
 pub extern "C" fn jatshegi_board_comment_of(
-    alloc: Global,
+    alloc: Kept,
     slot: &mut Slot,
     text: &mut [u8],
     count: &mut usize,
@@ -85,7 +85,7 @@ pub extern "C" fn jatshegi_board_comment_of(
 /// The annotation numbers of the node at the cursor, in the order in which they were added (PGN 8.2.4).
 #[unsafe(no_mangle)]
 pub extern "C" fn jatshegi_board_annotations_of(
-    alloc: Global,
+    alloc: Kept,
     slot: &mut Slot,
     numbers: &mut [u8],
     count: &mut usize,

@@ -10,19 +10,20 @@ ghost use Rattle.chess_c.specs.Asked.{AsksWithin};
 ghost use Rattle.chess_c.specs.Searches.{begun, left, next_if, next_size, one_more, so_far};
 
 use arrayvec::ArrayVec;
+use chess_bindings::cursor_line;
 use chess_draws::Line;
 use chess_key::KeyTable;
+use chess_memory::{Handle, Heap};
 use chess_search::{Nodes, Slices, Watch, best_within};
-use chess_slots::cursor_line;
 use chess_tree::Tree;
 use chess_types::Move;
-use std::alloc::{AllocError, Allocator, Global};
+use std::alloc::{AllocError, Allocator};
 use std::marker::Model;
 
 /// A search of all legal moves of a line's last position at one depth, one root at a time. The line is its own.
 #[derive(Drop)]
 pub struct Search {
-    line: Line<'static, Global>,
+    line: Line<'static, Handle>,
     slices: Slices,
 }
 
@@ -66,16 +67,16 @@ impl Search {
     ///
     /// Want of memory for the line.
     pub fn start(
-        alloc: Global,
+        handle: Handle,
         table: &'static KeyTable,
-        tree: &Tree<'_, Global>,
+        tree: &Tree<'_, Heap>,
         depth: u8,
     ) -> Result<Option<Search>, AllocError>
         requires deep { 1 ≤ depth }
         requires shallow { depth ≤ 16 }
         ensures { IfOk result (λ found. MatchOption found (roots (line_to tree.now) ≡ []) (λ search. (search ≡ begun depth (line_to tree.now)) × (0 < length (roots (line_to tree.now))))) }
     {
-        let mut line = cursor_line(alloc, table, tree)?;
+        let mut line = cursor_line(handle, table, tree)?;
         let legal = line.moves();
         if legal.is_empty() {
             return Ok(None);

@@ -1,31 +1,31 @@
 ghost use Rattle.std.specs.Prelude.{◌≡◌, is_some};
-ghost use Rattle.chess_slots.specs.Within.{says_within};
+ghost use Rattle.chess_bindings.specs.Within.{says_within};
 ghost use Rattle.chess_c.specs.Searches.{IsBegun, IsEnded, IsSliced, IsSlicedWithin, IsSoFar};
 
 use crate::flag::within;
 use crate::moves::CMove;
 use crate::slot::{Slot, put, take};
 use crate::stop::{Stop, put_stop, take_stop};
-use chess_slots::{EMPTY, OK};
-use std::alloc::Global;
+use chess_bindings::{EMPTY, OK};
+use chess_memory::Kept;
 
 /// Begins a search of the position at the cursor, 1 to 16 plies deep; another one of the board's is ended. Nothing is searched yet. The search has a line
 /// of its own, so the board may be used meanwhile.
 #[unsafe(no_mangle)]
-pub extern "C" fn jatshegi_search_start(alloc: Global, slot: &mut Slot, depth: u8) -> u32
+pub extern "C" fn jatshegi_search_start(alloc: Kept, slot: &mut Slot, depth: u8) -> u32
     ensures { IsBegun depth slot.old.held result slot.new.held }
 {
     let Some(mut session) = take(slot, alloc) else {
         return EMPTY;
     };
-    let code = session.begin(alloc, depth);
+    let code = session.begin(depth);
     put(slot, session, alloc);
     code
 }
 
 /// Searches one legal move more, and says how many are left; at 0 the search is done, and a further call searches nothing.
 #[unsafe(no_mangle)]
-pub extern "C" fn jatshegi_search_slice(alloc: Global, slot: &mut Slot, left: &mut usize) -> u32
+pub extern "C" fn jatshegi_search_slice(alloc: Kept, slot: &mut Slot, left: &mut usize) -> u32
     ensures { IsSliced slot.old.held result left.old left.new slot.new.held }
 {
     let Some(mut session) = take(slot, alloc) else {
@@ -40,7 +40,7 @@ pub extern "C" fn jatshegi_search_slice(alloc: Global, slot: &mut Slot, left: &m
 /// at a 1,024th position. How many positions were asked for is written then, too, and the search is as before.
 #[unsafe(no_mangle)]
 pub extern "C" fn jatshegi_search_slice_within(
-    alloc: Global,
+    alloc: Kept,
     slot: &mut Slot,
     nodes: u64,
     stop: &mut Stop,
@@ -64,7 +64,7 @@ pub extern "C" fn jatshegi_search_slice_within(
 /// it is the position's best move at that depth.
 #[unsafe(no_mangle)]
 pub extern "C" fn jatshegi_search_best(
-    alloc: Global,
+    alloc: Kept,
     slot: &mut Slot,
     m: &mut CMove,
     value: &mut i32,
@@ -81,7 +81,7 @@ pub extern "C" fn jatshegi_search_best(
 
 /// Ends the search, and frees what it had.
 #[unsafe(no_mangle)]
-pub extern "C" fn jatshegi_search_end(alloc: Global, slot: &mut Slot) -> u32
+pub extern "C" fn jatshegi_search_end(alloc: Kept, slot: &mut Slot) -> u32
     ensures { IsEnded slot.old.held result slot.new.held }
 {
     let Some(mut session) = take(slot, alloc) else {

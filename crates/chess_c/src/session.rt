@@ -2,44 +2,44 @@
 ghost use Rattle.std.specs.Prelude.{◌≡◌, ◌≤◌, [], IfOk, IfSome, is_some};
 ghost use Rattle.chess_tree.specs.GameTree.{line_to};
 ghost use Rattle.chess_pgn.specs.Written.{game_text};
-ghost use Rattle.chess_slots.specs.Answers.{IsTold};
-ghost use Rattle.chess_slots.specs.Handed.{IsAnsweredBy};
-ghost use Rattle.chess_slots.specs.Within.{says_within};
+ghost use Rattle.chess_bindings.specs.Answers.{IsLineAnswered};
+ghost use Rattle.chess_bindings.specs.Handed.{IsAnsweredBy};
+ghost use Rattle.chess_bindings.specs.Within.{says_within};
 ghost use Rattle.chess_c.specs.Asked.{IsBest, IsBestWithin};
 ghost use Rattle.chess_c.specs.Calls.{IsLeft};
 ghost use Rattle.chess_uci.specs.Machine.{is_infinite, is_waiting, time_left};
 ghost use Rattle.chess_c.specs.Engines.{IsRepliedFrom, IsRepliedWithinFrom};
 ghost use Rattle.chess_c.specs.Held.{beginning, copy_of};
-ghost use Rattle.chess_slots.specs.Loads.{LoadsFrom};
-ghost use Rattle.chess_slots.specs.Next.{LoadsNext};
+ghost use Rattle.chess_bindings.specs.Loads.{LoadsFrom};
+ghost use Rattle.chess_bindings.specs.Next.{LoadsNext};
 ghost use Rattle.chess_c.specs.Searches.{IsBegunFrom, SlicedFrom, SlicedWithinFrom, best_of};
 
 use crate::kept_engine::Engine;
 use crate::moves::CMove;
 use crate::search::{Search, best_of_all};
-use chess_cli::Board;
-use chess_key::KeyTable;
-use chess_loop::OutputBuffer;
-use chess_search::Nodes;
-use chess_slots::{
+use chess_bindings::{
     ABANDONED, ARGUMENT, Heading, MEMORY, NONE, OK, Within, answer, cursor_line, load, load_next,
     whole_game,
 };
+use chess_cli::Board;
+use chess_key::KeyTable;
+use chess_loop::OutputBuffer;
+use chess_memory::{Handle, Heap, handle_to};
+use chess_search::Nodes;
 use chess_tree::TreeFault;
 use chess_types::Move;
 use chess_uci::Event;
-use std::alloc::Global;
 use std::marker::Model;
 
 /// A board, a search and an engine whose allocator and keys stay for good. A search takes memory once it is begun, an engine once an event comes, and the page once a
 /// line is answered; it is empty between calls.
 #[derive(Drop)]
 pub struct Session {
-    pub board: Board<'static, Global>,
-    pub heading: Heading<'static, Global>,
-    pub search: Option<Box<Search, Global>>,
+    pub board: Board<'static, Heap>,
+    pub heading: Heading<'static, Heap>,
+    pub search: Option<Box<Search, Handle>>,
     engine: Engine,
-    page: Option<OutputBuffer<Global>>,
+    page: Option<OutputBuffer<Handle>>,
     table: &'static KeyTable,
 }
 
@@ -72,7 +72,7 @@ fn hand_best(best: Option<(Move, i32)>, m: &mut CMove, value: &mut i32) -> u32
 
 impl Session {
     /// A board as a game begins, and an engine at its start; `Memory` where there is none.
-    pub fn new(alloc: &'static Global, table: &'static KeyTable) -> Result<Session, TreeFault>
+    pub fn new(alloc: &'static Heap, table: &'static KeyTable) -> Result<Session, TreeFault>
         ensures { IfOk result (λ s. s ≡ beginning) }
     {
         let board = Board::new(alloc, table)?;
@@ -102,15 +102,20 @@ impl Session {
         })
     }
 
+    /// What it takes memory by.
+    pub fn handle(&self) -> Handle {
+        handle_to(self.heading.alloc())
+    }
+
     // The page, taken out; where there is none yet, another one. `None` where there is no memory for that.
-    fn take_page(&mut self, alloc: Global) -> Option<OutputBuffer<Global>>
+    fn take_page(&mut self) -> Option<OutputBuffer<Handle>>
         ensures empty { IfSome result (λ page. page ≡ []) }
         ensures as_before { self.new ≡ self.old }
     {
         if let Some(page) = self.page.take() {
             return Some(page);
         }
-        match OutputBuffer::new(alloc) {
+        match OutputBuffer::new(self.handle()) {
             Ok(page) => Some(page),
             Err(_) => None,
         }
@@ -125,16 +130,17 @@ impl Session {
 
     /// Answers a line, and hands out the text: 0, or `ROOM` where it is longer than the room for it; the line has been answered all the same. Or `MEMORY` where
     /// there is none for the page or to gather the answer in: all is as before.
-    pub fn answer(&mut self, alloc: Global, line: &[u8], room: &mut [u8], count: &mut usize) -> u32
-        ensures board { IsTold self.old.board line.now result count.old count.new room.old room.new self.new.board }
+    pub fn answer(&mut self, line: &[u8], room: &mut [u8], count: &mut usize) -> u32
+        ensures board { IsLineAnswered self.old.board line.now result count.old count.new room.old room.new self.new.board }
         ensures heading { self.new.heading ≡ self.old.heading }
         ensures search { self.new.search ≡ self.old.search }
         ensures engine { self.new.engine ≡ self.old.engine }
     {
-        let Some(mut page) = self.take_page(alloc) else {
+        let handle = self.handle();
+        let Some(mut page) = self.take_page() else {
             return MEMORY;
         };
-        let code = answer(&mut self.board, &mut page, alloc, line, room, count);
+        let code = answer(&mut self.board, &mut page, handle, line, room, count);
         self.page = Some(page);
         code
     }
@@ -211,7 +217,7 @@ impl Session {
         self.engine.time_left(left)
     }
 
-    /// Begins with the game at the start of a text, and says how many bytes of the text it takes; else what `load` of chess_slots answers of the text.
+    /// Begins with the game at the start of a text, and says how many bytes of the text it takes; else what `load` of chess_bindings answers of the text.
     pub fn load(&mut self, text: &[u8], used: &mut usize) -> u32
         ensures board { LoadsFrom text.now self.old.board self.old.heading result used.old used.new self.new.board self.new.heading }
         ensures search { self.new.search ≡ self.old.search }
@@ -230,7 +236,7 @@ impl Session {
     }
 
     /// Begins a search of the position at the cursor; one that was there is ended.
-    pub fn begin(&mut self, alloc: Global, depth: u8) -> u32
+    pub fn begin(&mut self, depth: u8) -> u32
         ensures search { IsBegunFrom depth self.old.board result self.old.search self.new.search }
         ensures board { self.new.board ≡ self.old.board }
         ensures heading { self.new.heading ≡ self.old.heading }
@@ -239,9 +245,10 @@ impl Session {
         if depth < 1 || depth > 16 {
             return ARGUMENT;
         }
-        match Search::start(alloc, self.table, self.board.tree(), depth) {
+        let handle = self.handle();
+        match Search::start(handle, self.table, self.board.tree(), depth) {
             Ok(Some(search)) => {
-                let Ok(kept) = Box::new(alloc, search) else {
+                let Ok(kept) = Box::new(handle, search) else {
                     return MEMORY;
                 };
                 self.search = Some(kept);
@@ -292,7 +299,6 @@ impl Session {
     /// The best move of the position at the cursor at a depth of 1 to 16 plies, unless the search for it is abandoned; on a line of its own.
     pub fn best_within(
         &self,
-        alloc: Global,
         depth: u8,
         mut watch: Within<'_>,
         m: &mut CMove,
@@ -305,7 +311,7 @@ impl Session {
         if depth < 1 || depth > 16 {
             return ARGUMENT;
         }
-        let Ok(mut line) = cursor_line(alloc, self.table, self.board.tree()) else {
+        let Ok(mut line) = cursor_line(self.handle(), self.table, self.board.tree()) else {
             return MEMORY;
         };
         let legal = line.moves();

@@ -1,14 +1,14 @@
 //! Where C keeps a handle of a flag: a pointer, or nothing.
 ghost use Rattle.std.specs.Prelude.{◌≡◌, Option, Some, None, is_some, MatchOption};
-ghost use Rattle.chess_slots.specs.Slots.{slot_owns};
-ghost use Rattle.chess_c.specs.Slots.{may_free};
+ghost use Rattle.chess_bindings.specs.Slots.{slot_owns};
+ghost use Rattle.chess_memory.specs.Kept.{may_free};
 ghost use Rattle.chess_c.specs.contracts.flag.Flag.{the_row};
 ghost use Rattle.std.specs.Coded.{coded_option};
 ghost use base.Stored.{coded_unit};
 
 use crate::flag::Flag;
-use chess_slots::Loose;
-use std::alloc::Global;
+use chess_bindings::Loose;
+use chess_memory::Kept;
 use std::marker::Model;
 use std::mem::replace;
 use std::ptr::null_mut;
@@ -38,13 +38,13 @@ impl Stop {
         }
     }
 
-    fn of(value: Box<Flag, Global>) -> Stop
+    fn of(value: Box<Flag, Kept>) -> Stop
         ensures { result.held ≡ Some value.value }
     {
         Stop::filled(Loose::of(value))
     }
 
-    fn into_box(self, alloc: Global) -> Option<Box<Flag, Global>>
+    fn into_box(self, alloc: Kept) -> Option<Box<Flag, Kept>>
         ensures { MatchOption result (self.held ≡ None) (λ b. self.held ≡ Some b.value) }
     {
         match self.loose(alloc) {
@@ -53,7 +53,7 @@ impl Stop {
         }
     }
 
-    fn filled(loose: Loose<Flag, Global>) -> Stop
+    fn filled(loose: Loose<Flag, Kept>) -> Stop
         ensures { result.held ≡ Some loose.value }
     {
         let Loose { at, alloc: _ } = loose;
@@ -63,7 +63,7 @@ impl Stop {
         }
     }
 
-    fn loose(self, alloc: Global) -> Option<Loose<Flag, Global>>
+    fn loose(self, alloc: Kept) -> Option<Loose<Flag, Kept>>
         ensures { MatchOption result (self.held ≡ None) (λ l. self.held ≡ Some l.value) }
     {
         let Stop { full, at } = self;
@@ -79,7 +79,7 @@ impl Stop {
 }
 
 /// The handle; there is none then.
-pub fn take_stop(stop: &mut Stop, alloc: Global) -> Option<Box<Flag, Global>>
+pub fn take_stop(stop: &mut Stop, alloc: Kept) -> Option<Box<Flag, Kept>>
     ensures held { is_some result ≡ is_some stop.old.held }
     ensures value { MatchOption result (stop.old.held ≡ None) (λ b. stop.old.held ≡ Some b.value) }
     ensures left { stop.new.held ≡ None }
@@ -88,7 +88,7 @@ pub fn take_stop(stop: &mut Stop, alloc: Global) -> Option<Box<Flag, Global>>
 }
 
 /// Puts a handle there; what was there is freed.
-pub fn put_stop(stop: &mut Stop, flag: Option<Box<Flag, Global>>, alloc: Global)
+pub fn put_stop(stop: &mut Stop, flag: Option<Box<Flag, Kept>>, alloc: Kept)
     ensures { is_some stop.new.held ≡ is_some flag }
 {
     let made = match flag {

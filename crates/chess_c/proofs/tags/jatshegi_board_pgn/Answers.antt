@@ -1,6 +1,6 @@
 use Rattle.std.proofs.Common.{rules, subst}
 use Rattle.chess_pgn.specs.Written.{game_text}
-use Rattle.chess_slots.specs.Handed.{IsAnsweredBy}
+use Rattle.chess_bindings.specs.Handed.{IsAnsweredBy}
 use Rattle.chess_c.specs.Held.{Held}
 use Rattle.chess_c.proofs.CallLemmas.{asks_heading}
 use Rattle.chess_c.proofs.tags.jatshegi_board_pgn.Goals as goal

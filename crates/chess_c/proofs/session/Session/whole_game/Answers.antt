@@ -1,6 +1,6 @@
 use Rattle.std.proofs.Common.{subst}
 use Rattle.chess_pgn.specs.Written.{game_text}
-use Rattle.chess_slots.specs.Handed.{IsAnsweredBy}
+use Rattle.chess_bindings.specs.Handed.{IsAnsweredBy}
 use Rattle.chess_tree.specs.GameTree.{TreeParts}
 use Rattle.chess_c.specs.Held.{Held}
 use Rattle.chess_c.proofs.session.Session.whole_game.Goals as goal

@@ -9,8 +9,8 @@ use denote.Struct.Owning.{shape, fields, to}
 use denote.Param.Send.{IsSend, AllSend, owning_send, struct_send, sendable}
 use Rattle.std.proofs.Crossing as heap
 use Rattle.std_alloc.proofs.SendSync.{quiet, lies}
-use Rattle.chess_slots.specs.Slots.{slot_owns}
-use Rattle.chess_c.specs.Slots.{may_free}
+use Rattle.chess_bindings.specs.Slots.{slot_owns}
+use Rattle.chess_memory.specs.Kept.{may_free}
 use Rattle.chess_c.specs.contracts.session.Session as session
 use Rattle.chess_c.proofs.session.Session.TheSendSync.{the_send as session_send}
 use Rattle.chess_c.specs.contracts.slot.Slot.{the_row, the_type}

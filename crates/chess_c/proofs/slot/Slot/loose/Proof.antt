@@ -26,14 +26,12 @@ use Rattle.core.proofs.atomic.Steps.{Ptr-Good}
 use Rattle.core.proofs.option.Made.{Some-of, none_of}
 use Rattle.std_alloc.proofs.ResultValues.{and_tt}
 use Rattle.std.proofs.raw_atomic.Walks.{proved_at, leaves}
-use Rattle.chess_slots.proofs.Values.{al, both, Loose, loose_good, loose_in}
-use Rattle.chess_slots.proofs.SlotValues.{slot_val, slot_out, slot_cases}
-use Rattle.std.specs.contracts.alloc.Global as heap
-use Rattle.std.proofs.alloc.Global.TheLaws as heap_laws
-use Rattle.std.specs.contracts.impls.GlobalAllocator.TheImpl as heap_impl
+use Rattle.chess_bindings.proofs.Values.{al, both, Loose, loose_good, loose_in}
+use Rattle.chess_bindings.proofs.SlotValues.{slot_val, slot_out, slot_cases}
+use Rattle.chess_memory.proofs.Freed as heap
 use denote.Param.Laws.{Laws}
 use Rattle.core.specs.declared.alloc.Allocator.{Ghosts}
-use Rattle.chess_c.specs.Slots.{may_free}
+use Rattle.chess_memory.specs.Kept.{may_free}
 use Rattle.chess_c.specs.contracts.session.Session as session
 use Rattle.chess_c.specs.contracts.slot.Slot as slot
 use Rattle.chess_c.specs.contracts.slot.Slot.loose as f
@@ -43,7 +41,7 @@ use Rattle.chess_c.proofs.slot.Slot.loose.Code as code
 pub loose_spec : {M : Type 1} → statement M
 loose_spec 𝓤 𝓛 𝓜 𝓡 wired =
     let H = 𝓛.H in let 𝓣 = tables 𝓤 H 𝓜 𝓡 𝓡.env in let En = f.ended in let c = f.clauses 𝓛 𝓜.mem 𝓡.returns in let fn = code.function in
-    let R = session.the_row in let Z = heap.the_row in let L : Laws Z = heap_laws.the_row_laws in let g : Ghosts Z.Denot = heap_impl.ghosts in
+    let R = session.the_row in let Z = heap.the_row in let L : Laws Z = heap.the_laws in let g : Ghosts Z.Denot = heap.the_ghosts in
     let hs : Stays En.signature.params En.kept = (stay_dropped (plain (λ _. slot.the_row)) yes, (stay_dropped (plain (λ _. Z)) yes, tt)) in
     proved_at 𝓛 En hs c 𝓜 𝓡 (Goes-blank 𝓛 0 (plain (λ _. slot.the_row)) yes (λ κs x f. tt), (Goes-blank 𝓛 0 (plain (λ _. Z)) yes (λ κs x f. tt), tt)) f.Key.name fn (code.unfolded 𝓤 H 𝓜 𝓡 wired) (λ z are.
     let κs = z.0.0 in let v = z.0.3.0 in let a = z.0.3.1.0 in let Lr : RattleType = Loose R Z L g in let Out : RattleType = type_at En.signature.result κs in

@@ -9,8 +9,8 @@ use denote.Struct.Owning.{shape, fields, to}
 use denote.Param.Send.{IsSend, AllSend, owning_send, struct_send, sendable}
 use Rattle.std.proofs.Crossing as heap
 use Rattle.std_alloc.proofs.SendSync.{quiet, lies}
-use Rattle.chess_slots.specs.Slots.{slot_owns}
-use Rattle.chess_c.specs.Slots.{may_free}
+use Rattle.chess_bindings.specs.Slots.{slot_owns}
+use Rattle.chess_memory.specs.Kept.{may_free}
 use Rattle.chess_c.specs.contracts.flag.Flag as flag
 use Rattle.chess_c.proofs.flag.Flag.TheSendSync.{the_send as flag_send}
 use Rattle.chess_c.specs.contracts.stop.Stop.{the_row, the_type}

@@ -14,8 +14,8 @@ use denote.RawPtr.{null_ptr, ptr_val}
 use denote.Steps.{nothing}
 use denote.Triple.Walked.{Stays, walk_of}
 use Rattle.std.proofs.raw_atomic.Walks.{proved_at, leaves}
-use Rattle.chess_slots.proofs.SlotValues.{slot_val, slot_in}
-use Rattle.chess_c.specs.Slots.{may_free}
+use Rattle.chess_bindings.proofs.SlotValues.{slot_val, slot_in}
+use Rattle.chess_memory.specs.Kept.{may_free}
 use Rattle.chess_c.specs.contracts.flag.Flag as flag
 use Rattle.chess_c.specs.contracts.stop.Stop as slot
 use Rattle.chess_c.specs.contracts.stop.Stop.empty as f

@@ -11,7 +11,6 @@ use types.ByLocal.{alloc_all, pass_all, free_all, look_at, get, get_in, sets}
 use types.Part.{agg, sub, whole}
 use contract.Monad.{fact, fact_i}
 use contract.Running.{tables}
-use denote.Exit.{yes}
 use denote.RattleType.{owns}
 use denote.Signature.{types_at, plain}
 use denote.RawPtr.{block_ptr}
@@ -19,14 +18,12 @@ use denote.Steps.{nothing}
 use denote.Triple.Walked.{Stays, stay_dropped, walk_of}
 use Rattle.core.proofs.alloc.Calls.{Goes-blank}
 use Rattle.std.proofs.raw_atomic.Walks.{proved_at, leaves}
-use Rattle.chess_slots.proofs.Values.{both, Loose, loose_good, loose_out}
-use Rattle.chess_slots.proofs.SlotValues.{slot_val, slot_in}
-use Rattle.std.specs.contracts.alloc.Global as heap
-use Rattle.std.proofs.alloc.Global.TheLaws as heap_laws
-use Rattle.std.specs.contracts.impls.GlobalAllocator.TheImpl as heap_impl
+use Rattle.chess_bindings.proofs.Values.{both, Loose, loose_good, loose_out}
+use Rattle.chess_bindings.proofs.SlotValues.{slot_val, slot_in}
+use Rattle.chess_memory.proofs.Freed as heap
 use denote.Param.Laws.{Laws}
 use Rattle.core.specs.declared.alloc.Allocator.{Ghosts}
-use Rattle.chess_c.specs.Slots.{may_free}
+use Rattle.chess_memory.specs.Kept.{may_free}
 use Rattle.chess_c.specs.contracts.flag.Flag as flag
 use Rattle.chess_c.specs.contracts.stop.Stop as slot
 use Rattle.chess_c.specs.contracts.stop.Stop.filled as f
@@ -36,9 +33,9 @@ use Rattle.chess_c.proofs.stop.Stop.filled.Code as code
 pub filled_spec : {M : Type 1} → statement M
 filled_spec 𝓤 𝓛 𝓜 𝓡 wired =
     let H = 𝓛.H in let 𝓣 = tables 𝓤 H 𝓜 𝓡 𝓡.env in let En = f.ended in let c = f.clauses 𝓛 𝓜.mem 𝓡.returns in let fn = code.function in
-    let R = flag.the_row in let Z = heap.the_row in let L : Laws Z = heap_laws.the_row_laws in let g : Ghosts Z.Denot = heap_impl.ghosts in
-    let hs : Stays En.signature.params En.kept = (stay_dropped (plain (λ _. Loose R Z L g)) yes, tt) in
-    proved_at 𝓛 En hs c 𝓜 𝓡 (Goes-blank 𝓛 0 (plain (λ _. Loose R Z L g)) yes (λ κs x f. tt), tt) f.Key.name fn (code.unfolded 𝓤 H 𝓜 𝓡 wired) (λ z are.
+    let R = flag.the_row in let Z = heap.the_row in let L : Laws Z = heap.the_laws in let g : Ghosts Z.Denot = heap.the_ghosts in
+    let hs : Stays En.signature.params En.kept = (stay_dropped (plain (λ _. Loose R Z L g)) En.kept.0, tt) in
+    proved_at 𝓛 En hs c 𝓜 𝓡 (Goes-blank 𝓛 0 (plain (λ _. Loose R Z L g)) En.kept.0 (λ κs x f. tt), tt) f.Key.name fn (code.unfolded 𝓤 H 𝓜 𝓡 wired) (λ z are.
     let κs = z.0.0 in let v = z.0.3.0 in let Post : Val → SProp 𝓤 = (walk_of 𝓛 En hs c).post z in let Run : List Val → SProp 𝓤 = λ ws. WpFn 𝓤 H 𝓣.C 𝓣.Λ fn ws Post in
     qed 𝓛 ((‵ ftrue ⊛ ‵ (owns (types_at En.signature.params κs) z.0.3 z.0.4)) ∷ raw (emp 𝓤) ∷ []) ∵ split ! $ move ! (1 ∷ []) $ fsplit ! $ loose_out R Z L g ! v z.0.4.0 (λ b o h e ws fits.
     let w : Val = both (vptr b o) h in let typed = loose_good R Z L g b o h fits in
