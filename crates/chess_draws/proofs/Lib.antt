@@ -2,6 +2,7 @@
 -- of it.
 pub mod RepetitionKeyLemmas
 pub mod SetLemmas
+pub mod BackLemmas
 pub mod DeadLemmas
 pub mod TargetLemmas
 pub mod SameLemmas
@@ -11,5 +12,6 @@ pub mod LineLemmas
 pub mod Weights
 pub mod Repeats
 pub mod LookBack
+pub mod TrackLemmas
 pub mod AnswerLemmas
 pub mod FarLemmas

@@ -1,9 +1,7 @@
 -- How often a line has come to its last position, seen from its end: every second ply, as far back as the halfmove clock says.
-use Rattle.std.proofs.Common.{◌≡◌, ℕ, zero, suc, ◌+◌, ◌-◌, ◌*◌, ◌<◌, ◌≤◌, ◌/◌, min, Bool, true, false, List, [], ◌∷◌, ◌++◌, length, get_or, map, take, drop, refl, sym, ap, ◌∙◌, arith}
+use Rattle.std.proofs.Common.{◌≡◌, ℕ, zero, suc, ◌+◌, ◌-◌, ◌*◌, ◌<◌, ◌≤◌, ◌/◌, min, Bool, true, false, List, [], ◌∷◌, length, map, take, drop, refl, sym, ap, ◌∙◌, arith}
 use Rattle.std.specs.List.{count_by}
 use Rattle.std.proofs.lemmas.Bool.{false_from_ne_true, true≢false}
-use Rattle.std.proofs.Math.Seq.{drop-append-add}
-use Rattle.std.proofs.lemmas.List.{length-map}
 use Rattle.std.proofs.lemmas.List.Sums.{sum_by-cons}
 use Rattle.chess_types.specs.declared.board.man.Colour.{Colour}
 use Rattle.chess_types.specs.declared.board.man.Colour.TheVariants.{White, Black}
@@ -17,11 +15,8 @@ use Rattle.chess_types.specs.board.Repetition.{is_same}
 use Rattle.chess_types.proofs.MoveLemmas.{pseudo_man, legal_pseudo}
 use Rattle.chess_moves.proofs.LegalLaws.{legal_well_formed}
 use Rattle.chess_draws.specs.declared.ply.Ply.{Ply}
-use Rattle.chess_draws.specs.declared.repetition_key.RepetitionKey.{RepetitionKey}
-use Rattle.chess_draws.specs.steps.RepetitionKeys.{IsKeyOf, same_ply}
 use Rattle.chess_draws.specs.steps.Plies.{ArePlies, move_of}
-use Rattle.chess_draws.specs.steps.LookBack.{first_same, came_back}
-use Rattle.chess_draws.proofs.RepetitionKeyLemmas.{same_plies}
+use Rattle.chess_draws.specs.steps.LookBack.{came_back}
 use Rattle.chess_draws.proofs.SameLemmas.{is_same_self, other_side, sides_differ}
 use Rattle.chess_draws.proofs.PlyLemmas.{one_if}
 use Rattle.chess_draws.proofs.Repeats.{AreOnBoard, as_far_as_clock}
@@ -49,7 +44,7 @@ at_end q start [] is =
 at_end q start (m ∷ ms) is = at_end q (after start m) ms is
 
 -- a place divides the line
-rest_plays : (start : PositionParts) (ms : List MoveParts) (k : ℕ) → play (play start (take k ms)) (drop k ms) ≡ play start ms
+pub rest_plays : (start : PositionParts) (ms : List MoveParts) (k : ℕ) → play (play start (take k ms)) (drop k ms) ≡ play start ms
 rest_plays start ms zero = refl
 rest_plays start [] (suc k) = refl
 rest_plays start (m ∷ ms) (suc k) = rest_plays (after start m) ms k
@@ -75,7 +70,7 @@ abbrev turned : ℕ → Colour → Colour
 turned zero c = c
 turned (suc n) c = turned n (opponent c)
 
-side_then : (p : PositionParts) (m : MoveParts) → is_legal p m ≡ true → (after p m).side ≡ opponent p.side
+pub side_then : (p : PositionParts) (m : MoveParts) → is_legal p m ≡ true → (after p m).side ≡ opponent p.side
 unfolding after
 side_then p m legal =
     let mover = pseudo_man p m (legal_pseudo p m legal) in
@@ -85,7 +80,7 @@ side_at : (p : PositionParts) (ms : List MoveParts) → AreLegal p ms → (play 
 side_at p [] legal = refl
 side_at p (m ∷ ms) legal = side_at (after p m) ms legal.1 ∙ ap (turned (length ms)) (side_then p m legal.0)
 
-twice : (c : Colour) → opponent (opponent c) ≡ c
+pub twice : (c : Colour) → opponent (opponent c) ≡ c
 twice White = refl
 twice Black = refl
 
@@ -164,6 +159,23 @@ module _ (start : PositionParts) (ms : List MoveParts) (setup : IsSetup start) (
       let back = two_back (length ms - 2 * suc half) half (omega arith) (omega arith) in
       omega (arith, next, back, at_most_one (is_same (play start ms) (play start (take (length ms - 2 * suc half) ms))), few_from half (omega arith))
 
+  -- the positions that are compared, and the last one
+  came : (half : ℕ) → 2 * half ≤ length ms → came_back start ms half + 1 ≡ from_place (play start ms) start ms (length ms - 2 * half)
+  came zero within =
+      let end : length ms - 2 * 0 ≡ length ms = omega arith in
+      sym (ap (from_place (play start ms) start ms) end ∙ at_end (play start ms) start ms refl)
+  came (suc half) within =
+      let two : length ms - 2 * suc half + 2 ≡ length ms - 2 * half = omega arith in
+      let next : from_place (play start ms) start ms (length ms - 2 * suc half + 2) ≡ from_place (play start ms) start ms (length ms - 2 * half) =
+      ap (from_place (play start ms) start ms) two in
+      let back = two_back (length ms - 2 * suc half) half (omega arith) (omega arith) in
+      omega (arith, next, back, came half (omega arith))
+
+  -- are all that are the same
+  pub looked_back : (half clock : ℕ) → clock ≡ (play start ms).clock → 2 * half ≤ length ms → ((n : ℕ) → n ≤ clock → n ≤ length ms → n ≤ 2 * half + 1) →
+      came_back start ms half + 1 ≡ count_by (is_same (play start ms)) (positions_from start ms)
+  looked_back half clock is within reaches = came half within ∙ sym (far_enough half clock is within reaches)
+
   -- the halfmove clock bounds how often the last position came up
   pub few_same : count_by (is_same (play start ms)) (positions_from start ms) ≤ (play start ms).clock / 2 + 1
   few_same =
@@ -171,60 +183,7 @@ module _ (start : PositionParts) (ms : List MoveParts) (setup : IsSetup start) (
       let all = far_enough half (play start ms).clock refl (omega arith) (λ n low high. omega arith) in
       omega (arith, all, few_from half (omega arith))
 
--- what is kept of the ply there shows whether the position there is the same
-first_is : (q start : PositionParts) (key : RepetitionKey) (plies : List Ply) (k : ℕ) → IsKeyOf key q → ArePlies start plies → k < length plies →
-    first_same key (drop k plies) ≡ is_same q (play start (take k (map move_of plies)))
-first_is q start key [] k is are h = absurd (omega arith)
-first_is q start key (ply ∷ plies) zero is are h = sym (same_plies q start key ply is are.0)
-first_is q start key (ply ∷ plies) (suc k) is are h = first_is q (after start ply.past.played) key plies k is are.1 (omega arith)
-
 -- the plies' moves
 pub plies_on_board : (start : PositionParts) (plies : List Ply) → ArePlies start plies → AreOnBoard (map move_of plies)
 plies_on_board start [] are = tt
 plies_on_board start (ply ∷ plies) are = (are.0.from, are.0.to, plies_on_board (after start ply.past.played) plies are.1)
-
-module _ (start : PositionParts) (plies : List Ply) (key : RepetitionKey) (setup : IsSetup start) (legal : AreLegal start (map move_of plies))
-    (are : ArePlies start plies) (is : IsKeyOf key (play start (map move_of plies))) where
-  -- every second ply back
-  came : (half : ℕ) → 2 * half ≤ length plies →
-      came_back key plies half + 1 ≡ from_place (play start (map move_of plies)) start (map move_of plies) (length plies - 2 * half)
-  came zero within =
-      let end : length plies - 2 * 0 ≡ length (map move_of plies) = omega (arith, length-map plies move_of) in
-      sym (ap (from_place (play start (map move_of plies)) start (map move_of plies)) end ∙ at_end (play start (map move_of plies)) start (map move_of plies) refl)
-  came (suc half) within =
-      let long : length (map move_of plies) ≡ length plies = length-map plies move_of in
-      let q : PositionParts = play start (map move_of plies) in
-      let here : one_if (first_same key (drop (length plies - 2 * suc half) plies)) ≡ one_if (is_same q (play start (take (length plies - 2 * suc half) (map move_of plies)))) =
-      ap one_if (first_is q start key plies (length plies - 2 * suc half) is are (omega arith)) in
-      let two : length plies - 2 * suc half + 2 ≡ length plies - 2 * half = omega arith in
-      let next : from_place q start (map move_of plies) (length plies - 2 * suc half + 2) ≡ from_place q start (map move_of plies) (length plies - 2 * half) =
-      ap (from_place q start (map move_of plies)) two in
-      let back = two_back start (map move_of plies) setup legal (plies_on_board start plies are) (length plies - 2 * suc half) half (omega (arith, long, within)) (omega (arith, long, within)) in
-      omega (arith, here, next, back, came half (omega arith))
-
-  pub looked_back : (clock half : ℕ) → clock ≡ (play start (map move_of plies)).clock → 2 * half ≤ length plies →
-      ((n : ℕ) → n ≤ clock → n ≤ length plies → n ≤ 2 * half + 1) →
-      came_back key plies half + 1 ≡ count_by (is_same (play start (map move_of plies))) (positions_from start (map move_of plies))
-  looked_back clock half clock_is within reaches =
-      let long : length (map move_of plies) ≡ length plies = length-map plies move_of in
-      let all = far_enough start (map move_of plies) setup legal (plies_on_board start plies are) half clock clock_is (omega (arith, long, within))
-      (λ n low high. reaches n low (omega (arith, long, high))) in
-      let same : from_place (play start (map move_of plies)) start (map move_of plies) (length (map move_of plies) - 2 * half)
-      ≡ from_place (play start (map move_of plies)) start (map move_of plies) (length plies - 2 * half) =
-      ap (λ n. from_place (play start (map move_of plies)) start (map move_of plies) (n - 2 * half)) long in
-      omega (arith, all, same, came half within)
-
--- the first of the plies from a place on
-first_there : (key : RepetitionKey) (plies : List Ply) (k : ℕ) (other : Ply) → k < length plies →
-    first_same key (drop k plies) ≡ same_ply key (get_or plies k other)
-first_there key [] k other h = absurd (omega arith)
-first_there key (ply ∷ plies) zero other h = refl
-first_there key (ply ∷ plies) (suc k) other h = first_there key plies k other (omega arith)
-
--- that of those that are only looked at
-pub first_looked : (key : RepetitionKey) (plies looked : List Ply) (at : ℕ) (there : Ply) → length plies ≤ at → at < length plies + length looked →
-    there ≡ get_or looked (at - length plies) there → same_ply key there ≡ first_same key (drop at (plies ++ looked))
-first_looked key plies looked at there low high is =
-    let place : length plies + (at - length plies) ≡ at = omega arith in
-    ap (same_ply key) is ∙ sym (first_there key looked (at - length plies) there (omega arith))
-    ∙ ap (first_same key) (sym (drop-append-add plies looked (at - length plies)) ∙ ap (λ n. drop n (plies ++ looked)) place)

@@ -1,24 +1,21 @@
 -- A position that is the same as the one that some moves lead to lies at most so many moves back as the halfmove clock then says, since
 -- a pawn never goes back and a captured man never returns (FIDE Laws, articles 9.2 and 9.3).
-use Rattle.std.proofs.Common.{◌≡◌, ◌+◌, ◌<◌, ◌≤◌, true, ◌&&◌, ◌||◌, List, [], ◌∷◌, length, Some, is_some, refl, arith, ◌⊎◌, inl, inr}
+use Rattle.std.proofs.Common.{◌≡◌, ◌+◌, ◌<◌, ◌≤◌, true, ◌||◌, List, [], ◌∷◌, length, Some, is_some, refl, arith, ◌⊎◌, inl, inr}
 use Rattle.std.specs.Prelude.{⊤}
-use Rattle.std.specs.List.{list_all}
-use Rattle.std.proofs.lemmas.Bool.{and_parts, cases_Bool}
+use Rattle.std.proofs.lemmas.Bool.{cases_Bool}
 use Rattle.chess_types.specs.declared.board.man.Man.{Man}
-use Rattle.chess_types.specs.board.Squares.{squares}
-use Rattle.chess_types.specs.board.Men.{is_pawn, same_colour}
+use Rattle.chess_types.specs.board.Men.{is_pawn}
 use Rattle.chess_types.specs.board.MoveParts.{MoveParts}
 use Rattle.chess_types.specs.board.Position.{PositionParts, IsSetup, man_on}
 use Rattle.chess_types.specs.board.Pseudo.{is_pseudo}
 use Rattle.chess_types.specs.board.After.{after, after_by, clock_after}
 use Rattle.chess_types.specs.board.Legal.{is_legal}
 use Rattle.chess_types.specs.board.Lines.{play, AreLegal}
-use Rattle.chess_types.specs.board.Repetition.{same_man, same_rights, same_target, counting_target, is_same}
-use Rattle.chess_types.proofs.SquareLemmas.{every_square}
+use Rattle.chess_types.specs.board.Repetition.{is_same}
 use Rattle.chess_types.proofs.MoveLemmas.{pseudo_man, legal_pseudo}
 use Rattle.chess_play.proofs.Facts.{Facts, facts}
 use Rattle.chess_play.proofs.Setups.{setup_by_facts}
-use Rattle.chess_draws.proofs.RepetitionKeyLemmas.{man_is}
+use Rattle.chess_draws.proofs.RepetitionKeyLemmas.{same_parts}
 use Rattle.chess_draws.proofs.Weights.{weight, weight_same, Loses, loses}
 
 -- the moves are between squares of the board
@@ -75,13 +72,7 @@ played p (m ∷ moves) setup legal on =
     }
 
 same_weight : (p q : PositionParts) → is_same p q ≡ true → weight (man_on p) ≡ weight (man_on q)
-unfolding is_same
-same_weight p q h =
-    let a = and_parts (same_colour p.side q.side && list_all (λ s. same_man (man_on p s) (man_on q s)) squares && same_rights p.rights q.rights)
-    (same_target (counting_target p) (counting_target q)) h in
-    let b = and_parts (same_colour p.side q.side && list_all (λ s. same_man (man_on p s) (man_on q s)) squares) (same_rights p.rights q.rights) a.0 in
-    let c = and_parts (same_colour p.side q.side) (list_all (λ s. same_man (man_on p s) (man_on q s)) squares) b.0 in
-    weight_same (man_on p) (man_on q) (λ s inside. man_is (man_on p s) (man_on q s) (every_square (λ x. same_man (man_on p x) (man_on q x)) c.1 s inside))
+same_weight p q h = weight_same (man_on p) (man_on q) (same_parts p q h).men
 
 -- the law: a position that is the same as the last lies no further back than the clock says
 pub as_far_as_clock : (p : PositionParts) (moves : List MoveParts) → IsSetup p → AreLegal p moves → AreOnBoard moves → is_same (play p moves) p ≡ true →

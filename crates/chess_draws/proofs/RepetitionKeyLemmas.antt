@@ -1,9 +1,9 @@
 -- What is kept of a position distinguishes it from others.
-use Rattle.std.proofs.Common.{◌≡◌, ℕ, ◌<◌, Bool, true, false, ◌&&◌, ◌||◌, Option, Some, None, refl, sym, ap, ◌∙◌}
+use Rattle.std.proofs.Common.{◌≡◌, ℕ, ◌<◌, Bool, true, false, ◌&&◌, ◌||◌, Option, Some, None, is_some, refl, sym, ap, ◌∙◌}
 use Rattle.std.specs.List.{list_all}
 use Rattle.std.specs.Ordering.{nat_cmp}
 use Rattle.std.specs.FinSet.{FinSet, contains}
-use Rattle.std.proofs.lemmas.Bool.{and_parts, true≢false}
+use Rattle.std.proofs.lemmas.Bool.{and_parts, and_right, false_from_ne_true, true≢false}
 use Rattle.chess_types.specs.declared.board.man.Colour.{Colour}
 use Rattle.chess_types.specs.declared.board.man.Colour.TheVariants.{White, Black}
 use Rattle.chess_types.specs.declared.board.man.Kind.{Kind}
@@ -22,7 +22,7 @@ use Rattle.chess_types.proofs.SameLemmas.{same_is, kind_is, same_self, kind_self
 use Rattle.chess_draws.specs.declared.men.MenSets.{MenSets}
 use Rattle.chess_draws.specs.declared.repetition_key.RepetitionKey.{RepetitionKey}
 use Rattle.chess_draws.specs.declared.ply.Ply.{Ply}
-use Rattle.chess_draws.specs.steps.RepetitionKeys.{holds_straight_or_king, holds_short, IsMenOf, IsKeyOf, same_men, same_ply}
+use Rattle.chess_draws.specs.steps.RepetitionKeys.{holds_straight_or_king, holds_short, IsMenOf, IsKeyOf, same_men, same_moves}
 use Rattle.chess_draws.specs.steps.Plies.{IsPly}
 
 -- what passes as the same man is
@@ -138,16 +138,67 @@ men_same m n x y is_m is_n =
     ap (same_man (x s)) (sym (men_there m n x y is_m is_n h s high)) ∙ man_self (x s)))
     (λ h. men_from m n x y is_m is_n (λ s low. man_is (x s) (y s) (every_square (λ t. same_man (x t) (y t)) h s low)))
 
--- and so does what is kept of a position, and of the one before a ply
-pub same_plies : (q p : PositionParts) (key : RepetitionKey) (ply : Ply) → IsKeyOf key q → IsPly p ply → is_same q p ≡ same_ply key ply
-unfolding is_same same_ply
-same_plies q p key ply is of =
-    let side : q.side ≡ key.side = sym is.side in
-    let side_then : p.side ≡ ply.side = sym of.side in
-    let men : list_all (λ s. same_man (man_on q s) (man_on p s)) squares ≡ same_men key.men ply.men =
-    sym (men_same key.men ply.men (man_on q) (man_on p) is.men of.men) in
+-- what agrees in positions that are the same
+pub record SameParts (q p : PositionParts) : Type 0 where
+  pub side : same_colour q.side p.side ≡ true
+  pub men : (s : ℕ) → s < 64 → man_on q s ≡ man_on p s
+  pub rights : same_rights q.rights p.rights ≡ true
+
+pub same_parts : (q p : PositionParts) → is_same q p ≡ true → SameParts q p
+unfolding is_same
+same_parts q p h =
+    let a = and_parts (same_colour q.side p.side && list_all (λ s. same_man (man_on q s) (man_on p s)) squares && same_rights q.rights p.rights)
+    (same_target (counting_target q) (counting_target p)) h in
+    let b = and_parts (same_colour q.side p.side && list_all (λ s. same_man (man_on q s) (man_on p s)) squares) (same_rights q.rights p.rights) a.0 in
+    let c = and_parts (same_colour q.side p.side) (list_all (λ s. same_man (man_on q s) (man_on p s)) squares) b.0 in
+    record { side = c.0; men = λ s low. man_is (man_on q s) (man_on p s) (every_square (λ t. same_man (man_on q t) (man_on p t)) c.1 s low); rights = b.1 }
+
+-- where other squares are occupied the position is another one
+pub other_squares : (q p : PositionParts) (key : RepetitionKey) → IsKeyOf key q → (there all : FinSet nat_cmp) → same_each there all ≡ false →
+    (same_rights key.rights p.rights ≡ true → (s : ℕ) → contains there s ≡ is_some (man_on p s)) → ((s : ℕ) → contains all s ≡ is_some (man_on q s)) →
+    is_same q p ≡ false
+other_squares q p key is there all differ gathers gathers_all =
+    false_from_ne_true (is_same q p) (λ h.
+    let parts = same_parts q p h in
+    let rights : same_rights key.rights p.rights ≡ true = ap (λ r. same_rights r p.rights) is.rights ∙ parts.rights in
+    true≢false (sym (by_look there all is_some (man_on p) (man_on q) (gathers rights) gathers_all (λ s low. sym (parts.men s low))) ∙ differ))
+
+three : (x r t : Bool) → (x && r && t) ≡ (x && (r && t))
+three true r t = refl
+three false r t = refl
+
+-- the side and the men, and what is kept of a ply
+by_moves : (q p : PositionParts) (key : RepetitionKey) (ply : Ply) → IsKeyOf key q → IsPly p ply →
+    is_same q p ≡ (same_colour q.side p.side && list_all (λ s. same_man (man_on q s) (man_on p s)) squares && same_moves key ply)
+unfolding is_same same_moves
+by_moves q p key ply is of =
     let rights : q.rights ≡ key.rights = sym is.rights in
     let rights_then : p.rights ≡ ply.past.rights = sym (ap (λ r. r.rights) of.past) in
     let target : counting_target q ≡ key.target = sym is.target in
     let target_then : counting_target p ≡ ply.target = sym of.target in
-    λ i. same_colour (side i) (side_then i) && men i && same_rights (rights i) (rights_then i) && same_target (target i) (target_then i)
+    let men = same_colour q.side p.side && list_all (λ s. same_man (man_on q s) (man_on p s)) squares in
+    (λ i. men && same_rights (rights i) (rights_then i) && same_target (target i) (target_then i))
+    ∙ three men (same_rights key.rights ply.past.rights) (same_target key.target ply.target)
+
+-- where other moves are possible it is another one
+pub other_moves : (q p : PositionParts) (key : RepetitionKey) (ply : Ply) → IsKeyOf key q → IsPly p ply → same_moves key ply ≡ false → is_same q p ≡ false
+other_moves q p key ply is of differ = by_moves q p key ply is of ∙ and_right _ (same_moves key ply) differ
+
+-- else the men decide
+pub by_men : (q p : PositionParts) (key : RepetitionKey) (ply : Ply) (men : MenSets) → IsKeyOf key q → IsPly p ply → same_moves key ply ≡ true →
+    p.side ≡ key.side → IsMenOf men (man_on p) → is_same q p ≡ same_men key.men men
+by_men q p key ply men is of agree side are =
+    let own : same_colour q.side p.side ≡ true = ap (same_colour q.side) (side ∙ is.side) ∙ same_self q.side in
+    by_moves q p key ply is of
+    ∙ (λ i. own i && sym (men_same key.men men (man_on q) (man_on p) is.men are) i && agree i)
+    ∙ at_last (same_men key.men men)
+  where
+    at_last : (b : Bool) → (true && b && true) ≡ b
+    at_last true = refl
+    at_last false = refl
+
+-- the same moves are possible only where the same rights are held
+pub by_rights : (p : PositionParts) (key : RepetitionKey) (ply : Ply) → IsPly p ply → same_moves key ply ≡ true → same_rights key.rights p.rights ≡ true
+unfolding same_moves
+by_rights p key ply of agree =
+    ap (λ r. same_rights key.rights r) (sym (ap (λ r. r.rights) of.past)) ∙ (and_parts (same_rights key.rights ply.past.rights) (same_target key.target ply.target) agree).0

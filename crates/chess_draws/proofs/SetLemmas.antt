@@ -1,5 +1,5 @@
 -- The five sets of a board, by those that it keeps.
-use Rattle.std.proofs.Common.{◌≡◌, Bool, true, false, ◌&&◌, ◌||◌, Option, Some, None, refl, ap, ◌∙◌}
+use Rattle.std.proofs.Common.{◌≡◌, Bool, true, false, ◌&&◌, ◌||◌, Option, Some, None, is_some, refl, ap, ◌∙◌}
 use Rattle.std.specs.Ordering.{nat_cmp}
 use Rattle.std.specs.FinSet.{FinSet, contains, union, contains-union}
 use Rattle.std.proofs.lemmas.Cmp.{nat_cmp_total}
@@ -9,7 +9,7 @@ use Rattle.chess_types.specs.declared.board.man.Man.{Man}
 use Rattle.chess_types.specs.declared.board.man.Kind.{Kind}
 use Rattle.chess_types.specs.declared.board.man.Kind.TheVariants.{Pawn}
 use Rattle.chess_types.specs.board.Board.{Men}
-use Rattle.chess_types.specs.board.Men.{same_colour, same_kind, is_man, is_king_of, is_pawn, is_king, holds_pawn}
+use Rattle.chess_types.specs.board.Men.{same_colour, same_kind, is_of, is_man, is_king_of, is_pawn, is_king, holds_pawn}
 use Rattle.chess_types.specs.steps.KeptSets.{Gathers, holds_king, holds_straight}
 use Rattle.chess_draws.specs.steps.RepetitionKeys.{holds_straight_or_king, holds_short}
 
@@ -46,3 +46,12 @@ straight_or_king (Some man) = refl
 pub pawn_or_king : (there : Option Man) → (holds_pawn there || holds_king there) ≡ holds_short there
 pawn_or_king None = refl
 pawn_or_king (Some man) = refl
+
+-- each man is of one of the colours
+pub of_one : (there : Option Man) → (is_of White there || is_of Black there) ≡ is_some there
+of_one None = refl
+of_one (Some man) = one_colour man.colour
+  where
+    one_colour : (c : Colour) → (same_colour c White || same_colour c Black) ≡ true
+    one_colour White = refl
+    one_colour Black = refl

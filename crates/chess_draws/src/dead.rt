@@ -76,7 +76,7 @@ fn has_only_king(men: &Placement, side: Colour) -> bool
 }
 
 /// Whether the side can't mate any more, as far as this is decided: it has only its king, or the position is dead. Then no series of legal moves ends with
-/// that side mating (`mating_laws` of `chess_laws`), so a win on time is none (FIDE Laws 6.9). `false` doesn't say that it can.
+/// that side mating (`mating_laws` of `chess_theorems`), so a win on time is none (FIDE Laws 6.9). `false` doesn't say that it can.
 #[tactic(auto, unfolding(chess_types::specs::board::Mating::cannot_mate))]
 pub fn cannot_mate(setup: &Setup, side: Colour) -> bool
     ensures { result ≡ cannot_mate setup.now side }

@@ -21,4 +21,4 @@ pub use chess_types::{Claims, Status};
 pub use dead::cannot_mate;
 pub use fault::LineFault;
 pub use laws::identity_laws;
-pub use line::{Line, LineWith};
+pub use line::{Line, LineWith, PlainLine};

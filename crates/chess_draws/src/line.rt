@@ -20,13 +20,13 @@ ghost use Rattle.chess_draws.specs.Pushes.{AnswersPush, AnswersRoom, line_after,
 
 use crate::fault::LineFault;
 use crate::look_back::look_back;
-use crate::ply::Ply;
+use crate::ply::{Ply, make_room};
 use crate::repetition_key::RepetitionKey;
 use crate::status::{claims_at, is_drawn_at, status_at};
 use crate::step::{step, step_back};
-use crate::target::begin;
+use crate::target::{begin, target_at_start};
 use arrayvec::{ArrayString, ArrayVec};
-use chess_attack::Follower;
+use chess_attack::{Follower, Nothing};
 use chess_fen::write_fields;
 use chess_key::KeyTable;
 use chess_moves::{has_legal, in_check, is_legal, moves, moves_into};
@@ -72,7 +72,39 @@ impl<F: Follower, A: Allocator> Model for LineWith<F, A> {
 /// A line whose positions have attack counts, evaluation and key.
 pub type Line<'k, A> = LineWith<Followers<'k>, A>;
 
+/// A line whose positions are followed by nothing: what reads and writes games asks for no count, no evaluation and no key.
+pub type PlainLine<A> = LineWith<Nothing, A>;
+
 impl<F: Follower, A: Allocator> LineWith<F, A> {
+    /// The line without a move, with what follows its positions: it agrees with the first. Takes no memory. Both counters of the position are at most
+    /// 99,999.
+    pub fn with(alloc: A, position: Position, kept: F) -> LineWith<F, A>
+        requires clock { position.clock ≤ 99999 }
+        requires number { position.number ≤ 99999 }
+        requires agrees { F.agrees kept position.placement }
+        requires ticks { F.ticks kept ≤ 216 }
+        ensures line { result.line ≡ record { start = position; moves = [] } }
+        ensures looked { result.looked ≡ 0 }
+        ensures words { result.words ≡ F.words kept }
+        ensures room { result.room ≡ 0 }
+        ensures compared { result.compared ≡ 0 }
+    {
+        let Ok(root) = position.clone() else {
+            unreachable!();
+        };
+        let mut live = LiveWith::with(position, kept);
+        let target = target_at_start(&mut live);
+        let here = RepetitionKey::of(&live, target);
+        LineWith {
+            root,
+            plies: Vec::new(alloc),
+            looked: ArrayVec::new(),
+            here,
+            live,
+            compared: 0,
+        }
+    }
+
     /// Takes the last move away; `None` at the start of the line.
     pub fn pop(&mut self) -> Option<Move>
         requires none { self.old.looked ≡ 0 }
@@ -88,34 +120,6 @@ impl<F: Follower, A: Allocator> LineWith<F, A> {
         let m = ply.past.played();
         step_back(&mut self.live, &mut self.here, ply);
         Some(m)
-    }
-}
-
-impl<'k, A: Allocator> LineWith<Followers<'k>, A> {
-    /// The line without a move. Takes no memory. Both counters of the position are at most 99,999.
-    pub fn start(alloc: A, position: Position, table: &'k KeyTable) -> Line<'k, A>
-        requires clock { position.clock ≤ 99999 }
-        requires number { position.number ≤ 99999 }
-        ensures line { result.line ≡ record { start = position; moves = [] } }
-        ensures looked { result.looked ≡ 0 }
-        ensures words { result.words ≡ table.now }
-        ensures ticks { result.ticks ≡ 0 }
-        ensures room { result.room ≡ 0 }
-        ensures compared { result.compared ≡ 0 }
-    {
-        let Ok(root) = position.clone() else {
-            unreachable!();
-        };
-        let (live, target) = begin(position, table);
-        let here = RepetitionKey::of(&live, target);
-        LineWith {
-            root,
-            plies: Vec::new(alloc),
-            looked: ArrayVec::new(),
-            here,
-            live,
-            compared: 0,
-        }
     }
 
     /// Adds a move.
@@ -133,7 +137,7 @@ impl<'k, A: Allocator> LineWith<Followers<'k>, A> {
         ensures room { self.old.room ≤ self.new.room }
         ensures compared { self.new.compared ≡ self.old.compared }
         ensures at_most { OnOk result (self.new.ticks ≤ 216) }
-        ensures at_least { OnOk result (changed_of (man_on (last self.old.line)) (man_on (last self.new.line)) ≤ self.new.ticks) }
+        ensures at_least { OnOk result (F.suffices (last self.old.line).placement (last self.new.line).placement self.new.ticks) }
     {
         self.prepare(m)?;
         self.push_prepared(m);
@@ -185,7 +189,7 @@ impl<'k, A: Allocator> LineWith<Followers<'k>, A> {
         if self.plies() >= LIMIT {
             return Err(LineFault::TooLong);
         }
-        if self.plies.reserve(1).is_err() {
+        if make_room(&mut self.plies).is_err() {
             return Err(LineFault::Memory);
         }
         Ok(())
@@ -206,7 +210,7 @@ impl<'k, A: Allocator> LineWith<Followers<'k>, A> {
         ensures room { self.old.room ≤ self.new.room }
         ensures compared { self.new.compared ≡ self.old.compared }
         ensures at_most { OnOk result (self.new.ticks ≤ 216) }
-        ensures at_least { OnOk result (changed_of (man_on (last self.old.line)) (man_on (last self.new.line)) ≤ self.new.ticks) }
+        ensures at_least { OnOk result (F.suffices (last self.old.line).placement (last self.new.line).placement self.new.ticks) }
     {
         self.make_room()?;
         self.push_prepared(m);
@@ -226,7 +230,7 @@ impl<'k, A: Allocator> LineWith<Followers<'k>, A> {
         ensures room { self.new.room ≡ self.old.room }
         ensures compared { self.new.compared ≡ self.old.compared }
         ensures at_most { self.new.ticks ≤ 216 }
-        ensures at_least { changed_of (man_on (last self.old.line)) (man_on (last self.new.line)) ≤ self.new.ticks }
+        ensures at_least { F.suffices (last self.old.line).placement (last self.new.line).placement self.new.ticks }
     {
         let ply = step(&mut self.live, &mut self.here, m);
         self.plies.push_reserved(ply);
@@ -243,7 +247,7 @@ impl<'k, A: Allocator> LineWith<Followers<'k>, A> {
         ensures room { self.new.room ≡ self.old.room }
         ensures compared { self.new.compared ≡ self.old.compared }
         ensures at_most { self.new.ticks ≤ 216 }
-        ensures at_least { changed_of (man_on (last self.old.line)) (man_on (last self.new.line)) ≤ self.new.ticks }
+        ensures at_least { F.suffices (last self.old.line).placement (last self.new.line).placement self.new.ticks }
     {
         let ply = step(&mut self.live, &mut self.here, m);
         self.looked.push(ply);
@@ -258,7 +262,7 @@ impl<'k, A: Allocator> LineWith<Followers<'k>, A> {
         ensures room { self.new.room ≡ self.old.room }
         ensures compared { self.new.compared ≡ self.old.compared }
         ensures at_most { self.new.ticks ≤ 216 }
-        ensures at_least { changed_of (man_on (last self.old.line)) (man_on (last self.new.line)) ≤ self.new.ticks }
+        ensures at_least { F.suffices (last self.old.line).placement (last self.new.line).placement self.new.ticks }
     {
         match self.looked.pop() {
             None => unreachable!(),
@@ -315,15 +319,15 @@ impl<'k, A: Allocator> LineWith<Followers<'k>, A> {
     }
 
     /// The last position, with the numbers that are kept beside it.
-    pub fn live(&self) -> &Live<'k>
+    pub fn live(&self) -> &LiveWith<F>
         ensures position { result.now.position ≡ last self.now.line }
         ensures words { result.now.words ≡ self.now.words }
         ensures ticks { result.now.ticks ≡ self.now.ticks }
         ensures at_most { result.now.ticks ≤ 216 }
         ensures well_formed { IsWellFormed (last self.now.line) }
     {
-        // Whatever was asked of it, a `Live` keeps its ticks at most 216.
-        let _ticks = self.live.last_ticks();
+        // Whatever was asked of it, a position keeps its ticks at most 216.
+        let _kept = self.live.kept();
         &self.live
     }
 
@@ -538,5 +542,33 @@ impl<'k, A: Allocator> LineWith<Followers<'k>, A> {
         let clock = self.live.position().clock;
         self.unlook();
         Some(claims_at(status, count, clock))
+    }
+}
+
+impl<'k, A: Allocator> LineWith<Followers<'k>, A> {
+    /// The line without a move. Takes no memory. Both counters of the position are at most 99,999.
+    pub fn start(alloc: A, position: Position, table: &'k KeyTable) -> Line<'k, A>
+        requires clock { position.clock ≤ 99999 }
+        requires number { position.number ≤ 99999 }
+        ensures line { result.line ≡ record { start = position; moves = [] } }
+        ensures looked { result.looked ≡ 0 }
+        ensures words { result.words ≡ table.now }
+        ensures ticks { result.ticks ≡ 0 }
+        ensures room { result.room ≡ 0 }
+        ensures compared { result.compared ≡ 0 }
+    {
+        let Ok(root) = position.clone() else {
+            unreachable!();
+        };
+        let (live, target) = begin(position, table);
+        let here = RepetitionKey::of(&live, target);
+        LineWith {
+            root,
+            plies: Vec::new(alloc),
+            looked: ArrayVec::new(),
+            here,
+            live,
+            compared: 0,
+        }
     }
 }

@@ -1,10 +1,12 @@
-ghost use Rattle.std.specs.Prelude.{◌≡◌};
-ghost use Rattle.chess_types.specs.board.Board.{man_at};
+ghost use Rattle.std.specs.Prelude.{◌≡◌, Bool, Option, false, is_some};
+ghost use Rattle.chess_types.specs.declared.board.man.Man.{Man};
+ghost use Rattle.chess_types.specs.board.Board.{Men, man_at};
 ghost use Rattle.chess_types.specs.board.Men.{holds_pawn};
 ghost use Rattle.chess_types.specs.steps.KeptSets.{Gathers, holds_king};
 ghost use Rattle.chess_draws.specs.steps.RepetitionKeys.{IsMenOf, same_men};
+ghost use Rattle.chess_draws.specs.steps.LookBack.{IsStep};
 
-use chess_types::{Colour, Kind, Placement, SquareSet};
+use chess_types::{Colour, Kind, Move, Placement, SquareSet};
 
 /// The men of a position as five sets of squares, which say what is on each square.
 #[derive(Clone, Copy)]
@@ -39,6 +41,30 @@ fn both_pawns(placement: &Placement) -> SquareSet
         .union(placement.of_kind(Colour::Black, Kind::Pawn))
 }
 
+// The squares of some men before the move of one man, who may be one of them, to a square that was empty.
+#[inline(always)]
+fn set_before(set: SquareSet, m: Move) -> SquareSet
+    ensures { (before after : Men) (test : Option Man → Bool) → IsStep before after m → test None ≡ false → Gathers set test after → Gathers result test before }
+{
+    let mut earlier = set;
+    if earlier.contains(m.to) {
+        earlier.remove(m.to);
+        earlier.insert(m.from);
+    }
+    earlier
+}
+
+/// The squares that were occupied before the move of a man to a square that was empty.
+#[inline(always)]
+pub(crate) fn occupied_before(occupied: SquareSet, m: Move) -> SquareSet
+    ensures { (before after : Men) → IsStep before after m → Gathers occupied is_some after → Gathers result is_some before }
+{
+    let mut earlier = occupied;
+    earlier.remove(m.to);
+    earlier.insert(m.from);
+    earlier
+}
+
 impl MenSets {
     /// The men of a placement.
     #[inline(always)]
@@ -55,15 +81,26 @@ impl MenSets {
         }
     }
 
-    /// No men.
-    pub(crate) fn none() -> MenSets {
+    /// The men before the move of one of them to a square that was empty.
+    #[inline(always)]
+    pub(crate) fn before(&self, m: Move) -> MenSets
+        ensures { (before after : Men) → IsStep before after m → IsMenOf self.now after → IsMenOf result before }
+    {
         MenSets {
-            white: SquareSet::empty(),
-            black: SquareSet::empty(),
-            straight: SquareSet::empty(),
-            diagonal: SquareSet::empty(),
-            short: SquareSet::empty(),
+            white: set_before(self.white, m),
+            black: set_before(self.black, m),
+            straight: set_before(self.straight, m),
+            diagonal: set_before(self.diagonal, m),
+            short: set_before(self.short, m),
         }
+    }
+
+    /// The squares on which a man stands.
+    #[inline(always)]
+    pub(crate) fn occupied(&self) -> SquareSet
+        ensures { (men : Men) → IsMenOf self.now men → Gathers result is_some men }
+    {
+        self.white.union(self.black)
     }
 
     /// Whether the same men stand on the same squares.

@@ -1,10 +1,11 @@
 ghost use Rattle.std.specs.Prelude.{◌≡◌};
 ghost use Rattle.chess_types.specs.board.Repetition.{counting_target, same_rights, same_target};
-ghost use Rattle.chess_draws.specs.steps.RepetitionKeys.{IsKeyOf, same_ply};
+ghost use Rattle.chess_draws.specs.steps.RepetitionKeys.{IsKeyOf, same_moves};
 
 use crate::men::MenSets;
 use crate::ply::Ply;
-use chess_play::Live;
+use chess_attack::Follower;
+use chess_play::LiveWith;
 use chess_types::{Colour, Rights, Square};
 
 /// What makes two positions the same (FIDE Laws 9.2.3): the men, the side to move, the castling rights, and the en passant
@@ -36,7 +37,7 @@ fn same_target(some: Option<Square>, other: Option<Square>) -> bool
 impl RepetitionKey {
     /// That of the position, whose target counts or doesn't.
     #[inline(always)]
-    pub(crate) fn of(live: &Live, target: Option<Square>) -> RepetitionKey
+    pub(crate) fn of<F: Follower>(live: &LiveWith<F>, target: Option<Square>) -> RepetitionKey
         requires { target ≡ counting_target live.now.position }
         ensures { IsKeyOf result live.now.position }
     {
@@ -49,15 +50,12 @@ impl RepetitionKey {
         }
     }
 
-    /// Whether the position is the same as that before the ply.
+    /// Whether the castling rights are the same before the ply, and the en passant target, where it counted.
     #[inline(always)]
-    #[tactic(auto, unfolding(crate::specs::steps::RepetitionKeys::same_ply))]
-    pub(crate) fn is_before(&self, ply: &Ply) -> bool
-        ensures { result ≡ same_ply self.now ply.now }
+    #[tactic(auto, unfolding(crate::specs::steps::RepetitionKeys::same_moves))]
+    pub(crate) fn agrees(&self, ply: &Ply) -> bool
+        ensures { result ≡ same_moves self.now ply.now }
     {
-        self.side == ply.side
-            && self.men.is_same(&ply.men)
-            && same_rights(self.rights, ply.past.rights())
-            && same_target(self.target, ply.target)
+        same_rights(self.rights, ply.past.rights()) && same_target(self.target, ply.target)
     }
 }

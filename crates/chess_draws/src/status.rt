@@ -3,13 +3,14 @@ ghost use Rattle.chess_types.specs.board.Outcome.{status_at, is_play, claims_at}
 ghost use Rattle.chess_draws.specs.Draws.{is_drawn_at, is_claimable_at};
 
 use crate::dead::is_dead;
+use chess_attack::Follower;
 use chess_moves::{has_legal, in_check};
-use chess_play::Live;
+use chess_play::LiveWith;
 use chess_types::{Claims, Setup, Status};
 
 /// How a line stands that has come to its last position so often (FIDE Laws 5.1.1, 5.2.1, 5.2.2, 9.6). The position is as before.
 #[tactic(auto, using(chess_moves::proofs::SetCounts::some_move), unfolding(chess_types::specs::board::Outcome::status_at))]
-pub(crate) fn status_at(live: &mut Live, count: u32) -> Status
+pub(crate) fn status_at<F: Follower>(live: &mut LiveWith<F>, count: u32) -> Status
     requires clock { live.old.position.clock ≤ 1000000 }
     requires number { live.old.position.number ≤ 1000000 }
     ensures value { result ≡ status_at live.old.position count }

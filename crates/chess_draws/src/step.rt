@@ -3,19 +3,19 @@ ghost use Rattle.chess_types.specs.board.Position.{PositionParts, man_on};
 ghost use Rattle.chess_types.specs.board.After.{after};
 ghost use Rattle.chess_types.specs.board.Legal.{is_legal as is_legal_in};
 ghost use Rattle.chess_attack.specs.KeptCounts.{changed_of};
-ghost use Rattle.chess_play.specs.Records.{Fits, IsBefore};
+ghost use Rattle.chess_play.specs.Records.{IsBefore};
 ghost use Rattle.chess_draws.specs.steps.RepetitionKeys.{IsKeyOf};
-ghost use Rattle.chess_draws.specs.steps.Plies.{IsPly};
+ghost use Rattle.chess_draws.specs.steps.Plies.{FitsPly, IsPly};
 
 use crate::ply::Ply;
 use crate::repetition_key::RepetitionKey;
 use crate::target::advance;
 use chess_attack::Follower;
-use chess_play::{Live, LiveWith};
+use chess_play::LiveWith;
 use chess_types::Move;
 
 /// Makes the legal move. The answer is what is kept of it.
-pub(crate) fn step(live: &mut Live, here: &mut RepetitionKey, m: Move) -> Ply
+pub(crate) fn step<F: Follower>(live: &mut LiveWith<F>, here: &mut RepetitionKey, m: Move) -> Ply
     requires legal { IsTrue (is_legal_in live.old.position m) }
     requires clock { live.old.position.clock < 1000000 }
     requires number { live.old.position.number < 1000000 }
@@ -26,12 +26,10 @@ pub(crate) fn step(live: &mut Live, here: &mut RepetitionKey, m: Move) -> Ply
     ensures ply { IsPly live.old.position result }
     ensures played { result.past.played ≡ m }
     ensures at_most { live.new.ticks ≤ 216 }
-    ensures at_least { changed_of (man_on live.old.position) (man_on live.new.position) ≤ live.new.ticks }
+    ensures at_least { F.suffices live.old.position.placement live.new.position.placement live.new.ticks }
 {
     let (past, target) = advance(live, m);
     let ply = Ply {
-        men: here.men,
-        side: here.side,
         target: here.target,
         past,
     };
@@ -41,18 +39,13 @@ pub(crate) fn step(live: &mut Live, here: &mut RepetitionKey, m: Move) -> Ply
 
 /// Takes back the last move, of which that is kept.
 pub(crate) fn step_back<F: Follower>(live: &mut LiveWith<F>, here: &mut RepetitionKey, ply: Ply)
-    requires fits { Fits live.old.position ply.past }
+    requires fits { FitsPly live.old.position ply }
     ensures position { (p : PositionParts) → IsBefore live.old.position ply.past p → live.new.position ≡ p }
-    ensures here { (p : PositionParts) → IsPly p ply → IsKeyOf here.new p }
+    ensures here { IsKeyOf here.new live.new.position }
     ensures words { live.new.words ≡ live.old.words }
     ensures at_most { live.new.ticks ≤ 216 }
     ensures at_least { F.suffices live.old.position.placement live.new.position.placement live.new.ticks }
 {
     live.take_back(ply.past);
-    *here = RepetitionKey {
-        men: ply.men,
-        side: ply.side,
-        rights: ply.past.rights(),
-        target: ply.target,
-    };
+    *here = RepetitionKey::of(live, ply.target);
 }

@@ -9,9 +9,10 @@ ghost use Rattle.chess_attack.specs.KeptCounts.{changed_of};
 ghost use Rattle.chess_moves.specs.steps.Targets.{move_to};
 ghost use Rattle.chess_play.specs.Records.{record_of};
 
+use chess_attack::Follower;
 use chess_key::KeyTable;
 use chess_moves::is_legal;
-use chess_play::{Live, Record};
+use chess_play::{Live, LiveWith, Record};
 use chess_types::{Colour, Kind, Man, Move, Position, Setup, Square};
 
 // The squares on both sides of the pawn that has just passed the target. At the edge of the board one of them is on another rank,
@@ -46,7 +47,7 @@ fn is_taker(setup: &Setup, from: Square) -> bool
 }
 
 // Whether a pawn of the side to move captures legally from there on the target.
-fn is_taken_from(live: &mut Live, from: Square, target: Square) -> bool
+fn is_taken_from<F: Follower>(live: &mut LiveWith<F>, from: Square, target: Square) -> bool
     requires clock { live.old.position.clock ≤ 1000000 }
     requires number { live.old.position.number ≤ 1000000 }
     ensures value { result ≡ (same_man (man_on live.old.position from) (cell_of live.old.position.side Pawn) && is_legal_in live.old.position (move_to from target None)) }
@@ -62,7 +63,7 @@ fn is_taken_from(live: &mut Live, from: Square, target: Square) -> bool
 }
 
 /// The target, where a legal move captures on it (FIDE Laws 9.2.3.1). At most two captures are tried.
-pub(crate) fn counting_target(live: &mut Live) -> Option<Square>
+pub(crate) fn counting_target<F: Follower>(live: &mut LiveWith<F>) -> Option<Square>
     requires clock { live.old.position.clock ≤ 1000000 }
     requires number { live.old.position.number ≤ 1000000 }
     ensures value { result ≡ counting_target live.old.position }
@@ -92,6 +93,20 @@ fn is_beside(setup: &Setup) -> bool
     is_taker(setup, left) || is_taker(setup, right)
 }
 
+/// The target where it counts: captures are tried only where a pawn is beside the one that has passed it.
+pub(crate) fn target_at_start<F: Follower>(live: &mut LiveWith<F>) -> Option<Square>
+    requires clock { live.old.position.clock ≤ 1000000 }
+    requires number { live.old.position.number ≤ 1000000 }
+    ensures value { result ≡ counting_target live.old.position }
+    ensures position { live.new.position ≡ live.old.position }
+    ensures words { live.new.words ≡ live.old.words }
+{
+    if !is_beside(live.position()) {
+        return None;
+    }
+    counting_target(live)
+}
+
 /// The position with the numbers that are kept for it, and its target, where it counts. No tick.
 pub(crate) fn begin<'k>(position: Position, table: &'k KeyTable) -> (Live<'k>, Option<Square>)
     requires clock { position.clock ≤ 1000000 }
@@ -114,7 +129,7 @@ pub(crate) fn begin<'k>(position: Position, table: &'k KeyTable) -> (Live<'k>, O
 /// Makes the legal move. The answer is its record, and the target of the position after it, where it counts. The ticks are those
 /// of this one move.
 #[tactic(auto, using(chess_types::proofs::MoveLemmas::legal_pseudo, chess_types::proofs::Counters::clock_more, chess_types::proofs::Counters::number_more))]
-pub(crate) fn advance(live: &mut Live, m: Move) -> (Record, Option<Square>)
+pub(crate) fn advance<F: Follower>(live: &mut LiveWith<F>, m: Move) -> (Record, Option<Square>)
     requires legal { IsTrue (is_legal_in live.old.position m) }
     requires clock { live.old.position.clock < 1000000 }
     requires number { live.old.position.number < 1000000 }
@@ -123,7 +138,7 @@ pub(crate) fn advance(live: &mut Live, m: Move) -> (Record, Option<Square>)
     ensures past { result.0 ≡ record_of live.old.position m }
     ensures target { result.1 ≡ counting_target (after live.old.position m) }
     ensures at_most { live.new.ticks ≤ 216 }
-    ensures at_least { changed_of (man_on live.old.position) (man_on live.new.position) ≤ live.new.ticks }
+    ensures at_least { F.suffices live.old.position.placement live.new.position.placement live.new.ticks }
 {
     let made = live.make(m);
     if !is_beside(live.position()) {

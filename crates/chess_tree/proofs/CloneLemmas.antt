@@ -5,11 +5,7 @@ use Rattle.smallvec.specs.SmallVec.{SmallVec}
 use Rattle.chess_tree.specs.declared.arena.slot.Slot.{Slot}
 use Rattle.chess_tree.specs.declared.arena.slot.Below.{Below}
 use Rattle.chess_tree.specs.declared.arena.slot.Below.TheVariants.{Nothing, One, Listed}
-use Rattle.std.specs.Prelude.{unwrap_or}
-use Rattle.std.specs.Ordering.{nat_cmp}
-use Rattle.std.specs.BTreeMap.{BTreeMap, IsClone, is_at}
-use Rattle.std.specs.Map.{lookup}
-use Rattle.chess_tree.specs.steps.Rooted.{Noted, no_notes}
+use Rattle.chess_tree.specs.steps.Rooted.{Noted}
 use Rattle.chess_tree.specs.steps.Notes.{noted_in}
 use Rattle.chess_tree.specs.steps.Entries.{Entry}
 use Rattle.chess_tree.specs.steps.Laid.{IsArena, seen}
@@ -69,14 +65,9 @@ kept_copied slots slots' xs ys s h kept = subst (λ (ss : List Slot). IsKept ss 
   few = kept.few;
 })
 
--- the notes of a copied map are the same
-pub notes_copied : (m n : BTreeMap ℕ Noted) → IsClone Copied Copied m n → (j : ℕ) → noted_in n j ≡ noted_in m j
-notes_copied m n h j = ap (λ (es : List (ℕ × Noted)). unwrap_or (lookup (is_at (nat_cmp j)) es) no_notes) (pairs m.entries n.entries h) where
-  pairs : (xs ys : List (ℕ × Noted)) → AllZip (λ p q. Copied p.0 q.0 × Copied p.1 q.1) xs ys → ys ≡ xs
-  pairs [] [] h = refl
-  pairs [] (y ∷ ys) h = absurd h
-  pairs (x ∷ xs) [] h = absurd h
-  pairs (x ∷ xs) (y ∷ ys) h = (λ i. (h.0.0 i, h.0.1 i) ∷ pairs xs ys h.1 i)
+-- the notes of a copied list are the same
+pub notes_copied : (notes notes' : List Noted) → AllZip Copied notes notes' → (j : ℕ) → noted_in notes' j ≡ noted_in notes j
+notes_copied notes notes' h j = ap (λ (x : List Noted). noted_in x j) (copied notes notes' h)
 
 -- a copied arena has the same nodes and notes, and no less room
 pub arena_copied : (nodes nodes' : List Entry) (noted noted' : ℕ → Noted) (free here : ℕ) (trail trail' : List ℕ) (room room' : ℕ) →

@@ -15,9 +15,10 @@ mod steps;
 
 use crate::fault::{PlayFault, TreeFault};
 use crate::tree::Tree;
-use chess_draws::{Line, LineFault};
+use chess_attack::{Follower, Nothing};
+use chess_draws::{Line, LineFault, LineWith};
 use chess_key::KeyTable;
-use chess_play::Live;
+use chess_play::{Followers, LiveWith};
 use chess_types::{Move, Position};
 use std::alloc::Allocator;
 use std::marker::Model;
@@ -27,12 +28,12 @@ use std::marker::Model;
 ///
 /// The line has room for the way down to each node, so that a step takes no memory.
 #[derive(Drop)]
-pub struct Analysis<'a, 'k, A: Allocator> {
+pub struct AnalysisWith<'a, F: Follower, A: Allocator> {
     tree: Tree<'a, A>,
-    line: Line<'k, &'a A>,
+    line: LineWith<F, &'a A>,
 }
 
-impl<'a, 'k, A: Allocator> Model for Analysis<'a, 'k, A> {
+impl<'a, F: Follower, A: Allocator> Model for AnalysisWith<'a, F, A> {
     ghost use Rattle.chess_tree.specs.GameTree.{TreeParts};
     ghost use Rattle.chess_tree.specs.steps.TreeCode.{coded_tree};
 
@@ -46,6 +47,12 @@ impl<'a, 'k, A: Allocator> Model for Analysis<'a, 'k, A> {
 
     ghost invariant = { λ a. IsAnalysed a.tree a.line };
 }
+
+/// An analysis whose positions have attack counts, evaluation and key.
+pub type Analysis<'a, 'k, A> = AnalysisWith<'a, Followers<'k>, A>;
+
+/// An analysis whose positions are followed by nothing: what reads games asks for no count, no evaluation and no key.
+pub type PlainAnalysis<'a, A> = AnalysisWith<'a, Nothing, A>;
 
 // The refusal of a new move for which the line finds no memory: a full tree comes first.
 fn without_room<A: Allocator>(tree: &Tree<'_, A>) -> PlayFault
@@ -75,16 +82,14 @@ fn grow<A: Allocator>(tree: &mut Tree<'_, A>, m: Move) -> Result<(), PlayFault>
     }
 }
 
-impl<'a, 'k, A: Allocator> Analysis<'a, 'k, A> {
-    /// An analysis with no move, from that position, whose counters are at most 99,999; keys are kept by the words of the
-    /// table. `Memory` where there is none.
-    pub fn new(
-        alloc: &'a A,
-        start: Position,
-        table: &'k KeyTable,
-    ) -> Result<Analysis<'a, 'k, A>, TreeFault>
+impl<'a, F: Follower + Drop, A: Allocator> AnalysisWith<'a, F, A> {
+    /// An analysis with no move, from that position, whose counters are at most 99,999, with what follows its positions: it agrees with the first.
+    /// `Memory` where there is none.
+    pub fn with(alloc: &'a A, start: Position, kept: F) -> Result<AnalysisWith<'a, F, A>, TreeFault>
         requires clock { start.clock ≤ 99999 }
         requires number { start.number ≤ 99999 }
+        requires agrees { F.agrees kept start.placement }
+        requires ticks { F.ticks kept ≤ 216 }
         ensures ok { IfOk result (λ a. a ≡ record { tree = record { start = start; comment = []; below = Bare }; path = [] }) }
         ensures memory { IfErr result (λ fault. fault ≡ Memory) }
     {
@@ -92,27 +97,21 @@ impl<'a, 'k, A: Allocator> Analysis<'a, 'k, A> {
             unreachable!();
         };
         let tree = Tree::new(alloc, root)?;
-        let line = Line::start(alloc, start, table);
-        Ok(Analysis { tree, line })
+        let line = LineWith::with(alloc, start, kept);
+        Ok(AnalysisWith { tree, line })
     }
 
-    /// The analysis of a tree, such as a game that was read, with the cursor at its root; keys are kept by the words of the
-    /// table. `Memory` where there is none for the line.
-    pub fn of(mut tree: Tree<'a, A>, table: &'k KeyTable) -> Result<Analysis<'a, 'k, A>, TreeFault>
-        ensures ok { IfOk result (λ a. a ≡ at_path [] tree.entry) }
-        ensures memory { IfErr result (λ fault. fault ≡ Memory) }
+    /// The tree with its cursor, without the line.
+    pub fn into_tree(self) -> Tree<'a, A>
+        ensures tree { result ≡ self.entry }
+        ensures game { IsGameTree self.entry }
     {
-        tree.start();
-        let Ok(root) = tree.position().clone() else {
-            unreachable!();
-        };
-        let mut line = Line::start(tree.alloc(), root, table);
-        if line.reserve(tree.room()).is_err() {
-            return Err(TreeFault::Memory);
-        }
-        Ok(Analysis { tree, line })
+        let AnalysisWith { tree, line: _ } = self;
+        tree
     }
+}
 
+impl<'a, F: Follower, A: Allocator> AnalysisWith<'a, F, A> {
     /// The tree and its cursor, to look at: each move is legal where it is made, and no node is more than 20,000 plies deep.
     pub fn tree(&self) -> &Tree<'a, A>
         ensures tree { result.now ≡ self.now }
@@ -121,25 +120,16 @@ impl<'a, 'k, A: Allocator> Analysis<'a, 'k, A> {
         &self.tree
     }
 
-    /// The tree with its cursor, without the line.
-    pub fn into_tree(self) -> Tree<'a, A>
-        ensures tree { result ≡ self.entry }
-        ensures game { IsGameTree self.entry }
-    {
-        let Analysis { tree, line: _ } = self;
-        tree
-    }
-
     /// The line from the root to the cursor, to look at.
-    pub fn line(&self) -> &Line<'k, &'a A>
+    pub fn line(&self) -> &LineWith<F, &'a A>
         ensures line { result.now.line ≡ line_to self.now }
         ensures still { result.now.looked ≡ 0 }
     {
         &self.line
     }
 
-    /// The position at the cursor with the numbers kept for it. The move that led to it, made or taken back, changed at most 216 counts.
-    pub fn live(&self) -> &Live<'k>
+    /// The position at the cursor with what is kept for it. The move that led to it, made or taken back, changed at most 216 counts.
+    pub fn live(&self) -> &LiveWith<F>
         ensures position { result.now.position ≡ last (line_to self.now) }
         ensures at_most { result.now.ticks ≤ 216 }
     {
@@ -245,5 +235,44 @@ impl<'a, 'k, A: Allocator> Analysis<'a, 'k, A> {
         }
         self.line.push_prepared(m);
         Ok(())
+    }
+}
+
+impl<'a, 'k, A: Allocator> AnalysisWith<'a, Followers<'k>, A> {
+    /// An analysis with no move, from that position, whose counters are at most 99,999; keys are kept by the words of the
+    /// table. `Memory` where there is none.
+    pub fn new(
+        alloc: &'a A,
+        start: Position,
+        table: &'k KeyTable,
+    ) -> Result<Analysis<'a, 'k, A>, TreeFault>
+        requires clock { start.clock ≤ 99999 }
+        requires number { start.number ≤ 99999 }
+        ensures ok { IfOk result (λ a. a ≡ record { tree = record { start = start; comment = []; below = Bare }; path = [] }) }
+        ensures memory { IfErr result (λ fault. fault ≡ Memory) }
+    {
+        let Ok(root) = start.clone() else {
+            unreachable!();
+        };
+        let tree = Tree::new(alloc, root)?;
+        let line = Line::start(alloc, start, table);
+        Ok(AnalysisWith { tree, line })
+    }
+
+    /// The analysis of a tree, such as a game that was read, with the cursor at its root; keys are kept by the words of the
+    /// table. `Memory` where there is none for the line.
+    pub fn of(mut tree: Tree<'a, A>, table: &'k KeyTable) -> Result<Analysis<'a, 'k, A>, TreeFault>
+        ensures ok { IfOk result (λ a. a ≡ at_path [] tree.entry) }
+        ensures memory { IfErr result (λ fault. fault ≡ Memory) }
+    {
+        tree.start();
+        let Ok(root) = tree.position().clone() else {
+            unreachable!();
+        };
+        let mut line = Line::start(tree.alloc(), root, table);
+        if line.reserve(tree.room()).is_err() {
+            return Err(TreeFault::Memory);
+        }
+        Ok(AnalysisWith { tree, line })
     }
 }

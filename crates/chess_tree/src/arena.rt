@@ -17,9 +17,8 @@ use chess_types::Move;
 use free::{let_go, put};
 use node_id::NodeId;
 use nodes::Nodes;
-use notes::NoteMap;
+use notes::NoteList;
 use std::alloc::{AllocError, Allocator};
-use std::collections::BTreeMap;
 use std::marker::Model;
 
 /// The most nodes: a million, and the root.
@@ -31,7 +30,7 @@ const MOST_NODES: usize = 1_000_001;
 #[derive(Drop)]
 pub(crate) struct Arena<'a, A: Allocator> {
     nodes: Nodes<'a, A>,
-    notes: NoteMap<'a, A>,
+    notes: NoteList<'a, A>,
     /// The first freed node; the root where there is none.
     free: NodeId,
     /// The node at the cursor.
@@ -51,9 +50,9 @@ impl<'a, A: Allocator> Model for Arena<'a, A> {
 
     ghost use Rattle.chess_tree.specs.steps.Laid.{seen, IsArena};
 
-    ghost view = { λ a. seen a.nodes (noted_in a.notes) a.here };
+    ghost view = { λ a. seen a.nodes (noted_in a.notes.items) a.here };
 
-    ghost invariant = { λ a. IsArena a.nodes (noted_in a.notes) a.free a.here a.trail.items (vec_capacity a.trail) };
+    ghost invariant = { λ a. IsArena a.nodes (noted_in a.notes.items) a.free a.here a.trail.items (vec_capacity a.trail) };
 }
 
 impl<'a, A: Allocator> Clone for Arena<'a, A> {
@@ -79,7 +78,7 @@ impl<'a, A: Allocator> Arena<'a, A> {
     {
         Ok(Arena {
             nodes: Nodes::new(alloc)?,
-            notes: BTreeMap::new(alloc),
+            notes: Vec::new(alloc),
             free: NodeId::root(),
             here: NodeId::root(),
             trail: Vec::new(alloc),
@@ -201,7 +200,7 @@ impl<'a, A: Allocator> Arena<'a, A> {
             let_go(&mut self.nodes, &mut self.free, number);
             return Err(fault);
         }
-        notes::forget(&mut self.notes, number);
+        notes::forget(&mut self.notes, self.nodes.alloc(), number);
         let Ok(()) = self.trail.push(number) else {
             unreachable!()
         };

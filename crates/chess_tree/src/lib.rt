@@ -13,7 +13,7 @@ mod laws;
 mod node;
 mod tree;
 
-pub use analysis::Analysis;
+pub use analysis::{Analysis, AnalysisWith, PlainAnalysis};
 pub use fault::{PlayFault, TreeFault};
 pub use laws::undo_laws;
 pub use node::{Children, NodeRef, Notes};

@@ -6,7 +6,7 @@ ghost use Rattle.chess_tree.specs.steps.Viewed.{node_seen, IsViewed};
 
 use crate::arena::node_id::NodeId;
 use crate::arena::nodes::Nodes;
-use crate::arena::notes::{self, NoteMap};
+use crate::arena::notes::{self, NoteList};
 use chess_types::Move;
 use std::alloc::Allocator;
 use std::marker::Model;
@@ -23,7 +23,7 @@ pub struct Notes<'t> {
 #[derive(Drop)]
 pub struct NodeRef<'t, 'a, A: Allocator> {
     nodes: &'t Nodes<'a, A>,
-    notes: &'t NoteMap<'a, A>,
+    notes: &'t NoteList<'a, A>,
     number: NodeId,
 }
 
@@ -38,7 +38,7 @@ impl<'t, 'a, A: Allocator> Model for NodeRef<'t, 'a, A> {
     ghost use Rattle.chess_tree.specs.steps.Notes.{noted_in};
     ghost use Rattle.chess_tree.specs.steps.Viewed.{node_seen, IsViewed};
 
-    ghost view = { λ r. node_seen r.nodes.now (noted_in r.notes.now) r.number };
+    ghost view = { λ r. node_seen r.nodes.now (noted_in r.notes.now.items) r.number };
 
     ghost invariant = { λ r. IsViewed r.nodes.now r.number };
 }
@@ -47,11 +47,11 @@ impl<'t, 'a, A: Allocator> NodeRef<'t, 'a, A> {
     // The node with that number.
     pub(crate) fn new(
         nodes: &'t Nodes<'a, A>,
-        notes: &'t NoteMap<'a, A>,
+        notes: &'t NoteList<'a, A>,
         number: NodeId,
     ) -> NodeRef<'t, 'a, A>
         requires { IsViewed nodes.now number }
-        ensures { result ≡ node_seen nodes.now (noted_in notes.now) number }
+        ensures { result ≡ node_seen nodes.now (noted_in notes.now.items) number }
     {
         NodeRef {
             nodes,
@@ -136,7 +136,7 @@ impl<'t, 'a, A: Allocator> NodeRef<'t, 'a, A> {
 #[derive(Drop)]
 pub struct Children<'t, 'a, A: Allocator> {
     nodes: &'t Nodes<'a, A>,
-    notes: &'t NoteMap<'a, A>,
+    notes: &'t NoteList<'a, A>,
     parent: NodeId,
     /// The place of the next one.
     place: u32,
@@ -153,7 +153,7 @@ impl<'t, 'a, A: Allocator> Model for Children<'t, 'a, A> {
     ghost use Rattle.chess_tree.specs.steps.Notes.{noted_in};
     ghost use Rattle.chess_tree.specs.steps.Viewed.{side_seen, IsViewed};
 
-    ghost view = { λ c. side_seen c.nodes.now (noted_in c.notes.now) c.parent c.place };
+    ghost view = { λ c. side_seen c.nodes.now (noted_in c.notes.now.items) c.parent c.place };
 
     ghost invariant = { λ c. IsViewed c.nodes.now c.parent };
 }

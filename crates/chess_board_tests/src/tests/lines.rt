@@ -1,6 +1,7 @@
 ghost use Rattle.std.specs.Prelude.{◌≡◌, ◌+◌, ◌<◌};
 
-use chess_draws::{Claims, Line, LineFault, Status};
+use chess_attack::{Follower, Nothing};
+use chess_draws::{Claims, Line, LineFault, LineWith, Status};
 use chess_fen::read;
 use chess_key::KeyTable;
 use chess_types::{Move, Position};
@@ -36,7 +37,11 @@ fn begin_at<'k, A: Allocator>(
 }
 
 /// Pushes the move of a text.
-fn push<A: Allocator>(rt: &impl Abort, line: &mut Line<A>, text: &[u8]) -> Result<(), LineFault>
+fn push<F: Follower, A: Allocator>(
+    rt: &impl Abort,
+    line: &mut LineWith<F, A>,
+    text: &[u8],
+) -> Result<(), LineFault>
     requires none { line.old.looked ≡ 0 }
     ensures none { line.new.looked ≡ 0 }
 {
@@ -44,7 +49,7 @@ fn push<A: Allocator>(rt: &impl Abort, line: &mut Line<A>, text: &[u8]) -> Resul
 }
 
 /// Pushes the moves.
-fn push_all<A: Allocator>(rt: &impl Abort, line: &mut Line<A>, texts: &[&[u8]])
+fn push_all<F: Follower, A: Allocator>(rt: &impl Abort, line: &mut LineWith<F, A>, texts: &[&[u8]])
     requires none { line.old.looked ≡ 0 }
     ensures none { line.new.looked ≡ 0 }
 {
@@ -360,8 +365,24 @@ fn push_without_memory(rt: &impl Abort, heap: &LocalHeap, taken: usize) -> Resul
 #[test]
 fn refuses_where_there_is_no_memory(rt: HostRuntime) -> Result<(), Fail> {
     let heap = LocalHeap::new(rt.alloc(), 200_000)?;
-    for taken in [199_000, 198_000, 190_000, 160_000] {
+    for taken in [199_000, 198_000, 190_000, 185_000] {
         push_without_memory(&rt, &heap, taken)?;
     }
     Ok(())
+}
+
+/// A line with nothing beside its positions gives the same answers.
+#[test]
+fn a_plain_line(rt: HostRuntime) {
+    let start = Position::start();
+    assert!(rt; start.setup().clock == 0 && start.setup().number == 1);
+    let mut line = LineWith::with(rt.alloc(), start, Nothing);
+    let out_and_back: [&[u8]; 4] = [b"g1f3", b"g8f6", b"f3g1", b"f6g8"];
+    push_all(&rt, &mut line, &out_and_back);
+    push_all(&rt, &mut line, &out_and_back);
+    assert!(rt; line.count() == 3 && line.claims().threefold);
+    let mate: [&[u8]; 4] = [b"f2f3", b"e7e5", b"g2g4", b"d8h4"];
+    push_all(&rt, &mut line, &mate);
+    assert!(rt; line.status() == Status::Mate && line.plies() == 12);
+    assert!(rt; line.pop().is_some() && line.moves().len() == 30);
 }

@@ -1,31 +1,36 @@
 -- What is kept of the moves of a line.
 --   IsPly      it is that of a legal move in a position
+--   FitsPly    a position is the one after its move
 --   ArePlies   they are those of the line from there
 --   IsLine     what holds of a line at every moment, whichever of its moves are only looked at
 --   IsHeld     its plies, and those that are only looked at
 use Rattle.std.specs.Prelude.{◌≡◌, ◌<◌, ◌≤◌, true, ⊤, List, [], ◌∷◌, ◌++◌, length, map}
 use Rattle.chess_types.specs.board.MoveParts.{MoveParts}
-use Rattle.chess_types.specs.board.Position.{PositionParts, IsWellFormed, man_on}
+use Rattle.chess_types.specs.board.Position.{PositionParts, IsWellFormed}
 use Rattle.chess_types.specs.board.After.{after}
 use Rattle.chess_types.specs.board.Legal.{is_legal}
 use Rattle.chess_types.specs.board.Lines.{play}
 use Rattle.chess_types.specs.board.Repetition.{counting_target}
 use Rattle.chess_play.specs.LiveParts.{LiveParts}
-use Rattle.chess_play.specs.Records.{record_of}
+use Rattle.chess_play.specs.Records.{record_of, IsBefore}
 use Rattle.chess_draws.specs.declared.ply.Ply.{Ply}
 use Rattle.chess_draws.specs.declared.repetition_key.RepetitionKey.{RepetitionKey}
-use Rattle.chess_draws.specs.steps.RepetitionKeys.{IsMenOf, IsKeyOf}
+use Rattle.chess_draws.specs.steps.RepetitionKeys.{IsKeyOf}
 use Rattle.chess_draws.specs.Pushes.{most_plies}
 
 -- the ply is that of a legal move in the position, between squares of the board
 pub record IsPly (p : PositionParts) (ply : Ply) : Type 0 where
-  pub men : IsMenOf ply.men (man_on p)
-  pub side : ply.side ≡ p.side
   pub target : ply.target ≡ counting_target p
   pub past : ply.past ≡ record_of p ply.past.played
   pub from : ply.past.played.from < 64
   pub to : ply.past.played.to < 64
   pub legal : is_legal p ply.past.played ≡ true
+
+-- the position is the one after the ply's move
+pub record FitsPly (now : PositionParts) (ply : Ply) : Type 0 where
+  pub before : PositionParts
+  pub is_before : IsBefore now ply.past before
+  pub target : ply.target ≡ counting_target before
 
 -- each ply is that of a move in the position to which the plies before it lead
 abbrev pub ArePlies : PositionParts → List Ply → Type 0

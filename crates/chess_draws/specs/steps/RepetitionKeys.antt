@@ -3,12 +3,13 @@
 --   holds_short     one that is kept with the pawns; the kings are in both
 --   IsMenOf         the sets of squares are those of what stands on a board
 --   IsKeyOf       what is kept is that of a position
---   same_ply        it agrees with what is kept of the position before a ply
+--   same_men        the five sets of two boards are the same
+--   same_moves      the castling rights and the counting target are those before a ply
 use Rattle.std.specs.Prelude.{◌≡◌, Bool, false, ◌&&◌, ◌||◌, Option, Some, None}
 use Rattle.chess_types.specs.declared.board.man.Man.{Man}
 use Rattle.chess_types.specs.declared.board.man.Colour.TheVariants.{White, Black}
 use Rattle.chess_types.specs.board.Board.{Men}
-use Rattle.chess_types.specs.board.Men.{same_colour, is_of, is_pawn, is_king}
+use Rattle.chess_types.specs.board.Men.{is_of, is_pawn, is_king}
 use Rattle.chess_types.specs.board.Position.{PositionParts, man_on}
 use Rattle.chess_types.specs.board.Sets.{same_each}
 use Rattle.chess_types.specs.board.Repetition.{same_rights, same_target, counting_target}
@@ -48,6 +49,6 @@ same_men m n =
     same_each m.white n.white && same_each m.black n.black && same_each m.straight n.straight && same_each m.diagonal n.diagonal
     && same_each m.short n.short
 
--- by `is_same`, of positions (9.2.3)
-unfoldable pub same_ply : RepetitionKey → Ply → Bool
-same_ply s ply = same_colour s.side ply.side && same_men s.men ply.men && same_rights s.rights ply.past.rights && same_target s.target ply.target
+-- the castling rights are those before a ply, and so is the target that counts (9.2.3)
+unfoldable pub same_moves : RepetitionKey → Ply → Bool
+same_moves s ply = same_rights s.rights ply.past.rights && same_target s.target ply.target

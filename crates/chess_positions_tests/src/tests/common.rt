@@ -1,5 +1,4 @@
 use arrayvec::ArrayVec;
-use chess_key::KeyTable;
 use chess_pgn::{Game, read_game};
 use chess_positions::{Column, Format, Layout, header, rows};
 use std::alloc::{AllocError, Allocator};
@@ -32,9 +31,8 @@ pub fn all_of<'a, A: Allocator>(
     number: u64,
     game: &Game<'_, A>,
 ) -> Result<Vec<u8, &'a A>, AllocError> {
-    let table = KeyTable::fixed();
     let mut all = header(alloc, layout)?;
-    let more = rows(alloc, layout, number, game, &table)?;
+    let more = rows(alloc, layout, number, game)?;
     all.extend_from_slice(more.as_slice())?;
     Ok(all)
 }

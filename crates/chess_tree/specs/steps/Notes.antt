@@ -1,15 +1,13 @@
--- The notes of a tree's nodes, which few nodes have.
+-- The notes of a tree's nodes, kept up to the last node that was given some.
 --   noted_in     what is noted at a number
 --   IsNotedAt    it is that at one number, and as before at the others
-use Rattle.std.specs.Prelude.{◌≡◌, ℕ, unwrap_or}
+use Rattle.std.specs.Prelude.{◌≡◌, ℕ, List, get_or}
 use mathlib.Core.Logic.{◌≢◌}
-use Rattle.std.specs.Ordering.{nat_cmp}
-use Rattle.std.specs.BTreeMap.{BTreeMap, get}
 use Rattle.chess_tree.specs.steps.Rooted.{Noted, no_notes}
 
--- nothing, where there is no entry
-abbrev pub noted_in : BTreeMap ℕ Noted → ℕ → Noted
-noted_in m j = unwrap_or (get nat_cmp m j) no_notes
+-- nothing, past the end of the list
+abbrev pub noted_in : List Noted → ℕ → Noted
+noted_in notes j = get_or notes j no_notes
 
 -- from one to another
 pub record IsNotedAt (old new : ℕ → Noted) (i : ℕ) (n : Noted) : Type 0 where

@@ -12,13 +12,15 @@ ghost use Rattle.chess_search.specs.Best.{best};
 ghost use Rattle.chess_search.specs.Slices.{IsInRange};
 ghost use Rattle.chess_tree.specs.GameTree.{line_to};
 
-use super::Analysis;
+use super::AnalysisWith;
 use arrayvec::{ArrayString, ArrayVec};
+use chess_attack::Follower;
+use chess_play::Followers;
 use chess_san::SanFault;
 use chess_types::{Claims, Colour, Move, Status};
 use std::alloc::Allocator;
 
-impl<'a, 'k, A: Allocator> Analysis<'a, 'k, A> {
+impl<'a, F: Follower, A: Allocator> AnalysisWith<'a, F, A> {
     /// The legal moves at the cursor, in order (FIDE Laws 3.1 to 3.10).
     pub fn moves(&mut self) -> ArrayVec<Move, 432>
         ensures listed { result.items ≡ legal_moves (last (line_to self.old)) }
@@ -112,7 +114,9 @@ impl<'a, 'k, A: Allocator> Analysis<'a, 'k, A> {
     {
         self.line.claims_with(m)
     }
+}
 
+impl<'a, 'k, A: Allocator> AnalysisWith<'a, Followers<'k>, A> {
     /// The first legal move at the cursor of greatest plain minimax value so many plies deep, 1 to 16, with its value for the side to
     /// move: centipawns, or 30,000 less the plies to a mate. `None` where there is no legal move. Takes no memory.
     #[tactic(auto, using(chess_search::proofs::RootLemmas::roots_legal))]

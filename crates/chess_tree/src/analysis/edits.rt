@@ -2,11 +2,12 @@ ghost use Rattle.chess_tree.specs.Calls.{Annotates, Comments, Promotes, StepsUp,
 ghost use Rattle.chess_tree.specs.GameTree.{deleted};
 ghost use Rattle.chess_tree.specs.Undo.{undone};
 
-use super::Analysis;
+use super::AnalysisWith;
 use crate::fault::TreeFault;
+use chess_attack::Follower;
 use std::alloc::Allocator;
 
-impl<'a, 'k, A: Allocator> Analysis<'a, 'k, A> {
+impl<'a, F: Follower, A: Allocator> AnalysisWith<'a, F, A> {
     /// Takes out the node at the cursor and all below it, and steps to its parent; its siblings keep their order. No
     /// memory is taken. `AtRoot` at the root.
     pub fn delete(&mut self) -> Result<(), TreeFault>

@@ -3,11 +3,12 @@ ghost use Rattle.chess_tree.specs.Edits.{parent};
 ghost use Rattle.chess_tree.specs.GameTree.{at_path, line_along, line_to};
 ghost use Rattle.chess_tree.specs.Calls.{GoesTo, GoesToEnd, StepsDown, StepsUp};
 
-use super::Analysis;
+use super::AnalysisWith;
 use crate::fault::TreeFault;
+use chess_attack::Follower;
 use std::alloc::Allocator;
 
-impl<'a, 'k, A: Allocator> Analysis<'a, 'k, A> {
+impl<'a, F: Follower, A: Allocator> AnalysisWith<'a, F, A> {
     /// Steps to the child at that place, from 0. `NoSuch` where there is none. Takes no memory.
     pub fn step(&mut self, place: u32) -> Result<(), TreeFault>
         ensures { StepsDown place self.old result self.new }

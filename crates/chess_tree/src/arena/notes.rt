@@ -1,11 +1,10 @@
-ghost use Rattle.std.specs.Prelude.{◌≡◌, ℕ, ◌++◌, ◌∷◌, [], IsOk, OnOk, OnErr};
+ghost use Rattle.std.specs.Prelude.{◌≡◌, ℕ, ◌<◌, ◌++◌, ◌∷◌, [], length, IsOk, OnOk, OnErr};
 ghost use Rattle.chess_tree.specs.steps.Rooted.{no_notes};
 ghost use Rattle.chess_tree.specs.steps.Notes.{noted_in, IsNotedAt};
 
 use super::node_id::NodeId;
 use smallvec::SmallVec;
 use std::alloc::{AllocError, Allocator};
-use std::collections::BTreeMap;
 use std::marker::Model;
 
 /// What is noted at a node: its annotation numbers, and its comment.
@@ -36,8 +35,8 @@ impl<'a, A: Allocator> Clone for Note<'a, A> {
     }
 }
 
-/// The notes of the nodes that have some, by their numbers.
-pub(crate) type NoteMap<'a, A> = BTreeMap<u32, Note<'a, A>, &'a A>;
+/// The notes of the nodes, by their numbers, up to the last node that was given some.
+pub(crate) type NoteList<'a, A> = Vec<Note<'a, A>, &'a A>;
 
 impl<'a, A: Allocator> Note<'a, A> {
     /// None.
@@ -59,80 +58,88 @@ impl<'a, A: Allocator> Note<'a, A> {
     }
 }
 
+// Room for the notes at a number, and at those before it.
+fn reach<'a, A: Allocator>(
+    notes: &mut NoteList<'a, A>,
+    alloc: &'a A,
+    number: NodeId,
+) -> Result<(), AllocError>
+    ensures same { (j : ℕ) → noted_in notes.new.items j ≡ noted_in notes.old.items j }
+    ensures within { OnOk result (number < length notes.new.items) }
+    ensures there { number < length notes.old.items → IsOk result }
+{
+    while notes.len() <= number.index() {
+        notes.push(Note::new(alloc))?;
+    }
+    Ok(())
+}
+
 /// A nag more at a number.
 pub(crate) fn add_nag<'a, A: Allocator>(
-    notes: &mut NoteMap<'a, A>,
+    notes: &mut NoteList<'a, A>,
     alloc: &'a A,
     number: NodeId,
     nag: u8,
 ) -> Result<(), AllocError>
-    ensures ok { OnOk result (IsNotedAt (noted_in notes.old) (noted_in notes.new) number (record { nags = (noted_in notes.old number).nags ++ nag ∷ []; comment = (noted_in notes.old number).comment })) }
-    ensures err { OnErr result ((j : ℕ) → noted_in notes.new j ≡ noted_in notes.old j) }
+    ensures ok { OnOk result (IsNotedAt (noted_in notes.old.items) (noted_in notes.new.items) number (record { nags = (noted_in notes.old.items number).nags ++ nag ∷ []; comment = (noted_in notes.old.items number).comment })) }
+    ensures err { OnErr result ((j : ℕ) → noted_in notes.new.items j ≡ noted_in notes.old.items j) }
 {
-    let note = notes.entry(number.number())?.or_insert(Note::new(alloc));
-    note.push_nag(nag)?;
-    Ok(())
+    reach(notes, alloc, number)?;
+    notes[number.index()].push_nag(nag)
 }
 
-/// No nags at a number. Where no comment is there either, the map has no entry.
-pub(crate) fn clear_nags<'a, A: Allocator>(notes: &mut NoteMap<'a, A>, number: NodeId)
-    ensures { IsNotedAt (noted_in notes.old) (noted_in notes.new) number (record { nags = []; comment = (noted_in notes.old number).comment }) }
+/// No nags at a number.
+pub(crate) fn clear_nags<'a, A: Allocator>(notes: &mut NoteList<'a, A>, number: NodeId)
+    ensures { IsNotedAt (noted_in notes.old.items) (noted_in notes.new.items) number (record { nags = []; comment = (noted_in notes.old.items number).comment }) }
 {
-    if comment(notes, number).is_empty() {
-        forget(notes, number);
-        return;
-    }
-    if let Some(note) = notes.get_mut(&number.number()) {
+    if let Some(note) = notes.get_mut(number.index()) {
         note.nags.clear();
     }
 }
 
-/// Another comment at a number. Where an empty one leaves no notes, the map has no entry. An empty one takes no memory.
+/// Another comment at a number. An empty one takes no memory.
 pub(crate) fn set_comment<'a, A: Allocator>(
-    notes: &mut NoteMap<'a, A>,
+    notes: &mut NoteList<'a, A>,
     alloc: &'a A,
     number: NodeId,
     comment: Vec<u8, &'a A>,
 ) -> Result<(), AllocError>
-    ensures ok { OnOk result (IsNotedAt (noted_in notes.old) (noted_in notes.new) number (record { nags = (noted_in notes.old number).nags; comment = comment.entry.items })) }
-    ensures err { OnErr result ((j : ℕ) → noted_in notes.new j ≡ noted_in notes.old j) }
+    ensures ok { OnOk result (IsNotedAt (noted_in notes.old.items) (noted_in notes.new.items) number (record { nags = (noted_in notes.old.items number).nags; comment = comment.entry.items })) }
+    ensures err { OnErr result ((j : ℕ) → noted_in notes.new.items j ≡ noted_in notes.old.items j) }
     ensures removed { comment.entry.items ≡ [] → IsOk result }
 {
-    if comment.is_empty() && nags(notes, number).is_empty() {
-        forget(notes, number);
+    if comment.is_empty() && notes.len() <= number.index() {
         return Ok(());
     }
-    if let Some(note) = notes.get_mut(&number.number()) {
-        note.comment = comment;
-        return Ok(());
-    }
-    let note = notes.entry(number.number())?.or_insert(Note::new(alloc));
-    note.comment = comment;
+    reach(notes, alloc, number)?;
+    notes[number.index()].comment = comment;
     Ok(())
 }
 
 /// No notes at a number.
-pub(crate) fn forget<'a, A: Allocator>(notes: &mut NoteMap<'a, A>, number: NodeId)
-    ensures { IsNotedAt (noted_in notes.old) (noted_in notes.new) number no_notes }
+pub(crate) fn forget<'a, A: Allocator>(notes: &mut NoteList<'a, A>, alloc: &'a A, number: NodeId)
+    ensures { IsNotedAt (noted_in notes.old.items) (noted_in notes.new.items) number no_notes }
 {
-    let _gone = notes.remove(&number.number());
+    if let Some(note) = notes.get_mut(number.index()) {
+        *note = Note::new(alloc);
+    }
 }
 
 /// The nags at a number.
-pub(crate) fn nags<'t, 'a, A: Allocator>(notes: &'t NoteMap<'a, A>, number: NodeId) -> &'t [u8]
-    ensures { result.now ≡ (noted_in notes.now number).nags }
+pub(crate) fn nags<'t, 'a, A: Allocator>(notes: &'t NoteList<'a, A>, number: NodeId) -> &'t [u8]
+    ensures { result.now ≡ (noted_in notes.now.items number).nags }
 {
-    match notes.get(&number.number()) {
+    match notes.get(number.index()) {
         Some(note) => note.nags.as_slice(),
         None => &[],
     }
 }
 
 /// The comment at a number.
-pub(crate) fn comment<'t, 'a, A: Allocator>(notes: &'t NoteMap<'a, A>, number: NodeId) -> &'t [u8]
-    ensures { result.now ≡ (noted_in notes.now number).comment }
+pub(crate) fn comment<'t, 'a, A: Allocator>(notes: &'t NoteList<'a, A>, number: NodeId) -> &'t [u8]
+    ensures { result.now ≡ (noted_in notes.now.items number).comment }
 {
-    match notes.get(&number.number()) {
+    match notes.get(number.index()) {
         Some(note) => note.comment.as_slice(),
         None => &[],
     }

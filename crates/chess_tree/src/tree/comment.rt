@@ -10,11 +10,17 @@ use std::alloc::{AllocError, Allocator};
 /// The bytes of white space: from the horizontal tab to the carriage return, and the space.
 const BLANKS: &[u8] = b"\t\n\x0b\x0c\r ";
 
-// Appends a word, after a space unless it is the first.
-fn add_word<'a, A: Allocator>(comment: &mut Vec<u8, &'a A>, word: &[u8]) -> Result<(), AllocError>
+// Appends a word, after a space unless it is the first: with that comes room for the others.
+fn add_word<'a, A: Allocator>(
+    comment: &mut Vec<u8, &'a A>,
+    word: &[u8],
+    others: &[u8],
+) -> Result<(), AllocError>
     ensures { OnOk result (comment.new.items ≡ with_next_word comment.old.items word.now) }
 {
-    if !comment.is_empty() {
+    if comment.is_empty() {
+        comment.reserve_exact(word.len().saturating_add(others.len()))?;
+    } else {
         comment.push(b' ')?;
     }
     comment.extend_from_slice(word)
@@ -28,7 +34,7 @@ fn normalised<'a, A: Allocator>(alloc: &'a A, text: &[u8]) -> Result<Vec<u8, &'a
     let mut comment = Vec::new(alloc);
     let mut rest = text;
     while let Some((word, others)) = split_word(rest, BLANKS) {
-        add_word(&mut comment, word)?;
+        add_word(&mut comment, word, others)?;
         rest = others;
     }
     Ok(comment)

@@ -220,7 +220,7 @@ fn is_refused_on(rt: &impl Abort, heap: &LocalHeap, trial: Trial, number: usize)
     match trial {
         Trial::Grow => is_memory(rt, grow(rt, heap)),
         Trial::Begin => is_memory(rt, begins(heap, &a_table())),
-        Trial::CallTree => call_tree(rt, heap, taken(15_500, number, 32)),
+        Trial::CallTree => call_tree(rt, heap, taken(16_200, number, 32)),
         Trial::CallAnalysis => call_analysis(rt, heap, &a_table(), taken(65_000, number, 64)),
     }
 }

@@ -397,7 +397,7 @@ fn is_starved_with(rt: &impl Abort, alloc: Global, free: usize) -> Result<bool, 
 fn keeps_its_line_without_memory(rt: HostRuntime) -> Result<(), Fail> {
     let mut refused = 0u32;
     for free in 1..100usize {
-        if is_starved_with(&rt, rt.alloc(), free * 32)? {
+        if is_starved_with(&rt, rt.alloc(), free * 8)? {
             refused = refused.saturating_add(1);
         }
     }

@@ -4,7 +4,7 @@ use Rattle.chess_play.specs.Records.{IsBefore}
 use Rattle.chess_draws.proofs.target.advance.Goals as goal
 
 pub undo-requires : goal.undo-requires
-undo-requires c = record {
+undo-requires g c = record {
   fits = record {
     before = c.args.live.now.position;
     is_before = subst (λ (p : PositionParts). IsBefore p c.make-made.result c.args.live.now.position) (sym c.counting_target-target.ensures.position)

@@ -4,24 +4,24 @@ use Rattle.chess_draws.proofs.TargetLemmas.{no_target, is_taken, one_taken, not_
 use Rattle.chess_draws.proofs.target.counting_target.Goals as goal
 
 pub returns-in_err-target-clause-value : goal.returns-in_err-target-clause-value
-returns-in_err-target-clause-value c =
+returns-in_err-target-clause-value g c =
     c.from_residual.ensures
     ∙ sym (no_target c.args.live.now.position (ap (λ (s : PositionParts). s.target) (sym (c.setup.view_is ∙ c.position-setup.ensures.value)) ∙ c.in_err-target.was))
 
 pub origins-left-requires : goal.origins-left-requires
-origins-left-requires c =
+origins-left-requires g c =
     target_inside c.args.live.now.position c.in_ok-target.target c.position-setup.ensures.setup
     (ap (λ (s : PositionParts). s.target) (sym (c.setup.view_is ∙ c.position-setup.ensures.value)) ∙ c.in_ok-target.was)
 
 pub returns-then-is_taken_from-clause-value : goal.returns-then-is_taken_from-clause-value
-returns-then-is_taken_from-clause-value c =
+returns-then-is_taken_from-clause-value g c =
     let p = c.args.live.now.position in
     let known = are_beside p _ c.in_ok-target.target c.origins-left.result.0 c.origins-left.result.1 (c.setup.view_is ∙ c.position-setup.ensures.value)
     c.position-setup.ensures.setup c.in_ok-target.was c.origins-left.ensures.white c.origins-left.ensures.black in
     sym (one_taken p _ _ _ known (inl (sym c.if-is_taken_from.ensures.value)))
 
 pub returns-then-is_taken_from-2-clause-value : goal.returns-then-is_taken_from-2-clause-value
-returns-then-is_taken_from-2-clause-value c =
+returns-then-is_taken_from-2-clause-value g c =
     let p = c.args.live.now.position in
     let known = are_beside p _ c.in_ok-target.target c.origins-left.result.0 c.origins-left.result.1 (c.setup.view_is ∙ c.position-setup.ensures.value)
     c.position-setup.ensures.setup c.in_ok-target.was c.origins-left.ensures.white c.origins-left.ensures.black in
@@ -29,7 +29,7 @@ returns-then-is_taken_from-2-clause-value c =
     sym (one_taken p _ _ _ known (inr (sym same ∙ sym c.if-is_taken_from-2.ensures.value)))
 
 pub returns-clause-value : goal.returns-clause-value
-returns-clause-value c =
+returns-clause-value g c =
     let p = c.args.live.now.position in
     let known = are_beside p _ c.in_ok-target.target c.origins-left.result.0 c.origins-left.result.1 (c.setup.view_is ∙ c.position-setup.ensures.value)
     c.position-setup.ensures.setup c.in_ok-target.was c.origins-left.ensures.white c.origins-left.ensures.black in

@@ -14,10 +14,10 @@ lift-requires g c = has_child _ _ _ _ _ _ _ c.self.invariant c.self.view_is c.se
 
 pub invariant_of-self : goal.invariant_of-self
 invariant_of-self g c =
-    subst (λ (x : List Entry). IsArena x (noted_in c.self.inside.notes) c.self.inside.free c.self.inside.here c.self.inside.trail.items (vec_capacity c.self.inside.trail)) (sym c.lift.ensures)
+    subst (λ (x : List Entry). IsArena x (noted_in c.self.inside.notes.items) c.self.inside.free c.self.inside.here c.self.inside.trail.items (vec_capacity c.self.inside.trail)) (sym c.lift.ensures)
     (promoted_now _ _ _ _ _ _ _ c.self.invariant c.self.view_is c.seat-at.result.0 c.seat-at.result.1 c.requires c.seat-at.ensures.parent c.seat-at.ensures.place).0
 
 pub returns : goal.returns
 returns g c =
-    ap (λ (x : List Entry). seen x (noted_in c.self.inside.notes) c.self.inside.here) c.lift.ensures
+    ap (λ (x : List Entry). seen x (noted_in c.self.inside.notes.items) c.self.inside.here) c.lift.ensures
     ∙ (promoted_now _ _ _ _ _ _ _ c.self.invariant c.self.view_is c.seat-at.result.0 c.seat-at.result.1 c.requires c.seat-at.ensures.parent c.seat-at.ensures.place).1

@@ -25,11 +25,11 @@ invariant_of-self g c =
     let nodes = c.let_go.ensures.nodes ∙ ap (with_parent c.self.inside.here c.self.inside.free) c.detach.ensures in
     let on = deleted_now _ _ _ _ _ _ _ c.self.invariant c.self.view_is c.seat-at.result.0 c.seat-at.result.1 _ _ _ c.requires c.seat-at.ensures.parent c.seat-at.ensures.place c.in-Some.ensures.items c.in-Some.ensures.capacity in
     let left = with_parent c.self.inside.here c.self.inside.free (detached c.seat-at.result.0 c.seat-at.result.1 c.self.inside.nodes) in
-    subst (λ (x : List Entry). IsArena x (noted_in c.self.inside.notes) c.let_go.new.free c.seat-at.result.0 c.pop.new.self.items (vec_capacity c.pop.new.self)) (sym nodes)
-    (subst (λ (x : ℕ). IsArena left (noted_in c.self.inside.notes) x c.seat-at.result.0 c.pop.new.self.items (vec_capacity c.pop.new.self)) (sym c.let_go.ensures.free) on.0)
+    subst (λ (x : List Entry). IsArena x (noted_in c.self.inside.notes.items) c.let_go.new.free c.seat-at.result.0 c.pop.new.self.items (vec_capacity c.pop.new.self)) (sym nodes)
+    (subst (λ (x : ℕ). IsArena left (noted_in c.self.inside.notes.items) x c.seat-at.result.0 c.pop.new.self.items (vec_capacity c.pop.new.self)) (sym c.let_go.ensures.free) on.0)
 
 pub returns : goal.returns
 returns g c =
     let nodes = c.let_go.ensures.nodes ∙ ap (with_parent c.self.inside.here c.self.inside.free) c.detach.ensures in
     let on = deleted_now _ _ _ _ _ _ _ c.self.invariant c.self.view_is c.seat-at.result.0 c.seat-at.result.1 _ _ _ c.requires c.seat-at.ensures.parent c.seat-at.ensures.place c.in-Some.ensures.items c.in-Some.ensures.capacity in
-    ap (λ (x : List Entry). seen x (noted_in c.self.inside.notes) c.seat-at.result.0) nodes ∙ on.1
+    ap (λ (x : List Entry). seen x (noted_in c.self.inside.notes.items) c.seat-at.result.0) nodes ∙ on.1

@@ -8,4 +8,4 @@ pub new-requires : goal.new-requires
 new-requires g c = subst (λ (x : ℕ). IsViewed c.self.inside.nodes x) (sym c.root.ensures) (root_viewed _ _ _ _ _ _ _ c.self.invariant c.self.view_is)
 
 pub returns : goal.returns
-returns g c = c.new.ensures ∙ ap (λ (x : ℕ). node_seen c.self.inside.nodes (noted_in c.self.inside.notes) x) c.root.ensures ∙ root_seen _ _ _ _ _ _ _ c.self.invariant c.self.view_is
+returns g c = c.new.ensures ∙ ap (λ (x : ℕ). node_seen c.self.inside.nodes (noted_in c.self.inside.notes.items) x) c.root.ensures ∙ root_seen _ _ _ _ _ _ _ c.self.invariant c.self.view_is
