@@ -1,9 +1,10 @@
 ghost use Rattle.std.specs.Prelude.{◌≡◌, ◌++◌, true, option_map, OnOk};
 ghost use Rattle.chess_types.specs.board.Lines.{last};
 ghost use Rattle.chess_types.specs.board.Texts.{move_text};
-ghost use Rattle.chess_fen.specs.Writing.{written};
+ghost use Rattle.chess_fen.specs.Writing.{identity, written};
 ghost use Rattle.chess_draws.specs.LineParts.{IsAsBefore};
-ghost use Rattle.chess_positions.specs.Columns.{key_text, text_if, san_of, datum};
+ghost use Rattle.chess_polyglot.specs.Keys.{polyglot_key};
+ghost use Rattle.chess_positions.specs.Columns.{Text, key_text, text_if, san_of, datum};
 ghost use Rattle.chess_positions.specs.Rows.{datum_text};
 ghost use Rattle.chess_positions.specs.steps.Made.{IsReached, is_san};
 
@@ -12,7 +13,7 @@ use crate::layout::Format;
 use crate::made::Made;
 use crate::put::{put, put_both, put_nothing, put_number, put_text};
 use arrayvec::ArrayString;
-use chess_draws::Line;
+use chess_draws::PlainLine;
 use chess_fen::write_fields;
 use chess_items::Outcome;
 use chess_types::Setup;
@@ -46,7 +47,7 @@ fn put_san<A: Allocator, B: Allocator>(
     out: &mut Vec<u8, A>,
     format: Format,
     reached: &Option<Made>,
-    line: &mut Line<'_, B>,
+    line: &mut PlainLine<B>,
 ) -> Result<(), AllocError>
     requires reached { IsReached true line.old.line reached.now }
     ensures text { OnOk result (out.new.items ≡ out.old.items ++ datum_text format (text_if (san_of line.old.line))) }
@@ -85,6 +86,42 @@ fn key_text(key: u64) -> [u8; 16]
     digits
 }
 
+// The FEN of the last position, its four fields by which the Laws tell positions apart, and Polyglot's key: each buffer is in a frame of its own, so that no other
+// cell has to clear it.
+#[inline(never)]
+fn put_fen<A: Allocator, B: Allocator>(
+    out: &mut Vec<u8, A>,
+    format: Format,
+    line: &PlainLine<B>,
+) -> Result<(), AllocError>
+    ensures { OnOk result (out.new.items ≡ out.old.items ++ datum_text format (Text (written (last line.now.line)))) }
+{
+    put_text(out, format, fen_text(line.live().position()).as_bytes())
+}
+
+#[inline(never)]
+fn put_epd<A: Allocator, B: Allocator>(
+    out: &mut Vec<u8, A>,
+    format: Format,
+    line: &PlainLine<B>,
+) -> Result<(), AllocError>
+    ensures { OnOk result (out.new.items ≡ out.old.items ++ datum_text format (Text (identity (last line.now.line)))) }
+{
+    put_text(out, format, line.identity().as_bytes())
+}
+
+#[inline(never)]
+fn put_key<A: Allocator, B: Allocator>(
+    out: &mut Vec<u8, A>,
+    format: Format,
+    line: &PlainLine<B>,
+) -> Result<(), AllocError>
+    ensures { OnOk result (out.new.items ≡ out.old.items ++ datum_text format (Text (key_text (polyglot_key (last line.now.line))))) }
+{
+    let key = chess_polyglot::key(line.live().position());
+    put_text(out, format, &key_text(key))
+}
+
 /// What a row has in a column, after the last move of the line.
 pub(crate) fn put_value<A: Allocator, B: Allocator>(
     out: &mut Vec<u8, A>,
@@ -92,7 +129,7 @@ pub(crate) fn put_value<A: Allocator, B: Allocator>(
     column: Column,
     of: Of,
     reached: &Option<Made>,
-    line: &mut Line<'_, B>,
+    line: &mut PlainLine<B>,
 ) -> Result<(), AllocError>
     requires none { line.old.looked ≡ 0 }
     requires reached { IsReached (is_san column) line.old.line reached.now }
@@ -104,12 +141,9 @@ pub(crate) fn put_value<A: Allocator, B: Allocator>(
         Column::Ply => put_number(out, line.plies() as u64),
         Column::Uci => put_move(out, format, reached),
         Column::San => put_san(out, format, reached, line),
-        Column::Fen => put_text(out, format, fen_text(line.live().position()).as_bytes()),
-        Column::Epd => put_text(out, format, line.identity().as_bytes()),
-        Column::Key => {
-            let key = chess_polyglot::key(line.live().position());
-            put_text(out, format, &key_text(key))
-        }
+        Column::Fen => put_fen(out, format, line),
+        Column::Epd => put_epd(out, format, line),
+        Column::Key => put_key(out, format, line),
         Column::Repetitions => put_number(out, line.count() as u64),
         Column::Status => put_text(out, format, line.status().name().as_bytes()),
         Column::Result => put_text(out, format, of.outcome.marker().as_bytes()),

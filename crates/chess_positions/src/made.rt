@@ -8,7 +8,7 @@ ghost use Rattle.chess_draws.specs.Pushes.{most_plies};
 ghost use Rattle.chess_positions.specs.steps.Made.{IsReached};
 
 use arrayvec::ArrayString;
-use chess_draws::Line;
+use chess_draws::PlainLine;
 use chess_types::Move;
 use std::alloc::{AllocError, Allocator};
 
@@ -21,7 +21,11 @@ pub(crate) struct Made {
 }
 
 // The text of a legal move without its mark, where it is asked for.
-fn unmarked_if<A: Allocator>(line: &mut Line<'_, A>, with_san: bool, played: Move) -> ArrayString<8>
+fn unmarked_if<A: Allocator>(
+    line: &mut PlainLine<A>,
+    with_san: bool,
+    played: Move,
+) -> ArrayString<8>
     requires legal { is_legal (last line.old.line) played ≡ true }
     ensures text { with_san ≡ true → result.bytes ++ mark_text (after (last line.old.line) played) ≡ san (last line.old.line) played }
     ensures as_before { IsAsBefore line.old line.new }
@@ -35,7 +39,7 @@ fn unmarked_if<A: Allocator>(line: &mut Line<'_, A>, with_san: bool, played: Mov
 
 /// Makes a legal move.
 pub(crate) fn make<A: Allocator>(
-    line: &mut Line<'_, A>,
+    line: &mut PlainLine<A>,
     with_san: bool,
     played: Move,
 ) -> Result<Made, AllocError>

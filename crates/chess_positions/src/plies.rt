@@ -14,8 +14,8 @@ use crate::layout::{Format, Layout};
 use crate::made::make;
 use crate::put::put;
 use crate::row::put_row;
-use chess_draws::Line;
-use chess_key::KeyTable;
+use chess_attack::Nothing;
+use chess_draws::{LineWith, PlainLine};
 use chess_pgn::Game;
 use chess_tree::Tree;
 use std::alloc::{AllocError, Allocator};
@@ -33,7 +33,7 @@ fn follow<A: Allocator, B: Allocator, C: Allocator>(
     layout: &Layout,
     of: Of,
     tree: &Tree<'_, A>,
-    line: &mut Line<'_, B>,
+    line: &mut PlainLine<B>,
 ) -> Result<(), AllocError>
     requires start { line.old.line ≡ record { start = tree.now.tree.start; moves = [] } }
     requires none { line.old.looked ≡ 0 }
@@ -65,14 +65,13 @@ pub fn rows<'a, A: Allocator, B: Allocator>(
     layout: &Layout,
     number: u64,
     game: &Game<'_, A>,
-    table: &KeyTable,
 ) -> Result<Vec<u8, &'a B>, AllocError>
     ensures { IfOk result (λ rows. rows.items ≡ plies_text layout.now.format layout.now.columns.items number game.now.result (main game.now.tree.tree)) }
 {
     let Ok(start) = game.tree.position().clone() else {
         unreachable!();
     };
-    let mut line = Line::start(alloc, start, table);
+    let mut line = LineWith::with(alloc, start, Nothing);
     let mut out = Vec::new(alloc);
     let of = Of {
         number,
@@ -104,7 +103,7 @@ fn put_all_names<A: Allocator>(out: &mut Vec<u8, A>, columns: &[Column]) -> Resu
     put_names(out, rest)
 }
 
-/// What stands before the rows: of comma-separated values a row of the columns' names, of JSON nothing.
+/// What comes before the rows: of comma-separated values a row of the columns' names, of JSON nothing.
 ///
 /// # Errors
 ///

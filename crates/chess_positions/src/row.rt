@@ -10,7 +10,7 @@ use crate::column::Column;
 use crate::layout::{Format, Layout};
 use crate::made::Made;
 use crate::put::put;
-use chess_draws::Line;
+use chess_draws::PlainLine;
 use std::alloc::{AllocError, Allocator};
 
 // What stands before a value.
@@ -59,7 +59,7 @@ fn put_cell<A: Allocator, B: Allocator>(
     column: Column,
     of: Of,
     reached: &Option<Made>,
-    line: &mut Line<'_, B>,
+    line: &mut PlainLine<B>,
 ) -> Result<(), AllocError>
     requires none { line.old.looked ≡ 0 }
     requires reached { IsReached (is_san column) line.old.line reached.now }
@@ -77,7 +77,7 @@ fn put_more<A: Allocator, B: Allocator>(
     columns: &[Column],
     of: Of,
     reached: &Option<Made>,
-    line: &mut Line<'_, B>,
+    line: &mut PlainLine<B>,
 ) -> Result<(), AllocError>
     requires none { line.old.looked ≡ 0 }
     requires reached { IsReached (list_any is_san columns.now) line.old.line reached.now }
@@ -98,7 +98,7 @@ fn put_cells<A: Allocator, B: Allocator>(
     columns: &[Column],
     of: Of,
     reached: &Option<Made>,
-    line: &mut Line<'_, B>,
+    line: &mut PlainLine<B>,
 ) -> Result<(), AllocError>
     requires none { line.old.looked ≡ 0 }
     requires reached { IsReached (list_any is_san columns.now) line.old.line reached.now }
@@ -118,7 +118,7 @@ pub(crate) fn put_row<A: Allocator, B: Allocator>(
     layout: &Layout,
     of: Of,
     reached: &Option<Made>,
-    line: &mut Line<'_, B>,
+    line: &mut PlainLine<B>,
 ) -> Result<(), AllocError>
     requires none { line.old.looked ≡ 0 }
     requires reached { IsReached (list_any is_san layout.now.columns.items) line.old.line reached.now }

@@ -10,8 +10,8 @@ ghost use Rattle.chess_tree.specs.Forest.{height};
 ghost use Rattle.chess_tree.specs.WellFormed.{AreSound};
 
 use crate::tally::Tally;
-use chess_draws::Line;
-use chess_key::KeyTable;
+use chess_attack::Nothing;
+use chess_draws::{LineWith, PlainLine};
 use chess_pgn::{Game, Outcome};
 use chess_tree::Tree;
 use chess_types::{Colour, Move, Position, Status};
@@ -54,7 +54,7 @@ pub struct Report {
 }
 
 // Makes a legal move.
-fn push<A: Allocator>(line: &mut Line<'_, A>, played: Move) -> Result<(), AllocError>
+fn push<A: Allocator>(line: &mut PlainLine<A>, played: Move) -> Result<(), AllocError>
     requires none { line.old.looked ≡ 0 }
     requires legal { is_legal (last line.old.line) played ≡ true }
     requires few { length line.old.line.moves < most_plies }
@@ -70,7 +70,7 @@ fn push<A: Allocator>(line: &mut Line<'_, A>, played: Move) -> Result<(), AllocE
 
 // Makes the moves of the main line, and goes over its plies.
 fn follow<A: Allocator, B: Allocator>(
-    line: &mut Line<'_, B>,
+    line: &mut PlainLine<B>,
     tree: &Tree<'_, A>,
 ) -> Result<Tally, AllocError>
     requires start { line.old.line ≡ record { start = tree.now.tree.start; moves = [] } }
@@ -127,7 +127,6 @@ fn agrees(status: Status, won: Option<Colour>, marker: Outcome) -> bool
 
 impl Report {
     /// What the Laws say of the main line of a game. It goes over the line once, and at each ply looks back no further than the last pawn's move or capture.
-    /// The table serves the line alone: no answer depends on its words.
     ///
     /// # Errors
     ///
@@ -135,7 +134,6 @@ impl Report {
     pub fn of<A: Allocator, B: Allocator>(
         alloc: B,
         game: &Game<'_, A>,
-        table: &KeyTable,
     ) -> Result<Report, AllocError>
         ensures plies { IfOk result (λ r. r.plies ≡ length (main game.now.tree.tree).moves) }
         ensures marker { IfOk result (λ r. r.marker ≡ game.now.result) }
@@ -153,7 +151,7 @@ impl Report {
         let Ok(start) = game.tree.position().clone() else {
             unreachable!();
         };
-        let mut line = Line::start(alloc, start, table);
+        let mut line = LineWith::with(alloc, start, Nothing);
         let tally = follow(&mut line, &game.tree)?;
         let status = line.status();
         let winner = line.winner();

@@ -7,7 +7,7 @@ ghost use Rattle.chess_report.specs.MainLine.{else_here};
 ghost use Rattle.chess_report.specs.steps.Tallies.{over_or};
 
 use crate::report::Over;
-use chess_draws::Line;
+use chess_draws::PlainLine;
 use chess_types::Status;
 use std::alloc::Allocator;
 
@@ -62,7 +62,7 @@ impl Tally {
     }
 
     /// The last ply of the line is gone over.
-    pub(crate) fn add<A: Allocator>(&mut self, line: &mut Line<'_, A>)
+    pub(crate) fn add<A: Allocator>(&mut self, line: &mut PlainLine<A>)
         requires none { line.old.looked ≡ 0 }
         ensures over { self.new.over ≡ over_or self.old.over (status line.old.line) (length line.old.line.moves) }
         ensures threefold { self.new.threefold ≡ else_here self.old.threefold (claims line.old.line).threefold (length line.old.line.moves) }

@@ -4,7 +4,7 @@ ghost use Rattle.chess_types.specs.board.Position.{start};
 use chess_draws::Line;
 use chess_items::Outcome;
 use chess_key::KeyTable;
-use chess_lines::{copy_line, move_texts, outcome, outcome_by};
+use chess_queries::{copy_line, move_texts, outcome, outcome_by};
 use chess_types::{Position, Status};
 use std::alloc::Global;
 

@@ -1,4 +1,3 @@
-use chess_key::KeyTable;
 use chess_pgn::read_game;
 use chess_report::Report;
 use chess_types::Status;
@@ -6,10 +5,9 @@ use chess_types::Status;
 #[test]
 fn a_mate(rt: HostRuntime) {
     let alloc = rt.alloc();
-    let table = KeyTable::fixed();
     let Ok(Some((game, _))) = read_game(&alloc, b"1. f3 e5 2. g4 Qh4# 1-0") else {
         panic!(rt; "no game");
     };
-    let report = Report::of(alloc, &game, &table).expect(&rt, "memory");
+    let report = Report::of(alloc, &game).expect(&rt, "memory");
     assert!(rt; report.plies == 4 && report.status == Status::Mate && !report.agrees);
 }

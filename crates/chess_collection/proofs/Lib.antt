@@ -1,0 +1,3 @@
+mod WindowLemmas
+mod GoingLemmas
+mod HeadingLemmas

@@ -1,0 +1,101 @@
+-- What a handler of games makes of a collection.
+--   Stretch      some bytes of a collection: those of a game, or others; whether a game is read of them; and what is written of them
+--   bad_of       it is a game that can't be read, and counts; passed_of, how many of its bytes are passed over
+--   Tiles        stretches of some bytes, one after another, without a gap, each handled by its number and the number of bytes before it, as the bytes that are
+--                looked at where it begins say; and the bytes after them
+--   written_of   what is written of stretches
+--   bad_in       how many games can't be read, and count; passed_in, how many bytes are passed over
+--   Reaches      bytes came from a source that there may be so many reads of, and stretches of them go up to what is at hand, whatever comes next
+--   HasTotals    how many stretches there are, and bytes of them and after them, and bytes that are passed over; and how many games can't be read, and count
+--   WentOver     stretches are reached, and a text and what is written of them are carried to a sink, whole and no more; no call failed
+--   GoesOver     how going over a collection ends: it has ended, and nothing but white space comes after the stretches; or a read failed, or there may be no
+--                more, or there were as many stretches as may be, or there was no memory, and what is written of all before is written; or there was none to
+--                begin with; or a write failed, and a prefix of it is written
+use Rattle.std.specs.Prelude.{◌≡◌, ◌⊎◌, ℕ, ◌+◌, suc, Bool, true, List, [], ◌∷◌, ◌++◌, length, Result, Ok, Err}
+use Rattle.byte_streams.specs.Calls.{Carries}
+use Rattle.chess_loop.specs.RunEnds.{Broken}
+use Rattle.chess_command_line.specs.declared.collection.Failure.{Failure}
+use Rattle.chess_command_line.specs.declared.collection.Failure.TheVariants as by
+use Rattle.chess_collection.specs.declared.going.Totals.{Totals}
+use Rattle.chess_collection.specs.declared.handler.Fate.{Fate}
+use Rattle.chess_collection.specs.declared.handler.Fate.TheVariants.{Read, Lost}
+use Rattle.chess_collection.specs.Windows.{IsLookedAt, NoMore, Window}
+
+pub record Stretch : Type 0 where
+  pub bytes : List ℕ
+  pub fate : Fate
+  pub text : List ℕ
+
+-- the number of a stretch, the number of bytes before it, the bytes that are looked at, how many of them are its own, whether a game is read of them, and what
+-- is written of it
+abbrev pub Handles : Type 1
+Handles = ℕ → ℕ → List ℕ → ℕ → Fate → List ℕ → Type 0
+
+abbrev pub Tiles : Handles → ℕ → ℕ → List ℕ → List Stretch → List ℕ → Type 0
+Tiles handles number offset left [] rest = left ≡ rest
+Tiles handles number offset left (s ∷ ss) rest =
+    (window after : List ℕ) × IsLookedAt window left × handles number offset window (length s.bytes) s.fate s.text × (left ≡ s.bytes ++ after) × Tiles handles (suc number) (offset + length s.bytes) after ss rest
+
+abbrev pub written_of : List Stretch → List ℕ
+written_of [] = []
+written_of (s ∷ ss) = s.text ++ written_of ss
+
+abbrev pub bad_of : Fate → ℕ
+bad_of Lost = 1
+bad_of _ = 0
+
+-- how many of so many bytes are passed over
+abbrev pub passed_of : Fate → ℕ → ℕ
+passed_of Read used = 0
+passed_of _ used = used
+
+abbrev pub bad_in : List Stretch → ℕ
+bad_in [] = 0
+bad_in (s ∷ ss) = bad_of s.fate + bad_in ss
+
+-- how many bytes are passed over in all
+abbrev pub passed_in : List Stretch → ℕ
+passed_in [] = 0
+passed_in (s ∷ ss) = passed_of s.fate (length s.bytes) + passed_in ss
+
+-- 2^57
+abbrev pub most_games : ℕ
+most_games = 144115188075855872
+
+pub record HasTotals (ss : List Stretch) (rest text : List ℕ) (totals : Totals) : Type 0 where
+  pub games : totals.games ≡ length ss
+  pub bytes : totals.bytes ≡ length text
+  pub passed : totals.passed ≡ passed_in ss
+  pub bad : totals.bad ≡ bad_in ss
+
+module _ {R : Type 0} (gives : R → List ℕ → R → Type 0) (failed : R → Bool) (handles : Handles) (ended : R → Type 0) (reads : ℕ) where
+  pub record Reaches (source : R) (ss : List Stretch) (text : List ℕ) (now : Window R) : Type 0 where
+    pub came : Carries gives source text now.source
+    pub well_read : failed now.source ≡ failed source
+    pub counted : now.reads + length came.pieces ≡ reads
+    pub sound : now.has_ended ≡ true → ended now.source
+    pub tiles : (more : List ℕ) → (now.has_ended ≡ true → more ≡ []) → Tiles handles 1 0 (text ++ more) ss (now.bytes ++ more)
+
+  module _ {W : Type 0} (white : List ℕ → Type 0) (takes : W → List ℕ → W → Type 0) (write_failed : W → Bool) (head : List ℕ) where
+    pub record WentOver (source : R) (ss : List Stretch) (now : Window R) (old new : W) : Type 0 where
+      pub text : List ℕ
+      pub reaches : Reaches source ss text now
+      pub writes : Carries takes old (head ++ written_of ss) new
+      pub well_written : write_failed new ≡ write_failed old
+
+    -- to the source's end
+    pub record GoesOverAll (source : R) (new : Window R) (old w : W) (totals : Totals) : Type 0 where
+      pub ss : List Stretch
+      pub went : WentOver source ss new old w
+      pub ends : (new.has_ended ≡ true) × ended new.source
+      pub rest : white new.bytes
+      pub totals_are : HasTotals ss new.bytes went.text totals
+
+    abbrev pub GoesOver : R → Window R → W → W → Result Totals Failure → Type 0
+    GoesOver source new old w (Ok totals) = GoesOverAll source new old w totals
+    GoesOver source new old w (Err by.Read) =
+        (ss : List Stretch) × (last : Window R) × WentOver source ss last old w
+        × (NoMore gives failed last.source last.reads new.source by.Read ⊎ ((length ss ≡ most_games) × (new ≡ last)))
+    GoesOver source new old w (Err by.Write) =
+        (ss : List Stretch) × (last : Window R) × (text : List ℕ) × Reaches source ss text last × Broken takes write_failed old (head ++ written_of ss) w
+    GoesOver source new old w (Err by.Memory) = ((ss : List Stretch) × (last : Window R) × WentOver source ss last old w) ⊎ ((new.source ≡ source) × (w ≡ old))

@@ -1,0 +1,3 @@
+-- Definitions for the code alone.
+pub mod Going
+pub mod Finding
